@@ -1,0 +1,36 @@
+-- What the calls of sources, sinks and spill files do to what they hold.
+use Rattle.std.specs.Prelude.{◌≡◌, ℕ, ◌+◌, ◌-◌, ◌^◌, ◌<◌, ◌≤◌, min, Bool, false, Option, Some, List, [], length, take, IsSome, if◌then◌else◌, None}
+use Rattle.std.specs.Io.KnownBytes.{Consumes, Appends, IsAtEnd}
+use Rattle.ept_base.specs.Files.{Files, Tells}
+
+-- A source was opened on this path of the shelf: it stands before the first byte, and a shelf that tells has the path, with these bytes.
+pub record Opens (files : Option Files) (path : List ℕ) (whole left : Option (List ℕ)) : Type 0 where
+  pub at_start : left ≡ whole
+  pub content : Tells (λ all. IsSome whole × (whole ≡ all path)) files
+
+-- n bytes were read into the front of the buffer; the buffer is full, or the end was reached
+pub record ReadsFull (old new : Option (List ℕ)) (n : ℕ) (buffer : List ℕ) : Type 0 where
+  pub fits : n ≤ length buffer
+  pub consumed : Consumes old new (take n buffer)
+  pub end : n < length buffer → IsAtEnd new
+
+-- some bytes were read, and stand in the front of the buffer
+abbrev pub ReadsSome : Option (List ℕ) → Option (List ℕ) → List ℕ → Type 0
+ReadsSome old new buffer = (n : ℕ) × (n ≤ length buffer) × Consumes old new (take n buffer)
+
+-- a prefix of the bytes was appended
+abbrev pub AppendsPrefix : Option (List ℕ) → Option (List ℕ) → List ℕ → Type 0
+AppendsPrefix old new bytes = (n : ℕ) × (n ≤ length bytes) × Appends old new (take n bytes)
+
+-- a count of 64 bits that went on by n, and stands still at its last value
+abbrev pub counts_on : ℕ → ℕ → ℕ
+counts_on before n = min (before + n) (2 ^ 64 - 1)
+
+-- the answer is the length of what is held, whose front fills the buffer as far as both go
+pub record LoadsFront (held : List ℕ) (n : ℕ) (old new : List ℕ) : Type 0 where
+  pub count : n ≡ length held
+  pub front : take n new ≡ take (length old) held
+
+-- a file of this name reads as these bytes; where there is none the answer is false, and no byte
+abbrev pub Gets : Files → List ℕ → Bool → List ℕ → Type 0
+Gets files name found into = (files name ≡ (if found then Some into else None)) × (found ≡ false → into ≡ [])
