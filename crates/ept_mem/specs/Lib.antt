@@ -1,0 +1,4 @@
+pub mod Crash
+pub mod Disk
+pub mod Named
+pub mod Objects

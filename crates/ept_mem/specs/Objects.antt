@@ -1,0 +1,78 @@
+-- What the objects in memory hold.
+use Rattle.std.specs.Prelude.{ℕ, List, length, drop}
+use Rattle.ept_base.specs.Files.{Files}
+use Rattle.ept_mem.specs.Named.{content_of}
+use Rattle.ept_mem.specs.Disk.{Disk, disk, IsImage, WasImageSince}
+use Rattle.ept_mem.specs.declared.source.MemSource.{MemSource}
+use Rattle.ept_mem.specs.declared.source.MemShelf.{MemShelf}
+use Rattle.ept_mem.specs.declared.sink.MemSink.{MemSink}
+use Rattle.ept_mem.specs.declared.spill.MemSpill.{MemSpill}
+use Rattle.ept_mem.specs.declared.spill.MemRoom.{MemRoom}
+use Rattle.ept_mem.specs.declared.store.MemStore.{MemStore}
+
+-- the bytes of a source
+abbrev pub source_bytes : MemSource → List ℕ
+source_bytes source = source.bytes.items
+
+-- those from its place on
+abbrev pub source_left : MemSource → List ℕ
+source_left source = drop source.place source.bytes.items
+
+-- the map from path to bytes of a shelf
+abbrev pub shelf_files : MemShelf → Files
+shelf_files shelf = content_of shelf.files.items
+
+-- the bytes written to a sink
+abbrev pub sink_bytes : MemSink → List ℕ
+sink_bytes sink = sink.bytes.items
+
+-- the bytes that a spill file holds
+abbrev pub spill_bytes : MemSpill → List ℕ
+spill_bytes spill = spill.held.items
+
+-- the counts of faults
+abbrev pub source_faults : MemSource → ℕ
+source_faults source = source.plan.faults
+
+abbrev pub shelf_faults : MemShelf → ℕ
+shelf_faults shelf = shelf.plan.faults
+
+abbrev pub sink_faults : MemSink → ℕ
+sink_faults sink = sink.plan.faults
+
+abbrev pub spill_faults : MemSpill → ℕ
+spill_faults spill = spill.plan.faults
+
+abbrev pub room_faults : MemRoom → ℕ
+room_faults room = room.plan.faults
+
+abbrev pub store_faults : MemStore → ℕ
+store_faults store = store.plan.faults
+
+-- the counts of calls of `keep`, and of `get`
+abbrev pub spill_keeps : MemSpill → ℕ
+spill_keeps spill = spill.keeps
+
+abbrev pub room_keeps : MemRoom → ℕ
+room_keeps room = room.keeps
+
+abbrev pub store_gets : MemStore → ℕ
+store_gets store = store.gets
+
+-- what a store's calls made of its files
+abbrev pub store_disk : MemStore → Disk
+store_disk store = disk (content_of store.first.items) store.calls.items
+
+abbrev pub store_files : MemStore → Files
+store_files store = (store_disk store).reads
+
+-- the images that a crash now may leave, and since the moment t
+abbrev pub store_images : MemStore → Files → Type 0
+store_images store files = IsImage (store_disk store) files
+
+abbrev pub store_images_since : MemStore → ℕ → Files → Type 0
+store_images_since store t files = WasImageSince (content_of store.first.items) store.calls.items t files
+
+-- the number of calls that wrote, removed or synced
+abbrev pub store_moment : MemStore → ℕ
+store_moment store = length store.calls.items

@@ -1,0 +1,21 @@
+//! Sources, sinks, spill files and stores in memory, for tests and for runs that touch no disk.
+//!
+//! Each object tells what it holds, and each is given the numbers of the calls that are to fail. Its
+//! calls are numbered from 0, `retire` apart. A store keeps a record of its calls, from which the
+//! images that a crash may leave follow.
+#![tactic(auto)]
+
+mod named;
+mod plan;
+mod sink;
+mod source;
+mod spill;
+mod store;
+
+pub use sink::MemSink;
+pub use source::{MemShelf, MemSource};
+pub use spill::{MemRoom, MemSpill};
+pub use store::MemStore;
+
+#[cfg(test)]
+mod tests;

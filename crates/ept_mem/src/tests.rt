@@ -1,0 +1,142 @@
+use crate::{MemRoom, MemShelf, MemSink, MemSource, MemSpill, MemStore};
+use ept_base::{
+    Failed, GetError, PutError, Room, Shelf, Sink, Source, SpillFile, Store, read_full, write_full,
+};
+use std::alloc::{AllocError, Global};
+use std::test::Fail;
+
+fn named(
+    alloc: Global,
+    files: &[(&'static str, &'static [u8])],
+) -> Result<Vec<(String, Vec<u8>)>, AllocError> {
+    let mut all = Vec::new(alloc);
+    for (name, bytes) in files {
+        all.push((
+            String::from_str(alloc, name)?,
+            Vec::from_slice(alloc, bytes)?,
+        ))?;
+    }
+    Ok(all)
+}
+
+#[test]
+fn a_source_gives_its_bytes_but_at_the_calls_that_fail(rt: HostRuntime) -> Result<(), Fail> {
+    let alloc = rt.alloc();
+    let bytes = Vec::from_slice(alloc, &[1, 2, 3, 4, 5])?;
+    let mut source = MemSource::new(bytes, vec![in alloc; 1, 4]?);
+    let mut into = [9; 3];
+    assert_eq!(rt; source.read(&mut into), Ok(3));
+    assert_eq!(rt; into, [1, 2, 3]);
+    assert_eq!(rt; source.read(&mut into), Err(Failed));
+    assert_eq!(rt; into, [1, 2, 3]);
+    assert_eq!(rt; source.read(&mut into), Ok(2));
+    assert_eq!(rt; into, [4, 5, 3]);
+    assert_eq!(rt; source.read(&mut into), Ok(0));
+    assert_eq!(rt; source.rewind(), Err(Failed));
+    assert_eq!(rt; source.read(&mut into), Ok(0));
+    assert_eq!(rt; source.rewind(), Ok(()));
+    assert_eq!(rt; source.read(&mut into[..1]), Ok(1));
+    assert_eq!(rt; into, [1, 5, 3]);
+    Ok(())
+}
+
+#[test]
+fn a_shelf_opens_its_paths_and_counts_the_faults_of_its_sources(
+    rt: HostRuntime,
+) -> Result<(), Fail> {
+    let alloc = rt.alloc();
+    let files = named(alloc, &[("a", b"one"), ("b", b"two"), ("a", b"three")])?;
+    let mut shelf = MemShelf::new(alloc, files, vec![in alloc; 2]?, vec![in alloc; 1]?);
+    let mut into = [0; 8];
+    let mut source = shelf.open("a")?;
+    assert_eq!(rt; source.read(&mut into), Ok(3));
+    assert_eq!(rt; &into[..3], b"one".as_slice());
+    shelf.retire(source);
+    assert!(rt; matches!(shelf.open("c"), Err(GetError::Failed)));
+    assert!(rt; matches!(shelf.open("a"), Err(GetError::Failed)));
+    let mut source = shelf.open("b")?;
+    assert_eq!(rt; read_full(&mut source, &mut into), Err(Failed));
+    assert_eq!(rt; &into[..3], b"two".as_slice());
+    shelf.retire(source);
+    Ok(())
+}
+
+#[test]
+fn a_sink_gathers_what_it_takes(rt: HostRuntime) -> Result<(), Fail> {
+    let alloc = rt.alloc();
+    let mut sink = MemSink::new(alloc, 4, vec![in alloc; 1, 5]?);
+    assert_eq!(rt; sink.write(b"abcdef"), Ok(4));
+    assert_eq!(rt; sink.write(b"efgh"), Err(Failed));
+    assert_eq!(rt; sink.bytes(), b"abcd".as_slice());
+    assert_eq!(rt; write_full(&mut sink, b"0123456789"), Ok(()));
+    assert_eq!(rt; sink.bytes(), b"abcd0123456789".as_slice());
+    assert_eq!(rt; write_full(&mut sink, b"x"), Err(Failed));
+    assert_eq!(rt; sink.write(b""), Ok(0));
+    Ok(())
+}
+
+#[test]
+fn a_buffer_is_filled_to_its_end_or_to_that_of_the_source(rt: HostRuntime) -> Result<(), Fail> {
+    let alloc = rt.alloc();
+    for (length, count) in [(0, 0), (3, 3), (5, 5), (8, 5)] {
+        let bytes = Vec::from_slice(alloc, &[1, 2, 3, 4, 5])?;
+        let mut source = MemSource::new(bytes, Vec::new(alloc));
+        let mut into = [0; 8];
+        assert_eq!(rt;
+            read_full(&mut source, &mut into[..length]),
+            Ok(count),
+            "at {length}"
+        );
+        assert_eq!(rt; &into[..count], &[1, 2, 3, 4, 5][..count], "at {length}");
+    }
+    Ok(())
+}
+
+#[test]
+fn a_spill_file_keeps_one_list_of_bytes(rt: HostRuntime) -> Result<(), Fail> {
+    let alloc = rt.alloc();
+    let mut room = MemRoom::new(alloc, vec![in alloc; 1]?, vec![in alloc; 2, 4]?);
+    let mut file = room.make(7)?;
+    assert!(rt; matches!(room.make(8), Err(PutError::Failed)));
+    let mut into = [9; 4];
+    assert_eq!(rt; file.keep(b"abcdef"), Ok(()));
+    assert_eq!(rt; file.load(&mut into), Ok(6));
+    assert_eq!(rt; into, *b"abcd");
+    assert_eq!(rt; file.load(&mut into), Err(Failed));
+    assert_eq!(rt; file.keep(b"xy"), Ok(()));
+    assert_eq!(rt; file.keep(b"z"), Err(PutError::Failed));
+    assert_eq!(rt; file.load(&mut into), Ok(0));
+    assert_eq!(rt; into, *b"abcd");
+    room.retire(file);
+    let mut fresh = MemSpill::new(alloc, Vec::new(alloc));
+    assert_eq!(rt; fresh.load(&mut into), Ok(0));
+    Ok(())
+}
+
+#[test]
+fn a_store_reads_as_it_was_written(rt: HostRuntime) -> Result<(), Fail> {
+    let alloc = rt.alloc();
+    let files = named(alloc, &[("a", b"one"), ("b", b"two")])?;
+    let mut store = MemStore::new(alloc, files, vec![in alloc; 5, 6, 7, 8]?);
+    let mut into = Vec::from_slice(alloc, b"before")?;
+    assert_eq!(rt; store.get("a", &mut into), Ok(true));
+    assert_eq!(rt; into.as_slice(), b"one".as_slice());
+    assert_eq!(rt; store.put("a", b"three"), Ok(()));
+    assert_eq!(rt; store.remove("b"), Ok(()));
+    assert_eq!(rt; store.sync(), Ok(()));
+    assert_eq!(rt; store.get("b", &mut into), Ok(false));
+    assert_eq!(rt; into.as_slice(), b"".as_slice());
+    assert_eq!(rt; store.file("a"), Some(b"three".as_slice()));
+    assert_eq!(rt; store.file("b"), None);
+    assert_eq!(rt; store.get("a", &mut into), Err(GetError::Failed));
+    assert_eq!(rt; into.as_slice(), b"".as_slice());
+    assert_eq!(rt; store.sync(), Err(PutError::Failed));
+    assert_eq!(rt; store.file("a"), Some(b"three".as_slice()));
+    assert_eq!(rt; store.put("c", b"four"), Err(PutError::Failed));
+    assert_eq!(rt; store.file("c"), None);
+    assert_eq!(rt; store.remove("a"), Err(PutError::Failed));
+    assert_eq!(rt; store.file("a"), None);
+    assert_eq!(rt; store.put("c", b""), Ok(()));
+    assert_eq!(rt; store.file("c"), Some(b"".as_slice()));
+    Ok(())
+}
