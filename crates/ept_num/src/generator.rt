@@ -1,0 +1,27 @@
+ghost use Rattle.std.specs.Prelude.{◌≡◌, ◌+◌, ◌*◌, ◌%◌, ◌^◌};
+ghost use Rattle.ept_num.specs.declared.generator.TheConstants.{MULTIPLIER, INCREMENT};
+
+/// The multiplier of the linear congruential generator, Knuth's for 64 bits.
+pub const MULTIPLIER: u64 = 6_364_136_223_846_793_005;
+
+/// The increment of the linear congruential generator.
+pub const INCREMENT: u64 = 1_442_695_040_888_963_407;
+
+/// The number after `n` in the linear congruential generator: `n` times the multiplier plus the
+/// increment, modulo 2^64.
+pub fn lcg(n: u64) -> u64
+    ensures { result ≡ (n * MULTIPLIER + INCREMENT) % 2 ^ 64 }
+{
+    n.wrapping_mul(MULTIPLIER).wrapping_add(INCREMENT)
+}
+
+#[cfg(test)]
+mod tests {
+    use super::*;
+
+    #[test]
+    fn gives_the_published_numbers(rt: HostRuntime) {
+        assert_eq!(rt; lcg(0), 1_442_695_040_888_963_407);
+        assert_eq!(rt; lcg(1), 7_806_831_264_735_756_412);
+    }
+}
