@@ -1,4 +1,4 @@
--- A record reads in one way, and a plain one is never out of units.
+-- A record reads in one way, and is never out of units where coordinates are stored as they are.
 use Rattle.std.proofs.Common.{◌≡◌, ℕ, ℤ, pos, ◌+ℤ◌, ◌*ℤ◌, ◌<◌, ◌^◌, List, Option, Some, None, FitsSigned, refl, sym, ap, ◌∙◌, subst, arith, drop, get_or-drop, zero, suc, ◌+◌, ◌*◌}
 use Rattle.std.specs.Int.{w32, cast_signed}
 use Rattle.std.specs.List.{concat}
@@ -10,7 +10,7 @@ use Rattle.ept_point.specs.Packed.{packed, field_bytes}
 use Rattle.ept_point.proofs.PackedLaws.{packed_one}
 use Rattle.ept_las.specs.declared.shift.Shift.{Shift}
 use Rattle.ept_las.specs.Words.{i32_at, AreBytes}
-use Rattle.ept_las.specs.Shifts.{IsPlain}
+use Rattle.ept_las.specs.Shifts.{IsIdentity}
 use Rattle.ept_las.specs.PointRecord.{coordinate, IsOutOfUnits, IsPointOf, RecordReadsAs}
 
 fits_of_bits : (n : ℕ) → n < 2 ^ 32 → FitsSigned w32 (cast_signed w32 n)
@@ -21,14 +21,14 @@ pub i32_at_fits : (bytes : List ℕ) (at : ℕ) → AreBytes bytes → FitsSigne
 unfolding i32_at
 i32_at_fits bytes at are = fits_of_bits (little_number 4 (drop at bytes)) (little_from-lt 0 4 (drop at bytes) (λ i. rw (get_or-drop at bytes i 0) (are (at + i))))
 
-stored_plain : (z : ℤ) → (z *ℤ pos 1) +ℤ pos 0 ≡ z
-stored_plain z = omega (arith, ints)
+stored_identity : (z : ℤ) → (z *ℤ pos 1) +ℤ pos 0 ≡ z
+stored_identity z = omega (arith, ints)
 
 -- raw coordinates that are stored as they are fit
-pub plain_in_units : (shift : Shift) (bytes : List ℕ) → AreBytes bytes → IsPlain shift → ¬ IsOutOfUnits shift bytes
-plain_in_units shift bytes are plain out =
+pub identity_in_units : (shift : Shift) (bytes : List ℕ) → AreBytes bytes → IsIdentity shift → ¬ IsOutOfUnits shift bytes
+identity_in_units shift bytes are plain out =
     let raw = i32_at bytes (4 * out.0) in
-    let same : coordinate shift bytes out.0 ≡ raw = rw (plain.once, plain.unmoved out.0) (stored_plain raw) in
+    let same : coordinate shift bytes out.0 ≡ raw = rw (plain.once, plain.unmoved out.0) (stored_identity raw) in
     out.2 (subst (FitsSigned w32) (sym same) (i32_at_fits bytes (4 * out.0) are))
 
 fields_one : (p q : Point) → field_bytes p ≡ field_bytes q → p ≡ q

@@ -5,7 +5,7 @@ use Rattle.ept_las.specs.declared.las_error.LasError.{LasError}
 use Rattle.ept_las.specs.LasHeader.{HeaderReadsAs}
 use Rattle.ept_las.specs.declared.shift.Shift.{Shift}
 use Rattle.ept_las.specs.Words.{AreBytes}
-use Rattle.ept_las.specs.Shifts.{IsPlain}
+use Rattle.ept_las.specs.Shifts.{IsIdentity}
 use Rattle.ept_las.specs.PointRecord.{IsOutOfUnits, RecordReadsAs}
 
 -- the first bytes of a file read in one way only
@@ -17,5 +17,5 @@ abbrev pub RecordInOneWay : Type 0
 RecordInOneWay = (format : ℕ) (shift : Shift) (source number : ℕ) (bytes : List ℕ) (a b : Option Point) → RecordReadsAs format shift source number bytes a → RecordReadsAs format shift source number bytes b → a ≡ b
 
 -- raw coordinates that are stored as they are fit
-abbrev pub PlainIsInUnits : Type 0
-PlainIsInUnits = (shift : Shift) (bytes : List ℕ) → AreBytes bytes → IsPlain shift → ¬ IsOutOfUnits shift bytes
+abbrev pub IdentityIsInUnits : Type 0
+IdentityIsInUnits = (shift : Shift) (bytes : List ℕ) → AreBytes bytes → IsIdentity shift → ¬ IsOutOfUnits shift bytes

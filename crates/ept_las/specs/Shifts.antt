@@ -7,6 +7,6 @@ abbrev pub stored : Shift → ℕ → ℤ → ℤ
 stored shift axis raw = (raw *ℤ shift.factor) +ℤ slice_index_or shift.by axis (pos 0)
 
 -- raw coordinates are stored as they are
-pub record IsPlain (shift : Shift) : Type 0 where
+pub record IsIdentity (shift : Shift) : Type 0 where
   pub once : shift.factor ≡ pos 1
   pub unmoved : (axis : ℕ) → slice_index_or shift.by axis (pos 0) ≡ pos 0

@@ -1,7 +1,7 @@
 //! The six point data record formats that are read (LAS 1.4 R15, section 2.6).
 
-ghost use Rattle.std.specs.Prelude.{◌≡◌, ◌≤◌, ◌+◌, IsTrue, ◌↔◌, IfSome};
-ghost use Rattle.ept_las.specs.Format.{IsFormat, is_format, is_extended, record_length, gps_place, colour_place};
+ghost use Rattle.std.specs.Prelude.{◌≡◌, ◌≤◌, ◌+◌, IfSome};
+ghost use Rattle.ept_las.specs.Format.{IsFormat, is_format, record_length, gps_place, colour_place};
 
 /// The last of the formats 0 to 3.
 pub const LAST_PLAIN: u8 = 3;

@@ -1,9 +1,8 @@
 //! The public header block (LAS 1.4 R15, section 2.4).
 
-ghost use Rattle.std.specs.Prelude.{◌≡◌, ◌≤◌, ◌<◌, length, take, IsTrue, ◌↔◌, Option, Ok, IfOk};
-ghost use Rattle.ept_las.specs.Words.{u16_at, u32_at, u64_at};
+ghost use Rattle.std.specs.Prelude.{◌≡◌, ◌≤◌, ◌<◌, length, take, IsTrue, ◌↔◌, IfOk};
 ghost use Rattle.ept_las.specs.Format.{IsFormat, record_length};
-ghost use Rattle.ept_las.specs.LasHeader.{least_size, minor_of, format_of, points_of, DiffersFrom, HasOtherVersion, HasShortHeader, IsHeaderOf, HeaderReadsAs, FirstFaultIs};
+ghost use Rattle.ept_las.specs.LasHeader.{least_size, minor_of, points_of, DiffersFrom, HasOtherVersion, HasShortHeader, HeaderReadsAs, FirstFaultIs};
 
 use crate::format::{is_format, record_length};
 use crate::las_error::LasError;

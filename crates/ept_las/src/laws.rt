@@ -1,6 +1,6 @@
 //! What holds of every header and record. Each law is the contract of a function that does nothing.
 
-ghost use Rattle.ept_las.specs.Laws.{HeaderInOneWay, RecordInOneWay, PlainIsInUnits};
+ghost use Rattle.ept_las.specs.Laws.{HeaderInOneWay, RecordInOneWay, IdentityIsInUnits};
 
 /// The first bytes of a file read as one header, or as one fault.
 pub fn header_once_law()
@@ -13,6 +13,6 @@ pub fn record_once_law()
 {}
 
 /// A record whose coordinates are stored as they are is never out of units.
-pub fn plain_shift_law()
-    ensures { PlainIsInUnits }
+pub fn identity_shift_law()
+    ensures { IdentityIsInUnits }
 {}

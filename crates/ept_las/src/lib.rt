@@ -15,6 +15,6 @@ mod words;
 pub use format::{is_format, record_length};
 pub use header::{HEAD_LENGTH, Header, SCALE_WIDTH, read_header};
 pub use las_error::LasError;
-pub use laws::{header_once_law, plain_shift_law, record_once_law};
+pub use laws::{header_once_law, identity_shift_law, record_once_law};
 pub use point_record::{OutOfUnits, read_record};
 pub use shift::Shift;

@@ -1,13 +1,12 @@
 //! Point data records (LAS 1.4 R15, section 2.6).
 
-ghost use Rattle.std.specs.Prelude.{◌≡◌, ◌+◌, ◌*◌, ◌≤◌, ◌<◌, ◌^◌, ℕ, ℤ, pos, length, slice_index, slice_index_or, Option, IsOk, IsErr, MatchOption, unsigned_abs, ◌≤ℤ◌, ◌+ℤ◌, ◌*ℤ◌, FitsSigned, IsTrue};
+ghost use Rattle.std.specs.Prelude.{◌≡◌, ◌+◌, ◌*◌, ◌≤◌, ◌<◌, ◌^◌, ℕ, ℤ, pos, length, slice_index, IsOk, MatchOption, unsigned_abs, ◌≤ℤ◌, ◌+ℤ◌, ◌*ℤ◌, FitsSigned};
 ghost use Rattle.std.specs.Result.{result_ok};
 ghost use Rattle.std.specs.Option.{SomeIff, IfSome};
 ghost use Rattle.std.specs.Int.{w32};
-ghost use Rattle.ept_las.specs.Words.{u16_at};
-ghost use Rattle.ept_las.specs.Format.{IsFormat, is_extended, record_length, gps_place, colour_place};
-ghost use Rattle.ept_las.specs.Shifts.{stored, IsPlain};
-ghost use Rattle.ept_las.specs.PointRecord.{coordinate, IsOutOfUnits, gps_of, colour_of, IsPointOf, RecordReadsAs};
+ghost use Rattle.ept_las.specs.Format.{IsFormat, record_length};
+ghost use Rattle.ept_las.specs.Shifts.{IsIdentity};
+ghost use Rattle.ept_las.specs.PointRecord.{coordinate, IsOutOfUnits, gps_of, colour_of, RecordReadsAs};
 
 use crate::format::{colour_place, gps_place};
 use crate::pulse::Pulse;
@@ -114,7 +113,7 @@ pub fn read_record(
     requires format { IsFormat format }
     requires room { record_length format ≤ length bytes.now }
     ensures reads { RecordReadsAs format shift.now source number bytes.now (result_ok result) }
-    ensures plain { IsPlain shift.now → IsOk result }
+    ensures identity { IsIdentity shift.now → IsOk result }
 {
     let Some(place) = place_of(bytes, shift) else {
         return Err(OutOfUnits);

@@ -45,7 +45,7 @@ pub struct Pulse {
 impl Pulse {
     ghost use Rattle.std.specs.Prelude.{◌≤◌, length, true, false};
     ghost use Rattle.ept_las.specs.Format.{IsFormat, is_extended, record_length};
-    ghost use Rattle.ept_las.specs.Pulses.{IsPulseOf, return_number_of, number_of_returns_of, scan_direction_of, edge_of, class_of, class_flags_of, channel_of, angle_rank_of, angle_of, source_id_of};
+    ghost use Rattle.ept_las.specs.Pulses.{IsPulseOf};
 
     /// The fields of a record of this format.
     pub fn of(format: u8, bytes: &[u8]) -> Pulse

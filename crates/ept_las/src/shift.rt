@@ -16,11 +16,11 @@ pub struct Shift {
 }
 
 impl Shift {
-    ghost use Rattle.ept_las.specs.Shifts.{IsPlain};
+    ghost use Rattle.ept_las.specs.Shifts.{IsIdentity};
 
     /// The shift that stores raw coordinates as they are.
-    pub fn plain() -> Shift
-        ensures { IsPlain result }
+    pub fn identity() -> Shift
+        ensures { IsIdentity result }
     {
         Shift {
             factor: 1,

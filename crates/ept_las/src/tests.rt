@@ -143,7 +143,13 @@ fn reads_records(rt: HostRuntime) -> Result<(), Fail> {
     ];
     for case in &cases {
         assert!(rt; is_format(case.format) && record_length(case.format) <= 36);
-        let point = read_record(case.format, &case.record, &Shift::plain(), case.source, 0)?;
+        let point = read_record(
+            case.format,
+            &case.record,
+            &Shift::identity(),
+            case.source,
+            0,
+        )?;
         assert_eq!(rt; pack(&point), case.packed);
     }
     Ok(())

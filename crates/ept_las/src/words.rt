@@ -1,6 +1,6 @@
 //! Numbers in bytes, the lowest byte first.
 
-ghost use Rattle.std.specs.Prelude.{◌≡◌, ◌+◌, ◌≤◌, ◌<◌, ◌^◌, length, slice_index};
+ghost use Rattle.std.specs.Prelude.{◌≡◌, ◌+◌, ◌≤◌, ◌<◌, ◌^◌, length};
 ghost use Rattle.ept_las.specs.Words.{u16_at, u32_at, u64_at, i8_at, i16_at, i32_at, bits};
 
 use byteorder::{ByteOrder, LittleEndian};
