@@ -1,0 +1,44 @@
+-- The six point data record formats that are read (LAS 1.4 R15, section 2.6).
+use Rattle.std.specs.Prelude.{ℕ, Bool, Option, Some, None, nat_le, ◌==◌, ◌||◌, if◌then◌else◌, IsTrue}
+use Rattle.ept_las.specs.declared.format.TheConstants.{LAST_PLAIN, FIRST_EXTENDED}
+
+-- a format of the six: 0 to 3, 6 or 7
+abbrev pub is_format : ℕ → Bool
+is_format format = nat_le format LAST_PLAIN || (format == 6 || format == 7)
+
+abbrev pub IsFormat : ℕ → Type 0
+IsFormat format = IsTrue (is_format format)
+
+-- 6 and 7 have fields of their own
+abbrev pub is_extended : ℕ → Bool
+is_extended format = nat_le FIRST_EXTENDED format
+
+-- how many bytes the fields of a record take
+unfoldable pub record_length : ℕ → ℕ
+record_length format =
+    if format == 0
+    then 20
+    else (if format == 1
+    then 28
+    else (if format == 2
+    then 26
+    else (if format == 3
+    then 34
+    else (if format == 6
+    then 30
+    else 36))))
+
+-- where the GPS time begins, in a format that has it
+unfoldable pub gps_place : ℕ → Option ℕ
+gps_place format = if format == 1 || format == 3 then Some 20 else (if is_extended format then Some 22 else None)
+
+-- where red, green and blue begin, in a format that has them
+unfoldable pub colour_place : ℕ → Option ℕ
+colour_place format =
+    if format == 2
+    then Some 20
+    else (if format == 3
+    then Some 28
+    else (if format == 7
+    then Some 30
+    else None))

@@ -1,0 +1,18 @@
+//! What holds of every header and record. Each law is the contract of a function that does nothing.
+
+ghost use Rattle.ept_las.specs.Laws.{HeaderInOneWay, RecordInOneWay, IdentityIsInUnits};
+
+/// The first bytes of a file read as one header, or as one fault.
+pub fn header_once_law()
+    ensures { HeaderInOneWay }
+{}
+
+/// A record reads as one point, or as out of units.
+pub fn record_once_law()
+    ensures { RecordInOneWay }
+{}
+
+/// A record whose coordinates are stored as they are is never out of units.
+pub fn identity_shift_law()
+    ensures { IdentityIsInUnits }
+{}

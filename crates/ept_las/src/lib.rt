@@ -1,0 +1,20 @@
+//! LAS 1.2 to 1.4: the public header block and point data records (LAS 1.4 R15).
+#![tactic(auto)]
+
+mod format;
+mod header;
+mod las_error;
+mod laws;
+mod point_record;
+mod pulse;
+mod shift;
+#[cfg(test)]
+mod tests;
+mod words;
+
+pub use format::{is_format, record_length};
+pub use header::{HEAD_LENGTH, Header, SCALE_WIDTH, read_header};
+pub use las_error::LasError;
+pub use laws::{header_once_law, identity_shift_law, record_once_law};
+pub use point_record::{OutOfUnits, read_record};
+pub use shift::Shift;
