@@ -1,0 +1,9 @@
+pub mod Answering
+pub mod Found
+pub mod Headers
+pub mod Paths
+pub mod Pieces
+pub mod Places
+pub mod Reading
+pub mod SoFar
+pub mod Spans

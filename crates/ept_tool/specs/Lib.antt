@@ -1,0 +1,10 @@
+pub mod Words
+pub mod Configuration
+pub mod Extents
+pub mod Texts
+pub mod Output
+pub mod Scan
+pub mod ScanIs
+pub mod Records
+pub mod Inputs
+pub mod Answers

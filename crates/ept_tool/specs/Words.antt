@@ -1,0 +1,32 @@
+-- What the words of a command line ask for.
+use Rattle.std.specs.Prelude.{◌≡◌, ◌≢◌, ◌⊎◌, ℕ, List, [], ◌∷◌, codes}
+use Rattle.ept_tool.specs.declared.words.Command.{Command}
+use Rattle.ept_tool.specs.declared.words.Command.TheVariants.{Build, Later, Usage}
+
+-- `build`, the path of a configuration and the path of a folder
+pub record IsBuild (words : List (List ℕ)) (config out : List ℕ) : Type 0 where
+  pub words_are : words ≡ codes "build" ∷ config ∷ out ∷ []
+  pub config_is : config ≢ []
+  pub out_is : out ≢ []
+
+-- the name of a command that this program doesn't carry out
+abbrev pub NamesLater : List ℕ → Type 0
+NamesLater first = (first ≡ codes "query") ⊎ (first ≡ codes "info") ⊎ (first ≡ codes "trial")
+
+-- the first word is such a name
+pub record IsLater (words : List (List ℕ)) : Type 0 where
+  pub first : List ℕ
+  pub others : List (List ℕ)
+  pub words_are : words ≡ first ∷ others
+  pub named : NamesLater first
+
+-- the words are none of these
+pub record IsUsage (words : List (List ℕ)) : Type 0 where
+  pub not_build : (config out : List ℕ) → ¬ IsBuild words config out
+  pub not_later : ¬ IsLater words
+
+-- the command that the words are
+abbrev pub IsCommand : List (List ℕ) → Command → Type 0
+IsCommand words (Build config out) = IsBuild words config.now out.now
+IsCommand words Later = IsLater words
+IsCommand words Usage = IsUsage words
