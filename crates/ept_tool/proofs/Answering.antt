@@ -1,5 +1,5 @@
 -- The forms of a configuration and of a scan exclude each other, so each has its own answer.
-use Rattle.std.proofs.Common.{◌≡◌, ◌⊎◌, inl, inr, ⊎_elim, ℕ, ◌+◌, ◌*◌, ◌<◌, ◌≤◌, List, [], ◌∷◌, ◌++◌, Option, Some, None, length, get_or, refl, sym, ◌∙◌, ap, subst, arith}
+use Rattle.std.proofs.Common.{◌≡◌, ◌⊎◌, inl, inr, ⊎_elim, ℕ, ◌<◌, List, [], ◌∷◌, Option, Some, None, length, get_or, sym, ◌∙◌, subst, arith}
 use Rattle.std.specs.Prelude.{ℤ, ◌≤ℤ◌, codes}
 use Rattle.ept_base.specs.Files.{Files, Tells}
 use Rattle.ept_point.specs.declared.point.Point.{Point}
@@ -10,7 +10,7 @@ use Rattle.ept_tool.specs.declared.configuration.TheConstants.{BEFORE_PATH, BEHI
 use Rattle.ept_tool.specs.declared.extent.TheConstants.{LEAST, GREATEST}
 use Rattle.ept_tool.specs.Configuration.{IsConfiguration}
 use Rattle.ept_tool.specs.Words.{IsBuild}
-use Rattle.ept_tool.specs.Scan.{IsInBounds, IsFirstForm, HasBadRecord, ArePointsOf, IsPointOfRecord, IsGoodRecord, end_of_record, stated}
+use Rattle.ept_tool.specs.Scan.{IsInBounds, IsFirstForm, HasBadRecord, ArePointsOf, IsPointOfRecord, stated}
 use Rattle.ept_tool.specs.Inputs.{NamesScan, HasOtherConfiguration, HasOtherForm, HasBadScan, HasPoints}
 use Rattle.ept_tool.specs.Answers.{Yields, AsksOtherForm, AsksBadScan, AsksPoints}
 use Rattle.ept_tool.proofs.Paths.{one_path}

@@ -1,5 +1,5 @@
 -- What was read of a source is what the shelf holds under its path.
-use Rattle.std.proofs.Common.{◌≡◌, ◌⊎◌, inl, inr, ℕ, ◌+◌, ◌<◌, ◌≤◌, List, [], ◌∷◌, ◌++◌, Option, Some, None, length, take, refl, sym, ◌∙◌, ap, subst, arith, length-append, length-take}
+use Rattle.std.proofs.Common.{◌≡◌, inr, ℕ, ◌+◌, ◌<◌, List, ◌++◌, Option, Some, None, length, take, refl, sym, ◌∙◌, ap, arith, length-append, length-take}
 use Rattle.std.specs.Prelude.{String, string_bytes, IsSome}
 use Rattle.std.specs.declared.alloc.Global.{Global}
 use Rattle.ept_base.specs.Files.{Files, Tells}
@@ -7,7 +7,6 @@ use Rattle.ept_base.specs.Devices.{Opens, ReadsFull}
 use Rattle.ept_tool.specs.declared.configuration.TheConstants.{BEFORE_PATH, BEHIND_PATH, LONGEST_CONFIGURATION}
 use Rattle.ept_tool.specs.declared.scan.Scan.{Scan}
 use Rattle.ept_tool.specs.declared.scan.Scan.TheVariants.{OtherForm, BadRecord, Points}
-use Rattle.ept_tool.specs.Configuration.{IsConfiguration}
 use Rattle.ept_tool.specs.ScanIs.{IsScan}
 use Rattle.ept_tool.specs.Inputs.{Configures, NamesPath, NamesScan, HoldsScan, IsFound}
 
@@ -35,7 +34,7 @@ too_long (Some bytes) None count buffer long reads = absurd reads.consumed
 too_long (Some bytes) (Some rest) count buffer long reads = λ path is.
     let read : length bytes ≡ count + length rest = omega (arith, ap length reads.consumed, length-append (take count buffer) rest, length-take count buffer, reads.fits) in
     let spelled : length bytes ≡ length BEFORE_PATH.now + length path + length BEHIND_PATH.now =
-        omega (arith, ap length is.text, length-append (BEFORE_PATH.now ++ path) BEHIND_PATH.now, length-append BEFORE_PATH.now path) in
+    omega (arith, ap length is.text, length-append (BEFORE_PATH.now ++ path) BEHIND_PATH.now, length-append BEFORE_PATH.now path) in
     omega (arith, read, spelled, long, is.path_is.short)
 
 -- the configuration names the path of the scan

@@ -1,5 +1,5 @@
 -- A header that was read, and the records of the whole file.
-use Rattle.std.proofs.Common.{◌≡◌, ◌⊎◌, inl, inr, ⊎_elim, ℕ, ◌+◌, ◌*◌, ◌<◌, ◌≤◌, List, [], ◌∷◌, ◌++◌, Option, Some, None, Vec, length, take, drop, get_or, refl, sym, ◌∙◌, ap, subst, arith, length-append, length-take, length-drop}
+use Rattle.std.proofs.Common.{◌≡◌, inl, inr, ⊎_elim, ℕ, ◌*◌, ◌<◌, ◌≤◌, List, [], ◌++◌, Option, Some, None, Vec, length, take, drop, get_or, sym, ◌∙◌, ap, subst, arith, length-append, length-take, length-drop}
 use Rattle.std.specs.Prelude.{IfSome, IfNone}
 use Rattle.std.specs.declared.alloc.Global.{Global}
 use Rattle.std.proofs.lemmas.List.{take_at, take_all, drop_at, drop-drop, append-nil}
@@ -9,9 +9,9 @@ use Rattle.ept_point.specs.declared.point.Point.{Point}
 use Rattle.ept_las.specs.Words.{u32_at}
 use Rattle.ept_tool.specs.declared.scan.TheConstants.{HEADER_LENGTH, RECORD_LENGTH, POINTS_AT}
 use Rattle.ept_tool.specs.declared.scan.Scan.TheVariants.{OtherForm, BadRecord, Points}
-use Rattle.ept_tool.specs.Scan.{header_of, HasFirstForm, IsFirstForm, stated, record_at, IsPointOfRecord, IsBadRecord, HasBadRecord, IsGoodRecord, ArePointsOf}
+use Rattle.ept_tool.specs.Scan.{header_of, HasFirstForm, record_at, IsPointOfRecord, IsBadRecord, IsGoodRecord}
 use Rattle.ept_tool.specs.ScanIs.{IsScan}
-use Rattle.ept_tool.specs.Records.{IsRecord, body_record, IsGood, AreFirst, IsBadAt, ReadsAll, ReadsHeader}
+use Rattle.ept_tool.specs.Records.{IsRecord, body_record, IsGood, IsBadAt, ReadsAll, ReadsHeader}
 
 pub header_short : (old new : Option (List ℕ)) (count : ℕ) (buffer : List ℕ) → length buffer ≡ HEADER_LENGTH → count < HEADER_LENGTH → ReadsFull old new count buffer → ReadsHeader old new None
 header_short None new count buffer size less reads = tt
@@ -33,10 +33,11 @@ header_read (Some bytes) (Some rest) count buffer None size whole reads some non
 header_read (Some bytes) (Some rest) count buffer (Some n) size whole reads some none =
     let parts : bytes ≡ buffer ++ rest = reads.consumed ∙ ap (λ (l : List ℕ). l ++ rest) (take_all count buffer (omega (arith, size, whole))) in
     let header_is : header_of bytes ≡ buffer = ap (λ (l : List ℕ). take HEADER_LENGTH l) parts ∙ take_at buffer rest HEADER_LENGTH size in
-    let behind : drop HEADER_LENGTH bytes ≡ rest = ap (λ (l : List ℕ). drop HEADER_LENGTH l) parts ∙ drop_at buffer rest HEADER_LENGTH size in
-    (record { whole = omega (arith, size, ap length parts, length-append buffer rest); header = subst HasFirstForm (sym header_is) some.0 },
-     some.1 ∙ ap (λ (l : List ℕ). u32_at l POINTS_AT) (sym header_is),
-     ap (λ (l : List ℕ). Some l) (sym behind))
+    let behind : drop HEADER_LENGTH bytes ≡ rest = ap (λ (l : List ℕ). drop HEADER_LENGTH l) parts ∙ drop_at buffer rest HEADER_LENGTH size in (
+      record { whole = omega (arith, size, ap length parts, length-append buffer rest); header = subst HasFirstForm (sym header_is) some.0 },
+      some.1 ∙ ap (λ (l : List ℕ). u32_at l POINTS_AT) (sym header_is),
+      ap (λ (l : List ℕ). Some l) (sym behind),
+    )
 
 module _ (bytes : List ℕ) (whole : HEADER_LENGTH ≤ length bytes) where
   record_same : (n : ℕ) → body_record (drop HEADER_LENGTH bytes) n ≡ record_at bytes n
@@ -66,8 +67,10 @@ bad_scan (Some bytes) mid count header read =
 pub good_scan : (old mid : Option (List ℕ)) (count : ℕ) (points : Vec Point Global) → ReadsHeader old mid (Some count) → ReadsAll count mid (Some points) → Tells (λ bytes. IsScan bytes (Points points)) old
 good_scan None mid count points header read = tt
 good_scan (Some bytes) mid count points header read =
-    let body = subst (λ (o : Option (List ℕ)). ReadsAll count o (Some points)) header.2 read in
-    (header.0, record {
-      count = body.size ∙ header.1;
-      each = λ n d lt. good_same bytes header.0.whole n (get_or points.items n d) (body.each n d (subst (λ (k : ℕ). n < k) (sym header.1) lt));
-    })
+    let body = subst (λ (o : Option (List ℕ)). ReadsAll count o (Some points)) header.2 read in (
+      header.0,
+      record {
+        count = body.size ∙ header.1;
+        each = λ n d lt. good_same bytes header.0.whole n (get_or points.items n d) (body.each n d (subst (λ (k : ℕ). n < k) (sym header.1) lt));
+      },
+    )

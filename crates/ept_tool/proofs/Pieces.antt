@@ -1,5 +1,5 @@
 -- Pieces of text that are appended one after the other.
-use Rattle.std.proofs.Common.{◌≡◌, ℕ, List, ◌++◌, sym, ◌∙◌, ap, append_assoc}
+use Rattle.std.proofs.Common.{◌≡◌, ℕ, List, ◌++◌, ◌∙◌, ap, append_assoc}
 
 pub three_more : (a b c d first second third : List ℕ) → b ≡ a ++ first → c ≡ b ++ second → d ≡ c ++ third → d ≡ a ++ (first ++ second ++ third)
 three_more a b c d first second third p q r =

@@ -1,5 +1,5 @@
 -- The records that were read so far.
-use Rattle.std.proofs.Common.{◌≡◌, ◌⊎◌, inl, inr, ⊎_elim, ℕ, ◌+◌, ◌-◌, ◌*◌, ◌<◌, ◌≤◌, List, [], ◌∷◌, ◌++◌, Option, Some, None, Vec, length, take, drop, get_or, refl, sym, ◌∙◌, ap, subst, arith, length-append, length-take, length-drop}
+use Rattle.std.proofs.Common.{◌≡◌, inl, inr, ⊎_elim, ℕ, ◌+◌, ◌*◌, ◌<◌, ◌≤◌, List, [], ◌∷◌, ◌++◌, Option, Some, None, Vec, length, take, drop, get_or, refl, sym, ◌∙◌, ap, subst, arith, length-append, length-drop}
 use Rattle.std.specs.Prelude.{⊤}
 use Rattle.std.specs.declared.alloc.Global.{Global}
 use Rattle.std.proofs.lemmas.Bool.{cases_lt}
@@ -8,7 +8,7 @@ use Rattle.std.proofs.Math.Seq.{get_or-append_seam}
 use Rattle.ept_point.specs.declared.point.Point.{Point}
 use Rattle.ept_tool.specs.declared.scan.TheConstants.{RECORD_LENGTH}
 use Rattle.ept_tool.specs.Scan.{IsInBounds}
-use Rattle.ept_tool.specs.Records.{IsRecord, TakesRecord, HasBadNext, ReadsNext, body_record, IsGood, AreFirst, IsBadAt, ReadsAll}
+use Rattle.ept_tool.specs.Records.{IsRecord, TakesRecord, HasBadNext, ReadsNext, body_record, IsGood, IsBadAt, ReadsAll}
 
 -- n records of the body were read, and these are their points
 pub record HasRead (body : List ℕ) (now : Option (List ℕ)) (n : ℕ) (points : List Point) : Type 0 where

@@ -1,6 +1,6 @@
 -- The spans of the points so far.
-use Rattle.std.proofs.Common.{◌≡◌, ◌⊎◌, inl, inr, ⊎_elim, ℕ, ◌+◌, ◌<◌, ◌≤◌, List, [], ◌∷◌, length, get_or, refl, sym, ◌∙◌, subst, arith, below_more}
-use Rattle.std.specs.Prelude.{ℤ, ◌≤ℤ◌, All, Any, Contains}
+use Rattle.std.proofs.Common.{◌≡◌, ⊎_elim, ℕ, ◌+◌, ◌<◌, ◌≤◌, List, length, get_or, refl, sym, ◌∙◌, subst, arith}
+use Rattle.std.specs.Prelude.{ℤ, ◌≤ℤ◌, Any, Contains}
 use Rattle.std.proofs.lemmas.Int.{ints}
 use Rattle.std.proofs.lemmas.Bool.{cases_lt}
 use Rattle.std.proofs.lemmas.List.{get_or_read}
@@ -34,7 +34,6 @@ module _ (axis : Point → ℤ) (points : List Point) where
     least = ⊎_elim (λ same. ends old.least new.least same so_far.least) (λ same. (i, point, here, sym is, sym same)) more.least_is;
     greatest = ⊎_elim (λ same. ends old.greatest new.greatest same so_far.greatest) (λ same. (i, point, here, sym is, sym same)) more.greatest_is;
   }
-
     where
       earlier : (k : ℕ) → k < i → (d : Point) → (new.least ≤ℤ axis (get_or points k d)) × (axis (get_or points k d) ≤ℤ new.greatest)
       earlier k before d =

@@ -1,5 +1,5 @@
 -- The scan of this stage: an uncompressed LAS 1.2 file of point format 0 with the least header.
-use Rattle.std.specs.Prelude.{◌≡◌, ◌⊎◌, ℕ, ℤ, ◌+◌, ◌*◌, ◌<◌, ◌≤◌, ◌≤ℤ◌, List, [], ◌∷◌, length, take, drop, codes, slice_index_or}
+use Rattle.std.specs.Prelude.{◌≡◌, ◌⊎◌, ℕ, ◌+◌, ◌*◌, ◌<◌, ◌≤◌, ◌≤ℤ◌, List, [], ◌∷◌, length, take, drop, codes, slice_index_or}
 use Rattle.ept_point.specs.declared.point.Point.{Point}
 use Rattle.ept_las.specs.declared.shift.Shift.{Shift}
 use Rattle.ept_las.specs.Shifts.{IsIdentity}

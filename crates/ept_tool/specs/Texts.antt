@@ -2,7 +2,6 @@
 use Rattle.std.specs.Prelude.{ℕ, ℤ, List, ◌++◌, codes}
 use Rattle.std.specs.Fmt.{decimal}
 use Rattle.ept_num.specs.Decimals.{decimal_text_of}
-use Rattle.ept_tool.specs.declared.extent.Span.{Span}
 use Rattle.ept_tool.specs.declared.extent.Extent.{Extent}
 use Rattle.ept_tool.specs.declared.texts.TheConstants.{SCALE, EPT_UP_TO_EXTENT, EPT_UP_TO_POINTS, EPT_FROM_SCHEMA_ON}
 

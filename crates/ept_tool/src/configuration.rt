@@ -13,7 +13,9 @@ pub(crate) const BEHIND_PATH: &[u8] =
 pub(crate) const LONGEST_PATH: usize = 4_096;
 
 /// The most bytes of a configuration.
-pub(crate) const LONGEST_CONFIGURATION: usize = BEFORE_PATH.len() + LONGEST_PATH + BEHIND_PATH.len();
+pub(crate) const LONGEST_CONFIGURATION: usize = BEFORE_PATH.len()
+    + LONGEST_PATH
+    + BEHIND_PATH.len();
 
 /// The path of the scan that the bytes of a configuration name.
 pub(crate) fn scan_path(bytes: &[u8]) -> Option<&str>

@@ -20,8 +20,16 @@ impl Span {
     fn including(self, value: i32) -> Span
         ensures { Includes self value result }
     {
-        let least = if value < self.least { value } else { self.least };
-        let greatest = if self.greatest < value { value } else { self.greatest };
+        let least = if value < self.least {
+            value
+        } else {
+            self.least
+        };
+        let greatest = if self.greatest < value {
+            value
+        } else {
+            self.greatest
+        };
         Span { least, greatest }
     }
 }

@@ -55,10 +55,7 @@ fn read_scan_of<H: Shelf>(alloc: Global, shelf: &mut H, path: &str) -> Result<Sc
 
 // Reads the path that a configuration names. A configuration that is longer than any of this form is
 // not read to its end.
-fn configured_path<S: Source>(
-    alloc: Global,
-    source: &mut S,
-) -> Result<Option<String>, GetError>
+fn configured_path<S: Source>(alloc: Global, source: &mut S) -> Result<Option<String>, GetError>
     ensures path { IfOk result (λ found. Tells (λ bytes. Configures bytes found) (S.left source.old)) }
     ensures cause { HasCauseOf GetError.Failed (S.faults source.old) (S.faults source.new) result }
 {

@@ -10,6 +10,8 @@ mod real;
 mod run;
 mod scan;
 mod status;
+#[cfg(test)]
+mod tests;
 mod texts;
 mod words;
 
@@ -50,11 +52,15 @@ fn start(rt: &HostRuntime, words: &[String]) -> u8 {
     match command_of(words) {
         Command::Build { out: folder, .. } => {
             let mut store = RealStore::new(alloc, rt, folder);
-            run(alloc, words, &mut shelf, &mut store, &mut room, &mut out, &OpenGate)
+            run(
+                alloc, words, &mut shelf, &mut store, &mut room, &mut out, &OpenGate,
+            )
         }
         _ => {
             let mut store = MemStore::new(alloc, Vec::new(alloc), Vec::new(alloc));
-            run(alloc, words, &mut shelf, &mut store, &mut room, &mut out, &OpenGate)
+            run(
+                alloc, words, &mut shelf, &mut store, &mut room, &mut out, &OpenGate,
+            )
         }
     }
 }

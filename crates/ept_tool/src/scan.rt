@@ -2,7 +2,6 @@ ghost use Rattle.std.specs.Prelude.{◌≡◌, ◌↔◌, ◌<◌, ◌≤◌, �
 ghost use Rattle.ept_base.specs.Causes.{HasCause, HasCauseOf};
 ghost use Rattle.ept_base.specs.Files.{Tells};
 ghost use Rattle.ept_tool.specs.Scan.{HasFirstForm, IsInBounds};
-
 ghost use Rattle.ept_tool.specs.ScanIs.{IsScan};
 ghost use Rattle.ept_las.specs.Words.{u32_at};
 ghost use Rattle.ept_tool.specs.Records.{IsRecord, ReadsHeader, ReadsNext, ReadsAll};
@@ -143,5 +142,9 @@ fn inside(record: &[u8; RECORD_LENGTH], number: u32) -> Option<Point>
     ensures none { IfNone result ((p : Point) × IsRecord record.now number p × ¬ IsInBounds p) }
 {
     let point = read_record(POINT_FORMAT, record, &Shift::identity(), 0, number).unwrap();
-    if is_in_bounds(&point) { Some(point) } else { None }
+    if is_in_bounds(&point) {
+        Some(point)
+    } else {
+        None
+    }
 }

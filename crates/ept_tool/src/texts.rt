@@ -78,7 +78,12 @@ fn append_extent(text: &mut Vec<u8>, extent: &Extent) -> Result<(), AllocError>
 {
     append_place(text, extent.x.least, extent.y.least, extent.z.least)?;
     text.extend_from_slice(b",")?;
-    append_place(text, extent.x.greatest, extent.y.greatest, extent.z.greatest)?;
+    append_place(
+        text,
+        extent.x.greatest,
+        extent.y.greatest,
+        extent.z.greatest,
+    )?;
     Ok(())
 }
 

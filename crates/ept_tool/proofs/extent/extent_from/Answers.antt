@@ -1,4 +1,4 @@
-use Rattle.std.proofs.Common.{◌≡◌, ℕ, length, subst, sym, arith}
+use Rattle.std.proofs.Common.{◌≡◌, ℕ, length, subst, arith}
 use Rattle.std.proofs.Math.Facts.{to_z-of_z}
 use Rattle.ept_tool.proofs.Spans.{AreSpansSoFar, spans_first, spans_more, spans_all}
 use Rattle.ept_tool.proofs.extent.extent_from.Goals as goal

@@ -1,4 +1,4 @@
-use Rattle.std.proofs.Common.{◌≡◌, ℕ, ◌+◌, List, Option, Some, None, length, subst, sym, ◌∙◌, ap, arith, length-append}
+use Rattle.std.proofs.Common.{◌≡◌, ℕ, ◌+◌, List, Option, subst, sym, ◌∙◌, arith}
 use Rattle.std.specs.Prelude.{IfSome}
 use Rattle.std.proofs.lemmas.Grind.{common_steps}
 use Rattle.ept_point.specs.declared.point.Point.{Point}
@@ -28,4 +28,4 @@ pub returns-clause-points : goal.returns-clause-points
 returns-clause-points g c =
     let all : c.loop-number.number ≡ c.args.count = omega arith in
     read_all (g.S.Source.left c.args.source.now) (g.S.Source.left c.loop-number.source) c.args.count c.loop-number.points (c.loop-number.invariant.size ∙ all)
-        (subst (λ (n : ℕ). IsReadSoFar (g.S.Source.left c.args.source.now) (g.S.Source.left c.loop-number.source) n c.loop-number.points.items) all c.loop-number.invariant.read)
+    (subst (λ (n : ℕ). IsReadSoFar (g.S.Source.left c.args.source.now) (g.S.Source.left c.loop-number.source) n c.loop-number.points.items) all c.loop-number.invariant.read)

@@ -1,4 +1,4 @@
-use Rattle.std.proofs.Common.{◌≡◌, ℕ, List, ◌++◌, subst, rules, ◌∙◌, ap}
+use Rattle.std.proofs.Common.{ℕ, List, ◌++◌, rules, ◌∙◌, ap}
 use Rattle.std.specs.Prelude.{codes, FitsSigned}
 use Rattle.std.specs.Int.{w32}
 use Rattle.ept_tool.specs.Texts.{place, extent_text}
@@ -17,7 +17,7 @@ returns c =
     let high_y : FitsSigned w32 extent.y.greatest = search rules in
     let high_z : FitsSigned w32 extent.z.greatest = search rules in
     three_more c.args.text.now.items c.append_place.new.text.items c.extend_from_slice.new.self.items c.append_place-2.new.text.items
-        (place extent.x.least extent.y.least extent.z.least) (codes ",") (place extent.x.greatest extent.y.greatest extent.z.greatest)
-        (c.in_ok-append_place.ensures ∙ ap (λ (l : List ℕ). c.args.text.now.items ++ l) (place_passed extent.x.least extent.y.least extent.z.least low_x low_y low_z))
-        c.in_ok-extend_from_slice.ensures.items
-        (c.in_ok-append_place-2.ensures ∙ ap (λ (l : List ℕ). c.extend_from_slice.new.self.items ++ l) (place_passed extent.x.greatest extent.y.greatest extent.z.greatest high_x high_y high_z))
+    (place extent.x.least extent.y.least extent.z.least) (codes ",") (place extent.x.greatest extent.y.greatest extent.z.greatest)
+    (c.in_ok-append_place.ensures ∙ ap (λ (l : List ℕ). c.args.text.now.items ++ l) (place_passed extent.x.least extent.y.least extent.z.least low_x low_y low_z))
+    c.in_ok-extend_from_slice.ensures.items
+    (c.in_ok-append_place-2.ensures ∙ ap (λ (l : List ℕ). c.extend_from_slice.new.self.items ++ l) (place_passed extent.x.greatest extent.y.greatest extent.z.greatest high_x high_y high_z))
