@@ -4,3 +4,4 @@ pub mod Within
 pub mod PlaceKeys
 pub mod Cells
 pub mod Shifts
+pub mod Intervals

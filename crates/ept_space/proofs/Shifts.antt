@@ -63,12 +63,12 @@ distance-code cube depth place x y z shift inside is_x is_y is_z is_shift a b c 
       is_squared ∙ ap (λ m. abs_diff (2 * (m % 2 ^ shift)) (2 ^ shift) ^ 2) is_n ∙ ap (λ t. abs_diff (2 * (offset cube place k % 2 ^ t)) (2 ^ t) ^ 2) is_shift ∙ ap (λ m. m ^ 2) (off-centre-code (coordinate cube.corner k) (coordinate place k) (cube.e - depth - cube.s) above)
 
 -- a side that is shifted into place, and the mask of the lower bits
-side-code : (shift : ℕ) → shift < 32 → 1 * 2 ^ shift % 18446744073709551616 ≡ 2 ^ shift
-side-code shift small = one_shl shift 64 (omega arith)
+pub side-code : (shift : ℕ) → shift < 64 → 1 * 2 ^ shift % 18446744073709551616 ≡ 2 ^ shift
+side-code shift small = one_shl shift 64 small
 
 mask-code : (n shift : ℕ) → shift < 32 → abs_diff (2 * bit_and n (1 * 2 ^ shift % 18446744073709551616 - 1)) (1 * 2 ^ shift % 18446744073709551616) ≡ abs_diff (2 * (n % 2 ^ shift)) (2 ^ shift)
 mask-code n shift small =
-    ap (λ side. abs_diff (2 * bit_and n (side - 1)) side) (side-code shift small) ∙ ap (λ low. abs_diff (2 * low) (2 ^ shift)) (and_mask n shift)
+    ap (λ side. abs_diff (2 * bit_and n (side - 1)) side) (side-code shift (omega arith)) ∙ ap (λ low. abs_diff (2 * low) (2 ^ shift)) (and_mask n shift)
 
 squared : (n : ℕ) → n * n ≡ n ^ 2
 squared n =

@@ -15,7 +15,7 @@ mod laws;
 mod places;
 
 pub use bounds::Bounds;
-pub use box3::Box3;
+pub use box3::{Box3, contains, meets, node_box};
 pub use cube::{Cube, Rules};
 pub use key::{Key, child};
 pub use laws::{box_law, cell_law, family_law, place_law, within_law};
