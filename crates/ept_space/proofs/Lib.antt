@@ -5,3 +5,4 @@ pub mod PlaceKeys
 pub mod Cells
 pub mod Shifts
 pub mod Intervals
+pub mod KeyTexts

@@ -13,6 +13,7 @@ mod cube;
 mod key;
 mod laws;
 mod places;
+mod text;
 
 pub use bounds::Bounds;
 pub use box3::{Box3, contains, meets, node_box};
@@ -20,3 +21,4 @@ pub use cube::{Cube, Rules};
 pub use key::{Key, child};
 pub use laws::{box_law, cell_law, family_law, place_law, within_law};
 pub use places::{cell, centre_distance, octant};
+pub use text::{key_text, read_key};
