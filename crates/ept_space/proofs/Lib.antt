@@ -6,3 +6,4 @@ pub mod Cells
 pub mod Shifts
 pub mod Intervals
 pub mod KeyTexts
+pub mod Extents

@@ -13,7 +13,7 @@ use Rattle.ept_space.proofs.Axis.{far}
 use Rattle.ept_space.proofs.Family.{same-parts}
 use Rattle.ept_space.proofs.PlaceKeys.{above-cube, offset-x, offset-y, offset-z}
 
-ap3 : {A B C D : Type 0} (f : A → B → C → D) {a a' : A} {b b' : B} {c c' : C} → a ≡ a' → b ≡ b' → c ≡ c' → f a b c ≡ f a' b' c'
+pub ap3 : {A B C D : Type 0} (f : A → B → C → D) {a a' : A} {b b' : B} {c c' : C} → a ≡ a' → b ≡ b' → c ≡ c' → f a b c ≡ f a' b' c'
 ap3 f p q r = λ i. f (p i) (q i) (r i)
 
 -- how far a place is above a corner of 32 bits fits

@@ -1,7 +1,7 @@
 //! Keys of nodes.
 
 ghost use Rattle.std.specs.Prelude.{◌≡◌, ◌<◌};
-ghost use Rattle.ept_space.specs.VoxelKey.{child};
+ghost use Rattle.ept_space.specs.VoxelKey.{IsKey, child};
 
 use std::marker::Model;
 
@@ -40,6 +40,13 @@ impl Key {
         y: 0,
         z: 0,
     };
+
+    /// Tells a proof what each key keeps.
+    pub fn known(&self)
+        ensures { IsKey self.now }
+    {
+        let _depth = self.depth;
+    }
 }
 
 /// The key of an octant of the key's box, one depth below it.
