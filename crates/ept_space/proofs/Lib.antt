@@ -7,3 +7,4 @@ pub mod Shifts
 pub mod Intervals
 pub mod KeyTexts
 pub mod Extents
+pub mod KeyOrder

@@ -2,8 +2,15 @@
 use Rattle.std.specs.Prelude.{◌≡◌, ℕ, ◌-◌, ◌^◌, ◌≤◌, min, max, pos, ◌-ℤ◌, ◌≤ℤ◌, ◌<ℤ◌, unsigned_abs}
 use Rattle.std.specs.Int.{w32, leading_zeros}
 use Rattle.ept_space.specs.declared.bounds.Bounds.{Bounds}
-use Rattle.ept_space.specs.Place.{coordinate}
-use Rattle.ept_space.specs.OctreeCube.{OctreeCube}
+use Rattle.ept_space.specs.Place.{Place, coordinate}
+use Rattle.ept_space.specs.OctreeCube.{OctreeCube, InCube}
+use Rattle.ept_space.specs.ClosedBox.{IsBetween}
+
+-- a place lies in the bounds, both ends included
+pub record InBounds (bounds : Bounds) (place : Place) : Type 0 where
+  pub x : IsBetween (coordinate bounds.min 0) (coordinate bounds.max 0) (coordinate place 0)
+  pub y : IsBetween (coordinate bounds.min 1) (coordinate bounds.max 1) (coordinate place 1)
+  pub z : IsBetween (coordinate bounds.min 2) (coordinate bounds.max 2) (coordinate place 2)
 
 -- the bounds have a place: the minimum is at most the maximum on every axis
 pub record HasPlace (bounds : Bounds) : Type 0 where
@@ -51,3 +58,15 @@ unfoldable pub cube_of : Bounds → ℕ → ℕ → OctreeCube
 cube_of bounds s max_depth =
     let e = max s (bit_length (longest bounds)) in
     record { corner = bounds.min; e = e; s = s; depth = min max_depth (e - s) }
+
+-- ---- what holds of all bounds. Each statement stands on the contract of a function of `laws`
+
+-- the places of the bounds lie in their cube
+abbrev pub BoundsAreInCube : Type 0
+BoundsAreInCube =
+    (bounds : Bounds) (s max_depth : ℕ) (cube : OctreeCube) (place : Place) → IsCubeOf bounds s max_depth cube → InBounds bounds place → InCube cube place
+
+-- they have one cube
+abbrev pub BoundsHaveOneCube : Type 0
+BoundsHaveOneCube =
+    (bounds : Bounds) (s max_depth : ℕ) (a b : OctreeCube) → IsCubeOf bounds s max_depth a → IsCubeOf bounds s max_depth b → a ≡ b

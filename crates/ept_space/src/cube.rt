@@ -4,9 +4,8 @@ ghost use Rattle.std.specs.Prelude.{◌≡◌, ◌≤◌, ◌^◌, ◌<◌, ◌�
 ghost use Rattle.ept_space.specs.OctreeCube.{IsCube};
 ghost use Rattle.ept_space.specs.CubeOfBounds.{HasCube, HasPlace, IsCubeOf, cube_of, longest, bit_length};
 
-use std::marker::Model;
-
 use crate::bounds::Bounds;
+use std::marker::Model;
 
 /// The cube that an octree divides: the corner of its least places, the exponents of its side 2^e and of
 /// its span 2^s (the cells of a box on each axis), and the greatest depth of a node.

@@ -19,6 +19,8 @@ pub use bounds::Bounds;
 pub use box3::{Box3, contains, meets, node_box};
 pub use cube::{Cube, Rules};
 pub use key::{Key, child};
-pub use laws::{box_law, cell_law, family_law, place_law, within_law};
+pub use laws::{
+    bounds_law, box_law, cell_law, family_law, order_law, place_law, text_law, within_law,
+};
 pub use places::{cell, centre_distance, octant};
 pub use text::{key_text, read_key};

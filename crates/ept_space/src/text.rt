@@ -4,11 +4,9 @@ ghost use Rattle.std.specs.Prelude.{◌≡◌, ◌≢◌, ℕ, ◌+◌, ◌^◌,
 ghost use Rattle.ept_space.specs.VoxelKey.{VoxelKey, IsKey};
 ghost use Rattle.ept_space.specs.KeyText.{key_text};
 
-use std::str;
-
-use itoa::Buffer;
-
 use crate::key::Key;
+use itoa::Buffer;
+use std::str;
 
 /// What stands between the numbers of a key's text.
 const DASH: &[u8] = b"-";

@@ -1,4 +1,4 @@
-use Rattle.std.proofs.Common.{◌≤◌, ap, rules, arith}
+use Rattle.std.proofs.Common.{ap, rules, arith}
 use Rattle.ept_space.proofs.Intervals.{near-code, read-interval, node_box-code}
 use Rattle.ept_space.proofs.box3.node_box.Goals as goal
 

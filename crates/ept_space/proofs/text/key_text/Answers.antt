@@ -1,4 +1,4 @@
-use Rattle.std.proofs.Common.{◌≡◌, ap, sym, ◌∙◌, subst, arith, length, take, decimal, ◌≤◌}
+use Rattle.std.proofs.Common.{ap, sym, ◌∙◌, arith, length, ◌≤◌}
 use Rattle.std.proofs.lemmas.List.{length-take-le}
 use Rattle.ept_space.specs.KeyText.{key_text}
 use Rattle.ept_space.proofs.KeyTexts.{length-depth, length-index}

@@ -1,4 +1,3 @@
-use Rattle.std.proofs.Common.{◌≡◌, ap, sym, ◌∙◌, subst, Some}
 use Rattle.ept_space.proofs.KeyTexts.{split-number}
 use Rattle.ept_space.proofs.text.next_number.Goals as goal
 

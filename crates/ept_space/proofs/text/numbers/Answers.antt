@@ -1,5 +1,4 @@
-use Rattle.std.proofs.Common.{◌≡◌, ◌<◌, ◌+◌, ◌^◌, ap, sym, ◌∙◌, subst, Some, arith, decimal}
-use Rattle.ept_space.specs.VoxelKey.{VoxelKey, IsKey}
+use Rattle.std.proofs.Common.{◌∙◌, arith, decimal}
 use Rattle.ept_space.proofs.KeyTexts.{key_text-parts, after_depth, after_x, index-small, read-key}
 use Rattle.ept_space.proofs.text.numbers.Goals as goal
 
