@@ -24,3 +24,6 @@ pub use laws::{
 };
 pub use places::{cell, centre_distance, octant};
 pub use text::{key_text, read_key};
+
+#[cfg(test)]
+mod tests;
