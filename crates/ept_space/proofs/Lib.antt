@@ -1,0 +1,10 @@
+pub mod Axis
+pub mod Family
+pub mod Within
+pub mod PlaceKeys
+pub mod Cells
+pub mod Shifts
+pub mod Intervals
+pub mod KeyTexts
+pub mod Extents
+pub mod KeyOrder

@@ -1,0 +1,9 @@
+pub mod Place
+pub mod VoxelKey
+pub mod OctreeCube
+pub mod CubeOfBounds
+pub mod ClosedBox
+pub mod KeyText
+pub mod KeyLaws
+pub mod BoxLaws
+pub mod CellLaws
