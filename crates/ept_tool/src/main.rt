@@ -22,7 +22,7 @@ use crate::words::{Command, command_of};
 use ept_base::OpenGate;
 use ept_mem::{MemRoom, MemStore};
 use std::env;
-use std::io::ErrorKind;
+use std::io::{ErrorKind, writer};
 use std::process::ExitCode;
 
 fn main(rt: HostRuntime) -> ExitCode {
@@ -48,7 +48,7 @@ fn start(rt: &HostRuntime, words: &[String]) -> u8 {
     let alloc = rt.alloc();
     let mut shelf = RealShelf::new(alloc, rt);
     let mut room = MemRoom::new(alloc, Vec::new(alloc), Vec::new(alloc));
-    let mut out = RealSink::new(rt);
+    let mut out = RealSink::new(writer(rt));
     match command_of(words) {
         Command::Build { out: folder, .. } => {
             let mut store = RealStore::new(alloc, rt, folder);

@@ -6,7 +6,7 @@ ghost use Rattle.ept_base.specs.Causes.{Rose};
 use ept_base::{Failed, GetError, PutError, Shelf, Sink, Source, Store};
 use std::alloc::{AllocError, Global};
 use std::fs::{self, OpenFile};
-use std::io::{self, BufRead, BufReader, ErrorKind, Read, Seek, Write, writer};
+use std::io::{self, BufRead, BufReader, ErrorKind, Read, Seek, Write};
 use std::rt::Files;
 
 /// How many bytes a source reads at a time.
@@ -99,15 +99,15 @@ impl<'a, R: Files> Shelf for RealShelf<'a, R> {
     }
 }
 
-/// Standard output. Each write is flushed.
+/// A writer, as standard output. Each write is flushed.
 #[derive(Drop)]
-pub(crate) struct RealSink<'a, P: Print> {
-    out: &'a P,
+pub(crate) struct RealSink<W: Write + Drop> {
+    out: W,
     faults: u64,
 }
 
-impl<'a, P: Print> RealSink<'a, P> {
-    pub(crate) fn new(out: &'a P) -> Self {
+impl<W: Write + Drop> RealSink<W> {
+    pub(crate) fn new(out: W) -> Self {
         RealSink { out, faults: 0 }
     }
 
@@ -120,7 +120,7 @@ impl<'a, P: Print> RealSink<'a, P> {
     }
 }
 
-impl<'a, P: Print> Sink for RealSink<'a, P> {
+impl<W: Write + Drop> Sink for RealSink<W> {
     ghost use Rattle.std.specs.Prelude.{None};
 
     ghost written = { λ _. None };
@@ -128,9 +128,8 @@ impl<'a, P: Print> Sink for RealSink<'a, P> {
     ghost faults = { λ sink. sink.faults };
 
     fn write(&mut self, from: &[u8]) -> Result<usize, Failed> {
-        let mut out = writer(self.out);
-        match out.write(from) {
-            Ok(count) if count > 0 || from.is_empty() => match out.flush() {
+        match self.out.write(from) {
+            Ok(count) if count > 0 || from.is_empty() => match self.out.flush() {
                 Ok(()) => Ok(count),
                 Err(_) => Err(self.fault()),
             },
@@ -270,5 +269,64 @@ impl<'a, R: Files + AllocGlobal> Store for RealStore<'a, R> {
                 Err(PutError::Failed)
             }
         }
+    }
+}
+
+#[cfg(test)]
+mod tests {
+    use super::*;
+    use ept_base::{read_full, write_full};
+    use std::test::Fail;
+
+    #[test]
+    fn a_folder_keeps_its_files(rt: HostRuntime) -> Result<(), Fail> {
+        let alloc = rt.alloc();
+        let mut store = RealStore::new(alloc, &rt, "folder");
+        let mut into = Vec::from_slice(alloc, b"before")?;
+        assert_eq!(rt; store.get("deep/down/file", &mut into), Ok(false));
+        assert_eq!(rt; into.as_slice(), b"".as_slice());
+        assert_eq!(rt; store.put("deep/down/file", b"first"), Ok(()));
+        assert_eq!(rt; store.put("file", b"other"), Ok(()));
+        assert_eq!(rt; store.sync(), Ok(()));
+        assert_eq!(rt; store.put("deep/down/file", b"one"), Ok(()));
+        assert_eq!(rt; store.sync(), Ok(()));
+        assert_eq!(rt; store.get("deep/down/file", &mut into), Ok(true));
+        assert_eq!(rt; into.as_slice(), b"one".as_slice());
+        assert_eq!(rt; store.put("file/below", b"x"), Err(PutError::Failed));
+        assert_eq!(rt; store.get("deep", &mut into), Err(GetError::Failed));
+        assert_eq!(rt; into.as_slice(), b"one".as_slice());
+        assert_eq!(rt; store.remove("file"), Ok(()));
+        assert_eq!(rt; store.remove("file"), Ok(()));
+        assert_eq!(rt; store.get("file", &mut into), Ok(false));
+        Ok(())
+    }
+
+    #[test]
+    fn a_shelf_opens_files(rt: HostRuntime) -> Result<(), Fail> {
+        let alloc = rt.alloc();
+        let long = vec![in alloc; 7u8; 100_000]?;
+        fs::write(&rt, "long", long.as_slice())?;
+        let mut shelf = RealShelf::new(alloc, &rt);
+        assert!(rt; matches!(shelf.open("none"), Err(GetError::Failed)));
+        let mut source = shelf.open("long")?;
+        let mut into = vec![in alloc; 0u8; 100_001]?;
+        assert_eq!(rt; read_full(&mut source, &mut into), Ok(100_000));
+        assert_eq!(rt; &into[..100_000], long.as_slice());
+        assert_eq!(rt; source.rewind(), Ok(()));
+        assert_eq!(rt; read_full(&mut source, &mut into[..3]), Ok(3));
+        shelf.retire(source);
+        Ok(())
+    }
+
+    #[test]
+    fn a_sink_writes_to_its_file(rt: HostRuntime) -> Result<(), Fail> {
+        let alloc = rt.alloc();
+        let mut sink = RealSink::new(fs::create(&rt, "said")?);
+        assert_eq!(rt; write_full(&mut sink, b"points 1\n"), Ok(()));
+        assert_eq!(rt; sink.write(b""), Ok(0));
+        assert_eq!(rt; fs::read(&rt, "said")?.as_slice(), b"points 1\n".as_slice());
+        let mut full = RealSink::new(fs::create(&rt, "/dev/full")?);
+        assert_eq!(rt; full.write(b"x"), Err(Failed));
+        Ok(())
     }
 }
