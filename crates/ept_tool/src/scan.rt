@@ -56,12 +56,12 @@ fn read_point<S: Source>(source: &mut S, number: u32) -> Result<Option<Point>, F
     ensures same { S.whole source.new ≡ S.whole source.old }
     ensures cause { HasCause (S.faults source.old) (S.faults source.new) result }
 {
-    let mut record = [0; RECORD_LENGTH];
-    let count = read_full(source, &mut record)?;
+    let mut bytes = [0; RECORD_LENGTH];
+    let count = read_full(source, &mut bytes)?;
     if count < RECORD_LENGTH {
         return Ok(None);
     }
-    Ok(inside(&record, number))
+    Ok(inside(&bytes, number))
 }
 
 // Whether the header is of this stage's form.
@@ -137,8 +137,8 @@ fn read_points<S: Source>(
 }
 
 // The point of a record, where it lies in the bounds.
-fn inside(record: &[u8; RECORD_LENGTH], number: u32) -> Option<Point>
-    ensures some { IfSome result (λ p. IsRecord record.now number p × IsInBounds p) }
+fn inside(bytes: &[u8; RECORD_LENGTH], number: u32) -> Option<Point>
+    ensures some { IfSome result (λ p. IsRecord bytes.now number p × IsInBounds p) }
     ensures none { IfNone result ((p : Point) × IsRecord record.now number p × ¬ IsInBounds p) }
 {
     let point = read_record(POINT_FORMAT, record, &Shift::identity(), 0, number).unwrap();

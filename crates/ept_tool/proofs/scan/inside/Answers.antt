@@ -9,13 +9,13 @@ read_record-requires-clause-room c = search rules
 
 pub returns-then-is_in_bounds-clause-some : goal.returns-then-is_in_bounds-clause-some
 returns-then-is_in_bounds-clause-some c = (
-  record_is c.identity.result c.args.number c.args.record.now c.read_record.result c.unwrap-point.result c.identity.ensures c.read_record.ensures.reads c.unwrap-point.ensures,
+  record_is c.identity.result c.args.number c.args.bytes.now c.read_record.result c.unwrap-point.result c.identity.ensures c.read_record.ensures.reads c.unwrap-point.ensures,
   c.if-is_in_bounds.ensures.0 refl,
 )
 
 pub returns-else-is_in_bounds-clause-none : goal.returns-else-is_in_bounds-clause-none
 returns-else-is_in_bounds-clause-none c = (
   c.unwrap-point.result,
-  record_is c.identity.result c.args.number c.args.record.now c.read_record.result c.unwrap-point.result c.identity.ensures c.read_record.ensures.reads c.unwrap-point.ensures,
+  record_is c.identity.result c.args.number c.args.bytes.now c.read_record.result c.unwrap-point.result c.identity.ensures c.read_record.ensures.reads c.unwrap-point.ensures,
   λ inside. let wrong : false ≡ true = c.if-is_in_bounds.ensures.1 inside in cc,
 )
