@@ -139,9 +139,9 @@ fn read_points<S: Source>(
 // The point of a record, where it lies in the bounds.
 fn inside(bytes: &[u8; RECORD_LENGTH], number: u32) -> Option<Point>
     ensures some { IfSome result (λ p. IsRecord bytes.now number p × IsInBounds p) }
-    ensures none { IfNone result ((p : Point) × IsRecord record.now number p × ¬ IsInBounds p) }
+    ensures none { IfNone result ((p : Point) × IsRecord bytes.now number p × ¬ IsInBounds p) }
 {
-    let point = read_record(POINT_FORMAT, record, &Shift::identity(), 0, number).unwrap();
+    let point = read_record(POINT_FORMAT, bytes, &Shift::identity(), 0, number).unwrap();
     if is_in_bounds(&point) {
         Some(point)
     } else {
