@@ -1,0 +1,4 @@
+pub mod Axis
+pub mod Family
+pub mod Within
+pub mod Places
