@@ -1,5 +1,5 @@
 -- The key, the octant and the box of a place.
-use Rattle.std.proofs.Common.{◌≡◌, ℕ, suc, zero, ◌+◌, ◌-◌, ◌*◌, ◌/◌, ◌%◌, ◌^◌, ◌<◌, ◌≤◌, true, ℤ, pos, ◌+ℤ◌, ◌-ℤ◌, ◌≤ℤ◌, ◌<ℤ◌, refl, sym, ap, subst, ◌∙◌, arith}
+use Rattle.std.proofs.Common.{◌≡◌, ℕ, ◌+◌, ◌-◌, ◌*◌, ◌/◌, ◌^◌, ◌<◌, ◌≤◌, true, ℤ, pos, ◌+ℤ◌, ◌-ℤ◌, ◌≤ℤ◌, refl, sym, ap, subst, ◌∙◌, arith}
 use Rattle.std.specs.Prelude.{unsigned_abs}
 use Rattle.std.proofs.lemmas.Int.{ints}
 use Rattle.std.proofs.lemmas.Nat.{pow_pos, shr_below}
@@ -8,8 +8,8 @@ use Rattle.ept_space.specs.Place.{Place, coordinate}
 use Rattle.ept_space.specs.VoxelKey.{VoxelKey, IsKey, root, child, parent, octant_of, is_within}
 use Rattle.ept_space.specs.OctreeCube.{OctreeCube, IsCube, IsFrom, InBox, InCube, box_side, offset, key_at, octant_at}
 use Rattle.ept_space.proofs.Axis.{far, index-of-interval, interval-of-index, side-halves, index-halves, index-coarser}
-use Rattle.ept_space.proofs.Family.{same-parts, parent-child, octant_of-child, child-parent, octant_of-below, depth-child}
-use Rattle.ept_space.proofs.Within.{IsWithin, is_within-from, depth-within, is_within-self, is_within-trans, is_within-unique, is_within-child, is_within-root}
+use Rattle.ept_space.proofs.Family.{same-parts, octant_of-child, child-parent, octant_of-below, depth-child}
+use Rattle.ept_space.proofs.Within.{is_within-from, depth-within, is_within-unique, is_within-child, is_within-root}
 
 -- ---- the key at a depth
 
@@ -24,24 +24,24 @@ key_at-box cube key place h =
     same-parts _ _ refl (index-of-interval _ _ key.x (box_side cube key.depth) h.x) (index-of-interval _ _ key.y (box_side cube key.depth) h.y) (index-of-interval _ _ key.z (box_side cube key.depth) h.z)
 
 -- a place is not below the cube's corner
-record IsAbove (cube : OctreeCube) (place : Place) : Type 0 where
-  x : coordinate cube.corner 0 ≤ℤ coordinate place 0
-  y : coordinate cube.corner 1 ≤ℤ coordinate place 1
-  z : coordinate cube.corner 2 ≤ℤ coordinate place 2
+pub record IsAbove (cube : OctreeCube) (place : Place) : Type 0 where
+  pub x : coordinate cube.corner 0 ≤ℤ coordinate place 0
+  pub y : coordinate cube.corner 1 ≤ℤ coordinate place 1
+  pub z : coordinate cube.corner 2 ≤ℤ coordinate place 2
 
-above-box : (cube : OctreeCube) (key : VoxelKey) (place : Place) → InBox cube key place → IsAbove cube place
+pub above-box : (cube : OctreeCube) (key : VoxelKey) (place : Place) → InBox cube key place → IsAbove cube place
 unfolding InBox
 above-box cube key place h =
     record { x = from_corner _ _ _ _ h.x; y = from_corner _ _ _ _ h.y; z = from_corner _ _ _ _ h.z }
-    where
+  where
     from_corner : (corner at : ℤ) (n side : ℕ) → IsFrom (corner +ℤ pos n) side at → corner ≤ℤ at
     from_corner corner at n side (low, high) = omega (arith, ints)
 
-above-cube : (cube : OctreeCube) (place : Place) → InCube cube place → IsAbove cube place
+pub above-cube : (cube : OctreeCube) (place : Place) → InCube cube place → IsAbove cube place
 unfolding InCube
 above-cube cube place h = record { x = h.x.0; y = h.y.0; z = h.z.0 }
 
-box-above : (cube : OctreeCube) (depth : ℕ) (place : Place) → IsAbove cube place → InBox cube (key_at cube depth place) place
+pub box-above : (cube : OctreeCube) (depth : ℕ) (place : Place) → IsAbove cube place → InBox cube (key_at cube depth place) place
 unfolding key_at InBox
 box-above cube depth place h =
     record {
@@ -59,7 +59,7 @@ pub parent-key_at : (cube : OctreeCube) (depth : ℕ) (place : Place) → depth 
 unfolding key_at parent
 parent-key_at cube depth place h =
     same-parts _ _ (omega arith) (halved (offset cube place 0)) (halved (offset cube place 1)) (halved (offset cube place 2))
-    where
+  where
     halved : (n : ℕ) → n / 2 ^ (cube.e - (depth + 1)) / 2 ≡ n / 2 ^ (cube.e - depth)
     halved n = sym (ap (λ side. n / side) (side-halves cube.e depth h) ∙ index-halves n _)
 
@@ -100,10 +100,10 @@ pub key_at-root : (cube : OctreeCube) (place : Place) → InCube cube place → 
 unfolding key_at
 key_at-root cube place h =
     same-parts _ _ refl (none (offset cube place 0) (offset-x cube place h)) (none (offset cube place 1) (offset-y cube place h)) (none (offset cube place 2) (offset-z cube place h))
-    where
+  where
     none : (n : ℕ) → n < 2 ^ cube.e → n / 2 ^ (cube.e - 0) ≡ 0
     none n small =
-      let whole : cube.e - 0 ≡ cube.e = omega arith in ap (λ k. n / 2 ^ k) whole ∙ div-eq_of_lt small
+        let whole : cube.e - 0 ≡ cube.e = omega arith in ap (λ k. n / 2 ^ k) whole ∙ div-eq_of_lt small
 
 -- the key at a depth is a key
 pub IsKey-key_at : (cube : OctreeCube) (depth : ℕ) (place : Place) → IsCube cube → InCube cube place → depth ≤ cube.depth → IsKey (key_at cube depth place)
@@ -115,11 +115,11 @@ IsKey-key_at cube depth place h inside low =
       y_in = index_below (offset cube place 1) (offset-y cube place inside);
       z_in = index_below (offset cube place 2) (offset-z cube place inside);
     }
-    where
+  where
     index_below : (n : ℕ) → n < 2 ^ cube.e → n / 2 ^ (cube.e - depth) < 2 ^ depth
     index_below n small =
-      let whole : cube.e ≡ depth + (cube.e - depth) = omega arith in
-      shr_below n depth (cube.e - depth) (subst (λ k. n < 2 ^ k) whole small)
+        let whole : cube.e ≡ depth + (cube.e - depth) = omega arith in
+        shr_below n depth (cube.e - depth) (subst (λ k. n < 2 ^ k) whole small)
 
 -- the keys of a place, each within those of less depth
 pub is_within-key_at : (cube : OctreeCube) (upper lower : ℕ) (place : Place) → upper ≤ lower → lower ≤ cube.e → is_within (key_at cube upper place) (key_at cube lower place) ≡ true
@@ -131,11 +131,11 @@ is_within-key_at cube upper lower place h deep =
       y_same = up (offset cube place 1);
       z_same = up (offset cube place 2);
     })
-    where
+  where
     up : (n : ℕ) → n / 2 ^ (cube.e - lower) / 2 ^ (lower - upper) ≡ n / 2 ^ (cube.e - upper)
     up n =
-      let split : cube.e - upper - (cube.e - lower) ≡ lower - upper = omega arith in
-      ap (λ k. n / 2 ^ (cube.e - lower) / 2 ^ k) (sym split) ∙ sym (index-coarser n (cube.e - lower) (cube.e - upper) (omega arith))
+        let split : cube.e - upper - (cube.e - lower) ≡ lower - upper = omega arith in
+        ap (λ k. n / 2 ^ (cube.e - lower) / 2 ^ k) (sym split) ∙ sym (index-coarser n (cube.e - lower) (cube.e - upper) (omega arith))
 
 -- a key that the key of a place is within is the place's key of its depth
 pub key_at-unique : (cube : OctreeCube) (top : VoxelKey) (depth : ℕ) (place : Place) → is_within top (key_at cube depth place) ≡ true → depth ≤ cube.e → key_at cube top.depth place ≡ top
@@ -161,12 +161,12 @@ pub InCube-root : (cube : OctreeCube) (place : Place) → InBox cube root place 
 unfolding InBox InCube
 InCube-root cube place h =
     record { x = whole _ _ h.x; y = whole _ _ h.y; z = whole _ _ h.z }
-    where
+  where
     whole : (corner at : ℤ) → IsFrom (corner +ℤ pos (0 * 2 ^ (cube.e - 0))) (2 ^ (cube.e - 0)) at → IsFrom corner (2 ^ cube.e) at
     whole corner at (low, high) =
-      let exponent : cube.e - 0 ≡ cube.e = omega arith in
-      let side : 2 ^ (cube.e - 0) ≡ 2 ^ cube.e = ap (λ k. 2 ^ k) exponent in
-      (omega (arith, ints), omega (arith, ints))
+        let exponent : cube.e - 0 ≡ cube.e = omega arith in
+        let side : 2 ^ (cube.e - 0) ≡ 2 ^ cube.e = ap (λ k. 2 ^ k) exponent in
+        (omega (arith, ints), omega (arith, ints))
 
 pub InCube-box : (cube : OctreeCube) (key : VoxelKey) (place : Place) → IsKey key → key.depth ≤ cube.e → InBox cube key place → InCube cube place
 InCube-box cube key place h deep inside =

@@ -1,8 +1,9 @@
 -- Keys within keys.
 use Rattle.std.proofs.Common.{◌≡◌, ℕ, suc, zero, ◌+◌, ◌-◌, ◌*◌, ◌/◌, ◌%◌, ◌^◌, ◌<◌, ◌≤◌, Bool, true, false, ◌&&◌, ◌==◌, nat_le, nat_lt, refl, sym, ap, subst, ◌∙◌, arith}
 use Rattle.std.proofs.lemmas.Bool.Decides.{nat_tests}
-use Rattle.std.proofs.Math.Nat.{div-eq_of_lt}
+use Rattle.std.proofs.Math.Nat.{div-eq_of_lt, div-div-eq-div-mul, pow-suc}
 use Rattle.ept_space.specs.VoxelKey.{VoxelKey, IsKey, root, child, parent, octant_of, ancestor, is_within, is_below, same_key}
+use Rattle.ept_space.specs.KeyLaws.{parents}
 use Rattle.ept_space.proofs.Axis.{index-coarser}
 use Rattle.ept_space.proofs.Family.{same-parts, child-parent, depth-parent}
 
@@ -97,7 +98,7 @@ is_within-chain a b key ha hb h =
       y_same = between key.y b.y a.y _ _ _ h lower.deeper lower.y_same upper.y_same;
       z_same = between key.z b.z a.z _ _ _ h lower.deeper lower.z_same upper.z_same;
     })
-    where
+  where
     between : (n x y a b c : ℕ) → a ≤ b → b ≤ c → n / 2 ^ (c - b) ≡ x → n / 2 ^ (c - a) ≡ y → x / 2 ^ (b - a) ≡ y
     between n x y a b c ab bc nx ny = sym (up-up n x (x / 2 ^ (b - a)) a b c ab bc nx refl) ∙ ny
 
@@ -106,10 +107,10 @@ pub is_within-unique : (a b key : VoxelKey) → is_within a key ≡ true → is_
 is_within-unique a b key ha hb same =
     let upper = IsWithin-from a b (is_within-chain a b key ha hb (omega arith)) in
     same-parts a b same (at_once b.x a.x _ _ same upper.x_same) (at_once b.y a.y _ _ same upper.y_same) (at_once b.z a.z _ _ same upper.z_same)
-    where
+  where
     at_once : (n m d e : ℕ) → d ≡ e → n / 2 ^ (e - d) ≡ m → m ≡ n
     at_once n m d e same up =
-      let none : e - d ≡ 0 = omega arith in sym up ∙ ap (λ k. n / 2 ^ k) none ∙ omega arith
+        let none : e - d ≡ 0 = omega arith in sym up ∙ ap (λ k. n / 2 ^ k) none ∙ omega arith
 
 pub is_within-child : (key : VoxelKey) (octant : ℕ) → is_within key (child key octant) ≡ true
 unfolding child
@@ -133,10 +134,10 @@ is_within-root key h =
       y_same = all_up key.y key.depth h.y_in;
       z_same = all_up key.z key.depth h.z_in;
     })
-    where
+  where
     all_up : (n d : ℕ) → n < 2 ^ d → n / 2 ^ (d - 0) ≡ 0
     all_up n d small =
-      let whole : d - 0 ≡ d = omega arith in ap (λ k. n / 2 ^ k) whole ∙ div-eq_of_lt small
+        let whole : d - 0 ≡ d = omega arith in ap (λ k. n / 2 ^ k) whole ∙ div-eq_of_lt small
 
 -- a key within another of its depth is that one
 pub is_within-level : (top key : VoxelKey) → is_within top key ≡ true → key.depth ≤ top.depth → top ≡ key
@@ -172,3 +173,35 @@ is_below-parent top key h deep =
     let up = depth-parent key in
     let shallower = depth-within top (parent key) h in
     is_below-from top key (is_within-trans top (parent key) key h (is_within-parent key deep)) (omega arith)
+
+-- ---- within, by parent steps
+
+-- an ancestor is reached by that many parent steps
+pub parents-ancestor : (n : ℕ) (key : VoxelKey) → parents n key ≡ ancestor n key
+unfolding ancestor parent
+parents-ancestor zero key = same-parts _ _ (omega arith) (omega arith) (omega arith) (omega arith)
+parents-ancestor (suc n) key =
+    let above = parents-ancestor n key in
+    ap parent above ∙ same-parts _ _ (omega arith) (halved key.x) (halved key.y) (halved key.z)
+  where
+    halved : (x : ℕ) → x / 2 ^ n / 2 ≡ x / 2 ^ suc n
+    halved x = div-div-eq-div-mul x (2 ^ n) 2 ∙ ap (λ k. x / k) (sym (pow-suc 2 n))
+
+pub is_within-parents : (n : ℕ) (top key : VoxelKey) → n ≤ key.depth → parents n key ≡ top → is_within top key ≡ true
+unfolding ancestor
+is_within-parents n top key h reached =
+    subst (λ k. is_within k key ≡ true) (sym (parents-ancestor n key) ∙ reached) (is_within-from _ key (record {
+      deeper = omega arith;
+      x_same = same key.x;
+      y_same = same key.y;
+      z_same = same key.z;
+    }))
+  where
+    same : (x : ℕ) → x / 2 ^ (key.depth - (key.depth - n)) ≡ x / 2 ^ n
+    same x = let steps : key.depth - (key.depth - n) ≡ n = omega arith in ap (λ k. x / 2 ^ k) steps
+
+pub parents-within : (top key : VoxelKey) → is_within top key ≡ true → parents (key.depth - top.depth) key ≡ top
+unfolding ancestor
+parents-within top key h =
+    let parts = IsWithin-from top key h in
+    parents-ancestor (key.depth - top.depth) key ∙ same-parts _ _ (omega arith) parts.x_same parts.y_same parts.z_same

@@ -1,8 +1,8 @@
 -- The cube that a set of bounds, a span and a greatest depth give.
-use Rattle.std.specs.Prelude.{◌≡◌, ℕ, ◌+◌, ◌-◌, ◌^◌, ◌<◌, ◌≤◌, min, max, ℤ, pos, ◌-ℤ◌, ◌≤ℤ◌, ◌<ℤ◌, unsigned_abs}
+use Rattle.std.specs.Prelude.{◌≡◌, ℕ, ◌-◌, ◌^◌, ◌≤◌, min, max, pos, ◌-ℤ◌, ◌≤ℤ◌, ◌<ℤ◌, unsigned_abs}
 use Rattle.std.specs.Int.{w32, leading_zeros}
 use Rattle.ept_space.specs.declared.bounds.Bounds.{Bounds}
-use Rattle.ept_space.specs.Place.{Place, coordinate}
+use Rattle.ept_space.specs.Place.{coordinate}
 use Rattle.ept_space.specs.OctreeCube.{OctreeCube}
 
 -- the span is 2 to 1024 cells, the depth at most 32, and the bounds have a place

@@ -4,3 +4,6 @@ pub mod OctreeCube
 pub mod CubeOfBounds
 pub mod ClosedBox
 pub mod KeyText
+pub mod KeyLaws
+pub mod BoxLaws
+pub mod CellLaws

@@ -1,5 +1,5 @@
 -- The cube of an octree, the boxes of its keys and the cells of its boxes.
-use Rattle.std.specs.Prelude.{◌≡◌, ℕ, ◌+◌, ◌-◌, ◌*◌, ◌/◌, ◌%◌, ◌^◌, ◌<◌, ◌≤◌, List, [], ◌∷◌, ℤ, pos, ◌+ℤ◌, ◌-ℤ◌, ◌*ℤ◌, ◌≤ℤ◌, ◌<ℤ◌, unsigned_abs, FitsSigned, slice_index, Bool, ◌&&◌, ◌==◌}
+use Rattle.std.specs.Prelude.{ℕ, ◌+◌, ◌-◌, ◌*◌, ◌/◌, ◌^◌, ◌≤◌, List, [], ◌∷◌, ℤ, pos, ◌+ℤ◌, ◌-ℤ◌, ◌*ℤ◌, ◌≤ℤ◌, ◌<ℤ◌, unsigned_abs, FitsSigned, slice_index, Bool, ◌&&◌, ◌==◌}
 use Rattle.std.specs.Int.{w32}
 use Rattle.ept_space.specs.Place.{Place, coordinate}
 use Rattle.ept_space.specs.VoxelKey.{VoxelKey, octant_of}

@@ -33,5 +33,10 @@ impl Key {
     pub const MAX_DEPTH: u8 = 31;
 
     /// The key `0-0-0-0`, whose box is the whole cube.
-    pub const ROOT: Key = Key { depth: 0, x: 0, y: 0, z: 0 };
+    pub const ROOT: Key = Key {
+        depth: 0,
+        x: 0,
+        y: 0,
+        z: 0,
+    };
 }

@@ -11,9 +11,10 @@ mod bounds;
 mod box3;
 mod cube;
 mod key;
+mod laws;
 
 pub use bounds::Bounds;
 pub use box3::Box3;
-pub use cube::Cube;
-pub use cube::Rules;
+pub use cube::{Cube, Rules};
 pub use key::Key;
+pub use laws::{box_law, cell_law, family_law, place_law, within_law};

@@ -1,0 +1,70 @@
+-- What holds of all keys. Each statement stands on the contract of a function of `laws`.
+use Rattle.std.specs.Prelude.{◌≡◌, ℕ, suc, zero, ◌+◌, ◌<◌, ◌≤◌, ◌↔◌, IsTrue}
+use Rattle.ept_space.specs.VoxelKey.{VoxelKey, IsKey, root, child, parent, octant_of, is_within, is_below, same_key}
+
+-- ---- parents and children
+
+abbrev pub ChildHasParent : Type 0
+ChildHasParent = (key : VoxelKey) (octant : ℕ) → parent (child key octant) ≡ key
+
+abbrev pub ChildHasOctant : Type 0
+ChildHasOctant = (key : VoxelKey) (octant : ℕ) → octant < 8 → octant_of (child key octant) ≡ octant
+
+abbrev pub ParentHasChild : Type 0
+ParentHasChild = (key : VoxelKey) → 0 < key.depth → child (parent key) (octant_of key) ≡ key
+
+abbrev pub EightOctants : Type 0
+EightOctants = (key : VoxelKey) → octant_of key < 8
+
+abbrev pub ChildIsDeeper : Type 0
+ChildIsDeeper = (key : VoxelKey) (octant : ℕ) → (child key octant).depth ≡ key.depth + 1
+
+abbrev pub ChildIsKey : Type 0
+ChildIsKey = (key : VoxelKey) (octant : ℕ) → IsKey key → key.depth < 31 → IsKey (child key octant)
+
+abbrev pub ParentIsKey : Type 0
+ParentIsKey = (key : VoxelKey) → IsKey key → IsKey (parent key)
+
+-- the one key of depth 0
+abbrev pub OneRoot : Type 0
+OneRoot = (key : VoxelKey) → IsKey key → key.depth ≡ 0 → key ≡ root
+
+-- ---- within and below
+
+-- the key that many parents above
+abbrev pub parents : ℕ → VoxelKey → VoxelKey
+parents zero key = key
+parents (suc n) key = parent (parents n key)
+
+-- a key is within another exactly where some parent steps reach it
+abbrev pub WithinByParents : Type 0
+WithinByParents =
+    (top key : VoxelKey) → IsTrue (is_within top key) ↔ ((n : ℕ) × (n ≤ key.depth) × (parents n key ≡ top))
+
+-- it is below another exactly where it is within it and deeper
+abbrev pub BelowIsDeeper : Type 0
+BelowIsDeeper =
+    (top key : VoxelKey) → IsTrue (is_below top key) ↔ (IsTrue (is_within top key) × (top.depth < key.depth))
+
+abbrev pub WithinItself : Type 0
+WithinItself = (key : VoxelKey) → IsTrue (is_within key key)
+
+abbrev pub WithinAndOn : Type 0
+WithinAndOn = (a b c : VoxelKey) → IsTrue (is_within a b) → IsTrue (is_within b c) → IsTrue (is_within a c)
+
+-- of two keys that a key is within, the less deep one has the other within it
+abbrev pub WithinInOrder : Type 0
+WithinInOrder =
+    (a b key : VoxelKey) → IsTrue (is_within a key) → IsTrue (is_within b key) → a.depth ≤ b.depth → IsTrue (is_within a b)
+
+-- so there is one of each depth
+abbrev pub OneOfEachDepth : Type 0
+OneOfEachDepth =
+    (a b key : VoxelKey) → IsTrue (is_within a key) → IsTrue (is_within b key) → a.depth ≡ b.depth → a ≡ b
+
+abbrev pub RootHasAll : Type 0
+RootHasAll = (key : VoxelKey) → IsKey key → IsTrue (is_within root key)
+
+-- the test of equality
+abbrev pub SameKeyTells : Type 0
+SameKeyTells = (a b : VoxelKey) → IsTrue (same_key a b) ↔ (a ≡ b)

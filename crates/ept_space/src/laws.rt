@@ -1,0 +1,65 @@
+//! The laws of keys, boxes and cells, each on the contract of a function that does nothing.
+
+ghost use Rattle.ept_space.specs.KeyLaws.{ChildHasParent, ChildHasOctant, ParentHasChild, EightOctants, ChildIsDeeper, ChildIsKey, ParentIsKey, OneRoot, WithinByParents, BelowIsDeeper, WithinItself, WithinAndOn, WithinInOrder, OneOfEachDepth, RootHasAll, SameKeyTells};
+ghost use Rattle.ept_space.specs.BoxLaws.{PlaceHasKey, PlaceHasOneKey, PlaceHasRoot, NextKeyIsChild, NextKeyHasParent, NextKeyHasOctant, PlaceHasOctant, KeysOfPlaceNest, AboveIsKeyOfPlace, RootBoxIsCube, BoxIsInCube, BoxesNest, ChildBoxIsInParent, PlaceHasChild, PlaceHasOneChild, ChildBoxesAreApart};
+ghost use Rattle.ept_space.specs.CellLaws.{PlaceHasCell, PlaceHasOneCell, SameCellTells, CellsNest, CellIsInOneBox, CellIsInOneOctant, DistanceIsSmall};
+
+/// Parents and children undo each other, and keys have keys as parents and children.
+pub fn family_law()
+    ensures parent_of_child { ChildHasParent }
+    ensures octant_of_child { ChildHasOctant }
+    ensures child_of_parent { ParentHasChild }
+    ensures eight { EightOctants }
+    ensures deeper { ChildIsDeeper }
+    ensures child_is_key { ChildIsKey }
+    ensures parent_is_key { ParentIsKey }
+    ensures one_root { OneRoot }
+{}
+
+/// Being within is reached by parent steps, and is an order in which what a key is within is a chain.
+pub fn within_law()
+    ensures by_parents { WithinByParents }
+    ensures below { BelowIsDeeper }
+    ensures itself { WithinItself }
+    ensures and_on { WithinAndOn }
+    ensures in_order { WithinInOrder }
+    ensures one_a_depth { OneOfEachDepth }
+    ensures root_has_all { RootHasAll }
+    ensures same_key { SameKeyTells }
+{}
+
+/// A place of the cube has one key at each depth, each the child of the one before.
+pub fn place_law()
+    ensures has_key { PlaceHasKey }
+    ensures has_one_key { PlaceHasOneKey }
+    ensures has_root { PlaceHasRoot }
+    ensures next_is_child { NextKeyIsChild }
+    ensures next_has_parent { NextKeyHasParent }
+    ensures next_has_octant { NextKeyHasOctant }
+    ensures has_octant { PlaceHasOctant }
+    ensures nest { KeysOfPlaceNest }
+    ensures above { AboveIsKeyOfPlace }
+{}
+
+/// A box is divided among the boxes of its eight children.
+pub fn box_law()
+    ensures root { RootBoxIsCube }
+    ensures in_cube { BoxIsInCube }
+    ensures nest { BoxesNest }
+    ensures child_in_parent { ChildBoxIsInParent }
+    ensures has_child { PlaceHasChild }
+    ensures has_one_child { PlaceHasOneChild }
+    ensures apart { ChildBoxesAreApart }
+{}
+
+/// A place of the cube has one cell at each depth, which lies in one cell, box and octant of each depth
+/// above, and its distance from the cell's centre fits 64 bits.
+pub fn cell_law()
+    ensures has_cell { PlaceHasCell }
+    ensures has_one_cell { PlaceHasOneCell }
+    ensures same_cell { SameCellTells }
+    ensures nest { CellsNest }
+    ensures in_one_box { CellIsInOneBox }
+    ensures in_one_octant { CellIsInOneOctant }
+    ensures small { DistanceIsSmall }
+{}
