@@ -1,0 +1,6 @@
+pub mod Members
+pub mod Ascending
+pub mod Best
+pub mod RankLaws
+pub mod IdLaws
+pub mod KeyOrder
