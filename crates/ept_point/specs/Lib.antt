@@ -1,0 +1,5 @@
+pub mod Widths
+pub mod Packed
+pub mod Order
+pub mod Tile
+pub mod Laws

@@ -1,0 +1,36 @@
+//! What holds of every packed point, tile and id. Each law is the contract of a function that does
+//! nothing.
+
+ghost use Rattle.ept_point.specs.Laws.{EachHasPackedLength, EachIsWithinBounds, IsPackedFormOfOne, EachTileHasLength, ReadInOneWay, NoneIsBeforeItself, BeforeIsTransitive, EitherIsBefore};
+
+/// Every packed point has the packed length.
+pub fn packed_length_law()
+    ensures { EachHasPackedLength }
+{}
+
+/// No field of a packed point is above its greatest value.
+pub fn packed_bounds_law()
+    ensures { EachIsWithinBounds }
+{}
+
+/// Two points with the same packed form are the same point.
+pub fn packed_once_law()
+    ensures { IsPackedFormOfOne }
+{}
+
+/// The length of a tile is the packed length for each of its points.
+pub fn tile_length_law()
+    ensures { EachTileHasLength }
+{}
+
+/// Bytes read as one tile, or as one first fault.
+pub fn tile_once_law()
+    ensures { ReadInOneWay }
+{}
+
+/// The order of ids is strict, and of two different ids one comes first.
+pub fn id_order_law()
+    ensures irreflexive { NoneIsBeforeItself }
+    ensures transitive { BeforeIsTransitive }
+    ensures total { EitherIsBefore }
+{}

@@ -1,0 +1,135 @@
+//! A tile: packed points, one after another.
+
+ghost use Rattle.std.specs.Prelude.{◌≡◌, ◌≢◌, ◌∷◌, ◌%◌, [], ◌++◌, ◌+◌, ℕ, List, Result, OnOk, OnErr, IfOk, IfErr, IfSome, Ok, Err, Option, length, take, vec_len};
+ghost use Rattle.ept_point.specs.declared.point.Point.{Point};
+ghost use Rattle.ept_point.specs.declared.tile.TileError.{TileError};
+ghost use Rattle.ept_point.specs.Packed.{packed, tile};
+ghost use Rattle.ept_point.specs.Order.{id, IsBefore};
+ghost use Rattle.ept_point.specs.Tile.{ReadsAs, AppendsReading, IsPointFault};
+
+use crate::id::PointId;
+use crate::memory::Memory;
+use crate::packed::{PACKED_LENGTH, pack, unpack};
+use crate::point::Point;
+use std::alloc::{AllocError, AllocFailed};
+use thiserror::Error;
+
+/// Why bytes are no tile: the first cause in the order of the variants at the first faulty point.
+#[derive(Clone, Copy, Debug, PartialEq, Eq, Error)]
+pub enum TileError {
+    /// The length is no multiple of a packed point's.
+    #[error("the length is no multiple of a packed point's")]
+    Length,
+    /// The point of this number in the tile, from 0, has a field above its greatest value.
+    #[error("point {at} has a field above its greatest value")]
+    Field { at: u64 },
+    /// The id of the point of this number in the tile, from 0, is not greater than the one before.
+    #[error("point {at} does not come after the one before it")]
+    Order { at: u64 },
+    /// Memory ran out.
+    #[error("out of memory")]
+    Memory,
+}
+
+impl From<AllocError> for TileError {
+    ghost use Rattle.ept_point.specs.declared.tile.TileError.TheVariants.{Memory};
+
+    ghost from_gives = { λ _ e. e ≡ Memory };
+
+    fn from(_error: AllocError) -> TileError {
+        TileError::Memory
+    }
+}
+
+impl<T: Drop> From<AllocFailed<T>> for TileError {
+    ghost use Rattle.ept_point.specs.declared.tile.TileError.TheVariants.{Memory};
+
+    ghost from_gives = { λ _ e. e ≡ Memory };
+
+    fn from(_error: AllocFailed<T>) -> TileError {
+        TileError::Memory
+    }
+}
+
+/// Appends the packed points.
+pub fn tile_bytes(points: &[Point], out: &mut Vec<u8>) -> Result<(), Memory>
+    ensures ok { OnOk result (out.new.items ≡ out.old.items ++ tile points.now) }
+    ensures err { OnErr result (out.new.items ≡ out.old.items) }
+{
+    let kept = out.len();
+    for point in points {
+        if out.extend_from_slice(&pack(point)).is_err() {
+            out.truncate(kept);
+            return Err(Memory);
+        }
+    }
+    Ok(())
+}
+
+// The point in the packed form at the place `at` of a tile, behind the point whose id is `last`.
+fn next_point(
+    bytes: &[u8; PACKED_LENGTH],
+    last: Option<PointId>,
+    at: u64,
+) -> Result<Point, TileError>
+    ensures point { IfOk result (λ p. packed p ≡ bytes.now) }
+    ensures after { IfOk result (λ p. IfSome last (λ a. IsBefore a (id p))) }
+    ensures fault { IfErr result (IsPointFault bytes.now last at) }
+{
+    let point = match unpack(bytes) {
+        Some(point) => point,
+        None => return Err(TileError::Field { at }),
+    };
+    if let Some(last) = last {
+        if !last.is_before(point.id()) {
+            return Err(TileError::Order { at });
+        }
+    }
+    Ok(point)
+}
+
+// Reads whole points up to the first fault, and leaves behind an error what it has read.
+fn read_points(bytes: &[u8], out: &mut Vec<Point>) -> Result<(), TileError>
+    requires { length bytes.now % PACKED_LENGTH ≡ 0 }
+    ensures ok { OnOk result ((points : List Point) × ReadsAs bytes.now (Ok points) × (out.new.items ≡ out.old.items ++ points)) }
+    ensures fault { IfErr result (λ e. e ≢ TileError.Memory → ReadsAs bytes.now (Err e)) }
+    ensures kept { (points : List Point) × (out.new.items ≡ out.old.items ++ points) }
+{
+    let mut rest = bytes;
+    let mut last = None;
+    let mut at = 0;
+    while let Some((packed, after)) = rest.split_first_chunk::<PACKED_LENGTH>() {
+        let point = next_point(packed, last, at)?;
+        out.push(point)?;
+        rest = after;
+        last = Some(point.id());
+        at += 1;
+    }
+    Ok(())
+}
+
+/// Appends the points of a tile: packed points, one after another, whose ids strictly ascend.
+///
+/// # Errors
+///
+/// The reading of the bytes, if they are no tile, and `Memory` where memory runs out. `out` is then
+/// as it was.
+pub fn read_tile(bytes: &[u8], out: &mut Vec<Point>) -> Result<(), TileError>
+    ensures ok { OnOk result ((points : List Point) × ReadsAs bytes.now (Ok points) × (out.new.items ≡ out.old.items ++ points)) }
+    ensures fault { IfErr result (λ e. e ≢ TileError.Memory → ReadsAs bytes.now (Err e)) }
+    ensures err { OnErr result (out.new.items ≡ out.old.items) }
+
+    // Bytes read in one way, so this says what comes exactly where, unless memory runs out.
+    ensures exact { (reading : Result (List Point) TileError) → ReadsAs bytes.now reading
+        → AppendsReading result out.old.items out.new.items reading }
+{
+    if bytes.len() % PACKED_LENGTH != 0 {
+        return Err(TileError::Length);
+    }
+    let kept = out.len();
+    let outcome = read_points(bytes, out);
+    if outcome.is_err() {
+        out.truncate(kept);
+    }
+    outcome
+}
