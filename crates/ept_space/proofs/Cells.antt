@@ -10,7 +10,7 @@ use Rattle.ept_space.specs.VoxelKey.{octant_of}
 use Rattle.ept_space.specs.OctreeCube.{OctreeCube, IsCube, InCube, InCell, cell_side, offset, key_at, octant_at, cell_at, cell_index, same_cell, off_centre, distance_at}
 use Rattle.ept_space.proofs.Axis.{far, index-of-interval, interval-of-index, coarser-same}
 use Rattle.ept_space.proofs.Family.{same-parts}
-use Rattle.ept_space.proofs.Places.{above-cube}
+use Rattle.ept_space.proofs.PlaceKeys.{above-cube}
 
 -- ---- the cell of a place
 

@@ -1,5 +1,6 @@
 pub mod Axis
 pub mod Family
 pub mod Within
-pub mod Places
+pub mod PlaceKeys
 pub mod Cells
+pub mod Shifts

@@ -1,6 +1,7 @@
 //! Keys of nodes.
 
-ghost use Rattle.std.specs.Prelude.{◌≡◌};
+ghost use Rattle.std.specs.Prelude.{◌≡◌, ◌<◌};
+ghost use Rattle.ept_space.specs.VoxelKey.{child};
 
 use std::marker::Model;
 
@@ -39,4 +40,18 @@ impl Key {
         y: 0,
         z: 0,
     };
+}
+
+/// The key of an octant of the key's box, one depth below it.
+pub fn child(key: &Key, octant: u8) -> Key
+    requires shallow { key.now.depth < 31 }
+    requires one_of_eight { octant < 8 }
+    ensures { result ≡ child key.now octant }
+{
+    Key {
+        depth: key.depth + 1,
+        x: 2 * key.x + u32::from(octant & 1),
+        y: 2 * key.y + u32::from(octant >> 1 & 1),
+        z: 2 * key.z + u32::from(octant >> 2 & 1),
+    }
 }

@@ -12,9 +12,11 @@ mod box3;
 mod cube;
 mod key;
 mod laws;
+mod places;
 
 pub use bounds::Bounds;
 pub use box3::Box3;
 pub use cube::{Cube, Rules};
-pub use key::Key;
+pub use key::{Key, child};
 pub use laws::{box_law, cell_law, family_law, place_law, within_law};
+pub use places::{cell, centre_distance, octant};

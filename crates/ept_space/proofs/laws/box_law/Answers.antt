@@ -1,5 +1,5 @@
 use Rattle.std.proofs.Common.{arith, sym, ◌∙◌}
-use Rattle.ept_space.proofs.Places.{InCube-root, InBox-root, InCube-box, InBox-within, InBox-child_within, InBox-child, octant_at-child}
+use Rattle.ept_space.proofs.PlaceKeys.{InCube-root, InBox-root, InCube-box, InBox-within, InBox-child_within, InBox-child, octant_at-child}
 use Rattle.ept_space.proofs.laws.box_law.Goals as goal
 
 pub returns-clause-root : goal.returns-clause-root

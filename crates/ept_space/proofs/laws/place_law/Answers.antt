@@ -1,5 +1,5 @@
 use Rattle.std.proofs.Common.{arith}
-use Rattle.ept_space.proofs.Places.{InBox-key_at, IsKey-key_at, depth-key_at, key_at-box, key_at-root, key_at-suc, parent-key_at, octant_of-key_at, octant_at-below, is_within-key_at, key_at-unique}
+use Rattle.ept_space.proofs.PlaceKeys.{InBox-key_at, IsKey-key_at, depth-key_at, key_at-box, key_at-root, key_at-suc, parent-key_at, octant_of-key_at, octant_at-below, is_within-key_at, key_at-unique}
 use Rattle.ept_space.proofs.laws.place_law.Goals as goal
 
 pub returns-clause-has_key : goal.returns-clause-has_key
