@@ -4,3 +4,6 @@ pub mod Best
 pub mod RankLaws
 pub mod IdLaws
 pub mod KeyOrder
+pub mod ArrivalLaws
+pub mod SamplingLaws
+pub mod NodeLaws

@@ -26,10 +26,13 @@ abbrev pub in_key_order : List VoxelKey → List VoxelKey
 in_key_order [] = []
 in_key_order (key ∷ keys) = with_key key (in_key_order keys)
 
--- the keys of the sampling, in key order: of the root and the keys of the boxes that points lie in, those that are nodes
+-- the root, and the keys of the boxes that points lie in
+abbrev pub candidate_keys : OctreeCube → List Point → List VoxelKey
+candidate_keys cube points = root ∷ flat_map (λ p. keys_down_to cube cube.depth (place p)) points
+
+-- the keys of the sampling, in key order: those of them that are nodes
 unfoldable pub node_keys : Rules → List Point → List VoxelKey
-node_keys rules points =
-    in_key_order (filter (is_node rules points) (root ∷ flat_map (λ p. keys_down_to rules.cube rules.cube.depth (place p)) points))
+node_keys rules points = in_key_order (filter (is_node rules points) (candidate_keys rules.cube points))
 
 -- the tile of a key
 abbrev pub tile_at : Rules → List Point → VoxelKey → Tile
