@@ -19,7 +19,7 @@ use Rattle.ept_sample.proofs.Best.{Winner, winner_of, is_beaten-filter, either, 
 use Rattle.ept_sample.proofs.IdLaws.{HasDistinctIds-filter}
 use Rattle.ept_sample.proofs.RankLaws.{contest, and_left, and_right, and_both}
 
-same_number : (a b : ℕ) → (a == b) ≡ true → a ≡ b
+pub same_number : (a b : ℕ) → (a == b) ≡ true → a ≡ b
 same_number a b e = grind (arith, nat_tests)
 
 -- ---- who loses
@@ -114,18 +114,20 @@ loses-kept rules depth was given p =
 one_octant : (lost : Bool) (f : ℕ → Bool) (a o : ℕ) (b : Bool) → f o ≡ b → ((lost && f a) && (a == o)) ≡ cond b (lost && (a == o)) false
 one_octant lost f a o b e =
     elim (either (a == o)) [
-      inl same ↦ there lost b (let is : a ≡ o = same_number a o same in ap f is ∙ e) same
-    | inr apart ↦ off lost b apart
+      | inl same ↦ there lost b (let is : a ≡ o = same_number a o same in ap f is ∙ e) same
+      | inr apart ↦ off lost b apart
     ]
   where
     right : (c d : Bool) → d ≡ false → (c && d) ≡ false
     right true d e = e
     right false d e = refl
+
     there : (lost b : Bool) → f a ≡ b → (a == o) ≡ true → ((lost && f a) && (a == o)) ≡ cond b (lost && (a == o)) false
     there true true is same = ap (λ (c : Bool). c && (a == o)) is
     there true false is same = ap (λ (c : Bool). c && (a == o)) is
     there false true is same = refl
     there false false is same = refl
+
     off : (lost b : Bool) → (a == o) ≡ false → ((lost && f a) && (a == o)) ≡ cond b (lost && (a == o)) false
     off true true apart = right (f a) (a == o) apart ∙ sym apart
     off true false apart = right (f a) (a == o) apart

@@ -50,8 +50,8 @@ by_head beats o xs y z x over none wins =
 by_rest : {X : Type 0} (beats : X → X → Bool) → IsContest beats → (xs : List X) (y x : X) → Winner beats xs x → Winner beats (y ∷ xs) x
 by_rest beats o xs y x w =
     elim (either (beats y w.0)) [
-      inl over ↦ by_head beats o xs y w.0 x over w.3 (o.goes_on y w.0 x over w.2)
-    | inr under ↦ (w.0, inr w.1, w.2, beaten_rest beats y xs w.0 under w.3)
+      | inl over ↦ by_head beats o xs y w.0 x over w.3 (o.goes_on y w.0 x over w.2)
+      | inr under ↦ (w.0, inr w.1, w.2, beaten_rest beats y xs w.0 under w.3)
     ]
 
 -- who is beaten is beaten by a winner
@@ -59,24 +59,24 @@ pub winner_of : {X : Type 0} (beats : X → X → Bool) → IsContest beats → 
 winner_of beats o [] x lost = absurd (false≢true lost)
 winner_of beats o (y ∷ xs) x lost =
     elim (either (is_beaten beats xs x)) [
-      inl inside ↦ by_rest beats o xs y x (winner_of beats o xs x inside)
-    | inr outside ↦
-        let wins : beats y x ≡ true = first_of_two (beats y x) (is_beaten beats xs x) lost outside in
-        by_head beats o xs y x x wins outside wins
+      | inl inside ↦ by_rest beats o xs y x (winner_of beats o xs x inside)
+      | inr outside ↦
+          let wins : beats y x ≡ true = first_of_two (beats y x) (is_beaten beats xs x) lost outside in
+          by_head beats o xs y x x wins outside wins
     ]
 
 -- without some that lose, the same ones lose
 pub is_beaten-filter : {X : Type 0} (beats : X → X → Bool) → IsContest beats → (keep : X → Bool) (xs : List X) → ((y : X) → IsMember y xs → is_beaten beats xs y ≡ false → keep y ≡ true) → (x : X) → is_beaten beats (filter keep xs) x ≡ is_beaten beats xs x
 is_beaten-filter beats o keep xs winners x =
     elim (either (is_beaten beats xs x)) [
-      inl lost ↦
-        let w = winner_of beats o xs x lost in
-        any-member (λ z. beats z x) w.0 (filter keep xs) (IsMember-kept keep w.0 xs (winners w.0 w.1 w.3) w.1) w.2 ∙ sym lost
-    | inr fine ↦
-        elim (either (is_beaten beats (filter keep xs) x)) [
-          inl lost ↦
-            let v = member-any (λ z. beats z x) (filter keep xs) lost in
-            absurd (not_both (is_beaten beats xs x) (any-member (λ z. beats z x) v.0 xs (IsMember-filter keep v.0 xs v.1).0 v.2) fine)
-        | inr none ↦ none ∙ sym fine
-        ]
+      | inl lost ↦
+          let w = winner_of beats o xs x lost in
+          any-member (λ z. beats z x) w.0 (filter keep xs) (IsMember-kept keep w.0 xs (winners w.0 w.1 w.3) w.1) w.2 ∙ sym lost
+      | inr fine ↦
+          elim (either (is_beaten beats (filter keep xs) x)) [
+            | inl lost ↦
+                let v = member-any (λ z. beats z x) (filter keep xs) lost in
+                absurd (not_both (is_beaten beats xs x) (any-member (λ z. beats z x) v.0 xs (IsMember-filter keep v.0 xs v.1).0 v.2) fine)
+            | inr none ↦ none ∙ sym fine
+          ]
     ]

@@ -98,8 +98,8 @@ pub HasDistinctIds-head : (p : Point) (ps : List Point) → HasDistinctIds (p �
 unfolding HasDistinctIds
 HasDistinctIds-head p ps once q m =
     elim (either (same_id p q)) [
-      inl same ↦ absurd (omega (arith, once p, count-yes (same_id p) p ps (same_id-self p), count_by-member (same_id p) q ps m same))
-    | inr apart ↦ apart
+      | inl same ↦ absurd (omega (arith, once p, count-yes (same_id p) p ps (same_id-self p), count_by-member (same_id p) q ps m same))
+      | inr apart ↦ apart
     ]
 
 pub HasDistinctIds-IsPermutation : (ps qs : List Point) → IsPermutation ps qs → HasDistinctIds ps → HasDistinctIds qs
@@ -171,8 +171,8 @@ rise_step p q ps false e apart up more = (behind_placed, more)
     behind_placed : IsBeforeAll comes_before q (placed_by_id p ps)
     behind_placed r m =
         elim (IsMember-IsPermutation r (placed_by_id p ps) (p ∷ ps) (IsPermutation-sym (p ∷ ps) (placed_by_id p ps) (IsPermutation-placed p ps)) m) [
-          inl is ↦ subst (λ (w : Point). comes_before q w ≡ true) is (comes_before-total p q e apart)
-        | inr n ↦ up.0 r n
+          | inl is ↦ subst (λ (w : Point). comes_before q w ≡ true) is (comes_before-total p q e apart)
+          | inr n ↦ up.0 r n
         ]
 
 IsRising-placed : (p : Point) (ps : List Point) → ((q : Point) → IsMember q ps → same_id p q ≡ false) → IsRising comes_before ps → IsRising comes_before (placed_by_id p ps)
@@ -218,18 +218,19 @@ unfolding HasDistinctIds
 HasDistinctIds-IsRising [] up p = omega arith
 HasDistinctIds-IsRising (q ∷ ps) up p =
     elim (either (same_id p q)) [
-      inl same ↦ omega (arith, count_by-cons (same_id p) q ps, count_by-none (same_id p) ps (λ r m. apart r m same), one (same_id p q))
-    | inr other ↦ omega (arith, HasDistinctIds-IsRising ps up.1 p, count_by-cons (same_id p) q ps ∙ ap (λ (b : Bool). cond b 1 0 + count_by (same_id p) ps) other)
+      | inl same ↦ omega (arith, count_by-cons (same_id p) q ps, count_by-none (same_id p) ps (λ r m. apart r m same), one (same_id p q))
+      | inr other ↦ omega (arith, HasDistinctIds-IsRising ps up.1 p, count_by-cons (same_id p) q ps ∙ ap (λ (b : Bool). cond b 1 0 + count_by (same_id p) ps) other)
     ]
   where
     one : (b : Bool) → cond b 1 0 ≤ 1
     one true = omega arith
     one false = omega arith
+
     apart : (r : Point) → IsMember r ps → same_id p q ≡ true → same_id p r ≡ false
     apart r m same =
         elim (either (same_id p r)) [
-          inl also ↦ absurd (not_both (same_id q r) (same_id-trans q p r (same_id-sym p q same) also) (before_apart q r (up.0 r m)))
-        | inr fine ↦ fine
+          | inl also ↦ absurd (not_both (same_id q r) (same_id-trans q p r (same_id-sym p q same) also) (before_apart q r (up.0 r m)))
+          | inr fine ↦ fine
         ]
 
 pub in_id_order-IsRising : (ps : List Point) → IsRising comes_before ps → in_id_order ps ≡ ps

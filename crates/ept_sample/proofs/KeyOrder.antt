@@ -26,9 +26,9 @@ four-trans : (a b c d k l m n w x y z : ℕ) → four_cmp a b c d k l m n ≡ Le
 unfolding four_cmp
 four-trans a b c d k l m n w x y z =
     then-trans a k w _ _ _ (then-trans b l x _ _ _ (then-trans c m y _ _ _ (last d n z)))
-    where
-      last : (d n z : ℕ) → nat_cmp d n ≡ Less → nat_cmp n z ≡ Less → nat_cmp d z ≡ Less
-      last d n z e f = grind (arith, nat_tests)
+  where
+    last : (d n z : ℕ) → nat_cmp d n ≡ Less → nat_cmp n z ≡ Less → nat_cmp d z ≡ Less
+    last d n z e f = grind (arith, nat_tests)
 
 four-equal : (a b c d w x y z : ℕ) → four_cmp a b c d w x y z ≡ Equal → (a ≡ w) × (b ≡ x) × (c ≡ y) × (d ≡ z)
 unfolding four_cmp
@@ -92,16 +92,18 @@ put_step key k keys Equal e more =
     (λ j m. inr m, λ j m. m, inl (sym (key-equal key k e)), λ up. up)
 put_step key k keys Greater e more =
     (λ j m. greater_cases j m, λ j m. greater_kept j m, inr more.2, λ up. (greater_before up, more.3 up.1))
-    where
-      greater_cases : (j : VoxelKey) → IsMember j (k ∷ with_key key keys) → (key ≡ j) ⊎ IsMember j (k ∷ keys)
-      greater_cases j (inl is) = inr (inl is)
-      greater_cases j (inr m) = elim (more.0 j m) [ inl is ↦ inl is | inr n ↦ inr (inr n) ]
-      greater_kept : (j : VoxelKey) → IsMember j (k ∷ keys) → IsMember j (k ∷ with_key key keys)
-      greater_kept j (inl is) = inl is
-      greater_kept j (inr m) = inr (more.1 j m)
-      greater_before : IsRising key_before (k ∷ keys) → IsBeforeAll key_before k (with_key key keys)
-      greater_before up j m =
-          elim (more.0 j m) [ inl is ↦ ap is_lt (subst (λ (w : VoxelKey). key_cmp k w ≡ Less) is (key-greater key k e)) | inr n ↦ up.0 j n ]
+  where
+    greater_cases : (j : VoxelKey) → IsMember j (k ∷ with_key key keys) → (key ≡ j) ⊎ IsMember j (k ∷ keys)
+    greater_cases j (inl is) = inr (inl is)
+    greater_cases j (inr m) = elim (more.0 j m) [ inl is ↦ inl is | inr n ↦ inr (inr n) ]
+
+    greater_kept : (j : VoxelKey) → IsMember j (k ∷ keys) → IsMember j (k ∷ with_key key keys)
+    greater_kept j (inl is) = inl is
+    greater_kept j (inr m) = inr (more.1 j m)
+
+    greater_before : IsRising key_before (k ∷ keys) → IsBeforeAll key_before k (with_key key keys)
+    greater_before up j m =
+        elim (more.0 j m) [ inl is ↦ ap is_lt (subst (λ (w : VoxelKey). key_cmp k w ≡ Less) is (key-greater key k e)) | inr n ↦ up.0 j n ]
 
 pub with_key-put : (key : VoxelKey) (keys : List VoxelKey) → PutInto key keys (with_key key keys)
 with_key-put key [] = (λ k m. m, λ k m. absurd m, inl refl, λ up. (λ k m. absurd m, tt))

@@ -7,3 +7,4 @@ pub mod KeyOrder
 pub mod ArrivalLaws
 pub mod SamplingLaws
 pub mod NodeLaws
+pub mod WalkLaws

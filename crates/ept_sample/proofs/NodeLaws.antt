@@ -30,8 +30,8 @@ pub IsMember-keys_down_to : (cube : OctreeCube) (at : Place) (d n : ℕ) → d �
 IsMember-keys_down_to cube at d zero h = inl (ap (λ (k : ℕ). key_at cube k at) (let e : 0 ≡ d = omega arith in e))
 IsMember-keys_down_to cube at d (suc n) h =
     elim (below_or_at d (suc n) h) [
-      inl less ↦ IsMember-left (key_at cube d at) (keys_down_to cube n at) (key_at cube (suc n) at ∷ []) (IsMember-keys_down_to cube at d n (omega arith))
-    | inr same ↦ IsMember-right (key_at cube d at) (keys_down_to cube n at) (key_at cube (suc n) at ∷ []) (inl (ap (λ (k : ℕ). key_at cube k at) (sym same)))
+      | inl less ↦ IsMember-left (key_at cube d at) (keys_down_to cube n at) (key_at cube (suc n) at ∷ []) (IsMember-keys_down_to cube at d n (omega arith))
+      | inr same ↦ IsMember-right (key_at cube d at) (keys_down_to cube n at) (key_at cube (suc n) at ∷ []) (inl (ap (λ (k : ℕ). key_at cube k at) (sym same)))
     ]
 
 -- each of them is a node
@@ -69,10 +69,10 @@ counted : (test : Point → Bool) (xs : List Point) → 1 ≤ count_by test xs �
 counted test [] some = absurd (let none : 1 ≤ 0 = some in omega arith)
 counted test (p ∷ xs) some =
     elim (either (test p)) [
-      inl passes ↦ (p, inl refl, passes)
-    | inr fails ↦
-        let rest : 1 ≤ count_by test xs = omega (arith, some, count_by-cons test p xs ∙ ap (λ (b : Bool). cond b 1 0 + count_by test xs) fails) in
-        let more = counted test xs rest in (more.0, inr more.1, more.2)
+      | inl passes ↦ (p, inl refl, passes)
+      | inr fails ↦
+          let rest : 1 ≤ count_by test xs = omega (arith, some, count_by-cons test p xs ∙ ap (λ (b : Bool). cond b 1 0 + count_by test xs) fails) in
+          let more = counted test xs rest in (more.0, inr more.1, more.2)
     ]
 
 none_or_more : (n : ℕ) → (n ≡ 0) ⊎ (1 ≤ n)
@@ -83,15 +83,15 @@ distinct_append : (xs ys : List Point) → HasDistinctIds xs → HasDistinctIds 
 unfolding HasDistinctIds
 distinct_append xs ys once once' apart p =
     elim (none_or_more (count_by (same_id p) xs)) [
-      inl none ↦ omega (arith, none, once' p, count_by-append (same_id p) xs ys)
-    | inr some ↦
-        elim (none_or_more (count_by (same_id p) ys)) [
-          inl none ↦ omega (arith, none, once p, count_by-append (same_id p) xs ys)
-        | inr more ↦
-            let q = counted (same_id p) xs some in
-            let r = counted (same_id p) ys more in
-            absurd (not_both (same_id q.0 r.0) (same_id-trans q.0 p r.0 (same_id-sym p q.0 q.2) r.2) (apart q.0 r.0 q.1 r.1))
-        ]
+      | inl none ↦ omega (arith, none, once' p, count_by-append (same_id p) xs ys)
+      | inr some ↦
+          elim (none_or_more (count_by (same_id p) ys)) [
+            | inl none ↦ omega (arith, none, once p, count_by-append (same_id p) xs ys)
+            | inr more ↦
+                let q = counted (same_id p) xs some in
+                let r = counted (same_id p) ys more in
+                absurd (not_both (same_id q.0 r.0) (same_id-trans q.0 p r.0 (same_id-sym p q.0 q.2) r.2) (apart q.0 r.0 q.1 r.1))
+          ]
     ]
 
 -- the points of rising keys together have distinct ids
@@ -102,16 +102,17 @@ distinct_nodes rules points ok inside once (k ∷ keys) up =
   where
     mine : (p : Point) (j : VoxelKey) → IsMember p (sampling rules points j) → IsMember p points
     mine p j m = given-IsMember rules points j p (IsMember-sampling rules points j p m).0
+
     apart : (p q : Point) → IsMember p (sampling rules points k) → IsMember q (flat_map (sampling rules points) keys) → same_id p q ≡ false
     apart p q m n =
         elim (either (same_id p q)) [
-          inl same ↦
-            let f = member-flat_map (sampling rules points) q keys n in
-            let one : p ≡ q = same_member points once p q (mine p k m) (mine q f.0 f.2) same in
-            let again : IsMember p (sampling rules points f.0) = subst (λ (w : Point). IsMember w (sampling rules points f.0)) (sym one) f.2 in
-            let level : k ≡ f.0 = stays-once rules points k f.0 p ok (all-member (λ r. InCube rules.cube (place r)) p points inside (mine p k m)) m again in
-            absurd (not_both (key_before k k) (subst (λ (w : VoxelKey). key_before k w ≡ true) (sym level) (up.0 f.0 f.1)) (key_order.none_itself k))
-        | inr fine ↦ fine
+          | inl same ↦
+              let f = member-flat_map (sampling rules points) q keys n in
+              let one : p ≡ q = same_member points once p q (mine p k m) (mine q f.0 f.2) same in
+              let again : IsMember p (sampling rules points f.0) = subst (λ (w : Point). IsMember w (sampling rules points f.0)) (sym one) f.2 in
+              let level : k ≡ f.0 = stays-once rules points k f.0 p ok (all-member (λ r. InCube rules.cube (place r)) p points inside (mine p k m)) m again in
+              absurd (not_both (key_before k k) (subst (λ (w : VoxelKey). key_before k w ≡ true) (sym level) (up.0 f.0 f.1)) (key_order.none_itself k))
+          | inr fine ↦ fine
         ]
 
 pub points-of : (rules : Rules) (points : List Point) (keys : List VoxelKey) → flat_map (λ (t : Tile). t.points) (map (tile_at rules points) keys) ≡ flat_map (sampling rules points) keys
@@ -128,6 +129,7 @@ IsPermutation-sampled rules points ok inside once =
     there p m =
         let k = stays-somewhere rules points p m in
         IsMember-flat_map (sampling rules points) k.0 p (node_keys rules points) (node_keys-IsMember rules points k.0 ok inside (is_node-given rules points k.0 p (IsMember-sampling rules points k.0 p k.1).0)) k.1
+
     back : (p : Point) → IsMember p (flat_map (sampling rules points) (node_keys rules points)) → IsMember p points
     back p m =
         let f = member-flat_map (sampling rules points) p (node_keys rules points) m in

@@ -1,14 +1,18 @@
 -- The order of ranks, and beating.
-use Rattle.std.proofs.Common.{◌≡◌, ◌∙◌, ℕ, ◌<◌, Bool, true, false, ◌&&◌, ◌||◌, ◌==◌, nat_lt, ◌⊎◌, inl, inr, refl, sym, arith, eq-eqb}
+use Rattle.std.proofs.Common.{◌≡◌, ◌∙◌, ℕ, ◌<◌, Bool, true, false, ◌&&◌, ◌||◌, ◌==◌, nat_lt, ◌⊎◌, inl, inr, refl, sym, arith, eq-eqb, eqb, List}
 use Rattle.std.proofs.lemmas.Bool.{false≢true}
-use Rattle.std.proofs.lemmas.Bool.Decides.{nat_tests}
+use Rattle.std.proofs.lemmas.Bool.Decides.{nat_tests, same_from_decides, Decides-like, Decides-eqb}
+use Rattle.std.proofs.lemmas.Slice.Eq.{slice_eq-Decides}
+use lib.Pointwise.{pointwise}
 use Rattle.ept_point.specs.declared.point.Point.{Point}
 use Rattle.ept_space.specs.declared.cube.Rules.{Rules}
-use Rattle.ept_space.specs.OctreeCube.{same_cell}
-use Rattle.ept_space.proofs.Cells.{same_cell-self, same_cell-sym, same_cell-trans}
+use Rattle.ept_space.specs.OctreeCube.{OctreeCube, same_cell, cell_at}
+use Rattle.ept_space.specs.Place.{Place}
+use Rattle.ept_space.proofs.Cells.{same_cell-self, same_cell-sym, same_cell-trans, cell_at-same, same_cell-cell_at}
 use Rattle.ept_sample.specs.Place.{place}
 use Rattle.ept_sample.specs.Ids.{same_id}
-use Rattle.ept_sample.specs.Rank.{Rank, rank_at, is_better, beats}
+use Rattle.ept_sample.specs.declared.rank.Rank.{Rank}
+use Rattle.ept_sample.specs.Rank.{rank_at, is_better, beats}
 use Rattle.ept_sample.proofs.Best.{IsContest, either}
 
 -- the three parts of a rank, in order
@@ -62,8 +66,8 @@ pub beats-self : (rules : Rules) (depth : ℕ) (p : Point) → beats rules depth
 unfolding beats
 beats-self rules depth p =
     elim (either (same_cell rules.cube depth (place p) (place p) && is_better (rank_at rules depth p) (rank_at rules depth p))) [
-      inl is ↦ absurd (false≢true (sym (is_better-self (rank_at rules depth p)) ∙ and_right (same_cell rules.cube depth (place p) (place p)) (is_better (rank_at rules depth p) (rank_at rules depth p)) is))
-    | inr isn't ↦ isn't
+      | inl is ↦ absurd (false≢true (sym (is_better-self (rank_at rules depth p)) ∙ and_right (same_cell rules.cube depth (place p) (place p)) (is_better (rank_at rules depth p) (rank_at rules depth p)) is))
+      | inr isn't ↦ isn't
     ]
 
 -- a point lies in the cell of each that it beats
@@ -93,16 +97,22 @@ beats-trans rules depth r q p e f =
 pub beats-total : (rules : Rules) (depth : ℕ) (q p : Point) → same_cell rules.cube depth (place q) (place p) ≡ true → same_id q p ≡ false → (beats rules depth q p ≡ true) ⊎ (beats rules depth p q ≡ true)
 beats-total rules depth q p cell different =
     elim (either (is_better (rank_at rules depth q) (rank_at rules depth p))) [
-      inl first ↦ inl (beats-from rules depth q p cell first)
-    | inr not_first ↦
-        elim (either (is_better (rank_at rules depth p) (rank_at rules depth q))) [
-          inl second ↦ inr (beats-from rules depth p q (same_cell-sym rules.cube depth (place q) (place p) cell) second)
-        | inr not_second ↦
-            let e = is_better-total (rank_at rules depth q) (rank_at rules depth p) not_first not_second in
-            absurd (false≢true (sym different ∙ and_both _ _ (eq-eqb q.origin p.origin e.1) (eq-eqb q.number p.number e.2)))
-        ]
+      | inl first ↦ inl (beats-from rules depth q p cell first)
+      | inr not_first ↦
+          elim (either (is_better (rank_at rules depth p) (rank_at rules depth q))) [
+            | inl second ↦ inr (beats-from rules depth p q (same_cell-sym rules.cube depth (place q) (place p) cell) second)
+            | inr not_second ↦
+                let e = is_better-total (rank_at rules depth q) (rank_at rules depth p) not_first not_second in
+                absurd (false≢true (sym different ∙ and_both _ _ (eq-eqb q.origin p.origin e.1) (eq-eqb q.number p.number e.2)))
+          ]
     ]
 
 -- so points contest a depth
 pub contest : (rules : Rules) (depth : ℕ) → IsContest (beats rules depth)
 contest rules depth = record { none_itself = beats-self rules depth; goes_on = beats-trans rules depth }
+
+-- ---- what equal cells tell
+
+pub same_cells : (cube : OctreeCube) (depth : ℕ) (p q : Place) (r : Bool) (a b : List ℕ) → a ≡ cell_at cube depth p → b ≡ cell_at cube depth q → r ≡ pointwise eqb a b → r ≡ same_cell cube depth p q
+same_cells cube depth p q r a b is is' e =
+    same_from_decides {P = cell_at cube depth p ≡ cell_at cube depth q} r (same_cell cube depth p q) (Decides-like r (λ h. sym is ∙ (h ∙ is')) (λ h. is ∙ (h ∙ sym is')) (slice_eq-Decides Decides-eqb a b r e)) (cell_at-same cube depth p q, same_cell-cell_at cube depth p q)

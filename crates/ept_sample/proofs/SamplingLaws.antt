@@ -37,7 +37,7 @@ unfolding given_at
 given-child rules points key o small =
     ap (λ (d : ℕ). given_at rules points d (child key o)) (let e : (child key o).depth ≡ suc key.depth = omega (arith, depth-child key o) in e)
     ∙ (ap (λ (k : VoxelKey). sent rules key.depth none_open (given_at rules points key.depth k) (octant_of (child key o))) (parent-child key o)
-      ∙ ap (λ (n : ℕ). sent rules key.depth none_open (given_at rules points key.depth key) n) (octant_of-child key o small))
+    ∙ ap (λ (n : ℕ). sent rules key.depth none_open (given_at rules points key.depth key) n) (octant_of-child key o small))
 
 -- the same of a key below the root
 pub given-parent : (rules : Rules) (points : List Point) (key : VoxelKey) → 0 < key.depth → given rules points key ≡ sent rules (parent key).depth none_open (given rules points (parent key)) (octant_of key)
@@ -53,8 +53,8 @@ none_elsewhere rules points key p m apart =
 given-top : (rules : Rules) (points : List Point) (key : VoxelKey) (p : Point) → key.depth ≡ 0 → IsMember p (given rules points key) → key ≡ root
 given-top rules points key p top m =
     elim (either (same_key key root)) [
-      inl same ↦ same_key-true key root same
-    | inr apart ↦ absurd (none_elsewhere rules points key p (subst (λ (d : ℕ). IsMember p (given_at rules points d key)) top m) apart)
+      | inl same ↦ same_key-true key root same
+      | inr apart ↦ absurd (none_elsewhere rules points key p (subst (λ (d : ℕ). IsMember p (given_at rules points d key)) top m) apart)
     ]
 
 zero_or_more : (d : ℕ) → (d ≡ 0) ⊎ (0 < d)
@@ -93,10 +93,10 @@ given-IsMember rules points key p m = go key.depth key refl m
 pub given-depth : (rules : Rules) (points : List Point) (key : VoxelKey) (p : Point) → IsMember p (given rules points key) → key.depth ≤ rules.cube.depth
 given-depth rules points key p m =
     elim (zero_or_more key.depth) [
-      inl top ↦ omega arith
-    | inr deep ↦
-        let below : (parent key).depth < rules.cube.depth = leaves-depth rules (parent key).depth (given rules points (parent key)) p (given-leaves rules points key p deep m).1 in
-        omega (arith, below, depth-parent key)
+      | inl top ↦ omega arith
+      | inr deep ↦
+          let below : (parent key).depth < rules.cube.depth = leaves-depth rules (parent key).depth (given rules points (parent key)) p (given-leaves rules points key p deep m).1 in
+          omega (arith, below, depth-parent key)
     ]
 
 -- the greatest depth is below the side
@@ -119,8 +119,8 @@ given-key_at rules points key p ok inside m = go key.depth key refl m
         let one : key.depth ≡ (parent key).depth + 1 = omega (arith, depth-parent key) in
         ap (λ (n : ℕ). key_at rules.cube n (place p)) one
         ∙ (key_at-suc rules.cube (parent key).depth (place p) (omega (arith, low, depth-side rules.cube ok))
-          ∙ (ap (λ (k : VoxelKey). child k (octant rules (parent key).depth p)) above
-            ∙ (ap (λ (n : ℕ). child (parent key) n) h.2 ∙ child-parent key deep)))
+        ∙ (ap (λ (k : VoxelKey). child k (octant rules (parent key).depth p)) above
+        ∙ (ap (λ (n : ℕ). child (parent key) n) h.2 ∙ child-parent key deep)))
 
 pub given-InBox : (rules : Rules) (points : List Point) (key : VoxelKey) (p : Point) → IsCube rules.cube → InCube rules.cube (place p) → IsMember p (given rules points key) → InBox rules.cube key (place p)
 given-InBox rules points key p ok inside m =
@@ -169,8 +169,8 @@ node-cases rules points key e =
 pub node-given : (rules : Rules) (points : List Point) (key : VoxelKey) → 0 < key.depth → is_node rules points key ≡ true → (p : Point) × IsMember p (given rules points key)
 node-given rules points key deep e =
     elim (node-cases rules points key e) [
-      inl top ↦ absurd (let zero_deep : key.depth ≡ 0 = ap (λ (k : VoxelKey). k.depth) top in omega arith)
-    | inr some ↦ some
+      | inl top ↦ absurd (let zero_deep : key.depth ≡ 0 = ap (λ (k : VoxelKey). k.depth) top in omega arith)
+      | inr some ↦ some
     ]
 
 -- each key of the sampling is the root or has its parent in it
@@ -183,8 +183,8 @@ is_node-parent rules points key deep e =
 pub node-depth : (rules : Rules) (points : List Point) (key : VoxelKey) → is_node rules points key ≡ true → key.depth ≤ rules.cube.depth
 node-depth rules points key e =
     elim (node-cases rules points key e) [
-      inl top ↦ (let shallow : key.depth ≡ 0 = ap (λ (k : VoxelKey). k.depth) top in omega arith)
-    | inr some ↦ given-depth rules points key some.0 some.1
+      | inl top ↦ (let shallow : key.depth ≡ 0 = ap (λ (k : VoxelKey). k.depth) top in omega arith)
+      | inr some ↦ given-depth rules points key some.0 some.1
     ]
 
 -- ---- the points of a node
@@ -209,9 +209,9 @@ winner_stays rules points key p m wins =
 pub sampling-some : (rules : Rules) (points : List Point) (key : VoxelKey) (p : Point) → IsMember p (given rules points key) → (q : Point) × IsMember q (sampling rules points key)
 sampling-some rules points key p m =
     elim (either (loses rules key.depth (given rules points key) p)) [
-      inl lost ↦ let b : BestOver rules key.depth (given rules points key) p = best rules key.depth (given rules points key) p lost in
-        (b.0, winner_stays rules points key b.0 b.1 b.3)
-    | inr wins ↦ (p, winner_stays rules points key p m wins)
+      | inl lost ↦ let b : BestOver rules key.depth (given rules points key) p = best rules key.depth (given rules points key) p lost in
+          (b.0, winner_stays rules points key b.0 b.1 b.3)
+      | inr wins ↦ (p, winner_stays rules points key p m wins)
     ]
 
 -- ---- each point stays in one node
@@ -222,13 +222,13 @@ below_or_at d n h = elim (either (nat_lt d n)) [ inl less ↦ inl (ltb-true d n 
 stays_below : (rules : Rules) (points : List Point) (p : Point) (n : ℕ) (key : VoxelKey) → rules.cube.depth ≤ key.depth + n → IsMember p (given rules points key) → (k : VoxelKey) × IsMember p (sampling rules points k)
 stays_below rules points p zero key low m =
     elim (either (leaves rules key.depth none_open (given rules points key) p)) [
-      inl goes ↦ absurd (omega (arith, leaves-depth rules key.depth (given rules points key) p goes))
-    | inr stays ↦ (key, sampling-IsMember rules points key p m stays)
+      | inl goes ↦ absurd (omega (arith, leaves-depth rules key.depth (given rules points key) p goes))
+      | inr stays ↦ (key, sampling-IsMember rules points key p m stays)
     ]
 stays_below rules points p (suc n) key low m =
     elim (either (leaves rules key.depth none_open (given rules points key) p)) [
-      inl goes ↦ stays_below rules points p n (child key (octant rules key.depth p)) (omega (arith, depth-child key (octant rules key.depth p))) (leaves-given rules points key p m goes)
-    | inr stays ↦ (key, sampling-IsMember rules points key p m stays)
+      | inl goes ↦ stays_below rules points p n (child key (octant rules key.depth p)) (omega (arith, depth-child key (octant rules key.depth p))) (leaves-given rules points key p m goes)
+      | inr stays ↦ (key, sampling-IsMember rules points key p m stays)
     ]
 
 pub stays-somewhere : (rules : Rules) (points : List Point) (p : Point) → IsMember p points → (k : VoxelKey) × IsMember p (sampling rules points k)
@@ -241,18 +241,19 @@ leaves-above rules points key p ok inside m d above = go key.depth key refl m ab
   where
     Leaves : ℕ → VoxelKey → Type 0
     Leaves n k = IsMember p (given rules points k) × (leaves rules n none_open (given rules points k) p ≡ true)
+
     go : (n : ℕ) (key : VoxelKey) → key.depth ≡ n → IsMember p (given rules points key) → d < key.depth → Leaves d (key_at rules.cube d (place p))
     go zero key e m above = absurd (omega arith)
     go (suc n) key e m above =
         let h = given-leaves rules points key p (omega arith) m in
         let at : (parent key).depth ≡ n = omega (arith, depth-parent key) in
         elim (below_or_at d n (omega arith)) [
-          inl lower ↦ go n (parent key) at h.0 (omega arith)
-        | inr here ↦
-            let level : (parent key).depth ≡ d = omega arith in
-            let is : parent key ≡ key_at rules.cube d (place p) =
+          | inl lower ↦ go n (parent key) at h.0 (omega arith)
+          | inr here ↦
+              let level : (parent key).depth ≡ d = omega arith in
+              let is : parent key ≡ key_at rules.cube d (place p) =
               sym (ap (λ (x : ℕ). key_at rules.cube x (place p)) (sym level) ∙ given-key_at rules points (parent key) p ok inside h.0) in
-            subst (λ (k : VoxelKey). Leaves d k) is (subst (λ (x : ℕ). Leaves x (parent key)) level (h.0, h.1))
+              subst (λ (k : VoxelKey). Leaves d k) is (subst (λ (x : ℕ). Leaves x (parent key)) level (h.0, h.1))
         ]
 
 -- a point of one node is in no node below it
@@ -261,22 +262,22 @@ not_deeper rules points j k p ok inside m n less =
     let here = IsMember-sampling rules points j p m in
     let down = leaves-above rules points k p ok inside (IsMember-sampling rules points k p n).0 j.depth less in
     let leaving : leaves rules j.depth none_open (given rules points j) p ≡ true =
-        subst (λ (q : VoxelKey). leaves rules j.depth none_open (given rules points q) p ≡ true) (given-key_at rules points j p ok inside here.0) down.1 in
+    subst (λ (q : VoxelKey). leaves rules j.depth none_open (given rules points q) p ≡ true) (given-key_at rules points j p ok inside here.0) down.1 in
     not_both (leaves rules j.depth none_open (given rules points j) p) leaving here.1
 
 -- so it is in one node
 pub stays-once : (rules : Rules) (points : List Point) (j k : VoxelKey) (p : Point) → IsCube rules.cube → InCube rules.cube (place p) → IsMember p (sampling rules points j) → IsMember p (sampling rules points k) → j ≡ k
 stays-once rules points j k p ok inside m n =
     elim (either (nat_lt j.depth k.depth)) [
-      inl less ↦ absurd (not_deeper rules points j k p ok inside m n (ltb-true j.depth k.depth less))
-    | inr not_less ↦
-        elim (either (nat_lt k.depth j.depth)) [
-          inl more ↦ absurd (not_deeper rules points k j p ok inside n m (ltb-true k.depth j.depth more))
-        | inr not_more ↦
-            let level : j.depth ≡ k.depth = grind (arith, nat_tests) in
-            sym (given-key_at rules points j p ok inside (IsMember-sampling rules points j p m).0)
-            ∙ (ap (λ (d : ℕ). key_at rules.cube d (place p)) level ∙ given-key_at rules points k p ok inside (IsMember-sampling rules points k p n).0)
-        ]
+      | inl less ↦ absurd (not_deeper rules points j k p ok inside m n (ltb-true j.depth k.depth less))
+      | inr not_less ↦
+          elim (either (nat_lt k.depth j.depth)) [
+            | inl more ↦ absurd (not_deeper rules points k j p ok inside n m (ltb-true k.depth j.depth more))
+            | inr not_more ↦
+                let level : j.depth ≡ k.depth = grind (arith, nat_tests) in
+                sym (given-key_at rules points j p ok inside (IsMember-sampling rules points j p m).0)
+                ∙ (ap (λ (d : ℕ). key_at rules.cube d (place p)) level ∙ given-key_at rules points k p ok inside (IsMember-sampling rules points k p n).0)
+          ]
     ]
 
 -- ---- order

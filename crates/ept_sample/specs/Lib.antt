@@ -4,3 +4,4 @@ pub mod Ids
 pub mod Arrivals
 pub mod Sampling
 pub mod Nodes
+pub mod Walk

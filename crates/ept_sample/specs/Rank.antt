@@ -3,15 +3,10 @@ use Rattle.std.specs.Prelude.{ℕ, Bool, ◌&&◌, ◌||◌, ◌==◌, nat_lt}
 use Rattle.ept_point.specs.declared.point.Point.{Point}
 use Rattle.ept_space.specs.declared.cube.Rules.{Rules}
 use Rattle.ept_space.specs.OctreeCube.{same_cell, distance_at}
+use Rattle.ept_sample.specs.declared.rank.Rank.{Rank}
 use Rattle.ept_sample.specs.Place.{place}
 
--- how far a point is from the centre of its cell, then its scan, then its number there
-pub record Rank : Type 0 where
-  pub distance : ℕ
-  pub origin : ℕ
-  pub number : ℕ
-
--- the rank of a point at a depth
+-- the rank of a point at a depth: how far it is from the centre of its cell, then its scan, then its number there
 abbrev pub rank_at : Rules → ℕ → Point → Rank
 rank_at rules depth p = record {
   distance = distance_at rules.cube depth (place p);

@@ -5,6 +5,13 @@
 //! threshold, and stay otherwise.
 #![tactic(auto)]
 
+mod losing;
+mod place;
+mod rank;
 mod tiles;
+mod top_down;
 
+pub use place::place_of;
+pub use rank::{Rank, beats, rank_of};
 pub use tiles::{Tile, Tiles};
+pub use top_down::sample;
