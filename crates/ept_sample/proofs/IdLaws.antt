@@ -1,5 +1,6 @@
 -- Points in id order.
-use Rattle.std.proofs.Common.{◌≡◌, ◌∙◌, ℕ, zero, suc, ◌+◌, ◌≤◌, ◌<◌, Bool, true, false, cond, ◌&&◌, ◌||◌, ◌==◌, nat_lt, ◌⊎◌, inl, inr, List, [], ◌∷◌, ◌++◌, refl, sym, ap, subst, arith, eq-eqb, filter, count_by, sum_by, length, map}
+use Rattle.std.proofs.Common.{◌≡◌, ◌∙◌, ℕ, zero, suc, ◌+◌, ◌≤◌, ◌<◌, Bool, true, false, cond, ◌&&◌, ◌||◌, ◌==◌, nat_lt, ◌⊎◌, inl, inr, List, [], ◌∷◌, ◌++◌, refl, sym, ap, subst, arith, eq-eqb, filter, count_by, sum_by, length, map, get_or}
+use Rattle.std.specs.Ordering.{is_lt, ordering_then, nat_cmp}
 use Rattle.std.proofs.lemmas.Bool.{false≢true}
 use Rattle.std.proofs.lemmas.Bool.Decides.{nat_tests}
 use Rattle.std.proofs.lemmas.List.Sums.{sum_by-cons, sum_by-append}
@@ -242,3 +243,37 @@ pub IsAscending-IsRising : (ps : List Point) → IsRising comes_before ps → Is
 IsAscending-IsRising [] up = tt
 IsAscending-IsRising (p ∷ []) up = (tt, tt)
 IsAscending-IsRising (p ∷ q ∷ ps) up = (IsBefore-comes_before p q (up.0 q (inl refl)), IsAscending-IsRising (q ∷ ps) up.1)
+
+-- ---- sorted points
+
+-- no point has a less id than the one in front of it
+abbrev pub IsSortedById : List Point → Type 0
+IsSortedById ps = (k : ℕ) (d : Point) → 0 ≤ k → k + 1 < length ps → is_lt (ordering_then (nat_cmp (get_or ps (k + 1) d).origin (get_or ps k d).origin) (nat_cmp (get_or ps (k + 1) d).number (get_or ps k d).number)) ≡ false
+
+not_less : Point → Point → Type 0
+not_less q p = is_lt (ordering_then (nat_cmp q.origin p.origin) (nat_cmp q.number p.number)) ≡ false
+
+sorted_pair : (p q : Point) → not_less q p → same_id p q ≡ false → comes_before p q ≡ true
+unfolding not_less
+sorted_pair p q e apart = numbers p.origin p.number q.origin q.number e apart
+  where
+    numbers : (a b x y : ℕ) → is_lt (ordering_then (nat_cmp x a) (nat_cmp y b)) ≡ false → ((a == x) && (b == y)) ≡ false → (nat_lt a x || ((a == x) && nat_lt b y)) ≡ true
+    numbers a b x y e apart = grind (arith, nat_tests)
+
+adjacent_rise : (ps : List Point) → HasDistinctIds ps → ((k : ℕ) (d : Point) → suc k < length ps → not_less (get_or ps (suc k) d) (get_or ps k d)) → IsRising comes_before ps
+adjacent_rise [] once up = tt
+adjacent_rise (p ∷ []) once up = (λ q m. absurd m, tt)
+adjacent_rise (p ∷ q ∷ ps) once up =
+    let more : IsRising comes_before (q ∷ ps) = adjacent_rise (q ∷ ps) (HasDistinctIds-tail p (q ∷ ps) once) (λ k d h. up (suc k) d (omega arith)) in
+    (before_placed p q ps (sorted_pair p q (up 0 p (omega arith)) (HasDistinctIds-head p (q ∷ ps) once q (inl refl))) more, more)
+
+-- points with distinct ids that are sorted are the points in id order
+pub sorted-in_id_order : (ps qs : List Point) → HasDistinctIds ps → IsPermutation ps qs → IsSortedById qs → qs ≡ in_id_order ps
+unfolding not_less
+sorted-in_id_order ps qs once h up =
+    sym (in_id_order-IsRising qs (adjacent_rise qs (HasDistinctIds-IsPermutation ps qs h once) (λ k d small. at k d small)))
+    ∙ sym (in_id_order-IsPermutation ps qs once h)
+  where
+    at : (k : ℕ) (d : Point) → suc k < length qs → not_less (get_or qs (suc k) d) (get_or qs k d)
+    at k d small =
+        subst (λ (n : ℕ). not_less (get_or qs n d) (get_or qs k d)) (let e : k + 1 ≡ suc k = omega arith in e) (up k d (omega arith) (omega arith))

@@ -8,3 +8,4 @@ pub mod ArrivalLaws
 pub mod SamplingLaws
 pub mod NodeLaws
 pub mod WalkLaws
+pub mod WalkNodes

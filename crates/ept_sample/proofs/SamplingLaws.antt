@@ -50,7 +50,7 @@ unfolding given_at
 none_elsewhere rules points key p m apart =
     let M : Bool → Type 0 = λ b. IsMember p (cond b (in_id_order points) []) in subst M apart m
 
-given-top : (rules : Rules) (points : List Point) (key : VoxelKey) (p : Point) → key.depth ≡ 0 → IsMember p (given rules points key) → key ≡ root
+pub given-top : (rules : Rules) (points : List Point) (key : VoxelKey) (p : Point) → key.depth ≡ 0 → IsMember p (given rules points key) → key ≡ root
 given-top rules points key p top m =
     elim (either (same_key key root)) [
       | inl same ↦ same_key-true key root same

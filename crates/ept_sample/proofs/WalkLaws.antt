@@ -126,7 +126,7 @@ pub octants-zero : (below : VoxelKey → List Point → List Node) (rules : Rule
 unfolding nodes_of_octants
 octants-zero below rules key given = refl
 
-octants-suc : (below : VoxelKey → List Point → List Node) (rules : Rules) (key : VoxelKey) (given : List Point) (o : ℕ) → nodes_of_octants below rules key given (suc o) ≡ nodes_of_octants below rules key given o ++ cond (overflows rules key.depth given o) (below (child key o) (losers rules key.depth given o)) []
+pub octants-suc : (below : VoxelKey → List Point → List Node) (rules : Rules) (key : VoxelKey) (given : List Point) (o : ℕ) → nodes_of_octants below rules key given (suc o) ≡ nodes_of_octants below rules key given o ++ cond (overflows rules key.depth given o) (below (child key o) (losers rules key.depth given o)) []
 unfolding nodes_of_octants
 octants-suc below rules key given o = refl
 

@@ -24,6 +24,8 @@ pub fn sample(alloc: Global, points: &[Point], rules: &Rules) -> Result<Tiles, M
     requires inside { AllInCube rules.now.cube points.now }
     ensures { IfOk result (λ t. t.tiles ≡ sampled rules.now points.now) }
 {
+    // Each node has a key.
+    prove!(rules.cube.depth <= Key::MAX_DEPTH);
     let given = by_id(alloc, points)?;
     let mut nodes = BTreeMap::new(alloc);
     add_nodes(alloc, rules, Key::ROOT, given.as_slice(), &mut nodes)?;
