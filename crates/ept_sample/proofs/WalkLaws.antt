@@ -149,7 +149,7 @@ octants_none below rules key given zero none = octants-zero below rules key give
 octants_none below rules key given (suc n) none =
     octants-suc below rules key given n
     ∙ (ap (λ (b : Bool). nodes_of_octants below rules key given n ++ cond b (below (child key n) (losers rules key.depth given n)) []) (none n)
-      ∙ (append-nil (nodes_of_octants below rules key given n) ∙ octants_none below rules key given n none))
+    ∙ (append-nil (nodes_of_octants below rules key given n) ∙ octants_none below rules key given n none))
 
 pub nodes_below-zero : (rules : Rules) (key : VoxelKey) (given : List Point) → nodes_below rules 0 key given ≡ node_of rules key given ∷ []
 unfolding nodes_below
@@ -190,10 +190,10 @@ walked_child rules key given sent o start map new over is before after =
     let level : rules.cube.depth - (child key o).depth ≡ rules.cube.depth - key.depth - 1 = omega (arith, depth-child key o) in
     after
     ∙ (ap (λ (n : ℕ). with_nodes map (nodes_below rules n (child key o) sent)) level
-      ∙ (ap (λ (xs : List Point). with_nodes map (nodes_below rules (rules.cube.depth - key.depth - 1) (child key o) xs)) is
-        ∙ (ap (λ (m : List Node). with_nodes m (nodes_below rules (rules.cube.depth - key.depth - 1) (child key o) (losers rules key.depth given o))) before
-          ∙ (sym (with_nodes-append start (nodes_of_octants (nodes_below rules (rules.cube.depth - key.depth - 1)) rules key given o) (nodes_below rules (rules.cube.depth - key.depth - 1) (child key o) (losers rules key.depth given o)))
-            ∙ ap (λ (w : List Node). with_nodes start w) (sym (octants-open (nodes_below rules (rules.cube.depth - key.depth - 1)) rules key given o over))))))
+    ∙ (ap (λ (xs : List Point). with_nodes map (nodes_below rules (rules.cube.depth - key.depth - 1) (child key o) xs)) is
+    ∙ (ap (λ (m : List Node). with_nodes m (nodes_below rules (rules.cube.depth - key.depth - 1) (child key o) (losers rules key.depth given o))) before
+    ∙ (sym (with_nodes-append start (nodes_of_octants (nodes_below rules (rules.cube.depth - key.depth - 1)) rules key given o) (nodes_below rules (rules.cube.depth - key.depth - 1) (child key o) (losers rules key.depth given o)))
+    ∙ ap (λ (w : List Node). with_nodes start w) (sym (octants-open (nodes_below rules (rules.cube.depth - key.depth - 1)) rules key given o over))))))
 
 -- an octant that overflows
 pub walked-open : (rules : Rules) (key down : VoxelKey) (given sent : List Point) (o : ℕ) (start map new : List Node) → down ≡ child key o → overflows rules key.depth given o ≡ true → sent ≡ losers rules key.depth given o → map ≡ with_nodes start (nodes_of_octants (nodes_below rules (rules.cube.depth - key.depth - 1)) rules key given o) → new ≡ with_nodes map (nodes_below rules (rules.cube.depth - down.depth) down sent) → new ≡ with_nodes start (nodes_of_octants (nodes_below rules (rules.cube.depth - key.depth - 1)) rules key given (o + 1))
@@ -211,7 +211,7 @@ walked-all rules key given points old start map o low is first end all =
     all
     ∙ (ap (λ (n : ℕ). with_nodes start (nodes_of_octants (nodes_below rules (rules.cube.depth - key.depth - 1)) rules key given n)) end
     ∙ (ap (λ (m : List Node). with_nodes m (nodes_of_octants (nodes_below rules (rules.cube.depth - key.depth - 1)) rules key given 8)) (first ∙ ap (λ (xs : List Point). insert_entry key_cmp old key xs) is)
-      ∙ ap (λ (w : List Node). with_nodes old w) (sym (nodes_below-step rules key given low))))
+    ∙ ap (λ (w : List Node). with_nodes old w) (sym (nodes_below-step rules key given low))))
 
 -- ---- what is known where the walk goes down
 

@@ -72,8 +72,8 @@ pub IsMember-with_nodes : (n : Node) (es ns : List Node) → IsMember n (with_no
 IsMember-with_nodes n es [] m = inl m
 IsMember-with_nodes n es (k ∷ ns) m =
     elim (IsMember-with_nodes n (insert_entry key_cmp es k.0 k.1) ns m) [
-      inl h ↦ elim (IsMember-insert n k.0 k.1 es h) [ inl is ↦ inr (inl is) | inr r ↦ inl r ]
-    | inr r ↦ inr (inr r)
+      | inl h ↦ elim (IsMember-insert n k.0 k.1 es h) [ inl is ↦ inr (inl is) | inr r ↦ inl r ]
+      | inr r ↦ inr (inr r)
     ]
 
 key_stays : (j : VoxelKey) (es ns : List Node) → IsMember j (keys_of es) → IsMember j (keys_of (with_nodes es ns))
@@ -107,12 +107,12 @@ IsMember-octants below rules key given zero n m =
     absurd (subst (λ (w : List Node). IsMember n w) (octants-zero below rules key given) m)
 IsMember-octants below rules key given (suc most) n m =
     elim (IsMember-append n (nodes_of_octants below rules key given most) (cond (overflows rules key.depth given most) (below (child key most) (losers rules key.depth given most)) []) (subst (λ (w : List Node). IsMember n w) (octants-suc below rules key given most) m)) [
-      inl l ↦
-        let h : (o : ℕ) × BelowOctant below rules key given most n o = IsMember-octants below rules key given most n l in
-        (h.0, (omega (arith, h.1.0), h.1.1, h.1.2))
-    | inr r ↦
-        let h = if_member n (overflows rules key.depth given most) (below (child key most) (losers rules key.depth given most)) r in
-        (most, (omega arith, h.0, h.1))
+      | inl l ↦
+          let h : (o : ℕ) × BelowOctant below rules key given most n o = IsMember-octants below rules key given most n l in
+          (h.0, (omega (arith, h.1.0), h.1.1, h.1.2))
+      | inr r ↦
+          let h = if_member n (overflows rules key.depth given most) (below (child key most) (losers rules key.depth given most)) r in
+          (most, (omega arith, h.0, h.1))
     ]
 
 pub octants-IsMember : (below : VoxelKey → List Point → List Node) (rules : Rules) (key : VoxelKey) (given : List Point) (most : ℕ) (n : Node) (o : ℕ) → BelowOctant below rules key given most n o → IsMember n (nodes_of_octants below rules key given most)
@@ -120,9 +120,9 @@ octants-IsMember below rules key given zero n o h = absurd (omega (arith, h.0))
 octants-IsMember below rules key given (suc most) n o h =
     subst (λ (w : List Node). IsMember n w) (sym (octants-suc below rules key given most))
     (elim (below_or_at o most (omega (arith, h.0))) [
-      inl less ↦ IsMember-left n (nodes_of_octants below rules key given most) (cond (overflows rules key.depth given most) (below (child key most) (losers rules key.depth given most)) []) (octants-IsMember below rules key given most n o (less, h.1, h.2))
-    | inr same ↦
-        IsMember-right n (nodes_of_octants below rules key given most) (cond (overflows rules key.depth given most) (below (child key most) (losers rules key.depth given most)) []) (last same)
+      | inl less ↦ IsMember-left n (nodes_of_octants below rules key given most) (cond (overflows rules key.depth given most) (below (child key most) (losers rules key.depth given most)) []) (octants-IsMember below rules key given most n o (less, h.1, h.2))
+      | inr same ↦
+          IsMember-right n (nodes_of_octants below rules key given most) (cond (overflows rules key.depth given most) (below (child key most) (losers rules key.depth given most)) []) (last same)
     ])
   where
     last : o ≡ most → IsMember n (cond (overflows rules key.depth given most) (below (child key most) (losers rules key.depth given most)) [])
@@ -161,11 +161,11 @@ walk_sound rules points zero key is n m =
     elim (subst (λ (w : List Node). IsMember n w) (nodes_below-zero rules key (given rules points key)) m) [ inl h ↦ subst (IsSampled rules points) h (first_node rules points key is) | inr none ↦ absurd none ]
 walk_sound rules points (suc depths) key is n m =
     elim (subst (λ (w : List Node). IsMember n w) (nodes_below-suc rules depths key (given rules points key)) m) [
-      inl h ↦ subst (IsSampled rules points) h (first_node rules points key is)
-    | inr r ↦
-        let h : (o : ℕ) × BelowOctant (nodes_below rules depths) rules key (given rules points key) 8 n o =
+      | inl h ↦ subst (IsSampled rules points) h (first_node rules points key is)
+      | inr r ↦
+          let h : (o : ℕ) × BelowOctant (nodes_below rules depths) rules key (given rules points key) 8 n o =
           IsMember-octants (nodes_below rules depths) rules key (given rules points key) 8 n r in
-        walk_sound rules points depths (child key h.0) (child-node rules points key h.0 h.1.0 h.1.1) n (subst (λ (xs : List Point). IsMember n (nodes_below rules depths (child key h.0) xs)) (losers-given rules points key h.0 h.1.0 h.1.1) h.1.2)
+          walk_sound rules points depths (child key h.0) (child-node rules points key h.0 h.1.0 h.1.1) n (subst (λ (xs : List Point). IsMember n (nodes_below rules depths (child key h.0) xs)) (losers-given rules points key h.0 h.1.0 h.1.1) h.1.2)
     ]
 
 head_in : (rules : Rules) (depths : ℕ) (key : VoxelKey) (xs : List Point) → IsMember (node_of rules key xs) (nodes_below rules depths key xs)
@@ -187,34 +187,34 @@ walked_octant rules depths key xs o k small over m =
 walk_on : (rules : Rules) (points : List Point) (depths : ℕ) (key k : VoxelKey) (o : ℕ) → rules.cube.depth ≤ key.depth + depths → o < 8 → overflows rules k.depth (given rules points k) o ≡ true → IsWalked k (nodes_below rules depths key (given rules points key)) → IsWalked (child k o) (nodes_below rules depths key (given rules points key))
 walk_on rules points zero key k o low small over m =
     elim (subst (λ (w : List Node). IsMember k (keys_of w)) (nodes_below-zero rules key (given rules points key)) m) [
-      inl h ↦ absurd (let level : key.depth ≡ k.depth = ap (λ (j : VoxelKey). j.depth) h in omega (arith, overflows-depth rules k.depth (given rules points k) o over))
-    | inr none ↦ absurd none
+      | inl h ↦ absurd (let level : key.depth ≡ k.depth = ap (λ (j : VoxelKey). j.depth) h in omega (arith, overflows-depth rules k.depth (given rules points k) o over))
+      | inr none ↦ absurd none
     ]
 walk_on rules points (suc depths) key k o low small over m =
     elim (subst (λ (w : List Node). IsMember k (keys_of w)) (nodes_below-suc rules depths key (given rules points key)) m) [
-      inl h ↦
-        let over' : overflows rules key.depth (given rules points key) o ≡ true = subst (λ (j : VoxelKey). overflows rules j.depth (given rules points j) o ≡ true) (sym h) over in
-        let here : IsWalked (child key o) (nodes_below rules (suc depths) key (given rules points key)) =
+      | inl h ↦
+          let over' : overflows rules key.depth (given rules points key) o ≡ true = subst (λ (j : VoxelKey). overflows rules j.depth (given rules points j) o ≡ true) (sym h) over in
+          let here : IsWalked (child key o) (nodes_below rules (suc depths) key (given rules points key)) =
           walked_octant rules depths key (given rules points key) o (child key o) small over' (IsMember-map (λ (e : Node). e.0) (node_of rules (child key o) (losers rules key.depth (given rules points key) o)) (nodes_below rules depths (child key o) (losers rules key.depth (given rules points key) o)) (head_in rules depths (child key o) (losers rules key.depth (given rules points key) o))) in
-        subst (λ (j : VoxelKey). IsWalked (child j o) (nodes_below rules (suc depths) key (given rules points key))) h here
-    | inr r ↦
-        let n = member-map (λ (e : Node). e.0) k (nodes_of_octants (nodes_below rules depths) rules key (given rules points key) 8) r in
-        let h : (q : ℕ) × BelowOctant (nodes_below rules depths) rules key (given rules points key) 8 n.0 q =
+          subst (λ (j : VoxelKey). IsWalked (child j o) (nodes_below rules (suc depths) key (given rules points key))) h here
+      | inr r ↦
+          let n = member-map (λ (e : Node). e.0) k (nodes_of_octants (nodes_below rules depths) rules key (given rules points key) 8) r in
+          let h : (q : ℕ) × BelowOctant (nodes_below rules depths) rules key (given rules points key) 8 n.0 q =
           IsMember-octants (nodes_below rules depths) rules key (given rules points key) 8 n.0 n.1 in
-        let is = losers-given rules points key h.0 h.1.0 h.1.1 in
-        let inside : IsWalked k (nodes_below rules depths (child key h.0) (given rules points (child key h.0))) =
+          let is = losers-given rules points key h.0 h.1.0 h.1.1 in
+          let inside : IsWalked k (nodes_below rules depths (child key h.0) (given rules points (child key h.0))) =
           subst (λ (w : VoxelKey). IsMember w (keys_of (nodes_below rules depths (child key h.0) (given rules points (child key h.0))))) n.2 (IsMember-map (λ (e : Node). e.0) n.0 (nodes_below rules depths (child key h.0) (given rules points (child key h.0))) (subst (λ (xs : List Point). IsMember n.0 (nodes_below rules depths (child key h.0) xs)) is h.1.2)) in
-        let on = walk_on rules points depths (child key h.0) k o (omega (arith, depth-child key h.0)) small over inside in
-        walked_octant rules depths key (given rules points key) h.0 (child k o) h.1.0 h.1.1 (subst (λ (xs : List Point). IsWalked (child k o) (nodes_below rules depths (child key h.0) xs)) (sym is) on)
+          let on = walk_on rules points depths (child key h.0) k o (omega (arith, depth-child key h.0)) small over inside in
+          walked_octant rules depths key (given rules points key) h.0 (child k o) h.1.0 h.1.1 (subst (λ (xs : List Point). IsWalked (child k o) (nodes_below rules depths (child key h.0) xs)) (sym is) on)
     ]
 
 over_of : (rules : Rules) (xs : List Point) (d o : ℕ) (p : Point) → IsMember p (sent rules d none_open xs o) → overflows rules d xs o ≡ true
 over_of rules xs d o p m =
     elim (either (overflows rules d xs o)) [
-      inl over ↦ over
-    | inr shut ↦
-        let M : Bool → Type 0 = λ b. IsMember p (cond b (losers rules d xs o) []) in
-        absurd (subst M shut (subst (λ (w : List Point). IsMember p w) (sent-none_open rules d xs o) m))
+      | inl over ↦ over
+      | inr shut ↦
+          let M : Bool → Type 0 = λ b. IsMember p (cond b (losers rules d xs o) []) in
+          absurd (subst M shut (subst (λ (w : List Point). IsMember p w) (sent-none_open rules d xs o) m))
     ]
 
 -- all nodes that the walk from the root comes to
@@ -229,17 +229,17 @@ walked_root rules points =
 walk_complete : (rules : Rules) (points : List Point) (d : ℕ) (k : VoxelKey) → k.depth ≡ d → is_node rules points k ≡ true → IsWalked k (walk rules points)
 walk_complete rules points zero k e is =
     elim (node-cases rules points k is) [
-      inl top ↦ subst (λ (j : VoxelKey). IsWalked j (walk rules points)) (sym top) (walked_root rules points)
-    | inr some ↦ subst (λ (j : VoxelKey). IsWalked j (walk rules points)) (sym (given-top rules points k some.0 e some.1)) (walked_root rules points)
+      | inl top ↦ subst (λ (j : VoxelKey). IsWalked j (walk rules points)) (sym top) (walked_root rules points)
+      | inr some ↦ subst (λ (j : VoxelKey). IsWalked j (walk rules points)) (sym (given-top rules points k some.0 e some.1)) (walked_root rules points)
     ]
 walk_complete rules points (suc d) k e is =
     let deep : 0 < k.depth = omega arith in
     let level : (parent k).depth ≡ d = omega (arith, depth-parent k) in
     let some = node-given rules points k deep is in
     let over : overflows rules (parent k).depth (given rules points (parent k)) (octant_of k) ≡ true =
-        over_of rules (given rules points (parent k)) (parent k).depth (octant_of k) some.0 (subst (λ (xs : List Point). IsMember some.0 xs) (given-parent rules points k deep) some.1) in
+    over_of rules (given rules points (parent k)) (parent k).depth (octant_of k) some.0 (subst (λ (xs : List Point). IsMember some.0 xs) (given-parent rules points k deep) some.1) in
     let above : IsWalked (parent k) (walk rules points) =
-        walk_complete rules points d (parent k) level (is_node-parent rules points k deep is) in
+    walk_complete rules points d (parent k) level (is_node-parent rules points k deep is) in
     subst (λ (j : VoxelKey). IsWalked j (walk rules points)) (child-parent k deep) (walk_on rules points rules.cube.depth root (parent k) (octant_of k) (omega arith) (octant_of-below k) over above)
 
 -- ---- the map that the walk fills
@@ -260,6 +260,7 @@ walk-sampled rules points ok inside =
     sound : (n : Node) → IsMember n (with_nodes [] (walk rules points)) → IsSampled rules points n
     sound n m =
         elim (IsMember-with_nodes n [] (walk rules points) m) [ inl none ↦ absurd none | inr w ↦ walk_sound rules points rules.cube.depth root (is_node-root rules points) n w ]
+
     there : (k : VoxelKey) → IsMember k (keys_of (with_nodes [] (walk rules points))) → is_node rules points k ≡ true
     there k m =
         let n = member-map (λ (e : Node). e.0) k (with_nodes [] (walk rules points)) m in
@@ -282,8 +283,8 @@ walk-entries rules points items xs start new depths ok inside none all e is fill
     ap (λ (w : List Node). map tile_of w)
     (filled
     ∙ (ap (λ (w : List Node). with_nodes w (nodes_below rules depths root xs)) none
-      ∙ (ap (λ (n : ℕ). with_nodes [] (nodes_below rules n root xs)) all
-        ∙ ap (λ (w : List Point). with_nodes [] (nodes_below rules rules.cube.depth root w)) (e ∙ (is ∙ sym (given-root rules points))))))
+    ∙ (ap (λ (n : ℕ). with_nodes [] (nodes_below rules n root xs)) all
+    ∙ ap (λ (w : List Point). with_nodes [] (nodes_below rules rules.cube.depth root w)) (e ∙ (is ∙ sym (given-root rules points))))))
     ∙ walk-sampled rules points ok inside
 
 pub tiles-same : {E : Type 0} (r : Result Tiles E) (a b : List Tile) → a ≡ b → IfOk r (λ t. t.tiles ≡ a) → IfOk r (λ t. t.tiles ≡ b)

@@ -8,6 +8,8 @@
 mod losing;
 mod place;
 mod rank;
+#[cfg(test)]
+mod tests;
 mod tiles;
 mod top_down;
 

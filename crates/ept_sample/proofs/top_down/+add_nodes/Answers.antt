@@ -27,30 +27,30 @@ in_octant-requires-clause-inside t c =
 pub add_nodes-requires : goal.add_nodes-requires
 add_nodes-requires t c =
     let losing : c.as_slice.result.now ≡ filter (loses c.args.rules.now c.args.key.depth c.args.given.now) c.args.given.now =
-        losing-at c.args.rules.now c.key.inside.depth c.args.key.depth c.args.given.now c.in_ok-losers.losers.items c.as_slice.result.now (ap (λ (k : VoxelKey). k.depth) c.key.view_is) c.as_slice.ensures.value c.in_ok-losers.ensures in
+    losing-at c.args.rules.now c.key.inside.depth c.args.key.depth c.args.given.now c.in_ok-losers.losers.items c.as_slice.result.now (ap (λ (k : VoxelKey). k.depth) c.key.view_is) c.as_slice.ensures.value c.in_ok-losers.ensures in
     let over : overflows c.args.rules.now c.args.key.depth c.args.given.now c.loop-which.which ≡ true =
-        opened-overflows c.args.rules.now c.args.key.depth c.args.given.now c.as_slice.result.now c.loop-which.which (get_or c.overflowing-open.result c.loop-which.which false) losing (c.overflowing-open.ensures c.loop-which.which (omega arith)) c.if-open-which.true in
+    opened-overflows c.args.rules.now c.args.key.depth c.args.given.now c.as_slice.result.now c.loop-which.which (get_or c.overflowing-open.result c.loop-which.which false) losing (c.overflowing-open.ensures c.loop-which.which (omega arith)) c.if-open-which.true in
     let above : c.args.key.depth < c.args.rules.now.cube.depth = overflows-depth c.args.rules.now c.args.key.depth c.args.given.now c.loop-which.which over in
     let level : c.child_of.result.depth ≡ c.args.key.depth + 1 = down-depth c.args.key c.child_of.result c.loop-which.which c.child_of.ensures.value in
     let sent : c.as_slice-then-open-which-2.result.now ≡ losers c.args.rules.now c.args.key.depth c.args.given.now c.loop-which.which =
-        sent-is c.args.rules.now c.args.key.depth c.args.given.now c.as_slice.result.now c.in_ok-sent.sent.items c.as_slice-then-open-which-2.result.now c.loop-which.which c.as_slice-then-open-which-2.ensures.value losing (found-at c.args.rules.now c.args.key.depth c.loop-which.which c.in_ok-sent.sent.items c.as_slice-then-open-which.result.now c.as_slice.result.now c.in_ok-losers.losers.items c.in_ok-sent.ensures c.as_slice-then-open-which.ensures.value c.as_slice.ensures.value) in
+    sent-is c.args.rules.now c.args.key.depth c.args.given.now c.as_slice.result.now c.in_ok-sent.sent.items c.as_slice-then-open-which-2.result.now c.loop-which.which c.as_slice-then-open-which-2.ensures.value losing (found-at c.args.rules.now c.args.key.depth c.loop-which.which c.in_ok-sent.sent.items c.as_slice-then-open-which.result.now c.as_slice.result.now c.in_ok-losers.losers.items c.in_ok-sent.ensures c.as_slice-then-open-which.ensures.value c.as_slice.ensures.value) in
     (omega (arith, c.decreases, level, above), (omega (arith, level, above), (down-InBox c.args.rules.now c.args.key c.child_of.result c.args.given.now c.as_slice-then-open-which-2.result.now c.loop-which.which c.child_of.ensures.cube above c.requires.inside c.child_of.ensures.value sent, down-InCube c.args.rules.now c.args.key.depth c.args.given.now c.as_slice-then-open-which-2.result.now c.loop-which.which c.requires.in_cube sent)))
 
 pub loop-which-preserved : goal.loop-which-preserved
 loop-which-preserved t c =
     let losing : c.as_slice.result.now ≡ filter (loses c.args.rules.now c.args.key.depth c.args.given.now) c.args.given.now =
-        losing-at c.args.rules.now c.key.inside.depth c.args.key.depth c.args.given.now c.in_ok-losers.losers.items c.as_slice.result.now (ap (λ (k : VoxelKey). k.depth) c.key.view_is) c.as_slice.ensures.value c.in_ok-losers.ensures in
+    losing-at c.args.rules.now c.key.inside.depth c.args.key.depth c.args.given.now c.in_ok-losers.losers.items c.as_slice.result.now (ap (λ (k : VoxelKey). k.depth) c.key.view_is) c.as_slice.ensures.value c.in_ok-losers.ensures in
     elim c.if-open-which.branch [
-      then-open-which+in_ok-sent+in_ok-add_nodes w ↦
-        let over : overflows c.args.rules.now c.args.key.depth c.args.given.now c.loop-which.which ≡ true =
+      | then-open-which+in_ok-sent+in_ok-add_nodes w ↦
+          let over : overflows c.args.rules.now c.args.key.depth c.args.given.now c.loop-which.which ≡ true =
           opened-overflows c.args.rules.now c.args.key.depth c.args.given.now c.as_slice.result.now c.loop-which.which (get_or c.overflowing-open.result c.loop-which.which false) losing (c.overflowing-open.ensures c.loop-which.which (omega arith)) w.if-open-which.true in
-        let sent : w.as_slice-then-open-which-2.result.now ≡ losers c.args.rules.now c.args.key.depth c.args.given.now c.loop-which.which =
+          let sent : w.as_slice-then-open-which-2.result.now ≡ losers c.args.rules.now c.args.key.depth c.args.given.now c.loop-which.which =
           sent-is c.args.rules.now c.args.key.depth c.args.given.now c.as_slice.result.now w.in_ok-sent.sent.items w.as_slice-then-open-which-2.result.now c.loop-which.which w.as_slice-then-open-which-2.ensures.value losing (found-at c.args.rules.now c.args.key.depth c.loop-which.which w.in_ok-sent.sent.items w.as_slice-then-open-which.result.now c.as_slice.result.now c.in_ok-losers.losers.items w.in_ok-sent.ensures w.as_slice-then-open-which.ensures.value c.as_slice.ensures.value) in
-        rw w.nodes-is (walked-open c.args.rules.now c.args.key w.child_of.result c.args.given.now w.as_slice-then-open-which-2.result.now c.loop-which.which c.insert.new.self.entries c.loop-which.nodes.entries w.add_nodes.new.nodes.entries w.child_of.ensures.value over sent c.loop-which.invariant w.in_ok-add_nodes.ensures)
-    | else-open-which w ↦
-        let shut : overflows c.args.rules.now c.args.key.depth c.args.given.now c.loop-which.which ≡ false =
+          rw w.nodes-is (walked-open c.args.rules.now c.args.key w.child_of.result c.args.given.now w.as_slice-then-open-which-2.result.now c.loop-which.which c.insert.new.self.entries c.loop-which.nodes.entries w.add_nodes.new.nodes.entries w.child_of.ensures.value over sent c.loop-which.invariant w.in_ok-add_nodes.ensures)
+      | else-open-which w ↦
+          let shut : overflows c.args.rules.now c.args.key.depth c.args.given.now c.loop-which.which ≡ false =
           opened-closed c.args.rules.now c.args.key.depth c.args.given.now c.as_slice.result.now c.loop-which.which (get_or c.overflowing-open.result c.loop-which.which false) losing (c.overflowing-open.ensures c.loop-which.which (omega arith)) w.if-open-which.false in
-        rw w.nodes-is (walked-closed c.args.rules.now c.args.key c.args.given.now c.loop-which.which c.insert.new.self.entries c.loop-which.nodes.entries shut c.loop-which.invariant)
+          rw w.nodes-is (walked-closed c.args.rules.now c.args.key c.args.given.now c.loop-which.which c.insert.new.self.entries c.loop-which.nodes.entries shut c.loop-which.invariant)
     ]
 
 pub returns : goal.returns
