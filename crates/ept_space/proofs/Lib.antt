@@ -4,3 +4,7 @@ pub mod Within
 pub mod PlaceKeys
 pub mod Cells
 pub mod Shifts
+pub mod Intervals
+pub mod KeyTexts
+pub mod Extents
+pub mod KeyOrder

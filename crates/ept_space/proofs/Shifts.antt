@@ -1,5 +1,5 @@
 -- The code's shifts and masks are the definitions' quotients and remainders.
-use Rattle.std.proofs.Common.{◌≡◌, ℕ, suc, zero, ◌+◌, ◌-◌, ◌*◌, ◌/◌, ◌%◌, ◌^◌, ◌<◌, ◌≤◌, bit_and, Fits, w32, w64, to_z, of_z, List, [], ◌∷◌, ℤ, pos, ◌+ℤ◌, ◌-ℤ◌, ◌*ℤ◌, ◌≤ℤ◌, ◌<ℤ◌, refl, sym, ap, subst, ◌∙◌, arith, lit<}
+use Rattle.std.proofs.Common.{◌≡◌, ℕ, suc, ◌+◌, ◌-◌, ◌*◌, ◌/◌, ◌%◌, ◌^◌, ◌<◌, ◌≤◌, bit_and, Fits, w32, w64, to_z, of_z, [], ◌∷◌, ℤ, pos, ◌+ℤ◌, ◌-ℤ◌, ◌*ℤ◌, ◌≤ℤ◌, refl, sym, ap, ◌∙◌, arith, lit<}
 use Rattle.std.specs.Prelude.{unsigned_abs, FitsSigned, T}
 use lib.Signed.{non_neg}
 use Rattle.std.specs.Int.{abs_diff}
@@ -8,12 +8,12 @@ use Rattle.std.proofs.lemmas.Nat.{and_mask, pow_pos, shr_split, one_shl, mod_bel
 use Rattle.std.proofs.Math.Nat.{pow-le-pow_right, pow-suc, pow-zero}
 use Rattle.ept_space.specs.Place.{Place, coordinate}
 use Rattle.ept_space.specs.VoxelKey.{VoxelKey, child, octant_of}
-use Rattle.ept_space.specs.OctreeCube.{OctreeCube, IsCube, InCube, offset, box_side, cell_side, key_at, octant_at, cell_at, cell_index, off_centre, distance_at}
+use Rattle.ept_space.specs.OctreeCube.{OctreeCube, InCube, offset, key_at, octant_at, cell_at, off_centre, distance_at}
 use Rattle.ept_space.proofs.Axis.{far}
 use Rattle.ept_space.proofs.Family.{same-parts}
-use Rattle.ept_space.proofs.PlaceKeys.{above-cube, offset-x, offset-y, offset-z}
+use Rattle.ept_space.proofs.PlaceKeys.{above-cube}
 
-ap3 : {A B C D : Type 0} (f : A → B → C → D) {a a' : A} {b b' : B} {c c' : C} → a ≡ a' → b ≡ b' → c ≡ c' → f a b c ≡ f a' b' c'
+pub ap3 : {A B C D : Type 0} (f : A → B → C → D) {a a' : A} {b b' : B} {c c' : C} → a ≡ a' → b ≡ b' → c ≡ c' → f a b c ≡ f a' b' c'
 ap3 f p q r = λ i. f (p i) (q i) (r i)
 
 -- how far a place is above a corner of 32 bits fits
@@ -28,7 +28,7 @@ pub child-code : (seen key : VoxelKey) (octant x y z : ℕ) → seen ≡ key →
 unfolding child
 child-code seen key octant x y z same is_x is_y is_z =
     same-parts _ _ refl (bit seen.x octant x is_x) (bit seen.y (octant / 2) y is_y) (bit seen.z (octant / 4) z is_z) ∙ ap (λ k. child k octant) same
-    where
+  where
     bit : (n o b : ℕ) → b ≡ bit_and o 1 → 2 * n + b ≡ 2 * n + o % 2
     bit n o b is = ap (λ m. 2 * n + m) (is ∙ low-bit o)
 
@@ -57,18 +57,18 @@ unfolding distance_at
 distance-code cube depth place x y z shift inside is_x is_y is_z is_shift a b c is_a is_b is_c =
     let above = above-cube cube place inside in
     ap3 (λ p q r. p + q + r) (axis 0 x a above.x is_x is_a) (axis 1 y b above.y is_y is_b) (axis 2 z c above.z is_z is_c)
-    where
+  where
     axis : (k n squared : ℕ) → coordinate cube.corner k ≤ℤ coordinate place k → n ≡ offset cube place k → squared ≡ abs_diff (2 * (n % 2 ^ shift)) (2 ^ shift) ^ 2 → squared ≡ unsigned_abs (off_centre cube depth place k) ^ 2
     axis k n squared above is_n is_squared =
-      is_squared ∙ ap (λ m. abs_diff (2 * (m % 2 ^ shift)) (2 ^ shift) ^ 2) is_n ∙ ap (λ t. abs_diff (2 * (offset cube place k % 2 ^ t)) (2 ^ t) ^ 2) is_shift ∙ ap (λ m. m ^ 2) (off-centre-code (coordinate cube.corner k) (coordinate place k) (cube.e - depth - cube.s) above)
+        is_squared ∙ ap (λ m. abs_diff (2 * (m % 2 ^ shift)) (2 ^ shift) ^ 2) is_n ∙ ap (λ t. abs_diff (2 * (offset cube place k % 2 ^ t)) (2 ^ t) ^ 2) is_shift ∙ ap (λ m. m ^ 2) (off-centre-code (coordinate cube.corner k) (coordinate place k) (cube.e - depth - cube.s) above)
 
 -- a side that is shifted into place, and the mask of the lower bits
-side-code : (shift : ℕ) → shift < 32 → 1 * 2 ^ shift % 18446744073709551616 ≡ 2 ^ shift
-side-code shift small = one_shl shift 64 (omega arith)
+pub side-code : (shift : ℕ) → shift < 64 → 1 * 2 ^ shift % 18446744073709551616 ≡ 2 ^ shift
+side-code shift small = one_shl shift 64 small
 
 mask-code : (n shift : ℕ) → shift < 32 → abs_diff (2 * bit_and n (1 * 2 ^ shift % 18446744073709551616 - 1)) (1 * 2 ^ shift % 18446744073709551616) ≡ abs_diff (2 * (n % 2 ^ shift)) (2 ^ shift)
 mask-code n shift small =
-    ap (λ side. abs_diff (2 * bit_and n (side - 1)) side) (side-code shift small) ∙ ap (λ low. abs_diff (2 * low) (2 ^ shift)) (and_mask n shift)
+    ap (λ side. abs_diff (2 * bit_and n (side - 1)) side) (side-code shift (omega arith)) ∙ ap (λ low. abs_diff (2 * low) (2 ^ shift)) (and_mask n shift)
 
 squared : (n : ℕ) → n * n ≡ n ^ 2
 squared n =

@@ -1,16 +1,21 @@
 -- Closed boxes of places.
-use Rattle.std.specs.Prelude.{◌≤ℤ◌}
+use Rattle.std.specs.Prelude.{ℤ, ◌≤ℤ◌}
 use Rattle.ept_space.specs.declared.box3.Box3.{Box3}
 use Rattle.ept_space.specs.Place.{Place, coordinate}
 
--- a place lies in a closed box: on each axis from the least coordinate to the greatest, both included
+-- a coordinate lies from a least one to a greatest, both included
+abbrev pub IsBetween : ℤ → ℤ → ℤ → Type 0
+IsBetween least greatest at = (least ≤ℤ at) × (at ≤ℤ greatest)
+
+-- two intervals have a coordinate in common
+abbrev pub Overlap : ℤ → ℤ → ℤ → ℤ → Type 0
+Overlap a_min a_max b_min b_max = (at : ℤ) × (IsBetween a_min a_max at × IsBetween b_min b_max at)
+
+-- a place lies in a closed box: on each axis from the least coordinate to the greatest
 pub record IsIn (area : Box3) (place : Place) : Type 0 where
-  pub x_from : coordinate area.min 0 ≤ℤ coordinate place 0
-  pub x_to : coordinate place 0 ≤ℤ coordinate area.max 0
-  pub y_from : coordinate area.min 1 ≤ℤ coordinate place 1
-  pub y_to : coordinate place 1 ≤ℤ coordinate area.max 1
-  pub z_from : coordinate area.min 2 ≤ℤ coordinate place 2
-  pub z_to : coordinate place 2 ≤ℤ coordinate area.max 2
+  pub x : IsBetween (coordinate area.min 0) (coordinate area.max 0) (coordinate place 0)
+  pub y : IsBetween (coordinate area.min 1) (coordinate area.max 1) (coordinate place 1)
+  pub z : IsBetween (coordinate area.min 2) (coordinate area.max 2) (coordinate place 2)
 
 -- some place lies in both
 abbrev pub Meet : Box3 → Box3 → Type 0

@@ -2,17 +2,28 @@
 use Rattle.std.specs.Prelude.{◌≡◌, ℕ, ◌-◌, ◌^◌, ◌≤◌, min, max, pos, ◌-ℤ◌, ◌≤ℤ◌, ◌<ℤ◌, unsigned_abs}
 use Rattle.std.specs.Int.{w32, leading_zeros}
 use Rattle.ept_space.specs.declared.bounds.Bounds.{Bounds}
-use Rattle.ept_space.specs.Place.{coordinate}
-use Rattle.ept_space.specs.OctreeCube.{OctreeCube}
+use Rattle.ept_space.specs.Place.{Place, coordinate}
+use Rattle.ept_space.specs.OctreeCube.{OctreeCube, InCube}
+use Rattle.ept_space.specs.ClosedBox.{IsBetween}
+
+-- a place lies in the bounds, both ends included
+pub record InBounds (bounds : Bounds) (place : Place) : Type 0 where
+  pub x : IsBetween (coordinate bounds.min 0) (coordinate bounds.max 0) (coordinate place 0)
+  pub y : IsBetween (coordinate bounds.min 1) (coordinate bounds.max 1) (coordinate place 1)
+  pub z : IsBetween (coordinate bounds.min 2) (coordinate bounds.max 2) (coordinate place 2)
+
+-- the bounds have a place: the minimum is at most the maximum on every axis
+pub record HasPlace (bounds : Bounds) : Type 0 where
+  pub x_ordered : coordinate bounds.min 0 ≤ℤ coordinate bounds.max 0
+  pub y_ordered : coordinate bounds.min 1 ≤ℤ coordinate bounds.max 1
+  pub z_ordered : coordinate bounds.min 2 ≤ℤ coordinate bounds.max 2
 
 -- the span is 2 to 1024 cells, the depth at most 32, and the bounds have a place
 pub record HasCube (bounds : Bounds) (s max_depth : ℕ) : Type 0 where
   pub span_low : 1 ≤ s
   pub span_high : s ≤ 10
   pub shallow : max_depth ≤ 32
-  pub x_ordered : coordinate bounds.min 0 ≤ℤ coordinate bounds.max 0
-  pub y_ordered : coordinate bounds.min 1 ≤ℤ coordinate bounds.max 1
-  pub z_ordered : coordinate bounds.min 2 ≤ℤ coordinate bounds.max 2
+  pub ordered : HasPlace bounds
 
 -- 2 ^ e is greater than max - min on every axis
 pub record Covers (bounds : Bounds) (e : ℕ) : Type 0 where
@@ -30,9 +41,13 @@ pub record IsCubeOf (bounds : Bounds) (s max_depth : ℕ) (cube : OctreeCube) : 
   pub least : (k : ℕ) → s ≤ k → Covers bounds k → cube.e ≤ k
   pub capped : cube.depth ≡ min max_depth (cube.e - s)
 
--- how many units the bounds are long on an axis, but for the last
+-- how far the maximum is above the minimum on an axis
 abbrev pub extent : Bounds → ℕ → ℕ
 extent bounds axis = unsigned_abs (coordinate bounds.max axis -ℤ coordinate bounds.min axis)
+
+-- the longest of those
+abbrev pub longest : Bounds → ℕ
+longest bounds = max (extent bounds 0) (max (extent bounds 1) (extent bounds 2))
 
 -- how many binary digits a number below 2 ^ 32 has: the least k with n below 2 ^ k
 abbrev pub bit_length : ℕ → ℕ
@@ -41,5 +56,17 @@ bit_length n = 32 - leading_zeros w32 n
 -- that cube, as a function
 unfoldable pub cube_of : Bounds → ℕ → ℕ → OctreeCube
 cube_of bounds s max_depth =
-    let e = max s (bit_length (max (extent bounds 0) (max (extent bounds 1) (extent bounds 2)))) in
+    let e = max s (bit_length (longest bounds)) in
     record { corner = bounds.min; e = e; s = s; depth = min max_depth (e - s) }
+
+-- ---- what holds of all bounds. Each statement stands on the contract of a function of `laws`
+
+-- the places of the bounds lie in their cube
+abbrev pub BoundsAreInCube : Type 0
+BoundsAreInCube =
+    (bounds : Bounds) (s max_depth : ℕ) (cube : OctreeCube) (place : Place) → IsCubeOf bounds s max_depth cube → InBounds bounds place → InCube cube place
+
+-- they have one cube
+abbrev pub BoundsHaveOneCube : Type 0
+BoundsHaveOneCube =
+    (bounds : Bounds) (s max_depth : ℕ) (a b : OctreeCube) → IsCubeOf bounds s max_depth a → IsCubeOf bounds s max_depth b → a ≡ b

@@ -1,6 +1,9 @@
 -- What holds of all keys. Each statement stands on the contract of a function of `laws`.
 use Rattle.std.specs.Prelude.{◌≡◌, ℕ, suc, zero, ◌+◌, ◌<◌, ◌≤◌, ◌↔◌, IsTrue}
-use Rattle.ept_space.specs.VoxelKey.{VoxelKey, IsKey, root, child, parent, octant_of, is_within, is_below, same_key}
+use Rattle.ept_space.specs.VoxelKey.{VoxelKey, IsKey, root, child, parent, octant_of, is_within, is_below, same_key, IsBefore, key_cmp}
+use Rattle.ept_space.specs.KeyText.{key_text}
+use Rattle.std.specs.Cmp.{IsTotalOrder}
+use Rattle.std.specs.declared.cmp.Ordering.TheVariants.{Less, Equal}
 
 -- ---- parents and children
 
@@ -68,3 +71,24 @@ RootHasAll = (key : VoxelKey) → IsKey key → IsTrue (is_within root key)
 -- the test of equality
 abbrev pub SameKeyTells : Type 0
 SameKeyTells = (a b : VoxelKey) → IsTrue (same_key a b) ↔ (a ≡ b)
+
+-- ---- the order of keys
+
+abbrev pub KeysAreOrdered : Type 0
+KeysAreOrdered = IsTotalOrder key_cmp
+
+abbrev pub LessIsBefore : Type 0
+LessIsBefore = (a b : VoxelKey) → (key_cmp a b ≡ Less) ↔ IsBefore a b
+
+abbrev pub EqualIsSame : Type 0
+EqualIsSame = (a b : VoxelKey) → (key_cmp a b ≡ Equal) ↔ (a ≡ b)
+
+-- a child stands behind its parent
+abbrev pub ParentIsBefore : Type 0
+ParentIsBefore = (key : VoxelKey) (octant : ℕ) → IsBefore key (child key octant)
+
+-- ---- texts
+
+-- no two keys have one text
+abbrev pub OneSpelling : Type 0
+OneSpelling = (a b : VoxelKey) → IsKey a → IsKey b → key_text a ≡ key_text b → a ≡ b

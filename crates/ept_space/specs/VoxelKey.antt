@@ -1,7 +1,7 @@
 -- Keys of nodes, `D-X-Y-Z` (Entwine Point Tile 1.1.0, "Keys").
 use Rattle.std.specs.declared.cmp.Ordering.{Ordering}
 use Rattle.std.specs.Ordering.{nat_cmp, ordering_then}
-use Rattle.std.specs.Prelude.{ℕ, ◌+◌, ◌-◌, ◌*◌, ◌/◌, ◌%◌, ◌^◌, ◌<◌, ◌≤◌, Bool, ◌&&◌, ◌==◌, nat_le, nat_lt}
+use Rattle.std.specs.Prelude.{◌≡◌, ℕ, ◌+◌, ◌-◌, ◌*◌, ◌/◌, ◌%◌, ◌^◌, ◌<◌, ◌≤◌, Bool, ◌&&◌, ◌⊎◌, ◌==◌, nat_le, nat_lt}
 
 -- a depth, and the index of a box on each axis among the boxes of that depth
 pub record VoxelKey : Type 0 where
@@ -61,7 +61,12 @@ is_below top key = nat_lt top.depth key.depth && is_within top key
 
 -- ---- the order of keys: by depth, then x, y and z
 
--- how two keys compare
+-- a key stands before another
+abbrev pub IsBefore : VoxelKey → VoxelKey → Type 0
+IsBefore a b =
+    (a.depth < b.depth) ⊎ ((a.depth ≡ b.depth) × ((a.x < b.x) ⊎ ((a.x ≡ b.x) × ((a.y < b.y) ⊎ ((a.y ≡ b.y) × (a.z < b.z))))))
+
+-- what `cmp` answers of two keys
 abbrev pub key_cmp : VoxelKey → VoxelKey → Ordering
 key_cmp a b =
     ordering_then (nat_cmp a.depth b.depth) (ordering_then (nat_cmp a.x b.x) (ordering_then (nat_cmp a.y b.y) (nat_cmp a.z b.z)))

@@ -1,7 +1,10 @@
 //! The cube that an octree divides.
 
-ghost use Rattle.std.specs.Prelude.{◌≡◌};
+ghost use Rattle.std.specs.Prelude.{◌≡◌, ◌≤◌, ◌^◌, ◌<◌, ◌↔◌, IsTrue, IsSome, IfSome};
+ghost use Rattle.ept_space.specs.OctreeCube.{IsCube};
+ghost use Rattle.ept_space.specs.CubeOfBounds.{HasCube, HasPlace, IsCubeOf, cube_of, longest, bit_length};
 
+use crate::bounds::Bounds;
 use std::marker::Model;
 
 /// The cube that an octree divides: the corner of its least places, the exponents of its side 2^e and of
@@ -27,6 +30,67 @@ impl Model for Cube {
     ghost invariant = { λ c. IsCube (record { corner = c.corner; e = c.e; s = c.s; depth = c.depth }) };
 
     ghost inverse = { λ c. record { corner = c.corner; e = c.e; s = c.s; depth = c.depth } };
+}
+
+impl Cube {
+    /// The greatest exponent of a span.
+    pub const MAX_SPAN: u8 = 10;
+
+    /// The greatest depth that may be asked for.
+    pub const MAX_DEPTH: u8 = 32;
+
+    /// The cube of the bounds: its corner is their minimum, e is the least number that is at least `s` and
+    /// has 2^e greater than max - min on every axis, and the depth is the lesser of `max_depth` and e - s.
+    /// None where `s` is not 1 to 10, `max_depth` is above 32, or the bounds have no place.
+    pub fn of(bounds: &Bounds, s: u8, max_depth: u8) -> Option<Cube>
+        ensures exists { IsSome result ↔ HasCube bounds.now s max_depth }
+        ensures cube { IfSome result (IsCubeOf bounds.now s max_depth) }
+        ensures value { IfSome result (λ cube. cube ≡ cube_of bounds.now s max_depth) }
+    {
+        if s < 1 || s > Cube::MAX_SPAN || max_depth > Cube::MAX_DEPTH || !has_place(bounds) {
+            return None;
+        }
+        let e = s.max(extent_bits(bounds));
+        Some(Cube {
+            corner: [
+                i64::from(bounds.min[0]),
+                i64::from(bounds.min[1]),
+                i64::from(bounds.min[2]),
+            ],
+            e,
+            s,
+            depth: max_depth.min(e - s),
+        })
+    }
+
+    /// Tells a proof what each cube keeps.
+    pub fn known(&self)
+        ensures { IsCube self.now }
+    {
+        let _depth = self.depth;
+    }
+}
+
+/// Whether the bounds have a place: the minimum is at most the maximum on every axis.
+fn has_place(bounds: &Bounds) -> bool
+    ensures { IsTrue result ↔ HasPlace bounds.now }
+{
+    let x = bounds.min[0] <= bounds.max[0];
+    let y = bounds.min[1] <= bounds.max[1];
+    let z = bounds.min[2] <= bounds.max[2];
+    x & y & z
+}
+
+/// How many binary digits the longest extent of the bounds has.
+fn extent_bits(bounds: &Bounds) -> u8
+    ensures value { result ≡ bit_length (longest bounds.now) }
+    ensures short { result ≤ 32 }
+    ensures in_word { longest bounds.now < 2 ^ 32 }
+{
+    let x = bounds.max[0].abs_diff(bounds.min[0]);
+    let y = bounds.max[1].abs_diff(bounds.min[1]);
+    let z = bounds.max[2].abs_diff(bounds.min[2]);
+    (u32::BITS - x.max(y.max(z)).leading_zeros()) as u8
 }
 
 /// The rules of a sampling: the cube, and the number of points that an octant keeps in its node before

@@ -1,7 +1,7 @@
 //! Keys of nodes.
 
-ghost use Rattle.std.specs.Prelude.{◌≡◌, ◌<◌};
-ghost use Rattle.ept_space.specs.VoxelKey.{child};
+ghost use Rattle.std.specs.Prelude.{◌≡◌, ◌<◌, ◌↔◌, IsTrue};
+ghost use Rattle.ept_space.specs.VoxelKey.{IsKey, IsBefore, child};
 
 use std::marker::Model;
 
@@ -40,6 +40,20 @@ impl Key {
         y: 0,
         z: 0,
     };
+
+    /// Whether the key stands before another in the order of keys: by depth, then x, y and z.
+    pub fn is_before(&self, other: &Key) -> bool
+        ensures { IsTrue result ↔ IsBefore self.now other.now }
+    {
+        self < other
+    }
+
+    /// Tells a proof what each key keeps.
+    pub fn known(&self)
+        ensures { IsKey self.now }
+    {
+        let _depth = self.depth;
+    }
 }
 
 /// The key of an octant of the key's box, one depth below it.

@@ -1,6 +1,7 @@
 //! The laws of keys, boxes and cells, each on the contract of a function that does nothing.
 
-ghost use Rattle.ept_space.specs.KeyLaws.{ChildHasParent, ChildHasOctant, ParentHasChild, EightOctants, ChildIsDeeper, ChildIsKey, ParentIsKey, OneRoot, WithinByParents, BelowIsDeeper, WithinItself, WithinAndOn, WithinInOrder, OneOfEachDepth, RootHasAll, SameKeyTells};
+ghost use Rattle.ept_space.specs.KeyLaws.{ChildHasParent, ChildHasOctant, ParentHasChild, EightOctants, ChildIsDeeper, ChildIsKey, ParentIsKey, OneRoot, WithinByParents, BelowIsDeeper, WithinItself, WithinAndOn, WithinInOrder, OneOfEachDepth, RootHasAll, SameKeyTells, KeysAreOrdered, LessIsBefore, EqualIsSame, ParentIsBefore, OneSpelling};
+ghost use Rattle.ept_space.specs.CubeOfBounds.{BoundsAreInCube, BoundsHaveOneCube};
 ghost use Rattle.ept_space.specs.BoxLaws.{PlaceHasKey, PlaceHasOneKey, PlaceHasRoot, NextKeyIsChild, NextKeyHasParent, NextKeyHasOctant, PlaceHasOctant, KeysOfPlaceNest, AboveIsKeyOfPlace, RootBoxIsCube, BoxIsInCube, BoxesNest, ChildBoxIsInParent, PlaceHasChild, PlaceHasOneChild, ChildBoxesAreApart};
 ghost use Rattle.ept_space.specs.CellLaws.{PlaceHasCell, PlaceHasOneCell, SameCellTells, CellsNest, CellIsInOneBox, CellIsInOneOctant, DistanceIsSmall};
 
@@ -26,6 +27,25 @@ pub fn within_law()
     ensures one_a_depth { OneOfEachDepth }
     ensures root_has_all { RootHasAll }
     ensures same_key { SameKeyTells }
+{}
+
+/// Keys are ordered by depth, then x, y and z.
+pub fn order_law()
+    ensures total { KeysAreOrdered }
+    ensures less { LessIsBefore }
+    ensures equal { EqualIsSame }
+    ensures parent_first { ParentIsBefore }
+{}
+
+/// A key has one spelling.
+pub fn text_law()
+    ensures { OneSpelling }
+{}
+
+/// Bounds have one cube, and their places lie in it.
+pub fn bounds_law()
+    ensures in_cube { BoundsAreInCube }
+    ensures one_cube { BoundsHaveOneCube }
 {}
 
 /// A place of the cube has one key at each depth, each the child of the one before.

@@ -13,10 +13,17 @@ mod cube;
 mod key;
 mod laws;
 mod places;
+mod text;
 
 pub use bounds::Bounds;
-pub use box3::Box3;
+pub use box3::{Box3, contains, meets, node_box};
 pub use cube::{Cube, Rules};
 pub use key::{Key, child};
-pub use laws::{box_law, cell_law, family_law, place_law, within_law};
+pub use laws::{
+    bounds_law, box_law, cell_law, family_law, order_law, place_law, text_law, within_law,
+};
 pub use places::{cell, centre_distance, octant};
+pub use text::{key_text, read_key};
+
+#[cfg(test)]
+mod tests;

@@ -1,4 +1,4 @@
-use Rattle.std.proofs.Common.{rules, ◌≡◌, ◌-◌, ap, arith}
+use Rattle.std.proofs.Common.{ap, arith}
 use Rattle.ept_space.proofs.Shifts.{cell-code}
 use Rattle.ept_space.proofs.places.cell.Goals as goal
 

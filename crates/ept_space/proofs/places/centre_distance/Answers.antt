@@ -1,4 +1,4 @@
-use Rattle.std.proofs.Common.{◌≡◌, ◌-◌, ap, arith}
+use Rattle.std.proofs.Common.{ap, arith}
 use Rattle.ept_space.proofs.Shifts.{distance-code}
 use Rattle.ept_space.proofs.places.centre_distance.Goals as goal
 

@@ -1,4 +1,4 @@
-use Rattle.std.proofs.Common.{ℤ, pos, FitsSigned, ap, rules, w32, slice_index_or, subst}
+use Rattle.std.proofs.Common.{FitsSigned, ap, rules, w32}
 use Rattle.ept_space.specs.Place.{coordinate}
 use Rattle.ept_space.specs.OctreeCube.{InCube}
 use Rattle.ept_space.proofs.Shifts.{cast-code}

@@ -1,4 +1,4 @@
-use Rattle.std.proofs.Common.{◌≡◌, ◌+◌, ◌-◌, ◌≤◌, ap, subst, arith}
+use Rattle.std.proofs.Common.{ap, subst, arith}
 use Rattle.ept_space.specs.VoxelKey.{IsKey}
 use Rattle.ept_space.proofs.PlaceKeys.{InCube-box}
 use Rattle.ept_space.proofs.Shifts.{octant-code}

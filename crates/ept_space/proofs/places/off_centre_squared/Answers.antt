@@ -1,4 +1,3 @@
-use Rattle.std.proofs.Common.{◌≡◌, ◌*◌, ◌≤◌, ap, arith}
 use Rattle.ept_space.proofs.Shifts.{square-code, square-small}
 use Rattle.ept_space.proofs.places.off_centre_squared.Goals as goal
 
