@@ -1,12 +1,14 @@
 -- Points in id order.
-use Rattle.std.proofs.Common.{◌≡◌, ◌∙◌, ℕ, zero, suc, ◌+◌, ◌≤◌, ◌<◌, Bool, true, false, cond, ◌&&◌, ◌||◌, ◌==◌, nat_lt, ◌⊎◌, inl, inr, List, [], ◌∷◌, ◌++◌, refl, sym, ap, subst, arith, eq-eqb, filter, count_by, sum_by, length, map, get_or}
+use Rattle.std.proofs.Common.{◌≡◌, ◌∙◌, ℕ, zero, suc, ◌+◌, ◌-◌, ◌≤◌, ◌<◌, Bool, true, false, cond, ◌&&◌, ◌||◌, ◌==◌, nat_lt, ◌⊎◌, inl, inr, List, [], ◌∷◌, ◌++◌, refl, sym, ap, subst, arith, eq-eqb, filter, count_by, sum_by, length, map, get_or}
 use Rattle.std.specs.Ordering.{is_lt, ordering_then, nat_cmp}
 use Rattle.std.proofs.lemmas.Bool.{false≢true}
+use Rattle.std.proofs.lemmas.List.{get_or_read}
 use Rattle.std.proofs.lemmas.Bool.Decides.{nat_tests}
 use Rattle.std.proofs.lemmas.List.Sums.{sum_by-cons, sum_by-append}
 use Rattle.std.proofs.lemmas.List.Sorted.{IsPermutation-refl, IsPermutation-cons, IsPermutation-trans, IsPermutation-middle, IsPermutation-sym, sum_by-IsPermutation, Contains-permutation}
 use Rattle.std.specs.List.Sorted.{IsPermutation}
 use Rattle.ept_point.specs.declared.point.Point.{Point}
+use Rattle.ept_point.specs.declared.id.PointId.{PointId}
 use Rattle.ept_point.specs.Order.{IsAscending, FollowedBy, IsBefore, id}
 use Rattle.ept_sample.specs.Ids.{same_id, comes_before, HasDistinctIds, placed_by_id, in_id_order}
 use Rattle.ept_sample.proofs.Members.{IsMember, IsMember-contains, contains-IsMember}
@@ -277,3 +279,59 @@ sorted-in_id_order ps qs once h up =
     at : (k : ℕ) (d : Point) → suc k < length qs → not_less (get_or qs (suc k) d) (get_or qs k d)
     at k d small =
         subst (λ (n : ℕ). not_less (get_or qs n d) (get_or qs k d)) (let e : k + 1 ≡ suc k = omega arith in e) (up k d (omega arith) (omega arith))
+
+-- ---- ascending points
+
+-- each point in front of a place comes before the next one there
+abbrev pub AscendTo : List Point → ℕ → Type 0
+AscendTo ps n = (k : ℕ) (d : Point) → suc k < n → IsBefore (id (get_or ps k d)) (id (get_or ps (suc k) d))
+
+pub AscendTo-IsAscending : (ps : List Point) → AscendTo ps (length ps) → IsAscending ps
+AscendTo-IsAscending [] up = tt
+AscendTo-IsAscending (p ∷ []) up = (tt, tt)
+AscendTo-IsAscending (p ∷ q ∷ ps) up =
+    (up 0 p (omega arith), AscendTo-IsAscending (q ∷ ps) (λ k d h. up (suc k) d (omega arith)))
+
+pub IsAscending-AscendTo : (ps : List Point) → IsAscending ps → AscendTo ps (length ps)
+IsAscending-AscendTo [] up k d h = absurd (omega arith)
+IsAscending-AscendTo (p ∷ []) up k d h = absurd (omega arith)
+IsAscending-AscendTo (p ∷ q ∷ ps) up zero d h = up.0
+IsAscending-AscendTo (p ∷ q ∷ ps) up (suc k) d h = IsAscending-AscendTo (q ∷ ps) up.1 k d (omega arith)
+
+before_test : (p q : Point) → IsBefore (id p) (id q) → comes_before p q ≡ true
+before_test p q (inl less) = numbers p.origin p.number q.origin q.number less
+  where
+    numbers : (a b x y : ℕ) → a < x → (nat_lt a x || ((a == x) && nat_lt b y)) ≡ true
+    numbers a b x y less = grind (arith, nat_tests)
+before_test p q (inr both) = numbers p.origin p.number q.origin q.number both.0 both.1
+  where
+    numbers : (a b x y : ℕ) → a ≡ x → b < y → (nat_lt a x || ((a == x) && nat_lt b y)) ≡ true
+    numbers a b x y same less = grind (arith, nat_tests)
+
+-- ascending points rise
+pub IsRising-IsAscending : (ps : List Point) → IsAscending ps → IsRising comes_before ps
+IsRising-IsAscending [] up = tt
+IsRising-IsAscending (p ∷ []) up = (λ q m. absurd m, tt)
+IsRising-IsAscending (p ∷ q ∷ ps) up =
+    let more : IsRising comes_before (q ∷ ps) = IsRising-IsAscending (q ∷ ps) up.1 in
+    (before_placed p q ps (before_test p q up.0) more, more)
+
+-- so they have distinct ids
+pub HasDistinctIds-IsAscending : (ps : List Point) → IsAscending ps → HasDistinctIds ps
+HasDistinctIds-IsAscending ps up = HasDistinctIds-IsRising ps (IsRising-IsAscending ps up)
+
+pub ascends-all : (ps : List Point) (n : ℕ) → length ps ≤ n → AscendTo ps n → IsAscending ps
+ascends-all ps n all up = AscendTo-IsAscending ps (λ k d h. up k d (omega arith))
+
+-- two neighbours of ascending points
+pub ascends-pair : (ps : List Point) (i : ℕ) (p q : Point) → 1 ≤ i → i < length ps → p ≡ get_or ps (i - 1) p → q ≡ get_or ps i q → IsAscending ps → IsBefore (id p) (id q)
+ascends-pair ps i p q some inside is is' up =
+    let next : suc (i - 1) ≡ i = omega arith in
+    let pair : IsBefore (id (get_or ps (i - 1) p)) (id (get_or ps (suc (i - 1)) p)) = IsAscending-AscendTo ps up (i - 1) p (omega arith) in
+    let second : get_or ps (suc (i - 1)) p ≡ q = ap (λ (n : ℕ). get_or ps n p) next ∙ sym (get_or_read ps i q inside is' p) in
+    subst (λ (w : Point). IsBefore (id w) (id q)) (sym is) (subst (λ (w : Point). IsBefore (id (get_or ps (i - 1) p)) (id w)) second pair)
+
+pub ascends-ids : (ps : List Point) (i : ℕ) (p q : Point) (a b : PointId) → 1 ≤ i → i < length ps → p ≡ get_or ps (i - 1) p → q ≡ get_or ps i q → a ≡ id p → b ≡ id q → IsAscending ps → IsBefore a b
+ascends-ids ps i p q a b some inside is is' e f up =
+    let M : PointId → PointId → Type 0 = λ x y. IsBefore x y in
+    subst (λ (x : PointId). M x b) (sym e) (subst (λ (y : PointId). M (id p) y) (sym f) (ascends-pair ps i p q some inside is is' up))

@@ -1,6 +1,6 @@
 -- The sampling: what is given to each key, and where each point stays.
 use Rattle.std.proofs.Common.{◌≡◌, ◌∙◌, ℕ, zero, suc, ◌+◌, ◌-◌, ◌≤◌, ◌<◌, Bool, true, false, cond, not, ◌&&◌, ◌||◌, ◌==◌, nat_lt, ◌⊎◌, inl, inr, List, [], ◌∷◌, ◌++◌, refl, sym, ap, subst, arith, eq-eqb, filter, length, add-one}
-use Rattle.std.specs.Prelude.{if◌then◌else◌}
+use Rattle.std.specs.Prelude.{if◌then◌else◌, IsTrue, ◌↔◌}
 use Rattle.std.proofs.lemmas.Bool.{false≢true}
 use Rattle.std.specs.List.{All}
 use Rattle.std.specs.List.Sorted.{IsPermutation}
@@ -13,7 +13,8 @@ use Rattle.ept_space.specs.VoxelKey.{VoxelKey, IsKey, root, same_key, child, par
 use Rattle.ept_space.specs.OctreeCube.{OctreeCube, IsCube, InCube, InBox, key_at, octant_at}
 use Rattle.ept_space.proofs.Family.{parent-child, octant_of-child, child-parent, octant_of-below, depth-child, depth-parent}
 use Rattle.ept_space.proofs.Within.{same_key-true, same_key-same}
-use Rattle.ept_space.proofs.PlaceKeys.{depth-key_at, key_at-suc, key_at-root, IsKey-key_at, octant_at-below, octant_of-key_at, parent-key_at, InBox-key_at}
+use Rattle.ept_space.proofs.PlaceKeys.{depth-key_at, key_at-suc, key_at-root, IsKey-key_at, octant_at-below, octant_of-key_at, parent-key_at, InBox-key_at, InBox-root, InCube-root}
+use Rattle.ept_space.specs.Place.{Place}
 use Rattle.ept_sample.specs.Place.{place, AllInCube, AllInBox}
 use Rattle.ept_sample.specs.Ids.{same_id, comes_before, HasDistinctIds, in_id_order}
 use Rattle.ept_sample.specs.Arrivals.{loses, octant, losers, overflows, is_open, leaves, kept, sent, none_open}
@@ -321,3 +322,10 @@ pub is_node-IsPermutation : (rules : Rules) (ps qs : List Point) (key : VoxelKey
 unfolding is_node
 is_node-IsPermutation rules ps qs key once h =
     ap (λ (xs : List Point). same_key key root || nat_lt 0 (length xs)) (given-IsPermutation rules ps qs key once h)
+
+-- ---- a test of places
+
+-- what a test of the root's box tells of the cube
+pub in_cube_test : (cube : OctreeCube) (at told : Place) (r : Bool) (B : Place → Type 0) → told ≡ at → (IsTrue r ↔ B told) → ((x : Place) → B x ↔ InBox cube root x) → IsTrue r ↔ InCube cube at
+in_cube_test cube at told r B is test box =
+    (λ h. InCube-root cube at ((box at).0 (subst B is (test.0 h))), λ h. test.1 (subst B (sym is) ((box at).1 (InBox-root cube at h))))

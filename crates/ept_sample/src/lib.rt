@@ -5,6 +5,7 @@
 //! threshold, and stay otherwise.
 #![tactic(auto)]
 
+mod ids;
 mod losing;
 mod place;
 mod rank;
@@ -13,7 +14,8 @@ mod tests;
 mod tiles;
 mod top_down;
 
-pub use place::place_of;
+pub use ids::ids_ascend;
+pub use place::{are_in_cube, place_of};
 pub use rank::{Rank, beats, rank_of};
 pub use tiles::{Tile, Tiles};
 pub use top_down::sample;
