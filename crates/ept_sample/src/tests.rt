@@ -88,81 +88,82 @@ const TWO: [i32; 3] = [2, 2, 2];
 
 const THREE: [i32; 3] = [3, 3, 3];
 
+static CASES: [Case<'static>; 8] = [
+    Case {
+        threshold: 0,
+        points: &[],
+        nodes: &[([0, 0, 0, 0], &[])],
+    },
+    // The second point lies in the centre of its cell, and displaces the first.
+    Case {
+        threshold: 0,
+        points: &[(0, 0, ONE), (0, 1, TWO)],
+        nodes: &[([0, 0, 0, 0], &[(0, 1)]), ([1, 0, 0, 0], &[(0, 0)])],
+    },
+    Case {
+        threshold: 0,
+        points: &[(0, 0, TWO), (0, 1, ONE)],
+        nodes: &[([0, 0, 0, 0], &[(0, 0)]), ([1, 0, 0, 0], &[(0, 1)])],
+    },
+    // Both are as far from the centre: the less number stays.
+    Case {
+        threshold: 0,
+        points: &[(0, 0, ONE), (0, 1, THREE)],
+        nodes: &[([0, 0, 0, 0], &[(0, 0)]), ([1, 0, 0, 0], &[(0, 1)])],
+    },
+    // Nothing leaves a node of the greatest depth.
+    Case {
+        threshold: 0,
+        points: &[
+            (0, 0, ONE),
+            (0, 1, ONE),
+            (0, 2, ONE),
+            (0, 3, ONE),
+            (0, 4, ONE),
+        ],
+        nodes: &[
+            ([0, 0, 0, 0], &[(0, 0)]),
+            ([1, 0, 0, 0], &[(0, 1)]),
+            ([2, 0, 0, 0], &[(0, 2), (0, 3), (0, 4)]),
+        ],
+    },
+    // As many losers as the threshold stay, and one more goes down with them.
+    Case {
+        threshold: 2,
+        points: &[(0, 0, ONE), (0, 1, ONE), (0, 2, ONE)],
+        nodes: &[([0, 0, 0, 0], &[(0, 0), (0, 1), (0, 2)])],
+    },
+    Case {
+        threshold: 2,
+        points: &[(0, 0, ONE), (0, 1, ONE), (0, 2, ONE), (0, 3, ONE)],
+        nodes: &[
+            ([0, 0, 0, 0], &[(0, 0)]),
+            ([1, 0, 0, 0], &[(0, 1), (0, 2), (0, 3)]),
+        ],
+    },
+    // Two scans.
+    Case {
+        threshold: 0,
+        points: &[
+            (0, 0, ONE),
+            (0, 1, TWO),
+            (0, 2, THREE),
+            (1, 0, ONE),
+            (1, 1, [6, 6, 6]),
+            (1, 2, [5, 5, 5]),
+        ],
+        nodes: &[
+            ([0, 0, 0, 0], &[(0, 1), (1, 1)]),
+            ([1, 0, 0, 0], &[(0, 0), (0, 2)]),
+            ([1, 1, 1, 1], &[(1, 2)]),
+            ([2, 0, 0, 0], &[(1, 0)]),
+        ],
+    },
+];
+
 #[test]
 fn samples_the_worked_examples(rt: HostRuntime) -> Result<(), Fail> {
-    let cases = [
-        Case {
-            threshold: 0,
-            points: &[],
-            nodes: &[([0, 0, 0, 0], &[])],
-        },
-        // The second point lies in the centre of its cell, and displaces the first.
-        Case {
-            threshold: 0,
-            points: &[(0, 0, ONE), (0, 1, TWO)],
-            nodes: &[([0, 0, 0, 0], &[(0, 1)]), ([1, 0, 0, 0], &[(0, 0)])],
-        },
-        Case {
-            threshold: 0,
-            points: &[(0, 0, TWO), (0, 1, ONE)],
-            nodes: &[([0, 0, 0, 0], &[(0, 0)]), ([1, 0, 0, 0], &[(0, 1)])],
-        },
-        // Both are as far from the centre: the less number stays.
-        Case {
-            threshold: 0,
-            points: &[(0, 0, ONE), (0, 1, THREE)],
-            nodes: &[([0, 0, 0, 0], &[(0, 0)]), ([1, 0, 0, 0], &[(0, 1)])],
-        },
-        // Nothing leaves a node of the greatest depth.
-        Case {
-            threshold: 0,
-            points: &[
-                (0, 0, ONE),
-                (0, 1, ONE),
-                (0, 2, ONE),
-                (0, 3, ONE),
-                (0, 4, ONE),
-            ],
-            nodes: &[
-                ([0, 0, 0, 0], &[(0, 0)]),
-                ([1, 0, 0, 0], &[(0, 1)]),
-                ([2, 0, 0, 0], &[(0, 2), (0, 3), (0, 4)]),
-            ],
-        },
-        // As many losers as the threshold stay, and one more goes down with them.
-        Case {
-            threshold: 2,
-            points: &[(0, 0, ONE), (0, 1, ONE), (0, 2, ONE)],
-            nodes: &[([0, 0, 0, 0], &[(0, 0), (0, 1), (0, 2)])],
-        },
-        Case {
-            threshold: 2,
-            points: &[(0, 0, ONE), (0, 1, ONE), (0, 2, ONE), (0, 3, ONE)],
-            nodes: &[
-                ([0, 0, 0, 0], &[(0, 0)]),
-                ([1, 0, 0, 0], &[(0, 1), (0, 2), (0, 3)]),
-            ],
-        },
-        // Two scans.
-        Case {
-            threshold: 0,
-            points: &[
-                (0, 0, ONE),
-                (0, 1, TWO),
-                (0, 2, THREE),
-                (1, 0, ONE),
-                (1, 1, [6, 6, 6]),
-                (1, 2, [5, 5, 5]),
-            ],
-            nodes: &[
-                ([0, 0, 0, 0], &[(0, 1), (1, 1)]),
-                ([1, 0, 0, 0], &[(0, 0), (0, 2)]),
-                ([1, 1, 1, 1], &[(1, 2)]),
-                ([2, 0, 0, 0], &[(1, 0)]),
-            ],
-        },
-    ];
-    for case in cases.iter() {
+    for case in CASES.iter() {
         let rules = rules(case.threshold);
         let points = points_of(rt.alloc(), case.points)?;
         assert!(rt; ids_ascend(points.as_slice()));
