@@ -9,3 +9,5 @@ pub mod SamplingLaws
 pub mod NodeLaws
 pub mod WalkLaws
 pub mod WalkNodes
+pub mod Batches
+pub mod Parts
