@@ -125,10 +125,10 @@ and_comm false false = refl
 not_leaving : (rules : Rules) (depth : ℕ) (was : ℕ → Bool) (xs : List Point) (o : ℕ) (p : Point) → is_open rules depth was xs o ≡ false → (octant rules depth p == o) ≡ true → not (leaves rules depth was xs p) ≡ true
 not_leaving rules depth was xs o p shut here =
     elim (either (leaves rules depth was xs p)) [
-      inl goes ↦
-        let is : octant rules depth p ≡ o = same_number (octant rules depth p) o here in
-        absurd (not_both (is_open rules depth was xs o) (subst (λ (n : ℕ). is_open rules depth was xs n ≡ true) is (leaves-open rules depth was xs p goes)) shut)
-    | inr stays ↦ ap not stays
+      | inl goes ↦
+          let is : octant rules depth p ≡ o = same_number (octant rules depth p) o here in
+          absurd (not_both (is_open rules depth was xs o) (subst (λ (n : ℕ). is_open rules depth was xs n ≡ true) is (leaves-open rules depth was xs p goes)) shut)
+      | inr stays ↦ ap not stays
     ]
 
 -- a closed octant has the same losers among those that stay and more as among all
@@ -139,10 +139,10 @@ losers-closed rules depth was xs ys o shut =
     let lose : Point → Bool = λ q. loses rules depth (xs ++ ys) q && (octant rules depth q == o) in
     filter_agree (λ q. loses rules depth (filter stays xs ++ ys) q && (octant rules depth q == o)) lose (λ q. ap (λ (b : Bool). b && (octant rules depth q == o)) (loses-kept_append rules depth was xs ys q)) (filter stays xs ++ ys)
     ∙ (filter-append lose (filter stays xs) ys
-      ∙ (ap (λ (w : List Point). w ++ filter lose ys)
-          (filter-filter stays lose xs
-          ∙ filter_agree (λ q. stays q && lose q) lose (λ q. both_or (stays q) (lose q) (λ e. not_leaving rules depth was xs o q shut (and_right (loses rules depth (xs ++ ys) q) (octant rules depth q == o) e))) xs)
-        ∙ sym (filter-append lose xs ys)))
+    ∙ (ap (λ (w : List Point). w ++ filter lose ys)
+    (filter-filter stays lose xs
+    ∙ filter_agree (λ q. stays q && lose q) lose (λ q. both_or (stays q) (lose q) (λ e. not_leaving rules depth was xs o q shut (and_right (loses rules depth (xs ++ ys) q) (octant rules depth q == o) e))) xs)
+    ∙ sym (filter-append lose xs ys)))
 
 overflow-closed : (rules : Rules) (depth : ℕ) (was : ℕ → Bool) (xs ys : List Point) (o : ℕ) → is_open rules depth was xs o ≡ false → overflows rules depth (kept rules depth was xs ++ ys) o ≡ overflows rules depth (xs ++ ys) o
 unfolding overflows
@@ -154,11 +154,11 @@ pub is_open-twice : (rules : Rules) (depth : ℕ) (was : ℕ → Bool) (xs ys : 
 unfolding is_open
 is_open-twice rules depth was xs ys o =
     elim (either (is_open rules depth was xs o)) [
-      inl opened ↦
-        or_left (is_open rules depth was xs o) (overflows rules depth (kept rules depth was xs ++ ys) o) opened ∙ sym (is_open-append rules depth was xs ys o opened)
-    | inr shut ↦
-        ap (λ (b : Bool). b || overflows rules depth (kept rules depth was xs ++ ys) o) shut
-        ∙ (overflow-closed rules depth was xs ys o shut
+      | inl opened ↦
+          or_left (is_open rules depth was xs o) (overflows rules depth (kept rules depth was xs ++ ys) o) opened ∙ sym (is_open-append rules depth was xs ys o opened)
+      | inr shut ↦
+          ap (λ (b : Bool). b || overflows rules depth (kept rules depth was xs ++ ys) o) shut
+          ∙ (overflow-closed rules depth was xs ys o shut
           ∙ ap (λ (b : Bool). b || overflows rules depth (xs ++ ys) o) (sym (or_false (was o) (overflows rules depth xs o) shut).0))
     ]
 
@@ -176,8 +176,8 @@ leaves-append rules depth was xs ys p e =
 stayed : (rules : Rules) (depth : ℕ) (was : ℕ → Bool) (xs ys : List Point) (p : Point) → not (leaves rules depth was (xs ++ ys) p) ≡ true → not (leaves rules depth was xs p) ≡ true
 stayed rules depth was xs ys p e =
     elim (either (leaves rules depth was xs p)) [
-      inl goes ↦ absurd (false≢true (sym (ap not (leaves-append rules depth was xs ys p goes)) ∙ e))
-    | inr stays ↦ ap not stays
+      | inl goes ↦ absurd (false≢true (sym (ap not (leaves-append rules depth was xs ys p goes)) ∙ e))
+      | inr stays ↦ ap not stays
     ]
 
 -- after two batches the same points stay as after both at once
@@ -188,9 +188,9 @@ kept-twice rules depth was xs ys =
     let all : Point → Bool = λ q. not (leaves rules depth was (xs ++ ys) q) in
     filter_agree (λ q. not (leaves rules depth (is_open rules depth was xs) (filter stays xs ++ ys) q)) all (λ q. ap not (leaves-twice rules depth was xs ys q)) (filter stays xs ++ ys)
     ∙ (filter-append all (filter stays xs) ys
-      ∙ (ap (λ (w : List Point). w ++ filter all ys)
-          (filter-filter stays all xs ∙ filter_agree (λ q. stays q && all q) all (λ q. both_or (stays q) (all q) (stayed rules depth was xs ys q)) xs)
-        ∙ sym (filter-append all xs ys)))
+    ∙ (ap (λ (w : List Point). w ++ filter all ys)
+    (filter-filter stays all xs ∙ filter_agree (λ q. stays q && all q) all (λ q. both_or (stays q) (all q) (stayed rules depth was xs ys q)) xs)
+    ∙ sym (filter-append all xs ys)))
 
 -- ---- what two batches send
 
@@ -221,16 +221,16 @@ sent-twice rules depth was xs ys o =
     let first : Point → Bool = λ q. leaves rules depth was xs q && (octant rules depth q == o) in
     let all : Point → Bool = λ q. leaves rules depth was (xs ++ ys) q && (octant rules depth q == o) in
     let second : filter (λ q. leaves rules depth (is_open rules depth was xs) (filter stays xs ++ ys) q && (octant rules depth q == o)) (filter stays xs ++ ys) ≡ filter (λ q. stays q && all q) xs ++ filter all ys =
-        filter_agree (λ q. leaves rules depth (is_open rules depth was xs) (filter stays xs ++ ys) q && (octant rules depth q == o)) all (λ q. ap (λ (b : Bool). b && (octant rules depth q == o)) (leaves-twice rules depth was xs ys q)) (filter stays xs ++ ys)
-        ∙ (filter-append all (filter stays xs) ys ∙ ap (λ (w : List Point). w ++ filter all ys) (filter-filter stays all xs)) in
+    filter_agree (λ q. leaves rules depth (is_open rules depth was xs) (filter stays xs ++ ys) q && (octant rules depth q == o)) all (λ q. ap (λ (b : Bool). b && (octant rules depth q == o)) (leaves-twice rules depth was xs ys q)) (filter stays xs ++ ys)
+    ∙ (filter-append all (filter stays xs) ys ∙ ap (λ (w : List Point). w ++ filter all ys) (filter-filter stays all xs)) in
     let one : filter (λ q. all q && goes q) xs ≡ filter first xs =
-        filter_agree (λ q. all q && goes q) first (λ q. first_sent (goes q) (leaves rules depth was (xs ++ ys) q) (octant rules depth q == o) (leaves-append rules depth was xs ys q)) xs in
+    filter_agree (λ q. all q && goes q) first (λ q. first_sent (goes q) (leaves rules depth was (xs ++ ys) q) (octant rules depth q == o) (leaves-append rules depth was xs ys q)) xs in
     let parts : IsPermutation (filter all xs) (filter first xs ++ filter (λ q. stays q && all q) xs) =
-        subst (λ (w : List Point). IsPermutation (filter all xs) (w ++ filter (λ q. stays q && all q) xs)) one (split goes all xs) in
+    subst (λ (w : List Point). IsPermutation (filter all xs) (w ++ filter (λ q. stays q && all q) xs)) one (split goes all xs) in
     let whole : IsPermutation (filter all xs ++ filter all ys) ((filter first xs ++ filter (λ q. stays q && all q) xs) ++ filter all ys) =
-        IsPermutation-append (filter all xs) (filter first xs ++ filter (λ q. stays q && all q) xs) (filter all ys) (filter all ys) parts (IsPermutation-refl (filter all ys)) in
+    IsPermutation-append (filter all xs) (filter first xs ++ filter (λ q. stays q && all q) xs) (filter all ys) (filter all ys) parts (IsPermutation-refl (filter all ys)) in
     let joined : filter first xs ++ (filter (λ q. stays q && all q) xs ++ filter all ys) ≡ (filter first xs ++ filter (λ q. stays q && all q) xs) ++ filter all ys =
-        sym (append_assoc (filter first xs) (filter (λ q. stays q && all q) xs) (filter all ys)) in
+    sym (append_assoc (filter first xs) (filter (λ q. stays q && all q) xs) (filter all ys)) in
     let back : IsPermutation ((filter first xs ++ filter (λ q. stays q && all q) xs) ++ filter all ys) (filter all (xs ++ ys)) =
-        subst (λ (w : List Point). IsPermutation ((filter first xs ++ filter (λ q. stays q && all q) xs) ++ filter all ys) w) (sym (filter-append all xs ys)) (IsPermutation-sym (filter all xs ++ filter all ys) ((filter first xs ++ filter (λ q. stays q && all q) xs) ++ filter all ys) whole) in
+    subst (λ (w : List Point). IsPermutation ((filter first xs ++ filter (λ q. stays q && all q) xs) ++ filter all ys) w) (sym (filter-append all xs ys)) (IsPermutation-sym (filter all xs ++ filter all ys) ((filter first xs ++ filter (λ q. stays q && all q) xs) ++ filter all ys) whole) in
     subst (λ (w : List Point). IsPermutation w (filter all (xs ++ ys))) (sym (ap (λ (w : List Point). filter first xs ++ w) second ∙ joined)) back

@@ -80,3 +80,7 @@ is_beaten-filter beats o keep xs winners x =
             | inr none ↦ none ∙ sym fine
           ]
     ]
+
+pub is_false : (b : Bool) → ¬ (b ≡ true) → b ≡ false
+is_false true h = absurd (h refl)
+is_false false h = refl

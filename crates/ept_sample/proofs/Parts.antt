@@ -50,11 +50,11 @@ parts-below t f xs (suc n) =
     let all : Point → Bool = λ p. t p && nat_lt (f p) (suc n) in
     let less : Point → Bool = λ p. nat_lt (f p) n in
     let parts : IsPermutation (filter all xs) (filter (λ p. t p && nat_lt (f p) n) xs ++ part n) =
-        subst (λ (w : List Point). IsPermutation (filter all xs) (w ++ part n)) (filter_agree (λ p. all p && less p) (λ p. t p && nat_lt (f p) n) (λ p. less_number (t p) (f p) n) xs) (subst (λ (w : List Point). IsPermutation (filter all xs) (filter (λ p. all p && less p) xs ++ w)) (filter_agree (λ p. not (less p) && all p) (λ p. t p && (f p == n)) (λ p. same_number_left (t p) (f p) n) xs) (split less all xs)) in
+    subst (λ (w : List Point). IsPermutation (filter all xs) (w ++ part n)) (filter_agree (λ p. all p && less p) (λ p. t p && nat_lt (f p) n) (λ p. less_number (t p) (f p) n) xs) (subst (λ (w : List Point). IsPermutation (filter all xs) (filter (λ p. all p && less p) xs ++ w)) (filter_agree (λ p. not (less p) && all p) (λ p. t p && (f p == n)) (λ p. same_number_left (t p) (f p) n) xs) (split less all xs)) in
     let more : IsPermutation (filter (λ p. t p && nat_lt (f p) n) xs ++ part n) (flat_map part (numbers_below n) ++ part n) =
-        IsPermutation-append (filter (λ p. t p && nat_lt (f p) n) xs) (flat_map part (numbers_below n)) (part n) (part n) (parts-below t f xs n) (IsPermutation-refl (part n)) in
+    IsPermutation-append (filter (λ p. t p && nat_lt (f p) n) xs) (flat_map part (numbers_below n)) (part n) (part n) (parts-below t f xs n) (IsPermutation-refl (part n)) in
     let joined : flat_map part (numbers_below n) ++ part n ≡ flat_map part (numbers_below n ++ (n ∷ [])) =
-        ap (λ (w : List Point). flat_map part (numbers_below n) ++ w) (sym (append-nil (part n))) ∙ sym (flat_map-append part (numbers_below n) (n ∷ [])) in
+    ap (λ (w : List Point). flat_map part (numbers_below n) ++ w) (sym (append-nil (part n))) ∙ sym (flat_map-append part (numbers_below n) (n ∷ [])) in
     subst (λ (w : List Point). IsPermutation (filter all xs) w) joined (IsPermutation-trans (filter all xs) (filter (λ p. t p && nat_lt (f p) n) xs ++ part n) (flat_map part (numbers_below n) ++ part n) parts more)
 
 -- ---- those that stay and those that leave
@@ -74,13 +74,13 @@ IsPermutation-parts rules depth was given =
     let goes : Point → Bool = λ p. leaves rules depth was given p in
     let part : ℕ → List Point = λ o. filter (λ p. goes p && (octant rules depth p == o)) given in
     let all : filter (λ p. goes p && nat_lt (octant rules depth p) 8) given ≡ filter goes given =
-        filter_agree (λ p. goes p && nat_lt (octant rules depth p) 8) goes (λ p. in_eight rules depth (goes p) p) given in
+    filter_agree (λ p. goes p && nat_lt (octant rules depth p) 8) goes (λ p. in_eight rules depth (goes p) p) given in
     let sorted : IsPermutation (filter goes given) (flat_map part all_octants) =
-        subst (λ (w : List Point). IsPermutation w (flat_map part all_octants)) all (parts-below goes (octant rules depth) given 8) in
+    subst (λ (w : List Point). IsPermutation w (flat_map part all_octants)) all (parts-below goes (octant rules depth) given 8) in
     let two : IsPermutation given (filter goes given ++ filter (λ p. not (goes p)) given) =
-        IsPermutation-filter_both goes (λ p. not (goes p)) (λ p. refl) given in
+    IsPermutation-filter_both goes (λ p. not (goes p)) (λ p. refl) given in
     let three : IsPermutation (filter goes given ++ filter (λ p. not (goes p)) given) (flat_map part all_octants ++ filter (λ p. not (goes p)) given) =
-        IsPermutation-append (filter goes given) (flat_map part all_octants) (filter (λ p. not (goes p)) given) (filter (λ p. not (goes p)) given) sorted (IsPermutation-refl (filter (λ p. not (goes p)) given)) in
+    IsPermutation-append (filter goes given) (flat_map part all_octants) (filter (λ p. not (goes p)) given) (filter (λ p. not (goes p)) given) sorted (IsPermutation-refl (filter (λ p. not (goes p)) given)) in
     IsPermutation-trans given (flat_map part all_octants ++ filter (λ p. not (goes p)) given) (filter (λ p. not (goes p)) given ++ flat_map part all_octants) (IsPermutation-trans given (filter goes given ++ filter (λ p. not (goes p)) given) (flat_map part all_octants ++ filter (λ p. not (goes p)) given) two three) (IsPermutation-append_comm (flat_map part all_octants) (filter (λ p. not (goes p)) given))
 
 -- ---- the order of the given points makes no difference

@@ -329,3 +329,25 @@ is_node-IsPermutation rules ps qs key once h =
 pub in_cube_test : (cube : OctreeCube) (at told : Place) (r : Bool) (B : Place → Type 0) → told ≡ at → (IsTrue r ↔ B told) → ((x : Place) → B x ↔ InBox cube root x) → IsTrue r ↔ InCube cube at
 in_cube_test cube at told r B is test box =
     (λ h. InCube-root cube at ((box at).0 (subst B is (test.0 h))), λ h. test.1 (subst B (sym is) ((box at).1 (InBox-root cube at h))))
+
+-- ---- nodes
+
+pub IsKey-root : IsKey root
+IsKey-root = record { shallow = omega arith; x_in = omega arith; y_in = omega arith; z_in = omega arith }
+
+pub node-IsKey : (rules : Rules) (points : List Point) (key : VoxelKey) → IsCube rules.cube → AllInCube rules.cube points → is_node rules points key ≡ true → IsKey key
+node-IsKey rules points key ok inside is =
+    elim (node-cases rules points key is) [
+      inl top ↦ subst IsKey (sym top) IsKey-root
+    | inr some ↦ given-IsKey rules points key some.0 ok (all-member (λ p. InCube rules.cube (place p)) some.0 points inside (given-IsMember rules points key some.0 some.1)) some.1
+    ]
+
+-- a node below the root has a point
+pub node-points : (rules : Rules) (points : List Point) (key : VoxelKey) → is_node rules points key ≡ true → ¬ (key ≡ root) → ¬ (sampling rules points key ≡ [])
+node-points rules points key is lower none =
+    elim (node-cases rules points key is) [
+      inl top ↦ lower top
+    | inr some ↦
+        let q = sampling-some rules points key some.0 some.1 in
+        let M : List Point → Type 0 = λ xs. IsMember q.0 xs in subst M none q.1
+    ]
