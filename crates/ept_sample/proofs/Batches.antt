@@ -1,23 +1,17 @@
 -- Points that arrive at a node in two batches, and points in another order.
-use Rattle.std.proofs.Common.{◌≡◌, ◌∙◌, ℕ, zero, suc, ◌+◌, ◌≤◌, ◌<◌, Bool, true, false, cond, not, ◌&&◌, ◌||◌, ◌==◌, nat_lt, ◌⊎◌, inl, inr, List, [], ◌∷◌, ◌++◌, refl, sym, ap, subst, arith, filter, length, count_by, length-append, append_assoc}
+use Rattle.std.proofs.Common.{◌≡◌, ◌∙◌, ℕ, ◌≤◌, ◌<◌, Bool, true, false, cond, not, ◌&&◌, ◌||◌, ◌==◌, nat_lt, ◌⊎◌, inl, inr, List, [], ◌∷◌, ◌++◌, refl, sym, ap, subst, arith, filter, length, length-append, append_assoc}
 use Rattle.std.specs.List.{list_any}
 use Rattle.std.specs.List.Sorted.{IsPermutation}
-use borrow.Author.Tests.{ltb-true}
 use Rattle.std.proofs.lemmas.Bool.{false≢true, lt-ltb}
-use Rattle.std.proofs.lemmas.Bool.Decides.{nat_tests}
 use Rattle.std.proofs.lemmas.List.Elements.{filter-append, filter_agree}
-use Rattle.std.proofs.lemmas.List.Sums.{length-filter}
-use Rattle.std.proofs.lemmas.List.Sorted.{IsPermutation-refl, IsPermutation-sym, IsPermutation-trans, IsPermutation-append, IsPermutation-filter_both, length_permutation}
+use Rattle.std.proofs.lemmas.List.Sorted.{IsPermutation-refl, IsPermutation-sym, IsPermutation-append, IsPermutation-filter_both}
 use Rattle.ept_point.specs.declared.point.Point.{Point}
 use Rattle.ept_space.specs.declared.cube.Rules.{Rules}
-use Rattle.ept_sample.specs.Ids.{HasDistinctIds}
 use Rattle.ept_sample.specs.Rank.{beats}
 use Rattle.ept_sample.specs.Arrivals.{loses, octant, losers, overflows, is_open, leaves, kept, sent}
-use Rattle.ept_sample.proofs.Members.{IsMember, IsMember-filter, IsMember-kept}
 use Rattle.ept_sample.proofs.Best.{either, not_both}
 use Rattle.ept_sample.proofs.RankLaws.{and_left, and_right, and_both}
-use Rattle.ept_sample.proofs.IdLaws.{HasDistinctIds-filter, HasDistinctIds-IsPermutation, IsPermutation-members, IsMember-IsPermutation}
-use Rattle.ept_sample.proofs.ArrivalLaws.{loses-kept, loses-IsPermutation, leaves-loses, leaves-open, leaves-from, overflows-depth, overflows-more, same_number}
+use Rattle.ept_sample.proofs.ArrivalLaws.{loses-kept, leaves-loses, leaves-open, leaves-from, overflows-depth, overflows-more, same_number}
 
 -- ---- tests
 

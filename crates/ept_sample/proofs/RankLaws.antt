@@ -1,5 +1,5 @@
 -- The order of ranks, and beating.
-use Rattle.std.proofs.Common.{◌≡◌, ◌∙◌, ℕ, ◌<◌, Bool, true, false, ◌&&◌, ◌||◌, ◌==◌, nat_lt, ◌⊎◌, inl, inr, refl, sym, arith, eq-eqb, eqb, List}
+use Rattle.std.proofs.Common.{◌≡◌, ◌∙◌, ℕ, Bool, true, false, ◌&&◌, ◌||◌, ◌==◌, nat_lt, ◌⊎◌, inl, inr, refl, sym, arith, eq-eqb, eqb, List}
 use Rattle.std.proofs.lemmas.Bool.{false≢true}
 use Rattle.std.proofs.lemmas.Bool.Decides.{nat_tests, same_from_decides, Decides-like, Decides-eqb}
 use Rattle.std.proofs.lemmas.Slice.Eq.{slice_eq-Decides}
@@ -8,7 +8,7 @@ use Rattle.ept_point.specs.declared.point.Point.{Point}
 use Rattle.ept_space.specs.declared.cube.Rules.{Rules}
 use Rattle.ept_space.specs.OctreeCube.{OctreeCube, same_cell, cell_at}
 use Rattle.ept_space.specs.Place.{Place}
-use Rattle.ept_space.proofs.Cells.{same_cell-self, same_cell-sym, same_cell-trans, cell_at-same, same_cell-cell_at}
+use Rattle.ept_space.proofs.Cells.{same_cell-sym, same_cell-trans, cell_at-same, same_cell-cell_at}
 use Rattle.ept_sample.specs.Place.{place}
 use Rattle.ept_sample.specs.Ids.{same_id}
 use Rattle.ept_sample.specs.declared.rank.Rank.{Rank}

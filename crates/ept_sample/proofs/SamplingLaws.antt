@@ -1,8 +1,7 @@
 -- The sampling: what is given to each key, and where each point stays.
-use Rattle.std.proofs.Common.{◌≡◌, ◌∙◌, ℕ, zero, suc, ◌+◌, ◌-◌, ◌≤◌, ◌<◌, Bool, true, false, cond, not, ◌&&◌, ◌||◌, ◌==◌, nat_lt, ◌⊎◌, inl, inr, List, [], ◌∷◌, ◌++◌, refl, sym, ap, subst, arith, eq-eqb, filter, length, add-one}
-use Rattle.std.specs.Prelude.{if◌then◌else◌, IsTrue, ◌↔◌}
+use Rattle.std.proofs.Common.{◌≡◌, ◌∙◌, ℕ, zero, suc, ◌+◌, ◌≤◌, ◌<◌, Bool, true, false, cond, not, ◌||◌, nat_lt, ◌⊎◌, inl, inr, List, [], ◌∷◌, refl, sym, ap, subst, arith, length}
+use Rattle.std.specs.Prelude.{IsTrue, ◌↔◌}
 use Rattle.std.proofs.lemmas.Bool.{false≢true}
-use Rattle.std.specs.List.{All}
 use Rattle.std.specs.List.Sorted.{IsPermutation}
 use borrow.Author.Tests.{ltb-true}
 use Rattle.std.proofs.lemmas.Bool.{lt-ltb}
@@ -10,20 +9,20 @@ use Rattle.std.proofs.lemmas.Bool.Decides.{nat_tests}
 use Rattle.ept_point.specs.declared.point.Point.{Point}
 use Rattle.ept_space.specs.declared.cube.Rules.{Rules}
 use Rattle.ept_space.specs.VoxelKey.{VoxelKey, IsKey, root, same_key, child, parent, octant_of}
-use Rattle.ept_space.specs.OctreeCube.{OctreeCube, IsCube, InCube, InBox, key_at, octant_at}
+use Rattle.ept_space.specs.OctreeCube.{OctreeCube, IsCube, InCube, InBox, key_at}
 use Rattle.ept_space.proofs.Family.{parent-child, octant_of-child, child-parent, octant_of-below, depth-child, depth-parent}
 use Rattle.ept_space.proofs.Within.{same_key-true, same_key-same}
-use Rattle.ept_space.proofs.PlaceKeys.{depth-key_at, key_at-suc, key_at-root, IsKey-key_at, octant_at-below, octant_of-key_at, parent-key_at, InBox-key_at, InBox-root, InCube-root}
+use Rattle.ept_space.proofs.PlaceKeys.{key_at-suc, key_at-root, IsKey-key_at, octant_at-below, InBox-key_at, InBox-root, InCube-root}
 use Rattle.ept_space.specs.Place.{Place}
-use Rattle.ept_sample.specs.Place.{place, AllInCube, AllInBox}
-use Rattle.ept_sample.specs.Ids.{same_id, comes_before, HasDistinctIds, in_id_order}
-use Rattle.ept_sample.specs.Arrivals.{loses, octant, losers, overflows, is_open, leaves, kept, sent, none_open}
+use Rattle.ept_sample.specs.Place.{place, AllInCube}
+use Rattle.ept_sample.specs.Ids.{comes_before, HasDistinctIds, in_id_order}
+use Rattle.ept_sample.specs.Arrivals.{loses, octant, is_open, leaves, kept, sent, none_open}
 use Rattle.ept_sample.specs.Sampling.{given_at, given, sampling, is_node}
-use Rattle.ept_sample.proofs.Members.{IsMember, all-member, All-members}
+use Rattle.ept_sample.proofs.Members.{IsMember, all-member}
 use Rattle.ept_sample.proofs.Ascending.{IsRising}
 use Rattle.ept_sample.proofs.Best.{either, not_both}
 use Rattle.ept_sample.proofs.IdLaws.{IsRising-in_id_order, in_id_order-IsMember, IsMember-in_id_order, in_id_order-IsPermutation}
-use Rattle.ept_sample.proofs.ArrivalLaws.{IsMember-sent, sent-IsMember, IsMember-stays, stays-IsMember, leaves-open, leaves-loses, overflows-depth, sent-none_open, IsRising-sent, IsRising-kept, best, stays-winner, BestOver}
+use Rattle.ept_sample.proofs.ArrivalLaws.{IsMember-sent, sent-IsMember, IsMember-stays, stays-IsMember, leaves-open, overflows-depth, IsRising-sent, IsRising-kept, best, stays-winner, BestOver}
 
 -- ---- what is given
 
@@ -338,16 +337,16 @@ IsKey-root = record { shallow = omega arith; x_in = omega arith; y_in = omega ar
 pub node-IsKey : (rules : Rules) (points : List Point) (key : VoxelKey) → IsCube rules.cube → AllInCube rules.cube points → is_node rules points key ≡ true → IsKey key
 node-IsKey rules points key ok inside is =
     elim (node-cases rules points key is) [
-      inl top ↦ subst IsKey (sym top) IsKey-root
-    | inr some ↦ given-IsKey rules points key some.0 ok (all-member (λ p. InCube rules.cube (place p)) some.0 points inside (given-IsMember rules points key some.0 some.1)) some.1
+      | inl top ↦ subst IsKey (sym top) IsKey-root
+      | inr some ↦ given-IsKey rules points key some.0 ok (all-member (λ p. InCube rules.cube (place p)) some.0 points inside (given-IsMember rules points key some.0 some.1)) some.1
     ]
 
 -- a node below the root has a point
 pub node-points : (rules : Rules) (points : List Point) (key : VoxelKey) → is_node rules points key ≡ true → ¬ (key ≡ root) → ¬ (sampling rules points key ≡ [])
 node-points rules points key is lower none =
     elim (node-cases rules points key is) [
-      inl top ↦ lower top
-    | inr some ↦
-        let q = sampling-some rules points key some.0 some.1 in
-        let M : List Point → Type 0 = λ xs. IsMember q.0 xs in subst M none q.1
+      | inl top ↦ lower top
+      | inr some ↦
+          let q = sampling-some rules points key some.0 some.1 in
+          let M : List Point → Type 0 = λ xs. IsMember q.0 xs in subst M none q.1
     ]

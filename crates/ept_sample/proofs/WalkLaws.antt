@@ -1,6 +1,5 @@
 -- The walk from the top down, step by step.
-use Rattle.std.proofs.Common.{◌≡◌, ◌≢◌, ◌∙◌, ℕ, zero, suc, ◌+◌, ◌-◌, ◌≤◌, ◌<◌, Bool, true, false, cond, not, ◌&&◌, ◌||◌, ◌==◌, nat_lt, ◌⊎◌, inl, inr, List, [], ◌∷◌, ◌++◌, refl, sym, ap, subst, arith, filter, length, count_by, get_or, set, get_or-set_other, get_or-set_same}
-use Rattle.std.proofs.lemmas.Bool.{false≢true}
+use Rattle.std.proofs.Common.{◌≡◌, ◌≢◌, ◌∙◌, ℕ, zero, suc, ◌+◌, ◌-◌, ◌≤◌, ◌<◌, Bool, true, false, cond, ◌&&◌, ◌==◌, nat_lt, List, [], ◌∷◌, ◌++◌, refl, sym, ap, subst, arith, filter, length, count_by, get_or, set, get_or-set_other, get_or-set_same}
 use Rattle.std.proofs.lemmas.Bool.Decides.{nat_tests}
 use Rattle.std.proofs.lemmas.List.{append-nil}
 use Rattle.ept_space.proofs.Family.{depth-child}
@@ -17,11 +16,10 @@ use Rattle.ept_space.specs.VoxelKey.{VoxelKey, child, key_cmp}
 use Rattle.ept_space.specs.OctreeCube.{IsCube, InCube, InBox}
 use Rattle.ept_space.proofs.PlaceKeys.{InBox-child}
 use Rattle.ept_sample.specs.Place.{place, AllInCube, AllInBox}
-use Rattle.ept_sample.proofs.Members.{IsMember, IsMember-filter, All-members, all-member}
-use Rattle.ept_sample.proofs.RankLaws.{and_left, and_right}
+use Rattle.ept_sample.proofs.Members.{IsMember-filter, All-members, all-member}
+use Rattle.ept_sample.proofs.RankLaws.{and_right}
 use Rattle.ept_sample.proofs.ArrivalLaws.{same_number}
 use Rattle.ept_sample.proofs.SamplingLaws.{depth-side}
-use Rattle.ept_sample.proofs.Best.{either}
 
 and_left_false : (b c : Bool) → b ≡ false → (b && c) ≡ false
 and_left_false b c e = ap (λ (x : Bool). x && c) e

@@ -1,5 +1,5 @@
 -- What holds of each sampling. Each statement stands on the contract of a function of `laws`.
-use Rattle.std.specs.Prelude.{◌≡◌, ◌≢◌, ℕ, ◌<◌, ◌≤◌, ◌↔◌, IsTrue, List, [], Contains, IsPermutation, AllPairs}
+use Rattle.std.specs.Prelude.{◌≡◌, ◌≢◌, ◌<◌, ◌≤◌, ◌↔◌, IsTrue, List, [], Contains, IsPermutation, AllPairs}
 use Rattle.std.specs.List.{flat_map}
 use Rattle.std.specs.declared.cmp.Ordering.TheVariants.{Less}
 use Rattle.ept_point.specs.declared.point.Point.{Point}

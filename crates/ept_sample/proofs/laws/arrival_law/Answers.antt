@@ -1,4 +1,3 @@
-use Rattle.std.proofs.Common.{◌≡◌, true}
 use Rattle.ept_sample.specs.Arrivals.{loses}
 use Rattle.ept_sample.proofs.Members.{contains-IsMember}
 use Rattle.ept_sample.proofs.Best.{not_both}

@@ -1,4 +1,3 @@
-use Rattle.std.proofs.Common.{◌≡◌, Bool, true, false}
 use Rattle.ept_sample.specs.Ids.{same_id}
 use Rattle.ept_sample.specs.Rank.{beats}
 use Rattle.ept_sample.proofs.Best.{not_both, is_false}

@@ -1,7 +1,5 @@
-use Rattle.std.proofs.Common.{subst, List}
-use Rattle.ept_point.specs.declared.point.Point.{Point}
 use Rattle.ept_sample.specs.Nodes.{node_keys}
-use Rattle.ept_sample.proofs.Members.{IsMember, IsMember-contains, contains-IsMember}
+use Rattle.ept_sample.proofs.Members.{IsMember-contains, contains-IsMember}
 use Rattle.ept_sample.proofs.KeyOrder.{AllPairs-IsRising}
 use Rattle.ept_sample.proofs.SamplingLaws.{is_node-root, is_node-parent, node-depth, node-points, node-IsKey}
 use Rattle.ept_sample.proofs.NodeLaws.{IsMember-node_keys, node_keys-IsMember, IsRising-node_keys}
