@@ -14,8 +14,9 @@ use Rattle.ept_sample.specs.Rank.{beats}
 use Rattle.ept_sample.specs.Arrivals.{loses, octant, losers, overflows, is_open, leaves, kept, sent, none_open}
 use Rattle.ept_sample.proofs.Members.{IsMember, IsMember-filter, IsMember-kept, member-any, any-member}
 use Rattle.ept_sample.proofs.Ascending.{IsRising, IsRising-filter}
-use Rattle.ept_sample.proofs.Best.{winner_of, is_beaten-filter, either}
-use Rattle.ept_sample.proofs.RankLaws.{contest, and_left, and_right, and_both}
+use Rattle.ept_sample.proofs.Best.{winner_of, is_beaten-filter}
+use Rattle.ept_sample.proofs.RankLaws.{contest}
+use Rattle.ept_sample.proofs.Choices.{either, and_left, and_right, and_both}
 
 pub same_number : (a b : ℕ) → (a == b) ≡ true → a ≡ b
 same_number a b e = grind (arith, nat_tests)

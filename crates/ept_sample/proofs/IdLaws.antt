@@ -12,8 +12,7 @@ use Rattle.ept_point.specs.Order.{IsAscending, IsBefore, id}
 use Rattle.ept_sample.specs.Ids.{same_id, comes_before, HasDistinctIds, placed_by_id, in_id_order}
 use Rattle.ept_sample.proofs.Members.{IsMember, IsMember-contains, contains-IsMember}
 use Rattle.ept_sample.proofs.Ascending.{IsOrder, IsBeforeAll, IsRising, same_rising}
-use Rattle.ept_sample.proofs.Best.{either, not_both}
-use Rattle.ept_sample.proofs.RankLaws.{and_both}
+use Rattle.ept_sample.proofs.Choices.{either, not_both, and_both}
 
 -- ---- the order of ids
 

@@ -1,3 +1,4 @@
+pub mod Choices
 pub mod Members
 pub mod Ascending
 pub mod Best

@@ -20,9 +20,9 @@ use Rattle.ept_sample.specs.Arrivals.{loses, octant, is_open, leaves, kept, sent
 use Rattle.ept_sample.specs.Sampling.{given_at, given, sampling, is_node}
 use Rattle.ept_sample.proofs.Members.{IsMember, all-member}
 use Rattle.ept_sample.proofs.Ascending.{IsRising}
-use Rattle.ept_sample.proofs.Best.{either, not_both}
 use Rattle.ept_sample.proofs.IdLaws.{IsRising-in_id_order, in_id_order-IsMember, IsMember-in_id_order, in_id_order-IsPermutation}
 use Rattle.ept_sample.proofs.ArrivalLaws.{IsMember-sent, sent-IsMember, IsMember-stays, stays-IsMember, leaves-open, overflows-depth, IsRising-sent, IsRising-kept, best, stays-winner, BestOver}
+use Rattle.ept_sample.proofs.Choices.{either, not_both, or_left, or_right, or_cases, not_true}
 
 -- ---- what is given
 
@@ -132,17 +132,6 @@ given-IsKey rules points key p ok inside m =
 
 -- ---- which keys are nodes
 
-or_left : (b c : Bool) → b ≡ true → (b || c) ≡ true
-or_left b c e = ap (λ (x : Bool). x || c) e
-
-or_right : (b c : Bool) → c ≡ true → (b || c) ≡ true
-or_right true c e = refl
-or_right false c e = e
-
-or_cases : (b c : Bool) → (b || c) ≡ true → (b ≡ true) ⊎ (c ≡ true)
-or_cases true c e = inl refl
-or_cases false c e = inr e
-
 pub is_node-root : (rules : Rules) (points : List Point) → is_node rules points root ≡ true
 unfolding is_node
 is_node-root rules points =
@@ -196,10 +185,6 @@ IsMember-sampling rules points key p m = IsMember-stays rules key.depth none_ope
 pub sampling-IsMember : (rules : Rules) (points : List Point) (key : VoxelKey) (p : Point) → IsMember p (given rules points key) → leaves rules key.depth none_open (given rules points key) p ≡ false → IsMember p (sampling rules points key)
 unfolding sampling
 sampling-IsMember rules points key p m e = stays-IsMember rules key.depth none_open (given rules points key) p m e
-
-not_true : (b : Bool) → not b ≡ true → b ≡ false
-not_true true e = absurd (false≢true e)
-not_true false e = refl
 
 winner_stays : (rules : Rules) (points : List Point) (key : VoxelKey) (p : Point) → IsMember p (given rules points key) → loses rules key.depth (given rules points key) p ≡ false → IsMember p (sampling rules points key)
 winner_stays rules points key p m wins =

@@ -22,12 +22,12 @@ use Rattle.ept_sample.specs.Nodes.{with_key, tile_at, sampled}
 use Rattle.ept_sample.specs.Walk.{Node, node_of, nodes_of_octants, nodes_below, with_nodes, tile_of}
 use Rattle.ept_sample.proofs.Members.{IsMember, IsMember-left, IsMember-right, IsMember-append, IsMember-map, member-map}
 use Rattle.ept_sample.proofs.Ascending.{IsRising}
-use Rattle.ept_sample.proofs.Best.{either}
 use Rattle.ept_sample.proofs.KeyOrder.{key_before, key-equal, with_key-put}
 use Rattle.ept_sample.proofs.ArrivalLaws.{sent-none_open, overflows-depth, overflows-more}
 use Rattle.ept_sample.proofs.SamplingLaws.{given-root, given-child, given-parent, given-top, is_node-root, is_node-given, is_node-parent, node-given, node-cases, below_or_at}
 use Rattle.ept_sample.proofs.NodeLaws.{node_keys-is}
 use Rattle.ept_sample.proofs.WalkLaws.{octants-zero, octants-suc, nodes_below-zero, nodes_below-suc}
+use Rattle.ept_sample.proofs.Choices.{either}
 
 -- ---- a map of nodes
 
