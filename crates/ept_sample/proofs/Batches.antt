@@ -1,5 +1,5 @@
 -- Points that arrive at a node in two batches, and points in another order.
-use Rattle.std.proofs.Common.{◌≡◌, ◌∙◌, ℕ, ◌≤◌, ◌<◌, Bool, true, false, cond, not, ◌&&◌, ◌||◌, ◌==◌, nat_lt, ◌⊎◌, inl, inr, List, [], ◌∷◌, ◌++◌, refl, sym, ap, subst, arith, filter, length, length-append, append_assoc}
+use Rattle.std.proofs.Common.{◌≡◌, ◌∙◌, ℕ, ◌≤◌, ◌<◌, Bool, true, false, cond, not, ◌&&◌, ◌||◌, ◌==◌, nat_lt, inl, inr, List, [], ◌∷◌, ◌++◌, refl, sym, ap, subst, arith, filter, length, length-append, append_assoc}
 use Rattle.std.specs.List.{list_any}
 use Rattle.std.specs.List.Sorted.{IsPermutation}
 use Rattle.std.proofs.lemmas.Bool.{false≢true, lt-ltb}
@@ -68,7 +68,7 @@ losers-more rules depth xs ys o =
     let some : length (filter p xs) ≤ length (filter all xs) = filter_more p all xs (λ q e. and_both _ _ (loses-more rules depth xs ys q (and_left _ _ e)) (and_right (loses rules depth xs q) (octant rules depth q == o) e)) in
     omega (arith, some, ap length (filter-append all xs ys), length-append (filter all xs) (filter all ys))
 
-overflow_from : (rules : Rules) (depth : ℕ) (xs : List Point) (o : ℕ) → depth < rules.cube.depth → rules.threshold < length (losers rules depth xs o) → overflows rules depth xs o ≡ true
+pub overflow_from : (rules : Rules) (depth : ℕ) (xs : List Point) (o : ℕ) → depth < rules.cube.depth → rules.threshold < length (losers rules depth xs o) → overflows rules depth xs o ≡ true
 unfolding overflows
 overflow_from rules depth xs o above more = and_both _ _ (lt-ltb depth rules.cube.depth above) (lt-ltb rules.threshold (length (losers rules depth xs o)) more)
 

@@ -1,5 +1,5 @@
 -- A relation that nothing has to itself and that goes on: who is beaten is beaten by one that is not.
-use Rattle.std.proofs.Common.{◌≡◌, Bool, true, false, ◌||◌, ◌⊎◌, inl, inr, List, [], ◌∷◌, refl, ap, sym, ◌∙◌, filter}
+use Rattle.std.proofs.Common.{◌≡◌, Bool, true, false, ◌||◌, inl, inr, List, [], ◌∷◌, refl, ap, sym, ◌∙◌, filter}
 use Rattle.std.specs.List.{list_any}
 use Rattle.std.proofs.lemmas.Bool.{false≢true}
 use Rattle.ept_sample.proofs.Members.{IsMember, member-any, any-member, IsMember-kept, IsMember-filter}

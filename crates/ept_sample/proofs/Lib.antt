@@ -12,3 +12,4 @@ pub mod WalkLaws
 pub mod WalkNodes
 pub mod Batches
 pub mod Parts
+pub mod MorePoints
