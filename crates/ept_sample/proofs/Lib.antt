@@ -1,0 +1,15 @@
+pub mod Choices
+pub mod Members
+pub mod Ascending
+pub mod Best
+pub mod RankLaws
+pub mod IdLaws
+pub mod KeyOrder
+pub mod ArrivalLaws
+pub mod SamplingLaws
+pub mod NodeLaws
+pub mod WalkLaws
+pub mod WalkNodes
+pub mod Batches
+pub mod Parts
+pub mod MorePoints

@@ -1,0 +1,10 @@
+pub mod Place
+pub mod Rank
+pub mod Ids
+pub mod Arrivals
+pub mod Sampling
+pub mod Nodes
+pub mod Walk
+pub mod BeatLaws
+pub mod ArrivalLaws
+pub mod SamplingLaws

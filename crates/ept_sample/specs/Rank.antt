@@ -1,0 +1,25 @@
+-- The rank of points, and which points beat which.
+use Rattle.std.specs.Prelude.{ℕ, Bool, ◌&&◌, ◌||◌, ◌==◌, nat_lt}
+use Rattle.ept_point.specs.declared.point.Point.{Point}
+use Rattle.ept_space.specs.declared.cube.Rules.{Rules}
+use Rattle.ept_space.specs.OctreeCube.{same_cell, distance_at}
+use Rattle.ept_sample.specs.declared.rank.Rank.{Rank}
+use Rattle.ept_sample.specs.Place.{place}
+
+-- the rank of a point at a depth: how far it is from the centre of its cell, then its scan, then its number there
+abbrev pub rank_at : Rules → ℕ → Point → Rank
+rank_at rules depth p = record {
+  distance = distance_at rules.cube depth (place p);
+  origin = p.origin;
+  number = p.number;
+}
+
+-- the first rank is better: it is less in the first part in which the two differ
+abbrev pub is_better : Rank → Rank → Bool
+is_better a b =
+    nat_lt a.distance b.distance || ((a.distance == b.distance) && (nat_lt a.origin b.origin || ((a.origin == b.origin) && nat_lt a.number b.number)))
+
+-- the first point beats the second at a depth: it lies in the same cell and has the better rank
+unfoldable pub beats : Rules → ℕ → Point → Point → Bool
+beats rules depth q p =
+    same_cell rules.cube depth (place q) (place p) && is_better (rank_at rules depth q) (rank_at rules depth p)

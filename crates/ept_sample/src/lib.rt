@@ -1,0 +1,23 @@
+//! The sampling of a point cloud: which points each node of the octree keeps.
+//!
+//! Of the points given to a node, a point loses where another of them lies in its cell and has a
+//! better rank. The losers of an octant go down to the octant's child where they are more than the
+//! threshold, and stay otherwise.
+#![tactic(auto)]
+
+mod ids;
+mod laws;
+mod losing;
+mod place;
+mod rank;
+#[cfg(test)]
+mod tests;
+mod tiles;
+mod top_down;
+
+pub use ids::ids_ascend;
+pub use laws::{arrival_law, batch_law, beat_law, node_law, point_law};
+pub use place::{are_in_cube, place_of};
+pub use rank::{Rank, beats, rank_of};
+pub use tiles::{Tile, Tiles};
+pub use top_down::sample;

@@ -1,0 +1,64 @@
+//! The rank of a point at a depth, and which points beat which.
+
+ghost use Rattle.std.specs.Prelude.{◌≡◌, ◌≤◌};
+ghost use Rattle.ept_space.specs.OctreeCube.{InCube, same_cell};
+ghost use Rattle.ept_sample.specs.Place.{place};
+ghost use Rattle.ept_sample.specs.Rank.{rank_at, is_better, beats};
+
+use crate::place::place_of;
+use ept_point::{Point, PointNumber};
+use ept_space::{Rules, cell, centre_distance};
+
+/// The rank of a point at a depth. The less one is the better one.
+#[derive(Clone, Copy, Debug, PartialEq, Eq, PartialOrd, Ord)]
+pub struct Rank {
+    /// How far the point is from the centre of its cell.
+    pub distance: u64,
+    /// The place of its scan in the list of scans.
+    pub origin: u32,
+    /// The number of its record in that scan.
+    pub number: PointNumber,
+}
+
+impl Rank {
+    /// Whether this rank is better: it is less in the first part in which the two differ.
+    pub fn is_better(self, other: Rank) -> bool
+        ensures { result ≡ is_better self other }
+    {
+        self < other
+    }
+}
+
+/// The rank of a point at a depth.
+pub fn rank_of(rules: &Rules, depth: u8, point: &Point) -> Rank
+    requires low { depth ≤ rules.now.cube.depth }
+    requires inside { InCube rules.now.cube (place point.now) }
+    ensures { result ≡ rank_at rules.now depth point.now }
+{
+    Rank {
+        distance: centre_distance(&rules.cube, depth, place_of(point)),
+        origin: point.origin,
+        number: point.number,
+    }
+}
+
+/// Whether the first point beats the second at a depth: it lies in the same cell and has the better
+/// rank.
+pub fn beats(rules: &Rules, depth: u8, first: &Point, second: &Point) -> bool
+    requires low { depth ≤ rules.now.cube.depth }
+    requires first_inside { InCube rules.now.cube (place first.now) }
+    requires second_inside { InCube rules.now.cube (place second.now) }
+    ensures { result ≡ beats rules.now depth first.now second.now }
+{
+    share_cell(rules, depth, first, second)
+        && rank_of(rules, depth, first).is_better(rank_of(rules, depth, second))
+}
+
+fn share_cell(rules: &Rules, depth: u8, first: &Point, second: &Point) -> bool
+    requires low { depth ≤ rules.now.cube.depth }
+    requires first_inside { InCube rules.now.cube (place first.now) }
+    requires second_inside { InCube rules.now.cube (place second.now) }
+    ensures { result ≡ same_cell rules.now.cube depth (place first.now) (place second.now) }
+{
+    cell(&rules.cube, depth, place_of(first)) == cell(&rules.cube, depth, place_of(second))
+}

@@ -1,0 +1,100 @@
+//! The sampling, from the top down.
+
+ghost use Rattle.std.specs.Prelude.{◌≡◌, ◌≤◌, ◌<◌, ◌-◌, OnOk, IfOk, map};
+ghost use Rattle.ept_space.specs.VoxelKey.{child};
+ghost use Rattle.ept_space.specs.OctreeCube.{IsCube};
+ghost use Rattle.ept_sample.specs.Place.{AllInCube, AllInBox};
+ghost use Rattle.ept_sample.specs.Ids.{HasDistinctIds, in_id_order};
+ghost use Rattle.ept_sample.specs.Walk.{nodes_below, with_nodes, tile_of};
+ghost use Rattle.ept_sample.specs.Nodes.{sampled};
+
+use crate::losing::{OCTANTS, in_octant, losing, overflowing, staying};
+use crate::tiles::{Tile, Tiles};
+use ept_point::{List, Memory, Point};
+use ept_space::{Key, Rules, child};
+use std::alloc::Global;
+use std::collections::BTreeMap;
+
+/// The sampling of the points: each node with its points, in key order.
+///
+/// This is the sampling as it is defined, from the top down, in a time that grows with the square of
+/// the number of points. The ids of the points differ, and the points lie in the cube.
+pub fn sample(alloc: Global, points: &[Point], rules: &Rules) -> Result<Tiles, Memory>
+    requires distinct { HasDistinctIds points.now }
+    requires inside { AllInCube rules.now.cube points.now }
+    ensures { IfOk result (λ t. t.tiles ≡ sampled rules.now points.now) }
+{
+    // Each node has a key.
+    prove!(rules.cube.depth <= Key::MAX_DEPTH);
+    let given = by_id(alloc, points)?;
+    let mut nodes = BTreeMap::new(alloc);
+    add_nodes(alloc, rules, Key::ROOT, given.as_slice(), &mut nodes)?;
+    tiles_of(alloc, nodes)
+}
+
+// The points in id order.
+fn by_id(alloc: Global, points: &[Point]) -> Result<Vec<Point>, Memory>
+    requires { HasDistinctIds points.now }
+    ensures { IfOk result (λ v. v.items ≡ in_id_order points.now) }
+{
+    let mut sorted = Vec::from_slice(alloc, points)?;
+    sorted.sort_by_key(|point| point.id())?;
+    Ok(sorted)
+}
+
+// Adds the node of the key, which was given these points, and the nodes below it.
+fn add_nodes(
+    alloc: Global,
+    rules: &Rules,
+    key: Key,
+    given: &[Point],
+    nodes: &mut BTreeMap<Key, List<Point>>,
+) -> Result<(), Memory>
+    requires low { key.depth ≤ rules.now.cube.depth }
+    requires inside { AllInBox rules.now.cube key given.now }
+    requires in_cube { AllInCube rules.now.cube given.now }
+    ensures { OnOk result (nodes.new.entries
+        ≡ with_nodes nodes.old.entries (nodes_below rules.now (rules.now.cube.depth - key.depth) key given.now)) }
+{
+    let losers = losing(alloc, rules, key.depth, given)?;
+    let open = overflowing(rules, &key, losers.as_slice());
+    let points = staying(alloc, rules, &key, given, &open)?;
+    nodes.insert(key, List::of(points))?;
+    for which in 0..OCTANTS {
+        if open[which] {
+            let sent = in_octant(alloc, rules, &key, losers.as_slice(), which as u8)?;
+            add_nodes(
+                alloc,
+                rules,
+                child_of(rules, &key, which as u8),
+                sent.as_slice(),
+                nodes,
+            )?;
+        }
+    }
+    Ok(())
+}
+
+// The key of an octant of a key above the greatest depth.
+fn child_of(rules: &Rules, key: &Key, which: u8) -> Key
+    requires has_children { key.now.depth < rules.now.cube.depth }
+    requires one_of_eight { which < OCTANTS }
+    ensures value { result ≡ child key.now which }
+    ensures cube { IsCube rules.now.cube }
+{
+    prove!(rules.cube.depth <= Key::MAX_DEPTH);
+    child(key, which)
+}
+
+// The nodes as tiles.
+fn tiles_of(alloc: Global, nodes: BTreeMap<Key, List<Point>>) -> Result<Tiles, Memory>
+    ensures { IfOk result (λ t. t.tiles ≡ map tile_of nodes.entries) }
+{
+    let tiles = nodes
+        .into_iter()
+        .map(|(key, points)| Tile { key, points })
+        .collect(alloc)?;
+    Ok(Tiles {
+        tiles: List::of(tiles),
+    })
+}
