@@ -1,0 +1,5 @@
+pub mod MaskLaws
+pub mod OctantLaws
+pub mod SlotLaws
+pub mod Arriving
+pub mod Room

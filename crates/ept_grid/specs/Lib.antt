@@ -1,0 +1,4 @@
+pub mod Mask
+pub mod Outgoing
+pub mod Node
+pub mod Slots

@@ -1,0 +1,13 @@
+//! One node of the octree. It takes points one by one, keeps those that stay, and gives out those that
+//! leave, by octant.
+#![tactic(auto)]
+
+mod grid;
+mod octants;
+mod outgoing;
+mod slot;
+mod slots;
+
+pub use grid::Grid;
+pub use octants::OCTANTS;
+pub use outgoing::Outgoing;
