@@ -1,27 +1,28 @@
 -- A point that arrives at a node, in the node's slots.
-use Rattle.std.proofs.Common.{◌≡◌, ◌≢◌, ◌∙◌, ℕ, zero, suc, ◌+◌, ◌≤◌, ◌<◌, Bool, true, false, cond, ◌||◌, ◌&&◌, ◌==◌, not, nat_lt, ◌⊎◌, inl, inr, List, [], ◌∷◌, ◌++◌, map, filter, length, count_by, refl, ap, sym, subst, arith}
-use Rattle.std.specs.Prelude.{if◌then◌else◌}
+use Rattle.std.proofs.Common.{◌≡◌, ◌∙◌, ℕ, ◌+◌, ◌≤◌, ◌<◌, Bool, true, false, cond, ◌||◌, ◌&&◌, ◌==◌, not, nat_lt, ◌⊎◌, inl, inr, List, [], ◌∷◌, map, filter, length, count_by, refl, ap, sym, subst, arith}
 use Rattle.std.specs.List.{All, list_any}
 use Rattle.std.proofs.lemmas.Bool.{false≢true}
 use Rattle.std.proofs.lemmas.List.{length-map}
 use Rattle.std.proofs.lemmas.List.Sums.{length-filter}
 use Rattle.ept_point.specs.declared.point.Point.{Point}
 use Rattle.ept_space.specs.declared.cube.Rules.{Rules}
-use Rattle.ept_space.specs.VoxelKey.{VoxelKey}
-use Rattle.ept_space.specs.OctreeCube.{InBox}
+use Rattle.ept_space.specs.VoxelKey.{VoxelKey, IsKey}
+use Rattle.ept_space.specs.OctreeCube.{InBox, InCube, IsCube}
+use Rattle.ept_space.proofs.PlaceKeys.{InCube-box}
+use Rattle.ept_point.specs.Order.{IsAscending}
 use Rattle.ept_sample.specs.Place.{place}
 use Rattle.ept_sample.specs.Ids.{comes_before, same_id, HasDistinctIds, placed_by_id, in_id_order}
 use Rattle.ept_sample.specs.Rank.{beats}
 use Rattle.ept_sample.specs.Arrivals.{loses, octant, losers, overflows, is_open, leaves, kept, sent}
-use Rattle.ept_sample.proofs.Members.{IsMember, IsMember-filter, all-member, All-members}
+use Rattle.ept_sample.proofs.Members.{IsMember, IsMember-filter, all-member, All-members, member-map}
 use Rattle.ept_sample.proofs.Best.{either, not_both}
 use Rattle.ept_sample.proofs.RankLaws.{beats-self}
 use Rattle.ept_sample.proofs.ArrivalLaws.{loses-IsPermutation, loses-kept}
-use Rattle.ept_sample.proofs.IdLaws.{IsPermutation-placed, id_order, comes_before-total, same_id-sym, HasDistinctIds-head, HasDistinctIds-tail, in_id_order-IsRising}
+use Rattle.ept_sample.proofs.IdLaws.{IsPermutation-placed, id_order, comes_before-total, same_id-sym, HasDistinctIds-head, HasDistinctIds-tail, in_id_order-IsRising, IsAscending-IsRising}
 use Rattle.ept_sample.proofs.Ascending.{IsRising}
 use Rattle.ept_grid.specs.declared.slot.Slot.{Slot}
 use Rattle.ept_grid.specs.Mask.{opened}
-use Rattle.ept_grid.specs.Slots.{points_of, goes, goes_to, loses_in, has_too_many, marked, put, IsTold, IsInIdOrder, IsNode}
+use Rattle.ept_grid.specs.Slots.{points_of, goes, goes_to, loses_in, has_too_many, marked, put, IsTold, IsInIdOrder, IsNode, AreInCube}
 use Rattle.ept_grid.proofs.SlotLaws.{loses-points_of}
 
 -- ---- slots and their points
@@ -265,3 +266,78 @@ IsNode-kept key rules mask mask' slots full p node join inside opens deepest = r
       loses = told.loses ∙ sym (loses-kept rules key.depth (opened mask) (placed_by_id p (points_of slots)) s.point) ∙ ap (λ (w : List Point). loses rules key.depth w s.point) (sym same);
       octant = told.octant;
     }
+
+pub IsNode-none : (key : VoxelKey) (rules : Rules) → key.depth ≤ rules.cube.depth → IsNode key rules [] 0
+unfolding IsInIdOrder
+IsNode-none key rules low = record {
+  low = low;
+  inside = All-members (λ s. InBox rules.cube key (place s.point)) [] (λ s m. absurd m);
+  told = All-members (IsTold rules key.depth []) [] (λ s m. absurd m);
+  in_order = tt;
+  deepest = λ e. refl;
+}
+
+-- ---- the steps of an arrival together
+
+inside_new : (key : VoxelKey) (rules : Rules) (p : Point) (slots : List Slot) (s t : Slot) → All (λ r. InBox rules.cube key (place r.point)) slots → s.point ≡ p → InBox rules.cube key (place p) → (s ≡ t) ⊎ IsMember t (map (marked rules key.depth p) slots) → InBox rules.cube key (place t.point)
+unfolding marked
+inside_new key rules p slots s t inside is here (inl same) =
+    subst (λ (q : Point). InBox rules.cube key (place q)) (sym is ∙ ap (λ (w : Slot). w.point) same) here
+inside_new key rules p slots s t inside is here (inr m) =
+    let r = IsMember-marked rules key.depth p t slots m in
+    subst (λ (w : Slot). InBox rules.cube key (place w.point)) r.2 (all-member (λ w. InBox rules.cube key (place w.point)) r.0 slots inside r.1)
+
+-- the slots with the new one, and the octants that are open then
+pub record IsTaken (key : VoxelKey) (rules : Rules) (mask mask' : ℕ) (p : Point) (slots full : List Slot) : Type 0 where
+  pub join : IsJoined rules key.depth p slots full
+  pub inside : (s : Slot) → IsMember s full → InBox rules.cube key (place s.point)
+  pub opens : (o : ℕ) → o < 8 → opened mask' o ≡ is_open rules key.depth (opened mask) (placed_by_id p (points_of slots)) o
+  pub deepest : rules.cube.depth ≤ key.depth → mask' ≡ mask
+
+pub taken : (key : VoxelKey) (rules : Rules) (mask mask' depth : ℕ) (p : Point) (slots seen with_marks full seen' : List Slot) (s : Slot) → IsNode key rules slots mask → InBox rules.cube key (place p) → depth ≡ key.depth → seen ≡ slots → s.point ≡ p → s.octant ≡ octant rules depth p → s.loses ≡ list_any (λ t. beats rules depth t.point p) seen → with_marks ≡ map (marked rules depth p) slots → full ≡ put s with_marks → seen' ≡ full → ((o : ℕ) → o < 8 → opened mask' o ≡ (opened mask o || has_too_many rules depth seen' o)) → (rules.cube.depth ≤ depth → mask' ≡ mask) → IsTaken key rules mask mask' p slots full
+taken key rules mask mask' depth p slots seen with_marks full seen' s node here is_depth is_seen is_p is_octant is_loses is_marks is_full is_seen' opens deepest =
+    let at_depth : with_marks ≡ map (marked rules key.depth p) slots = is_marks ∙ ap (λ (d : ℕ). map (marked rules d p) slots) is_depth in
+    let is_put : put s (map (marked rules key.depth p) slots) ≡ full = sym (is_full ∙ ap (λ (w : List Slot). put s w) at_depth) in
+    let new : Arrives rules key.depth p slots s = record {
+      point = is_p;
+      octant = is_octant ∙ ap (λ (d : ℕ). octant rules d p) is_depth;
+      loses = is_loses ∙ ap (λ (w : List Slot). list_any (λ t. beats rules depth t.point p) w) is_seen ∙ ap (λ (d : ℕ). list_any (λ t. beats rules d t.point p) slots) is_depth;
+    } in
+    let join : IsJoined rules key.depth p slots full = subst (λ (w : List Slot). IsJoined rules key.depth p slots w) is_put (joined rules key.depth p slots s node.told new) in
+    record {
+      join = join;
+      inside = λ t m. inside_new key rules p slots s t node.inside is_p here (IsMember-put t s (map (marked rules key.depth p) slots) (subst (λ (w : List Slot). IsMember t w) (sym is_put) m));
+      opens = λ o h. open-afterwards rules key.depth o (opened mask) (opened mask' o) (placed_by_id p (points_of slots)) full join.points join.told (opens o h ∙ ap (λ (w : List Slot). opened mask o || has_too_many rules depth w o) is_seen' ∙ ap (λ (d : ℕ). opened mask o || has_too_many rules d full o) is_depth);
+      deepest = λ h. deepest (omega (arith, h, is_depth));
+    }
+
+pub points-leave : (rules : Rules) (depth mask : ℕ) (was : ℕ → Bool) (given : List Point) (full : List Slot) → points_of full ≡ given → ((s : Slot) → IsMember s full → IsTold rules depth given s) → ((o : ℕ) → o < 8 → opened mask o ≡ is_open rules depth was given o) → points_of (filter (goes mask) full) ≡ filter (leaves rules depth was given) given
+points-leave rules depth mask was given full is told opens =
+    points_of-filter (goes mask) (leaves rules depth was given) full (λ s m. goes-leaves rules depth mask was given s (told s m) opens) ∙ ap (λ (w : List Point). filter (leaves rules depth was given) w) is
+
+long_step : (q r : Point) (points : List Point) (b : Bool) → length (placed_by_id q points) ≡ length points + 1 → length (cond b (q ∷ r ∷ points) (r ∷ placed_by_id q points)) ≡ length (r ∷ points) + 1
+long_step q r points true more = omega arith
+long_step q r points false more = omega (arith, more)
+
+pub length-placed : (q : Point) (points : List Point) → length (placed_by_id q points) ≡ length points + 1
+length-placed q [] = omega arith
+length-placed q (r ∷ points) = long_step q r points (comes_before q r) (length-placed q points)
+
+-- how many points there are with the new one
+pub length-joined : (rules : Rules) (depth : ℕ) (p : Point) (slots full : List Slot) → IsJoined rules depth p slots full → length full ≡ length (points_of slots) + 1
+length-joined rules depth p slots full join =
+    sym (length-map full (λ s. s.point)) ∙ ap (λ (w : List Point). length w) join.points ∙ length-placed p (points_of slots)
+
+-- the points of a node lie in the cube
+pub slots-in-cube : (key : VoxelKey) (rules : Rules) (slots : List Slot) (mask : ℕ) → IsKey key → IsCube rules.cube → IsNode key rules slots mask → AreInCube rules.cube slots
+unfolding AreInCube
+slots-in-cube key rules slots mask is_key is_cube node =
+    All-members (λ s. InCube rules.cube (place s.point)) slots (λ s m. InCube-box rules.cube key (place s.point) is_key (omega (arith, node.low, is_cube.cells_whole)) (all-member (λ r. InBox rules.cube key (place r.point)) s slots node.inside m))
+
+-- what holds of the points of a node
+pub inside-points : (key : VoxelKey) (rules : Rules) (slots : List Slot) → All (λ s. InBox rules.cube key (place s.point)) slots → All (λ q. InBox rules.cube key (place q)) (points_of slots)
+inside-points key rules slots inside =
+    All-members (λ q. InBox rules.cube key (place q)) (points_of slots) (λ q m. let r = member-map (λ (s : Slot). s.point) q slots m in subst (λ (w : Point). InBox rules.cube key (place w)) r.2 (all-member (λ s. InBox rules.cube key (place s.point)) r.0 slots inside r.1))
+
+pub ascending-points : (points : List Point) → HasDistinctIds points → IsInIdOrder points → IsAscending points
+ascending-points points once up = IsAscending-IsRising points (rising points once up)

@@ -3,3 +3,5 @@ pub mod OctantLaws
 pub mod SlotLaws
 pub mod Arriving
 pub mod Room
+pub mod Leavings
+pub mod Arrived

@@ -1,5 +1,5 @@
 -- The octant of a point from its cell.
-use Rattle.std.proofs.Common.{◌≡◌, ◌∙◌, ℕ, ◌+◌, ◌-◌, ◌*◌, ◌/◌, ◌%◌, ◌^◌, ◌<◌, ◌≤◌, List, refl, sym, ap, arith, get_or}
+use Rattle.std.proofs.Common.{◌≡◌, ◌∙◌, ℕ, ◌+◌, ◌-◌, ◌*◌, ◌/◌, ◌%◌, ◌^◌, ◌≤◌, List, sym, ap, arith, get_or}
 use Rattle.ept_space.specs.Place.{Place}
 use Rattle.ept_space.specs.VoxelKey.{octant_of}
 use Rattle.ept_space.specs.OctreeCube.{OctreeCube, offset, cell_at, key_at, octant_at, box_side}

@@ -1,6 +1,6 @@
 -- Room for arrivals.
-use Rattle.std.proofs.Common.{◌≡◌, ◌∙◌, ℕ, zero, suc, ◌+◌, ◌-◌, ◌≤◌, ◌<◌, List, [], ◌∷◌, length, refl, sym, ap, arith, get_or}
-use Rattle.std.specs.Prelude.{min}
+use Rattle.std.proofs.Common.{◌≡◌, ℕ, zero, suc, ◌+◌, ◌≤◌, ◌<◌, List, [], ◌∷◌, length, ap, arith}
+use Rattle.std.specs.Prelude.{Result, Ok, Err, OnOk}
 use Rattle.ept_grid.specs.Outgoing.{Leaving, leaving_at}
 use Rattle.ept_grid.specs.Node.{Node, least_room, spare}
 
@@ -54,3 +54,8 @@ unfolding spare
 spare-more node before after len each =
     let less : least_room (node.room + length node.points) before ≤ least_room (node.room + length node.points) after + 0 = least-less (node.room + length node.points) 0 before after len (λ o h. omega (arith, each o h)) in
     omega (arith, less)
+
+-- what an answer says, where it is Ok
+pub on-ok : {A B : Type 0} (r : Result A B) (P Q : Type 0) → (P → Q) → OnOk r P → OnOk r Q
+on-ok (Ok v) P Q f h = f h
+on-ok (Err e) P Q f h = h

@@ -1,10 +1,11 @@
 -- The points of a node as it keeps them.
-use Rattle.std.proofs.Common.{◌≡◌, ◌≢◌, ◌∙◌, ℕ, zero, suc, ◌+◌, ◌≤◌, ◌<◌, Bool, true, false, cond, ◌||◌, ◌&&◌, ◌==◌, not, nat_lt, ◌⊎◌, inl, inr, List, [], ◌∷◌, ◌++◌, map, filter, take, length, get_or, refl, ap, sym, subst, arith, append_assoc, eq-eqb}
+use Rattle.std.proofs.Common.{◌≡◌, ◌≢◌, ◌∙◌, ℕ, suc, ◌+◌, ◌≤◌, ◌<◌, Bool, true, false, cond, ◌||◌, ◌&&◌, ◌==◌, not, nat_lt, inl, inr, List, [], ◌∷◌, ◌++◌, map, filter, take, length, count_by, get_or, refl, ap, sym, subst, arith, append_assoc}
 use Rattle.std.proofs.lemmas.List.{length-take}
 use Rattle.std.proofs.lemmas.List.Elements.{filter_more}
 use Rattle.std.proofs.lemmas.Bool.{false≢true}
 use Rattle.std.proofs.lemmas.Bool.Decides.{nat_tests}
-use Rattle.std.specs.Prelude.{insert, unwrap_or, position, IfSome, Result, Ok, Err, IsOk, is_ok, Option, Some, None, if◌then◌else◌}
+use borrow.Author.Tests.{ltb-true}
+use Rattle.std.specs.Prelude.{insert, unwrap_or, position, IfSome, Result, Ok, Err, IsOk, is_ok, Option, Some, None}
 use Rattle.std.specs.List.{list_any, position_or_len}
 use Rattle.ept_point.specs.declared.point.Point.{Point}
 use Rattle.ept_space.specs.declared.cube.Rules.{Rules}
@@ -12,10 +13,11 @@ use Rattle.ept_sample.specs.Ids.{comes_before}
 use Rattle.ept_sample.specs.Rank.{beats}
 use Rattle.ept_sample.specs.Arrivals.{loses}
 use Rattle.ept_sample.proofs.Best.{either}
-use Rattle.ept_sample.proofs.RankLaws.{and_left, and_right, and_both}
+use Rattle.ept_sample.proofs.IdLaws.{count_by-append}
+use Rattle.ept_sample.proofs.RankLaws.{and_left, and_both}
 use Rattle.ept_grid.specs.declared.slot.Slot.{Slot}
 use Rattle.ept_grid.specs.Mask.{opened}
-use Rattle.ept_grid.specs.Outgoing.{Leaving, leaving_at, points_at}
+use Rattle.ept_grid.specs.Outgoing.{Leaving, leaving_at, points_at, all_points}
 use Rattle.ept_grid.specs.Slots.{points_of, goes, goes_to, marked, put, has_too_many}
 
 -- ---- who loses
@@ -102,9 +104,32 @@ below_more o k false b many e =
     none true = refl
     none false = refl
 
-pub overflow-more : (rules : Rules) (depth : ℕ) (slots : List Slot) (mask now next k : ℕ) (b : Bool) → b ≡ has_too_many rules depth slots k → ((o : ℕ) → opened next o ≡ (opened now o || ((o == k) && b))) → ((o : ℕ) → opened now o ≡ (opened mask o || (nat_lt o k && has_too_many rules depth slots o))) → (o : ℕ) → opened next o ≡ (opened mask o || (nat_lt o (k + 1) && has_too_many rules depth slots o))
-overflow-more rules depth slots mask now next k b is set before o =
-    set o ∙ ap (λ (c : Bool). c || ((o == k) && b)) (before o) ∙ below_more o k (opened mask o) b (has_too_many rules depth slots o) (λ e. ap (λ (n : ℕ). has_too_many rules depth slots n) (let same : o ≡ k = grind (arith, nat_tests) in same) ∙ sym is)
+-- the octants up to one that has too many losers, and up to one that has not
+pub overflow-set : (rules : Rules) (depth : ℕ) (slots : List Slot) (mask now next k : ℕ) → has_too_many rules depth slots k ≡ true → ((o : ℕ) → opened next o ≡ (opened now o || (o == k))) → ((o : ℕ) → opened now o ≡ (opened mask o || (nat_lt o k && has_too_many rules depth slots o))) → (o : ℕ) → opened next o ≡ (opened mask o || (nat_lt o (k + 1) && has_too_many rules depth slots o))
+overflow-set rules depth slots mask now next k many set before o =
+    set o ∙ ap (λ (c : Bool). c || (o == k)) (before o) ∙ ap (λ (c : Bool). (opened mask o || (nat_lt o k && has_too_many rules depth slots o)) || c) (sym (and_true (o == k))) ∙ below_more o k (opened mask o) true (has_too_many rules depth slots o) (λ e. ap (λ (n : ℕ). has_too_many rules depth slots n) (let same : o ≡ k = grind (arith, nat_tests) in same) ∙ many)
+  where
+    and_true : (c : Bool) → (c && true) ≡ c
+    and_true true = refl
+    and_true false = refl
+
+pub overflow-left : (rules : Rules) (depth : ℕ) (slots : List Slot) (mask now k : ℕ) → has_too_many rules depth slots k ≡ false → ((o : ℕ) → opened now o ≡ (opened mask o || (nat_lt o k && has_too_many rules depth slots o))) → (o : ℕ) → opened now o ≡ (opened mask o || (nat_lt o (k + 1) && has_too_many rules depth slots o))
+overflow-left rules depth slots mask now k few before o =
+    before o ∙ sym (or_none (opened mask o || (nat_lt o k && has_too_many rules depth slots o))) ∙ ap (λ (c : Bool). (opened mask o || (nat_lt o k && has_too_many rules depth slots o)) || c) (sym (and_none (o == k))) ∙ below_more o k (opened mask o) false (has_too_many rules depth slots o) (λ e. ap (λ (n : ℕ). has_too_many rules depth slots n) (let same : o ≡ k = grind (arith, nat_tests) in same) ∙ few)
+  where
+    or_none : (c : Bool) → (c || false) ≡ c
+    or_none true = refl
+    or_none false = refl
+
+    and_none : (c : Bool) → (c && false) ≡ false
+    and_none true = refl
+    and_none false = refl
+
+-- none has too many at the greatest depth
+pub too_many-above : (rules : Rules) (depth : ℕ) (slots : List Slot) (o : ℕ) → has_too_many rules depth slots o ≡ true → rules.cube.depth ≤ depth → ⊥
+unfolding has_too_many
+too_many-above rules depth slots o e h =
+    let above : depth < rules.cube.depth = ltb-true depth rules.cube.depth (and_left _ _ e) in omega (arith, above, h)
 
 -- ---- what is sent
 
@@ -183,3 +208,22 @@ filter-short test (s ∷ slots) = step_short (test s) s (filter test slots) slot
 pub room-left : (mask : ℕ) (slots : List Slot) (i o : ℕ) (old now : List Leaving) → i < length slots → length slots ≤ (leaving_at old o).room → IsSentTo mask (take i slots) o old now → 0 < (leaving_at now o).room
 room-left mask slots i o old now h room sent =
     omega (arith, h, room, sent.room, filter-short (goes_to mask o) (take i slots), length-take i slots)
+
+-- one more point leaves
+pub count-more : (test : Point → Bool) (mask : ℕ) (slots : List Slot) (i : ℕ) (s : Slot) (b : Bool) → i < length slots → s ≡ get_or slots i s → goes mask s ≡ b → count_by test (points_of (filter (goes mask) (take (i + 1) slots))) ≡ count_by test (points_of (filter (goes mask) (take i slots))) + count_by test (cond b (s.point ∷ []) [])
+count-more test mask slots i s b h is e =
+    ap (λ (w : List Slot). count_by test (points_of w)) (filter-took (goes mask) slots i s h is) ∙ ap (λ (w : List Point). count_by test w) (points_of-append (filter (goes mask) (take i slots)) (cond (goes mask s) (s ∷ []) [])) ∙ count_by-append test (points_of (filter (goes mask) (take i slots))) (points_of (cond (goes mask s) (s ∷ []) [])) ∙ ap (λ (w : List Point). count_by test (points_of (filter (goes mask) (take i slots))) + count_by test w) (one (goes mask s) b e)
+  where
+    one : (c d : Bool) → c ≡ d → points_of (cond c (s ∷ []) []) ≡ cond d (s.point ∷ []) []
+    one true true e = refl
+    one true false e = absurd (false≢true (sym e))
+    one false true e = absurd (false≢true e)
+    one false false e = refl
+
+pub together-more : (test : Point → Bool) (mask : ℕ) (slots : List Slot) (i : ℕ) (s : Slot) (old now new : List Leaving) → i < length slots → s ≡ get_or slots i s → goes mask s ≡ true → count_by test (all_points new) ≡ count_by test (all_points now) + count_by test (s.point ∷ []) → count_by test (all_points now) ≡ count_by test (all_points old) + count_by test (points_of (filter (goes mask) (take i slots))) → count_by test (all_points new) ≡ count_by test (all_points old) + count_by test (points_of (filter (goes mask) (take (i + 1) slots)))
+together-more test mask slots i s old now new h is e more before =
+    omega (arith, more, before, count-more test mask slots i s true h is e)
+
+pub together-same : (test : Point → Bool) (mask : ℕ) (slots : List Slot) (i : ℕ) (s : Slot) (old now : List Leaving) → i < length slots → s ≡ get_or slots i s → goes mask s ≡ false → count_by test (all_points now) ≡ count_by test (all_points old) + count_by test (points_of (filter (goes mask) (take i slots))) → count_by test (all_points now) ≡ count_by test (all_points old) + count_by test (points_of (filter (goes mask) (take (i + 1) slots)))
+together-same test mask slots i s old now h is e before =
+    omega (arith, before, count-more test mask slots i s false h is e)

@@ -1,7 +1,6 @@
 -- The points that leave a node, by octant.
-use Rattle.std.specs.Prelude.{ℕ, List, [], ◌∷◌, slice_index_or}
+use Rattle.std.specs.Prelude.{ℕ, List, [], slice_index_or}
 use Rattle.std.specs.List.{flat_map}
-
 use Rattle.ept_point.specs.declared.point.Point.{Point}
 
 -- the points that leave for one octant, and for how many more there is room

@@ -7,6 +7,7 @@ mod octants;
 mod outgoing;
 mod slot;
 mod slots;
+mod taking;
 
 pub use grid::Grid;
 pub use octants::OCTANTS;

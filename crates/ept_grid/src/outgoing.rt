@@ -20,8 +20,8 @@ impl Model for Lane {
     ghost Value = { Leaving };
 
     ghost view = { λ lane. record {
-        points = lane.points.items;
-        room = vec_capacity lane.points - vec_len lane.points;
+      points = lane.points.items;
+      room = vec_capacity lane.points - vec_len lane.points;
     } };
 }
 
@@ -84,7 +84,8 @@ impl Model for Outgoing {
 }
 
 impl Outgoing {
-    ghost use Rattle.ept_grid.specs.Outgoing.{Leaving, leaving_at, points_at};
+    ghost use Rattle.ept_grid.specs.Outgoing.{leaving_at, points_at, all_points};
+    ghost use Rattle.ept_grid.specs.Node.{Node, spare};
 
     /// No points. It takes no memory.
     pub fn new(alloc: Global) -> Outgoing
@@ -112,6 +113,13 @@ impl Outgoing {
         self.lanes[octant as usize].as_slice()
     }
 
+    /// Tells a proof that there is a list for each octant.
+    pub(crate) fn known(&self)
+        ensures { length self.now ≡ 8 }
+    {
+        let _lanes = &self.lanes;
+    }
+
     /// Adds a point to the list of an octant that has room for it. It takes no memory.
     pub(crate) fn push(&mut self, octant: u8, point: Point)
         requires one_of_eight { octant < OCTANTS }
@@ -119,7 +127,31 @@ impl Outgoing {
         ensures added { points_at self.new octant ≡ points_at self.old octant ++ point ∷ [] }
         ensures room { (leaving_at self.old octant).room ≡ (leaving_at self.new octant).room + 1 }
         ensures others { (o : ℕ) → o ≢ octant → leaving_at self.new o ≡ leaving_at self.old o }
+        ensures eight { length self.new ≡ length self.old }
     {
         self.lanes[octant as usize].push(point);
+    }
+
+    /// Makes room in each list for so many more points. The points stay, whatever the answer.
+    pub(crate) fn reserve(&mut self, more: usize) -> Result<(), Memory>
+        ensures points { (o : ℕ) → points_at self.new o ≡ points_at self.old o }
+        ensures eight { length self.new ≡ length self.old }
+        ensures room { OnOk result ((o : ℕ) → o < OCTANTS → more ≤ (leaving_at self.new o).room) }
+    {
+        for lane in self.lanes.iter_mut() {
+            lane.reserve(more)?;
+        }
+        Ok(())
+    }
+
+    /// Takes the points away. The room stays, and this takes no memory.
+    pub fn clear(&mut self)
+        ensures points { (o : ℕ) → points_at self.new o ≡ [] }
+        ensures all { all_points self.new ≡ [] }
+        ensures spare { (node : Node) → spare node self.old ≤ spare node self.new }
+    {
+        for lane in self.lanes.iter_mut() {
+            lane.clear();
+        }
     }
 }

@@ -1,19 +1,20 @@
 //! The points of a node as it keeps them.
 
-ghost use Rattle.std.specs.Prelude.{◌≡◌, ◌<◌, ◌≤◌, ◌+◌, ℕ, not, ◌||◌, ◌++◌, filter, map, count_by, length, position, IfSome, vec_len, vec_capacity};
+ghost use Rattle.std.specs.Prelude.{◌≡◌, ◌<◌, ◌≤◌, ◌+◌, ℕ, Bool, not, ◌||◌, ◌++◌, filter, map, count_by, length, position, IfSome, OnOk, OnErr, vec_len, vec_capacity};
+ghost use Rattle.ept_point.specs.declared.point.Point.{Point};
 ghost use Rattle.ept_space.specs.OctreeCube.{InCube};
 ghost use Rattle.ept_sample.specs.Place.{place};
 ghost use Rattle.ept_sample.specs.Ids.{comes_before};
 ghost use Rattle.std.specs.List.{list_any};
 ghost use Rattle.ept_sample.specs.Rank.{beats};
 ghost use Rattle.ept_grid.specs.Mask.{opened};
-ghost use Rattle.ept_grid.specs.Outgoing.{leaving_at, points_at};
+ghost use Rattle.ept_grid.specs.Outgoing.{leaving_at, points_at, all_points};
 ghost use Rattle.ept_grid.specs.Slots.{points_of, AreInCube, goes, goes_to, loses_in, has_too_many, marked, put};
 
 use crate::octants::{OCTANTS, is_open, with_open};
 use crate::outgoing::Outgoing;
 use crate::slot::Slot;
-use ept_point::Point;
+use ept_point::{Memory, Point};
 use ept_sample::beats;
 use ept_space::Rules;
 
@@ -32,11 +33,13 @@ pub(crate) fn is_beaten(rules: &Rules, depth: u8, slots: &[Slot], point: &Point)
 
 /// Notes that the points that this one beats lose.
 #[tactic(auto, unfolding(crate::specs::Slots::AreInCube))]
-pub(crate) fn mark_beaten(rules: &Rules, depth: u8, slots: &mut [Slot], point: &Point)
+pub(crate) fn mark_beaten(rules: &Rules, depth: u8, slots: &mut Vec<Slot>, point: &Point)
     requires low { depth ≤ rules.now.cube.depth }
-    requires slots_inside { AreInCube rules.now.cube slots.old }
+    requires slots_inside { AreInCube rules.now.cube slots.old.items }
     requires inside { InCube rules.now.cube (place point.now) }
-    ensures { slots.new ≡ map (marked rules.now depth point.now) slots.old }
+    ensures items { slots.new.items ≡ map (marked rules.now depth point.now) slots.old.items }
+    ensures room { vec_capacity slots.new ≡ vec_capacity slots.old }
+    ensures len { vec_len slots.new ≡ vec_len slots.old }
 {
     for slot in slots.iter_mut() {
         mark(rules, depth, slot, point);
@@ -78,8 +81,7 @@ fn first_after(slots: &[Slot], point: &Point) -> Option<usize>
 fn stands_before(first: &Point, second: &Point) -> bool
     ensures { result ≡ comes_before first.now second.now }
 {
-    first.origin < second.origin
-        || (first.origin == second.origin && first.number < second.number)
+    first.origin < second.origin || (first.origin == second.origin && first.number < second.number)
 }
 
 /// Whether an octant of a node above the greatest depth has more losers than the threshold.
@@ -97,6 +99,7 @@ pub(crate) fn has_too_many(rules: &Rules, depth: u8, slots: &[Slot], octant: u8)
 
 /// The open octants, with those that have too many losers.
 pub(crate) fn with_overflowing(rules: &Rules, depth: u8, slots: &[Slot], mask: u8) -> u8
+    ensures deepest { rules.now.cube.depth ≤ depth → result ≡ mask }
     ensures opens { (o : ℕ) → o < OCTANTS → opened result o ≡ (opened mask o || has_too_many rules.now depth slots.now o) }
 {
     let mut opened = mask;
@@ -115,7 +118,13 @@ pub(crate) fn send(slots: &[Slot], mask: u8, out: &mut Outgoing)
         points_at out.new o ≡ points_at out.old o ++ points_of (filter (goes_to mask o) slots.now) }
     ensures room { (o : ℕ) → o < OCTANTS →
         (leaving_at out.old o).room ≡ (leaving_at out.new o).room + length (filter (goes_to mask o) slots.now) }
+    ensures eight { length out.old ≡ 8 }
+    ensures still_eight { length out.new ≡ 8 }
+    ensures together { (test : Point → Bool) →
+        count_by test (all_points out.new)
+        ≡ count_by test (all_points out.old) + count_by test (points_of (filter (goes mask) slots.now)) }
 {
+    out.known();
     for slot in slots {
         if slot.leaves(mask) {
             out.push(slot.octant, slot.point);
@@ -129,4 +138,16 @@ pub(crate) fn drop_leaving(slots: &mut Vec<Slot>, mask: u8)
     ensures room { vec_capacity slots.new ≡ vec_capacity slots.old }
 {
     slots.retain(|slot| !slot.leaves(mask));
+}
+
+/// Appends the points. After `Memory` the list is as it was.
+pub(crate) fn append_points(slots: &[Slot], out: &mut Vec<Point>) -> Result<(), Memory>
+    ensures ok { OnOk result (out.new.items ≡ out.old.items ++ points_of slots.now) }
+    ensures err { OnErr result (out.new.items ≡ out.old.items) }
+{
+    out.reserve(slots.len())?;
+    for slot in slots {
+        out.push_reserved(slot.point);
+    }
+    Ok(())
 }

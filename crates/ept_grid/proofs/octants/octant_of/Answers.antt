@@ -1,4 +1,4 @@
-use Rattle.std.proofs.Common.{◌≡◌, ◌∙◌, ap, subst, arith, ℕ, ◌-◌, ◌+◌, ◌≤◌}
+use Rattle.std.proofs.Common.{◌≡◌, ◌∙◌, ap, subst, arith, ◌-◌}
 use Rattle.ept_space.specs.Place.{Place}
 use Rattle.ept_space.specs.OctreeCube.{IsCube, cell_at}
 use Rattle.ept_space.specs.declared.cube.Rules.{Rules}

@@ -5,6 +5,6 @@ use Rattle.ept_grid.proofs.slots.mark_beaten.Given as goal
 
 abbrev pub invariant-loop-slot : goal.invariant-loop-slot
 invariant-loop-slot l = record {
-  done : (k : ℕ) (d : Slot) → k < l.slot-index → get_or l.slots k d ≡ marked l.rules l.depth l.point (get_or l.initial.slots k d);
-  rest : (k : ℕ) (d : Slot) → l.slot-index ≤ k → get_or l.slots k d ≡ get_or l.initial.slots k d;
+  done : (k : ℕ) (d : Slot) → k < l.slot-index → get_or l.slot-items k d ≡ marked l.rules l.depth l.point (get_or l.initial.slot-items k d);
+  rest : (k : ℕ) (d : Slot) → l.slot-index ≤ k → get_or l.slot-items k d ≡ get_or l.initial.slot-items k d;
 }
