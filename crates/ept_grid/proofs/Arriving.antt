@@ -135,7 +135,7 @@ unfolding losers
 losers-count rules depth o given full is told =
     sym (length-filter (loses_in o) full) ∙ sym (length-map (filter (loses_in o) full) (λ s. s.point)) ∙ ap (λ (w : List Point). length w) (points_of-filter (loses_in o) (λ q. loses rules depth given q && (octant rules depth q == o)) full (λ s m. loses_in-told rules depth o given s (told s m))) ∙ ap (λ (w : List Point). length (filter (λ q. loses rules depth given q && (octant rules depth q == o)) w)) is
 
-too_many-overflows : (rules : Rules) (depth o : ℕ) (given : List Point) (full : List Slot) → points_of full ≡ given → ((s : Slot) → IsMember s full → IsTold rules depth given s) → has_too_many rules depth full o ≡ overflows rules depth given o
+pub too_many-overflows : (rules : Rules) (depth o : ℕ) (given : List Point) (full : List Slot) → points_of full ≡ given → ((s : Slot) → IsMember s full → IsTold rules depth given s) → has_too_many rules depth full o ≡ overflows rules depth given o
 unfolding has_too_many overflows
 too_many-overflows rules depth o given full is told =
     ap (λ (n : ℕ). nat_lt depth rules.cube.depth && nat_lt rules.threshold n) (losers-count rules depth o given full is told)
@@ -185,7 +185,7 @@ IsInIdOrder-filter test [] up = tt
 IsInIdOrder-filter test (p ∷ points) up =
     order_step test p points (test p) up.0 (IsInIdOrder-filter test points up.1)
 
-not_back : (p q : Point) → comes_before p q ≡ true → comes_before q p ≡ false
+pub not_back : (p q : Point) → comes_before p q ≡ true → comes_before q p ≡ false
 not_back p q e =
     elim (either (comes_before q p)) [
       | inl back ↦ absurd (not_both (comes_before p p) (id_order.goes_on p q p e back) (id_order.none_itself p))

@@ -5,3 +5,4 @@ pub mod Arriving
 pub mod Room
 pub mod Leavings
 pub mod Arrived
+pub mod TileLaws

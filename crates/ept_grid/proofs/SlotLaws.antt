@@ -133,7 +133,7 @@ too_many-above rules depth slots o e h =
 
 -- ---- what is sent
 
-points_of-append : (xs ys : List Slot) → points_of (xs ++ ys) ≡ points_of xs ++ points_of ys
+pub points_of-append : (xs ys : List Slot) → points_of (xs ++ ys) ≡ points_of xs ++ points_of ys
 points_of-append [] ys = refl
 points_of-append (x ∷ xs) ys = ap (λ (w : List Point). x.point ∷ w) (points_of-append xs ys)
 

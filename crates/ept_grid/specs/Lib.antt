@@ -2,3 +2,4 @@ pub mod Mask
 pub mod Outgoing
 pub mod Node
 pub mod Slots
+pub mod Tile

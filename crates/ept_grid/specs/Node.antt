@@ -18,6 +18,13 @@ pub record Node : Type 0 where
   pub mask : ℕ
   pub room : ℕ
 
+-- the node of a key and rules with these points and open octants
+pub record IsNodeOf (its_key : VoxelKey) (its_rules : Rules) (its_mask : ℕ) (its_points : List Point) (node : Node) : Type 0 where
+  pub key : node.key ≡ its_key
+  pub rules : node.rules ≡ its_rules
+  pub points : node.points ≡ its_points
+  pub mask : node.mask ≡ its_mask
+
 -- an octant of the node is open
 abbrev pub is_open_in : Node → ℕ → Bool
 is_open_in node o = opened node.mask o

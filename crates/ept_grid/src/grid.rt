@@ -1,6 +1,6 @@
 //! A node of the octree with its points.
 
-ghost use Rattle.std.specs.Prelude.{◌≡◌, ◌<◌, ◌≤◌, ◌+◌, ◌∷◌, [], ◌++◌, ℕ, Bool, IsTrue, OnOk, OnErr, length, count_by};
+ghost use Rattle.std.specs.Prelude.{◌≡◌, ◌≢◌, ◌<◌, ◌≤◌, ◌+◌, ◌∷◌, [], ◌++◌, ◌↔◌, ℕ, Bool, IsTrue, OnOk, OnErr, IfOk, IfErr, length, count_by};
 ghost use Rattle.ept_grid.specs.declared.octants.TheConstants.{OCTANTS};
 ghost use Rattle.ept_point.specs.declared.point.Point.{Point};
 ghost use Rattle.std.specs.List.{All};
@@ -9,12 +9,15 @@ ghost use Rattle.ept_space.specs.OctreeCube.{InBox};
 ghost use Rattle.ept_sample.specs.Place.{place};
 ghost use Rattle.ept_sample.specs.Ids.{HasDistinctIds};
 ghost use Rattle.ept_grid.specs.Outgoing.{points_at, all_points};
-ghost use Rattle.ept_grid.specs.Node.{is_open_in, SendsOn, TakesIn, spare};
+ghost use Rattle.ept_grid.specs.Tile.{IsTile, IsTileFault};
+ghost use Rattle.ept_grid.specs.Node.{IsNodeOf, SendsOn, TakesIn, spare};
 
+use crate::error::GridError;
 use crate::outgoing::Outgoing;
 use crate::slot::Slot;
 use crate::slots::append_points;
 use crate::taking::take_in;
+use crate::tile::{is_inside, slots_of_tile};
 use ept_point::{Memory, Point};
 use ept_space::{Key, Rules};
 use std::alloc::Global;
@@ -67,6 +70,30 @@ impl Grid {
         }
     }
 
+    /// The node of a key with these points and open octants, or the first cause why they are no node.
+    /// The ids ascend.
+    pub fn from_tile(
+        alloc: Global,
+        key: Key,
+        rules: &Rules,
+        mask: u8,
+        points: &[Point],
+    ) -> Result<Grid, GridError>
+        requires low { key.depth ≤ rules.now.cube.depth }
+        requires ascend { IsAscending points.now }
+        ensures node { IfOk result (λ grid. IsNodeOf key rules.now mask points.now grid) }
+        ensures tile { OnOk result (IsTile key rules.now mask points.now) }
+        ensures refused { IfErr result (λ e. e ≢ GridError.Memory → IsTileFault key rules.now mask points.now e) }
+    {
+        let slots = slots_of_tile(alloc, &key, rules, mask, points)?;
+        Ok(Grid {
+            key,
+            rules: *rules,
+            slots,
+            mask,
+        })
+    }
+
     /// Takes in a point, and gives out the points that leave. It takes no memory.
     pub fn arrive(&mut self, point: Point, out: &mut Outgoing)
         requires room { 1 ≤ spare self.old out.old }
@@ -116,6 +143,20 @@ impl Grid {
         ensures { result ≡ self.now.key }
     {
         self.key
+    }
+
+    /// The rules of the node's sampling.
+    pub fn rules(&self) -> &Rules
+        ensures { result.now ≡ self.now.rules }
+    {
+        &self.rules
+    }
+
+    /// Whether a point lies in the node's box.
+    pub fn is_inside(&self, point: &Point) -> bool
+        ensures { IsTrue result ↔ InBox self.now.rules.cube self.now.key (place point.now) }
+    {
+        is_inside(&self.key, &self.rules, point)
     }
 
     /// Makes room in the node and in what leaves it for so many arrivals. The points of both stay,

@@ -2,13 +2,18 @@
 //! leave, by octant.
 #![tactic(auto)]
 
+mod error;
 mod grid;
 mod octants;
 mod outgoing;
 mod slot;
 mod slots;
 mod taking;
+#[cfg(test)]
+mod tests;
+mod tile;
 
+pub use error::GridError;
 pub use grid::Grid;
 pub use octants::OCTANTS;
 pub use outgoing::Outgoing;
