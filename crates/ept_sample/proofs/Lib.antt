@@ -1,3 +1,4 @@
+pub mod Choices
 pub mod Members
 pub mod Ascending
 pub mod Best
@@ -9,3 +10,6 @@ pub mod SamplingLaws
 pub mod NodeLaws
 pub mod WalkLaws
 pub mod WalkNodes
+pub mod Batches
+pub mod Parts
+pub mod MorePoints

@@ -2,8 +2,8 @@
 --
 -- `given` are the points that a node of a depth was given so far: those that it has, and those that arrive.
 -- `was_open` says which of its octants were open before.
-use Rattle.std.specs.Prelude.{ℕ, Bool, false, ◌&&◌, ◌||◌, not, ◌==◌, nat_lt, List, length, filter}
-use Rattle.std.specs.List.{list_any}
+use Rattle.std.specs.Prelude.{ℕ, Bool, false, ◌&&◌, ◌||◌, not, ◌==◌, nat_lt, List, [], ◌∷◌, length, filter}
+use Rattle.std.specs.List.{list_any, flat_map}
 use Rattle.ept_point.specs.declared.point.Point.{Point}
 use Rattle.ept_space.specs.declared.cube.Rules.{Rules}
 use Rattle.ept_space.specs.OctreeCube.{octant_at}
@@ -48,3 +48,11 @@ sent rules depth was_open given o =
 -- no octant was open
 abbrev pub none_open : ℕ → Bool
 none_open o = false
+
+-- the octants of a box
+abbrev pub all_octants : List ℕ
+all_octants = 0 ∷ 1 ∷ 2 ∷ 3 ∷ 4 ∷ 5 ∷ 6 ∷ 7 ∷ []
+
+-- the points that leave the node, octant by octant
+abbrev pub all_sent : Rules → ℕ → (ℕ → Bool) → List Point → List Point
+all_sent rules depth was_open given = flat_map (sent rules depth was_open given) all_octants

@@ -5,3 +5,6 @@ pub mod Arrivals
 pub mod Sampling
 pub mod Nodes
 pub mod Walk
+pub mod BeatLaws
+pub mod ArrivalLaws
+pub mod SamplingLaws

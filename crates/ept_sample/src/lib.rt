@@ -6,6 +6,7 @@
 #![tactic(auto)]
 
 mod ids;
+mod laws;
 mod losing;
 mod place;
 mod rank;
@@ -15,6 +16,7 @@ mod tiles;
 mod top_down;
 
 pub use ids::ids_ascend;
+pub use laws::{arrival_law, batch_law, beat_law, node_law, point_law};
 pub use place::{are_in_cube, place_of};
 pub use rank::{Rank, beats, rank_of};
 pub use tiles::{Tile, Tiles};

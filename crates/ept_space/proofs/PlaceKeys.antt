@@ -5,11 +5,11 @@ use Rattle.std.proofs.lemmas.Int.{ints}
 use Rattle.std.proofs.lemmas.Nat.{pow_pos, shr_below}
 use Rattle.std.proofs.Math.Nat.{div-eq_of_lt}
 use Rattle.ept_space.specs.Place.{Place, coordinate}
-use Rattle.ept_space.specs.VoxelKey.{VoxelKey, IsKey, root, child, parent, octant_of, is_within}
+use Rattle.ept_space.specs.VoxelKey.{VoxelKey, IsKey, root, child, parent, octant_of, is_within, is_below}
 use Rattle.ept_space.specs.OctreeCube.{OctreeCube, IsCube, IsFrom, InBox, InCube, box_side, offset, key_at, octant_at}
 use Rattle.ept_space.proofs.Axis.{far, index-of-interval, interval-of-index, side-halves, index-halves, index-coarser}
 use Rattle.ept_space.proofs.Family.{same-parts, octant_of-child, child-parent, octant_of-below, depth-child}
-use Rattle.ept_space.proofs.Within.{is_within-from, depth-within, is_within-unique, is_within-child, is_within-root}
+use Rattle.ept_space.proofs.Within.{is_within-from, depth-within, is_within-unique, is_within-child, is_within-root, is_below-deeper, is_below-within}
 
 -- ---- the key at a depth
 
@@ -192,3 +192,12 @@ octant_at-child cube key octant place small inside =
     let deeper = depth-child key octant in
     let below = key_at-box cube (child key octant) place inside in
     sym (octant_of-key_at cube key.depth place) ∙ ap (λ d. octant_of (key_at cube d place)) (sym deeper) ∙ ap octant_of below ∙ octant_of-child key octant small
+
+-- below a key of a place, the keys of the place are within the child of its octant
+pub is_within-child_at : (cube : OctreeCube) (top : VoxelKey) (depth : ℕ) (place : Place) → is_below top (key_at cube depth place) ≡ true → depth ≤ cube.e → is_within (child top (octant_at cube top.depth place)) (key_at cube depth place) ≡ true
+is_within-child_at cube top depth place h deep =
+    let level = depth-key_at cube depth place in
+    let deeper = is_below-deeper top (key_at cube depth place) h in
+    let here = key_at-unique cube top depth place (is_below-within top (key_at cube depth place) h) deep in
+    let next : key_at cube (top.depth + 1) place ≡ child top (octant_at cube top.depth place) = key_at-suc cube top.depth place (omega arith) ∙ ap (λ k. child k (octant_at cube top.depth place)) here in
+    subst (λ k. is_within k (key_at cube depth place) ≡ true) next (is_within-key_at cube (top.depth + 1) depth place (omega arith) deep)

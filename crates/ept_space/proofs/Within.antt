@@ -5,7 +5,7 @@ use Rattle.std.proofs.Math.Nat.{div-eq_of_lt, div-div-eq-div-mul, pow-suc}
 use Rattle.ept_space.specs.VoxelKey.{VoxelKey, IsKey, root, child, parent, octant_of, ancestor, is_within, is_below, same_key}
 use Rattle.ept_space.specs.KeyLaws.{parents}
 use Rattle.ept_space.proofs.Axis.{index-coarser}
-use Rattle.ept_space.proofs.Family.{same-parts, child-parent, depth-parent}
+use Rattle.ept_space.proofs.Family.{same-parts, child-parent, depth-parent, depth-child, octant_of-child, octant_of-below}
 
 -- what being within says of the parts
 pub record IsWithin (top key : VoxelKey) : Type 0 where
@@ -205,3 +205,37 @@ unfolding ancestor
 parents-within top key h =
     let parts = IsWithin-from top key h in
     parents-ancestor (key.depth - top.depth) key ∙ same-parts _ _ (omega arith) parts.x_same parts.y_same parts.z_same
+
+-- ---- within a child
+
+-- what is within a child is below the key
+pub is_below-child : (key : VoxelKey) (octant : ℕ) (lower : VoxelKey) → is_within (child key octant) lower ≡ true → is_below key lower ≡ true
+is_below-child key octant lower h =
+    let deeper = depth-child key octant in
+    let low = depth-within (child key octant) lower h in
+    is_below-from key lower (is_within-trans key (child key octant) lower (is_within-child key octant) h) (omega arith)
+
+-- of one child alone
+pub is_within-one_child : (key lower : VoxelKey) (a b : ℕ) → a < 8 → b < 8 → is_within (child key a) lower ≡ true → is_within (child key b) lower ≡ true → a ≡ b
+is_within-one_child key lower a b small_a small_b in_a in_b =
+    let level : (child key a).depth ≡ (child key b).depth = depth-child key a ∙ sym (depth-child key b) in
+    let same = is_within-unique (child key a) (child key b) lower in_a in_b level in
+    sym (octant_of-child key a small_a) ∙ ap octant_of same ∙ octant_of-child key b small_b
+
+-- each key has an ancestor at each lesser depth
+pub is_within-ancestor : (n : ℕ) (key : VoxelKey) → n ≤ key.depth → is_within (ancestor n key) key ≡ true
+is_within-ancestor n key h = is_within-parents n (ancestor n key) key h (parents-ancestor n key)
+
+-- what is below a key is within one of its children
+pub is_within-some_child : (key lower : VoxelKey) → is_below key lower ≡ true → (octant : ℕ) × (octant < 8) × (is_within (child key octant) lower ≡ true)
+unfolding ancestor
+is_within-some_child key lower h =
+    let deeper = is_below-deeper key lower h in
+    let top = ancestor (lower.depth - key.depth - 1) lower in
+    let top_in = is_within-ancestor (lower.depth - key.depth - 1) lower (omega arith) in
+    let level : top.depth ≡ key.depth + 1 = omega arith in
+    let above : is_within (parent top) lower ≡ true = is_within-trans (parent top) top lower (is_within-parent top (omega arith)) top_in in
+    let up : (parent top).depth ≡ key.depth = depth-parent top ∙ omega arith in
+    let same = is_within-unique (parent top) key lower above (is_below-within key lower h) up in
+    let child_is : child key (octant_of top) ≡ top = ap (λ k. child k (octant_of top)) (sym same) ∙ child-parent top (omega arith) in
+    (octant_of top, octant_of-below top, subst (λ k. is_within k lower ≡ true) (sym child_is) top_in)

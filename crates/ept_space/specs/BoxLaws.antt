@@ -1,7 +1,7 @@
 -- What holds of the boxes, octants and keys of places. Each statement stands on the contract of a function of `laws`.
 use Rattle.std.specs.Prelude.{◌≡◌, ℕ, ◌+◌, ◌<◌, ◌≤◌, ◌↔◌, IsTrue}
 use Rattle.ept_space.specs.Place.{Place}
-use Rattle.ept_space.specs.VoxelKey.{VoxelKey, IsKey, root, child, parent, octant_of, is_within}
+use Rattle.ept_space.specs.VoxelKey.{VoxelKey, IsKey, root, child, parent, octant_of, is_within, is_below}
 use Rattle.ept_space.specs.OctreeCube.{OctreeCube, IsCube, InBox, InCube, key_at, octant_at}
 
 -- ---- the key of a place at a depth
@@ -45,6 +45,11 @@ KeysOfPlaceNest =
 abbrev pub AboveIsKeyOfPlace : Type 0
 AboveIsKeyOfPlace =
     (cube : OctreeCube) (top : VoxelKey) (depth : ℕ) (place : Place) → IsCube cube → depth ≤ cube.depth → IsTrue (is_within top (key_at cube depth place)) → key_at cube top.depth place ≡ top
+
+-- below one of them they are within its child of the octant that the place lies in
+abbrev pub BelowIsInItsOctant : Type 0
+BelowIsInItsOctant =
+    (cube : OctreeCube) (top : VoxelKey) (depth : ℕ) (place : Place) → IsCube cube → depth ≤ cube.depth → IsTrue (is_below top (key_at cube depth place)) → IsTrue (is_within (child top (octant_at cube top.depth place)) (key_at cube depth place))
 
 -- ---- boxes
 

@@ -68,6 +68,21 @@ OneOfEachDepth =
 abbrev pub RootHasAll : Type 0
 RootHasAll = (key : VoxelKey) → IsKey key → IsTrue (is_within root key)
 
+-- a key is below another exactly where it is within one of its children
+abbrev pub BelowIsInAChild : Type 0
+BelowIsInAChild =
+    (key lower : VoxelKey) → IsTrue (is_below key lower) ↔ ((octant : ℕ) × (octant < 8) × IsTrue (is_within (child key octant) lower))
+
+-- of one child alone
+abbrev pub ChildrenAreApart : Type 0
+ChildrenAreApart =
+    (key lower : VoxelKey) (a b : ℕ) → a < 8 → b < 8 → IsTrue (is_within (child key a) lower) → IsTrue (is_within (child key b) lower) → a ≡ b
+
+-- and exactly where its parent is within it
+abbrev pub BelowByParent : Type 0
+BelowByParent =
+    (top key : VoxelKey) → 0 < key.depth → IsTrue (is_below top key) ↔ IsTrue (is_within top (parent key))
+
 -- the test of equality
 abbrev pub SameKeyTells : Type 0
 SameKeyTells = (a b : VoxelKey) → IsTrue (same_key a b) ↔ (a ≡ b)

@@ -1,8 +1,8 @@
 //! The laws of keys, boxes and cells, each on the contract of a function that does nothing.
 
-ghost use Rattle.ept_space.specs.KeyLaws.{ChildHasParent, ChildHasOctant, ParentHasChild, EightOctants, ChildIsDeeper, ChildIsKey, ParentIsKey, OneRoot, WithinByParents, BelowIsDeeper, WithinItself, WithinAndOn, WithinInOrder, OneOfEachDepth, RootHasAll, SameKeyTells, KeysAreOrdered, LessIsBefore, EqualIsSame, ParentIsBefore, OneSpelling};
+ghost use Rattle.ept_space.specs.KeyLaws.{ChildHasParent, ChildHasOctant, ParentHasChild, EightOctants, ChildIsDeeper, ChildIsKey, ParentIsKey, OneRoot, WithinByParents, BelowIsDeeper, WithinItself, WithinAndOn, WithinInOrder, OneOfEachDepth, RootHasAll, BelowIsInAChild, ChildrenAreApart, BelowByParent, SameKeyTells, KeysAreOrdered, LessIsBefore, EqualIsSame, ParentIsBefore, OneSpelling};
 ghost use Rattle.ept_space.specs.CubeOfBounds.{BoundsAreInCube, BoundsHaveOneCube};
-ghost use Rattle.ept_space.specs.BoxLaws.{PlaceHasKey, PlaceHasOneKey, PlaceHasRoot, NextKeyIsChild, NextKeyHasParent, NextKeyHasOctant, PlaceHasOctant, KeysOfPlaceNest, AboveIsKeyOfPlace, RootBoxIsCube, BoxIsInCube, BoxesNest, ChildBoxIsInParent, PlaceHasChild, PlaceHasOneChild, ChildBoxesAreApart};
+ghost use Rattle.ept_space.specs.BoxLaws.{PlaceHasKey, PlaceHasOneKey, PlaceHasRoot, NextKeyIsChild, NextKeyHasParent, NextKeyHasOctant, PlaceHasOctant, KeysOfPlaceNest, AboveIsKeyOfPlace, BelowIsInItsOctant, RootBoxIsCube, BoxIsInCube, BoxesNest, ChildBoxIsInParent, PlaceHasChild, PlaceHasOneChild, ChildBoxesAreApart};
 ghost use Rattle.ept_space.specs.CellLaws.{PlaceHasCell, PlaceHasOneCell, SameCellTells, CellsNest, CellIsInOneBox, CellIsInOneOctant, DistanceIsSmall};
 
 /// Parents and children undo each other, and keys have keys as parents and children.
@@ -26,6 +26,9 @@ pub fn within_law()
     ensures in_order { WithinInOrder }
     ensures one_a_depth { OneOfEachDepth }
     ensures root_has_all { RootHasAll }
+    ensures in_a_child { BelowIsInAChild }
+    ensures in_one_child { ChildrenAreApart }
+    ensures below_by_parent { BelowByParent }
     ensures same_key { SameKeyTells }
 {}
 
@@ -59,6 +62,7 @@ pub fn place_law()
     ensures has_octant { PlaceHasOctant }
     ensures nest { KeysOfPlaceNest }
     ensures above { AboveIsKeyOfPlace }
+    ensures in_its_octant { BelowIsInItsOctant }
 {}
 
 /// A box is divided among the boxes of its eight children.

@@ -1,5 +1,5 @@
 use Rattle.std.proofs.Common.{arith}
-use Rattle.ept_space.proofs.PlaceKeys.{InBox-key_at, IsKey-key_at, depth-key_at, key_at-box, key_at-root, key_at-suc, parent-key_at, octant_of-key_at, octant_at-below, is_within-key_at, key_at-unique}
+use Rattle.ept_space.proofs.PlaceKeys.{InBox-key_at, IsKey-key_at, depth-key_at, key_at-box, key_at-root, key_at-suc, parent-key_at, octant_of-key_at, octant_at-below, is_within-key_at, key_at-unique, is_within-child_at}
 use Rattle.ept_space.proofs.laws.place_law.Goals as goal
 
 pub returns-clause-has_key : goal.returns-clause-has_key
@@ -31,3 +31,7 @@ returns-clause-nest c = λ cube upper lower place h order low.
 pub returns-clause-above : goal.returns-clause-above
 returns-clause-above c = λ cube top depth place h low inside.
     key_at-unique cube top depth place inside (omega arith)
+
+pub returns-clause-in_its_octant : goal.returns-clause-in_its_octant
+returns-clause-in_its_octant c = λ cube top depth place h low below.
+    is_within-child_at cube top depth place below (omega arith)

@@ -1,5 +1,5 @@
 use Rattle.std.proofs.Common.{◌-◌, arith}
-use Rattle.ept_space.proofs.Within.{is_within-parents, parents-within, is_below-within, is_below-deeper, is_below-from, is_within-self, is_within-trans, is_within-chain, is_within-unique, is_within-root, same_key-true, same_key-same}
+use Rattle.ept_space.proofs.Within.{is_within-parents, parents-within, is_below-within, is_below-deeper, is_below-from, is_within-self, is_within-trans, is_within-chain, is_within-unique, is_within-root, same_key-true, same_key-same, is_below-child, is_within-some_child, is_within-one_child, is_within-above, is_below-parent}
 use Rattle.ept_space.proofs.laws.within_law.Goals as goal
 
 pub returns-clause-by_parents : goal.returns-clause-by_parents
@@ -31,3 +31,14 @@ returns-clause-root_has_all c = is_within-root
 
 pub returns-clause-same_key : goal.returns-clause-same_key
 returns-clause-same_key c = λ a b. (same_key-true a b, same_key-same a b)
+
+pub returns-clause-in_a_child : goal.returns-clause-in_a_child
+returns-clause-in_a_child c = λ key lower.
+    (is_within-some_child key lower, (λ w. is_below-child key w.0 lower w.2))
+
+pub returns-clause-in_one_child : goal.returns-clause-in_one_child
+returns-clause-in_one_child c = is_within-one_child
+
+pub returns-clause-below_by_parent : goal.returns-clause-below_by_parent
+returns-clause-below_by_parent c = λ top key deep.
+    (is_within-above top key, (λ h. is_below-parent top key h deep))
