@@ -15,7 +15,7 @@ use Rattle.ept_sample.specs.Ids.{comes_before, same_id, HasDistinctIds, placed_b
 use Rattle.ept_sample.specs.Rank.{beats}
 use Rattle.ept_sample.specs.Arrivals.{loses, octant, losers, overflows, is_open, leaves, kept, sent}
 use Rattle.ept_sample.proofs.Members.{IsMember, IsMember-filter, all-member, All-members, member-map}
-use Rattle.ept_sample.proofs.Best.{either, not_both}
+use Rattle.ept_sample.proofs.Choices.{either, not_both}
 use Rattle.ept_sample.proofs.RankLaws.{beats-self}
 use Rattle.ept_sample.proofs.ArrivalLaws.{loses-IsPermutation, loses-kept}
 use Rattle.ept_sample.proofs.IdLaws.{IsPermutation-placed, id_order, comes_before-total, same_id-sym, HasDistinctIds-head, HasDistinctIds-tail, in_id_order-IsRising, IsAscending-IsRising}

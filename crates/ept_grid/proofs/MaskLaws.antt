@@ -3,7 +3,7 @@ use Rattle.std.proofs.Common.{◌≡◌, ◌∙◌, ℕ, ◌<◌, ◌/◌, ◌*�
 use Rattle.std.proofs.lemmas.Nat.Bits.{shr_and_one, bit_at_set_same, bit_at_set_other, bit_at-zero}
 use Rattle.std.specs.Int.{bit_at}
 use Rattle.std.proofs.lemmas.Bool.Decides.{nat_tests}
-use Rattle.ept_sample.proofs.Best.{either}
+use Rattle.ept_sample.proofs.Choices.{either}
 use Rattle.ept_grid.specs.Mask.{opened}
 
 pub opened-shift : (mask o : ℕ) → (bit_and (mask / 2 ^ o) 1 == 1) ≡ opened mask o

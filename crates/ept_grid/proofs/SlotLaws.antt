@@ -12,9 +12,9 @@ use Rattle.ept_space.specs.declared.cube.Rules.{Rules}
 use Rattle.ept_sample.specs.Ids.{comes_before}
 use Rattle.ept_sample.specs.Rank.{beats}
 use Rattle.ept_sample.specs.Arrivals.{loses}
-use Rattle.ept_sample.proofs.Best.{either}
+use Rattle.ept_sample.proofs.Choices.{either}
 use Rattle.ept_sample.proofs.IdLaws.{count_by-append}
-use Rattle.ept_sample.proofs.RankLaws.{and_left, and_both}
+use Rattle.ept_sample.proofs.Choices.{and_left, and_both}
 use Rattle.ept_grid.specs.declared.slot.Slot.{Slot}
 use Rattle.ept_grid.specs.Mask.{opened}
 use Rattle.ept_grid.specs.Outgoing.{Leaving, leaving_at, points_at, all_points}

@@ -1,8 +1,10 @@
 -- The points of a node from a tile.
 use Rattle.std.proofs.Common.{◌≡◌, ◌≢◌, ◌∙◌, ℕ, zero, suc, ◌+◌, ◌≤◌, ◌<◌, Bool, true, false, cond, ◌&&◌, ◌||◌, ◌==◌, not, nat_lt, inl, inr, List, [], ◌∷◌, ◌++◌, take, length, get_or, refl, ap, sym, subst, arith}
-use Rattle.std.specs.Prelude.{position, Option, Some, None, IsTrue, ◌↔◌}
+use Rattle.std.specs.Prelude.{position, MatchOption, Option, Some, None, IsTrue, ◌↔◌}
 use borrow.Author.Count.{below_more}
-use Rattle.std.specs.List.{All, position_or_len}
+use Rattle.std.specs.List.{All, position_or_len, list_any}
+use Rattle.std.proofs.lemmas.Bool.Decides.{nat_tests}
+use Rattle.ept_sample.specs.Rank.{beats}
 use Rattle.std.proofs.lemmas.List.{length-map, get_or_read, take_more}
 use Rattle.ept_point.specs.declared.point.Point.{Point}
 use Rattle.ept_point.specs.Order.{IsAscending}
@@ -90,3 +92,30 @@ more-inside cube key points at p small is here below k d h =
 pub told-more : (rules : Rules) (depth : ℕ) (points : List Point) (slots next : List Slot) (i : ℕ) (p : Point) (s : Slot) → i < length points → p ≡ get_or points i p → s.point ≡ p → next ≡ slots ++ s ∷ [] → points_of slots ≡ take i points → points_of next ≡ take (i + 1) points
 told-more rules depth points slots next i p s small is is_p is_next before =
     ap (λ (w : List Slot). points_of w) is_next ∙ points_of-append slots (s ∷ []) ∙ ap (λ (w : List Point). w ++ s.point ∷ []) before ∙ ap (λ (q : Point). take i points ++ q ∷ []) (is_p ∙ is) ∙ sym (take_more points i p small)
+
+pub deep-told : (mask depth deepest : ℕ) → (not (mask == 0) && (depth == deepest)) ≡ true → (depth ≡ deepest) × (mask ≢ 0)
+deep-told mask depth deepest e = (grind (arith, nat_tests), λ h. grind (arith, nat_tests))
+
+pub shallow-told : (mask depth deepest : ℕ) → (not (mask == 0) && (depth == deepest)) ≡ false → depth ≡ deepest → mask ≡ 0
+shallow-told mask depth deepest e h = grind (arith, nat_tests)
+
+pub told-slot : (rules : Rules) (depth : ℕ) (points : List Point) (s : Slot) (lost : Bool) → s.octant ≡ octant rules depth s.point → s.loses ≡ lost → lost ≡ list_any (λ q. beats rules depth q s.point) points → IsTold rules depth points s
+unfolding loses
+told-slot rules depth points s lost where_it_is is_lost e = record { loses = is_lost ∙ e; octant = where_it_is; }
+
+pub told-at : (rules : Rules) (d depth : ℕ) (points : List Point) (slots : List Slot) → d ≡ depth → All (IsTold rules d points) slots → All (IsTold rules depth points) slots
+told-at rules d depth points slots e told = subst (λ (n : ℕ). All (IsTold rules n points) slots) e told
+
+-- the answers of the two searches, for the points
+pub open_loser-at : (rules : Rules) (depth mask : ℕ) (points : List Point) (slots seen : List Slot) (r : Option ℕ) → points_of slots ≡ points → All (IsTold rules depth points) slots → seen ≡ slots → r ≡ position (goes mask) seen → position (is_open_loser rules depth mask points) points ≡ r
+open_loser-at rules depth mask points slots seen r is told is_seen e =
+    sym (e ∙ ap (λ (w : List Slot). position (goes mask) w) is_seen ∙ first-open_loser rules depth mask points slots is told)
+
+pub overfull-at : (rules : Rules) (d depth mask : ℕ) (points : List Point) (slots seen : List Slot) (b : Bool) (o : ℕ) → d ≡ depth → points_of slots ≡ points → All (IsTold rules depth points) slots → seen ≡ slots → (not (opened mask o) && has_too_many rules d seen o) ≡ b → is_overfull rules depth mask points o ≡ b
+overfull-at rules d depth mask points slots seen b o same is told is_seen e =
+    sym (ap (λ (w : List Slot). not (opened mask o) && has_too_many rules d w o) is_seen ∙ ap (λ (n : ℕ). not (opened mask o) && has_too_many rules n slots o) same ∙ overfull-slots rules depth mask points slots is told o) ∙ e
+
+-- an answer that is not `Some`
+pub none-left : {X : Type 0} (r : Option X) (P : Type 0) (Q : X → Type 0) → r ≡ None → MatchOption r P Q → P
+none-left None P Q e h = h
+none-left (Some x) P Q e h = absurd (cc)

@@ -1,6 +1,6 @@
 //! The points of a node from a tile.
 
-ghost use Rattle.std.specs.Prelude.{◌≡◌, ◌≢◌, ◌<◌, ◌≤◌, ◌↔◌, IsTrue, ℕ, ◌&&◌, not, true, false, IfOk, IfErr, MatchOption, length, position};
+ghost use Rattle.std.specs.Prelude.{◌≡◌, ◌≢◌, ◌<◌, ◌≤◌, ◌↔◌, IsTrue, ℕ, ◌&&◌, ◌==◌, not, true, false, IfOk, IfErr, MatchOption, length, position};
 ghost use Rattle.std.specs.List.{All, list_any};
 ghost use Rattle.ept_point.specs.Order.{IsAscending};
 ghost use Rattle.ept_space.specs.OctreeCube.{InCube, InBox};
@@ -46,10 +46,17 @@ pub(crate) fn slots_of_tile(
     if let Some(octant) = first_overfull(rules, key.depth, slots.as_slice(), mask) {
         return Err(GridError::TooMany { octant });
     }
-    if mask != 0 && key.depth == rules.cube.depth {
+    if is_deep(key, rules, mask) {
         return Err(GridError::Deep);
     }
     Ok(slots)
+}
+
+// Whether an octant is open at the greatest depth.
+fn is_deep(key: &Key, rules: &Rules, mask: u8) -> bool
+    ensures { result ≡ (not (mask == 0) && (key.now.depth == rules.now.cube.depth)) }
+{
+    mask != 0 && key.depth == rules.cube.depth
 }
 
 // The number of the first point outside the key's box.
@@ -128,7 +135,7 @@ fn first_leaving(slots: &[Slot], mask: u8) -> Option<usize>
 
 // The first closed octant with more losers than the threshold.
 fn first_overfull(rules: &Rules, depth: u8, slots: &[Slot], mask: u8) -> Option<u8>
-    ensures none { MatchOption result
+    ensures { MatchOption result
         ((o : ℕ) → o < OCTANTS → (not (opened mask o) && has_too_many rules.now depth slots.now o) ≡ false)
         (λ o. (o < OCTANTS)
             × ((not (opened mask o) && has_too_many rules.now depth slots.now o) ≡ true)
