@@ -1,5 +1,5 @@
 -- The points of a node from a tile.
-use Rattle.std.proofs.Common.{◌≡◌, ◌≢◌, ◌∙◌, ℕ, zero, suc, ◌+◌, ◌≤◌, ◌<◌, Bool, true, false, cond, ◌&&◌, ◌||◌, ◌==◌, not, nat_lt, inl, inr, List, [], ◌∷◌, ◌++◌, take, length, get_or, refl, ap, sym, subst, arith}
+use Rattle.std.proofs.Common.{◌≡◌, ◌≢◌, ◌∙◌, ℕ, ◌+◌, ◌≤◌, ◌<◌, Bool, true, false, cond, ◌&&◌, ◌==◌, not, nat_lt, inl, inr, List, [], ◌∷◌, ◌++◌, take, length, get_or, refl, ap, sym, subst, arith}
 use Rattle.std.specs.Prelude.{position, MatchOption, Option, Some, None, IsTrue, ◌↔◌}
 use borrow.Author.Count.{below_more}
 use Rattle.std.specs.List.{All, position_or_len, list_any}
@@ -15,14 +15,14 @@ use Rattle.ept_space.specs.Place.{Place}
 use Rattle.ept_space.proofs.PlaceKeys.{InCube-box}
 use Rattle.ept_sample.specs.Place.{place, AllInBox, AllInCube}
 use Rattle.ept_sample.specs.Ids.{comes_before}
-use Rattle.ept_sample.specs.Arrivals.{loses, octant, overflows}
+use Rattle.ept_sample.specs.Arrivals.{loses, octant}
 use Rattle.ept_sample.proofs.Members.{IsMember, IsMember-map, all-member, All-members}
 use Rattle.ept_sample.proofs.Ascending.{IsRising}
 use Rattle.ept_sample.proofs.IdLaws.{IsRising-IsAscending}
 use Rattle.ept_grid.specs.declared.slot.Slot.{Slot}
 use Rattle.ept_grid.specs.Mask.{opened}
 use Rattle.ept_grid.specs.Slots.{points_of, goes, has_too_many, IsTold, IsInIdOrder, IsNode}
-use Rattle.ept_grid.specs.Tile.{is_open_loser, is_overfull, IsTile}
+use Rattle.ept_grid.specs.Tile.{is_open_loser, is_overfull}
 use Rattle.ept_grid.proofs.SlotLaws.{points_of-append}
 use Rattle.ept_grid.proofs.Arriving.{not_back, too_many-overflows}
 
@@ -101,7 +101,7 @@ shallow-told mask depth deepest e h = grind (arith, nat_tests)
 
 pub told-slot : (rules : Rules) (depth : ℕ) (points : List Point) (s : Slot) (lost : Bool) → s.octant ≡ octant rules depth s.point → s.loses ≡ lost → lost ≡ list_any (λ q. beats rules depth q s.point) points → IsTold rules depth points s
 unfolding loses
-told-slot rules depth points s lost where_it_is is_lost e = record { loses = is_lost ∙ e; octant = where_it_is; }
+told-slot rules depth points s lost where_it_is is_lost e = record { loses = is_lost ∙ e; octant = where_it_is }
 
 pub told-at : (rules : Rules) (d depth : ℕ) (points : List Point) (slots : List Slot) → d ≡ depth → All (IsTold rules d points) slots → All (IsTold rules depth points) slots
 told-at rules d depth points slots e told = subst (λ (n : ℕ). All (IsTold rules n points) slots) e told

@@ -82,12 +82,7 @@ pub(crate) fn is_inside(key: &Key, rules: &Rules, point: &Point) -> bool
 }
 
 // The points, each with its octant and whether it loses among them.
-fn slots_of(
-    alloc: Global,
-    rules: &Rules,
-    depth: u8,
-    points: &[Point],
-) -> Result<Vec<Slot>, Memory>
+fn slots_of(alloc: Global, rules: &Rules, depth: u8, points: &[Point]) -> Result<Vec<Slot>, Memory>
     requires low { depth ≤ rules.now.cube.depth }
     requires inside { AllInCube rules.now.cube points.now }
     ensures points { IfOk result (λ slots. points_of slots.items ≡ points.now) }
@@ -121,9 +116,7 @@ fn loses_among(rules: &Rules, depth: u8, points: &[Point], point: &Point) -> boo
     requires inside { InCube rules.now.cube (place point.now) }
     ensures { result ≡ list_any (λ q. beats rules.now depth q point.now) points.now }
 {
-    points
-        .iter()
-        .any(|other| beats(rules, depth, other, point))
+    points.iter().any(|other| beats(rules, depth, other, point))
 }
 
 // The number of the first point that leaves.
@@ -138,8 +131,8 @@ fn first_overfull(rules: &Rules, depth: u8, slots: &[Slot], mask: u8) -> Option<
     ensures { MatchOption result
         ((o : ℕ) → o < OCTANTS → (not (opened mask o) && has_too_many rules.now depth slots.now o) ≡ false)
         (λ o. (o < OCTANTS)
-            × ((not (opened mask o) && has_too_many rules.now depth slots.now o) ≡ true)
-            × ((k : ℕ) → k < o → (not (opened mask k) && has_too_many rules.now depth slots.now k) ≡ false)) }
+        × ((not (opened mask o) && has_too_many rules.now depth slots.now o) ≡ true)
+        × ((k : ℕ) → k < o → (not (opened mask k) && has_too_many rules.now depth slots.now k) ≡ false)) }
 {
     for octant in 0..OCTANTS {
         if !is_open(mask, octant) && has_too_many(rules, depth, slots, octant) {

@@ -1,12 +1,7 @@
-use Rattle.std.proofs.Common.{◌≡◌, ◌∙◌, ◌<◌, ◌&&◌, ℕ, Bool, true, false, not, ap, sym, arith, rules, List}
-use Rattle.std.specs.Prelude.{position, None, Some}
-use Rattle.std.specs.List.{All}
+use Rattle.std.proofs.Common.{◌≡◌, ◌∙◌, true, false, ap, sym, rules}
+use Rattle.std.specs.Prelude.{None}
 use Rattle.ept_space.specs.VoxelKey.{VoxelKey}
 use Rattle.ept_sample.specs.Place.{AllInBox}
-use Rattle.ept_grid.specs.declared.slot.Slot.{Slot}
-use Rattle.ept_grid.specs.Mask.{opened}
-use Rattle.ept_grid.specs.Slots.{goes, has_too_many, IsTold, points_of}
-use Rattle.ept_grid.specs.Tile.{IsFirstOutside, is_open_loser, is_overfull, IsFirstOverfull}
 use Rattle.ept_grid.proofs.TileLaws.{box-in-cube, told-at, open_loser-at, overfull-at, deep-told, shallow-told, node-of, none-left}
 use Rattle.ept_grid.proofs.tile.slots_of_tile.Goals as goal
 
@@ -31,11 +26,15 @@ returns-in-Some-first_overfull-clause-refused c =
     let depth = ap (λ (k : VoxelKey). k.depth) c.key.view_is in
     let told = told-at c.args.rules.now c.key.inside.depth c.args.key.now.depth c.args.points.now c.in_ok-slots.slots.items depth c.in_ok-slots.ensures.told in
     let stay : c.first_leaving.result ≡ None = search rules in
-    λ _. (inside, open_loser-at c.args.rules.now c.args.key.now.depth c.args.mask c.args.points.now c.in_ok-slots.slots.items c.as_slice.result.now _ c.in_ok-slots.ensures.points told c.as_slice.ensures.value (sym stay ∙ c.first_leaving.ensures), record {
-      one_of_eight = c.in-Some-first_overfull.ensures.0;
-      overfull = overfull-at c.args.rules.now c.key.inside.depth c.args.key.now.depth c.args.mask c.args.points.now c.in_ok-slots.slots.items c.as_slice-2.result.now true _ depth c.in_ok-slots.ensures.points told c.as_slice-2.ensures.value c.in-Some-first_overfull.ensures.1;
-      before = λ k h. overfull-at c.args.rules.now c.key.inside.depth c.args.key.now.depth c.args.mask c.args.points.now c.in_ok-slots.slots.items c.as_slice-2.result.now false k depth c.in_ok-slots.ensures.points told c.as_slice-2.ensures.value (c.in-Some-first_overfull.ensures.2 k h);
-    })
+    λ _. (
+      inside,
+      open_loser-at c.args.rules.now c.args.key.now.depth c.args.mask c.args.points.now c.in_ok-slots.slots.items c.as_slice.result.now _ c.in_ok-slots.ensures.points told c.as_slice.ensures.value (sym stay ∙ c.first_leaving.ensures),
+      record {
+        one_of_eight = c.in-Some-first_overfull.ensures.0;
+        overfull = overfull-at c.args.rules.now c.key.inside.depth c.args.key.now.depth c.args.mask c.args.points.now c.in_ok-slots.slots.items c.as_slice-2.result.now true _ depth c.in_ok-slots.ensures.points told c.as_slice-2.ensures.value c.in-Some-first_overfull.ensures.1;
+        before = λ k h. overfull-at c.args.rules.now c.key.inside.depth c.args.key.now.depth c.args.mask c.args.points.now c.in_ok-slots.slots.items c.as_slice-2.result.now false k depth c.in_ok-slots.ensures.points told c.as_slice-2.ensures.value (c.in-Some-first_overfull.ensures.2 k h);
+      },
+    )
 
 pub returns-then-is_deep-clause-refused : goal.returns-then-is_deep-clause-refused
 returns-then-is_deep-clause-refused c =
