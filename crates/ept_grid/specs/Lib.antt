@@ -1,0 +1,5 @@
+pub mod Mask
+pub mod Outgoing
+pub mod Node
+pub mod Slots
+pub mod Tile

@@ -1,0 +1,63 @@
+-- A node with its points, and what an arrival does to it.
+use Rattle.std.specs.Prelude.{ℕ, ◌≡◌, ◌+◌, ◌-◌, ◌<◌, IsTrue, Bool, false, List, [], ◌∷◌, ◌++◌, length, min}
+use Rattle.std.specs.List.{All}
+use Rattle.ept_point.specs.declared.point.Point.{Point}
+use Rattle.ept_space.specs.declared.cube.Rules.{Rules}
+use Rattle.ept_space.specs.VoxelKey.{VoxelKey}
+use Rattle.ept_sample.specs.Ids.{in_id_order}
+use Rattle.ept_sample.specs.Arrivals.{octant, kept, sent, is_open}
+use Rattle.ept_grid.specs.Mask.{opened}
+use Rattle.ept_grid.specs.Outgoing.{Leaving, points_at}
+
+-- the key of a node, the rules of its sampling, its points in id order, its open octants as the bits of a number,
+-- and for how many more points it has room
+pub record Node : Type 0 where
+  pub key : VoxelKey
+  pub rules : Rules
+  pub points : List Point
+  pub mask : ℕ
+  pub room : ℕ
+
+-- the node of a key and rules with these points and open octants
+pub record IsNodeOf (its_key : VoxelKey) (its_rules : Rules) (its_mask : ℕ) (its_points : List Point) (node : Node) : Type 0 where
+  pub key : node.key ≡ its_key
+  pub rules : node.rules ≡ its_rules
+  pub points : node.points ≡ its_points
+  pub mask : node.mask ≡ its_mask
+
+-- an octant of the node is open
+abbrev pub is_open_in : Node → ℕ → Bool
+is_open_in node o = opened node.mask o
+
+-- the points of the node and one that arrives, in id order
+abbrev pub given_with : Node → Point → List Point
+given_with node p = in_id_order (p ∷ node.points)
+
+-- What an arrival does to an octant and to the points that leave for it, whatever the ids.
+pub record SendsOn (old new : Node) (o : ℕ) (before after : List Point) : Type 0 where
+  pub added : List Point
+  -- the list grows at its end, by points of the octant
+  pub grows : after ≡ before ++ added
+  pub in_octant : All (λ q. octant old.rules old.key.depth q ≡ o) added
+  -- an open octant stays open, and a point leaves for open ones alone
+  pub stays_open : IsTrue (is_open_in old o) → IsTrue (is_open_in new o)
+  pub if_open : 0 < length added → IsTrue (is_open_in new o)
+  -- a point leaves for an octant that opens, and none opens at the greatest depth
+  pub if_opens : is_open_in old o ≡ false → IsTrue (is_open_in new o) → 0 < length added
+  pub above : IsTrue (is_open_in new o) → old.key.depth < old.rules.cube.depth
+
+-- What an arrival does where all ids are different: the node keeps what stays, and the rest leaves, in id order.
+pub record TakesIn (old new : Node) (p : Point) (before after : List Leaving) : Type 0 where
+  pub points : new.points ≡ kept old.rules old.key.depth (is_open_in old) (given_with old p)
+  pub opens : (o : ℕ) → o < 8 → is_open_in new o ≡ is_open old.rules old.key.depth (is_open_in old) (given_with old p) o
+  pub leave : (o : ℕ) → o < 8 → points_at after o ≡ points_at before o ++ sent old.rules old.key.depth (is_open_in old) (given_with old p) o
+
+-- the least room of these lists, and at most a limit
+abbrev pub least_room : ℕ → List Leaving → ℕ
+least_room limit [] = limit
+least_room limit (l ∷ out) = min l.room (least_room limit out)
+
+-- How many arrivals a node and what leaves it can take together: the node has a place for each,
+-- and there is room for all its points and these to leave for any octant.
+unfoldable pub spare : Node → List Leaving → ℕ
+spare node out = least_room (node.room + length node.points) out - length node.points

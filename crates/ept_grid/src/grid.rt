@@ -1,0 +1,193 @@
+//! A node of the octree with its points.
+
+ghost use Rattle.std.specs.Prelude.{◌≡◌, ◌≢◌, ◌<◌, ◌≤◌, ◌+◌, ◌∷◌, [], ◌++◌, ◌↔◌, ℕ, Bool, IsTrue, OnOk, OnErr, IfOk, IfErr, length, count_by};
+ghost use Rattle.ept_grid.specs.declared.octants.TheConstants.{OCTANTS};
+ghost use Rattle.ept_point.specs.declared.point.Point.{Point};
+ghost use Rattle.std.specs.List.{All};
+ghost use Rattle.ept_point.specs.Order.{IsAscending};
+ghost use Rattle.ept_space.specs.OctreeCube.{InBox};
+ghost use Rattle.ept_sample.specs.Place.{place};
+ghost use Rattle.ept_sample.specs.Ids.{HasDistinctIds};
+ghost use Rattle.ept_grid.specs.Outgoing.{points_at, all_points};
+ghost use Rattle.ept_grid.specs.Tile.{IsTile, IsTileFault};
+ghost use Rattle.ept_grid.specs.Node.{IsNodeOf, SendsOn, TakesIn, spare};
+
+use crate::error::GridError;
+use crate::outgoing::Outgoing;
+use crate::slot::Slot;
+use crate::slots::append_points;
+use crate::taking::take_in;
+use crate::tile::{is_inside, slots_of_tile};
+use ept_point::{Memory, Point};
+use ept_space::{Key, Rules};
+use std::alloc::Global;
+use std::marker::Model;
+
+/// A node of the octree: the points that it keeps, and which of its octants are open.
+///
+/// Of its points, the best of each cell wins, and the others lose. An octant opens once it has more
+/// losers than the threshold. From then on its losers leave for the octant's child.
+#[derive(Debug, Drop)]
+pub struct Grid {
+    key: Key,
+    rules: Rules,
+    slots: Vec<Slot>,
+    mask: u8,
+}
+
+impl Model for Grid {
+    ghost use Rattle.std.specs.Prelude.{◌-◌, vec_len, vec_capacity};
+    ghost use Rattle.ept_grid.specs.Node.{Node};
+    ghost use Rattle.ept_grid.specs.Slots.{points_of, IsNode};
+
+    ghost Value = { Node };
+
+    ghost view = { λ g. record {
+      key = g.key;
+      rules = g.rules;
+      points = points_of g.slots.items;
+      mask = g.mask;
+      room = vec_capacity g.slots - vec_len g.slots;
+    } };
+
+    ghost invariant = { λ g. IsNode g.key g.rules g.slots.items g.mask };
+}
+
+impl Grid {
+    /// The node of a key, without points. It takes no memory.
+    pub fn new(alloc: Global, key: Key, rules: &Rules) -> Grid
+        requires { key.depth ≤ rules.now.cube.depth }
+        ensures key { result.key ≡ key }
+        ensures rules { result.rules ≡ rules.now }
+        ensures points { result.points ≡ [] }
+        ensures mask { result.mask ≡ 0 }
+    {
+        Grid {
+            key,
+            rules: *rules,
+            slots: Vec::new(alloc),
+            mask: 0,
+        }
+    }
+
+    /// The node of a key with these points and open octants, or the first cause why they are no node.
+    /// The ids ascend.
+    pub fn from_tile(
+        alloc: Global,
+        key: Key,
+        rules: &Rules,
+        mask: u8,
+        points: &[Point],
+    ) -> Result<Grid, GridError>
+        requires low { key.depth ≤ rules.now.cube.depth }
+        requires ascend { IsAscending points.now }
+        ensures node { IfOk result (λ grid. IsNodeOf key rules.now mask points.now grid) }
+        ensures tile { OnOk result (IsTile key rules.now mask points.now) }
+        ensures refused { IfErr result (λ e. e ≢ GridError.Memory → IsTileFault key rules.now mask points.now e) }
+    {
+        let slots = slots_of_tile(alloc, &key, rules, mask, points)?;
+        Ok(Grid {
+            key,
+            rules: *rules,
+            slots,
+            mask,
+        })
+    }
+
+    /// Takes in a point, and gives out the points that leave. It takes no memory.
+    pub fn arrive(&mut self, point: Point, out: &mut Outgoing)
+        requires room { 1 ≤ spare self.old out.old }
+        requires inside { InBox self.old.rules.cube self.old.key (place point) }
+
+        // Whatever the ids, no point is lost, and each that leaves lies in its octant, which is open.
+        ensures key { self.new.key ≡ self.old.key }
+        ensures rules { self.new.rules ≡ self.old.rules }
+        ensures together { (test : Point → Bool) →
+            count_by test self.new.points + count_by test (all_points out.new)
+            ≡ count_by test (point ∷ self.old.points) + count_by test (all_points out.old) }
+        ensures sends_on { (o : ℕ) → o < OCTANTS →
+            SendsOn self.old self.new o (points_at out.old o) (points_at out.new o) }
+        ensures spare { spare self.old out.old ≤ spare self.new out.new + 1 }
+
+        // Where the ids are all different, the node keeps and sends what the sampling says.
+        ensures takes_in { HasDistinctIds (point ∷ self.old.points) →
+            TakesIn self.old self.new point out.old out.new }
+    {
+        out.known();
+        self.mask = take_in(
+            &self.key,
+            &self.rules,
+            &mut self.slots,
+            self.mask,
+            point,
+            out,
+        );
+    }
+
+    /// The open octants: bit o is set where octant o is open.
+    pub fn open_mask(&self) -> u8
+        ensures mask { result ≡ self.now.mask }
+    {
+        self.mask
+    }
+
+    /// How many points the node has.
+    pub fn count(&self) -> u64
+        ensures { result ≡ length self.now.points }
+    {
+        self.slots.len() as u64
+    }
+
+    /// The key of the node.
+    pub fn key(&self) -> Key
+        ensures { result ≡ self.now.key }
+    {
+        self.key
+    }
+
+    /// The rules of the node's sampling.
+    pub fn rules(&self) -> &Rules
+        ensures { result.now ≡ self.now.rules }
+    {
+        &self.rules
+    }
+
+    /// Whether a point lies in the node's box.
+    pub fn is_inside(&self, point: &Point) -> bool
+        ensures { IsTrue result ↔ InBox self.now.rules.cube self.now.key (place point.now) }
+    {
+        is_inside(&self.key, &self.rules, point)
+    }
+
+    /// Makes room in the node and in what leaves it for so many arrivals. The points of both stay,
+    /// whatever the answer.
+    pub fn reserve(&mut self, arrivals: usize, out: &mut Outgoing) -> Result<(), Memory>
+        ensures room { OnOk result (arrivals ≤ spare self.new out.new) }
+        ensures node { self.new ≡ record self.old { room = self.new.room } }
+        ensures points { (o : ℕ) → points_at out.new o ≡ points_at out.old o }
+        ensures all { all_points out.new ≡ all_points out.old }
+    {
+        out.known();
+        self.slots.reserve(arrivals)?;
+        out.reserve(self.slots.len() + arrivals)
+    }
+
+    /// Appends the points of the node, in id order. After `Memory` the list is as it was.
+    pub fn points_into(&self, out: &mut Vec<Point>) -> Result<(), Memory>
+        ensures ok { OnOk result (out.new.items ≡ out.old.items ++ self.now.points) }
+        ensures err { OnErr result (out.new.items ≡ out.old.items) }
+        ensures ascend { HasDistinctIds self.now.points → IsAscending self.now.points }
+    {
+        append_points(self.slots.as_slice(), out)
+    }
+
+    /// Tells a proof what each node keeps.
+    pub fn known(&self)
+        ensures low { self.now.key.depth ≤ self.now.rules.cube.depth }
+        ensures inside { All (λ q. InBox self.now.rules.cube self.now.key (place q)) self.now.points }
+        ensures ascend { HasDistinctIds self.now.points → IsAscending self.now.points }
+        ensures deepest { self.now.key.depth ≡ self.now.rules.cube.depth → self.now.mask ≡ 0 }
+    {
+        let _mask = self.mask;
+    }
+}

@@ -1,0 +1,19 @@
+//! One node of the octree. It takes points one by one, keeps those that stay, and gives out those that
+//! leave, by octant.
+#![tactic(auto)]
+
+mod error;
+mod grid;
+mod octants;
+mod outgoing;
+mod slot;
+mod slots;
+mod taking;
+#[cfg(test)]
+mod tests;
+mod tile;
+
+pub use error::GridError;
+pub use grid::Grid;
+pub use octants::OCTANTS;
+pub use outgoing::Outgoing;
