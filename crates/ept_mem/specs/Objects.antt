@@ -30,6 +30,31 @@ sink_bytes sink = sink.bytes.items
 abbrev pub spill_bytes : MemSpill → List ℕ
 spill_bytes spill = spill.held.items
 
+-- the numbers of the calls that are to fail, and of those of the sources and files that an object makes
+abbrev pub source_fails : MemSource → List ℕ
+source_fails source = source.plan.fails.items
+
+abbrev pub shelf_fails : MemShelf → List ℕ
+shelf_fails shelf = shelf.plan.fails.items
+
+abbrev pub shelf_source_fails : MemShelf → List ℕ
+shelf_source_fails shelf = shelf.source_fails.items
+
+abbrev pub sink_fails : MemSink → List ℕ
+sink_fails sink = sink.plan.fails.items
+
+abbrev pub spill_fails : MemSpill → List ℕ
+spill_fails spill = spill.plan.fails.items
+
+abbrev pub room_fails : MemRoom → List ℕ
+room_fails room = room.plan.fails.items
+
+abbrev pub room_file_fails : MemRoom → List ℕ
+room_file_fails room = room.file_fails.items
+
+abbrev pub store_fails : MemStore → List ℕ
+store_fails store = store.plan.fails.items
+
 -- the counts of faults
 abbrev pub source_faults : MemSource → ℕ
 source_faults source = source.plan.faults

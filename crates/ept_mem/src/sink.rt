@@ -14,7 +14,7 @@ pub struct MemSink {
 }
 
 impl MemSink {
-    ghost use Rattle.ept_mem.specs.Objects.{sink_bytes, sink_faults};
+    ghost use Rattle.ept_mem.specs.Objects.{sink_bytes, sink_faults, sink_fails};
 
     /// An empty sink that takes at most this many bytes in a write, and whose calls of these numbers
     /// fail.
@@ -22,6 +22,7 @@ impl MemSink {
         requires { 0 < most }
         ensures empty { sink_bytes result ≡ [] }
         ensures sound { sink_faults result ≡ 0 }
+        ensures fails { sink_fails result ≡ fails.items }
     {
         MemSink {
             bytes: Vec::new(alloc),

@@ -16,13 +16,14 @@ pub struct MemSource {
 }
 
 impl MemSource {
-    ghost use Rattle.ept_mem.specs.Objects.{source_bytes, source_left, source_faults};
+    ghost use Rattle.ept_mem.specs.Objects.{source_bytes, source_left, source_faults, source_fails};
 
     /// A source of these bytes, at their start, whose calls of these numbers fail.
     pub fn new(bytes: Vec<u8>, fails: Vec<u64>) -> Self
         ensures bytes { source_bytes result ≡ bytes.items }
         ensures at_start { source_left result ≡ bytes.items }
         ensures sound { source_faults result ≡ 0 }
+        ensures fails { source_fails result ≡ fails.items }
     {
         MemSource {
             bytes,
@@ -74,7 +75,7 @@ pub struct MemShelf {
 impl MemShelf {
     ghost use Rattle.std.specs.Prelude.{◌≡◌};
     ghost use Rattle.ept_mem.specs.Named.{content_of};
-    ghost use Rattle.ept_mem.specs.Objects.{shelf_files, shelf_faults};
+    ghost use Rattle.ept_mem.specs.Objects.{shelf_files, shelf_faults, shelf_fails, shelf_source_fails};
 
     /// A shelf of these files, of which the first of a path counts. Its own calls of the numbers
     /// `fails` fail, and so do those of the numbers `source_fails` of each source that it opens.
@@ -86,6 +87,8 @@ impl MemShelf {
     ) -> Self
         ensures files { shelf_files result ≡ content_of files.items }
         ensures sound { shelf_faults result ≡ 0 }
+        ensures fails { shelf_fails result ≡ fails.items }
+        ensures source_fails { shelf_source_fails result ≡ source_fails.items }
     {
         MemShelf {
             alloc,

@@ -14,12 +14,13 @@ pub struct MemSpill {
 }
 
 impl MemSpill {
-    ghost use Rattle.ept_mem.specs.Objects.{spill_bytes, spill_faults, spill_keeps};
+    ghost use Rattle.ept_mem.specs.Objects.{spill_bytes, spill_faults, spill_keeps, spill_fails};
 
     /// An empty file whose calls of these numbers fail.
     pub fn new(alloc: Global, fails: Vec<u64>) -> Self
         ensures empty { spill_bytes result ≡ [] }
         ensures sound { spill_faults result ≡ 0 }
+        ensures fails { spill_fails result ≡ fails.items }
         ensures unused { spill_keeps result ≡ 0 }
     {
         MemSpill {
@@ -72,12 +73,14 @@ pub struct MemRoom {
 
 impl MemRoom {
     ghost use Rattle.std.specs.Prelude.{◌≡◌};
-    ghost use Rattle.ept_mem.specs.Objects.{room_faults, room_keeps};
+    ghost use Rattle.ept_mem.specs.Objects.{room_faults, room_keeps, room_fails, room_file_fails};
 
     /// A room whose own calls of the numbers `fails` fail, and in each file that it makes those of the
     /// numbers `file_fails`.
     pub fn new(alloc: Global, fails: Vec<u64>, file_fails: Vec<u64>) -> Self
         ensures sound { room_faults result ≡ 0 }
+        ensures fails { room_fails result ≡ fails.items }
+        ensures file_fails { room_file_fails result ≡ file_fails.items }
         ensures unused { room_keeps result ≡ 0 }
     {
         MemRoom {

@@ -4,7 +4,7 @@ ghost use Rattle.ept_base.specs.Files.{changed, SameFiles, SameBut};
 ghost use Rattle.ept_base.specs.Moves.{Follows, SameImages, NoMore, IsSettled, Elapses};
 ghost use Rattle.ept_mem.specs.Named.{content_of};
 ghost use Rattle.ept_mem.specs.Disk.{Disk, disk, after, bytes_of};
-ghost use Rattle.ept_mem.specs.Objects.{store_files, store_images, store_images_since, store_moment, store_faults, store_gets};
+ghost use Rattle.ept_mem.specs.Objects.{store_files, store_images, store_images_since, store_moment, store_faults, store_gets, store_fails};
 
 use crate::named::find;
 use crate::plan::Plan;
@@ -68,6 +68,7 @@ impl MemStore {
         ensures files { store_files result ≡ content_of files.items }
         ensures settled { IsSettled (Some (store_files result)) (store_images result) }
         ensures sound { store_faults result ≡ 0 }
+        ensures fails { store_fails result ≡ fails.items }
         ensures unread { store_gets result ≡ 0 }
     {
         MemStore {
