@@ -1,0 +1,6 @@
+pub mod NodeMap
+pub mod Held
+pub mod Leaving
+pub mod ArriveLaw
+pub mod OtherSteps
+pub mod Sampled

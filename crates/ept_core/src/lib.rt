@@ -1,0 +1,14 @@
+//! The machine under the builder: points are drawn by actors, arrive at nodes and move down as octants
+//! open, while nodes are evicted and reloaded, in any order.
+//!
+//! A law holds of each state that any list of events leads to. A state that has nothing left and
+//! nothing in flight has the sampling of the points as its nodes.
+#![tactic(auto)]
+
+mod event;
+mod flight;
+mod node;
+
+pub use event::Event;
+pub use flight::Flight;
+pub use node::Node;
