@@ -124,7 +124,7 @@ distinct-losers rules depth given o once =
 
 -- ---- the node and the flights afterwards
 
-open-at : (f : ℕ → Bool) (o : ℕ) → o < 8 → get_or (map f all_octants) o false ≡ f o
+pub open-at : (f : ℕ → Bool) (o : ℕ) → o < 8 → get_or (map f all_octants) o false ≡ f o
 open-at f zero small = refl
 open-at f (suc zero) small = refl
 open-at f (suc (suc zero)) small = refl

@@ -4,3 +4,5 @@ pub mod Leaving
 pub mod ArriveLaw
 pub mod OtherSteps
 pub mod Sampled
+pub mod Landed
+pub mod Resumed

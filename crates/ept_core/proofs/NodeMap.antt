@@ -81,6 +81,16 @@ present_step : (e : Entry) (es : List Entry) (k : VoxelKey) → same_key e.0 k �
 unfolding node_at
 present_step e es k same = ap (λ (b : Bool). cond b e.1 (node_at es k)) same
 
+blank_at : (k : VoxelKey) → node_at [] k ≡ blank
+unfolding node_at
+blank_at k = refl
+
+-- where no node of the key is
+pub node_at-absent : (nodes : List Entry) (k : VoxelKey) → ((e : Entry) → IsMember e nodes → same_key e.0 k ≡ false) → node_at nodes k ≡ blank
+node_at-absent [] k none = blank_at k
+node_at-absent (e ∷ es) k none =
+    absent_step e es k (none e (inl refl)) ∙ node_at-absent es k (λ g m. none g (inr m))
+
 nothing_in : (k : VoxelKey) (p : Point) → IsMember p (node_at [] k).points → ⊥
 unfolding node_at
 nothing_in k p m = m

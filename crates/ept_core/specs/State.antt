@@ -1,6 +1,7 @@
 -- The states of the core.
 use Rattle.std.specs.Prelude.{◌≡◌, ◌≤◌, ℕ, Bool, true, false, ◌⊎◌, List, [], ◌∷◌, ◌++◌, map, slice_index_or, if◌then◌else◌}
 use Rattle.std.specs.List.{flat_map, list_any}
+use Rattle.ept_sample.specs.declared.tiles.Tile.{Tile}
 use Rattle.ept_sample.proofs.Members.{IsMember}
 use Rattle.ept_point.specs.declared.point.Point.{Point}
 use Rattle.ept_space.specs.VoxelKey.{VoxelKey, same_key, is_within}
@@ -53,3 +54,7 @@ IsHeldWithin s top p = (key : VoxelKey) × (is_within top key ≡ true) × IsHel
 -- all points that are held
 abbrev pub held : State → List Point
 held s = flat_map (λ (e : Entry). e.1.points) s.nodes ++ flat_map (λ (f : Flight). f.points) s.flights
+
+-- the node as a tile
+abbrev pub tile_of : Entry → Tile
+tile_of e = record { key = e.0; points = e.1.points }

@@ -6,7 +6,9 @@ use Rattle.ept_point.specs.declared.point.Point.{Point}
 use Rattle.ept_space.specs.declared.cube.Rules.{Rules}
 use Rattle.ept_space.specs.VoxelKey.{VoxelKey, root, child, key_cmp}
 use Rattle.ept_sample.specs.Ids.{in_id_order}
-use Rattle.ept_sample.specs.Arrivals.{is_open, kept, sent, all_octants}
+use Rattle.ept_sample.specs.Arrivals.{is_open, kept, sent, all_octants, none_open}
+use Rattle.ept_sample.specs.Sampling.{sampling, is_node}
+use Rattle.ept_sample.specs.Nodes.{node_keys}
 use Rattle.ept_core.specs.declared.event.Event.{Event}
 use Rattle.ept_core.specs.declared.event.Event.TheVariants.{Draw, Arrive, Evict, Reload}
 use Rattle.ept_core.specs.declared.flight.Flight.{Flight}
@@ -93,3 +95,29 @@ Step rules old (Reload key) new =
 abbrev pub Run : Rules → State → List Event → State → Type 0
 Run rules old [] new = new ≡ old
 Run rules old (event ∷ events) new = (mid : State) × Step rules old event mid × Run rules mid events new
+
+-- ---- where a core begins
+
+-- the node of a key in the sampling of points: an octant is open where its child is a node
+unfoldable pub resumed_node : Rules → List Point → Bool → VoxelKey → Node
+resumed_node rules points resident key = record {
+  points = sampling rules points key;
+  opened = map (λ o. is_node rules points (child key o)) all_octants;
+  is_resident = resident;
+}
+
+-- the sampling of some points as nodes, the others left, and nothing in flight
+abbrev pub resumed : Rules → List Point → List Point → Bool → State
+resumed rules points left resident = record {
+  left = left;
+  flights = [];
+  nodes = map (λ key. (key, resumed_node rules points resident key)) (node_keys rules points);
+}
+
+-- no point drawn: the root is there, resident and empty
+abbrev pub begun : List Point → State
+begun points = record {
+  left = points;
+  flights = [];
+  nodes = (root, record { points = []; opened = map none_open all_octants; is_resident = true }) ∷ [];
+}
