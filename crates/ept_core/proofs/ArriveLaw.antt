@@ -1,15 +1,14 @@
 -- A flight that arrives keeps the law.
-use Rattle.std.proofs.Common.{◌≡◌, ◌∙◌, ℕ, zero, suc, ◌+◌, ◌≤◌, ◌<◌, Bool, true, false, cond, ◌⊎◌, inl, inr, List, [], ◌∷◌, ◌++◌, refl, sym, ap, subst, arith, length, append_assoc}
-use Rattle.std.specs.List.{flat_map}
+use Rattle.std.proofs.Common.{◌≡◌, ◌∙◌, ℕ, ◌≤◌, ◌<◌, Bool, true, false, ◌⊎◌, inl, inr, List, ◌∷◌, ◌++◌, refl, sym, ap, subst, arith, length, append_assoc}
 use Rattle.std.specs.List.Sorted.{IsPermutation}
 use Rattle.std.proofs.lemmas.List.Concat.{flat_map-append}
-use Rattle.std.proofs.lemmas.List.Sorted.{IsPermutation-refl, IsPermutation-sym, IsPermutation-trans, IsPermutation-append_comm, IsPermutation-append_left, IsPermutation-append_right}
+use Rattle.std.proofs.lemmas.List.Sorted.{IsPermutation-sym, IsPermutation-trans, IsPermutation-append_comm, IsPermutation-append_left, IsPermutation-append_right}
 use Rattle.ept_point.specs.declared.point.Point.{Point}
 use Rattle.ept_space.specs.declared.cube.Rules.{Rules}
-use Rattle.ept_space.specs.VoxelKey.{VoxelKey, root, same_key, child, parent, is_within, is_below}
+use Rattle.ept_space.specs.VoxelKey.{VoxelKey, root, same_key, child, is_within, is_below}
 use Rattle.ept_space.specs.OctreeCube.{InBox}
 use Rattle.ept_space.proofs.Family.{parent-child, depth-child}
-use Rattle.ept_space.proofs.Within.{same_key-true, is_within-self, is_within-trans, is_within-child, depth-within, is_within-level, is_below-deeper, is_below-from, is_within-above}
+use Rattle.ept_space.proofs.Within.{same_key-true, is_within-self, is_within-trans, is_within-child, depth-within, is_within-level, is_below-from, is_within-above}
 use Rattle.ept_space.proofs.PlaceKeys.{octant_at-below, InBox-child}
 use Rattle.ept_sample.specs.Place.{place}
 use Rattle.ept_sample.specs.Ids.{comes_before, HasDistinctIds, in_id_order}
@@ -23,9 +22,9 @@ use Rattle.ept_sample.proofs.SamplingLaws.{depth-side, below_or_at}
 use Rattle.ept_sample.proofs.Parts.{IsPermutation-parts}
 use Rattle.ept_core.specs.declared.flight.Flight.{Flight}
 use Rattle.ept_core.specs.declared.node.Node.{Node}
-use Rattle.ept_core.specs.State.{State, Entry, node_at, has_node, has_open, keys_of, held, IsHeld, IsHeldWithin, IsFlying}
-use Rattle.ept_core.specs.Law.{IsDrawn, IsPlaced, HasPassed, HoldsMore, IsSettled, HasBottom, HasPoint, IsRooted, IsTidy, KeepsLaw}
-use Rattle.ept_core.specs.Steps.{with_node, gathered, node_after, flights_after, arrived}
+use Rattle.ept_core.specs.State.{State, Entry, node_at, has_open, keys_of, held, IsHeld, IsHeldWithin, IsFlying}
+use Rattle.ept_core.specs.Law.{IsPlaced, HasPassed, HoldsMore, IsSettled, HasBottom, HasPoint, IsRooted, IsTidy, KeepsLaw}
+use Rattle.ept_core.specs.Steps.{gathered, node_after, flights_after, arrived}
 use Rattle.ept_core.proofs.NodeMap.{points_of, without, IsPermutation-past, points_of-split, points_of-with, node_at-here, node_at-other, same_key-self, rising-with, rising-in_key_order, has_node-with, IsMember-with}
 use Rattle.ept_core.proofs.Held.{flown, HasDistinctIds-left, distinct-held, keys-rise}
 use Rattle.ept_core.proofs.Leaving.{was-open, open-cases, closed-fits, fits-few, losers-kept, loses-more, IsMember-losers, distinct-losers, node_after-points, node_after-open, flights-flown, IsMember-flights, sent-flies}
@@ -327,9 +326,9 @@ module _ (rules : Rules) (points : List Point) (s : State) (front : List Flight)
           let loser : loses rules f.key.depth given p ≡ true = sym (loses-kept rules f.key.depth was given p) ∙ (ap (λ (w : List Point). loses rules f.key.depth w p) (sym put_points) ∙ lost) in
           put_open (octant rules f.key.depth p) (small f.key.depth p)
           ∙ elim (either (is_open rules f.key.depth was given (octant rules f.key.depth p))) [
-              | inl opened ↦ absurd (not_both (leaves rules f.key.depth was given p) (leaves-from rules f.key.depth was given p loser opened) stays.1)
-              | inr closed ↦ closed
-            ]
+            | inl opened ↦ absurd (not_both (leaves rules f.key.depth was given p) (leaves-from rules f.key.depth was given p loser opened) stays.1)
+            | inr closed ↦ closed
+          ]
 
       none : (key : VoxelKey) (p : Point) → IsMember p (node_at after.nodes key).points → loses rules key.depth (node_at after.nodes key).points p ≡ true → has_open (node_at after.nodes key) (octant rules key.depth p) ≡ false
       none key p m lost =
@@ -405,11 +404,13 @@ module _ (rules : Rules) (points : List Point) (s : State) (front : List Flight)
       subst (λ (w : List Point). HasPoint w) (sym put_points) (stayer q.0 (flight_given q.0 q.1))
     where
       stays_by : (p : Point) → IsMember p given → loses rules f.key.depth given p ≡ false → HasPoint (kept rules f.key.depth was given)
-      stays_by p m wins =
-          (p, stays-IsMember rules f.key.depth was given p m (elim (either (leaves rules f.key.depth was given p)) [
-            | inl goes ↦ absurd (not_both (loses rules f.key.depth given p) (leaves-loses rules f.key.depth was given p goes) wins)
-            | inr fine ↦ fine
-          ]))
+      stays_by p m wins = (
+        p,
+        stays-IsMember rules f.key.depth was given p m (elim (either (leaves rules f.key.depth was given p)) [
+          | inl goes ↦ absurd (not_both (loses rules f.key.depth given p) (leaves-loses rules f.key.depth was given p goes) wins)
+          | inr fine ↦ fine
+        ]),
+      )
 
       stayer : (p : Point) → IsMember p given → HasPoint (kept rules f.key.depth was given)
       stayer p m =

@@ -1,7 +1,6 @@
 -- The points that are held.
-use Rattle.std.proofs.Common.{◌≡◌, ◌∙◌, ℕ, ◌+◌, ◌≤◌, Bool, true, false, ◌⊎◌, inl, inr, List, [], ◌∷◌, ◌++◌, refl, sym, ap, subst, arith, count_by}
+use Rattle.std.proofs.Common.{inl, inr, List, ◌++◌, refl, sym, subst, arith}
 use Rattle.std.specs.List.{flat_map}
-use Rattle.std.specs.List.Sorted.{IsPermutation}
 use Rattle.std.proofs.lemmas.List.Sorted.{IsPermutation-sym}
 use Rattle.ept_point.specs.declared.point.Point.{Point}
 use Rattle.ept_space.specs.VoxelKey.{VoxelKey}
@@ -13,8 +12,8 @@ use Rattle.ept_sample.proofs.KeyOrder.{key_before}
 use Rattle.ept_sample.proofs.IdLaws.{count_by-append, HasDistinctIds-IsPermutation, IsMember-IsPermutation}
 use Rattle.ept_core.specs.declared.flight.Flight.{Flight}
 use Rattle.ept_core.specs.declared.node.Node.{Node}
-use Rattle.ept_core.specs.State.{State, Entry, node_at, keys_of, held, IsHeld, IsFlying}
-use Rattle.ept_core.specs.Law.{IsDrawn, KeepsLaw}
+use Rattle.ept_core.specs.State.{State, Entry, keys_of, held, IsHeld}
+use Rattle.ept_core.specs.Law.{KeepsLaw}
 use Rattle.ept_core.proofs.NodeMap.{points_of, node_at-entry, node_at-member, in_key_order-rising}
 
 -- the points of flights

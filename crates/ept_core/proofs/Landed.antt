@@ -1,18 +1,17 @@
 -- Where nothing flies, the nodes are the sampling of the points that were drawn.
-use Rattle.std.proofs.Common.{◌≡◌, ◌∙◌, ℕ, zero, suc, ◌+◌, ◌-◌, ◌≤◌, ◌<◌, Bool, true, false, ◌⊎◌, inl, inr, List, [], ◌∷◌, ◌++◌, map, refl, sym, ap, subst, arith, length}
-use Rattle.std.specs.List.Sorted.{IsPermutation}
+use Rattle.std.proofs.Common.{◌≡◌, ◌∙◌, ℕ, zero, suc, ◌≤◌, ◌<◌, true, false, ◌⊎◌, inl, inr, List, [], ◌∷◌, ◌++◌, map, refl, sym, ap, subst, arith, length}
 use Rattle.std.proofs.lemmas.Bool.{false≢true}
 use Rattle.ept_point.specs.declared.point.Point.{Point}
 use Rattle.ept_space.specs.declared.cube.Rules.{Rules}
-use Rattle.ept_space.specs.VoxelKey.{VoxelKey, root, child, parent, octant_of, is_within, is_below}
+use Rattle.ept_space.specs.VoxelKey.{VoxelKey, root, parent, is_within, is_below}
 use Rattle.ept_space.specs.OctreeCube.{InCube, key_at}
 use Rattle.ept_space.proofs.Family.{depth-parent}
 use Rattle.ept_space.proofs.Within.{depth-within, is_within-level, is_below-from, is_below-deeper}
 use Rattle.ept_space.proofs.PlaceKeys.{octant_at-below, key_at-box, key_at-root, is_within-key_at}
 use Rattle.ept_sample.specs.declared.tiles.Tile.{Tile}
-use Rattle.ept_sample.specs.Place.{place, AllInCube}
-use Rattle.ept_sample.specs.Ids.{HasDistinctIds, in_id_order}
-use Rattle.ept_sample.specs.Arrivals.{loses, octant, losers, overflows, is_open, leaves, none_open}
+use Rattle.ept_sample.specs.Place.{place}
+use Rattle.ept_sample.specs.Ids.{HasDistinctIds}
+use Rattle.ept_sample.specs.Arrivals.{loses, octant, losers, leaves, none_open}
 use Rattle.ept_sample.specs.Sampling.{given, sampling, is_node}
 use Rattle.ept_sample.specs.Nodes.{node_keys, tile_at, sampled}
 use Rattle.ept_sample.proofs.Members.{IsMember, IsMember-map, member-map, all-member, All-members}
@@ -23,12 +22,12 @@ use Rattle.ept_sample.proofs.SamplingLaws.{given-top, given-leaves, given-IsMemb
 use Rattle.ept_sample.proofs.NodeLaws.{node_keys-is}
 use Rattle.ept_core.specs.declared.flight.Flight.{Flight}
 use Rattle.ept_core.specs.declared.node.Node.{Node}
-use Rattle.ept_core.specs.State.{State, Entry, node_at, has_open, keys_of, held, IsHeld, tile_of}
+use Rattle.ept_core.specs.State.{State, Entry, node_at, has_open, keys_of, IsHeld, tile_of}
 use Rattle.ept_core.specs.Law.{KeepsLaw}
 use Rattle.ept_core.proofs.NodeMap.{points_of, without, points_of-split, node_at-entry, node_at-member, has_node-key}
-use Rattle.ept_core.proofs.Held.{flown, HasDistinctIds-left, held-drawn, drawn-point, held-point, keys-rise, drawn-held, distinct-drawn, distinct-held}
+use Rattle.ept_core.proofs.Held.{flown, HasDistinctIds-left, drawn-point, keys-rise, drawn-held, distinct-drawn, distinct-held}
 use Rattle.ept_core.proofs.Leaving.{open-cases, loses-more, IsMember-losers, losers-IsMember, distinct-losers}
-use Rattle.ept_core.proofs.Sampled.{length-among, open_overflows, below_leaves, given-below, held-given}
+use Rattle.ept_core.proofs.Sampled.{length-among, below_leaves, given-below, held-given}
 
 module _ (rules : Rules) (points : List Point) (s : State) (law : KeepsLaw rules points s) (landed : s.flights ≡ []) where
   abbrev sunk : List Point

@@ -1,37 +1,28 @@
 -- What points that arrive at a node do to it, and the flights that leave it.
-use Rattle.std.proofs.Common.{◌≡◌, ◌∙◌, ℕ, zero, suc, ◌+◌, ◌≤◌, ◌<◌, Bool, true, false, cond, not, ◌&&◌, ◌||◌, ◌==◌, nat_lt, ◌⊎◌, inl, inr, List, [], ◌∷◌, ◌++◌, map, refl, sym, ap, subst, arith, filter, length, append_assoc, get_or, eq-eqb}
+use Rattle.std.proofs.Common.{◌≡◌, ◌∙◌, ℕ, zero, suc, ◌≤◌, ◌<◌, Bool, true, false, cond, not, ◌&&◌, ◌||◌, ◌==◌, nat_lt, ◌⊎◌, inl, inr, List, [], ◌∷◌, ◌++◌, map, refl, sym, ap, subst, arith, filter, length, get_or, eq-eqb}
 use Rattle.std.specs.List.{flat_map}
-use Rattle.std.specs.List.Sorted.{IsPermutation}
 use Rattle.std.proofs.lemmas.Bool.{false≢true, lt-ltb}
 use Rattle.std.proofs.lemmas.Bool.Decides.{nat_tests}
 use Rattle.std.proofs.lemmas.List.{append-nil}
 use Rattle.std.proofs.lemmas.List.Concat.{flat_map-append}
 use Rattle.std.proofs.lemmas.List.Elements.{filter_agree}
-use Rattle.std.proofs.lemmas.List.Sorted.{IsPermutation-refl, IsPermutation-sym, IsPermutation-trans, IsPermutation-append, IsPermutation-append_comm, IsPermutation-append_left, IsPermutation-append_right}
 use Rattle.ept_point.specs.declared.point.Point.{Point}
 use Rattle.ept_space.specs.declared.cube.Rules.{Rules}
-use Rattle.ept_space.specs.VoxelKey.{VoxelKey, root, same_key, child, parent, is_within, is_below}
-use Rattle.ept_space.specs.OctreeCube.{InBox}
-use Rattle.ept_space.proofs.Family.{parent-child, depth-child}
-use Rattle.ept_space.proofs.Within.{same_key-true, is_within-self, is_within-trans, is_within-child, depth-within, is_within-level, is_below-deeper, is_below-from, is_within-above}
-use Rattle.ept_space.proofs.PlaceKeys.{octant_at-below, InBox-child}
+use Rattle.ept_space.specs.VoxelKey.{VoxelKey, child}
+use Rattle.ept_space.proofs.PlaceKeys.{octant_at-below}
 use Rattle.ept_sample.specs.Place.{place}
-use Rattle.ept_sample.specs.Ids.{comes_before, HasDistinctIds, in_id_order}
+use Rattle.ept_sample.specs.Ids.{HasDistinctIds}
 use Rattle.ept_sample.specs.Arrivals.{loses, octant, losers, overflows, is_open, leaves, kept, sent, all_octants, all_sent}
-use Rattle.ept_sample.proofs.Members.{IsMember, IsMember-left, IsMember-right, IsMember-append, IsMember-filter, IsMember-kept, IsMember-flat_map, member-flat_map}
-use Rattle.ept_sample.proofs.Best.{either, not_both}
+use Rattle.ept_sample.proofs.Members.{IsMember, IsMember-filter, IsMember-kept, IsMember-flat_map, member-flat_map}
 use Rattle.ept_sample.proofs.RankLaws.{and_left, and_right, and_both}
-use Rattle.ept_sample.proofs.IdLaws.{HasDistinctIds-filter, HasDistinctIds-IsPermutation, IsMember-in_id_order, in_id_order-IsMember, IsPermutation-in_id_order, IsRising-in_id_order, in_id_order-IsRising}
-use Rattle.ept_sample.proofs.ArrivalLaws.{loses-beaten, beaten-loses, best, leaves-loses, leaves-open, leaves-from, stays-winner, IsMember-sent, sent-IsMember, IsMember-stays, stays-IsMember, loses-kept, overflows-depth, overflows-more, same_number, IsRising-kept}
-use Rattle.ept_sample.proofs.SamplingLaws.{depth-side}
-use Rattle.ept_sample.proofs.Parts.{IsPermutation-parts}
+use Rattle.ept_sample.proofs.IdLaws.{HasDistinctIds-filter}
+use Rattle.ept_sample.proofs.ArrivalLaws.{loses-beaten, beaten-loses, sent-IsMember, loses-kept, same_number}
 use Rattle.ept_core.specs.declared.flight.Flight.{Flight}
 use Rattle.ept_core.specs.declared.node.Node.{Node}
-use Rattle.ept_core.specs.State.{State, Entry, node_at, has_node, has_open, keys_of, held, IsHeld, IsHeldWithin, IsFlying}
-use Rattle.ept_core.specs.Law.{IsDrawn, IsPlaced, HasPassed, HoldsMore, IsSettled, HasBottom, HasPoint, IsRooted, IsTidy, KeepsLaw}
-use Rattle.ept_core.specs.Steps.{flight_of, with_node, gathered, node_after, flights_after, arrived}
-use Rattle.ept_core.proofs.NodeMap.{points_of, without, IsPermutation-past, points_of-split, points_of-with, node_at-here, node_at-other, same_key-self, rising-with, rising-in_key_order, has_node-with, IsMember-with}
-use Rattle.ept_core.proofs.Held.{flown, HasDistinctIds-left, distinct-held, keys-rise}
+use Rattle.ept_core.specs.State.{has_open, IsFlying}
+use Rattle.ept_core.specs.Law.{HasPoint}
+use Rattle.ept_core.specs.Steps.{flight_of, node_after, flights_after}
+use Rattle.ept_core.proofs.Held.{flown}
 
 or_cases : (b c : Bool) → (b || c) ≡ true → (b ≡ true) ⊎ (c ≡ true)
 or_cases true c e = inl refl

@@ -6,3 +6,4 @@ pub mod OtherSteps
 pub mod Sampled
 pub mod Landed
 pub mod Resumed
+pub mod CoreLaws

@@ -1,13 +1,12 @@
 -- Points that are drawn, and nodes that are evicted and reloaded, keep the law.
-use Rattle.std.proofs.Common.{◌≡◌, ◌∙◌, ℕ, zero, suc, ◌+◌, ◌≤◌, ◌<◌, Bool, true, false, cond, ◌⊎◌, inl, inr, List, [], ◌∷◌, ◌++◌, take, drop, refl, sym, ap, subst, arith, length, append_assoc}
-use Rattle.std.specs.List.{flat_map}
+use Rattle.std.proofs.Common.{◌≡◌, ◌∙◌, ℕ, ◌≤◌, Bool, true, ◌⊎◌, inl, inr, List, ◌++◌, take, drop, refl, sym, ap, subst, arith, length, append_assoc}
 use Rattle.std.specs.List.Sorted.{IsPermutation}
 use Rattle.std.proofs.lemmas.List.Concat.{flat_map-append}
 use Rattle.std.proofs.lemmas.List.{take-append-drop}
-use Rattle.std.proofs.lemmas.List.Sorted.{IsPermutation-refl, IsPermutation-sym, IsPermutation-trans, IsPermutation-append_left}
+use Rattle.std.proofs.lemmas.List.Sorted.{IsPermutation-sym, IsPermutation-trans, IsPermutation-append_left}
 use Rattle.ept_point.specs.declared.point.Point.{Point}
 use Rattle.ept_space.specs.declared.cube.Rules.{Rules}
-use Rattle.ept_space.specs.VoxelKey.{VoxelKey, root, same_key, child, is_within, is_below}
+use Rattle.ept_space.specs.VoxelKey.{VoxelKey, root, same_key, child, is_below}
 use Rattle.ept_space.specs.OctreeCube.{InCube, InBox}
 use Rattle.ept_space.proofs.Within.{same_key-true, is_below-deeper}
 use Rattle.ept_space.proofs.PlaceKeys.{InBox-root}
@@ -18,10 +17,10 @@ use Rattle.ept_sample.proofs.Members.{IsMember, IsMember-left, IsMember-right, I
 use Rattle.ept_sample.proofs.Best.{either}
 use Rattle.ept_core.specs.declared.flight.Flight.{Flight}
 use Rattle.ept_core.specs.declared.node.Node.{Node}
-use Rattle.ept_core.specs.State.{State, Entry, node_at, has_node, has_open, keys_of, held, IsHeld, IsHeldWithin, IsFlying}
-use Rattle.ept_core.specs.Law.{IsDrawn, IsPlaced, HasPassed, HoldsMore, IsSettled, HasBottom, HasPoint, IsRooted, IsTidy, KeepsLaw}
-use Rattle.ept_core.specs.Steps.{flight_of, with_node, drawn, moved}
-use Rattle.ept_core.proofs.NodeMap.{points_of, without, points_of-split, points_of-with, node_at-entry, node_at-member, node_at-here, node_at-other, same_key-self, rising-with, rising-in_key_order, has_node-with, has_node-key, IsMember-with}
+use Rattle.ept_core.specs.State.{State, Entry, node_at, has_node, has_open, keys_of, held, IsHeld}
+use Rattle.ept_core.specs.Law.{HoldsMore, HasPoint, KeepsLaw}
+use Rattle.ept_core.specs.Steps.{flight_of, drawn, moved}
+use Rattle.ept_core.proofs.NodeMap.{points_of, without, points_of-split, points_of-with, node_at-member, node_at-here, node_at-other, rising-with, rising-in_key_order, has_node-with, has_node-key, IsMember-with}
 use Rattle.ept_core.proofs.Held.{flown, keys-rise}
 use Rattle.ept_core.proofs.Leaving.{IsMember-flight, flown-flight}
 
@@ -178,10 +177,13 @@ module _ (rules : Rules) (points : List Point) (s : State) (key : VoxelKey) (res
   pub move-keeps : KeepsLaw rules points (moved key resident s)
   move-keeps = record {
     points_law = law.points_law;
-    same_points = (law.same_points.0, record {
-      suffix = law.same_points.1.suffix;
-      held_once = IsPermutation-trans law.same_points.0 (held s) (held to) law.same_points.1.held_once (IsPermutation-append_left (flown s.flights) (points_of s.nodes) (points_of to.nodes) points_moved);
-    });
+    same_points = (
+      law.same_points.0,
+      record {
+        suffix = law.same_points.1.suffix;
+        held_once = IsPermutation-trans law.same_points.0 (held s) (held to) law.same_points.1.held_once (IsPermutation-append_left (flown s.flights) (points_of s.nodes) (points_of to.nodes) points_moved);
+      },
+    );
     placed = record {
       in_box = λ j p h. law.placed.in_box j p (moved_held j p h);
       shallow = λ j p h. law.placed.shallow j p (moved_held j p h);

@@ -1,37 +1,36 @@
 -- The sampling of the first points, with the others left, keeps the law.
-use Rattle.std.proofs.Common.{◌≡◌, ◌∙◌, ℕ, zero, suc, ◌+◌, ◌≤◌, ◌<◌, Bool, true, false, cond, ◌⊎◌, inl, inr, List, [], ◌∷◌, ◌++◌, map, refl, sym, ap, subst, arith, length}
+use Rattle.std.proofs.Common.{◌≡◌, ◌∙◌, ℕ, zero, suc, ◌≤◌, ◌<◌, Bool, true, false, ◌⊎◌, inl, inr, List, [], ◌∷◌, ◌++◌, map, refl, sym, ap, subst, arith, length}
 use Rattle.std.specs.List.{flat_map}
 use Rattle.std.specs.List.Sorted.{IsPermutation}
 use Rattle.std.proofs.lemmas.Bool.{false≢true}
 use Rattle.std.proofs.lemmas.List.{append-nil}
 use Rattle.ept_point.specs.declared.point.Point.{Point}
 use Rattle.ept_space.specs.declared.cube.Rules.{Rules}
-use Rattle.ept_space.specs.VoxelKey.{VoxelKey, root, same_key, child, parent, is_within, is_below}
+use Rattle.ept_space.specs.VoxelKey.{VoxelKey, root, child, is_within, is_below}
 use Rattle.ept_space.specs.OctreeCube.{InCube, key_at}
-use Rattle.ept_space.proofs.Family.{parent-child, depth-child, octant_of-child}
-use Rattle.ept_space.proofs.Within.{same_key-true, is_below-deeper, is_below-within}
+use Rattle.ept_space.proofs.Family.{parent-child, depth-child}
+use Rattle.ept_space.proofs.Within.{is_below-deeper, is_below-within}
 use Rattle.ept_space.proofs.PlaceKeys.{octant_at-below, is_within-key_at, key_at-unique}
 use Rattle.ept_sample.specs.declared.tiles.Tile.{Tile}
 use Rattle.ept_sample.specs.Place.{place, AllInCube}
 use Rattle.ept_sample.specs.Ids.{HasDistinctIds, in_id_order}
-use Rattle.ept_sample.specs.Arrivals.{loses, octant, losers, overflows, is_open, leaves, kept, none_open, all_octants}
+use Rattle.ept_sample.specs.Arrivals.{loses, octant, losers, overflows, leaves, kept, none_open}
 use Rattle.ept_sample.specs.Sampling.{given, sampling, is_node}
 use Rattle.ept_sample.specs.SamplingLaws.{CanBeSampled}
-use Rattle.ept_sample.specs.Nodes.{in_key_order, node_keys, tile_at, sampled}
+use Rattle.ept_sample.specs.Nodes.{node_keys, tile_at, sampled}
 use Rattle.ept_sample.proofs.Members.{IsMember, IsMember-left, IsMember-map, member-map, all-member, All-members}
 use Rattle.ept_sample.proofs.Ascending.{IsRising}
 use Rattle.ept_sample.proofs.KeyOrder.{key_before}
 use Rattle.ept_sample.proofs.Best.{either, not_both}
 use Rattle.ept_sample.proofs.IdLaws.{in_id_order-IsRising, HasDistinctIds-IsRising}
 use Rattle.ept_sample.proofs.ArrivalLaws.{leaves-loses, leaves-open, leaves-from, loses-kept, overflows-depth, overflows-more, IsMember-sent}
-use Rattle.ept_sample.proofs.SamplingLaws.{given-child, given-leaves, leaves-given, given-IsMember, given-depth, depth-side, given-key_at, given-InBox, is_node-root, is_node-given, node-cases, node-given, is_node-parent, IsMember-sampling, sampling-some, stays-somewhere, leaves-above, IsRising-given, IsRising-sampling}
+use Rattle.ept_sample.proofs.SamplingLaws.{given-child, leaves-given, given-IsMember, given-depth, depth-side, given-key_at, given-InBox, is_node-root, is_node-given, node-cases, node-given, is_node-parent, IsMember-sampling, sampling-some, stays-somewhere, leaves-above, IsRising-given, IsRising-sampling}
 use Rattle.ept_sample.proofs.NodeLaws.{IsMember-node_keys, node_keys-IsMember, IsRising-node_keys, points-of, IsPermutation-sampled}
-use Rattle.ept_core.specs.declared.flight.Flight.{Flight}
 use Rattle.ept_core.specs.declared.node.Node.{Node}
-use Rattle.ept_core.specs.State.{State, Entry, blank, node_at, has_node, has_open, keys_of, held, IsHeld, IsHeldWithin}
-use Rattle.ept_core.specs.Law.{IsDrawn, IsPlaced, HasPassed, HoldsMore, IsSettled, HasBottom, HasPoint, IsRooted, IsTidy, KeepsLaw}
+use Rattle.ept_core.specs.State.{State, Entry, blank, node_at, has_open, keys_of, held, IsHeld, IsHeldWithin}
+use Rattle.ept_core.specs.Law.{HoldsMore, HasPoint, KeepsLaw}
 use Rattle.ept_core.specs.Steps.{resumed_node, resumed}
-use Rattle.ept_core.proofs.NodeMap.{points_of, same_key-apart, node_at-entry, node_at-member, node_at-absent, key-has_node, rising-in_key_order}
+use Rattle.ept_core.proofs.NodeMap.{points_of, same_key-apart, node_at-member, node_at-absent, key-has_node, rising-in_key_order}
 use Rattle.ept_core.proofs.Held.{HasDistinctIds-left}
 use Rattle.ept_core.proofs.Leaving.{open-at, open-cases, over-open, fits-few, losers-kept, IsMember-losers, distinct-losers}
 
@@ -127,8 +126,8 @@ module _ (rules : Rules) (points qs rest : List Point) (resident : Bool) (can : 
   nowhere : (k : VoxelKey) → is_node rules qs k ≡ false → node_at s.nodes k ≡ blank
   nowhere k e =
       node_at-absent s.nodes k (λ g m. (
-        let r = member-map entry g (node_keys rules qs) m in
-        same_key-apart g.0 k (λ at. not_both (is_node rules qs k) (subst (λ (w : VoxelKey). is_node rules qs w ≡ true) (ap (λ (w : Entry). w.0) r.2 ∙ at) (IsMember-node_keys rules qs r.0 r.1)) e)))
+      let r = member-map entry g (node_keys rules qs) m in
+      same_key-apart g.0 k (λ at. not_both (is_node rules qs k) (subst (λ (w : VoxelKey). is_node rules qs w ≡ true) (ap (λ (w : Entry). w.0) r.2 ∙ at) (IsMember-node_keys rules qs r.0 r.1)) e)))
 
   points_at : (k : VoxelKey) → (node_at s.nodes k).points ≡ sampling rules qs k
   points_at k =
@@ -231,12 +230,12 @@ module _ (rules : Rules) (points qs rest : List Point) (resident : Bool) (can : 
     };
     passed = record {
       through_open = λ top k p h below. (
-        let up = left_above top k p h below in
-        open_to top (octant rules top.depth p) (small top.depth p)
-        ∙ is_node-given rules qs (child top (octant rules top.depth p)) p (leaves-given rules qs top p up.0 up.1));
+          let up = left_above top k p h below in
+          open_to top (octant rules top.depth p) (small top.depth p)
+          ∙ is_node-given rules qs (child top (octant rules top.depth p)) p (leaves-given rules qs top p up.0 up.1));
       lost_above = λ top k p h below. (
-        let up = left_above top k p h below in
-        lose_alike top p ∙ leaves-loses rules top.depth none_open (given rules qs top) p up.1);
+          let up = left_above top k p h below in
+          lose_alike top p ∙ leaves-loses rules top.depth none_open (given rules qs top) p up.1);
     };
     settled = record { open_without_losers = none; open_holds_more = more; closed_has_few = few };
     bottom = λ k o low e. overflows-depth rules k.depth (given rules qs k) o (open_over k o low e);
@@ -262,11 +261,15 @@ module _ (rules : Rules) (points qs rest : List Point) (resident : Bool) (can : 
 
       more : (k : VoxelKey) (o : ℕ) → o < 8 → has_open (node_at s.nodes k) o ≡ true → HoldsMore rules s (child k o)
       more k o low e =
-          let over : overflows rules k.depth (given rules qs k) o ≡ true = open_over k o low e in
-          (losers rules k.depth (given rules qs k) o, distinct-losers rules k.depth (given rules qs k) o (HasDistinctIds-IsRising (given rules qs k) (IsRising-given rules qs k distinct)), λ p m. (
-            let l = IsMember-losers rules k.depth (given rules qs k) o p m in
-            let goes : leaves rules k.depth none_open (given rules qs k) p ≡ true = leaves-from rules k.depth none_open (given rules qs k) p l.1 (over-open rules k.depth none_open (given rules qs k) (octant rules k.depth p) (subst (λ (n : ℕ). overflows rules k.depth (given rules qs k) n ≡ true) (sym l.2) over)) in
-            stays_below (child k o) p (subst (λ (n : ℕ). IsMember p (given rules qs (child k n))) l.2 (leaves-given rules qs k p l.0 goes))), overflows-more rules k.depth (given rules qs k) o over)
+          let over : overflows rules k.depth (given rules qs k) o ≡ true = open_over k o low e in (
+            losers rules k.depth (given rules qs k) o,
+            distinct-losers rules k.depth (given rules qs k) o (HasDistinctIds-IsRising (given rules qs k) (IsRising-given rules qs k distinct)),
+            λ p m. (
+                let l = IsMember-losers rules k.depth (given rules qs k) o p m in
+                let goes : leaves rules k.depth none_open (given rules qs k) p ≡ true = leaves-from rules k.depth none_open (given rules qs k) p l.1 (over-open rules k.depth none_open (given rules qs k) (octant rules k.depth p) (subst (λ (n : ℕ). overflows rules k.depth (given rules qs k) n ≡ true) (sym l.2) over)) in
+                stays_below (child k o) p (subst (λ (n : ℕ). IsMember p (given rules qs (child k n))) l.2 (leaves-given rules qs k p l.0 goes))),
+            overflows-more rules k.depth (given rules qs k) o over,
+          )
 
       few : (k : VoxelKey) (o : ℕ) → o < 8 → k.depth < rules.cube.depth → has_open (node_at s.nodes k) o ≡ false → length (losers rules k.depth (node_at s.nodes k).points o) ≤ rules.threshold
       few k o low above e =

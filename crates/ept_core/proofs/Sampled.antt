@@ -1,36 +1,28 @@
 -- What the law says of a state: each key that holds points is one of the sampling, and where nothing flies the nodes
 -- are the sampling.
-use Rattle.std.proofs.Common.{◌≡◌, ◌∙◌, ℕ, zero, suc, ◌+◌, ◌-◌, ◌≤◌, ◌<◌, Bool, true, false, cond, ◌⊎◌, inl, inr, List, [], ◌∷◌, ◌++◌, map, refl, sym, ap, subst, arith, filter, length, count_by}
+use Rattle.std.proofs.Common.{◌≡◌, ◌∙◌, ℕ, zero, suc, ◌+◌, ◌≤◌, ◌<◌, Bool, true, false, cond, inl, List, [], ◌∷◌, refl, sym, ap, subst, arith, filter, length}
 use Rattle.std.specs.List.{list_any}
 use Rattle.std.specs.List.Sorted.{IsPermutation}
-use Rattle.std.proofs.lemmas.Bool.{false≢true}
-use Rattle.std.proofs.lemmas.List.Sorted.{IsPermutation-sym, IsPermutation-trans, length_permutation}
+use Rattle.std.proofs.lemmas.List.Sorted.{length_permutation}
 use Rattle.ept_point.specs.declared.point.Point.{Point}
 use Rattle.ept_space.specs.declared.cube.Rules.{Rules}
 use Rattle.ept_space.specs.VoxelKey.{VoxelKey, root, child, parent, octant_of, is_within, is_below}
 use Rattle.ept_space.specs.OctreeCube.{InCube, key_at}
-use Rattle.ept_space.proofs.Family.{child-parent, depth-parent, octant_of-below, octant_of-child, depth-child}
-use Rattle.ept_space.proofs.Within.{is_within-self, is_within-trans, is_within-parent, is_within-child, depth-within, is_within-level, is_below-deeper, is_below-from}
-use Rattle.ept_space.proofs.PlaceKeys.{depth-key_at, key_at-box, octant_at-below, octant_of-key_at, key_at-root, is_within-key_at, key_at-unique}
-use Rattle.ept_sample.specs.declared.tiles.Tile.{Tile}
-use Rattle.ept_sample.specs.Place.{place, AllInCube}
-use Rattle.ept_sample.specs.Ids.{same_id, HasDistinctIds, in_id_order}
-use Rattle.ept_sample.specs.Arrivals.{loses, octant, losers, overflows, is_open, leaves, none_open}
-use Rattle.ept_sample.specs.Sampling.{given, sampling, is_node}
-use Rattle.ept_sample.specs.Nodes.{node_keys, tile_at, sampled}
-use Rattle.ept_sample.proofs.Members.{IsMember, IsMember-left, IsMember-filter, IsMember-kept, member-any, any-member, IsMember-map, member-map, all-member, All-members}
-use Rattle.ept_sample.proofs.Best.{either, not_both}
-use Rattle.ept_sample.proofs.IdLaws.{same_id-self, same_member, HasDistinctIds-filter, HasDistinctIds-IsPermutation, HasDistinctIds-IsRising, IsMember-in_id_order, in_id_order-members, in_id_order-IsRising, IsPermutation-members}
-use Rattle.ept_sample.proofs.ArrivalLaws.{loses-beaten, best, leaves-loses, leaves-open, leaves-from, overflows-more}
-use Rattle.ept_sample.proofs.SamplingLaws.{given-root, given-top, given-leaves, leaves-given, given-IsMember, given-key_at, depth-side, is_node-root, is_node-given, node-cases, IsMember-sampling, sampling-IsMember, sampling-some, below_or_at, IsRising-given, IsRising-sampling}
-use Rattle.ept_sample.proofs.NodeLaws.{node_keys-is}
-use Rattle.ept_core.specs.declared.flight.Flight.{Flight}
-use Rattle.ept_core.specs.declared.node.Node.{Node}
-use Rattle.ept_core.specs.State.{State, Entry, node_at, has_open, keys_of, held, IsHeld, IsFlying}
+use Rattle.ept_space.proofs.Family.{child-parent, depth-parent, octant_of-child, depth-child}
+use Rattle.ept_space.proofs.Within.{is_within-self, is_within-trans, is_within-parent, is_within-child, depth-within, is_below-from}
+use Rattle.ept_space.proofs.PlaceKeys.{key_at-box, octant_at-below, octant_of-key_at, key_at-root, key_at-unique}
+use Rattle.ept_sample.specs.Place.{place}
+use Rattle.ept_sample.specs.Ids.{same_id, HasDistinctIds}
+use Rattle.ept_sample.specs.Arrivals.{loses, octant, losers, overflows, leaves, none_open}
+use Rattle.ept_sample.specs.Sampling.{given, is_node}
+use Rattle.ept_sample.proofs.Members.{IsMember, IsMember-filter, IsMember-kept, member-any, any-member, all-member}
+use Rattle.ept_sample.proofs.IdLaws.{same_id-self, same_member, HasDistinctIds-filter, HasDistinctIds-IsRising, IsMember-in_id_order, IsPermutation-members}
+use Rattle.ept_sample.proofs.ArrivalLaws.{leaves-from}
+use Rattle.ept_sample.proofs.SamplingLaws.{given-root, leaves-given, depth-side, is_node-given, IsRising-given}
+use Rattle.ept_core.specs.State.{State, node_at, has_open, IsHeld}
 use Rattle.ept_core.specs.Law.{KeepsLaw}
-use Rattle.ept_core.proofs.NodeMap.{points_of, without, points_of-split, node_at-entry, node_at-member, has_node-key}
-use Rattle.ept_core.proofs.Held.{flown, HasDistinctIds-left, held-drawn, drawn-point, held-point, keys-rise, drawn-held, distinct-drawn, distinct-held}
-use Rattle.ept_core.proofs.Leaving.{open-cases, loses-more, IsMember-losers, losers-IsMember, distinct-losers, overflows-from, over-open}
+use Rattle.ept_core.proofs.Held.{held-drawn, held-point}
+use Rattle.ept_core.proofs.Leaving.{loses-more, losers-IsMember, distinct-losers, overflows-from, over-open}
 
 -- ---- lists with distinct ids
 

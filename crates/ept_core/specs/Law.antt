@@ -1,5 +1,5 @@
 -- The law of the core. It speaks of a state alone: of no order and of no history.
-use Rattle.std.specs.Prelude.{◌≡◌, ◌≤◌, ◌<◌, ℕ, Bool, true, false, ◌⊎◌, List, length}
+use Rattle.std.specs.Prelude.{◌≡◌, ◌≤◌, ◌<◌, ℕ, true, false, ◌⊎◌, List, length}
 use Rattle.std.specs.List.Sorted.{IsPermutation}
 use Rattle.std.specs.Prelude.{◌++◌}
 use Rattle.ept_point.specs.declared.point.Point.{Point}

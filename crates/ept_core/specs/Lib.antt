@@ -1,3 +1,4 @@
 pub mod State
 pub mod Law
 pub mod Steps
+pub mod CoreLaws

@@ -1,5 +1,5 @@
 -- The states of the core.
-use Rattle.std.specs.Prelude.{◌≡◌, ◌≤◌, ℕ, Bool, true, false, ◌⊎◌, List, [], ◌∷◌, ◌++◌, map, slice_index_or, if◌then◌else◌}
+use Rattle.std.specs.Prelude.{◌≡◌, ℕ, Bool, true, false, ◌⊎◌, List, [], ◌∷◌, ◌++◌, map, slice_index_or, if◌then◌else◌}
 use Rattle.std.specs.List.{flat_map, list_any}
 use Rattle.ept_sample.specs.declared.tiles.Tile.{Tile}
 use Rattle.ept_sample.proofs.Members.{IsMember}

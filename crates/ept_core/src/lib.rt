@@ -7,8 +7,10 @@
 
 mod event;
 mod flight;
+mod laws;
 mod node;
 
 pub use event::Event;
 pub use flight::Flight;
-pub use node::Node;
+pub use laws::{key_law, landed_law, start_law, step_law};
+pub use node::{Node, OCTANTS};
