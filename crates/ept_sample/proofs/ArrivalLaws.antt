@@ -1,23 +1,22 @@
 -- What points do to the node that they are given to.
-use Rattle.std.proofs.Common.{◌≡◌, ◌∙◌, ℕ, zero, suc, ◌+◌, ◌≤◌, ◌<◌, Bool, true, false, cond, not, ◌&&◌, ◌||◌, ◌==◌, nat_lt, ◌⊎◌, inl, inr, List, [], ◌∷◌, ◌++◌, refl, sym, ap, subst, arith, eq-eqb, filter, length}
+use Rattle.std.proofs.Common.{◌≡◌, ◌∙◌, ℕ, ◌<◌, Bool, true, false, cond, not, ◌&&◌, ◌==◌, nat_lt, inl, inr, List, [], ◌∷◌, refl, sym, ap, arith, eq-eqb, filter, length}
 use Rattle.std.specs.Prelude.{if◌then◌else◌}
 use Rattle.std.proofs.lemmas.Bool.{false≢true}
 use borrow.Author.Tests.{ltb-true}
 use Rattle.std.proofs.lemmas.Bool.Decides.{nat_tests}
 use Rattle.std.proofs.lemmas.List.Elements.{filter_agree}
-use Rattle.std.proofs.lemmas.List.Sorted.{IsPermutation-filter_both, list_any-IsPermutation}
+use Rattle.std.proofs.lemmas.List.Sorted.{list_any-IsPermutation}
 use Rattle.std.specs.List.Sorted.{IsPermutation}
-use Rattle.std.specs.List.{list_any}
 use Rattle.ept_point.specs.declared.point.Point.{Point}
 use Rattle.ept_space.specs.declared.cube.Rules.{Rules}
-use Rattle.ept_sample.specs.Ids.{comes_before, HasDistinctIds}
+use Rattle.ept_sample.specs.Ids.{comes_before}
 use Rattle.ept_sample.specs.Rank.{beats}
 use Rattle.ept_sample.specs.Arrivals.{loses, octant, losers, overflows, is_open, leaves, kept, sent, none_open}
 use Rattle.ept_sample.proofs.Members.{IsMember, IsMember-filter, IsMember-kept, member-any, any-member}
 use Rattle.ept_sample.proofs.Ascending.{IsRising, IsRising-filter}
-use Rattle.ept_sample.proofs.Best.{Winner, winner_of, is_beaten-filter, either, not_both}
-use Rattle.ept_sample.proofs.IdLaws.{HasDistinctIds-filter}
-use Rattle.ept_sample.proofs.RankLaws.{contest, and_left, and_right, and_both}
+use Rattle.ept_sample.proofs.Best.{winner_of, is_beaten-filter}
+use Rattle.ept_sample.proofs.RankLaws.{contest}
+use Rattle.ept_sample.proofs.Choices.{either, and_left, and_right, and_both}
 
 pub same_number : (a b : ℕ) → (a == b) ≡ true → a ≡ b
 same_number a b e = grind (arith, nat_tests)

@@ -1,40 +1,19 @@
 -- Points that arrive at a node in two batches, and points in another order.
-use Rattle.std.proofs.Common.{◌≡◌, ◌∙◌, ℕ, zero, suc, ◌+◌, ◌≤◌, ◌<◌, Bool, true, false, cond, not, ◌&&◌, ◌||◌, ◌==◌, nat_lt, ◌⊎◌, inl, inr, List, [], ◌∷◌, ◌++◌, refl, sym, ap, subst, arith, filter, length, count_by, length-append, append_assoc}
+use Rattle.std.proofs.Common.{◌≡◌, ◌∙◌, ℕ, ◌≤◌, ◌<◌, Bool, true, false, cond, not, ◌&&◌, ◌||◌, ◌==◌, nat_lt, inl, inr, List, [], ◌∷◌, ◌++◌, refl, sym, ap, subst, arith, filter, length, length-append, append_assoc}
 use Rattle.std.specs.List.{list_any}
 use Rattle.std.specs.List.Sorted.{IsPermutation}
-use borrow.Author.Tests.{ltb-true}
 use Rattle.std.proofs.lemmas.Bool.{false≢true, lt-ltb}
-use Rattle.std.proofs.lemmas.Bool.Decides.{nat_tests}
 use Rattle.std.proofs.lemmas.List.Elements.{filter-append, filter_agree}
-use Rattle.std.proofs.lemmas.List.Sums.{length-filter}
-use Rattle.std.proofs.lemmas.List.Sorted.{IsPermutation-refl, IsPermutation-sym, IsPermutation-trans, IsPermutation-append, IsPermutation-filter_both, length_permutation}
+use Rattle.std.proofs.lemmas.List.Sorted.{IsPermutation-refl, IsPermutation-sym, IsPermutation-append, IsPermutation-filter_both}
 use Rattle.ept_point.specs.declared.point.Point.{Point}
 use Rattle.ept_space.specs.declared.cube.Rules.{Rules}
-use Rattle.ept_sample.specs.Ids.{HasDistinctIds}
 use Rattle.ept_sample.specs.Rank.{beats}
 use Rattle.ept_sample.specs.Arrivals.{loses, octant, losers, overflows, is_open, leaves, kept, sent}
-use Rattle.ept_sample.proofs.Members.{IsMember, IsMember-filter, IsMember-kept}
-use Rattle.ept_sample.proofs.Best.{either, not_both}
-use Rattle.ept_sample.proofs.RankLaws.{and_left, and_right, and_both}
-use Rattle.ept_sample.proofs.IdLaws.{HasDistinctIds-filter, HasDistinctIds-IsPermutation, IsPermutation-members, IsMember-IsPermutation}
-use Rattle.ept_sample.proofs.ArrivalLaws.{loses-kept, loses-IsPermutation, leaves-loses, leaves-open, leaves-from, overflows-depth, overflows-more, same_number}
+use Rattle.ept_sample.proofs.ArrivalLaws.{loses-kept, leaves-loses, leaves-open, leaves-from, overflows-depth, overflows-more, same_number}
+use Rattle.ept_sample.proofs.Choices.{either, not_both, and_left, and_right, and_both, or_left, or_right, or_cases, or_false}
+use Rattle.ept_sample.proofs.Members.{filter-filter}
 
 -- ---- tests
-
-or_left : (b c : Bool) → b ≡ true → (b || c) ≡ true
-or_left b c e = ap (λ (x : Bool). x || c) e
-
-or_right : (b c : Bool) → c ≡ true → (b || c) ≡ true
-or_right true c e = refl
-or_right false c e = e
-
-or_cases : (b c : Bool) → (b || c) ≡ true → (b ≡ true) ⊎ (c ≡ true)
-or_cases true c e = inl refl
-or_cases false c e = inr e
-
-or_false : (b c : Bool) → (b || c) ≡ false → (b ≡ false) × (c ≡ false)
-or_false true c e = absurd (false≢true (sym e))
-or_false false c e = (refl, e)
 
 or_assoc : (a b c : Bool) → ((a || b) || c) ≡ (a || (b || c))
 or_assoc true b c = refl
@@ -51,14 +30,6 @@ list_any-append : {X : Type 0} (test : X → Bool) (xs ys : List X) → list_any
 list_any-append test [] ys = refl
 list_any-append test (x ∷ xs) ys =
     ap (λ (b : Bool). test x || b) (list_any-append test xs ys) ∙ sym (or_assoc (test x) (list_any test xs) (list_any test ys))
-
-filter_twice_step : {X : Type 0} (p q : X → Bool) (x : X) (xs : List X) (b : Bool) → filter q (filter p xs) ≡ filter (λ y. p y && q y) xs → filter q (cond b (x ∷ filter p xs) (filter p xs)) ≡ cond (b && q x) (x ∷ filter (λ y. p y && q y) xs) (filter (λ y. p y && q y) xs)
-filter_twice_step {X} p q x xs true rest = ap (λ (w : List X). cond (q x) (x ∷ w) w) rest
-filter_twice_step {X} p q x xs false rest = rest
-
-pub filter-filter : {X : Type 0} (p q : X → Bool) (xs : List X) → filter q (filter p xs) ≡ filter (λ x. p x && q x) xs
-filter-filter p q [] = refl
-filter-filter p q (x ∷ xs) = filter_twice_step p q x xs (p x) (filter-filter p q xs)
 
 -- ---- who loses among more points
 
@@ -97,7 +68,7 @@ losers-more rules depth xs ys o =
     let some : length (filter p xs) ≤ length (filter all xs) = filter_more p all xs (λ q e. and_both _ _ (loses-more rules depth xs ys q (and_left _ _ e)) (and_right (loses rules depth xs q) (octant rules depth q == o) e)) in
     omega (arith, some, ap length (filter-append all xs ys), length-append (filter all xs) (filter all ys))
 
-overflow_from : (rules : Rules) (depth : ℕ) (xs : List Point) (o : ℕ) → depth < rules.cube.depth → rules.threshold < length (losers rules depth xs o) → overflows rules depth xs o ≡ true
+pub overflow_from : (rules : Rules) (depth : ℕ) (xs : List Point) (o : ℕ) → depth < rules.cube.depth → rules.threshold < length (losers rules depth xs o) → overflows rules depth xs o ≡ true
 unfolding overflows
 overflow_from rules depth xs o above more = and_both _ _ (lt-ltb depth rules.cube.depth above) (lt-ltb rules.threshold (length (losers rules depth xs o)) more)
 

@@ -1,8 +1,9 @@
 -- A relation that nothing has to itself and that goes on: who is beaten is beaten by one that is not.
-use Rattle.std.proofs.Common.{◌≡◌, Bool, true, false, cond, ◌||◌, not, ◌⊎◌, inl, inr, List, [], ◌∷◌, refl, ap, sym, ◌∙◌, subst, filter}
+use Rattle.std.proofs.Common.{◌≡◌, Bool, true, false, ◌||◌, inl, inr, List, [], ◌∷◌, refl, ap, sym, ◌∙◌, filter}
 use Rattle.std.specs.List.{list_any}
 use Rattle.std.proofs.lemmas.Bool.{false≢true}
 use Rattle.ept_sample.proofs.Members.{IsMember, member-any, any-member, IsMember-kept, IsMember-filter}
+use Rattle.ept_sample.proofs.Choices.{either, not_both, first_of_two}
 
 -- a strict order in part
 pub record IsContest {X : Type 0} (beats : X → X → Bool) : Type 0 where
@@ -16,18 +17,6 @@ is_beaten beats xs x = list_any (λ y. beats y x) xs
 -- a winner of the list that beats x
 abbrev pub Winner : {X : Type 0} → (X → X → Bool) → List X → X → Type 0
 Winner {X} beats xs x = (y : X) × IsMember y xs × (beats y x ≡ true) × (is_beaten beats xs y ≡ false)
-
--- a test, by cases
-pub either : (b : Bool) → (b ≡ true) ⊎ (b ≡ false)
-either true = inl refl
-either false = inr refl
-
-pub not_both : (b : Bool) → b ≡ true → b ≡ false → ⊥
-not_both b is isn't = false≢true (sym isn't ∙ is)
-
-first_of_two : (b c : Bool) → (b || c) ≡ true → c ≡ false → b ≡ true
-first_of_two true c some none = refl
-first_of_two false c some none = absurd (not_both c some none)
 
 beaten_rest : {X : Type 0} (beats : X → X → Bool) (y : X) (xs : List X) (x : X) → beats y x ≡ false → is_beaten beats xs x ≡ false → is_beaten beats (y ∷ xs) x ≡ false
 beaten_rest beats y xs x first rest = ap (λ b. b || is_beaten beats xs x) first ∙ rest
@@ -80,7 +69,3 @@ is_beaten-filter beats o keep xs winners x =
             | inr none ↦ none ∙ sym fine
           ]
     ]
-
-pub is_false : (b : Bool) → ¬ (b ≡ true) → b ≡ false
-is_false true h = absurd (h refl)
-is_false false h = refl

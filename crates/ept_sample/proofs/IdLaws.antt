@@ -1,7 +1,6 @@
 -- Points in id order.
-use Rattle.std.proofs.Common.{◌≡◌, ◌∙◌, ℕ, zero, suc, ◌+◌, ◌-◌, ◌≤◌, ◌<◌, Bool, true, false, cond, ◌&&◌, ◌||◌, ◌==◌, nat_lt, ◌⊎◌, inl, inr, List, [], ◌∷◌, ◌++◌, refl, sym, ap, subst, arith, eq-eqb, filter, count_by, sum_by, length, map, get_or}
+use Rattle.std.proofs.Common.{◌≡◌, ◌∙◌, ℕ, zero, suc, ◌+◌, ◌-◌, ◌≤◌, ◌<◌, Bool, true, false, cond, ◌&&◌, ◌||◌, ◌==◌, nat_lt, ◌⊎◌, inl, inr, List, [], ◌∷◌, ◌++◌, refl, sym, ap, subst, arith, eq-eqb, filter, count_by, length, get_or}
 use Rattle.std.specs.Ordering.{is_lt, ordering_then, nat_cmp}
-use Rattle.std.proofs.lemmas.Bool.{false≢true}
 use Rattle.std.proofs.lemmas.List.{get_or_read}
 use Rattle.std.proofs.lemmas.Bool.Decides.{nat_tests}
 use Rattle.std.proofs.lemmas.List.Sums.{sum_by-cons, sum_by-append}
@@ -9,12 +8,11 @@ use Rattle.std.proofs.lemmas.List.Sorted.{IsPermutation-refl, IsPermutation-cons
 use Rattle.std.specs.List.Sorted.{IsPermutation}
 use Rattle.ept_point.specs.declared.point.Point.{Point}
 use Rattle.ept_point.specs.declared.id.PointId.{PointId}
-use Rattle.ept_point.specs.Order.{IsAscending, FollowedBy, IsBefore, id}
+use Rattle.ept_point.specs.Order.{IsAscending, IsBefore, id}
 use Rattle.ept_sample.specs.Ids.{same_id, comes_before, HasDistinctIds, placed_by_id, in_id_order}
 use Rattle.ept_sample.proofs.Members.{IsMember, IsMember-contains, contains-IsMember}
 use Rattle.ept_sample.proofs.Ascending.{IsOrder, IsBeforeAll, IsRising, same_rising}
-use Rattle.ept_sample.proofs.Best.{either, not_both}
-use Rattle.ept_sample.proofs.RankLaws.{and_left, and_right, and_both}
+use Rattle.ept_sample.proofs.Choices.{either, not_both, and_both}
 
 -- ---- the order of ids
 

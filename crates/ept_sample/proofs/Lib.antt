@@ -1,3 +1,4 @@
+pub mod Choices
 pub mod Members
 pub mod Ascending
 pub mod Best
@@ -11,3 +12,4 @@ pub mod WalkLaws
 pub mod WalkNodes
 pub mod Batches
 pub mod Parts
+pub mod MorePoints

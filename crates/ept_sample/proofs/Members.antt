@@ -1,8 +1,9 @@
 -- The items of a list, in any order.
-use Rattle.std.proofs.Common.{◌≡◌, ℕ, suc, zero, ◌+◌, ◌<◌, Bool, true, false, cond, ◌||◌, ◌⊎◌, inl, inr, List, [], ◌∷◌, ◌++◌, map, length, get_or, refl, ap, sym, ◌∙◌, subst, arith, filter}
+use Rattle.std.proofs.Common.{◌≡◌, suc, zero, ◌<◌, Bool, true, false, cond, ◌&&◌, ◌||◌, ◌⊎◌, inl, inr, List, [], ◌∷◌, ◌++◌, map, refl, ap, sym, ◌∙◌, subst, arith, filter}
 use Rattle.std.specs.List.{All, Contains, list_any, flat_map}
 use Rattle.std.proofs.lemmas.List.Elements.{All-head, All-tail, All-cons, All-nil}
 use Rattle.std.proofs.lemmas.Bool.{false≢true}
+use Rattle.ept_sample.proofs.Choices.{or_right}
 
 -- x is one of the items
 abbrev pub IsMember : {X : Type 0} → X → List X → Type 0
@@ -48,6 +49,15 @@ pub IsMember-kept : {X : Type 0} (test : X → Bool) (x : X) (xs : List X) → t
 IsMember-kept test x [] passes m = absurd m
 IsMember-kept test x (y ∷ ys) passes m = keep_step test x y ys (test y) refl passes (IsMember-kept test x ys passes) m
 
+filter_twice_step : {X : Type 0} (p q : X → Bool) (x : X) (xs : List X) (b : Bool) → filter q (filter p xs) ≡ filter (λ y. p y && q y) xs → filter q (cond b (x ∷ filter p xs) (filter p xs)) ≡ cond (b && q x) (x ∷ filter (λ y. p y && q y) xs) (filter (λ y. p y && q y) xs)
+filter_twice_step {X} p q x xs true rest = ap (λ (w : List X). cond (q x) (x ∷ w) w) rest
+filter_twice_step {X} p q x xs false rest = rest
+
+-- two tests, one after the other
+pub filter-filter : {X : Type 0} (p q : X → Bool) (xs : List X) → filter q (filter p xs) ≡ filter (λ x. p x && q x) xs
+filter-filter p q [] = refl
+filter-filter p q (x ∷ xs) = filter_twice_step p q x xs (p x) (filter-filter p q xs)
+
 -- ---- some item passes a test
 
 any_step : {X : Type 0} (test : X → Bool) (y : X) (ys : List X) (b : Bool) → test y ≡ b → (list_any test ys ≡ true → (x : X) × IsMember x ys × (test x ≡ true)) → (b || list_any test ys) ≡ true → (x : X) × IsMember x (y ∷ ys) × (test x ≡ true)
@@ -58,10 +68,6 @@ any_step test y ys false e more some = let r = more some in (r.0, inr r.1, r.2)
 pub member-any : {X : Type 0} (test : X → Bool) (xs : List X) → list_any test xs ≡ true → (x : X) × IsMember x xs × (test x ≡ true)
 member-any test [] some = absurd (false≢true some)
 member-any test (y ∷ ys) some = any_step test y ys (test y) refl (member-any test ys) some
-
-or_right : (b c : Bool) → c ≡ true → (b || c) ≡ true
-or_right true c e = refl
-or_right false c e = e
 
 pub any-member : {X : Type 0} (test : X → Bool) (x : X) (xs : List X) → IsMember x xs → test x ≡ true → list_any test xs ≡ true
 any-member test x [] m passes = absurd m

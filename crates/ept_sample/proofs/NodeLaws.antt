@@ -1,27 +1,24 @@
 -- The list of the sampling's nodes.
-use Rattle.std.proofs.Common.{◌≡◌, ◌∙◌, ℕ, zero, suc, ◌+◌, ◌≤◌, ◌<◌, Bool, true, false, nat_lt, ◌⊎◌, inl, inr, List, [], ◌∷◌, ◌++◌, map, refl, sym, ap, subst, arith, filter, count_by, cond}
+use Rattle.std.proofs.Common.{◌≡◌, ◌∙◌, ℕ, zero, suc, ◌+◌, ◌≤◌, Bool, true, false, ◌⊎◌, inl, inr, List, [], ◌∷◌, ◌++◌, map, refl, sym, ap, subst, arith, filter, count_by, cond}
 use Rattle.std.specs.List.{flat_map}
 use Rattle.std.specs.List.Sorted.{IsPermutation}
 use Rattle.std.proofs.lemmas.List.Sorted.{All-permutation}
-use borrow.Author.Tests.{ltb-true}
-use Rattle.std.proofs.lemmas.Bool.{false≢true}
-use Rattle.std.proofs.lemmas.Bool.Decides.{nat_tests}
 use Rattle.ept_point.specs.declared.point.Point.{Point}
 use Rattle.ept_space.specs.declared.cube.Rules.{Rules}
-use Rattle.ept_space.specs.VoxelKey.{VoxelKey, IsKey, root}
+use Rattle.ept_space.specs.VoxelKey.{VoxelKey}
 use Rattle.ept_space.specs.Place.{Place}
 use Rattle.ept_space.specs.OctreeCube.{OctreeCube, IsCube, InCube, key_at}
 use Rattle.ept_sample.specs.declared.tiles.Tile.{Tile}
 use Rattle.ept_sample.specs.Place.{place, AllInCube}
 use Rattle.ept_sample.specs.Ids.{same_id, HasDistinctIds}
 use Rattle.ept_sample.specs.Sampling.{given, sampling, is_node}
-use Rattle.ept_sample.specs.Nodes.{keys_down_to, candidate_keys, node_keys, tile_at, sampled, in_key_order}
-use Rattle.ept_sample.proofs.Members.{IsMember, IsMember-left, IsMember-right, IsMember-filter, IsMember-kept, IsMember-flat_map, member-flat_map, IsMember-map, member-map, all-member}
-use Rattle.ept_sample.proofs.Ascending.{IsRising, IsBeforeAll, same_rising}
-use Rattle.ept_sample.proofs.Best.{either, not_both}
+use Rattle.ept_sample.specs.Nodes.{keys_down_to, candidate_keys, node_keys, tile_at, sampled}
+use Rattle.ept_sample.proofs.Members.{IsMember, IsMember-left, IsMember-right, IsMember-filter, IsMember-kept, IsMember-flat_map, member-flat_map, all-member}
+use Rattle.ept_sample.proofs.Ascending.{IsRising, same_rising}
 use Rattle.ept_sample.proofs.KeyOrder.{key_before, key_order, IsMember-in_key_order, in_key_order-IsMember, IsRising-in_key_order}
-use Rattle.ept_sample.proofs.IdLaws.{count_by-append, count_by-cons, same_id-trans, same_id-sym, count_by-member, same_member, HasDistinctIds-IsRising, IsPermutation-members, HasDistinctIds-IsPermutation, IsMember-IsPermutation}
-use Rattle.ept_sample.proofs.SamplingLaws.{below_or_at, given-IsMember, given-depth, given-key_at, is_node-root, node-cases, is_node-given, IsMember-sampling, stays-somewhere, stays-once, IsRising-sampling, is_node-IsPermutation, sampling-IsPermutation}
+use Rattle.ept_sample.proofs.IdLaws.{count_by-append, count_by-cons, same_id-trans, same_id-sym, same_member, HasDistinctIds-IsRising, IsPermutation-members}
+use Rattle.ept_sample.proofs.SamplingLaws.{below_or_at, given-IsMember, given-depth, given-key_at, node-cases, is_node-given, IsMember-sampling, stays-somewhere, stays-once, IsRising-sampling, is_node-IsPermutation, sampling-IsPermutation}
+use Rattle.ept_sample.proofs.Choices.{either, not_both}
 
 -- ---- the keys of the nodes
 

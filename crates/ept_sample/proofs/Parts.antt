@@ -1,5 +1,5 @@
 -- The points given to a node are those that stay and those that leave, in whatever order they come.
-use Rattle.std.proofs.Common.{◌≡◌, ◌∙◌, ℕ, zero, suc, ◌+◌, ◌≤◌, ◌<◌, Bool, true, false, not, ◌&&◌, ◌||◌, ◌==◌, nat_lt, List, [], ◌∷◌, ◌++◌, refl, sym, ap, subst, arith, filter, length, count_by}
+use Rattle.std.proofs.Common.{◌≡◌, ◌∙◌, ℕ, zero, suc, Bool, true, false, not, ◌&&◌, ◌||◌, ◌==◌, nat_lt, List, [], ◌∷◌, ◌++◌, refl, sym, ap, subst, arith, filter, length}
 use Rattle.std.specs.List.{flat_map}
 use Rattle.std.specs.List.Sorted.{IsPermutation}
 use Rattle.std.proofs.lemmas.Bool.{lt-ltb}
@@ -18,7 +18,7 @@ use Rattle.ept_sample.specs.Arrivals.{loses, octant, losers, overflows, is_open,
 use Rattle.ept_sample.proofs.Members.{IsMember}
 use Rattle.ept_sample.proofs.IdLaws.{HasDistinctIds-filter, HasDistinctIds-IsPermutation, IsPermutation-members, IsMember-IsPermutation, count_by-IsPermutation}
 use Rattle.ept_sample.proofs.ArrivalLaws.{loses-IsPermutation, IsMember-stays, stays-IsMember, IsMember-sent, sent-IsMember}
-use Rattle.ept_sample.proofs.Batches.{filter-filter, split}
+use Rattle.ept_sample.proofs.Batches.{split}
 
 -- ---- by a number
 

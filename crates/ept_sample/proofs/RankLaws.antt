@@ -1,5 +1,5 @@
 -- The order of ranks, and beating.
-use Rattle.std.proofs.Common.{◌≡◌, ◌∙◌, ℕ, ◌<◌, Bool, true, false, ◌&&◌, ◌||◌, ◌==◌, nat_lt, ◌⊎◌, inl, inr, refl, sym, arith, eq-eqb, eqb, List}
+use Rattle.std.proofs.Common.{◌≡◌, ◌∙◌, ℕ, Bool, true, false, ◌&&◌, ◌||◌, ◌==◌, nat_lt, ◌⊎◌, inl, inr, sym, arith, eq-eqb, eqb, List}
 use Rattle.std.proofs.lemmas.Bool.{false≢true}
 use Rattle.std.proofs.lemmas.Bool.Decides.{nat_tests, same_from_decides, Decides-like, Decides-eqb}
 use Rattle.std.proofs.lemmas.Slice.Eq.{slice_eq-Decides}
@@ -8,12 +8,13 @@ use Rattle.ept_point.specs.declared.point.Point.{Point}
 use Rattle.ept_space.specs.declared.cube.Rules.{Rules}
 use Rattle.ept_space.specs.OctreeCube.{OctreeCube, same_cell, cell_at}
 use Rattle.ept_space.specs.Place.{Place}
-use Rattle.ept_space.proofs.Cells.{same_cell-self, same_cell-sym, same_cell-trans, cell_at-same, same_cell-cell_at}
+use Rattle.ept_space.proofs.Cells.{same_cell-sym, same_cell-trans, cell_at-same, same_cell-cell_at}
 use Rattle.ept_sample.specs.Place.{place}
 use Rattle.ept_sample.specs.Ids.{same_id}
 use Rattle.ept_sample.specs.declared.rank.Rank.{Rank}
 use Rattle.ept_sample.specs.Rank.{rank_at, is_better, beats}
-use Rattle.ept_sample.proofs.Best.{IsContest, either}
+use Rattle.ept_sample.proofs.Best.{IsContest}
+use Rattle.ept_sample.proofs.Choices.{either, and_left, and_right, and_both}
 
 -- the three parts of a rank, in order
 lexicographic : ℕ → ℕ → ℕ → ℕ → ℕ → ℕ → Bool
@@ -46,18 +47,6 @@ unfolding lexicographic
 is_better-total a b e f = lex-total a.distance a.origin a.number b.distance b.origin b.number e f
 
 -- ---- two tests at once
-
-pub and_left : (b c : Bool) → (b && c) ≡ true → b ≡ true
-and_left true c e = refl
-and_left false c e = e
-
-pub and_right : (b c : Bool) → (b && c) ≡ true → c ≡ true
-and_right true c e = e
-and_right false c e = absurd (false≢true e)
-
-pub and_both : (b c : Bool) → b ≡ true → c ≡ true → (b && c) ≡ true
-and_both true c e f = f
-and_both false c e f = e
 
 -- ---- beating
 

@@ -1,8 +1,6 @@
 -- The sampling: what is given to each key, and where each point stays.
-use Rattle.std.proofs.Common.{◌≡◌, ◌∙◌, ℕ, zero, suc, ◌+◌, ◌-◌, ◌≤◌, ◌<◌, Bool, true, false, cond, not, ◌&&◌, ◌||◌, ◌==◌, nat_lt, ◌⊎◌, inl, inr, List, [], ◌∷◌, ◌++◌, refl, sym, ap, subst, arith, eq-eqb, filter, length, add-one}
-use Rattle.std.specs.Prelude.{if◌then◌else◌, IsTrue, ◌↔◌}
-use Rattle.std.proofs.lemmas.Bool.{false≢true}
-use Rattle.std.specs.List.{All}
+use Rattle.std.proofs.Common.{◌≡◌, ◌∙◌, ℕ, zero, suc, ◌+◌, ◌≤◌, ◌<◌, Bool, true, false, cond, ◌||◌, nat_lt, ◌⊎◌, inl, inr, List, [], ◌∷◌, refl, sym, ap, subst, arith, length}
+use Rattle.std.specs.Prelude.{IsTrue, ◌↔◌}
 use Rattle.std.specs.List.Sorted.{IsPermutation}
 use borrow.Author.Tests.{ltb-true}
 use Rattle.std.proofs.lemmas.Bool.{lt-ltb}
@@ -10,20 +8,20 @@ use Rattle.std.proofs.lemmas.Bool.Decides.{nat_tests}
 use Rattle.ept_point.specs.declared.point.Point.{Point}
 use Rattle.ept_space.specs.declared.cube.Rules.{Rules}
 use Rattle.ept_space.specs.VoxelKey.{VoxelKey, IsKey, root, same_key, child, parent, octant_of}
-use Rattle.ept_space.specs.OctreeCube.{OctreeCube, IsCube, InCube, InBox, key_at, octant_at}
+use Rattle.ept_space.specs.OctreeCube.{OctreeCube, IsCube, InCube, InBox, key_at}
 use Rattle.ept_space.proofs.Family.{parent-child, octant_of-child, child-parent, octant_of-below, depth-child, depth-parent}
 use Rattle.ept_space.proofs.Within.{same_key-true, same_key-same}
-use Rattle.ept_space.proofs.PlaceKeys.{depth-key_at, key_at-suc, key_at-root, IsKey-key_at, octant_at-below, octant_of-key_at, parent-key_at, InBox-key_at, InBox-root, InCube-root}
+use Rattle.ept_space.proofs.PlaceKeys.{key_at-suc, key_at-root, IsKey-key_at, octant_at-below, InBox-key_at, InBox-root, InCube-root}
 use Rattle.ept_space.specs.Place.{Place}
-use Rattle.ept_sample.specs.Place.{place, AllInCube, AllInBox}
-use Rattle.ept_sample.specs.Ids.{same_id, comes_before, HasDistinctIds, in_id_order}
-use Rattle.ept_sample.specs.Arrivals.{loses, octant, losers, overflows, is_open, leaves, kept, sent, none_open}
+use Rattle.ept_sample.specs.Place.{place, AllInCube}
+use Rattle.ept_sample.specs.Ids.{comes_before, HasDistinctIds, in_id_order}
+use Rattle.ept_sample.specs.Arrivals.{loses, octant, is_open, leaves, kept, sent, none_open}
 use Rattle.ept_sample.specs.Sampling.{given_at, given, sampling, is_node}
-use Rattle.ept_sample.proofs.Members.{IsMember, all-member, All-members}
+use Rattle.ept_sample.proofs.Members.{IsMember, all-member}
 use Rattle.ept_sample.proofs.Ascending.{IsRising}
-use Rattle.ept_sample.proofs.Best.{either, not_both}
 use Rattle.ept_sample.proofs.IdLaws.{IsRising-in_id_order, in_id_order-IsMember, IsMember-in_id_order, in_id_order-IsPermutation}
-use Rattle.ept_sample.proofs.ArrivalLaws.{IsMember-sent, sent-IsMember, IsMember-stays, stays-IsMember, leaves-open, leaves-loses, overflows-depth, sent-none_open, IsRising-sent, IsRising-kept, best, stays-winner, BestOver}
+use Rattle.ept_sample.proofs.ArrivalLaws.{IsMember-sent, sent-IsMember, IsMember-stays, stays-IsMember, leaves-open, overflows-depth, IsRising-sent, IsRising-kept, best, stays-winner, BestOver}
+use Rattle.ept_sample.proofs.Choices.{either, not_both, or_left, or_right, or_cases, not_true}
 
 -- ---- what is given
 
@@ -133,17 +131,6 @@ given-IsKey rules points key p ok inside m =
 
 -- ---- which keys are nodes
 
-or_left : (b c : Bool) → b ≡ true → (b || c) ≡ true
-or_left b c e = ap (λ (x : Bool). x || c) e
-
-or_right : (b c : Bool) → c ≡ true → (b || c) ≡ true
-or_right true c e = refl
-or_right false c e = e
-
-or_cases : (b c : Bool) → (b || c) ≡ true → (b ≡ true) ⊎ (c ≡ true)
-or_cases true c e = inl refl
-or_cases false c e = inr e
-
 pub is_node-root : (rules : Rules) (points : List Point) → is_node rules points root ≡ true
 unfolding is_node
 is_node-root rules points =
@@ -197,10 +184,6 @@ IsMember-sampling rules points key p m = IsMember-stays rules key.depth none_ope
 pub sampling-IsMember : (rules : Rules) (points : List Point) (key : VoxelKey) (p : Point) → IsMember p (given rules points key) → leaves rules key.depth none_open (given rules points key) p ≡ false → IsMember p (sampling rules points key)
 unfolding sampling
 sampling-IsMember rules points key p m e = stays-IsMember rules key.depth none_open (given rules points key) p m e
-
-not_true : (b : Bool) → not b ≡ true → b ≡ false
-not_true true e = absurd (false≢true e)
-not_true false e = refl
 
 winner_stays : (rules : Rules) (points : List Point) (key : VoxelKey) (p : Point) → IsMember p (given rules points key) → loses rules key.depth (given rules points key) p ≡ false → IsMember p (sampling rules points key)
 winner_stays rules points key p m wins =
@@ -338,16 +321,16 @@ IsKey-root = record { shallow = omega arith; x_in = omega arith; y_in = omega ar
 pub node-IsKey : (rules : Rules) (points : List Point) (key : VoxelKey) → IsCube rules.cube → AllInCube rules.cube points → is_node rules points key ≡ true → IsKey key
 node-IsKey rules points key ok inside is =
     elim (node-cases rules points key is) [
-      inl top ↦ subst IsKey (sym top) IsKey-root
-    | inr some ↦ given-IsKey rules points key some.0 ok (all-member (λ p. InCube rules.cube (place p)) some.0 points inside (given-IsMember rules points key some.0 some.1)) some.1
+      | inl top ↦ subst IsKey (sym top) IsKey-root
+      | inr some ↦ given-IsKey rules points key some.0 ok (all-member (λ p. InCube rules.cube (place p)) some.0 points inside (given-IsMember rules points key some.0 some.1)) some.1
     ]
 
 -- a node below the root has a point
 pub node-points : (rules : Rules) (points : List Point) (key : VoxelKey) → is_node rules points key ≡ true → ¬ (key ≡ root) → ¬ (sampling rules points key ≡ [])
 node-points rules points key is lower none =
     elim (node-cases rules points key is) [
-      inl top ↦ lower top
-    | inr some ↦
-        let q = sampling-some rules points key some.0 some.1 in
-        let M : List Point → Type 0 = λ xs. IsMember q.0 xs in subst M none q.1
+      | inl top ↦ lower top
+      | inr some ↦
+          let q = sampling-some rules points key some.0 some.1 in
+          let M : List Point → Type 0 = λ xs. IsMember q.0 xs in subst M none q.1
     ]

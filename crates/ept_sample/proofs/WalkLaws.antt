@@ -1,6 +1,5 @@
 -- The walk from the top down, step by step.
-use Rattle.std.proofs.Common.{◌≡◌, ◌≢◌, ◌∙◌, ℕ, zero, suc, ◌+◌, ◌-◌, ◌≤◌, ◌<◌, Bool, true, false, cond, not, ◌&&◌, ◌||◌, ◌==◌, nat_lt, ◌⊎◌, inl, inr, List, [], ◌∷◌, ◌++◌, refl, sym, ap, subst, arith, filter, length, count_by, get_or, set, get_or-set_other, get_or-set_same}
-use Rattle.std.proofs.lemmas.Bool.{false≢true}
+use Rattle.std.proofs.Common.{◌≡◌, ◌≢◌, ◌∙◌, ℕ, zero, suc, ◌+◌, ◌-◌, ◌≤◌, ◌<◌, Bool, true, false, cond, ◌&&◌, ◌==◌, nat_lt, List, [], ◌∷◌, ◌++◌, refl, sym, ap, subst, arith, filter, length, count_by, get_or, set, get_or-set_other, get_or-set_same}
 use Rattle.std.proofs.lemmas.Bool.Decides.{nat_tests}
 use Rattle.std.proofs.lemmas.List.{append-nil}
 use Rattle.ept_space.proofs.Family.{depth-child}
@@ -17,11 +16,10 @@ use Rattle.ept_space.specs.VoxelKey.{VoxelKey, child, key_cmp}
 use Rattle.ept_space.specs.OctreeCube.{IsCube, InCube, InBox}
 use Rattle.ept_space.proofs.PlaceKeys.{InBox-child}
 use Rattle.ept_sample.specs.Place.{place, AllInCube, AllInBox}
-use Rattle.ept_sample.proofs.Members.{IsMember, IsMember-filter, All-members, all-member}
-use Rattle.ept_sample.proofs.RankLaws.{and_left, and_right}
+use Rattle.ept_sample.proofs.Members.{IsMember-filter, All-members, all-member, filter-filter}
 use Rattle.ept_sample.proofs.ArrivalLaws.{same_number}
 use Rattle.ept_sample.proofs.SamplingLaws.{depth-side}
-use Rattle.ept_sample.proofs.Best.{either}
+use Rattle.ept_sample.proofs.Choices.{and_right}
 
 and_left_false : (b c : Bool) → b ≡ false → (b && c) ≡ false
 and_left_false b c e = ap (λ (x : Bool). x && c) e
@@ -72,18 +70,10 @@ too_many rules depth losing o above many count is yes' more e =
 
 -- ---- losers, octant by octant
 
-filter_both_step : {X : Type 0} (p q : X → Bool) (x : X) (xs : List X) (b : Bool) → filter q (filter p xs) ≡ filter (λ y. p y && q y) xs → filter q (cond b (x ∷ filter p xs) (filter p xs)) ≡ cond (b && q x) (x ∷ filter (λ y. p y && q y) xs) (filter (λ y. p y && q y) xs)
-filter_both_step {X} p q x xs true rest = ap (λ (w : List X). cond (q x) (x ∷ w) w) rest
-filter_both_step {X} p q x xs false rest = rest
-
-filter_both : {X : Type 0} (p q : X → Bool) (xs : List X) → filter q (filter p xs) ≡ filter (λ x. p x && q x) xs
-filter_both p q [] = refl
-filter_both p q (x ∷ xs) = filter_both_step p q x xs (p x) (filter_both p q xs)
-
 -- the losers of an octant are those of its points among all that lose
 pub losers-steps : (rules : Rules) (depth : ℕ) (given : List Point) (o : ℕ) → filter (λ p. octant rules depth p == o) (filter (loses rules depth given) given) ≡ losers rules depth given o
 unfolding losers
-losers-steps rules depth given o = filter_both (loses rules depth given) (λ p. octant rules depth p == o) given
+losers-steps rules depth given o = filter-filter (loses rules depth given) (λ p. octant rules depth p == o) given
 
 pub too_many-overflows : (rules : Rules) (depth : ℕ) (given losing : List Point) (o : ℕ) → losing ≡ filter (loses rules depth given) given → has_too_many rules depth losing o ≡ overflows rules depth given o
 unfolding overflows

@@ -1,9 +1,8 @@
 -- The nodes that the walk from the top down comes to are those of the sampling.
-use Rattle.std.proofs.Common.{◌≡◌, ◌∙◌, ℕ, zero, suc, ◌+◌, ◌-◌, ◌≤◌, ◌<◌, Bool, true, false, cond, nat_lt, ◌⊎◌, inl, inr, List, [], ◌∷◌, ◌++◌, map, refl, sym, ap, subst, arith, length, Ordering, Result, IfOk}
+use Rattle.std.proofs.Common.{◌≡◌, ◌∙◌, ℕ, zero, suc, ◌+◌, ◌≤◌, ◌<◌, Bool, true, false, cond, ◌⊎◌, inl, inr, List, [], ◌∷◌, map, refl, sym, ap, subst, arith, length, Ordering, Result, IfOk}
 use Rattle.std.specs.declared.cmp.Ordering.TheVariants.{Less, Equal, Greater}
 use Rattle.std.specs.Ordering.{match_ordering}
 use Rattle.std.specs.BTreeMap.{insert_entry}
-use Rattle.std.proofs.lemmas.Bool.{false≢true}
 use Rattle.ept_point.specs.declared.point.Point.{Point}
 use Rattle.ept_space.specs.declared.cube.Rules.{Rules}
 use Rattle.ept_space.specs.VoxelKey.{VoxelKey, root, child, parent, octant_of, key_cmp}
@@ -17,18 +16,18 @@ use Rattle.ept_space.proofs.Family.{child-parent, octant_of-below, depth-child, 
 use Rattle.ept_sample.specs.declared.tiles.Tile.{Tile}
 use Rattle.ept_sample.specs.declared.tiles.Tiles.{Tiles}
 use Rattle.ept_sample.specs.Place.{place, AllInCube, AllInBox}
-use Rattle.ept_sample.specs.Arrivals.{losers, overflows, sent, kept, none_open}
+use Rattle.ept_sample.specs.Arrivals.{losers, overflows, sent, none_open}
 use Rattle.ept_sample.specs.Sampling.{given, sampling, is_node}
-use Rattle.ept_sample.specs.Nodes.{with_key, tile_at, node_keys, sampled}
+use Rattle.ept_sample.specs.Nodes.{with_key, tile_at, sampled}
 use Rattle.ept_sample.specs.Walk.{Node, node_of, nodes_of_octants, nodes_below, with_nodes, tile_of}
 use Rattle.ept_sample.proofs.Members.{IsMember, IsMember-left, IsMember-right, IsMember-append, IsMember-map, member-map}
 use Rattle.ept_sample.proofs.Ascending.{IsRising}
-use Rattle.ept_sample.proofs.Best.{either, not_both}
 use Rattle.ept_sample.proofs.KeyOrder.{key_before, key-equal, with_key-put}
 use Rattle.ept_sample.proofs.ArrivalLaws.{sent-none_open, overflows-depth, overflows-more}
 use Rattle.ept_sample.proofs.SamplingLaws.{given-root, given-child, given-parent, given-top, is_node-root, is_node-given, is_node-parent, node-given, node-cases, below_or_at}
 use Rattle.ept_sample.proofs.NodeLaws.{node_keys-is}
 use Rattle.ept_sample.proofs.WalkLaws.{octants-zero, octants-suc, nodes_below-zero, nodes_below-suc}
+use Rattle.ept_sample.proofs.Choices.{either}
 
 -- ---- a map of nodes
 

@@ -1,5 +1,5 @@
 -- The ids of points, and the order of points by them.
-use Rattle.std.specs.Prelude.{ℕ, ◌≤◌, Bool, ◌&&◌, ◌||◌, ◌==◌, nat_lt, List, [], ◌∷◌, if◌then◌else◌, count_by}
+use Rattle.std.specs.Prelude.{◌≤◌, Bool, ◌&&◌, ◌||◌, ◌==◌, nat_lt, List, [], ◌∷◌, if◌then◌else◌, count_by}
 use Rattle.ept_point.specs.declared.point.Point.{Point}
 
 -- the two points have one id: one scan, and one number there

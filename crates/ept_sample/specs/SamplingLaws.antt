@@ -1,5 +1,5 @@
 -- What holds of each sampling. Each statement stands on the contract of a function of `laws`.
-use Rattle.std.specs.Prelude.{◌≡◌, ◌≢◌, ℕ, ◌<◌, ◌≤◌, ◌↔◌, IsTrue, List, [], Contains, IsPermutation, AllPairs}
+use Rattle.std.specs.Prelude.{◌≡◌, ◌≢◌, ◌<◌, ◌≤◌, ◌↔◌, IsTrue, List, [], length, Contains, IsPermutation, AllPairs}
 use Rattle.std.specs.List.{flat_map}
 use Rattle.std.specs.declared.cmp.Ordering.TheVariants.{Less}
 use Rattle.ept_point.specs.declared.point.Point.{Point}
@@ -68,3 +68,12 @@ PointsLieInBoxes =
 abbrev pub PointsAscend : Type 0
 PointsAscend =
     (rules : Rules) (points : List Point) (key : VoxelKey) → HasDistinctIds points → IsAscending (sampling rules points key)
+
+-- with more points each node is a node, and there are no fewer
+abbrev pub MorePointsKeepNodes : Type 0
+MorePointsKeepNodes =
+    (rules : Rules) (ps qs : List Point) (key : VoxelKey) → HasDistinctIds ps → ((p : Point) → Contains ps p → Contains qs p) → IsTrue (is_node rules ps key) → IsTrue (is_node rules qs key)
+
+abbrev pub MorePointsHaveMoreNodes : Type 0
+MorePointsHaveMoreNodes =
+    (rules : Rules) (ps qs : List Point) → HasDistinctIds ps → CanBeSampled rules qs → ((p : Point) → Contains ps p → Contains qs p) → length (node_keys rules ps) ≤ length (node_keys rules qs)

@@ -3,7 +3,7 @@
 
 ghost use Rattle.ept_sample.specs.BeatLaws.{NoneBeatsItself, BeatingGoesOn, OneOfTwoBeats, BeatingIsInOneCell};
 ghost use Rattle.ept_sample.specs.ArrivalLaws.{WinnersBeatLosers, SameOnesLose, OpenSendsItsLosers, EachStaysOrLeaves, ArrivalsHaveNoOrder, BatchesJoin};
-ghost use Rattle.ept_sample.specs.SamplingLaws.{EachPointIsInOneNode, PointsHaveNoOrder, KeysAreTheNodes, KeysAscend, RootIsNode, ParentsAreNodes, NodesHavePoints, NodesHaveKeys, NodesAreShallow, PointsLieInBoxes, PointsAscend};
+ghost use Rattle.ept_sample.specs.SamplingLaws.{EachPointIsInOneNode, PointsHaveNoOrder, KeysAreTheNodes, KeysAscend, RootIsNode, ParentsAreNodes, NodesHavePoints, NodesHaveKeys, NodesAreShallow, MorePointsKeepNodes, MorePointsHaveMoreNodes, PointsLieInBoxes, PointsAscend};
 
 /// Beating is a strict order of the points of each cell.
 pub fn beat_law()
@@ -45,4 +45,6 @@ pub fn node_law()
     ensures have_points { NodesHavePoints }
     ensures have_keys { NodesHaveKeys }
     ensures shallow { NodesAreShallow }
+    ensures stay_nodes { MorePointsKeepNodes }
+    ensures more_nodes { MorePointsHaveMoreNodes }
 {}

@@ -109,44 +109,50 @@ pub(crate) fn overflowing(rules: &Rules, key: &Key, losers: &[Point]) -> [bool; 
     open
 }
 
-// Whether a given point leaves the node for the child of its octant, where `open` are the octants
+// Whether a given point leaves the node for the child of its octant, where `opened` are the octants
 // that overflow.
 #[tactic(auto, unfolding(crate::specs::Arrivals::leaves))]
-fn leaves(rules: &Rules, key: &Key, given: &[Point], open: &[bool; OCTANTS], point: &Point) -> bool
+fn leaves(
+    rules: &Rules,
+    key: &Key,
+    given: &[Point],
+    opened: &[bool; OCTANTS],
+    point: &Point,
+) -> bool
     requires low { key.now.depth ≤ rules.now.cube.depth }
     requires given_inside { AllInCube rules.now.cube given.now }
     requires inside { InBox rules.now.cube key.now (place point.now) }
     requires in_cube { InCube rules.now.cube (place point.now) }
     requires are_open { (o : ℕ) → o < OCTANTS →
-        slice_index_or open.now o false ≡ overflows rules.now key.now.depth given.now o }
+        slice_index_or opened.now o false ≡ overflows rules.now key.now.depth given.now o }
     ensures { result ≡ leaves rules.now key.now.depth none_open given.now point.now }
 {
     if !has_children(rules, key) {
         return false;
     }
     let which = octant(&rules.cube, key, place_of(point));
-    open[which as usize] && loses(rules, key.depth, given, point)
+    opened[which as usize] && loses(rules, key.depth, given, point)
 }
 
-// The given points that stay, where `open` are the octants that overflow.
+// The given points that stay, where `opened` are the octants that overflow.
 #[tactic(auto, unfolding(crate::specs::Arrivals::kept))]
 pub(crate) fn staying(
     alloc: Global,
     rules: &Rules,
     key: &Key,
     given: &[Point],
-    open: &[bool; OCTANTS],
+    opened: &[bool; OCTANTS],
 ) -> Result<Vec<Point>, Memory>
     requires low { key.now.depth ≤ rules.now.cube.depth }
     requires inside { AllInBox rules.now.cube key.now given.now }
     requires in_cube { AllInCube rules.now.cube given.now }
     requires are_open { (o : ℕ) → o < OCTANTS →
-        slice_index_or open.now o false ≡ overflows rules.now key.now.depth given.now o }
+        slice_index_or opened.now o false ≡ overflows rules.now key.now.depth given.now o }
     ensures { IfOk result (λ v. v.items ≡ kept rules.now key.now.depth none_open given.now) }
 {
     let mut points = Vec::new(alloc);
     for point in given {
-        if !leaves(rules, key, given, open, point) {
+        if !leaves(rules, key, given, opened, point) {
             points.push(*point)?;
         }
     }

@@ -1,5 +1,3 @@
-ghost use Rattle.std.specs.Prelude.{◌≡◌, ◌∷◌, [], pos};
-
 use crate::{Tile, are_in_cube, ids_ascend, sample};
 use ept_point::Point;
 use ept_space::{Cube, Rules};

@@ -1,4 +1,4 @@
-use Rattle.std.proofs.Common.{◌≡◌, refl, arith}
+use Rattle.std.proofs.Common.{refl, arith}
 use Rattle.std.proofs.lemmas.Bool.{false≢true}
 use Rattle.ept_sample.proofs.IdLaws.{HasDistinctIds-IsAscending, ascends-all, ascends-ids}
 use Rattle.ept_sample.proofs.ids.ids_ascend.Goals as goal

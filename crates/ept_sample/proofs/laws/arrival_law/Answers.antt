@@ -1,10 +1,9 @@
-use Rattle.std.proofs.Common.{◌≡◌, true}
 use Rattle.ept_sample.specs.Arrivals.{loses}
 use Rattle.ept_sample.proofs.Members.{contains-IsMember}
-use Rattle.ept_sample.proofs.Best.{not_both}
 use Rattle.ept_sample.proofs.ArrivalLaws.{BestOver, best, loses-kept, sent-open}
 use Rattle.ept_sample.proofs.Parts.{IsPermutation-parts}
 use Rattle.ept_sample.proofs.laws.arrival_law.Goals as goal
+use Rattle.ept_sample.proofs.Choices.{not_both}
 
 pub returns-clause-winners : goal.returns-clause-winners
 returns-clause-winners c =

@@ -1,9 +1,8 @@
-use Rattle.std.proofs.Common.{◌≡◌, Bool, true, false}
 use Rattle.ept_sample.specs.Ids.{same_id}
 use Rattle.ept_sample.specs.Rank.{beats}
-use Rattle.ept_sample.proofs.Best.{not_both, is_false}
 use Rattle.ept_sample.proofs.RankLaws.{beats-self, beats-trans, beats-total, beats-cell}
 use Rattle.ept_sample.proofs.laws.beat_law.Goals as goal
+use Rattle.ept_sample.proofs.Choices.{not_both, is_false}
 
 pub returns-clause-none_itself : goal.returns-clause-none_itself
 returns-clause-none_itself c = λ rules depth p h. not_both (beats rules depth p p) h (beats-self rules depth p)

@@ -1,10 +1,9 @@
-use Rattle.std.proofs.Common.{subst, List}
-use Rattle.ept_point.specs.declared.point.Point.{Point}
 use Rattle.ept_sample.specs.Nodes.{node_keys}
-use Rattle.ept_sample.proofs.Members.{IsMember, IsMember-contains, contains-IsMember}
+use Rattle.ept_sample.proofs.Members.{IsMember-contains, contains-IsMember}
 use Rattle.ept_sample.proofs.KeyOrder.{AllPairs-IsRising}
 use Rattle.ept_sample.proofs.SamplingLaws.{is_node-root, is_node-parent, node-depth, node-points, node-IsKey}
 use Rattle.ept_sample.proofs.NodeLaws.{IsMember-node_keys, node_keys-IsMember, IsRising-node_keys}
+use Rattle.ept_sample.proofs.MorePoints.{is_node-among, length-node_keys-among}
 use Rattle.ept_sample.proofs.laws.node_law.Goals as goal
 
 pub returns-clause-keys : goal.returns-clause-keys
@@ -30,3 +29,11 @@ returns-clause-have_keys c = λ rules points key can is. node-IsKey rules points
 
 pub returns-clause-shallow : goal.returns-clause-shallow
 returns-clause-shallow c = node-depth
+
+pub returns-clause-stay_nodes : goal.returns-clause-stay_nodes
+returns-clause-stay_nodes c =
+    λ rules ps qs key once among. is_node-among rules ps qs key once (λ p m. IsMember-contains p qs (among p (contains-IsMember p ps m)))
+
+pub returns-clause-more_nodes : goal.returns-clause-more_nodes
+returns-clause-more_nodes c =
+    λ rules ps qs once can among. length-node_keys-among rules ps qs can.cube can.inside once (λ p m. IsMember-contains p qs (among p (contains-IsMember p ps m)))

@@ -17,8 +17,8 @@ returns-clause-no_order c =
 pub returns-clause-in_boxes : goal.returns-clause-in_boxes
 returns-clause-in_boxes c =
     λ rules points key can. All-members (λ p. InBox rules.cube key (place p)) (sampling rules points key) (λ p m.
-      let g = (IsMember-sampling rules points key p m).0 in
-      given-InBox rules points key p can.cube (all-member (λ q. InCube rules.cube (place q)) p points can.inside (given-IsMember rules points key p g)) g)
+    let g = (IsMember-sampling rules points key p m).0 in
+    given-InBox rules points key p can.cube (all-member (λ q. InCube rules.cube (place q)) p points can.inside (given-IsMember rules points key p g)) g)
 
 pub returns-clause-ascend : goal.returns-clause-ascend
 returns-clause-ascend c =

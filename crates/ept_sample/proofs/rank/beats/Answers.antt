@@ -1,4 +1,4 @@
-use Rattle.std.proofs.Common.{◌∙◌, ap, sym, arith}
+use Rattle.std.proofs.Common.{arith}
 use Rattle.std.proofs.lemmas.Grind.{common_steps}
 use Rattle.ept_sample.specs.Rank.{beats}
 use Rattle.ept_sample.proofs.rank.beats.Goals as goal

@@ -1,11 +1,10 @@
-use Rattle.std.proofs.Common.{◌≡◌, ◌∙◌, ap, sym, refl, subst, ℕ, ◌<◌, ◌≤◌, arith, List, Bool, true, false, filter, get_or, ◌+◌, ◌-◌, ◌==◌}
-use Rattle.ept_point.specs.declared.point.Point.{Point}
+use Rattle.std.proofs.Common.{◌≡◌, ◌∙◌, ap, ◌<◌, arith, true, false, filter, get_or, ◌+◌}
 use Rattle.ept_space.specs.VoxelKey.{VoxelKey}
-use Rattle.ept_space.specs.OctreeCube.{InBox, InCube}
-use Rattle.ept_sample.specs.Place.{place, AllInBox, AllInCube}
-use Rattle.ept_sample.specs.Arrivals.{loses, losers, octant, overflows}
+use Rattle.ept_space.specs.OctreeCube.{InBox}
+use Rattle.ept_sample.specs.Place.{place}
+use Rattle.ept_sample.specs.Arrivals.{loses, losers, overflows}
 use Rattle.ept_sample.proofs.ArrivalLaws.{overflows-depth}
-use Rattle.ept_sample.proofs.WalkLaws.{found-at, opened-overflows, opened-closed, down-depth, down-InBox, down-InCube, All-passed, losing-at, sent-is, too_many-overflows, walked-none, walked-open, walked-closed, walked-all, losers-InBox, losers-InCube}
+use Rattle.ept_sample.proofs.WalkLaws.{found-at, opened-overflows, opened-closed, down-depth, down-InBox, down-InCube, All-passed, losing-at, sent-is, too_many-overflows, walked-none, walked-open, walked-closed, walked-all}
 use Rattle.ept_sample.proofs.top_down.+add_nodes.Goals as goal
 use Rattle.ept_sample.proofs.top_down.+add_nodes.Goals.{then-open-which+in_ok-sent+in_ok-add_nodes, else-open-which}
 
