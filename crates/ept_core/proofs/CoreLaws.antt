@@ -13,7 +13,7 @@ use Rattle.ept_sample.specs.Sampling.{sampling, is_node}
 use Rattle.ept_sample.specs.SamplingLaws.{CanBeSampled}
 use Rattle.ept_sample.specs.Nodes.{node_keys, sampled}
 use Rattle.ept_sample.proofs.Members.{IsMember, IsMember-left, All-members}
-use Rattle.ept_sample.proofs.Best.{either}
+use Rattle.ept_sample.proofs.Choices.{either}
 use Rattle.ept_sample.proofs.SamplingLaws.{given-IsMember, is_node-root, node-cases, node-given, IsMember-sampling}
 use Rattle.ept_sample.proofs.NodeLaws.{node_keys-is}
 use Rattle.ept_core.specs.declared.event.Event.{Event}

@@ -15,7 +15,7 @@ use Rattle.ept_sample.specs.Arrivals.{loses, octant, losers, leaves, none_open}
 use Rattle.ept_sample.specs.Sampling.{given, sampling, is_node}
 use Rattle.ept_sample.specs.Nodes.{node_keys, tile_at, sampled}
 use Rattle.ept_sample.proofs.Members.{IsMember, IsMember-map, member-map, all-member, All-members}
-use Rattle.ept_sample.proofs.Best.{either, not_both}
+use Rattle.ept_sample.proofs.Choices.{either, not_both}
 use Rattle.ept_sample.proofs.IdLaws.{HasDistinctIds-IsPermutation, HasDistinctIds-IsRising, in_id_order-members, in_id_order-IsRising}
 use Rattle.ept_sample.proofs.ArrivalLaws.{loses-beaten, best, leaves-loses, leaves-open, overflows-depth, overflows-more}
 use Rattle.ept_sample.proofs.SamplingLaws.{given-top, given-leaves, given-IsMember, given-key_at, depth-side, is_node-root, is_node-given, node-cases, IsMember-sampling, sampling-IsMember, sampling-some, below_or_at, IsRising-given, IsRising-sampling}

@@ -14,7 +14,7 @@ use Rattle.ept_sample.specs.Place.{place}
 use Rattle.ept_sample.specs.Ids.{in_id_order}
 use Rattle.ept_sample.specs.Arrivals.{loses, octant, losers}
 use Rattle.ept_sample.proofs.Members.{IsMember, IsMember-left, IsMember-right, IsMember-append, member-map, all-member}
-use Rattle.ept_sample.proofs.Best.{either}
+use Rattle.ept_sample.proofs.Choices.{either}
 use Rattle.ept_core.specs.declared.flight.Flight.{Flight}
 use Rattle.ept_core.specs.declared.node.Node.{Node}
 use Rattle.ept_core.specs.State.{State, Entry, node_at, has_node, has_open, keys_of, held, IsHeld}

@@ -21,7 +21,7 @@ use Rattle.ept_sample.specs.Nodes.{node_keys, tile_at, sampled}
 use Rattle.ept_sample.proofs.Members.{IsMember, IsMember-left, IsMember-map, member-map, all-member, All-members}
 use Rattle.ept_sample.proofs.Ascending.{IsRising}
 use Rattle.ept_sample.proofs.KeyOrder.{key_before}
-use Rattle.ept_sample.proofs.Best.{either, not_both}
+use Rattle.ept_sample.proofs.Choices.{either, not_both}
 use Rattle.ept_sample.proofs.IdLaws.{in_id_order-IsRising, HasDistinctIds-IsRising}
 use Rattle.ept_sample.proofs.ArrivalLaws.{leaves-loses, leaves-open, leaves-from, loses-kept, overflows-depth, overflows-more, IsMember-sent}
 use Rattle.ept_sample.proofs.SamplingLaws.{given-child, leaves-given, given-IsMember, given-depth, depth-side, given-key_at, given-InBox, is_node-root, is_node-given, node-cases, node-given, is_node-parent, IsMember-sampling, sampling-some, stays-somewhere, leaves-above, IsRising-given, IsRising-sampling}
