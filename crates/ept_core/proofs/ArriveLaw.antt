@@ -69,7 +69,7 @@ module _ (rules : Rules) (points : List Point) (s : State) (front : List Flight)
 
   -- ---- what is given
 
-  from_given : (p : Point) → IsMember p given → IsHeld s f.key p
+  pub from_given : (p : Point) → IsMember p given → IsHeld s f.key p
   unfolding gathered
   from_given p m =
       elim (IsMember-append p f.points here.points (in_id_order-IsMember p (f.points ++ here.points) m)) [
@@ -104,7 +104,7 @@ module _ (rules : Rules) (points : List Point) (s : State) (front : List Flight)
   unfolding gathered
   gathered_parts = IsPermutation-in_id_order (f.points ++ here.points)
 
-  distinct_gathered : HasDistinctIds (f.points ++ here.points)
+  pub distinct_gathered : HasDistinctIds (f.points ++ here.points)
   distinct_gathered =
       HasDistinctIds-left (f.points ++ here.points) others (HasDistinctIds-IsPermutation (held s) ((f.points ++ here.points) ++ others) held_before (distinct-held rules points s law))
 

@@ -7,3 +7,6 @@ pub mod Sampled
 pub mod Landed
 pub mod Resumed
 pub mod CoreLaws
+pub mod EffectLaws
+pub mod Lookups
+pub mod Arriving

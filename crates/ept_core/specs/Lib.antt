@@ -2,3 +2,5 @@ pub mod State
 pub mod Law
 pub mod Steps
 pub mod CoreLaws
+pub mod Effects
+pub mod Machine

@@ -5,10 +5,13 @@
 //! nothing in flight has the sampling of the points as its nodes.
 #![tactic(auto)]
 
+mod arrival;
 mod event;
 mod flight;
 mod laws;
+mod machine;
 mod node;
+mod steps;
 
 pub use event::Event;
 pub use flight::Flight;
