@@ -1,7 +1,11 @@
 -- What the law says of a flight that is to arrive.
-use Rattle.std.proofs.Common.{◌≡◌, ◌∙◌, ℕ, suc, ◌+◌, ◌≤◌, ◌<◌, Bool, true, false, List, [], ◌∷◌, ◌++◌, refl, sym, ap, subst, arith, length, get_or, take, drop, inl, inr}
+use Rattle.std.proofs.Common.{◌≡◌, ◌∙◌, ℕ, suc, ◌+◌, ◌≤◌, ◌<◌, Bool, true, false, List, [], ◌∷◌, ◌++◌, refl, sym, ap, subst, arith, length, get_or, take, drop, inl, inr, append_assoc, Result, Ok, Err, IfOk, count_by}
 use Rattle.std.proofs.Math.Seq.{split_at}
 use Rattle.std.proofs.Props.{props}
+use Rattle.std.specs.List.{remove}
+use Rattle.std.proofs.lemmas.List.{take-append-le, drop-append-le}
+use Rattle.ept_point.specs.declared.memory.Memory.{Memory}
+use Rattle.ept_core.specs.declared.arrival.Effect.{Effect}
 use Rattle.ept_point.specs.declared.point.Point.{Point}
 use Rattle.ept_space.specs.declared.cube.Rules.{Rules}
 use Rattle.ept_space.specs.VoxelKey.{VoxelKey}
@@ -12,7 +16,7 @@ use Rattle.ept_sample.proofs.Members.{IsMember, IsMember-right, all-member, All-
 use Rattle.ept_core.specs.declared.flight.Flight.{Flight}
 use Rattle.ept_core.specs.State.{State, Entry, node_at, has_open, IsHeld}
 use Rattle.ept_core.specs.Law.{KeepsLaw}
-use Rattle.ept_core.specs.Steps.{gathered}
+use Rattle.ept_core.specs.Steps.{gathered, is_of, IsFlight}
 use Rattle.ept_core.proofs.Held.{held-point}
 use Rattle.ept_core.proofs.ArriveLaw.{from_given, distinct_gathered}
 
@@ -67,3 +71,23 @@ module _ (rules : Rules) (points : List Point) (s : State) (index : ℕ) (f : Fl
   pub low-arrival : f.key.depth ≤ rules.cube.depth
   low-arrival =
       let q = law.rooted.flying f flight-there in law.placed.shallow f.key q.0 (inr (f, flight-there, refl, q.1))
+
+-- an effect has what each effect that it is has
+pub effect-ok : (r : Result Effect Memory) (P Q : Effect → Type 0) → ((e : Effect) → P e → Q e) → IfOk r P → IfOk r Q
+effect-ok (Ok e) P Q more h = more e h
+effect-ok (Err e) P Q more h = tt
+
+-- the flights after one of them arrived
+pub flights-removed : (flights more : List Flight) (index : ℕ) → index < length flights → remove (flights ++ more) index ≡ remove flights index ++ more
+flights-removed flights more index low =
+    ap (λ (w : List Flight). w ++ drop (suc index) (flights ++ more)) (take-append-le index flights more (omega (arith, low)))
+    ∙ (ap (λ (w : List Flight). take index flights ++ w) (drop-append-le (suc index) flights more (omega (arith, low)))
+    ∙ sym (append_assoc (take index flights) (drop (suc index) flights) more))
+
+-- the flight of a place is the actor's of its number
+pub is-flight : (flights xs : List Flight) (actor number i : ℕ) (f : Flight) → xs ≡ flights → i < length xs → count_by (is_of actor) (take i xs) ≡ number → ((g : Flight) → (get_or xs i g).actor ≡ actor) → f ≡ get_or flights i f → IsFlight flights actor number (take i flights) f (drop (suc i) flights)
+is-flight flights xs actor number i f same low count mine at = record {
+  stands = split_at flights i f (subst (λ (w : List Flight). i < length w) same low) ∙ ap (λ (w : Flight). take i flights ++ w ∷ drop (suc i) flights) (sym at);
+  of_actor = ap (λ (w : Flight). w.actor) at ∙ subst (λ (w : List Flight). (get_or w i f).actor ≡ actor) same (mine f);
+  numbered = subst (λ (w : List Flight). count_by (is_of actor) (take i w) ≡ number) same count;
+}

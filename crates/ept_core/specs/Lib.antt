@@ -4,3 +4,5 @@ pub mod Steps
 pub mod CoreLaws
 pub mod Effects
 pub mod Machine
+pub mod Refusals
+pub mod Shown

@@ -6,13 +6,19 @@
 #![tactic(auto)]
 
 mod arrival;
+mod core;
+mod error;
 mod event;
 mod flight;
 mod laws;
 mod machine;
 mod node;
+mod play;
 mod steps;
+mod turn;
 
+pub use core::Core;
+pub use error::StepError;
 pub use event::Event;
 pub use flight::Flight;
 pub use laws::{key_law, landed_law, start_law, step_law};

@@ -1,6 +1,6 @@
 //! The steps of a core.
 
-ghost use Rattle.std.specs.Prelude.{◌≡◌, ◌≤◌, ◌<◌, ◌≢◌, ◌↔◌, ◌++◌, ◌∷◌, [], ℕ, Bool, true, false, IsTrue, vec_len, length, take, drop, count_by, OnOk, OnErr, IfOk, MatchOption, slice_index_or};
+ghost use Rattle.std.specs.Prelude.{◌≡◌, ◌≤◌, ◌<◌, ◌≢◌, ◌↔◌, ◌++◌, ◌∷◌, [], ℕ, Bool, true, false, IsTrue, vec_len, length, take, drop, count_by, OnOk, OnErr, IfOk, MatchOption, slice_index_or, remove};
 ghost use Rattle.ept_core.specs.State.{State, node_at, has_node, has_open};
 ghost use Rattle.ept_core.specs.Steps.{drawn, arrived, moved, is_of, IsFlight};
 ghost use Rattle.ept_core.specs.Law.{KeepsLaw};
@@ -85,9 +85,19 @@ impl Machine {
         }
     }
 
+    // Whether the points of the node of a key are in memory; those of no node are.
+    pub(crate) fn is_resident(&self, key: &Key) -> bool
+        ensures { result ≡ (node_at self.now.nodes.entries key.now).is_resident }
+    {
+        match self.nodes.get(key) {
+            Some(node) => node.is_resident,
+            None => true,
+        }
+    }
+
     // What the flight of that place does to its node.
     fn effect_of(&self, index: usize) -> Result<Effect, Memory>
-        requires index { index < vec_len self.now.flights }
+        requires index { index < length self.now.flights.items }
         requires law { ∥ KeepsLaw self.now.rules self.now.points (state_of self.now) ∥₁ }
         ensures { IfOk result (λ e. (f : Flight) → slice_index_or self.now.flights.items index f ≡ f → IsEffect self.now.rules self.now.nodes.entries f e) }
     {
@@ -102,5 +112,31 @@ impl Machine {
             &was,
             given.as_slice(),
         )
+    }
+
+    // Lets the flight of that place arrive.
+    pub(crate) fn arrive(&mut self, index: usize) -> Result<(), Memory>
+        requires index { index < length self.old.flights.items }
+        requires law { ∥ KeepsLaw self.old.rules self.old.points (state_of self.old) ∥₁ }
+        ensures ok { OnOk result ((f : Flight) → slice_index_or self.old.flights.items index f ≡ f
+            → state_of self.new ≡ arrived self.old.rules f (remove self.old.flights.items index) (state_of self.old)) }
+        ensures err { OnErr result (state_of self.new ≡ state_of self.old) }
+        ensures rules { self.new.rules ≡ self.old.rules }
+        ensures points { self.new.points ≡ self.old.points }
+        ensures actors { self.new.actors ≡ self.old.actors }
+    {
+        let Effect { node, mut flights } = self.effect_of(index)?;
+        let key = self.flights[index].key;
+        let count = self.flights.len();
+        self.flights.append(&mut flights)?;
+        match self.nodes.insert(key, node) {
+            Ok(_) => {}
+            Err(_) => {
+                self.flights.truncate(count);
+                return Err(Memory);
+            }
+        }
+        self.flights.remove(index);
+        Ok(())
     }
 }
