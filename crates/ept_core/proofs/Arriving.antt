@@ -1,5 +1,5 @@
 -- What the law says of a flight that is to arrive.
-use Rattle.std.proofs.Common.{◌≡◌, ◌∙◌, ℕ, suc, ◌+◌, ◌≤◌, ◌<◌, Bool, true, false, List, [], ◌∷◌, ◌++◌, refl, sym, ap, subst, arith, length, get_or, take, drop, inl, inr, append_assoc, Result, Ok, Err, IfOk, count_by}
+use Rattle.std.proofs.Common.{◌≡◌, ◌∙◌, ℕ, suc, ◌≤◌, ◌<◌, Bool, true, false, List, ◌∷◌, ◌++◌, refl, sym, ap, subst, arith, length, get_or, take, drop, inl, inr, append_assoc, Result, Ok, Err, IfOk, count_by}
 use Rattle.std.proofs.Math.Seq.{split_at}
 use Rattle.std.proofs.Props.{props}
 use Rattle.std.specs.List.{remove}
@@ -14,7 +14,7 @@ use Rattle.ept_sample.specs.Place.{place, AllInCube, AllInBox}
 use Rattle.ept_sample.specs.Ids.{HasDistinctIds, in_id_order}
 use Rattle.ept_sample.proofs.Members.{IsMember, IsMember-right, all-member, All-members}
 use Rattle.ept_core.specs.declared.flight.Flight.{Flight}
-use Rattle.ept_core.specs.State.{State, Entry, node_at, has_open, IsHeld}
+use Rattle.ept_core.specs.State.{State, Entry, node_at, IsHeld}
 use Rattle.ept_core.specs.Law.{KeepsLaw}
 use Rattle.ept_core.specs.Steps.{gathered, is_of, IsFlight}
 use Rattle.ept_core.proofs.Held.{held-point}

@@ -1,5 +1,5 @@
 -- The laws of the core.
-use Rattle.std.proofs.Common.{◌≡◌, ◌∙◌, ℕ, Bool, true, false, inl, inr, List, [], ◌∷◌, ◌++◌, map, refl, sym, ap, subst, arith, append_assoc}
+use Rattle.std.proofs.Common.{◌≡◌, ◌∙◌, ℕ, Bool, true, false, inl, inr, List, [], ◌∷◌, ◌++◌, map, refl, sym, ap, subst, arith, append_assoc, Result, Ok, Err, OnOk, OnErr}
 use Rattle.std.proofs.lemmas.List.{append_cancel_right}
 use Rattle.ept_point.specs.declared.point.Point.{Point}
 use Rattle.ept_space.specs.declared.cube.Rules.{Rules}
@@ -19,6 +19,7 @@ use Rattle.ept_sample.proofs.NodeLaws.{node_keys-is}
 use Rattle.ept_core.specs.declared.event.Event.{Event}
 use Rattle.ept_core.specs.declared.event.Event.TheVariants.{Draw, Arrive, Evict, Reload}
 use Rattle.ept_core.specs.declared.node.Node.{Node}
+use Rattle.ept_core.specs.declared.error.StepError.{StepError}
 use Rattle.ept_core.specs.State.{State, Entry, IsHeld, tile_of}
 use Rattle.ept_core.specs.Law.{KeepsLaw}
 use Rattle.ept_core.specs.Steps.{Step, Run, resumed_node, resumed, begun}
@@ -114,3 +115,17 @@ held-node rules points first between rest s key p law h e f =
     let same : law.same_points.0 ++ between ≡ first = append_cancel_right (law.same_points.0 ++ between) first rest all in
     let once : HasDistinctIds first = HasDistinctIds-left first rest (subst (λ (w : List Point). HasDistinctIds w) e law.points_law.distinct) in
     held-is_node rules points s law first once (λ q m. subst (λ (w : List Point). IsMember q w) same (IsMember-left q law.same_points.0 between m)) key p h
+
+-- ---- the law of a core
+
+-- it holds where a core begins
+pub begins : (rules : Rules) (points ps : List Point) (s : State) → CanBeSampled rules points → ps ≡ points → s ≡ begun points → KeepsLaw rules ps s
+begins rules points ps s can e f =
+    subst (λ (w : List Point). KeepsLaw rules w s) (sym e) (subst (λ (w : State). KeepsLaw rules points w) (sym f) (begun-keeps rules points can))
+
+-- and after an event, whether it happened or was refused
+pub stands-on : (rules rules' : Rules) (points points' : List Point) (old new : State) (event : Event) (r : Result (Unit {0}) StepError) → OnOk r (Step rules old event new) → OnErr r (new ≡ old) → rules' ≡ rules → points' ≡ points → KeepsLaw rules points old → KeepsLaw rules' points' new
+stands-on rules rules' points points' old new event (Ok u) step same e f law =
+    subst (λ (w : Rules). KeepsLaw w points' new) (sym e) (subst (λ (w : List Point). KeepsLaw rules w new) (sym f) (step-keeps rules points old event new law step))
+stands-on rules rules' points points' old new event (Err x) step same e f law =
+    subst (λ (w : Rules). KeepsLaw w points' new) (sym e) (subst (λ (w : List Point). KeepsLaw rules w new) (sym f) (subst (λ (w : State). KeepsLaw rules points w) (sym same) law))

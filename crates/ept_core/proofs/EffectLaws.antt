@@ -1,7 +1,6 @@
 -- What is computed of an arrival is what the step says.
-use Rattle.std.proofs.Common.{◌≡◌, ◌∙◌, ℕ, zero, suc, ◌+◌, ◌≤◌, ◌<◌, Bool, true, false, cond, not, ◌&&◌, ◌||◌, ◌==◌, nat_lt, ◌⊎◌, inl, inr, List, [], ◌∷◌, ◌++◌, map, refl, sym, ap, subst, arith, filter, length, get_or, add-one, append_assoc, count_by}
+use Rattle.std.proofs.Common.{◌≡◌, ◌∙◌, ℕ, zero, suc, ◌+◌, ◌≤◌, ◌<◌, Bool, true, false, cond, not, ◌&&◌, ◌||◌, ◌==◌, nat_lt, inl, inr, List, [], ◌∷◌, ◌++◌, map, refl, sym, ap, arith, filter, length, get_or, count_by}
 use Rattle.std.specs.List.{flat_map}
-use Rattle.std.proofs.lemmas.Bool.{false≢true, lt-ltb}
 use Rattle.std.proofs.lemmas.List.{append-nil, ext_get_or}
 use Rattle.std.proofs.lemmas.List.Concat.{flat_map-append}
 use Rattle.std.proofs.lemmas.List.Elements.{filter_agree}
@@ -77,8 +76,8 @@ module _ (rules : Rules) (key : VoxelKey) (n : Node) (given losing : List Point)
   all_opened : opened ≡ map (is_open rules key.depth (has_open n) given) all_octants
   all_opened =
       ext_get_or false opened (map (is_open rules key.depth (has_open n) given) all_octants) eight (λ i low. (
-        let small : i < 8 = omega (arith, low, eight) in
-        opened-is i small ∙ sym (open-at (is_open rules key.depth (has_open n) given) i small)))
+      let small : i < 8 = omega (arith, low, eight) in
+      opened-is i small ∙ sym (open-at (is_open rules key.depth (has_open n) given) i small)))
 
   -- the node afterwards
   pub node-is : (points : List Point) → points ≡ filter (λ p. not (goes rules key.depth given opened p)) given → (let m : Node = record { points = points; opened = opened; is_resident = true } in m) ≡ node_after rules key n given

@@ -1,5 +1,5 @@
 -- What a map of nodes answers.
-use Rattle.std.proofs.Common.{◌≡◌, ◌∙◌, ℕ, Bool, true, false, cond, ◌||◌, ◌⊎◌, inl, inr, List, [], ◌∷◌, map, refl, sym, ap, subst, Option, Some, None, Ordering, zero, suc, ◌<◌, ◌+◌, arith, get_or, replicate}
+use Rattle.std.proofs.Common.{◌≡◌, ◌∙◌, ℕ, Bool, true, false, cond, ◌||◌, inl, inr, List, [], ◌∷◌, refl, sym, ap, subst, Option, Some, None, Ordering, zero, suc, ◌<◌, arith, get_or, replicate}
 use Rattle.std.specs.declared.cmp.Ordering.TheVariants.{Less, Equal, Greater}
 use Rattle.std.specs.Ordering.{match_ordering, is_lt, is_eq}
 use Rattle.std.specs.BTreeMap.{is_at}
@@ -12,11 +12,11 @@ use Rattle.ept_space.proofs.Within.{same_key-same}
 use Rattle.ept_sample.proofs.Members.{IsMember}
 use Rattle.ept_sample.proofs.Ascending.{IsRising, IsBeforeAll}
 use Rattle.ept_sample.proofs.KeyOrder.{key_before, key_order, key-self, key-equal}
-use Rattle.ept_sample.proofs.Choices.{either, not_both}
+use Rattle.ept_sample.proofs.Choices.{not_both}
 use Rattle.ept_core.specs.declared.node.Node.{Node}
 use Rattle.ept_core.specs.State.{Entry, blank, node_at, has_node, has_open, keys_of}
 use Rattle.ept_core.specs.Steps.{with_node}
-use Rattle.ept_core.proofs.NodeMap.{same_key-apart, has_node-key, key-has_node}
+use Rattle.ept_core.proofs.NodeMap.{same_key-apart, has_node-key}
 
 -- keys that a map holds rise
 each_above : (k : VoxelKey) (ks : List VoxelKey) → AllByRecursion (λ j. key_cmp k j ≡ Less) ks → IsBeforeAll key_before k ks

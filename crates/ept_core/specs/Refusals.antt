@@ -1,5 +1,5 @@
 -- When events are refused.
-use Rattle.std.specs.Prelude.{◌≡◌, ◌≤◌, ◌<◌, ℕ, true, false, ⊤, List, count_by, slice_index_or}
+use Rattle.std.specs.Prelude.{◌≡◌, ◌≤◌, ◌<◌, ℕ, true, false, ⊤, List, count_by}
 use Rattle.ept_core.specs.declared.event.Event.{Event}
 use Rattle.ept_core.specs.declared.event.Event.TheVariants.{Draw, Arrive, Evict, Reload}
 use Rattle.ept_core.specs.declared.error.StepError.{StepError}

@@ -2,7 +2,7 @@
 use Rattle.std.specs.Prelude.{ℕ, List}
 use Rattle.ept_point.specs.declared.point.Point.{Point}
 use Rattle.ept_space.specs.declared.cube.Rules.{Rules}
-use Rattle.ept_core.specs.declared.core.Core.{Core}
+use Rattle.ept_core.specs.declared.engine.Core.{Core}
 use Rattle.ept_core.specs.State.{State}
 use Rattle.ept_core.specs.Machine.{state_of}
 

@@ -147,7 +147,13 @@ pub(crate) fn opening(
 
 // Whether a given point leaves the node for the child of its octant, where `opened` are the octants
 // that are open.
-fn leaves(rules: &Rules, key: &Key, given: &[Point], opened: &[bool; OCTANTS], point: &Point) -> bool
+fn leaves(
+    rules: &Rules,
+    key: &Key,
+    given: &[Point],
+    opened: &[bool; OCTANTS],
+    point: &Point,
+) -> bool
     requires low { key.now.depth ≤ rules.now.cube.depth }
     requires given_inside { AllInCube rules.now.cube given.now }
     requires inside { InBox rules.now.cube key.now (place point.now) }
@@ -233,7 +239,13 @@ fn send(
     let mut flights = Vec::new(alloc);
     if is_open {
         let sent = in_octant(alloc, rules, key, losers, which)?;
-        add_flight(alloc, &mut flights, actor, child_of(rules, key, which), sent.as_slice())?;
+        add_flight(
+            alloc,
+            &mut flights,
+            actor,
+            child_of(rules, key, which),
+            sent.as_slice(),
+        )?;
     }
     Ok(flights)
 }

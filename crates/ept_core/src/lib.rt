@@ -6,7 +6,7 @@
 #![tactic(auto)]
 
 mod arrival;
-mod core;
+mod engine;
 mod error;
 mod event;
 mod flight;
@@ -15,9 +15,11 @@ mod machine;
 mod node;
 mod play;
 mod steps;
+#[cfg(test)]
+mod tests;
 mod turn;
 
-pub use core::Core;
+pub use engine::Core;
 pub use error::StepError;
 pub use event::Event;
 pub use flight::Flight;

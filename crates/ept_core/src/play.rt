@@ -10,7 +10,7 @@ ghost use Rattle.ept_core.specs.Steps.{Step, begun};
 ghost use Rattle.ept_core.specs.Refusals.{HasActor, Refuses};
 ghost use Rattle.ept_core.specs.Shown.{shown, rules_of, points_of, actors_of};
 
-use crate::core::Core;
+use crate::engine::Core;
 use crate::error::StepError;
 use crate::event::Event;
 use crate::machine::Machine;
@@ -23,12 +23,7 @@ use std::collections::BTreeMap;
 impl Core {
     /// A core of these points, of which none was drawn. The root is there, resident and empty. The ids
     /// of the points differ, and the points lie in the cube.
-    pub fn new(
-        alloc: Global,
-        points: &[Point],
-        rules: &Rules,
-        actors: u32,
-    ) -> Result<Core, Memory>
+    pub fn new(alloc: Global, points: &[Point], rules: &Rules, actors: u32) -> Result<Core, Memory>
         requires distinct { HasDistinctIds points.now }
         requires inside { AllInCube rules.now.cube points.now }
         ensures state { IfOk result (λ core. shown core ≡ begun points.now) }
@@ -36,6 +31,8 @@ impl Core {
         ensures rules { IfOk result (λ core. rules_of core ≡ rules.now) }
         ensures actors { IfOk result (λ core. actors_of core ≡ actors) }
     {
+        // Each node has a key.
+        prove!(rules.cube.depth <= Key::MAX_DEPTH);
         let points = List::of(Vec::from_slice(alloc, points)?);
         let root = Node {
             points: List::of(Vec::new(alloc)),

@@ -5,7 +5,6 @@ ghost use Rattle.ept_core.specs.State.{State, node_at, has_node, has_open};
 ghost use Rattle.ept_core.specs.Steps.{drawn, arrived, moved, is_of, IsFlight};
 ghost use Rattle.ept_core.specs.Law.{KeepsLaw};
 ghost use Rattle.ept_core.specs.Machine.{state_of, IsEffect};
-
 ghost use Rattle.ept_core.specs.declared.flight.Flight.{Flight};
 
 use crate::arrival::{Effect, add_flight, effect_on, gather};
@@ -44,7 +43,13 @@ impl Machine {
     {
         let left = &self.points.as_slice()[self.taken..];
         let taken = left.len().min(count as usize);
-        add_flight(self.alloc, &mut self.flights, actor, Key::ROOT, &left[..taken])?;
+        add_flight(
+            self.alloc,
+            &mut self.flights,
+            actor,
+            Key::ROOT,
+            &left[..taken],
+        )?;
         self.taken += taken;
         Ok(())
     }

@@ -1,4 +1,4 @@
-use Rattle.std.proofs.Common.{◌≡◌, ◌∙◌, ℕ, ◌<◌, ap, sym, subst, true, false, get_or, List, Bool, filter, ◌||◌, arith}
+use Rattle.std.proofs.Common.{◌≡◌, ◌∙◌, ℕ, ◌<◌, ap, sym, false, get_or, List, Bool, filter, ◌||◌}
 use Rattle.ept_point.specs.declared.point.Point.{Point}
 use Rattle.ept_space.specs.VoxelKey.{VoxelKey}
 use Rattle.ept_space.specs.OctreeCube.{InBox}
@@ -6,7 +6,6 @@ use Rattle.ept_sample.specs.Place.{place}
 use Rattle.ept_sample.specs.Arrivals.{loses}
 use Rattle.ept_sample.specs.Walk.{has_too_many}
 use Rattle.ept_sample.proofs.WalkLaws.{All-passed, losing-at}
-use Rattle.ept_core.specs.declared.node.Node.{Node}
 use Rattle.ept_core.specs.State.{has_open}
 use Rattle.ept_core.specs.Effects.{flights_below}
 use Rattle.ept_core.proofs.EffectLaws.{opened-above, node-is, flights-are}
@@ -37,6 +36,7 @@ returns c = λ n agree. (
     losing-at c.args.rules.now c.key.inside.depth c.args.key.now.depth c.args.given.now c.in_ok-losers.losers.items c.as_slice.result.now (ap (λ (k : VoxelKey). k.depth) c.key.view_is) c.as_slice.ensures.value c.in_ok-losers.ensures in
     let are : (o : ℕ) → o < 8 → get_or c.opening-opened.result o false ≡ (has_open n o || has_too_many c.args.rules.now c.args.key.now.depth c.as_slice.result.now o) =
     λ o low. (c.opening-opened.ensures.opened o low ∙ ap (λ (b : Bool). b || has_too_many c.args.rules.now c.args.key.now.depth c.as_slice.result.now o) (sym (agree o low))) in
-    let same : c.as_slice-2.result.now ≡ c.as_slice.result.now = c.as_slice-2.ensures.value ∙ sym c.as_slice.ensures.value in
-    (node-is c.args.rules.now c.args.key.now n c.args.given.now c.as_slice.result.now c.opening-opened.result lost c.opening-opened.ensures.eight are c.of-points.result (c.of-points.ensures ∙ c.in_ok-staying.ensures),
-     c.in_ok-flights.ensures ∙ (ap (λ (w : List Point). flights_below c.args.actor c.args.rules.now c.args.key.now w c.opening-opened.result 8) same ∙ flights-are c.args.rules.now c.args.key.now n c.args.given.now c.as_slice.result.now c.opening-opened.result lost c.opening-opened.ensures.eight are c.args.actor)))
+    let same : c.as_slice-2.result.now ≡ c.as_slice.result.now = c.as_slice-2.ensures.value ∙ sym c.as_slice.ensures.value in (
+      node-is c.args.rules.now c.args.key.now n c.args.given.now c.as_slice.result.now c.opening-opened.result lost c.opening-opened.ensures.eight are c.of-points.result (c.of-points.ensures ∙ c.in_ok-staying.ensures),
+      c.in_ok-flights.ensures ∙ (ap (λ (w : List Point). flights_below c.args.actor c.args.rules.now c.args.key.now w c.opening-opened.result 8) same ∙ flights-are c.args.rules.now c.args.key.now n c.args.given.now c.as_slice.result.now c.opening-opened.result lost c.opening-opened.ensures.eight are c.args.actor),
+    ))

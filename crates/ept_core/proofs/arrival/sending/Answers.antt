@@ -1,5 +1,4 @@
-use Rattle.std.proofs.Common.{◌∙◌, ◌++◌, ap, refl, sym, List, get_or, false}
-use Rattle.ept_core.specs.declared.flight.Flight.{Flight}
+use Rattle.std.proofs.Common.{◌∙◌, sym}
 use Rattle.ept_core.proofs.EffectLaws.{flights_below-none, flights_below-more}
 use Rattle.ept_core.proofs.arrival.sending.Goals as goal
 

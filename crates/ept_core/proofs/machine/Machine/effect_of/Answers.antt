@@ -1,8 +1,7 @@
-use Rattle.std.proofs.Common.{◌≡◌, ◌∙◌, ◌++◌, ℕ, ◌<◌, List, ap, sym, subst, refl, true, false, get_or, arith}
+use Rattle.std.proofs.Common.{◌≡◌, ◌∙◌, ◌++◌, List, ap, sym, subst, get_or}
 use Rattle.std.proofs.Math.Logic.{∥∥₁_elim}
 use Rattle.std.proofs.lemmas.List.{get_or_read}
 use Rattle.ept_point.specs.declared.point.Point.{Point}
-use Rattle.ept_space.specs.declared.cube.Rules.{Rules}
 use Rattle.ept_sample.specs.Ids.{HasDistinctIds, in_id_order}
 use Rattle.ept_sample.specs.Place.{AllInBox, AllInCube}
 use Rattle.ept_core.specs.declared.flight.Flight.{Flight}
@@ -12,7 +11,6 @@ use Rattle.ept_core.specs.Steps.{gathered, node_after, flights_after}
 use Rattle.ept_core.specs.Machine.{state_of, IsEffect}
 use Rattle.ept_core.proofs.Arriving.{effect-ok, distinct-prop, box-prop, cube-prop, depth-prop, bottom-prop, gathered-is, distinct-arrival, box-arrival, cube-arrival, low-arrival}
 use Rattle.ept_core.proofs.machine.Machine.effect_of.Goals as goal
-
 
 pub gather-requires : goal.gather-requires
 gather-requires c =
@@ -54,6 +52,6 @@ returns c =
     let f : Flight = c.index-flight.result.now in
     let given : c.as_slice-2.result.now ≡ gathered m.nodes.entries f = c.as_slice-2.ensures.value ∙ (c.in_ok-given.ensures ∙ (ap (λ (w : List Point). in_id_order (w ++ c.standing.result.0.now)) c.as_slice.ensures ∙ (ap (λ (w : List Point). in_id_order (f.points ++ w)) c.standing.ensures.points ∙ gathered-is m.nodes.entries f))) in
     effect-ok c.effect_on.result _ (λ e. (g : Flight) → get_or m.flights.items c.args.index g ≡ g → IsEffect m.rules m.nodes.entries g e) (λ e h g at. (
-      let same : f ≡ g = get_or_read m.flights.items c.args.index f c.requires.index c.index-flight.ensures g ∙ at in
-      let made = h (node_at m.nodes.entries f.key) c.standing.ensures.opened in
-      subst (λ (w : Flight). IsEffect m.rules m.nodes.entries w e) same (made.0 ∙ ap (λ (w : List Point). node_after m.rules f.key (node_at m.nodes.entries f.key) w) given, made.1 ∙ ap (λ (w : List Point). flights_after f.actor m.rules f.key (node_at m.nodes.entries f.key) w) given))) c.effect_on.ensures
+    let same : f ≡ g = get_or_read m.flights.items c.args.index f c.requires.index c.index-flight.ensures g ∙ at in
+    let made = h (node_at m.nodes.entries f.key) c.standing.ensures.opened in
+    subst (λ (w : Flight). IsEffect m.rules m.nodes.entries w e) same (made.0 ∙ ap (λ (w : List Point). node_after m.rules f.key (node_at m.nodes.entries f.key) w) given, made.1 ∙ ap (λ (w : List Point). flights_after f.actor m.rules f.key (node_at m.nodes.entries f.key) w) given))) c.effect_on.ensures

@@ -1,4 +1,4 @@
-use Rattle.std.proofs.Common.{◌≡◌, ◌∙◌, ℕ, suc, List, sym, take, drop, true, false}
+use Rattle.std.proofs.Common.{◌∙◌, suc, sym, take, drop}
 use Rattle.ept_core.specs.declared.flight.Flight.{Flight}
 use Rattle.ept_core.specs.declared.machine.Machine.{Machine}
 use Rattle.ept_core.specs.Steps.{IsFlight}

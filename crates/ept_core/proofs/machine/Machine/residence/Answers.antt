@@ -1,4 +1,4 @@
-use Rattle.std.proofs.Common.{Bool, ap}
+use Rattle.std.proofs.Common.{ap}
 use Rattle.ept_core.specs.declared.node.Node.{Node}
 use Rattle.ept_core.proofs.Lookups.{found-some, found-none}
 use Rattle.ept_core.proofs.machine.Machine.residence.Goals as goal

@@ -1,7 +1,7 @@
-use Rattle.std.proofs.Common.{◌≡◌, ◌∙◌, drop, List, ap, sym, true}
+use Rattle.std.proofs.Common.{◌∙◌, drop, List, ap, sym}
 use Rattle.std.proofs.lemmas.Bool.{false≢true}
 use Rattle.ept_core.specs.declared.node.Node.{Node}
-use Rattle.ept_core.specs.State.{State, Entry, node_at, keys_of}
+use Rattle.ept_core.specs.State.{State, Entry, keys_of}
 use Rattle.ept_core.specs.Steps.{with_node}
 use Rattle.ept_core.proofs.Lookups.{found-some, found-none, set_value-with, sorted-rising, resident_as}
 use Rattle.ept_core.proofs.machine.Machine.set_residence.Goals as goal

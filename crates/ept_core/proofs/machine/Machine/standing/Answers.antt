@@ -1,5 +1,4 @@
-use Rattle.std.proofs.Common.{◌∙◌, ℕ, ap, sym, refl, false, get_or, List, Bool}
-use Rattle.ept_point.specs.declared.point.Point.{Point}
+use Rattle.std.proofs.Common.{◌∙◌, ap, sym, false, get_or}
 use Rattle.ept_core.specs.declared.node.Node.{Node}
 use Rattle.ept_core.specs.State.{has_open}
 use Rattle.ept_core.proofs.Lookups.{found-some, found-none, open-blank}
