@@ -1,0 +1,12 @@
+pub mod NodeMap
+pub mod Held
+pub mod Leaving
+pub mod ArriveLaw
+pub mod OtherSteps
+pub mod Sampled
+pub mod Landed
+pub mod Resumed
+pub mod CoreLaws
+pub mod EffectLaws
+pub mod Lookups
+pub mod Arriving

@@ -1,0 +1,43 @@
+-- What holds of each core. Each statement stands on the contract of a function of `laws`.
+use Rattle.std.specs.Prelude.{◌≡◌, Bool, true, List, [], ◌++◌, map}
+use Rattle.ept_point.specs.declared.point.Point.{Point}
+use Rattle.ept_space.specs.declared.cube.Rules.{Rules}
+use Rattle.ept_space.specs.VoxelKey.{VoxelKey}
+use Rattle.ept_sample.specs.Sampling.{is_node}
+use Rattle.ept_sample.specs.SamplingLaws.{CanBeSampled}
+use Rattle.ept_sample.specs.Nodes.{sampled}
+use Rattle.ept_core.specs.declared.event.Event.{Event}
+use Rattle.ept_core.specs.State.{State, IsHeld, tile_of}
+use Rattle.ept_core.specs.Law.{KeepsLaw}
+use Rattle.ept_core.specs.Steps.{Step, Run, resumed, begun}
+
+-- each step keeps the law
+abbrev pub StepsKeepLaw : Type 0
+StepsKeepLaw =
+    (rules : Rules) (points : List Point) (old : State) (event : Event) (new : State) → KeepsLaw rules points old → Step rules old event new → KeepsLaw rules points new
+
+-- so each list of events does
+abbrev pub RunsKeepLaw : Type 0
+RunsKeepLaw =
+    (rules : Rules) (points : List Point) (old : State) (events : List Event) (new : State) → KeepsLaw rules points old → Run rules old events new → KeepsLaw rules points new
+
+-- the root without points, with all points left, keeps it
+abbrev pub BeginningKeepsLaw : Type 0
+BeginningKeepsLaw =
+    (rules : Rules) (points : List Point) → CanBeSampled rules points → KeepsLaw rules points (begun points)
+
+-- and so does the sampling of the first points, with the others left, wherever its nodes' points are kept
+abbrev pub ResumedKeepsLaw : Type 0
+ResumedKeepsLaw =
+    (rules : Rules) (points first rest : List Point) (resident : Bool) → CanBeSampled rules points → points ≡ first ++ rest → KeepsLaw rules points (resumed rules first rest resident)
+
+-- where nothing is in flight, the nodes are the sampling of the points that were drawn
+abbrev pub LandedIsSampled : Type 0
+LandedIsSampled =
+    (rules : Rules) (points first : List Point) (s : State) → KeepsLaw rules points s → s.flights ≡ [] → points ≡ first ++ s.left → map tile_of s.nodes ≡ sampled rules first
+
+-- whatever events lead to a state, a key at which it holds a point is one of the sampling of any first points that
+-- have all the points drawn
+abbrev pub HeldKeysAreNodes : Type 0
+HeldKeysAreNodes =
+    (rules : Rules) (points first between rest : List Point) (old new : State) (events : List Event) (key : VoxelKey) (p : Point) → KeepsLaw rules points old → Run rules old events new → IsHeld new key p → points ≡ first ++ rest → new.left ≡ between ++ rest → is_node rules first key ≡ true

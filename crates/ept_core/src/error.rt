@@ -1,0 +1,39 @@
+//! Why an event is refused.
+
+ghost use Rattle.std.specs.Prelude.{◌≡◌};
+
+use ept_point::Memory;
+use thiserror::Error;
+
+/// Why an event is refused: the first cause in the order of the variants.
+#[derive(Clone, Copy, Debug, PartialEq, Eq, Error)]
+pub enum StepError {
+    /// There is no such actor.
+    #[error("there is no such actor")]
+    NoActor,
+    /// The actor has no flight of that number.
+    #[error("the actor has no flight of that number")]
+    NoFlight,
+    /// The key is that of no node.
+    #[error("the key is that of no node")]
+    NoNode,
+    /// The node is spilled.
+    #[error("the node is spilled")]
+    NotResident,
+    /// The node is resident.
+    #[error("the node is resident")]
+    NotSpilled,
+    /// Memory ran out.
+    #[error("out of memory")]
+    Memory,
+}
+
+impl From<Memory> for StepError {
+    ghost use Rattle.ept_core.specs.declared.error.StepError.TheVariants.{Memory};
+
+    ghost from_gives = { λ _ e. e ≡ Memory };
+
+    fn from(_error: Memory) -> StepError {
+        StepError::Memory
+    }
+}

@@ -1,0 +1,25 @@
+//! The laws of the core, each on the contract of a function that does nothing.
+
+ghost use Rattle.ept_core.specs.CoreLaws.{StepsKeepLaw, RunsKeepLaw, BeginningKeepsLaw, ResumedKeepsLaw, LandedIsSampled, HeldKeysAreNodes};
+
+/// Each step, and so each list of events in whatever order, keeps the law.
+pub fn step_law()
+    ensures step { StepsKeepLaw }
+    ensures run { RunsKeepLaw }
+{}
+
+/// The law holds where a core begins, and where one goes on from the sampling of the first points.
+pub fn start_law()
+    ensures beginning { BeginningKeepsLaw }
+    ensures resumed { ResumedKeepsLaw }
+{}
+
+/// Where nothing is in flight the nodes are the sampling of the points that were drawn.
+pub fn landed_law()
+    ensures { LandedIsSampled }
+{}
+
+/// Each key at which points are held is one of the sampling.
+pub fn key_law()
+    ensures { HeldKeysAreNodes }
+{}

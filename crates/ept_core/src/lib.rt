@@ -1,0 +1,27 @@
+//! The machine under the builder: points are drawn by actors, arrive at nodes and move down as octants
+//! open, while nodes are evicted and reloaded, in any order.
+//!
+//! A law holds of each state that any list of events leads to. A state that has nothing left and
+//! nothing in flight has the sampling of the points as its nodes.
+#![tactic(auto)]
+
+mod arrival;
+mod engine;
+mod error;
+mod event;
+mod flight;
+mod laws;
+mod machine;
+mod node;
+mod play;
+mod steps;
+#[cfg(test)]
+mod tests;
+mod turn;
+
+pub use engine::Core;
+pub use error::StepError;
+pub use event::Event;
+pub use flight::Flight;
+pub use laws::{key_law, landed_law, start_law, step_law};
+pub use node::{Node, OCTANTS};

@@ -1,0 +1,15 @@
+//! The nodes of the core.
+
+use ept_point::{List, Point};
+
+/// How many octants a box has.
+pub const OCTANTS: usize = 8;
+
+/// A node: its points in id order, which of its octants are open, and whether its points are in memory
+/// or spilled.
+#[derive(Debug, Drop)]
+pub struct Node {
+    pub points: List<Point>,
+    pub opened: [bool; OCTANTS],
+    pub is_resident: bool,
+}

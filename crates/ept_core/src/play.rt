@@ -1,0 +1,76 @@
+//! What is done with a core.
+
+ghost use Rattle.std.specs.Prelude.{◌≡◌, ◌↔◌, IsTrue, [], map, OnOk, OnErr, IfOk, IfErr};
+ghost use Rattle.std.specs.Bool.{OnTrue};
+ghost use Rattle.ept_sample.specs.Place.{AllInCube};
+ghost use Rattle.ept_sample.specs.Ids.{HasDistinctIds};
+ghost use Rattle.ept_sample.specs.Nodes.{sampled};
+ghost use Rattle.ept_core.specs.State.{tile_of};
+ghost use Rattle.ept_core.specs.Steps.{Step, begun};
+ghost use Rattle.ept_core.specs.Refusals.{HasActor, Refuses};
+ghost use Rattle.ept_core.specs.Shown.{shown, rules_of, points_of, actors_of};
+
+use crate::engine::Core;
+use crate::error::StepError;
+use crate::event::Event;
+use crate::machine::Machine;
+use crate::node::{Node, OCTANTS};
+use ept_point::{List, Memory, Point};
+use ept_space::{Key, Rules};
+use std::alloc::Global;
+use std::collections::BTreeMap;
+
+impl Core {
+    /// A core of these points, of which none was drawn. The root is there, resident and empty. The ids
+    /// of the points differ, and the points lie in the cube.
+    pub fn new(alloc: Global, points: &[Point], rules: &Rules, actors: u32) -> Result<Core, Memory>
+        requires distinct { HasDistinctIds points.now }
+        requires inside { AllInCube rules.now.cube points.now }
+        ensures state { IfOk result (λ core. shown core ≡ begun points.now) }
+        ensures points { IfOk result (λ core. points_of core ≡ points.now) }
+        ensures rules { IfOk result (λ core. rules_of core ≡ rules.now) }
+        ensures actors { IfOk result (λ core. actors_of core ≡ actors) }
+    {
+        // Each node has a key.
+        prove!(rules.cube.depth <= Key::MAX_DEPTH);
+        let points = List::of(Vec::from_slice(alloc, points)?);
+        let root = Node {
+            points: List::of(Vec::new(alloc)),
+            opened: [false; OCTANTS],
+            is_resident: true,
+        };
+        let mut nodes = BTreeMap::new(alloc);
+        nodes.insert(Key::ROOT, root)?;
+        let machine = Machine {
+            alloc,
+            rules: *rules,
+            actors,
+            points,
+            taken: 0,
+            flights: Vec::new(alloc),
+            nodes,
+        };
+        Ok(Core { machine })
+    }
+
+    /// Lets one event happen. After a refusal the core is unchanged.
+    pub fn step(&mut self, event: Event) -> Result<(), StepError>
+        ensures ok { OnOk result (Step (rules_of self.old) (shown self.old) event (shown self.new)) }
+        ensures actor { OnOk result (HasActor (actors_of self.old) event) }
+        ensures refused { IfErr result (Refuses (shown self.old) (actors_of self.old) event) }
+        ensures err { OnErr result (shown self.new ≡ shown self.old) }
+        ensures rules { rules_of self.new ≡ rules_of self.old }
+        ensures points { points_of self.new ≡ points_of self.old }
+        ensures actors { actors_of self.new ≡ actors_of self.old }
+    {
+        self.machine.step(event)
+    }
+
+    /// Whether nothing is left and nothing in flight. The nodes are then the sampling of the points.
+    pub fn finished(&self) -> bool
+        ensures done { IsTrue result ↔ (((shown self.now).left ≡ []) × ((shown self.now).flights ≡ [])) }
+    {
+        self.machine.points.as_slice()[self.machine.taken..].is_empty()
+            && self.machine.flights.is_empty()
+    }
+}
