@@ -12,6 +12,7 @@ use Rattle.ept_space.specs.VoxelKey.{VoxelKey}
 use Rattle.ept_space.specs.OctreeCube.{OctreeCube, InCube, InBox}
 use Rattle.ept_sample.specs.Place.{place, AllInCube, AllInBox}
 use Rattle.ept_sample.specs.Ids.{HasDistinctIds, in_id_order}
+use Rattle.ept_sample.specs.declared.tiles.Tile.{Tile}
 use Rattle.ept_sample.proofs.Members.{IsMember, IsMember-right, all-member, All-members}
 use Rattle.ept_core.specs.declared.flight.Flight.{Flight}
 use Rattle.ept_core.specs.State.{State, Entry, node_at, IsHeld}
@@ -39,6 +40,9 @@ depth-prop a b = hlevel props
 
 pub bottom-prop : (rules : Rules) (key : VoxelKey) (opened : List Bool) → IsProp ((o : ℕ) → o < 8 → get_or opened o false ≡ true → key.depth < rules.cube.depth)
 bottom-prop rules key opened = hlevel props
+
+pub tiles-prop : (xs ys : List Tile) → IsProp (xs ≡ ys)
+tiles-prop xs ys = hlevel props
 
 pub gathered-is : (nodes : List Entry) (f : Flight) → in_id_order (f.points ++ (node_at nodes f.key).points) ≡ gathered nodes f
 unfolding gathered

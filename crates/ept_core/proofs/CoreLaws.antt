@@ -1,6 +1,6 @@
 -- The laws of the core.
 use Rattle.std.proofs.Common.{◌≡◌, ◌∙◌, ℕ, Bool, true, false, inl, inr, List, [], ◌∷◌, ◌++◌, map, refl, sym, ap, subst, arith, append_assoc, Result, Ok, Err, OnOk, OnErr}
-use Rattle.std.proofs.lemmas.List.{append_cancel_right}
+use Rattle.std.proofs.lemmas.List.{append_cancel_right, append-nil}
 use Rattle.ept_point.specs.declared.point.Point.{Point}
 use Rattle.ept_space.specs.declared.cube.Rules.{Rules}
 use Rattle.ept_space.specs.VoxelKey.{VoxelKey, root, child}
@@ -129,3 +129,10 @@ stands-on rules rules' points points' old new event (Ok u) step same e f law =
     subst (λ (w : Rules). KeepsLaw w points' new) (sym e) (subst (λ (w : List Point). KeepsLaw rules w new) (sym f) (step-keeps rules points old event new law step))
 stands-on rules rules' points points' old new event (Err x) step same e f law =
     subst (λ (w : Rules). KeepsLaw w points' new) (sym e) (subst (λ (w : List Point). KeepsLaw rules w new) (sym f) (subst (λ (w : State). KeepsLaw rules points w) (sym same) law))
+
+-- ---- a core that is finished
+
+-- where nothing is left and nothing flies, the nodes are the sampling of all points
+pub all-sampled : (rules : Rules) (points : List Point) (s : State) → KeepsLaw rules points s → s.left ≡ [] → s.flights ≡ [] → map tile_of s.nodes ≡ sampled rules points
+all-sampled rules points s law none landed =
+    landed-sampled rules points points s law landed (sym (ap (λ (w : List Point). points ++ w) none ∙ append-nil points))

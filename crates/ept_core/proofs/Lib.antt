@@ -10,3 +10,4 @@ pub mod CoreLaws
 pub mod EffectLaws
 pub mod Lookups
 pub mod Arriving
+pub mod Runs

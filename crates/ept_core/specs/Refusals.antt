@@ -1,12 +1,13 @@
 -- When events are refused.
-use Rattle.std.specs.Prelude.{◌≡◌, ◌≤◌, ◌<◌, ℕ, true, false, ⊤, List, count_by}
+use Rattle.std.specs.Prelude.{◌≡◌, ◌≤◌, ◌<◌, ℕ, true, false, ⊤, List, ◌∷◌, ◌++◌, All, count_by}
 use Rattle.ept_core.specs.declared.event.Event.{Event}
 use Rattle.ept_core.specs.declared.event.Event.TheVariants.{Draw, Arrive, Evict, Reload}
 use Rattle.ept_core.specs.declared.error.StepError.{StepError}
 use Rattle.ept_core.specs.declared.error.StepError.TheVariants.{NoActor, NoFlight, NoNode, NotResident, NotSpilled, Memory}
 use Rattle.ept_core.specs.declared.flight.Flight.{Flight}
+use Rattle.ept_space.specs.declared.cube.Rules.{Rules}
 use Rattle.ept_core.specs.State.{State, node_at, has_node}
-use Rattle.ept_core.specs.Steps.{is_of, IsFlight}
+use Rattle.ept_core.specs.Steps.{is_of, IsFlight, Run}
 
 -- the actor of the event, if it has one, is one of so many
 abbrev pub HasActor : ℕ → Event → Type 0
@@ -46,3 +47,8 @@ Refuses s actors (Reload key) NoNode = has_node s.nodes key ≡ false
 Refuses s actors (Reload key) NotResident = ⊥
 Refuses s actors (Reload key) NotSpilled = (has_node s.nodes key ≡ true) × ((node_at s.nodes key).is_resident ≡ true)
 Refuses s actors (Reload key) Memory = ⊥
+
+-- of the events those before one have happened, and this one is refused so
+abbrev pub StopsAt : Rules → ℕ → State → List Event → State → StepError → Type 0
+StopsAt rules actors old events new error =
+    (done : List Event) × (event : Event) × (rest : List Event) × (events ≡ done ++ event ∷ rest) × All (HasActor actors) done × Run rules old done new × Refuses new actors event error

@@ -25,3 +25,4 @@ pub use event::Event;
 pub use flight::Flight;
 pub use laws::{key_law, landed_law, start_law, step_law};
 pub use node::{Node, OCTANTS};
+pub use play::run_events;

@@ -1,13 +1,13 @@
 //! What is done with a core.
 
-ghost use Rattle.std.specs.Prelude.{◌≡◌, ◌↔◌, IsTrue, [], map, OnOk, OnErr, IfOk, IfErr};
+ghost use Rattle.std.specs.Prelude.{◌≡◌, ◌↔◌, IsTrue, [], map, OnOk, OnErr, IfOk, IfErr, All};
 ghost use Rattle.std.specs.Bool.{OnTrue};
 ghost use Rattle.ept_sample.specs.Place.{AllInCube};
 ghost use Rattle.ept_sample.specs.Ids.{HasDistinctIds};
 ghost use Rattle.ept_sample.specs.Nodes.{sampled};
 ghost use Rattle.ept_core.specs.State.{tile_of};
-ghost use Rattle.ept_core.specs.Steps.{Step, begun};
-ghost use Rattle.ept_core.specs.Refusals.{HasActor, Refuses};
+ghost use Rattle.ept_core.specs.Steps.{Step, Run, begun};
+ghost use Rattle.ept_core.specs.Refusals.{HasActor, Refuses, StopsAt};
 ghost use Rattle.ept_core.specs.Shown.{shown, rules_of, points_of, actors_of};
 
 use crate::engine::Core;
@@ -16,6 +16,7 @@ use crate::event::Event;
 use crate::machine::Machine;
 use crate::node::{Node, OCTANTS};
 use ept_point::{List, Memory, Point};
+use ept_sample::{Tile, Tiles};
 use ept_space::{Key, Rules};
 use std::alloc::Global;
 use std::collections::BTreeMap;
@@ -73,4 +74,38 @@ impl Core {
         self.machine.points.as_slice()[self.machine.taken..].is_empty()
             && self.machine.flights.is_empty()
     }
+
+    /// The nodes as tiles, in key order. Where the core is finished they are the sampling of the points.
+    pub fn tiles(&self) -> Result<Tiles, Memory>
+        ensures nodes { IfOk result (λ t. t.tiles ≡ map tile_of (shown self.now).nodes) }
+        ensures sampled { IfOk result (λ t. (shown self.now).left ≡ [] → (shown self.now).flights ≡ []
+            → t.tiles ≡ sampled (rules_of self.now) (points_of self.now)) }
+    {
+        let mut tiles = Vec::new(self.machine.alloc);
+        for (key, node) in self.machine.nodes.iter() {
+            let points = Vec::from_slice(self.machine.alloc, node.points.as_slice())?;
+            tiles.push(Tile {
+                key: *key,
+                points: List::of(points),
+            })?;
+        }
+        Ok(Tiles {
+            tiles: List::of(tiles),
+        })
+    }
+}
+
+/// Lets the events happen in order, up to the first that is refused; those before it have happened.
+pub fn run_events(core: &mut Core, events: &[Event]) -> Result<(), StepError>
+    ensures ok { OnOk result (Run (rules_of core.old) (shown core.old) events.now (shown core.new)) }
+    ensures actor { OnOk result (All (HasActor (actors_of core.old)) events.now) }
+    ensures refused { IfErr result (StopsAt (rules_of core.old) (actors_of core.old) (shown core.old) events.now (shown core.new)) }
+    ensures rules { rules_of core.new ≡ rules_of core.old }
+    ensures points { points_of core.new ≡ points_of core.old }
+    ensures actors { actors_of core.new ≡ actors_of core.old }
+{
+    for event in events {
+        core.step(*event)?;
+    }
+    Ok(())
 }
