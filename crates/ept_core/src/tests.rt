@@ -1,6 +1,6 @@
 use crate::{Core, Event, StepError, run_events};
 use ept_point::Point;
-use ept_sample::{Tiles, are_in_cube, ids_ascend, sample};
+use ept_sample::{Tile, Tiles, are_in_cube, ids_ascend, sample};
 use ept_space::{Cube, Key, Rules};
 use std::alloc::{AllocError, Global};
 use std::test::Fail;
@@ -61,6 +61,19 @@ const UPPER: Key = Key {
     y: 1,
     z: 1,
 };
+
+const LOWER: Key = Key {
+    depth: 1,
+    x: 0,
+    y: 0,
+    z: 0,
+};
+
+// Whether this is the node of the key, with the one point of that number.
+fn is_node_of_one(tile: &Tile, key: Key, number: u32) -> bool {
+    let points = tile.points.as_slice();
+    tile.key == key && points.len() == 1 && points.iter().all(|point| point.number == number)
+}
 
 // The second point arrives first; the first then loses to it, and goes down from an evicted root.
 #[test]
@@ -138,6 +151,11 @@ fn two_actors_finish(rt: HostRuntime) -> Result<(), Fail> {
         )
     );
     assert!(rt; core.finished());
+    let tiles = core.tiles()?;
+    let nodes = tiles.tiles.as_slice();
+    assert!(rt; nodes.len() == 2);
+    assert!(rt; is_node_of_one(&nodes[0], Key::ROOT, 1));
+    assert!(rt; is_node_of_one(&nodes[1], LOWER, 0));
     Ok(())
 }
 
