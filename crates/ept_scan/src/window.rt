@@ -1,0 +1,96 @@
+//! The bytes of a source that were read and are not yet used.
+
+ghost use Rattle.std.specs.Prelude.{◌≡◌, ◌<◌, ◌≤◌, IfOk, OnOk, [], length, drop, max};
+ghost use Rattle.std.specs.Io.KnownBytes.{prepend_known, Keeps, IsAtEnd};
+ghost use Rattle.ept_base.specs.Causes.{HasCause};
+ghost use Rattle.ept_scan.specs.Reach.{HasLeftOf};
+
+use ept_base::{Failed, Source, read_full};
+use std::alloc::{AllocError, Global};
+use std::marker::Model;
+
+/// How many bytes of a file are read at once, and held, at most. It is more than the longest record of
+/// a LAS file, of 65,535 bytes.
+pub const PIECE: usize = 262_144;
+
+/// The bytes of a source that were read and are not yet used, in a buffer of the size of a piece.
+#[derive(Debug, Drop)]
+pub(crate) struct Window {
+    buffer: Vec<u8>,
+    start: usize,
+    end: usize,
+}
+
+impl Model for Window {
+    ghost use Rattle.std.specs.Prelude.{◌≡◌, ◌≤◌, ◌-◌, ℕ, List, take, drop, vec_len};
+    ghost use Rattle.ept_scan.specs.declared.window.TheConstants.{PIECE};
+
+    ghost Value = { List ℕ };
+
+    ghost view = { λ w. take (w.end - w.start) (drop w.start w.buffer.items) };
+
+    ghost invariant = { λ w. (w.start ≤ w.end) × (w.end ≤ PIECE) × (vec_len w.buffer ≡ PIECE) };
+}
+
+impl Window {
+    /// A window without bytes.
+    pub(crate) fn new(alloc: Global) -> Result<Window, AllocError>
+        ensures { IfOk result (λ w. w ≡ []) }
+    {
+        let buffer = Vec::from_elem(alloc, 0, PIECE)?;
+        Ok(Window {
+            buffer,
+            start: 0,
+            end: 0,
+        })
+    }
+
+    /// Lets go of all bytes.
+    pub(crate) fn clear(&mut self)
+        ensures { self.new ≡ [] }
+    {
+        self.start = 0;
+        self.end = 0;
+    }
+
+    pub(crate) fn len(&self) -> usize
+        ensures { result ≡ length self.now }
+    {
+        self.end - self.start
+    }
+
+    pub(crate) fn bytes(&self) -> &[u8]
+        ensures { result.now ≡ self.now }
+    {
+        &self.buffer[self.start..self.end]
+    }
+
+    /// Lets go of the first bytes.
+    pub(crate) fn consume(&mut self, count: usize)
+        requires { count ≤ length self.old }
+        ensures { self.new ≡ drop count self.old }
+    {
+        self.start += count;
+    }
+
+    /// Reads on until there are `most` bytes, or the source is at its end.
+    pub(crate) fn refill<S: Source>(&mut self, source: &mut S, most: usize) -> Result<(), Failed>
+        requires { most ≤ PIECE }
+        ensures ahead { OnOk result (Keeps (prepend_known self.old (S.left source.old)) (prepend_known self.new (S.left source.new))) }
+        ensures bound { length self.new ≤ max (length self.old) most }
+        ensures filled { OnOk result (length self.new < most → IsAtEnd (S.left source.new)) }
+        ensures left { HasLeftOf (S.left source.old) (S.left source.new) most }
+        ensures same { S.whole source.new ≡ S.whole source.old }
+        ensures cause { HasCause (S.faults source.old) (S.faults source.new) result }
+    {
+        let kept = self.end - self.start;
+        self.buffer.copy_within(self.start..self.end, 0);
+        self.start = 0;
+        self.end = kept;
+        if kept < most {
+            let count = read_full(source, &mut self.buffer[kept..most])?;
+            self.end = kept + count;
+        }
+        Ok(())
+    }
+}
