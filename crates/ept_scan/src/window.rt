@@ -1,6 +1,6 @@
 //! The bytes of a source that were read and are not yet used.
 
-ghost use Rattle.std.specs.Prelude.{◌≡◌, ◌<◌, ◌≤◌, IfOk, OnOk, [], length, drop, max};
+ghost use Rattle.std.specs.Prelude.{◌≡◌, ◌<◌, ◌≤◌, ◌-◌, IfOk, OnOk, [], length, take, drop, max};
 ghost use Rattle.std.specs.Io.KnownBytes.{prepend_known, Keeps, IsAtEnd};
 ghost use Rattle.ept_base.specs.Causes.{HasCause};
 ghost use Rattle.ept_scan.specs.Reach.{HasLeftOf};
@@ -83,14 +83,38 @@ impl Window {
         ensures same { S.whole source.new ≡ S.whole source.old }
         ensures cause { HasCause (S.faults source.old) (S.faults source.new) result }
     {
-        let kept = self.end - self.start;
-        self.buffer.copy_within(self.start..self.end, 0);
+        let end = read_behind(source, &mut self.buffer, self.start, self.end, most)?;
         self.start = 0;
-        self.end = kept;
-        if kept < most {
-            let count = read_full(source, &mut self.buffer[kept..most])?;
-            self.end = kept + count;
-        }
+        self.end = end;
         Ok(())
     }
+}
+
+// Moves the bytes from `start` to `end` to the front of the buffer, and reads on behind them until
+// there are `most` bytes, or the source is at its end. Answers the number of bytes at the front.
+fn read_behind<S: Source>(
+    source: &mut S,
+    buffer: &mut [u8],
+    start: usize,
+    end: usize,
+    most: usize,
+) -> Result<usize, Failed>
+    requires order { start ≤ end }
+    requires within { end ≤ length buffer.old }
+    requires room { most ≤ length buffer.old }
+    ensures ahead { IfOk result (λ n. Keeps (prepend_known (take (end - start) (drop start buffer.old)) (S.left source.old)) (prepend_known (take n buffer.new) (S.left source.new))) }
+    ensures bound { IfOk result (λ n. n ≤ max (end - start) most) }
+    ensures filled { IfOk result (λ n. n < most → IsAtEnd (S.left source.new)) }
+    ensures size { length buffer.new ≡ length buffer.old }
+    ensures left { HasLeftOf (S.left source.old) (S.left source.new) most }
+    ensures same { S.whole source.new ≡ S.whole source.old }
+    ensures cause { HasCause (S.faults source.old) (S.faults source.new) result }
+{
+    let kept = end - start;
+    buffer.copy_within(start..end, 0);
+    if kept < most {
+        let count = read_full(source, &mut buffer[kept..most])?;
+        return Ok(kept + count);
+    }
+    Ok(kept)
 }
