@@ -21,15 +21,14 @@ moved buffer start end order fits =
     take_at (take (end - start) (drop start buffer)) (drop (0 + (end - start)) buffer) (end - start) (omega (arith, length-take (end - start) (drop start buffer), length-drop start buffer))
 
 -- more was read behind the bytes that were kept
-pub read_on : (buffer held : List ℕ) (start end most count : ℕ) (copied into : List ℕ) (old new : Option (List ℕ)) → take (end - start) (drop start buffer) ≡ held → start ≤ end → end ≤ length buffer → copied ≡ copy_within buffer start end 0
+pub read_on : (buffer : List ℕ) (start end most count : ℕ) (copied into : List ℕ) (old new : Option (List ℕ)) → start ≤ end → end ≤ length buffer → copied ≡ copy_within buffer start end 0
     → end - start < most → most ≤ length copied → ReadsFull old new count into
-    → Keeps (prepend_known held old) (prepend_known (take ((end - start + count) - 0) (drop 0 (put_mid (end - start) (most - (end - start)) copied into))) new)
-read_on buffer held start end most count copied into None new view order fits is less room reads = tt
-read_on buffer held start end most count copied into (Some xs) None view order fits is less room reads = absurd reads.consumed
-read_on buffer held start end most count copied into (Some xs) (Some ys) view order fits is less room reads =
-    let kept : take (end - start) copied ≡ held = ap (λ (l : List ℕ). take (end - start) l) is ∙ moved buffer start end order fits ∙ view in
+    → Keeps (prepend_known (take (end - start) (drop start buffer)) old) (prepend_known (take (end - start + count) (put_mid (end - start) (most - (end - start)) copied into)) new)
+read_on buffer start end most count copied into None new order fits is less room reads = tt
+read_on buffer start end most count copied into (Some xs) None order fits is less room reads = absurd reads.consumed
+read_on buffer start end most count copied into (Some xs) (Some ys) order fits is less room reads =
+    let held : List ℕ = take (end - start) (drop start buffer) in
+    let kept : take (end - start) copied ≡ held = ap (λ (l : List ℕ). take (end - start) l) is ∙ moved buffer start end order fits in
     let front : take (end - start + count) (put_mid (end - start) (most - (end - start)) copied into) ≡ held ++ take count into =
     front_grown copied into (end - start) count (most - (end - start)) (omega arith) reads.fits ∙ ap (λ (l : List ℕ). l ++ take count into) kept in
-    let same : end - start + count - 0 ≡ end - start + count = omega arith in
-    ap (λ (n : ℕ). take n (put_mid (end - start) (most - (end - start)) copied into) ++ ys) same
-    ∙ ap (λ (l : List ℕ). l ++ ys) front ∙ append_assoc held (take count into) ys ∙ ap (λ (l : List ℕ). held ++ l) (sym reads.consumed)
+    ap (λ (l : List ℕ). l ++ ys) front ∙ append_assoc held (take count into) ys ∙ ap (λ (l : List ℕ). held ++ l) (sym reads.consumed)

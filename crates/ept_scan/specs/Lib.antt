@@ -1,1 +1,6 @@
 pub mod Reach
+pub mod Extents
+pub mod LasFile
+pub mod Records
+pub mod Refusals
+pub mod Counts

@@ -1,6 +1,6 @@
 //! The bytes of a source that were read and are not yet used.
 
-ghost use Rattle.std.specs.Prelude.{◌≡◌, ◌<◌, ◌≤◌, ◌-◌, IfOk, OnOk, [], length, take, drop, max};
+ghost use Rattle.std.specs.Prelude.{◌≡◌, ◌<◌, ◌≤◌, ◌-◌, IfOk, OnOk, Ok, true, false, [], length, take, drop, max};
 ghost use Rattle.std.specs.Io.KnownBytes.{prepend_known, Keeps, IsAtEnd};
 ghost use Rattle.ept_base.specs.Causes.{HasCause};
 ghost use Rattle.ept_scan.specs.Reach.{HasLeftOf};
@@ -73,13 +73,39 @@ impl Window {
         self.start += count;
     }
 
+    /// Reads on, up to `most` bytes, where there are fewer than `least`. Answers whether there are.
+    pub(crate) fn fill<S: Source>(
+        &mut self,
+        source: &mut S,
+        least: usize,
+        most: usize,
+    ) -> Result<bool, Failed>
+        requires order { least ≤ most }
+        requires piece { most ≤ PIECE }
+        ensures ahead { OnOk result (Keeps (prepend_known self.old (S.left source.old)) (prepend_known self.new (S.left source.new))) }
+        ensures held { result ≡ Ok true → least ≤ length self.new }
+        ensures short { result ≡ Ok false → (length self.new < least) × IsAtEnd (S.left source.new) }
+        ensures bound { length self.new ≤ max (length self.old) most }
+        ensures more { OnOk result (length self.old ≤ length self.new) }
+        ensures left { HasLeftOf (S.left source.old) (S.left source.new) (most - length self.old) }
+        ensures same { S.whole source.new ≡ S.whole source.old }
+        ensures cause { HasCause (S.faults source.old) (S.faults source.new) result }
+    {
+        if self.len() >= least {
+            return Ok(true);
+        }
+        self.refill(source, most)?;
+        Ok(self.len() >= least)
+    }
+
     /// Reads on until there are `most` bytes, or the source is at its end.
     pub(crate) fn refill<S: Source>(&mut self, source: &mut S, most: usize) -> Result<(), Failed>
         requires { most ≤ PIECE }
         ensures ahead { OnOk result (Keeps (prepend_known self.old (S.left source.old)) (prepend_known self.new (S.left source.new))) }
         ensures bound { length self.new ≤ max (length self.old) most }
+        ensures more { OnOk result (length self.old ≤ length self.new) }
         ensures filled { OnOk result (length self.new < most → IsAtEnd (S.left source.new)) }
-        ensures left { HasLeftOf (S.left source.old) (S.left source.new) most }
+        ensures left { HasLeftOf (S.left source.old) (S.left source.new) (most - length self.old) }
         ensures same { S.whole source.new ≡ S.whole source.old }
         ensures cause { HasCause (S.faults source.old) (S.faults source.new) result }
     {
@@ -104,9 +130,10 @@ fn read_behind<S: Source>(
     requires room { most ≤ length buffer.old }
     ensures ahead { IfOk result (λ n. Keeps (prepend_known (take (end - start) (drop start buffer.old)) (S.left source.old)) (prepend_known (take n buffer.new) (S.left source.new))) }
     ensures bound { IfOk result (λ n. n ≤ max (end - start) most) }
+    ensures more { IfOk result (λ n. end - start ≤ n) }
     ensures filled { IfOk result (λ n. n < most → IsAtEnd (S.left source.new)) }
     ensures size { length buffer.new ≡ length buffer.old }
-    ensures left { HasLeftOf (S.left source.old) (S.left source.new) most }
+    ensures left { HasLeftOf (S.left source.old) (S.left source.new) (most - (end - start)) }
     ensures same { S.whole source.new ≡ S.whole source.old }
     ensures cause { HasCause (S.faults source.old) (S.faults source.new) result }
 {

@@ -1,0 +1,32 @@
+-- What the first reading of a file finds.
+use Rattle.std.specs.Prelude.{◌≡◌, ℕ, ◌≤◌, List, Option, Some, None, length, ⊤, All}
+use Rattle.ept_base.specs.Files.{Tells}
+use Rattle.ept_point.specs.declared.point.Point.{Point}
+use Rattle.ept_space.specs.declared.bounds.Bounds.{Bounds}
+use Rattle.ept_las.specs.declared.header.Header.{Header}
+use Rattle.ept_config.specs.declared.source_count.SourceCount.{SourceCount}
+use Rattle.ept_scan.specs.declared.reading.Reading.{Reading}
+use Rattle.ept_scan.specs.declared.reading.TheConstants.{MAX_POINTS}
+use Rattle.ept_scan.specs.Extents.{IsAllowed, HasExtent}
+use Rattle.ept_scan.specs.LasFile.{AreFirstPoints, ArePointsOf}
+
+-- so many records were found to have an extent: that of their points, which lie where points may lie
+pub record FindsExtent (reading : Reading) (header : Header) (records : Option (List ℕ)) (extent : Option Bounds) : Type 0 where
+  pub points : List Point
+  pub count : length points ≡ header.points
+  pub allowed : All (IsAllowed reading.limits) points
+  pub has_extent : HasExtent points extent
+  pub are : Tells (λ bytes. AreFirstPoints reading header bytes header.points points) records
+
+-- the number of some points and their extent
+pub record IsCountOf (points : List Point) (count : SourceCount) : Type 0 where
+  pub number : count.points ≡ length points
+  pub has_extent : HasExtent points count.extent
+
+-- A file was found to have this number of points and this extent: those of its points, which lie where points may lie.
+pub record FindsCount (reading : Reading) (file : Option (List ℕ)) (count : SourceCount) : Type 0 where
+  pub points : List Point
+  pub is_count : IsCountOf points count
+  pub few : length points ≤ MAX_POINTS
+  pub allowed : All (IsAllowed reading.limits) points
+  pub are : Tells (λ bytes. ArePointsOf reading bytes points) file
