@@ -1,5 +1,5 @@
 -- The header of a file whose first bytes were read.
-use Rattle.std.proofs.Common.{◌≡◌, ⊎_elim, ℕ, ◌<◌, ◌≤◌, List, [], ◌++◌, Option, Some, None, Result, Ok, Err, length, take, refl, sym, ◌∙◌, ap, subst, arith}
+use Rattle.std.proofs.Common.{◌≡◌, ⊎_elim, ℕ, ◌<◌, ◌≤◌, List, [], ◌++◌, Option, Some, None, Result, Err, length, take, refl, sym, ◌∙◌, ap, subst, arith}
 use Rattle.std.proofs.lemmas.Bool.{cases_lt}
 use Rattle.std.proofs.lemmas.List.{take_at, take_all, append-nil}
 use Rattle.std.specs.Io.KnownBytes.{prepend_known, Keeps, IsAtEnd}
@@ -14,10 +14,10 @@ use Rattle.ept_scan.specs.LasFile.{head_of}
 head_is : (held rest file : List ℕ) → held ++ rest ≡ file → length held ≤ HEAD_LENGTH → (length held < HEAD_LENGTH → rest ≡ []) → held ≡ head_of file
 head_is held rest file is short end =
     ⊎_elim
-      (λ (less : length held < HEAD_LENGTH).
-      let whole : held ≡ file = sym (append-nil held) ∙ ap (λ (l : List ℕ). held ++ l) (sym (end less)) ∙ is in
-      sym (take_all HEAD_LENGTH held short) ∙ ap (λ (l : List ℕ). take HEAD_LENGTH l) whole)
-      (λ (full : HEAD_LENGTH ≤ length held). let size : length held ≡ HEAD_LENGTH = omega (arith, full, short) in sym (ap (λ (l : List ℕ). take HEAD_LENGTH l) (sym is) ∙ take_at held rest HEAD_LENGTH size)) (cases_lt (length held) HEAD_LENGTH)
+    (λ (less : length held < HEAD_LENGTH).
+    let whole : held ≡ file = sym (append-nil held) ∙ ap (λ (l : List ℕ). held ++ l) (sym (end less)) ∙ is in
+    sym (take_all HEAD_LENGTH held short) ∙ ap (λ (l : List ℕ). take HEAD_LENGTH l) whole)
+    (λ (full : HEAD_LENGTH ≤ length held). let size : length held ≡ HEAD_LENGTH = omega (arith, full, short) in sym (ap (λ (l : List ℕ). take HEAD_LENGTH l) (sym is) ∙ take_at held rest HEAD_LENGTH size)) (cases_lt (length held) HEAD_LENGTH)
 
 pub header_told : (before held : List ℕ) (old new : Option (List ℕ)) (expect : Option (List ℕ)) (r : Result Header LasError) → before ≡ [] → Keeps (prepend_known before old) (prepend_known held new) → length held ≤ HEAD_LENGTH → (length held < HEAD_LENGTH → IsAtEnd new)
     → HeaderReadsAs held expect r → Tells (λ file. HeaderReadsAs (head_of file) expect r) old

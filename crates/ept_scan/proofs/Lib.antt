@@ -6,3 +6,6 @@ pub mod Skipping
 pub mod SoFar
 pub mod Reaching
 pub mod Whole
+pub mod Powers
+pub mod Listing
+pub mod Sound

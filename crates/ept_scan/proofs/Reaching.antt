@@ -1,9 +1,9 @@
 -- How far the records are read ahead.
-use Rattle.std.proofs.Common.{◌≡◌, ℕ, ◌+◌, ◌*◌, ◌-◌, max, ◌<◌, ◌≤◌, List, ◌++◌, Option, Some, None, length, drop, sym, ◌∙◌, ap, subst, arith, length-append, length-drop}
+use Rattle.std.proofs.Common.{◌≡◌, ℕ, ◌+◌, ◌*◌, ◌-◌, max, ◌<◌, ◌≤◌, List, ◌++◌, Option, Some, None, length, drop, ap, arith, length-append, length-drop}
 use Rattle.std.specs.Io.KnownBytes.{prepend_known}
 use Rattle.ept_las.specs.declared.header.Header.{Header}
 use Rattle.ept_scan.specs.Reach.{HasLeftOf}
-use Rattle.ept_scan.proofs.SoFar.{IsPlace, IsAtRecord}
+use Rattle.ept_scan.proofs.SoFar.{IsAtRecord}
 
 -- the records up to n, and those from n on
 pub split_product : (size n points : ℕ) → n ≤ points → size * (points - n) + size * n ≡ size * points

@@ -1,25 +1,23 @@
 -- The records that were read so far.
-use Rattle.std.proofs.Common.{◌≡◌, ⊎_elim, ℕ, ◌+◌, ◌*◌, ◌-◌, max, ◌<◌, ◌≤◌, List, [], ◌∷◌, ◌++◌, Option, Some, None, length, take, drop, get_or, refl, sym, ◌∙◌, ap, subst, arith, length-append, length-drop, inl, inr}
+use Rattle.std.proofs.Common.{◌≡◌, ⊎_elim, ℕ, ◌+◌, ◌*◌, ◌<◌, ◌≤◌, List, [], ◌∷◌, ◌++◌, Option, Some, None, length, drop, get_or, refl, sym, ◌∙◌, ap, subst, arith, length-append, length-drop}
 use Rattle.std.specs.Prelude.{All, ⊤}
 use Rattle.std.proofs.lemmas.Bool.{cases_lt}
 use Rattle.std.proofs.lemmas.List.{drop-drop, get_or_append_left}
 use Rattle.std.proofs.lemmas.List.Elements.{All-nil, All-push}
 use Rattle.std.proofs.Math.Seq.{get_or-append_seam}
-use Rattle.std.proofs.Math.Nat.{mul-le-mul_left}
 use Rattle.ept_base.specs.Files.{Tells}
 use Rattle.ept_point.specs.declared.point.Point.{Point}
 use Rattle.ept_space.specs.declared.bounds.Bounds.{Bounds}
 use Rattle.ept_las.specs.declared.header.Header.{Header}
 use Rattle.ept_las.specs.declared.las_error.LasError.TheVariants.{Truncated}
-use Rattle.ept_las.specs.PointRecord.{IsPointOf}
 use Rattle.ept_scan.specs.declared.reading.Reading.{Reading}
 use Rattle.ept_scan.specs.declared.scan_error.ScanError.TheVariants.{BadLas, OutOfBounds}
 use Rattle.ept_scan.specs.declared.record.Found.{Found}
 use Rattle.ept_scan.specs.declared.record.Found.TheVariants as found
 use Rattle.ept_scan.specs.Extents.{IsAllowed, HasExtent, IsExtentOf}
-use Rattle.ept_scan.specs.LasFile.{record_at, IsWhole, IsTruncated, IsOutside, IsPointAt, IsOutsideAt, AreFirstPoints}
+use Rattle.ept_scan.specs.LasFile.{IsWhole, IsTruncated, IsPointAt, IsOutsideAt, AreFirstPoints}
 use Rattle.ept_scan.specs.Records.{Takes, ReadsNext}
-use Rattle.ept_scan.specs.Refusals.{IsFirstBad, RecordsAreRefused}
+use Rattle.ept_scan.specs.Refusals.{RecordsAreRefused}
 use Rattle.ept_scan.specs.Counts.{FindsExtent}
 
 -- where the next record is, of the bytes from the first record on

@@ -1,6 +1,6 @@
 -- The tests and the extents of points.
 use Rattle.std.proofs.Common.{◌≡◌, ◌⊎◌, ⊎_elim, ℕ, ◌+◌, ◌<◌, Bool, IsTrue, List, [], ◌∷◌, ◌++◌, Option, Some, None, length, get_or, refl, sym, ◌∙◌, subst, arith, length-append}
-use Rattle.std.specs.Prelude.{ℤ, ◌≤ℤ◌, ◌↔◌, ◌&&◌, All, Any, FitsSigned}
+use Rattle.std.specs.Prelude.{ℤ, ◌↔◌, ◌&&◌, Any, FitsSigned}
 use Rattle.std.specs.Int.{w32}
 use mir.Val.{to_z, of_z}
 use Rattle.std.proofs.Math.Facts.{to_z-of_z}
@@ -42,7 +42,7 @@ module _ (axis : Point → ℤ) where
   reached : (xs ys : List Point) (a b end : ℤ) → (end ≡ a) ⊎ (end ≡ b) → Any (λ p. axis p ≡ a) xs → Any (λ p. axis p ≡ b) ys → Any (λ p. axis p ≡ end) (xs ++ ys)
   reached xs ys a b end one in_xs in_ys =
       ⊎_elim (λ same. any_left (λ p. axis p ≡ end) xs ys (in_xs.0, in_xs.1, in_xs.2, in_xs.3, in_xs.4 ∙ sym same))
-        (λ same. any_right (λ p. axis p ≡ end) xs ys (in_ys.0, in_ys.1, in_ys.2, in_ys.3, in_ys.4 ∙ sym same)) one
+      (λ same. any_right (λ p. axis p ≡ end) xs ys (in_ys.0, in_ys.1, in_ys.2, in_ys.3, in_ys.4 ∙ sym same)) one
 
   pub span_joined : (xs ys : List Point) (a b c d least greatest : ℤ) → IsLeast a c least → IsGreatest b d greatest → IsSpanOf axis xs a b → IsSpanOf axis ys c d → IsSpanOf axis (xs ++ ys) least greatest
   span_joined xs ys a b c d least greatest is_least is_greatest of_xs of_ys = record {

@@ -1,5 +1,5 @@
 -- What was found of a file that was read from its front.
-use Rattle.std.proofs.Common.{◌≡◌, ⊎_elim, inl, inr, ℕ, ◌+◌, ◌*◌, ◌-◌, max, ◌<◌, ◌≤◌, List, ◌++◌, Option, Some, None, length, drop, sym, ◌∙◌, ap, subst, arith, length-append, length-drop}
+use Rattle.std.proofs.Common.{◌≡◌, ⊎_elim, inl, inr, ℕ, ◌+◌, ◌*◌, ◌-◌, ◌<◌, ◌≤◌, List, ◌++◌, Option, Some, None, length, drop, sym, ◌∙◌, ap, subst, arith, length-append, length-drop}
 use Rattle.std.proofs.lemmas.Bool.{cases_lt}
 use Rattle.std.specs.Io.KnownBytes.{prepend_known, Keeps}
 use Rattle.ept_base.specs.Files.{Tells}
@@ -11,7 +11,7 @@ use Rattle.ept_scan.specs.declared.reading.Reading.{Reading}
 use Rattle.ept_scan.specs.declared.reading.TheConstants.{MAX_POINTS}
 use Rattle.ept_scan.specs.declared.scan_error.ScanError.{ScanError}
 use Rattle.ept_scan.specs.LasFile.{HasHeader, records_of, AreFirstPoints, ArePointsOf}
-use Rattle.ept_scan.specs.Reach.{HasLeftOf, Skips, ReadsNoFurther, end_of, IsWithinRecords}
+use Rattle.ept_scan.specs.Reach.{HasLeftOf, Skips, ReadsNoFurther, IsWithinRecords}
 use Rattle.ept_scan.specs.Refusals.{RecordsAreRefused, FileIsRefused}
 use Rattle.ept_scan.specs.Counts.{FindsExtent, FindsCount}
 
@@ -33,7 +33,7 @@ module _ (reading : Reading) (header : Header) (few : header.points ≤ MAX_POIN
   }
 
   pub count_found : (whole left front at : Option (List ℕ)) (extent : Option Bounds) → left ≡ whole → Tells (λ file. HasHeader reading file header) left → Keeps left front → Skips front at header.offset → FindsExtent reading header at extent
-      → FindsCount reading whole (record { points = header.points; extent = extent })
+      → FindsCount reading.limits (λ points. Tells (λ file. ArePointsOf reading file points) whole) (record { points = header.points; extent = extent })
   count_found whole left front at extent start has keeps skips found = record {
     points = found.points;
     is_count = record { number = sym found.count; has_extent = found.has_extent };

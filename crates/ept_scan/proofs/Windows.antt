@@ -1,5 +1,5 @@
 -- The bytes of a window, as parts of its buffer.
-use Rattle.std.proofs.Common.{◌≡◌, ℕ, ◌+◌, ◌-◌, ◌≤◌, ◌<◌, List, ◌++◌, Option, Some, None, length, take, drop, refl, sym, ◌∙◌, ap, arith, append_assoc, length-take, length-drop}
+use Rattle.std.proofs.Common.{◌≡◌, ℕ, ◌+◌, ◌-◌, ◌≤◌, ◌<◌, List, ◌++◌, Option, Some, None, length, take, drop, sym, ◌∙◌, ap, arith, append_assoc, length-take, length-drop}
 use Rattle.std.proofs.lemmas.List.{drop-drop, drop-take, take_at}
 use Rattle.std.specs.List.{copy_within}
 use Rattle.std.specs.Io.KnownBytes.{prepend_known, Keeps}

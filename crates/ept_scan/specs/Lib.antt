@@ -4,3 +4,5 @@ pub mod LasFile
 pub mod Records
 pub mod Refusals
 pub mod Counts
+pub mod Scans
+pub mod Found

@@ -1,6 +1,5 @@
 -- Records that are read one after the other.
 use Rattle.std.specs.Prelude.{◌≡◌, ℕ, ◌+◌, ◌<◌, ◌≤◌, List, Option, Some, None, length, take, drop, ⊤}
-use Rattle.ept_point.specs.declared.point.Point.{Point}
 use Rattle.ept_las.specs.declared.header.Header.{Header}
 use Rattle.ept_las.specs.PointRecord.{IsPointOf}
 use Rattle.ept_scan.specs.declared.reading.Reading.{Reading}

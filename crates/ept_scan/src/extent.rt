@@ -85,3 +85,16 @@ pub(crate) fn grown(extent: Option<Bounds>, point: &Point) -> Bounds
         Some(extent) => joined(&extent, &extent_of(point)),
     }
 }
+
+/// The extent of all points of two extents, of which either may be of no points.
+pub(crate) fn united(a: Option<Bounds>, b: Option<Bounds>) -> Option<Bounds>
+    ensures { (xs ys : List at.Point) → HasExtent xs a → HasExtent ys b → HasExtent (xs ++ ys) result }
+{
+    let Some(first) = a else {
+        return b;
+    };
+    let Some(second) = b else {
+        return a;
+    };
+    Some(joined(&first, &second))
+}

@@ -7,7 +7,7 @@ ghost use Rattle.ept_base.specs.Files.{Tells};
 ghost use Rattle.ept_las.specs.Format.{IsFormat, record_length};
 ghost use Rattle.ept_las.specs.LasHeader.{HeaderReadsAs};
 ghost use Rattle.ept_scan.specs.Counts.{FindsExtent, FindsCount};
-ghost use Rattle.ept_scan.specs.LasFile.{HasHeader};
+ghost use Rattle.ept_scan.specs.LasFile.{HasHeader, ArePointsOf};
 ghost use Rattle.ept_scan.specs.Reach.{HasLeftOf, Skips, ReadsNoFurther};
 ghost use Rattle.ept_scan.specs.Refusals.{HeaderIsRefused, RecordsAreRefused, FileIsRefused};
 
@@ -28,7 +28,7 @@ pub(crate) fn scan_file<S: Source>(
     reading: &Reading,
 ) -> Result<SourceCount, ScanError>
     requires { S.left source.old ≡ S.whole source.old }
-    ensures count { IfOk result (FindsCount reading.now (S.whole source.old)) }
+    ensures count { IfOk result (FindsCount reading.now.limits (λ points. Tells (λ file. ArePointsOf reading.now file points) (S.whole source.old))) }
     ensures refused { IfErr result (λ e. Tells (λ file. FileIsRefused reading.now file e) (S.whole source.old)) }
     ensures far { ReadsNoFurther reading.now (S.whole source.old) (S.left source.new) }
     ensures same { S.whole source.new ≡ S.whole source.old }
@@ -94,11 +94,7 @@ fn header_of(bytes: &[u8], expect: Option<[u8; SCALE_WIDTH]>) -> Result<Header, 
 }
 
 /// Passes over so many of the bytes ahead, or over all where there are fewer.
-pub(crate) fn skip<S: Source>(
-    window: &mut Window,
-    source: &mut S,
-    count: u64,
-) -> Result<(), Failed>
+pub(crate) fn skip<S: Source>(window: &mut Window, source: &mut S, count: u64) -> Result<(), Failed>
     ensures ahead { OnOk result (Skips (prepend_known window.old (S.left source.old)) (prepend_known window.new (S.left source.new)) count) }
     ensures reach { OnOk result (length window.new ≤ length window.old - count) }
     ensures left { HasLeftOf (S.left source.old) (S.left source.new) (count - length window.old) }

@@ -1,5 +1,5 @@
-use Rattle.std.proofs.Common.{[], ◌∷◌, sym, subst}
-use Rattle.ept_scan.proofs.Spans.{extent_at, extent_none}
+use Rattle.std.proofs.Common.{[], ◌∷◌}
+use Rattle.ept_scan.proofs.Spans.{extent_at}
 use Rattle.ept_scan.proofs.extent.grown.Goals as goal
 
 pub returns-in-Some : goal.returns-in-Some

@@ -1,7 +1,7 @@
 use Rattle.std.proofs.Common.{ℕ, ◌-◌, length, subst, arith}
 use Rattle.std.specs.Io.KnownBytes.{prepend_known}
 use Rattle.ept_scan.specs.Reach.{Skips, HasLeftOf}
-use Rattle.ept_scan.proofs.Whole.{count_found, records_refused, far_skip, far_records}
+use Rattle.ept_scan.proofs.Whole.{count_found, far_skip, far_records}
 use Rattle.ept_scan.proofs.las_file.scan_file.Goals as goal
 
 pub returns-clause-count : goal.returns-clause-count

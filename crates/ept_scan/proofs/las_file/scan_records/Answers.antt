@@ -1,9 +1,9 @@
-use Rattle.std.proofs.Common.{◌≡◌, subst, sym, arith}
+use Rattle.std.proofs.Common.{subst, arith}
 use Rattle.std.proofs.lemmas.Grind.{common_steps}
 use Rattle.std.specs.Io.KnownBytes.{prepend_known}
 use Rattle.ept_scan.specs.declared.record.Found.{Found}
 use Rattle.ept_scan.specs.Records.{ReadsNext, FindsAllowed, IsWithinReach}
-use Rattle.ept_scan.proofs.SoFar.{at_first, at_next, point_is, outside_is, early_is, read_none, read_more, read_all, refused_outside, refused_early}
+use Rattle.ept_scan.proofs.SoFar.{at_next, point_is, outside_is, early_is, read_more, refused_outside, refused_early}
 use Rattle.ept_scan.proofs.Reaching.{reach_more, left_records}
 use Rattle.ept_scan.proofs.Skipping.{left_none}
 use Rattle.ept_scan.proofs.las_file.scan_records.Goals as goal

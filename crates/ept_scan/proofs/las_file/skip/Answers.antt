@@ -1,4 +1,4 @@
-use Rattle.std.proofs.Common.{◌≤◌, ◌-◌, length, ap, drop, arith, length-drop}
+use Rattle.std.proofs.Common.{◌≤◌, ◌-◌, length, ap, arith, length-drop}
 use Rattle.std.proofs.lemmas.Grind.{common_steps}
 use Rattle.ept_scan.proofs.Skipping.{skips_keeps, skips_more, left_skipped, left_none}
 use Rattle.ept_scan.proofs.las_file.skip.Goals as goal

@@ -1,4 +1,4 @@
-use Rattle.std.proofs.Common.{Bool, Ok, ap, rules}
+use Rattle.std.proofs.Common.{Bool, Ok, ap}
 use Rattle.ept_scan.proofs.NextRecord.{read_is}
 use Rattle.ept_scan.proofs.record.next_point.Goals as goal
 

@@ -1,4 +1,4 @@
-use Rattle.std.proofs.Common.{◌≤◌, ◌-◌, ◌∙◌, ap, List, ℕ, length, drop, take, arith, length-take, length-drop}
+use Rattle.std.proofs.Common.{◌≤◌, ◌-◌, ◌∙◌, ap, List, ℕ, length, drop, arith, length-take, length-drop}
 use Rattle.ept_scan.proofs.Windows.{let_go}
 use Rattle.ept_scan.proofs.window.Window.consume.Goals as goal
 

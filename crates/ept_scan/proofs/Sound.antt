@@ -1,0 +1,74 @@
+-- The counts of a scan are as a reader takes them.
+use Rattle.std.proofs.Common.{ℕ, zero, suc, ◌+◌, ◌<◌, ◌≤◌, List, [], ◌∷◌, ◌++◌, Option, Some, None, length, get_or, sym, ◌∙◌, ap, subst, arith, length-append}
+use Rattle.std.specs.Prelude.{ℤ, ◌≤ℤ◌, All}
+use Rattle.std.proofs.lemmas.List.{get_or_append_left, get_or-append-add}
+use Rattle.ept_base.specs.Files.{Files}
+use Rattle.ept_point.specs.declared.point.Point.{Point}
+use Rattle.ept_space.specs.declared.bounds.Bounds.{Bounds}
+use Rattle.ept_space.specs.ClosedBox.{IsBetween}
+use Rattle.ept_config.specs.declared.input.Input.{Input}
+use Rattle.ept_config.specs.declared.source_count.SourceCount.{SourceCount}
+use Rattle.ept_scan.specs.declared.reading.TheConstants.{MAX_POINTS}
+use Rattle.ept_scan.specs.Extents.{IsWithin, IsAllowed, IsSpanOf, IsExtentOf, HasExtent}
+use Rattle.ept_scan.specs.Counts.{IsCountOf, FitsBounds, IsSound}
+use Rattle.ept_scan.specs.Scans.{in_order, AreBounds}
+use Rattle.ept_scan.specs.Found.{FindsLists}
+use Rattle.ept_scan.proofs.Listing.{zip_at, zip_length}
+
+-- what holds of all items of two lists holds of those of each
+all_left : {X : Type 0} (P : X → Type 0) (xs ys : List X) → All P (xs ++ ys) → All P xs
+all_left P xs ys all = λ k d lt. subst P (get_or_append_left xs ys d k lt) (all k d (omega (arith, lt, length-append xs ys)))
+
+all_right : {X : Type 0} (P : X → Type 0) (xs ys : List X) → All P (xs ++ ys) → All P ys
+all_right P xs ys all = λ k d lt. subst P (get_or-append-add xs ys k d) (all (length xs + k) d (omega (arith, lt, length-append xs ys)))
+
+all_of_list : (P : Point → Type 0) (lists : List (List Point)) (k : ℕ) (d : List Point) → k < length lists → All P (in_order lists) → All P (get_or lists k d)
+all_of_list P [] k d lt all = absurd (omega (arith, lt))
+all_of_list P (l ∷ lists) zero d lt all = all_left P l (in_order lists) all
+all_of_list P (l ∷ lists) (suc k) d lt all = all_of_list P lists k d (omega (arith, lt)) (all_right P l (in_order lists) all)
+
+-- points lie within their extent
+all_within : (points : List Point) (extent : Bounds) → IsExtentOf points extent → All (IsWithin extent) points
+all_within points extent is = λ k d lt. record { x = is.x.within k d lt; y = is.y.within k d lt; z = is.z.within k d lt }
+
+-- an end of the extent of points within bounds lies within the bounds
+module _ (axis : Point → ℤ) (points : List Point) (low high least greatest : ℤ) (is : IsSpanOf axis points least greatest) (all : All (λ p. IsBetween low high (axis p)) points) where
+  least_in : low ≤ℤ least
+  least_in =
+      let any = is.least_is in
+      subst (λ (v : ℤ). low ≤ℤ v) (ap axis any.3 ∙ any.4) (all any.0 any.1 any.2).0
+
+  greatest_in : greatest ≤ℤ high
+  greatest_in =
+      let any = is.greatest_is in
+      subst (λ (v : ℤ). v ≤ℤ high) (ap axis any.3 ∙ any.4) (all any.0 any.1 any.2).1
+
+fits : (bounds : Bounds) (points : List Point) (extent : Option Bounds) → HasExtent points extent → All (IsWithin bounds) points → FitsBounds bounds (length points) extent
+fits bounds points None has all = ap length has
+fits bounds points (Some extent) has all = (
+  omega (arith, has.x.least_is.2),
+  record {
+    x_min = least_in (λ p. p.x) points _ _ _ _ has.x (λ k d lt. (all k d lt).x);
+    y_min = least_in (λ p. p.y) points _ _ _ _ has.y (λ k d lt. (all k d lt).y);
+    z_min = least_in (λ p. p.z) points _ _ _ _ has.z (λ k d lt. (all k d lt).z);
+    x_max = greatest_in (λ p. p.x) points _ _ _ _ has.x (λ k d lt. (all k d lt).x);
+    y_max = greatest_in (λ p. p.y) points _ _ _ _ has.y (λ k d lt. (all k d lt).y);
+    z_max = greatest_in (λ p. p.z) points _ _ _ _ has.z (λ k d lt. (all k d lt).z);
+  },
+)
+
+sound_one : (bounds : Bounds) (points : List Point) (count : SourceCount) → IsCountOf points count → length points ≤ MAX_POINTS → All (IsWithin bounds) points → IsSound bounds count
+sound_one bounds points count is few all = record {
+  few = omega (arith, is.number, few);
+  fits = subst (λ (n : ℕ). FitsBounds bounds n count.extent) (sym is.number) (fits bounds points count.extent is.has_extent all);
+}
+
+within_bounds : (limits : Option Bounds) (lists : List (List Point)) (bounds : Bounds) (k : ℕ) → k < length lists → AreBounds limits (in_order lists) bounds → All (All (IsAllowed limits)) lists → All (IsWithin bounds) (get_or lists k [])
+within_bounds None lists bounds k lt are all = all_of_list (IsWithin bounds) lists k [] lt (all_within (in_order lists) bounds are)
+within_bounds (Some limits) lists bounds k lt are all = subst (λ (b : Bounds). All (IsWithin b) (get_or lists k [])) (sym are) (all k [] lt)
+
+pub all_sound : (files : Option Files) (scale : ℕ) (limits : Option Bounds) (inputs : List Input) (from end : ℕ) (counts : List SourceCount) (bounds : Bounds) → (found : FindsLists files scale limits inputs from end counts)
+    → AreBounds limits (in_order found.lists) bounds → All (IsSound bounds) counts
+all_sound files scale limits inputs from end counts bounds found are = λ k d lt.
+    let within : k < length found.lists = omega (arith, lt, zip_length IsCountOf found.lists counts found.counts_are) in
+    sound_one bounds (get_or found.lists k []) (get_or counts k d) (zip_at IsCountOf found.lists counts k [] d found.counts_are lt) (found.few k [] within) (within_bounds limits found.lists bounds k within are found.allowed)
