@@ -9,3 +9,4 @@ pub mod Whole
 pub mod Powers
 pub mod Listing
 pub mod Sound
+pub mod Drawing

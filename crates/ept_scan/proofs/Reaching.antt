@@ -27,12 +27,12 @@ left_records header first held (Some old) None (Some exit) n place within reach 
     none e = cc
 left_records header first held (Some old) (Some now) (Some exit) n place within reach left =
     let same : held ++ now ≡ drop (header.length * n) (first ++ old) = inner place.ahead in
-    let sizes : length held + length now + header.length * n ≡ length first + length old = omega (arith, length-append held now, ap length same, length-drop (header.length * n) (first ++ old), length-append first old, place.room) in
+    let sizes : length held + length now ≡ length first + length old - header.length * n = omega (arith, length-append held now, ap length same, length-drop (header.length * n) (first ++ old), length-append first old) in
     let split : header.length * (header.points - n) + header.length * n ≡ header.length * header.points = split_product header.length n header.points within in
     sized (length first) (length old) (length held) (length now) (length exit) (header.length * n) (header.length * (header.points - n)) (header.length * header.points) sizes split reach left
   where
     inner : Some (held ++ now) ≡ Some (drop (header.length * n) (first ++ old)) → held ++ now ≡ drop (header.length * n) (first ++ old)
     inner e = cc
 
-    sized : (first old held now exit done rest all : ℕ) → held + now + done ≡ first + old → rest + done ≡ all → held + done ≤ max first all → now ≤ exit + (rest - held) → old ≤ exit + (all - first)
+    sized : (first old held now exit done rest all : ℕ) → held + now ≡ first + old - done → rest + done ≡ all → held + done ≤ max first all → now ≤ exit + (rest - held) → old ≤ exit + (all - first)
     sized first old held now exit done rest all sizes split reach left = omega arith

@@ -23,7 +23,6 @@ use Rattle.ept_scan.specs.Counts.{FindsExtent}
 -- where the next record is, of the bytes from the first record on
 pub record IsPlace (header : Header) (records : List ℕ) (now : Option (List ℕ)) (n : ℕ) : Type 0 where
   pub ahead : now ≡ Some (drop (header.length * n) records)
-  pub room : header.length * n ≤ length records
 
 -- the same where the source tells
 abbrev pub IsAtRecord : Header → Option (List ℕ) → Option (List ℕ) → ℕ → Type 0
@@ -34,45 +33,44 @@ pub at_first : (header : Header) (known : Option (List ℕ)) → IsAtRecord head
 at_first header None = tt
 at_first header (Some records) =
     let start : 0 ≡ header.length * 0 = omega arith in
-    record { ahead = ap (λ (i : ℕ). Some (drop i records)) start; room = omega arith }
+    record { ahead = ap (λ (i : ℕ). Some (drop i records)) start }
 
 -- a record that was taken is the one of this number, and the next place is behind it
-module _ (reading : Reading) (header : Header) (records : List ℕ) (n : ℕ) (now new : Option (List ℕ)) (it : Found) (place : IsPlace header records now n)
+module _ (reading : Reading) (header : Header) (records : List ℕ) (n : ℕ) (now new : Option (List ℕ)) (it : Found) (some : 0 < header.length) (place : IsPlace header records now n)
     (takes : Takes reading header n (drop (header.length * n) records) new it) where
   whole_is : IsWhole header records n
-  whole_is = omega (arith, place.room, takes.whole, length-drop (header.length * n) records)
+  whole_is = omega (arith, some, takes.whole, length-drop (header.length * n) records)
 
   next_place : IsPlace header records new (n + 1)
-  next_place = record {
-    ahead = takes.rest ∙ ap (λ (l : List ℕ). Some l) (drop-drop header.length (header.length * n) records ∙ ap (λ (i : ℕ). drop i records) (omega arith));
-    room = omega (arith, whole_is);
-  }
+  next_place =
+      let sum : header.length * n + header.length ≡ header.length * (n + 1) = omega arith in
+      record { ahead = takes.rest ∙ ap (λ (l : List ℕ). Some l) (drop-drop header.length (header.length * n) records ∙ ap (λ (i : ℕ). drop i records) sum) }
 
-pub at_next : (reading : Reading) (header : Header) (known now new : Option (List ℕ)) (n : ℕ) (p : Point) → IsAtRecord header known now n → ReadsNext reading header n now new (found.At p) → IsAtRecord header known new (n + 1)
-at_next reading header None now new n p place next = tt
-at_next reading header (Some records) now new n p place next =
+pub at_next : (reading : Reading) (header : Header) (some : 0 < header.length) (known now new : Option (List ℕ)) (n : ℕ) (p : Point) → IsAtRecord header known now n → ReadsNext reading header n now new (found.At p) → IsAtRecord header known new (n + 1)
+at_next reading header some None now new n p place next = tt
+at_next reading header some (Some records) now new n p place next =
     let taken = subst (λ (o : Option (List ℕ)). ReadsNext reading header n o new (found.At p)) place.ahead next in
-    next_place reading header records n now new (found.At p) place taken
+    next_place reading header records n now new (found.At p) some place taken
 
 -- its point is that of this number
-pub point_is : (reading : Reading) (header : Header) (known now new : Option (List ℕ)) (n : ℕ) (p : Point) → IsAtRecord header known now n → ReadsNext reading header n now new (found.At p) → IsAllowed reading.limits p
+pub point_is : (reading : Reading) (header : Header) (some : 0 < header.length) (known now new : Option (List ℕ)) (n : ℕ) (p : Point) → IsAtRecord header known now n → ReadsNext reading header n now new (found.At p) → IsAllowed reading.limits p
     → Tells (λ records. IsPointAt reading header records n p) known
-point_is reading header None now new n p place next allowed = tt
-point_is reading header (Some records) now new n p place next allowed =
+point_is reading header some None now new n p place next allowed = tt
+point_is reading header some (Some records) now new n p place next allowed =
     let taken = subst (λ (o : Option (List ℕ)). ReadsNext reading header n o new (found.At p)) place.ahead next in
-    record { whole = whole_is reading header records n now new (found.At p) place taken; point = taken.bytes; allowed = allowed }
+    record { whole = whole_is reading header records n now new (found.At p) some place taken; point = taken.bytes; allowed = allowed }
 
-pub outside_is : (reading : Reading) (header : Header) (known now new : Option (List ℕ)) (n : ℕ) → IsAtRecord header known now n → ReadsNext reading header n now new found.Outside → Tells (λ records. IsOutsideAt reading header records n) known
-outside_is reading header None now new n place next = tt
-outside_is reading header (Some records) now new n place next =
+pub outside_is : (reading : Reading) (header : Header) (some : 0 < header.length) (known now new : Option (List ℕ)) (n : ℕ) → IsAtRecord header known now n → ReadsNext reading header n now new found.Outside → Tells (λ records. IsOutsideAt reading header records n) known
+outside_is reading header some None now new n place next = tt
+outside_is reading header some (Some records) now new n place next =
     let taken = subst (λ (o : Option (List ℕ)). ReadsNext reading header n o new found.Outside) place.ahead next in
-    record { whole = whole_is reading header records n now new found.Outside place taken; outside = taken.bytes }
+    record { whole = whole_is reading header records n now new found.Outside some place taken; outside = taken.bytes }
 
 pub early_is : (reading : Reading) (header : Header) (known now new : Option (List ℕ)) (n : ℕ) → IsAtRecord header known now n → ReadsNext reading header n now new found.Early → Tells (λ records. IsTruncated header records n) known
 early_is reading header None now new n place next = tt
 early_is reading header (Some records) now new n place next =
     let short : length (drop (header.length * n) records) < header.length = subst (λ (o : Option (List ℕ)). ReadsNext reading header n o new found.Early) place.ahead next in
-    omega (arith, short, place.room, length-drop (header.length * n) records)
+    omega (arith, short, length-drop (header.length * n) records)
 
 -- the points of n records, with one more
 pub first_points_none : (reading : Reading) (header : Header) (records : List ℕ) → AreFirstPoints reading header records 0 []

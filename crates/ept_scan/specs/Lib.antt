@@ -6,3 +6,5 @@ pub mod Refusals
 pub mod Counts
 pub mod Scans
 pub mod Found
+pub mod Changes
+pub mod Places

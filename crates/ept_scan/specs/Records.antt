@@ -20,6 +20,12 @@ FindsAllowed reading (found.At p) = IsAllowed reading.limits p
 FindsAllowed reading found.Outside = ⊤
 FindsAllowed reading found.Early = ⊤
 
+-- a point that was found carries the place of its file and its number
+abbrev pub FindsNumbered : Reading → ℕ → Found → Type 0
+FindsNumbered reading n (found.At p) = (p.origin ≡ reading.origin) × (p.number ≡ n)
+FindsNumbered reading n found.Outside = ⊤
+FindsNumbered reading n found.Early = ⊤
+
 -- so many bytes were taken, and had this form
 pub record Takes (reading : Reading) (header : Header) (n : ℕ) (ahead : List ℕ) (new : Option (List ℕ)) (it : Found) : Type 0 where
   pub whole : header.length ≤ length ahead

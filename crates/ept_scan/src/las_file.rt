@@ -1,6 +1,6 @@
 //! The first reading of one file.
 
-ghost use Rattle.std.specs.Prelude.{◌≡◌, ◌<◌, ◌≤◌, ◌-◌, ◌*◌, ◌+◌, IfOk, IfErr, OnOk, length, max};
+ghost use Rattle.std.specs.Prelude.{◌≡◌, ◌≢◌, ◌≤◌, ◌-◌, ◌*◌, Err, IfOk, IfErr, OnOk, length};
 ghost use Rattle.std.specs.Io.KnownBytes.{prepend_known, Keeps};
 ghost use Rattle.ept_base.specs.Causes.{HasCause, HasCauseOf};
 ghost use Rattle.ept_base.specs.Files.{Tells};
@@ -64,6 +64,7 @@ pub(crate) fn begin<S: Source>(
     ensures format { IfOk result (λ h. IsFormat h.format) }
     ensures size { IfOk result (λ h. record_length h.format ≤ h.length) }
     ensures refused { IfErr result (λ e. Tells (λ file. HeaderIsRefused reading.now file e) (S.left source.old)) }
+    ensures enough { result ≢ Err ScanError.Memory }
     ensures ahead { OnOk result (Keeps (S.left source.old) (prepend_known window.new (S.left source.new))) }
     ensures reach { OnOk result (length window.new ≤ HEAD_LENGTH) }
     ensures left { HasLeftOf (S.left source.old) (S.left source.new) HEAD_LENGTH }

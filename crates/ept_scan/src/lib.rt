@@ -1,10 +1,13 @@
 //! Scans: LAS files that are read one after the other, first whole and then in batches.
 #![tactic(auto)]
 
+mod draw;
 mod extent;
 mod first_reading;
 mod inputs;
 mod las_file;
+mod part;
+mod read_error;
 mod reading;
 mod record;
 mod scan_done;
@@ -12,6 +15,7 @@ mod scan_error;
 mod window;
 
 pub use first_reading::scan;
+pub use read_error::ReadError;
 pub use reading::{MAX_POINTS, Reading};
 pub use scan_done::ScanDone;
 pub use scan_error::ScanError;

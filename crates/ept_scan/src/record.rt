@@ -5,7 +5,7 @@ ghost use Rattle.std.specs.Io.KnownBytes.{prepend_known};
 ghost use Rattle.ept_base.specs.Causes.{HasCause};
 ghost use Rattle.ept_las.specs.Format.{IsFormat, record_length};
 ghost use Rattle.ept_scan.specs.Reach.{HasLeftOf};
-ghost use Rattle.ept_scan.specs.Records.{BytesAre, FindsAllowed, ReadsNext, IsWithinReach};
+ghost use Rattle.ept_scan.specs.Records.{BytesAre, FindsAllowed, FindsNumbered, ReadsNext, IsWithinReach};
 
 use crate::extent::is_allowed;
 use crate::reading::Reading;
@@ -39,6 +39,7 @@ pub(crate) fn next_point<S: Source>(
     requires more { number < header.now.points }
     ensures next { IfOk result (λ it. ReadsNext reading.now header.now number (prepend_known window.old (S.left source.old)) (prepend_known window.new (S.left source.new)) it) }
     ensures allowed { IfOk result (FindsAllowed reading.now) }
+    ensures numbered { IfOk result (FindsNumbered reading.now number) }
     ensures reach { IfOk result (λ it. IsWithinReach header.now.length (length window.new) (max (length window.old) (header.now.length * (header.now.points - number))) it) }
     ensures left { HasLeftOf (S.left source.old) (S.left source.new) (header.now.length * (header.now.points - number) - length window.old) }
     ensures same { S.whole source.new ≡ S.whole source.old }
@@ -70,6 +71,7 @@ fn point_of(reading: &Reading, format: u8, bytes: &[u8], number: u32) -> Found
     requires size { record_length format ≤ length bytes.now }
     ensures bytes { BytesAre reading.now format number bytes.now result }
     ensures allowed { FindsAllowed reading.now result }
+    ensures numbered { FindsNumbered reading.now number result }
 {
     let Ok(point) = read_record(format, bytes, &reading.shift, reading.origin, number) else {
         return Found::Outside;
