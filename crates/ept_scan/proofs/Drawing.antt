@@ -156,11 +156,11 @@ module _ (reading : Reading) (points : ℕ) (held after : List ℕ) (mid new : O
           let split : header.length * (header.points - n) + header.length * n ≡ header.length * header.points = split_product header.length n header.points (omega (arith, within)) in
           omega (arith, at.reach, split, reach)
 
-  pub record_changed : (whole : Option (List ℕ)) (it : Found) → ((p : Point) → it ≢ found.At p) → IsWithinFile reading points whole mid held n header → ReadsNext reading header n (prepend_known held mid) (prepend_known after new) it
+  pub record_changed : (whole : Option (List ℕ)) (it : Found) → n < points → ((p : Point) → it ≢ found.At p) → IsWithinFile reading points whole mid held n header → ReadsNext reading header n (prepend_known held mid) (prepend_known after new) it
       → Tells (λ file. Differs reading points file n) whole
-  record_changed None it other at next = tt
-  record_changed (Some file) (found.At p) other at next = absurd (other p refl)
-  record_changed (Some file) found.Outside other at next =
-      inr (header, record { has_header = at.has_header; stated = at.stated }, inr (outside_is reading header (some_bytes at.format at.size) (Some (records_of header file)) (prepend_known held mid) (prepend_known after new) n (at_record file at.place) next))
-  record_changed (Some file) found.Early other at next =
-      inr (header, record { has_header = at.has_header; stated = at.stated }, inl (early_is reading header (Some (records_of header file)) (prepend_known held mid) (prepend_known after new) n (at_record file at.place) next))
+  record_changed None it stated other at next = tt
+  record_changed (Some file) (found.At p) stated other at next = absurd (other p refl)
+  record_changed (Some file) found.Outside stated other at next =
+      inr (stated, header, record { has_header = at.has_header; stated = at.stated }, inr (outside_is reading header (some_bytes at.format at.size) (Some (records_of header file)) (prepend_known held mid) (prepend_known after new) n (at_record file at.place) next))
+  record_changed (Some file) found.Early stated other at next =
+      inr (stated, header, record { has_header = at.has_header; stated = at.stated }, inl (early_is reading header (Some (records_of header file)) (prepend_known held mid) (prepend_known after new) n (at_record file at.place) next))

@@ -10,3 +10,5 @@ pub mod Powers
 pub mod Listing
 pub mod Sound
 pub mod Drawing
+pub mod Once
+pub mod Queues

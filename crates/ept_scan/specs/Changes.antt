@@ -1,5 +1,5 @@
 -- How a file differs from what the first reading found.
-use Rattle.std.specs.Prelude.{◌≡◌, ◌≢◌, ◌⊎◌, ℕ, List, Option, Err, ⊤}
+use Rattle.std.specs.Prelude.{◌≡◌, ◌≢◌, ◌⊎◌, ℕ, ◌<◌, List, Option, Err, ⊤}
 use Rattle.ept_base.specs.declared.errors.GetError.{GetError}
 use Rattle.ept_base.specs.declared.errors.GetError.TheVariants as get
 use Rattle.ept_base.specs.Files.{Tells}
@@ -23,10 +23,10 @@ pub record StatesPoints (reading : Reading) (points : ℕ) (file : List ℕ) (he
 abbrev pub HeaderDiffers : Reading → ℕ → List ℕ → Type 0
 HeaderDiffers reading points file = ((fault : LasError) × HeaderReadsAs (head_of file) reading.expect (Err fault)) ⊎ ((header : Header) × HasHeader reading file header × (header.points ≢ points))
 
--- record n ends early, or does not lie where points may lie
+-- record n, one of those stated, ends early or does not lie where points may lie
 abbrev pub RecordDiffers : Reading → ℕ → List ℕ → ℕ → Type 0
 RecordDiffers reading points file n =
-    (header : Header) × StatesPoints reading points file header × (IsTruncated header (records_of header file) n ⊎ IsOutsideAt reading header (records_of header file) n)
+    (n < points) × (header : Header) × StatesPoints reading points file header × (IsTruncated header (records_of header file) n ⊎ IsOutsideAt reading header (records_of header file) n)
 
 -- the file differs in its header, which is told as the number 0, or in record n
 abbrev pub Differs : Reading → ℕ → List ℕ → ℕ → Type 0

@@ -8,3 +8,5 @@ pub mod Scans
 pub mod Found
 pub mod Changes
 pub mod Places
+pub mod Queue
+pub mod Reader

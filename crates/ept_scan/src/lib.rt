@@ -7,7 +7,9 @@ mod first_reading;
 mod inputs;
 mod las_file;
 mod part;
+mod queue;
 mod read_error;
+mod reader;
 mod reading;
 mod record;
 mod scan_done;
@@ -16,6 +18,7 @@ mod window;
 
 pub use first_reading::scan;
 pub use read_error::ReadError;
+pub use reader::Reader;
 pub use reading::{MAX_POINTS, Reading};
 pub use scan_done::ScanDone;
 pub use scan_error::ScanError;
