@@ -12,3 +12,6 @@ pub mod Sound
 pub mod Drawing
 pub mod Once
 pub mod Queues
+pub mod Batches
+pub mod Rereading
+pub mod Opened

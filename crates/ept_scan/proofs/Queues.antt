@@ -62,8 +62,13 @@ module _ {S : Type 0} (whole left : S → Option (List ℕ)) (parts : List (Part
     pub current_new : (cursor : Cursor) (window : List ℕ) → cursor.number < p.points → StandsAt p.reading p.points (whole p.source) (left y.source) window cursor.number cursor.header → IsCurrent whole left y cursor window
     current_new cursor window more stands = record { more = omega (arith, more, points); at = rw (reading, points, same) stands }
 
+  changed_at : (e : ReadError) → IsChange p.reading p.points (whole p.source) e → HasChanged (map (held whole) parts) e
+  changed_at SourceFault change = tt
+  changed_at Memory change = tt
+  changed_at (SourceChanged source n) change = record { held = held whole p; among = among; origin = change.0; differs = change.1 }
+
   pub changed_is : (e error : ReadError) → error ≡ e → IsChange p.reading p.points (whole p.source) e → HasChanged (map (held whole) parts) error
-  changed_is e error is change = record { held = held whole p; among = among; change = subst (IsChange p.reading p.points (whole p.source)) (sym is) change }
+  changed_is e error is change = subst (HasChanged (map (held whole) parts)) (sym is) (changed_at e change)
 
   -- the faults of the sources
   module _ (faults : S → ℕ) where

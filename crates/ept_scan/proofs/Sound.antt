@@ -28,7 +28,7 @@ all_of_list P (l ∷ lists) zero d lt all = all_left P l (in_order lists) all
 all_of_list P (l ∷ lists) (suc k) d lt all = all_of_list P lists k d (omega (arith, lt)) (all_right P l (in_order lists) all)
 
 -- points lie within their extent
-all_within : (points : List Point) (extent : Bounds) → IsExtentOf points extent → All (IsWithin extent) points
+pub all_within : (points : List Point) (extent : Bounds) → IsExtentOf points extent → All (IsWithin extent) points
 all_within points extent is = λ k d lt. record { x = is.x.within k d lt; y = is.y.within k d lt; z = is.z.within k d lt }
 
 -- an end of the extent of points within bounds lies within the bounds

@@ -10,3 +10,4 @@ pub mod Changes
 pub mod Places
 pub mod Queue
 pub mod Reader
+pub mod Opening

@@ -6,13 +6,14 @@ use Rattle.ept_point.specs.declared.point.Point.{Point}
 use Rattle.ept_space.specs.declared.bounds.Bounds.{Bounds}
 use Rattle.ept_scan.specs.declared.reading.Reading.{Reading}
 use Rattle.ept_scan.specs.declared.read_error.ReadError.{ReadError}
+use Rattle.ept_scan.specs.declared.read_error.ReadError.TheVariants.{SourceFault, SourceChanged, Memory}
 use Rattle.ept_scan.specs.declared.part.Part.{Part}
 use Rattle.ept_scan.specs.declared.part.Cursor.{Cursor}
 use Rattle.ept_scan.specs.declared.queue.Queue.{Queue}
 use Rattle.ept_scan.specs.Extents.{IsAllowed, IsWithin}
 use Rattle.ept_scan.specs.LasFile.{ArePointsOf}
 use Rattle.ept_scan.specs.Scans.{in_order}
-use Rattle.ept_scan.specs.Changes.{IsChange}
+use Rattle.ept_scan.specs.Changes.{Differs}
 use Rattle.ept_scan.specs.Places.{StandsAt}
 use Rattle.ept_scan.specs.Reach.{ReadsNoFurther}
 
@@ -44,11 +45,18 @@ pub record LiesIn (files : List Held) (p : Point) : Type 0 where
   pub kept : held.reading.limits ≡ Some extent
   pub within : IsWithin extent p
 
--- one of these files differs from what was found
-pub record HasChanged (files : List Held) (error : ReadError) : Type 0 where
+-- the file of this place in the list of inputs is one of these, and differs from what was found in its header or in record n
+pub record IsChanged (files : List Held) (source n : ℕ) : Type 0 where
   pub held : Held
   pub among : Contains files held
-  pub change : IsChange held.reading held.points held.file error
+  pub origin : source ≡ held.reading.origin
+  pub differs : Tells (λ bytes. Differs held.reading held.points bytes n) held.file
+
+-- why one of these files is told to have changed; a fault of the device and want of memory say nothing of them
+abbrev pub HasChanged : List Held → ReadError → Type 0
+HasChanged files SourceFault = ⊤
+HasChanged files Memory = ⊤
+HasChanged files (SourceChanged source n) = IsChanged files source n
 
 module _ {S : Type 0} (whole : S → Option (List ℕ)) where
   abbrev pub held : Part S → Held

@@ -6,6 +6,7 @@ mod extent;
 mod first_reading;
 mod inputs;
 mod las_file;
+mod open;
 mod part;
 mod queue;
 mod read_error;
