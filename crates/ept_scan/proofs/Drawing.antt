@@ -1,5 +1,5 @@
 -- A record that the second reading draws.
-use Rattle.std.proofs.Common.{◌≡◌, ◌≢◌, ◌⊎◌, ⊎_elim, inl, inr, ℕ, ◌+◌, ◌*◌, ◌-◌, max, ◌<◌, ◌≤◌, List, [], ◌++◌, Option, Some, None, Err, length, take, drop, refl, sym, ◌∙◌, ap, subst, arith, length-append, length-drop}
+use Rattle.std.proofs.Common.{◌≡◌, ◌≢◌, ◌⊎◌, ⊎_elim, inl, inr, ℕ, ◌+◌, ◌*◌, ◌-◌, max, ◌<◌, ◌≤◌, List, Option, Some, None, length, drop, refl, sym, ◌∙◌, ap, subst, arith, length-append, length-drop}
 use Rattle.std.proofs.lemmas.Bool.{cases_lt}
 use Rattle.std.proofs.lemmas.List.{drop-drop}
 use Rattle.std.proofs.Math.Nat.{mul-le-mul_left}
@@ -14,19 +14,17 @@ use Rattle.ept_scan.specs.declared.reading.Reading.{Reading}
 use Rattle.ept_scan.specs.declared.reading.TheConstants.{MAX_POINTS}
 use Rattle.ept_scan.specs.declared.scan_error.ScanError.{ScanError}
 use Rattle.ept_scan.specs.declared.scan_error.ScanError.TheVariants as scan
-use Rattle.ept_scan.specs.declared.read_error.ReadError.TheVariants.{SourceChanged}
 use Rattle.ept_scan.specs.declared.record.Found.{Found}
 use Rattle.ept_scan.specs.declared.record.Found.TheVariants as found
 use Rattle.ept_scan.specs.Extents.{IsAllowed}
-use Rattle.ept_scan.specs.LasFile.{HasHeader, records_of, IsPointAt, IsTruncated, IsOutsideAt}
-use Rattle.ept_scan.specs.Records.{ReadsNext, IsWithinReach}
+use Rattle.ept_scan.specs.LasFile.{HasHeader, records_of}
+use Rattle.ept_scan.specs.Records.{ReadsNext}
 use Rattle.ept_scan.specs.Refusals.{HeaderIsRefused}
 use Rattle.ept_scan.specs.Reach.{HasLeftOf, Skips, ReadsNoFurther, end_of}
-use Rattle.ept_scan.specs.Changes.{StatesPoints, Differs, IsChange, HasRecord, change_of}
+use Rattle.ept_scan.specs.Changes.{Differs, IsChange, HasRecord, change_of}
 use Rattle.ept_scan.specs.Places.{IsWithinFile}
-use Rattle.ept_scan.proofs.SoFar.{IsAtRecord, at_next, point_is, outside_is, early_is}
-use Rattle.ept_scan.proofs.Reaching.{split_product, reach_more}
-use Rattle.ept_scan.proofs.Skipping.{skips_keeps}
+use Rattle.ept_scan.proofs.SoFar.{IsAtRecord, point_is, outside_is, early_is}
+use Rattle.ept_scan.proofs.Reaching.{split_product}
 
 -- a refused header is told as a fault of the source, or as a change
 pub header_changed : (reading : Reading) (points : ℕ) (whole left : Option (List ℕ)) (e : ScanError) → left ≡ whole → points ≤ MAX_POINTS → e ≢ scan.Memory → Tells (λ file. HeaderIsRefused reading file e) left → IsChange reading points whole (change_of e reading.origin)
@@ -101,7 +99,7 @@ far_within reading points (Some file) (Some mid) (Some exit) held n header at wi
     let sizes : length held + length mid ≡ length file - (header.offset + header.length * n) = sym (length-append held mid) ∙ ap length at.place ∙ length-drop (header.offset + header.length * n) file in
     let split : header.length * (header.points - n) + header.length * n ≡ header.length * header.points = split_product header.length n header.points (omega (arith, within)) in
     ⊎_elim (λ (near : length held + (header.offset + header.length * n) ≤ HEAD_LENGTH). near_or_far near sizes split)
-      (λ (far : HEAD_LENGTH < length held + (header.offset + header.length * n)). inr (header, at.has_header, omega (arith, within), omega (arith, sizes, split, far, at.reach, read))) (swap (cases_lt HEAD_LENGTH (length held + (header.offset + header.length * n))))
+    (λ (far : HEAD_LENGTH < length held + (header.offset + header.length * n)). inr (header, at.has_header, omega (arith, within), omega (arith, sizes, split, far, at.reach, read))) (swap (cases_lt HEAD_LENGTH (length held + (header.offset + header.length * n))))
   where
     swap : {A B : Type 0} → (A ⊎ B) → (B ⊎ A)
     swap (inl a) = inr a

@@ -15,3 +15,5 @@ pub mod Queues
 pub mod Batches
 pub mod Rereading
 pub mod Opened
+pub mod Retiring
+pub mod Begun

@@ -1,5 +1,5 @@
 -- A file reads as points in one way, so it does not differ from what was found where it holds that.
-use Rattle.std.proofs.Common.{◌≡◌, ◌⊎◌, ⊎_elim, [], ◌∷◌, ℕ, ◌+◌, ◌*◌, ◌<◌, ◌≤◌, List, Ok, Err, Result, length, get_or, refl, sym, ◌∙◌, ap, subst, arith}
+use Rattle.std.proofs.Common.{◌≡◌, ◌⊎◌, ⊎_elim, [], ◌∷◌, ℕ, ◌<◌, List, Ok, Err, Result, length, get_or, refl, sym, ◌∙◌, ap, subst, arith}
 use Rattle.ept_point.specs.declared.point.Point.{Point}
 use Rattle.ept_las.specs.declared.header.Header.{Header}
 use Rattle.ept_las.specs.declared.las_error.LasError.{LasError}
@@ -7,8 +7,8 @@ use Rattle.ept_las.proofs.HeaderLaws.{header_once}
 use Rattle.ept_las.proofs.RecordLaws.{point_once, out_or_point}
 use Rattle.ept_scan.specs.declared.reading.Reading.{Reading}
 use Rattle.ept_scan.specs.Extents.{IsAllowed}
-use Rattle.ept_scan.specs.LasFile.{head_of, HasHeader, records_of, record_at, IsTruncated, IsOutsideAt, IsPointAt, AreFirstPoints, ArePointsOf}
-use Rattle.ept_scan.specs.Changes.{StatesPoints, HeaderDiffers, RecordDiffers, Differs, HasRecord}
+use Rattle.ept_scan.specs.LasFile.{head_of, HasHeader, records_of, record_at, IsTruncated, IsOutsideAt, IsPointAt, ArePointsOf}
+use Rattle.ept_scan.specs.Changes.{HeaderDiffers, RecordDiffers, Differs, HasRecord}
 
 same_ok : (a b : Header) (x y : Result Header LasError) → x ≡ Ok a → y ≡ Ok b → x ≡ y → a ≡ b
 same_ok a b x y is_a is_b same = cc
@@ -29,7 +29,7 @@ not_truncated reading header records n p is short = omega (arith, is.whole, shor
 not_outside : (reading : Reading) (header : Header) (records : List ℕ) (n : ℕ) (p : Point) → IsPointAt reading header records n p → IsOutsideAt reading header records n → ⊥
 not_outside reading header records n p is out =
     ⊎_elim (λ units. out_or_point header.format reading.shift reading.origin n (record_at header records n) p units is.point)
-      (λ (other : (q : Point) × _ × ¬ IsAllowed reading.limits q). other.2 (subst (IsAllowed reading.limits) (point_once header.format reading.shift reading.origin n (record_at header records n) p other.0 is.point other.1) is.allowed)) out.outside
+    (λ (other : (q : Point) × _ × ¬ IsAllowed reading.limits q). other.2 (subst (IsAllowed reading.limits) (point_once header.format reading.shift reading.origin n (record_at header records n) p other.0 is.point other.1) is.allowed)) out.outside
 
 pub some_point : (points : List Point) (n : ℕ) → n < length points → Point
 some_point [] n lt = absurd (omega (arith, lt))
@@ -42,7 +42,7 @@ module _ (reading : Reading) (points : ℕ) (file : List ℕ) (mine : List Point
   header_same : HeaderDiffers reading points file → ⊥
   header_same differs =
       ⊎_elim (λ (fault : (f : LasError) × _). not_err are.header fault.0 (Ok are.header) (Err fault.0) refl refl (header_once (head_of file) reading.expect (Ok are.header) (Err fault.0) are.has_header fault.1))
-        (λ (other : (h : Header) × HasHeader reading file h × _). other.2 (ap (λ (h : Header). h.points) (one_header reading file other.0 are.header other.1 are.has_header) ∙ sym are.are.count ∙ count)) differs
+      (λ (other : (h : Header) × HasHeader reading file h × _). other.2 (ap (λ (h : Header). h.points) (one_header reading file other.0 are.header other.1 are.has_header) ∙ sym are.are.count ∙ count)) differs
 
   record_same : (n : ℕ) → RecordDiffers reading points file n → ⊥
   record_same n differs =

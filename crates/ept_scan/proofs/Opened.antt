@@ -1,12 +1,12 @@
 -- Inputs that are opened one after the other.
-use Rattle.std.proofs.Common.{◌≡◌, ◌≢◌, ⊎_elim, ℕ, ◌+◌, ◌<◌, ◌≤◌, List, [], ◌∷◌, ◌++◌, Option, Some, None, length, take, drop, get_or, refl, sym, ◌∙◌, ap, subst, arith, length-append, length-take}
-use Rattle.std.specs.Prelude.{All, Any, map, sum_by, slice_get}
+use Rattle.std.proofs.Common.{◌≡◌, ◌≢◌, ⊎_elim, ℕ, ◌+◌, ◌<◌, ◌≤◌, List, [], ◌∷◌, ◌++◌, Option, Some, None, length, take, drop, get_or, refl, sym, ◌∙◌, ap, subst, arith, length-take}
+use Rattle.std.specs.Prelude.{All, Any, map, slice_get}
 use Rattle.std.specs.List.{AllZip}
 use Rattle.std.proofs.lemmas.Bool.{cases_lt}
 use Rattle.std.proofs.lemmas.Option.{get_or_from_slice_get}
 use Rattle.std.proofs.lemmas.List.{append-nil, take_more, drop-take, drop-append-le, map-append}
 use Rattle.std.proofs.lemmas.List.Elements.{All-nil, All-push}
-use Rattle.std.proofs.lemmas.List.Sums.{sum_by_push, sum_by-append}
+use Rattle.std.proofs.lemmas.List.Sums.{sum_by_push}
 use Rattle.ept_base.specs.Files.{Files, Tells}
 use Rattle.ept_base.specs.Devices.{Opens}
 use Rattle.ept_point.specs.declared.point.Point.{Point}
@@ -15,11 +15,10 @@ use Rattle.ept_config.specs.declared.input.Input.{Input}
 use Rattle.ept_config.specs.declared.kept.Kept.{Kept}
 use Rattle.ept_config.specs.declared.source_count.SourceCount.{SourceCount}
 use Rattle.ept_scan.specs.declared.part.Part.{Part}
-use Rattle.ept_scan.specs.Extents.{HasExtent}
-use Rattle.ept_scan.specs.Counts.{IsCountOf, FitsBounds}
+use Rattle.ept_scan.specs.Counts.{IsCountOf, FitsBounds, IsSound}
 use Rattle.ept_scan.specs.Scans.{in_order, IsReadingOf, HasPointsAt, ArePointsFrom}
 use Rattle.ept_scan.specs.Queue.{Held, HoldsPoints, held, IsUnread, IsLimited}
-use Rattle.ept_scan.specs.Opening.{total, AreHeld, HasOpened}
+use Rattle.ept_scan.specs.Opening.{total, AreHeld, HasOpened, AddsInput}
 use Rattle.ept_scan.proofs.Listing.{zip_push, zip_at, zip_length, in_order_push}
 use Rattle.ept_scan.proofs.Spans.{extent_none}
 use Rattle.ept_scan.proofs.Rereading.{part_holds}
@@ -38,6 +37,9 @@ part_none lists from =
     let same : from ≡ from + 0 = omega arith in
     ap (λ (n : ℕ). in_order (drop from (take n lists))) same ∙ ap in_order (drop-take from 0 lists)
 
+zero_plus : (i : ℕ) → 0 + i ≡ i
+zero_plus i = omega arith
+
 one_count : (counts : List SourceCount) (i : ℕ) (a d : SourceCount) → slice_get counts i ≡ Some a → get_or counts i d ≡ a
 one_count counts i a d is = get_or_from_slice_get counts i a d is
 
@@ -51,7 +53,7 @@ module _ {S : Type 0} (whole left : S → Option (List ℕ)) (faults : S → ℕ
     unread = All-nil (IsUnread whole left);
     limited = All-nil IsLimited;
     fresh = All-nil (λ part. faults part.source ≡ 0);
-    sum = refl;
+    sum = omega arith;
     none = λ same. refl;
     first = λ count is some lt. absurd (omega (arith, lt));
     holds = lists_none files;
@@ -109,7 +111,7 @@ module _ {S : Type 0} (whole left : S → Option (List ℕ)) (faults : S → ℕ
           let held_before = before lists are zip in
           let size : i < length lists = omega (arith, lt, zip_length IsCountOf lists counts zip) in
           let mine : HoldsPoints (held whole p) (get_or lists i []) =
-          part_holds all kept.scale (Some kept.bounds) kept.inputs i (get_or lists i []) (get_or counts i d) extent input p.reading (whole p.source) p.points (are.each i [] size) (zip_at IsCountOf lists counts i [] d zip lt) is_extent is reads opened.content.1 points in
+          part_holds all kept.scale (Some kept.bounds) kept.inputs i (get_or lists i []) (get_or counts i d) extent input p.reading (whole p.source) p.points (subst (λ (n : ℕ). HasPointsAt all kept.scale (Some kept.bounds) kept.inputs n (get_or lists i [])) (zero_plus i) (are.each i [] size)) (zip_at IsCountOf lists counts i [] d zip lt) is_extent is reads opened.content.1 points in
           record {
             mine = held_before.mine ++ get_or lists i [] ∷ [];
             hold = subst (λ (l : List Held). AllZip HoldsPoints l (held_before.mine ++ get_or lists i [] ∷ [])) (sym (map-append (held whole) parts (p ∷ []))) (zip_push HoldsPoints (map (held whole) parts) held_before.mine (held whole p) (get_or lists i []) held_before.hold mine);
@@ -126,3 +128,17 @@ module _ {S : Type 0} (whole left : S → Option (List ℕ)) (faults : S → ℕ
         first = more_first;
         holds = more_lists files opens so_far.holds;
       }
+
+    -- what an input adds
+    pub opened_next : (new : List (Part S)) → IsSound kept.bounds (get_or counts i d) → AddsInput whole left faults files kept i (get_or counts i d).points (get_or counts i d).extent parts new → HasOpened whole left faults files kept counts from (i + 1) new
+    opened_next new sound adds = at (get_or counts i d).extent refl sound.fits adds
+      where
+        at : (e : Option Bounds) → (get_or counts i d).extent ≡ e → FitsBounds kept.bounds (get_or counts i d).points e → AddsInput whole left faults files kept i (get_or counts i d).points e parts new → HasOpened whole left faults files kept counts from (i + 1) new
+        at None none fits same = subst (λ (l : List (Part S)). HasOpened whole left faults files kept counts from (i + 1) l) (sym same) (opened_skip none fits)
+        at (Some extent) some fits added =
+            let is = added.2 in
+            subst (λ (l : List (Part S)). HasOpened whole left faults files kept counts from (i + 1) l) (sym added.1) (opened_more extent added.0 is.input some fits.0 is.points_are is.is is.reads is.opens is.fresh)
+
+-- no file of those that were opened has failed
+pub none_failed : {S : Type 0} (faults : S → ℕ) (parts : List (Part S)) → All (λ part. faults part.source ≡ 0) parts → Any (λ part. faults part.source ≢ 0) parts → ⊥
+none_failed faults parts fresh any = any.4 (ap (λ (part : Part _). faults part.source) (sym any.3) ∙ fresh any.0 any.1 any.2)

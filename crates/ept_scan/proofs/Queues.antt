@@ -1,9 +1,9 @@
 -- The files of the second reading, of which one was read on.
-use Rattle.std.proofs.Common.{◌≡◌, ◌≢◌, ⊎_elim, inl, inr, ℕ, ◌+◌, ◌-◌, ◌<◌, ◌≤◌, List, [], ◌∷◌, ◌++◌, Option, Some, None, length, take, drop, get_or, set, refl, sym, ◌∙◌, ap, subst, arith, length-append, Err, Result}
-use Rattle.std.specs.Prelude.{All, Any, Contains, map, sum_by, IfErr}
+use Rattle.std.proofs.Common.{◌≡◌, ◌≢◌, ⊎_elim, ℕ, ◌+◌, ◌<◌, ◌≤◌, List, [], ◌∷◌, ◌++◌, Option, None, length, drop, get_or, set, refl, sym, ◌∙◌, ap, subst, arith, length-append}
+use Rattle.std.specs.Prelude.{All, Any, Contains, map}
 use Rattle.std.specs.List.{AllZip}
 use Rattle.std.proofs.lemmas.Bool.{cases_lt}
-use Rattle.std.proofs.lemmas.List.{length-map, length-set, drop-set, drop-set-lt, drop_more, get_or-set_same, get_or-set_other, get_or_default, get_or-map, get_or_append_left, drop-drop, drop-append-le}
+use Rattle.std.proofs.lemmas.List.{length-map, length-set, drop-set, drop-set-lt, drop_more, get_or-set_same, get_or-set_other, get_or_default, get_or-map, get_or_append_left}
 use Rattle.std.proofs.lemmas.List.Elements.{All-set, All-head, All-tail}
 use Rattle.std.proofs.Math.Seq.{map-set_same, drop-append_seam}
 use Rattle.ept_base.specs.Files.{Tells}
@@ -14,15 +14,14 @@ use Rattle.ept_scan.specs.declared.read_error.ReadError.{ReadError}
 use Rattle.ept_scan.specs.declared.read_error.ReadError.TheVariants.{SourceFault, SourceChanged, Memory}
 use Rattle.ept_scan.specs.declared.part.Part.{Part}
 use Rattle.ept_scan.specs.declared.part.Cursor.{Cursor}
-use Rattle.ept_scan.specs.Extents.{IsAllowed, IsWithin}
-use Rattle.ept_scan.specs.LasFile.{ArePointsOf}
+use Rattle.ept_scan.specs.Extents.{IsAllowed}
 use Rattle.ept_scan.specs.Scans.{in_order}
 use Rattle.ept_base.specs.Causes.{Rose}
 use Rattle.ept_scan.specs.Reach.{ReadsNoFurther}
 use Rattle.ept_scan.specs.Places.{StandsAt}
 use Rattle.ept_scan.specs.Changes.{IsChange, Differs, HasRecord}
 use Rattle.ept_scan.specs.Queue.{Held, HoldsPoints, AreRest, LiesIn, HasChanged, held, IsUnread, IsCurrent, StandsBefore, IsLimited}
-use Rattle.ept_scan.proofs.Once.{some_point, not_changed, same_record}
+use Rattle.ept_scan.proofs.Once.{not_changed, same_record}
 
 -- one file of a list was exchanged for one that holds the same
 module _ {S : Type 0} (whole left : S → Option (List ℕ)) (parts : List (Part S)) (at : ℕ) (p y : Part S) (lt : at < length parts) (here : p ≡ get_or parts at p) where

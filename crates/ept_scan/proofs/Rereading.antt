@@ -1,21 +1,20 @@
 -- A file that was read within some limits is read the same within the extent of its points.
-use Rattle.std.proofs.Common.{◌≡◌, ℕ, ◌<◌, ◌^◌, ◌-◌, pos, List, Option, Some, length, get_or, sym, ◌∙◌, ap, subst, arith}
-use Rattle.std.specs.Prelude.{ℤ, All, slice_get}
+use Rattle.std.proofs.Common.{◌≡◌, Ok, ℕ, ◌^◌, ◌-◌, pos, List, Option, Some, get_or, sym, ◌∙◌, ap, subst, arith}
+use Rattle.std.specs.Prelude.{All, slice_get}
 use Rattle.ept_base.specs.Files.{Files}
 use Rattle.ept_point.specs.declared.point.Point.{Point}
 use Rattle.ept_space.specs.declared.bounds.Bounds.{Bounds}
 use Rattle.ept_config.specs.declared.input.Input.{Input}
 use Rattle.ept_config.specs.declared.source_count.SourceCount.{SourceCount}
-use Rattle.ept_las.specs.declared.header.Header.{Header}
 use Rattle.ept_las.specs.declared.shift.Shift.{Shift}
 use Rattle.ept_las.specs.LasHeader.{HeaderReadsAs}
 use Rattle.ept_las.specs.PointRecord.{IsPointOf}
 use Rattle.ept_scan.specs.declared.reading.Reading.{Reading}
-use Rattle.ept_scan.specs.Extents.{IsAllowed, HasExtent, IsExtentOf}
-use Rattle.ept_scan.specs.LasFile.{head_of, records_of, record_at, IsPointAt, AreFirstPoints, ArePointsOf}
+use Rattle.ept_scan.specs.Extents.{IsAllowed}
+use Rattle.ept_scan.specs.LasFile.{head_of, records_of, record_at, ArePointsOf}
 use Rattle.ept_scan.specs.Counts.{IsCountOf}
 use Rattle.ept_scan.specs.Scans.{IsReadingOf, HasPointsAt}
-use Rattle.ept_scan.specs.Queue.{Held, HoldsPoints}
+use Rattle.ept_scan.specs.Queue.{HoldsPoints}
 use Rattle.ept_scan.proofs.Spans.{extent_at}
 use Rattle.ept_scan.proofs.Sound.{all_within}
 
@@ -49,7 +48,7 @@ module _ (first second : Reading) (factor : second.shift.factor ≡ first.shift.
   reread : (file : List ℕ) (points : List Point) → ArePointsOf first file points → All (IsAllowed second.limits) points → ArePointsOf second file points
   reread file points are allowed = record {
     header = are.header;
-    has_header = subst (λ (e : Option (List ℕ)). HeaderReadsAs (head_of file) e _) (sym expect) are.has_header;
+    has_header = subst (λ (e : Option (List ℕ)). HeaderReadsAs (head_of file) e (Ok are.header)) (sym expect) are.has_header;
     few = are.few;
     are = record {
       count = are.are.count;

@@ -1,13 +1,16 @@
 -- Where the second reading begins, and which files it has.
-use Rattle.std.specs.Prelude.{◌≡◌, ◌≢◌, ℕ, ◌+◌, ◌<◌, ◌≤◌, List, [], ◌∷◌, Option, Some, None, length, take, drop, map, sum_by, slice_get, All, Any, ⊤}
+use Rattle.std.specs.Prelude.{◌≡◌, ◌≢◌, ℕ, ◌+◌, ◌<◌, ◌≤◌, List, [], ◌∷◌, ◌++◌, Option, Some, None, length, take, drop, map, sum_by, slice_get, All, Any}
 use Rattle.std.specs.List.{AllZip}
 use Rattle.ept_base.specs.Files.{Files, Tells}
+use Rattle.ept_base.specs.Devices.{Opens}
+use Rattle.ept_space.specs.declared.bounds.Bounds.{Bounds}
+use Rattle.ept_config.specs.declared.input.Input.{Input}
 use Rattle.ept_point.specs.declared.point.Point.{Point}
 use Rattle.ept_config.specs.declared.kept.Kept.{Kept}
 use Rattle.ept_config.specs.declared.source_count.SourceCount.{SourceCount}
 use Rattle.ept_scan.specs.declared.part.Part.{Part}
 use Rattle.ept_scan.specs.Counts.{IsCountOf}
-use Rattle.ept_scan.specs.Scans.{in_order, ArePointsFrom, IsScan}
+use Rattle.ept_scan.specs.Scans.{in_order, IsReadingOf, ArePointsFrom, IsScan}
 use Rattle.ept_scan.specs.Queue.{HoldsPoints, held, IsUnread, IsLimited}
 
 -- the number of points of some counts
@@ -34,6 +37,20 @@ pub record AreHeld {S : Type 0} (whole : S → Option (List ℕ)) (parts : List 
   pub mine : List (List Point)
   pub hold : AllZip HoldsPoints (map (held whole) parts) mine
   pub same : in_order mine ≡ in_order lists
+
+-- input i was opened: it is at its front, and its points are to lie within this extent
+pub record IsOpened {S : Type 0} (whole left : S → Option (List ℕ)) (faults : S → ℕ) (files : Option Files) (kept : Kept) (i points : ℕ) (extent : Bounds) (part : Part S) : Type 0 where
+  pub input : Input
+  pub is : slice_get kept.inputs i ≡ Some input
+  pub reads : IsReadingOf kept.scale (Some extent) i input part.reading
+  pub points_are : part.points ≡ points
+  pub opens : Opens files input.path (whole part.source) (left part.source)
+  pub fresh : faults part.source ≡ 0
+
+-- an input with an extent is opened, and one without has no points and is left out
+abbrev pub AddsInput : {S : Type 0} (whole left : S → Option (List ℕ)) (faults : S → ℕ) → Option Files → Kept → ℕ → ℕ → Option Bounds → List (Part S) → List (Part S) → Type 0
+AddsInput whole left faults files kept i points None old new = new ≡ old
+AddsInput {S} whole left faults files kept i points (Some extent) old new = (part : Part S) × (new ≡ old ++ part ∷ []) × IsOpened whole left faults files kept i points extent part
 
 -- the inputs from one on and up to another that have points were opened
 pub record HasOpened {S : Type 0} (whole left : S → Option (List ℕ)) (faults : S → ℕ) (files : Option Files) (kept : Kept) (counts : List SourceCount) (from end : ℕ) (parts : List (Part S)) : Type 0 where

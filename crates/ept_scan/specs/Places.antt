@@ -1,12 +1,11 @@
 -- Where the second reading stands in a file.
-use Rattle.std.specs.Prelude.{◌≡◌, ℕ, ◌+◌, ◌*◌, ◌<◌, ◌≤◌, max, List, Option, Some, None, length}
+use Rattle.std.specs.Prelude.{◌≡◌, ℕ, ◌+◌, ◌*◌, ◌≤◌, max, List, Option, Some, None, length}
 use Rattle.std.specs.Io.KnownBytes.{prepend_known}
 use Rattle.ept_base.specs.Files.{Tells}
 use Rattle.ept_las.specs.declared.header.Header.{Header}
 use Rattle.ept_las.specs.declared.header.TheConstants.{HEAD_LENGTH}
 use Rattle.ept_las.specs.Format.{IsFormat, record_length}
 use Rattle.ept_scan.specs.declared.reading.Reading.{Reading}
-use Rattle.ept_scan.specs.declared.part.Cursor.{Cursor}
 use Rattle.ept_scan.specs.LasFile.{HasHeader}
 use Rattle.ept_scan.specs.Reach.{Skips, end_of}
 

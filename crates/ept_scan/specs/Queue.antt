@@ -1,5 +1,5 @@
 -- The files of the second reading: what each holds, where it stands, and which points are left.
-use Rattle.std.specs.Prelude.{◌≡◌, ◌≢◌, ◌⊎◌, ℕ, ◌-◌, ◌<◌, ◌≤◌, List, [], ◌∷◌, Option, Some, None, length, drop, map, sum_by, ⊤, All, Any, Contains}
+use Rattle.std.specs.Prelude.{◌≡◌, ◌≢◌, ℕ, ◌-◌, ◌<◌, ◌≤◌, List, [], ◌∷◌, Option, Some, length, drop, map, sum_by, ⊤, All, Any, Contains}
 use Rattle.std.specs.List.{AllZip}
 use Rattle.ept_base.specs.Files.{Tells}
 use Rattle.ept_point.specs.declared.point.Point.{Point}
@@ -10,7 +10,7 @@ use Rattle.ept_scan.specs.declared.read_error.ReadError.TheVariants.{SourceFault
 use Rattle.ept_scan.specs.declared.part.Part.{Part}
 use Rattle.ept_scan.specs.declared.part.Cursor.{Cursor}
 use Rattle.ept_scan.specs.declared.queue.Queue.{Queue}
-use Rattle.ept_scan.specs.Extents.{IsAllowed, IsWithin}
+use Rattle.ept_scan.specs.Extents.{IsWithin}
 use Rattle.ept_scan.specs.LasFile.{ArePointsOf}
 use Rattle.ept_scan.specs.Scans.{in_order}
 use Rattle.ept_scan.specs.Changes.{Differs}

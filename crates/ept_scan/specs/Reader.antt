@@ -2,7 +2,7 @@
 use Rattle.std.specs.Prelude.{◌≡◌, ◌≢◌, ℕ, ◌+◌, ◌^◌, ◌<◌, min, List, Option, Some, None}
 use Rattle.ept_point.specs.declared.point.Point.{Point}
 use Rattle.ept_scan.specs.declared.read_error.ReadError.{ReadError}
-use Rattle.ept_scan.specs.declared.read_error.ReadError.TheVariants.{SourceFault, SourceChanged, Memory}
+use Rattle.ept_scan.specs.declared.read_error.ReadError.TheVariants.{SourceFault, Memory}
 use Rattle.ept_scan.specs.declared.reader.Reader.{Reader}
 use Rattle.ept_scan.specs.Queue as queue
 

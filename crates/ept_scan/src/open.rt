@@ -1,13 +1,13 @@
 //! Opening the second reading.
 
-ghost use Rattle.std.specs.Prelude.{◌≡◌, ◌≢◌, ◌≤◌, ◌+◌, ℕ, List, [], Err, IfOk, OnOk, length, drop, All, None, vec_capacity};
+ghost use Rattle.std.specs.Prelude.{◌≡◌, ◌≢◌, ◌<◌, ◌≤◌, ◌+◌, ℕ, List, [], Err, IfOk, OnOk, OnErr, length, drop, All, None, vec_len, vec_capacity};
 ghost use Rattle.ept_base.specs.Causes.{HasCauseOf, Rose};
 ghost use Rattle.ept_base.specs.Files.{Tells};
 ghost use Rattle.ept_point.specs.declared.point.Point as at;
 ghost use Rattle.ept_scan.specs.Counts.{IsSound};
 ghost use Rattle.ept_scan.specs.declared.reading.TheConstants.{MAX_POINTS};
 ghost use Rattle.ept_config.specs.declared.limits.TheConstants.{MAX_INPUTS};
-ghost use Rattle.ept_scan.specs.Opening.{IsKeptScan, total, StartsAt, HasFailed, HasOpened};
+ghost use Rattle.ept_scan.specs.Opening.{IsKeptScan, total, StartsAt, HasFailed, AddsInput, HasOpened};
 ghost use Rattle.ept_scan.specs.Reader.{drawn_of, allowed_of, left_of, refusal_of, files_of, HasFault, IsRest, ReadsNoFurther, IsReader};
 
 use crate::inputs::reading_of;
@@ -175,17 +175,40 @@ fn open_parts<S: Source, H: Shelf<Source = S>>(
     ensures cause { HasCauseOf ReadError.SourceFault (H.faults shelf.old) (H.faults shelf.new) result }
 {
     for index in from..counts.len() {
-        let count = counts[index];
-        if let Some(extent) = count.extent {
-            let input = kept.input(index);
-            let reading = reading_of(input, kept.scale, index as u32, Some(extent));
-            let source = shelf.open(input.path.as_str())?;
-            parts.push_reserved(Part {
-                source,
-                reading,
-                points: count.points as u32,
-            });
-        }
+        open_input(shelf, kept, counts[index], index, parts)?;
     }
+    Ok(())
+}
+
+// Opens an input that has points.
+fn open_input<S: Source, H: Shelf<Source = S>>(
+    shelf: &mut H,
+    kept: &Kept,
+    count: SourceCount,
+    index: usize,
+    parts: &mut Vec<Part<S>>,
+) -> Result<(), ReadError>
+    requires within { index < length kept.now.inputs }
+    requires sound { IsSound kept.now.bounds count }
+    requires room { vec_len parts.old < vec_capacity parts.old }
+    ensures adds { OnOk result (AddsInput S.whole S.left S.faults (H.files shelf.old) kept.now index count.points count.extent parts.old.items parts.new.items) }
+    ensures one { vec_len parts.new ≤ vec_len parts.old + 1 }
+    ensures room { vec_capacity parts.new ≡ vec_capacity parts.old }
+    ensures refused { OnErr result (parts.new.items ≡ parts.old.items) }
+    ensures unchanged { (source number : ℕ) → result ≢ Err (ReadError.SourceChanged source number) }
+    ensures files { H.files shelf.new ≡ H.files shelf.old }
+    ensures cause { HasCauseOf ReadError.SourceFault (H.faults shelf.old) (H.faults shelf.new) result }
+{
+    let Some(extent) = count.extent else {
+        return Ok(());
+    };
+    let input = kept.input(index);
+    let reading = reading_of(input, kept.scale, index as u32, Some(extent));
+    let source = shelf.open(input.path.as_str())?;
+    parts.push_reserved(Part {
+        source,
+        reading,
+        points: count.points as u32,
+    });
     Ok(())
 }

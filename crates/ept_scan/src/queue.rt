@@ -64,7 +64,11 @@ impl<S: Source> Queue<S> {
 
     /// Appends the next `count` records, of which there are so many, to a list that has room for them.
     /// After a refusal the list is as it was.
-    pub(crate) fn next_points(&mut self, count: usize, out: &mut Vec<Point>) -> Result<(), ReadError>
+    pub(crate) fn next_points(
+        &mut self,
+        count: usize,
+        out: &mut Vec<Point>,
+    ) -> Result<(), ReadError>
         requires queue { IsQueue S.whole S.left self.old }
         requires enough { count ≤ records_left self.old }
         requires room { vec_len out.old + count ≤ vec_capacity out.old }

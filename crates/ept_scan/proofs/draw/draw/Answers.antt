@@ -1,9 +1,6 @@
-use Rattle.std.proofs.Common.{◌≡◌, ◌≢◌, refl, sym, subst, arith, rules}
-use Rattle.std.proofs.lemmas.Grind.{common_steps}
+use Rattle.std.proofs.Common.{refl, subst, arith}
 use Rattle.std.specs.Io.KnownBytes.{prepend_known}
-use Rattle.ept_point.specs.declared.point.Point.{Point}
 use Rattle.ept_scan.specs.declared.record.Found.{Found}
-use Rattle.ept_scan.specs.declared.record.Found.TheVariants as found
 use Rattle.ept_scan.specs.Records.{ReadsNext, FindsAllowed, IsWithinReach}
 use Rattle.ept_scan.proofs.Drawing.{far_within, drawn_is, within_next, record_changed}
 use Rattle.ept_scan.proofs.draw.draw.Goals as goal

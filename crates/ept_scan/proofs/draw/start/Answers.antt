@@ -1,4 +1,4 @@
-use Rattle.std.proofs.Common.{refl, ◌≡◌, ◌+◌, ◌*◌, ◌∙◌, sym, subst, ap, arith, Result, Err, ℕ, OnErr, ◌-◌, length}
+use Rattle.std.proofs.Common.{refl, ◌≡◌, ◌+◌, ◌*◌, ◌∙◌, sym, subst, ap, arith, Result, Err, ℕ, OnErr}
 use Rattle.std.proofs.lemmas.Result.{err_from_is_err_and}
 use Rattle.ept_las.specs.declared.header.Header.{Header}
 use Rattle.ept_scan.specs.declared.read_error.ReadError.{ReadError}

@@ -1,4 +1,4 @@
-use Rattle.std.proofs.Common.{◌≡◌, ◌+◌, ◌≤◌, length, vec_len}
+use Rattle.std.proofs.Common.{◌≡◌, ◌≤◌, length, vec_len}
 use Rattle.std.specs.Prelude.{vec_capacity}
 use Rattle.ept_scan.specs.Opening.{HasOpened}
 use Rattle.ept_scan.proofs.open.open_parts.Given as goal

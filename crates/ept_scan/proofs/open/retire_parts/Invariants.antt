@@ -1,4 +1,4 @@
-use Rattle.std.proofs.Common.{◌≡◌, ◌⊎◌, ◌≤◌, vec_len}
+use Rattle.std.proofs.Common.{◌≡◌, ◌⊎◌, ◌≤◌}
 use Rattle.ept_base.specs.Causes.{Rose}
 use Rattle.ept_scan.specs.Opening.{HasFailed}
 use Rattle.ept_scan.proofs.open.retire_parts.Given as goal

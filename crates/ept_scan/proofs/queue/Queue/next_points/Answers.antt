@@ -1,5 +1,4 @@
-use Rattle.std.proofs.Common.{◌≡◌, refl, Result, List, ◌+◌, sym, subst, arith, rules, ap, Err}
-use Rattle.std.proofs.lemmas.Grind.{common_steps}
+use Rattle.std.proofs.Common.{◌≡◌, refl, Result, List, ◌+◌, sym, subst, arith, ap, Err}
 use Rattle.ept_point.specs.declared.point.Point.{Point}
 use Rattle.ept_scan.specs.declared.read_error.ReadError.{ReadError}
 use Rattle.ept_scan.specs.declared.read_error.ReadError.TheVariants.{SourceChanged}
