@@ -1,9 +1,13 @@
 pub mod Answering
+pub mod Branches
+pub mod Descending
 pub mod Found
+pub mod Growing
 pub mod Headers
 pub mod Paths
 pub mod Pieces
 pub mod Places
 pub mod Reading
+pub mod Regrouping
 pub mod SoFar
 pub mod Spans

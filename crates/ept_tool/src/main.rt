@@ -1,6 +1,7 @@
 //! `ept_tool` builds an Entwine Point Tile folder from a LAS scan.
 #![tactic(auto)]
 
+mod arrival;
 mod build;
 mod configuration;
 mod extent;
@@ -13,6 +14,7 @@ mod status;
 #[cfg(test)]
 mod tests;
 mod texts;
+mod tree;
 mod words;
 
 use crate::real::{RealShelf, RealSink, RealStore};
