@@ -1,6 +1,6 @@
 use Rattle.std.proofs.Common.{◌≡◌, ◌==◌, filter, take}
 use Rattle.ept_sample.specs.Arrivals.{octant}
-use Rattle.ept_sample.proofs.losing.in_octant.Given as goal
+use Rattle.ept_sample.proofs.arrivals.in_octant.Given as goal
 
 abbrev pub invariant-loop-point : goal.invariant-loop-point
 invariant-loop-point l =

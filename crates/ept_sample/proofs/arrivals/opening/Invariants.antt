@@ -1,6 +1,6 @@
 use Rattle.std.proofs.Common.{◌≡◌, ℕ, ◌<◌, ◌||◌, false, get_or, length}
-use Rattle.ept_sample.specs.Walk.{has_too_many}
-use Rattle.ept_core.proofs.arrival.opening.Given as goal
+use Rattle.ept_sample.specs.Arrivals.{has_too_many}
+use Rattle.ept_sample.proofs.arrivals.opening.Given as goal
 
 abbrev pub invariant-loop-which : goal.invariant-loop-which
 invariant-loop-which l =

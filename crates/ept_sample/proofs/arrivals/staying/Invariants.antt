@@ -1,6 +1,6 @@
 use Rattle.std.proofs.Common.{◌≡◌, not, filter, take}
-use Rattle.ept_core.specs.Effects.{goes}
-use Rattle.ept_core.proofs.arrival.staying.Given as goal
+use Rattle.ept_sample.specs.Arrivals.{goes}
+use Rattle.ept_sample.proofs.arrivals.staying.Given as goal
 
 abbrev pub invariant-loop-point : goal.invariant-loop-point
 invariant-loop-point l =
