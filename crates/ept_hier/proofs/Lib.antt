@@ -1,0 +1,6 @@
+mod Lists
+mod Levels
+mod Adding
+mod Steps
+mod AllNodes
+mod Ascending
