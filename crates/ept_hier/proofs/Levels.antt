@@ -23,7 +23,7 @@ pub file_depth-step : (step depth : ℕ) → (step == 0) ≡ false → file_dept
 unfolding file_depth
 file_depth-step step depth e = ap (λ b. cond b 0 ((depth - 1) / step * step)) e
 
-either : (b : Bool) → (b ≡ true) ⊎ (b ≡ false)
+pub either : (b : Bool) → (b ≡ true) ⊎ (b ≡ false)
 either true = inl refl
 either false = inr refl
 
@@ -74,7 +74,7 @@ IsKey-parents (suc n) key h = IsKey-parent (parents n key) (IsKey-parents n key 
 pub IsKey-ancestor : (n : ℕ) (key : VoxelKey) → IsKey key → IsKey (ancestor n key)
 IsKey-ancestor n key h = subst (λ k. IsKey k) (parents-ancestor n key) (IsKey-parents n key h)
 
-above_as : (step : ℕ) (key : VoxelKey) → ancestor (key.depth - file_depth step key.depth) key ≡ file_above step key
+pub above_as : (step : ℕ) (key : VoxelKey) → ancestor (key.depth - file_depth step key.depth) key ≡ file_above step key
 unfolding file_above
 above_as step key = refl
 
@@ -89,7 +89,7 @@ within-above step key =
 
 -- ---- tests
 
-and_true : (p q : Bool) → (p && q) ≡ true → (p ≡ true) × (q ≡ true)
+pub and_true : (p q : Bool) → (p && q) ≡ true → (p ≡ true) × (q ≡ true)
 and_true true q h = (refl, h)
 and_true false q h = absurd (false≢true h)
 
@@ -121,7 +121,7 @@ unfolding stands_in
 stands-from step top key within reach =
     and_both (is_within top key) ((step == 0) || nat_le key.depth (top.depth + step)) within reach
 
-multiple : (d step q rest : ℕ) → q * step + d % step ≡ d → d % step ≡ 0 → q * step ≡ d
+pub multiple : (d step q rest : ℕ) → q * step + d % step ≡ d → d % step ≡ 0 → q * step ≡ d
 multiple d step q rest whole none = omega (arith, whole, none)
 
 quotient : (d step q top : ℕ) → q * step ≡ top → top < d → d ≤ top + step → (d - 1) / step * step ≡ top
@@ -229,7 +229,7 @@ link_at step depth e deep =
     together : (d level s found : ℕ) → level + s ≡ d → found ≡ 0 → (d == level + s) ≡ (found == 0)
     together d level s found whole is = grind (arith, nat_tests)
 
-link_as : (step : ℕ) (top key : VoxelKey) → (nat_lt 0 step && (key.depth == top.depth + step)) ≡ is_link step top key
+pub link_as : (step : ℕ) (top key : VoxelKey) → (nat_lt 0 step && (key.depth == top.depth + step)) ≡ is_link step top key
 unfolding is_link
 link_as step top key = refl
 

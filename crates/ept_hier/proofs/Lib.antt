@@ -4,3 +4,4 @@ mod Adding
 mod Steps
 mod AllNodes
 mod Ascending
+mod HierarchyLaws

@@ -59,7 +59,7 @@ unfolding open_text
 text-more step ns n m here =
     ap (λ w. codes "{" ++ join_by entry_text (codes ",") w) (entries-more step ns n m.0) ∙ text_step (entries_of step ns m.0) (entry_in step m.0 n) (stands_in step m.0 n.0) (entries-some step ns m here)
 
-no_link : (step : ℕ) (key : VoxelKey) → is_link step key key ≡ false
+pub no_link : (step : ℕ) (key : VoxelKey) → is_link step key key ≡ false
 unfolding is_link
 no_link step key = grind (arith, nat_tests)
 

@@ -1,2 +1,3 @@
 pub mod Hierarchy
 pub mod OpenFiles
+pub mod HierarchyLaws

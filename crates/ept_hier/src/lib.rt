@@ -7,6 +7,7 @@
 
 mod file;
 mod files;
+mod laws;
 mod open_text;
 mod order;
 #[cfg(test)]
@@ -14,4 +15,5 @@ mod tests;
 
 pub use file::HierFile;
 pub use files::hierarchy_files;
+pub use laws::hierarchy_law;
 pub use order::keys_ascend;
