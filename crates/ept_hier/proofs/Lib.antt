@@ -1,0 +1,7 @@
+mod Lists
+mod Levels
+mod Adding
+mod Steps
+mod AllNodes
+mod Ascending
+mod HierarchyLaws

@@ -1,0 +1,3 @@
+pub mod Hierarchy
+pub mod OpenFiles
+pub mod HierarchyLaws
