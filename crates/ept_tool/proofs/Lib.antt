@@ -1,6 +1,9 @@
 pub mod Answering
+pub mod Endings
 pub mod Found
 pub mod Headers
+pub mod Numbers
+pub mod Parts
 pub mod Paths
 pub mod Pieces
 pub mod Places

@@ -38,12 +38,12 @@ pub record AsksBadScan (words : List (List ℕ)) (files : Files) : Type 0 where
   pub words_are : IsBuild words config out
   pub bad : HasBadScan files config
 
--- the words are a build of a scan that has these points
-pub record AsksPoints (words : List (List ℕ)) (files : Files) (points : List Point) : Type 0 where
+-- the words are a build, with this threshold and this greatest depth, of a scan that has these points
+pub record AsksPoints (words : List (List ℕ)) (files : Files) (threshold max_depth : ℕ) (points : List Point) : Type 0 where
   pub config : List ℕ
   pub out : List ℕ
   pub words_are : IsBuild words config out
-  pub has : HasPoints files config points
+  pub has : HasPoints files config threshold max_depth points
 
 -- The store has gained the octree of these points, and nothing else changed; all of it is stable; and the sink has gained the summary.
 pub record LeavesOctree (points : List Point) (old new : Option Files) (images : Files → Type 0) (said_old said_new : Option (List ℕ)) : Type 0 where

@@ -11,9 +11,8 @@ ghost use Rattle.ept_tool.specs.Inputs.{HasOtherForm, HasBadScan, HasPoints};
 ghost use Rattle.ept_tool.specs.Answers.{Yields, LeavesOctree};
 
 use crate::extent::extent_of;
-use crate::inputs::read_inputs;
+use crate::inputs::{Inputs, read_inputs};
 use crate::output::publish;
-use crate::scan::Scan;
 use crate::status::{BAD_SCAN, DEVICE, MEMORY, NOT_BUILT, OK};
 use crate::texts::summary;
 use ept_base::{GetError, PutError, Shelf, Sink, Store, write_full};
@@ -31,7 +30,7 @@ pub(crate) fn build<H: Shelf, T: Store, O: Sink>(
     ensures statuses { (result ≡ OK) ⊎ (result ≡ BAD_SCAN) ⊎ (result ≡ DEVICE) ⊎ (result ≡ MEMORY) ⊎ (result ≡ NOT_BUILT) }
     ensures other { result ≡ NOT_BUILT → Tells (λ all. HasOtherForm all config.now) (H.files shelf.old) }
     ensures bad { result ≡ BAD_SCAN → Tells (λ all. HasBadScan all config.now) (H.files shelf.old) }
-    ensures built { result ≡ OK → (points : List Point) × Tells (λ all. HasPoints all config.now points) (H.files shelf.old)
+    ensures built { result ≡ OK → (threshold max_depth : ℕ) × (points : List Point) × Tells (λ all. HasPoints all config.now threshold max_depth points) (H.files shelf.old)
         × LeavesOctree points (T.files store.old) (T.files store.new) (T.may_leave store.new) (O.written out.old) (O.written out.new) }
     ensures fault { result ≡ DEVICE → Rose (H.faults shelf.old) (H.faults shelf.new) ⊎ Rose (T.faults store.old) (T.faults store.new) ⊎ Rose (O.faults out.old) (O.faults out.new) }
     ensures untouched { (result ≡ BAD_SCAN) ⊎ (result ≡ NOT_BUILT) → store.new ≡ store.old }
@@ -40,9 +39,9 @@ pub(crate) fn build<H: Shelf, T: Store, O: Sink>(
     ensures said { result ≡ DEVICE → (count : ℕ) × AppendsPrefix (O.written out.old) (O.written out.new) (summary_text count) }
 {
     match read_inputs(alloc, shelf, config) {
-        Ok(Scan::Points(points)) => write(alloc, &points, store, out),
-        Ok(Scan::BadRecord) => BAD_SCAN,
-        Ok(Scan::OtherForm) => NOT_BUILT,
+        Ok(Inputs::Points { points, .. }) => write(alloc, &points, store, out),
+        Ok(Inputs::BadRecord) => BAD_SCAN,
+        Ok(Inputs::OtherForm) => NOT_BUILT,
         Err(GetError::Failed) => DEVICE,
         Err(GetError::Memory) => MEMORY,
     }

@@ -9,6 +9,7 @@ mod output;
 mod real;
 mod run;
 mod scan;
+mod settings;
 mod status;
 #[cfg(test)]
 mod tests;

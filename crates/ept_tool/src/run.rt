@@ -48,9 +48,9 @@ where
     ensures bad_scan_comes { Tells (λ all. AsksBadScan (map string_bytes words.now) all → Yields BAD_SCAN result) (H.files shelf.old) }
 
     // Every other scan is built.
-    ensures built { result ≡ OK → (points : List Point) × Tells (λ all. AsksPoints (map string_bytes words.now) all points) (H.files shelf.old)
+    ensures built { result ≡ OK → (threshold max_depth : ℕ) × (points : List Point) × Tells (λ all. AsksPoints (map string_bytes words.now) all threshold max_depth points) (H.files shelf.old)
         × LeavesOctree points (T.files store.old) (T.files store.new) (T.may_leave store.new) (O.written out.old) (O.written out.new) }
-    ensures built_comes { Tells (λ all. (points : List Point) → AsksPoints (map string_bytes words.now) all points → Yields OK result) (H.files shelf.old) }
+    ensures built_comes { Tells (λ all. (threshold max_depth : ℕ) (points : List Point) → AsksPoints (map string_bytes words.now) all threshold max_depth points → Yields OK result) (H.files shelf.old) }
 
     // A fault is told only where the count of a device rose.
     ensures fault { result ≡ DEVICE → Rose (H.faults shelf.old) (H.faults shelf.new)
