@@ -75,6 +75,7 @@ module _ (ending : List ℕ) where
   one_ending threshold max_depth t d (inl is) (inr other) = absurd (short_or_long threshold max_depth t d is other)
   one_ending threshold max_depth t d (inr is) (inl other) = absurd (short_or_long t d threshold max_depth other is)
   one_ending threshold max_depth t d (inr is) (inr other) =
-      let same = named (decimal threshold) (decimal max_depth ++ BEHIND_DEPTH.now) (long_parts threshold max_depth is) t d other in
-      (decimal_injective threshold t (omega (arith, is.threshold_in)) (omega (arith, other.threshold_in)) same.0,
-      decimal_injective max_depth d (omega (arith, is.depth_in)) (omega (arith, other.depth_in)) (append_cancel_right (decimal max_depth) (decimal d) BEHIND_DEPTH.now same.1))
+      let same = named (decimal threshold) (decimal max_depth ++ BEHIND_DEPTH.now) (long_parts threshold max_depth is) t d other in (
+        decimal_injective threshold t (omega (arith, is.threshold_in)) (omega (arith, other.threshold_in)) same.0,
+        decimal_injective max_depth d (omega (arith, is.depth_in)) (omega (arith, other.depth_in)) (append_cancel_right (decimal max_depth) (decimal d) BEHIND_DEPTH.now same.1),
+      )

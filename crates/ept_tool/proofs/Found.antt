@@ -64,13 +64,28 @@ length-ending ending threshold max_depth (inl short) = omega (arith, ap length s
 length-ending ending threshold max_depth (inr long) =
     let first : length (decimal threshold) ≤ 10 = length-decimal-le 10 threshold (lit< tt) (omega (arith, long.threshold_in)) (omega (arith, long.threshold_in)) in
     let second : length (decimal max_depth) ≤ 2 = length-decimal-le 2 max_depth (lit< tt) (omega (arith, long.depth_in)) (omega (arith, long.depth_in)) in
-    omega (arith, first, second, ap length long.text, length-append (BEFORE_THRESHOLD.now ++ decimal threshold ++ BEFORE_DEPTH.now ++ decimal max_depth) BEHIND_DEPTH.now,
-    length-append (BEFORE_THRESHOLD.now ++ decimal threshold ++ BEFORE_DEPTH.now) (decimal max_depth), length-append (BEFORE_THRESHOLD.now ++ decimal threshold) BEFORE_DEPTH.now, length-append BEFORE_THRESHOLD.now (decimal threshold))
+    omega (
+      arith,
+      first,
+      second,
+      ap length long.text,
+      length-append (BEFORE_THRESHOLD.now ++ decimal threshold ++ BEFORE_DEPTH.now ++ decimal max_depth) BEHIND_DEPTH.now,
+      length-append (BEFORE_THRESHOLD.now ++ decimal threshold ++ BEFORE_DEPTH.now) (decimal max_depth),
+      length-append (BEFORE_THRESHOLD.now ++ decimal threshold) BEFORE_DEPTH.now,
+      length-append BEFORE_THRESHOLD.now (decimal threshold),
+    )
 
 length-configuration : (bytes path : List ℕ) (threshold max_depth : ℕ) → IsConfiguration bytes path threshold max_depth → length bytes ≤ LONGEST_CONFIGURATION
 length-configuration bytes path threshold max_depth is =
-    omega (arith, length-ending is.ending threshold max_depth is.ending_is, is.path_is.short, ap length is.text, length-append (BEFORE_PATH.now ++ path ++ BEHIND_PATH.now) is.ending,
-    length-append (BEFORE_PATH.now ++ path) BEHIND_PATH.now, length-append BEFORE_PATH.now path)
+    omega (
+      arith,
+      length-ending is.ending threshold max_depth is.ending_is,
+      is.path_is.short,
+      ap length is.text,
+      length-append (BEFORE_PATH.now ++ path ++ BEHIND_PATH.now) is.ending,
+      length-append (BEFORE_PATH.now ++ path) BEHIND_PATH.now,
+      length-append BEFORE_PATH.now path,
+    )
 
 -- the front is a configuration where the file is
 module _ (bytes front path : List ℕ) (threshold max_depth : ℕ) (front_is : front ≡ take (LONGEST_CONFIGURATION + 1) bytes) where

@@ -150,3 +150,87 @@ fn is_path_byte(b: u8) -> bool
 {
     matches!(b, b'a'..=b'z' | b'A'..=b'Z' | b'0'..=b'9' | b'.' | b'-' | b'_' | b'/')
 }
+
+#[cfg(test)]
+mod tests {
+    use super::*;
+
+    #[test]
+    fn each_ending_has_its_limits(rt: HostRuntime) {
+        for (ending, want) in [
+            ("\"maxDepth\":0}", Some((4_096, 0))),
+            ("\"minNodeSize\":4096,\"maxDepth\":0}", Some((4_096, 0))),
+            ("\"minNodeSize\":0,\"maxDepth\":0}", Some((0, 0))),
+            ("\"minNodeSize\":0,\"maxDepth\":32}", Some((0, 32))),
+            ("\"minNodeSize\":1,\"maxDepth\":10}", Some((1, 10))),
+            (
+                "\"minNodeSize\":2147483648,\"maxDepth\":9}",
+                Some((2_147_483_648, 9)),
+            ),
+            ("\"minNodeSize\":2147483649,\"maxDepth\":0}", None),
+            ("\"minNodeSize\":9223372036854775808,\"maxDepth\":0}", None),
+            ("\"minNodeSize\":18446744073709551616,\"maxDepth\":0}", None),
+            ("\"minNodeSize\":0,\"maxDepth\":33}", None),
+            ("\"minNodeSize\":0,\"maxDepth\":288}", None),
+            ("\"minNodeSize\":01,\"maxDepth\":0}", None),
+            ("\"minNodeSize\":0,\"maxDepth\":00}", None),
+            ("\"minNodeSize\":-0,\"maxDepth\":0}", None),
+            ("\"minNodeSize\":-1,\"maxDepth\":0}", None),
+            ("\"minNodeSize\":0,\"maxDepth\":-1}", None),
+            ("\"minNodeSize\":+1,\"maxDepth\":0}", None),
+            ("\"minNodeSize\": 1,\"maxDepth\":0}", None),
+            ("\"minNodeSize\":1 ,\"maxDepth\":0}", None),
+            ("\"minNodeSize\":1, \"maxDepth\":0}", None),
+            ("\"minNodeSize\":1.0,\"maxDepth\":0}", None),
+            ("\"minNodeSize\":,\"maxDepth\":0}", None),
+            ("\"minNodeSize\":1,\"maxDepth\":}", None),
+            ("\"minNodeSize\":1\"maxDepth\":0}", None),
+            ("\"minNodeSize\":1,,\"maxDepth\":0}", None),
+            ("\"minNodeSize\":1,\"maxDepth\":0,}", None),
+            ("\"minNodeSize\":1,\"maxDepth\":0}}", None),
+            ("\"minNodeSize\":1,\"maxDepth\":0", None),
+            ("\"minNodeSize\":1,\"maxDepth\":0}\n", None),
+            ("\"maxDepth\":0,\"minNodeSize\":1}", None),
+            ("\"minNodeSize\":1}", None),
+            ("\"maxDepth\":1}", None),
+            ("\"maxDepth\":0}\n", None),
+            ("", None),
+        ] {
+            let found = limits_of(ending.as_bytes()).map(|l| (l.threshold, l.max_depth));
+            assert_eq!(rt; found, want, "{ending}");
+        }
+    }
+
+    #[test]
+    fn each_text_has_its_settings(rt: HostRuntime) {
+        for (text, want) in [
+            (
+                "{\"input\":\"a/b-c_D.las\",\"scale\":2,\"bounds\":[0,0,0,7,7,7],\"span\":2,\"maxDepth\":0}",
+                Some(("a/b-c_D.las", 4_096, 0)),
+            ),
+            (
+                "{\"input\":\"1\",\"scale\":2,\"bounds\":[0,0,0,7,7,7],\"span\":2,\"minNodeSize\":5,\"maxDepth\":6}",
+                Some(("1", 5, 6)),
+            ),
+            (
+                "{\"input\":\"\",\"scale\":2,\"bounds\":[0,0,0,7,7,7],\"span\":2,\"minNodeSize\":5,\"maxDepth\":6}",
+                None,
+            ),
+            (
+                "{\"input\":\"a\"b\",\"scale\":2,\"bounds\":[0,0,0,7,7,7],\"span\":2,\"minNodeSize\":5,\"maxDepth\":6}",
+                None,
+            ),
+            (
+                "{\"input\":\"a\",\"scale\":3,\"bounds\":[0,0,0,7,7,7],\"span\":2,\"minNodeSize\":5,\"maxDepth\":6}",
+                None,
+            ),
+            ("{\"input\":\"a\"", None),
+            ("{\"input\":\"a", None),
+            ("", None),
+        ] {
+            let found = read_settings(text.as_bytes());
+            let found = found.map(|s| (s.path, s.limits.threshold, s.limits.max_depth));
+            assert_eq!(rt; found, want, "{text}");
+        }
+    }
+}
