@@ -9,10 +9,11 @@ pub(crate) struct Settings<'a> {
     pub(crate) limits: Limits,
 }
 
-/// Where an octree ends.
+/// How far an octree may grow.
 #[derive(Clone, Copy, Debug, PartialEq, Eq)]
 pub(crate) struct Limits {
-    /// The most points that wait in an octant of a node before the octant gets a node of its own.
+    /// The most points that an octant of a node keeps waiting in that node. With more, the octant gets
+    /// a node of its own.
     pub(crate) threshold: u64,
     /// The greatest depth of a node. The root has depth 0.
     pub(crate) max_depth: u8,
