@@ -1,5 +1,5 @@
 -- What was read of a source is what the shelf holds under its path.
-use Rattle.std.proofs.Common.{◌≡◌, ◌⊎◌, inl, inr, ⊎_elim, ℕ, ◌+◌, ◌<◌, ◌≤◌, List, ◌++◌, Option, Some, None, length, take, decimal, refl, sym, ◌∙◌, ap, subst, arith, length-append, length-take, lit<}
+use Rattle.std.proofs.Common.{◌≡◌, inl, inr, ⊎_elim, ℕ, ◌+◌, ◌<◌, ◌≤◌, List, ◌++◌, Option, Some, None, length, take, decimal, refl, sym, ◌∙◌, ap, subst, arith, length-append, length-take, lit<}
 use Rattle.std.specs.Prelude.{IsSome}
 use Rattle.std.proofs.lemmas.Bool.{cases_lt}
 use Rattle.std.proofs.lemmas.Fmt.{length-decimal-le}
@@ -7,7 +7,7 @@ use Rattle.std.proofs.Math.Seq.{take-append_seam}
 use Rattle.std.proofs.lemmas.List.{append-nil, take_all, length-take-le}
 use Rattle.ept_base.specs.Files.{Files, Tells}
 use Rattle.ept_base.specs.Devices.{Opens, ReadsFull}
-use Rattle.ept_tool.specs.declared.configuration.TheConstants.{BEFORE_PATH, BEHIND_PATH, SHORT_ENDING, BEFORE_THRESHOLD, BEFORE_DEPTH, BEHIND_DEPTH, LONGEST_CONFIGURATION}
+use Rattle.ept_tool.specs.declared.configuration.TheConstants.{BEFORE_PATH, BEHIND_PATH, BEFORE_THRESHOLD, BEFORE_DEPTH, BEHIND_DEPTH, LONGEST_CONFIGURATION}
 use Rattle.ept_tool.specs.declared.scan.Scan.{Scan}
 use Rattle.ept_tool.specs.declared.scan.Scan.TheVariants.{OtherForm, BadRecord, Points}
 use Rattle.ept_tool.specs.declared.settings.Limits.{Limits}

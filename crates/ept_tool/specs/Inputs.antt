@@ -1,5 +1,5 @@
 -- What a configuration and the scan that it names were found to be, on a shelf of these files.
-use Rattle.std.specs.Prelude.{◌≡◌, ◌⊎◌, ℕ, List, take, Option, Some, None}
+use Rattle.std.specs.Prelude.{◌≡◌, ◌⊎◌, ℕ, List, take, Some}
 use Rattle.ept_base.specs.Files.{Files}
 use Rattle.ept_point.specs.declared.point.Point.{Point}
 use Rattle.ept_tool.specs.Configuration.{IsConfiguration}

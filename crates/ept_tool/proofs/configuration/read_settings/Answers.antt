@@ -1,4 +1,4 @@
-use Rattle.ept_tool.proofs.Paths.{no_path, no_limits, no_configuration, is_configuration}
+use Rattle.ept_tool.proofs.Paths.{no_path, no_limits}
 use Rattle.ept_tool.proofs.configuration.read_settings.Goals as goal
 
 pub returns-in_err-path-2-clause-none : goal.returns-in_err-path-2-clause-none
