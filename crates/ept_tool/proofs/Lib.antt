@@ -1,12 +1,17 @@
 pub mod Answering
 pub mod Branches
 pub mod Descending
+pub mod Endings
 pub mod Found
 pub mod Growing
 pub mod Headers
+pub mod Numbers
+pub mod Parts
 pub mod Paths
 pub mod Pieces
+pub mod Placed
 pub mod Places
+pub mod Published
 pub mod Reading
 pub mod Regrouping
 pub mod SoFar

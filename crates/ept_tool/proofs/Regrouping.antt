@@ -6,7 +6,8 @@ use Rattle.std.proofs.lemmas.List.Concat.{flat_map-append}
 use Rattle.ept_point.specs.declared.point.Point.{Point}
 use Rattle.ept_space.specs.declared.cube.Rules.{Rules}
 use Rattle.ept_space.specs.VoxelKey.{VoxelKey, child}
-use Rattle.ept_sample.proofs.Members.{IsMember, IsMember-left, IsMember-right, IsMember-append, IsMember-map, member-map, IsMember-flat_map, member-flat_map}
+use Rattle.ept_sample.specs.Members.{IsMember}
+use Rattle.ept_sample.proofs.Members.{IsMember-left, IsMember-right, IsMember-append, IsMember-map, member-map, IsMember-flat_map, member-flat_map}
 use Rattle.ept_sample.specs.Arrivals.{all_octants}
 use Rattle.ept_core.specs.declared.flight.Flight.{Flight}
 use Rattle.ept_core.specs.State.{State, Entry, held, IsFlying, IsHeld, IsHeldWithin}

@@ -6,6 +6,7 @@ pub mod Output
 pub mod Scan
 pub mod Records
 pub mod ScanIs
+pub mod StageRules
 pub mod Inputs
 pub mod Sending
 pub mod Tree

@@ -5,7 +5,7 @@ use Rattle.ept_point.specs.declared.point.Point.{Point}
 use Rattle.ept_space.specs.declared.cube.Rules.{Rules}
 use Rattle.ept_space.specs.VoxelKey.{VoxelKey}
 use Rattle.ept_sample.specs.declared.tiles.Tile.{Tile}
-use Rattle.ept_sample.proofs.Members.{IsMember}
+use Rattle.ept_sample.specs.Members.{IsMember}
 use Rattle.ept_sample.specs.Arrivals.{all_octants}
 use Rattle.ept_grid.specs.Mask.{opened}
 use Rattle.ept_grid.specs.Outgoing.{Leaving, points_at}

@@ -6,10 +6,14 @@ mod build;
 mod configuration;
 mod extent;
 mod inputs;
+#[cfg(test)]
+mod octrees;
 mod output;
 mod real;
 mod run;
 mod scan;
+mod settings;
+mod stage;
 mod status;
 #[cfg(test)]
 mod tests;
