@@ -4,3 +4,12 @@ pub mod SrsRanges
 pub mod Ranges
 pub mod Keys
 pub mod Refusals
+pub mod Steps
+pub mod Json
+pub mod Facts
+pub mod Numbers
+pub mod Inputs
+pub mod SrsTexts
+pub mod RawInputs
+pub mod Values
+pub mod Configuration

@@ -5,10 +5,16 @@ mod config;
 mod config_error;
 mod config_key;
 mod input;
+mod inputs;
+mod json;
 mod kept;
 mod limits;
+mod numbers;
 mod source_count;
+mod raw_input;
 mod srs;
+mod texts;
+mod values;
 
 pub use config::Config;
 pub use config_error::ConfigError;

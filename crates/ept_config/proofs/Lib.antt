@@ -1,0 +1,5 @@
+pub mod Wholes
+pub mod Objects
+pub mod Signed
+pub mod Places
+pub mod EachInput
