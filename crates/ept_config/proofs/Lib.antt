@@ -3,3 +3,4 @@ pub mod Objects
 pub mod Signed
 pub mod Places
 pub mod EachInput
+pub mod Documents

@@ -30,7 +30,22 @@ top_keys =
     ∷ name_of key.Checkpoint
     ∷ []
 
--- what the keys say, each in its range
+-- how much of the machine may be used
+pub record WorkFacts : Type 0 where
+  pub threads : ℕ
+  pub cache : ℕ
+  pub max_nodes : ℕ
+  pub checkpoint : ℕ
+
+unfoldable pub work_at : Data → Result WorkFacts ConfigError
+work_at d = do
+  threads ← natural_at key.Threads 1 64 4 d
+  cache ← natural_at key.CacheSize 1 (2 ^ 20) 64 d
+  max_nodes ← natural_at key.MaxNodes 1 (2 ^ 20) 65536 d
+  checkpoint ← natural_at key.Checkpoint 1 (2 ^ 40) 10000000 d
+  Ok (record { threads = threads; cache = cache; max_nodes = max_nodes; checkpoint = checkpoint })
+
+-- what the keys say, each by itself: required keys are there, and each value is of its kind and in its range
 unfoldable pub settings : Data → Result Facts ConfigError
 settings d = do
   input ← required key.Input (get (name_of key.Input) d)
@@ -44,10 +59,7 @@ settings d = do
   max_depth ← natural_at key.MaxDepth 0 32 32 d
   step ← natural_at key.HierarchyStep 0 32 0 d
   srs ← srs_at d
-  threads ← natural_at key.Threads 1 64 4 d
-  cache ← natural_at key.CacheSize 1 (2 ^ 20) 64 d
-  max_nodes ← natural_at key.MaxNodes 1 (2 ^ 20) 65536 d
-  checkpoint ← natural_at key.Checkpoint 1 (2 ^ 40) 10000000 d
+  work ← work_at d
   Ok (record {
     scale = scale;
     offset = offset;
@@ -58,26 +70,27 @@ settings d = do
     step = step;
     srs = srs;
     inputs = list;
-    threads = threads;
-    cache = cache;
-    max_nodes = max_nodes;
-    checkpoint = checkpoint;
+    threads = work.threads;
+    cache = work.cache;
+    max_nodes = work.max_nodes;
+    checkpoint = work.checkpoint;
   })
 
--- what an object with known keys says: no fewer nodes in memory than threads
+-- no fewer nodes are kept in memory than there are threads
 unfoldable pub object_reading : Data → Result Facts ConfigError
 object_reading d = do
-  facts ← settings d
-  _ ← unless_refused error.Threads (nat_le facts.threads facts.cache)
-  Ok facts
+  config ← settings d
+  _ ← unless_refused error.Threads (nat_le config.threads config.cache)
+  Ok config
 
+-- an object with known keys
 unfoldable pub value_reading : Data → Result Facts ConfigError
 value_reading d = do
   _ ← unless_refused (error.Kind key.Top) (is_some (as_object d))
   _ ← unless_refused error.Unknown (has_only top_keys d)
   object_reading d
 
--- the reading of a text
+-- the reading of a text of at most 16,777,216 bytes
 unfoldable pub reading : List ℕ → Result Facts ConfigError
 reading bytes = do
   _ ← unless_refused error.Long (nat_le (length bytes) (2 ^ 24))

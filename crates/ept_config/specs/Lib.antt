@@ -11,5 +11,7 @@ pub mod Numbers
 pub mod Inputs
 pub mod SrsTexts
 pub mod RawInputs
+pub mod RawSrs
 pub mod Values
 pub mod Configuration
+pub mod WorkFields

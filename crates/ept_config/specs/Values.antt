@@ -1,5 +1,5 @@
 -- The value of each key: its kind is looked at before its range.
-use Rattle.std.specs.Prelude.{ℕ, ℤ, Bool, pos, ◌^◌, ◌&&◌, nat_le, length, List, [], ◌∷◌, Option, Some, None, Result, Ok}
+use Rattle.std.specs.Prelude.{ℕ, ℤ, Bool, pos, ◌^◌, ◌&&◌, nat_le, length, List, [], ◌∷◌, if◌then◌else◌, Option, Some, None, Result, Ok}
 use Rattle.std.specs.Option.{option_map_or}
 use Rattle.std.specs.List.{list_all}
 use Rattle.serde_json.specs.Data.{Data}
@@ -13,7 +13,7 @@ use Rattle.ept_config.specs.Keys.{name_of}
 use Rattle.ept_config.specs.Json.{whole, wholes}
 use Rattle.ept_config.specs.Numbers.{natural_within, span_exponent, all_within, bounds_within}
 use Rattle.ept_config.specs.Inputs.{raw_input, input_within, input_items, is_input}
-use Rattle.ept_config.specs.SrsTexts.{raw_srs, srs_within, no_srs}
+use Rattle.ept_config.specs.SrsTexts.{raw_srs, fits_srs, no_srs}
 use Rattle.ept_config.specs.Facts.{InputFacts, SrsFacts}
 use Rattle.ept_config.specs.Steps.{◌>>=◌, of_kind, in_range, unless_refused}
 
@@ -39,10 +39,22 @@ bounds d = do
   box ← in_range key.Bounds (bounds_within xs)
   Ok (Some box)
 
+unfoldable pub srs_text : Option (List ℕ) → Result (Option (List ℕ)) ConfigError
+srs_text text = in_range key.Srs (if fits_srs text then Some text else None)
+
+-- the texts, where each of them fits
+unfoldable pub srs_texts : SrsFacts → Result SrsFacts ConfigError
+srs_texts raw = do
+  authority ← srs_text raw.authority
+  horizontal ← srs_text raw.horizontal
+  vertical ← srs_text raw.vertical
+  wkt ← srs_text raw.wkt
+  Ok (record { authority = authority; horizontal = horizontal; vertical = vertical; wkt = wkt })
+
 unfoldable pub srs : Data → Result SrsFacts ConfigError
 srs d = do
   raw ← of_kind key.Srs (raw_srs d)
-  in_range key.Srs (srs_within raw)
+  srs_texts raw
 
 -- one input
 unfoldable pub input : ℕ → Data → Result InputFacts ConfigError

@@ -10,11 +10,14 @@ mod json;
 mod kept;
 mod limits;
 mod numbers;
+mod reader;
 mod source_count;
 mod raw_input;
 mod srs;
+mod srs_texts;
 mod texts;
 mod values;
+mod work;
 
 pub use config::Config;
 pub use config_error::ConfigError;
@@ -26,5 +29,6 @@ pub use limits::{
     MAX_OFFSET, MAX_PATH, MAX_SCALE, MAX_SHIFT, MAX_SPAN, MAX_SRS_TEXT, MAX_STEP, MAX_THREADS,
     MAX_THRESHOLD, MIN_SPAN,
 };
+pub use reader::read_config;
 pub use source_count::SourceCount;
 pub use srs::Srs;
