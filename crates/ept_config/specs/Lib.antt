@@ -15,3 +15,4 @@ pub mod RawSrs
 pub mod Values
 pub mod Configuration
 pub mod WorkFields
+pub mod KeptOf

@@ -1,9 +1,11 @@
 //! The configuration of a build: what it is, the ranges that it keeps, and its JSON text.
 #![tactic(auto)]
 
+mod bounds_known;
 mod config;
 mod config_error;
 mod config_key;
+mod copies;
 mod input;
 mod inputs;
 mod json;
