@@ -12,11 +12,13 @@ mod json;
 mod kept;
 mod limits;
 mod numbers;
+mod raw_input;
 mod reader;
 mod source_count;
-mod raw_input;
 mod srs;
 mod srs_texts;
+#[cfg(test)]
+mod tests;
 mod texts;
 mod values;
 mod work;

@@ -113,9 +113,27 @@ fn read_object(alloc: Global, top: &Value) -> Result<Config, ConfigError>
     let offset = offset_at(top)?;
     let bounds = bounds_at(top)?;
     let s = span_at(top)?;
-    let threshold = natural_at(ConfigKey::MinNodeSize, 0, MAX_THRESHOLD, DEFAULT_THRESHOLD, top)?;
-    let max_depth = natural_at(ConfigKey::MaxDepth, 0, u64::from(MAX_DEPTH), DEFAULT_DEPTH, top)?;
-    let step = natural_at(ConfigKey::HierarchyStep, 0, u64::from(MAX_STEP), DEFAULT_STEP, top)?;
+    let threshold = natural_at(
+        ConfigKey::MinNodeSize,
+        0,
+        MAX_THRESHOLD,
+        DEFAULT_THRESHOLD,
+        top,
+    )?;
+    let max_depth = natural_at(
+        ConfigKey::MaxDepth,
+        0,
+        u64::from(MAX_DEPTH),
+        DEFAULT_DEPTH,
+        top,
+    )?;
+    let step = natural_at(
+        ConfigKey::HierarchyStep,
+        0,
+        u64::from(MAX_STEP),
+        DEFAULT_STEP,
+        top,
+    )?;
     let srs = srs_at(alloc, top)?;
     let work = work_at(top)?;
     if work.cache < work.threads {

@@ -16,12 +16,7 @@ use serde_json::Value;
 
 /// A whole number from `least` to `greatest`.
 #[tactic(auto, unfolding(crate::specs::Values::natural))]
-pub fn natural(
-    key: ConfigKey,
-    least: u64,
-    greatest: u64,
-    value: &Value,
-) -> Result<u64, ConfigError>
+pub fn natural(key: ConfigKey, least: u64, greatest: u64, value: &Value) -> Result<u64, ConfigError>
     ensures value { result ≡ natural key least greatest (view value.now) }
     ensures range { IfOk result (λ n. (least ≤ n) × (n ≤ greatest)) }
 {

@@ -36,10 +36,34 @@ pub fn work_at(top: &Value) -> Result<Work, ConfigError>
     ensures checkpoint_least { IfOk result (λ work. 1 ≤ work.checkpoint) }
     ensures checkpoint_most { IfOk result (λ work. work.checkpoint ≤ 2 ^ 40) }
 {
-    let threads = natural_at(ConfigKey::Threads, 1, u64::from(MAX_THREADS), DEFAULT_THREADS, top)?;
-    let cache = natural_at(ConfigKey::CacheSize, 1, u64::from(MAX_CACHE), DEFAULT_CACHE, top)?;
-    let max_nodes = natural_at(ConfigKey::MaxNodes, 1, u64::from(MAX_NODES), DEFAULT_NODES, top)?;
-    let checkpoint = natural_at(ConfigKey::Checkpoint, 1, MAX_CHECKPOINT, DEFAULT_CHECKPOINT, top)?;
+    let threads = natural_at(
+        ConfigKey::Threads,
+        1,
+        u64::from(MAX_THREADS),
+        DEFAULT_THREADS,
+        top,
+    )?;
+    let cache = natural_at(
+        ConfigKey::CacheSize,
+        1,
+        u64::from(MAX_CACHE),
+        DEFAULT_CACHE,
+        top,
+    )?;
+    let max_nodes = natural_at(
+        ConfigKey::MaxNodes,
+        1,
+        u64::from(MAX_NODES),
+        DEFAULT_NODES,
+        top,
+    )?;
+    let checkpoint = natural_at(
+        ConfigKey::Checkpoint,
+        1,
+        MAX_CHECKPOINT,
+        DEFAULT_CHECKPOINT,
+        top,
+    )?;
     Ok(Work {
         threads: threads as u32,
         cache: cache as u32,

@@ -8,5 +8,5 @@ abbrev pub invariant-loop-item : goal.invariant-loop-item
 invariant-loop-item l = record {
   read : IsReadTo l.scale l.items l.item-index (map input_facts l.list.items);
   scales : All (λ input. input.scale ≤ l.scale) l.list.items;
-  count : length l.list.items ≡ l.item-index
+  count : length l.list.items ≡ l.item-index;
 }

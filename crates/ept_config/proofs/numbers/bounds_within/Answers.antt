@@ -17,6 +17,9 @@ returns-clause-value c =
     let s : FitsSigned w128 (slice_index_or c.args.numbers 3 (pos 0)) = search rules in
     let t : FitsSigned w128 (slice_index_or c.args.numbers 4 (pos 0)) = search rules in
     let u : FitsSigned w128 (slice_index_or c.args.numbers 5 (pos 0)) = search rules in
-    rw (first_three c.args.numbers count, last_three c.args.numbers count,
+    rw (
+      first_three c.args.numbers count,
+      last_three c.args.numbers count,
       ← simp to_z-of_z at c.in_ok-min.ensures.value,
-      ← simp to_z-of_z at c.in_ok-place_of.ensures.value) c.bounds_between.ensures.value
+      ← simp to_z-of_z at c.in_ok-place_of.ensures.value,
+    ) c.bounds_between.ensures.value

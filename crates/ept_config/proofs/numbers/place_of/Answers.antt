@@ -18,8 +18,8 @@ returns-clause-value c =
     let y : FitsSigned w32 c.in_ok-coordinate_of-2.field-0 = search rules in
     let z : FitsSigned w32 c.in_ok-coordinate_of-3.field-0 = search rules in
     simp to_z-of_z (
-      place_of-three _ _ _ _ _ _
-      (simp to_z-of_z at c.in_ok-coordinate_of.ensures.value)
-      (simp to_z-of_z at c.in_ok-coordinate_of-2.ensures.value)
-      (simp to_z-of_z at c.in_ok-coordinate_of-3.ensures.value)
-      ∙ ap place_of (sym (three_items c.args.numbers count)))
+    place_of-three _ _ _ _ _ _
+    (simp to_z-of_z at c.in_ok-coordinate_of.ensures.value)
+    (simp to_z-of_z at c.in_ok-coordinate_of-2.ensures.value)
+    (simp to_z-of_z at c.in_ok-coordinate_of-3.ensures.value)
+    ∙ ap place_of (sym (three_items c.args.numbers count)))
