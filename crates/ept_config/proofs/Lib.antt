@@ -1,0 +1,6 @@
+pub mod Wholes
+pub mod Objects
+pub mod Signed
+pub mod Places
+pub mod EachInput
+pub mod Documents

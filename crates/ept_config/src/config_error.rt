@@ -1,0 +1,99 @@
+//! Why a text is no configuration.
+
+use crate::config_key::ConfigKey;
+use std::alloc::{AllocError, AllocFailed};
+use thiserror::Error;
+
+/// Why a text is no configuration. A text is refused for one cause: the first in the order in which
+/// `read_config` looks.
+#[derive(Clone, Copy, Debug, PartialEq, Eq, Error)]
+pub enum ConfigError {
+    /// The bytes are no JSON text.
+    #[error("the configuration is no JSON text")]
+    Json,
+    /// A key is none of a configuration's.
+    #[error("the configuration has an unknown key")]
+    Unknown,
+    /// A key that each configuration has is not there.
+    #[error("a required key is missing")]
+    Missing { key: ConfigKey },
+    /// The value of a key is of the wrong kind.
+    #[error("the value of a key is of the wrong kind")]
+    Kind { key: ConfigKey },
+    /// The value of a key is of the right kind and out of its range.
+    #[error("the value of a key is out of range")]
+    Range { key: ConfigKey },
+    /// Fewer nodes may be kept in memory than there are threads.
+    #[error("cacheSize is below threads")]
+    Threads,
+    /// The text is longer than `MAX_LENGTH` bytes.
+    #[error("the configuration is too long")]
+    Long,
+    /// Memory ran out.
+    #[error("out of memory")]
+    Memory,
+}
+
+impl From<AllocError> for ConfigError {
+    ghost use Rattle.std.specs.Prelude.{◌≡◌};
+    ghost use Rattle.ept_config.specs.declared.config_error.ConfigError.TheVariants.{Memory};
+
+    ghost from_gives = { λ _ e. e ≡ Memory };
+
+    fn from(_error: AllocError) -> ConfigError {
+        ConfigError::Memory
+    }
+}
+
+impl<T: Drop> From<AllocFailed<T>> for ConfigError {
+    ghost use Rattle.std.specs.Prelude.{◌≡◌};
+    ghost use Rattle.ept_config.specs.declared.config_error.ConfigError.TheVariants.{Memory};
+
+    ghost from_gives = { λ _ e. e ≡ Memory };
+
+    fn from(_error: AllocFailed<T>) -> ConfigError {
+        ConfigError::Memory
+    }
+}
+
+impl ConfigError {
+    ghost use Rattle.std.specs.Prelude.{◌≡◌};
+    ghost use Rattle.ept_config.specs.Refusals.{code_of, key_of, key_text_of};
+
+    /// The number of the cause, from 1.
+    pub fn code(self) -> u8
+        ensures { result ≡ code_of self }
+    {
+        match self {
+            ConfigError::Json => 1,
+            ConfigError::Unknown => 2,
+            ConfigError::Missing { .. } => 3,
+            ConfigError::Kind { .. } => 4,
+            ConfigError::Range { .. } => 5,
+            ConfigError::Threads => 6,
+            ConfigError::Long => 7,
+            ConfigError::Memory => 8,
+        }
+    }
+
+    /// The key that the cause names, if it names one.
+    pub fn key(self) -> Option<ConfigKey>
+        ensures { result ≡ key_of self }
+    {
+        match self {
+            ConfigError::Missing { key } | ConfigError::Kind { key } | ConfigError::Range { key } =>
+                Some(key),
+            _ => None,
+        }
+    }
+
+    /// The name of that key, or `-` where there is none.
+    pub fn key_text(self) -> &'static str
+        ensures { result.now ≡ key_text_of self }
+    {
+        match self.key() {
+            Some(key) => key.name(),
+            None => "-",
+        }
+    }
+}

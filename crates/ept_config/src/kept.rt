@@ -1,0 +1,47 @@
+//! What the output of a build depends on.
+
+ghost use Rattle.ept_config.specs.Ranges.{LayoutInRange, BoundsInRange};
+ghost use Rattle.std.proofs.Props.{props};
+
+use crate::input::Input;
+use crate::srs::Srs;
+use ept_point::List;
+use ept_space::Bounds;
+
+/// What the output of a build depends on. It is kept beside the output from the first commit on.
+#[derive(Debug, Drop)]
+pub struct Kept {
+    /// The exponent K of the stored unit, 10^-K native units.
+    pub scale: u8,
+    /// The place of the stored coordinate 0 on x, y and z, in native units.
+    pub offset: [i64; 3],
+    /// The bounds of all points, in stored units. The minimum is at most the maximum on each axis.
+    pub bounds: Bounds,
+    /// The exponent of the span: a node has 2^s cells an axis.
+    pub s: u8,
+    /// How many losers an octant keeps in its node before they go down to a child.
+    pub threshold: u64,
+    /// The greatest depth of a node that was asked for.
+    pub max_depth: u8,
+    /// How many depths a hierarchy file has, or 0 where there is one file.
+    pub step: u8,
+    /// The spatial reference.
+    pub srs: Srs,
+    /// The inputs in order. None has a greater scale than the build.
+    pub inputs: List<Input>,
+    pub ghost layout: { LayoutInRange scale offset s threshold max_depth step inputs } by { Prim.hlevel props },
+    pub ghost has_bounds: { BoundsInRange bounds } by { Prim.hlevel props },
+}
+
+impl Kept {
+    ghost use Rattle.std.specs.Prelude.{◌≡◌, ◌≤◌, ◌<◌, length, slice_get, Some};
+
+    /// The input of this place in the list, from 0.
+    pub fn input(&self, at: usize) -> &Input
+        requires { at < length self.now.inputs }
+        ensures input { slice_get self.now.inputs at ≡ Some result.now }
+        ensures scale { result.now.scale ≤ self.now.scale }
+    {
+        &self.inputs.as_slice()[at]
+    }
+}
