@@ -1,4 +1,4 @@
-use crate::{HierFile, hierarchy_files, keys_ascend};
+use crate::{HierError, HierFile, hierarchy_files, keys_ascend, read_hierarchy_file};
 use ept_space::{Key, read_key};
 use std::alloc::{AllocError, Global};
 use std::test::Fail;
@@ -189,6 +189,108 @@ fn nodes_in_another_order_do_not_ascend(rt: HostRuntime) -> Result<(), Fail> {
         let nodes = nodes_of(rt.alloc(), counted)?;
         assert_eq!(rt; nodes.len(), counted.len());
         assert!(rt; !keys_ascend(nodes.as_slice()));
+    }
+    Ok(())
+}
+
+// The entries of a text, behind one that stood there before.
+type Read<'a> = Result<&'a [(&'static str, i64)], HierError>;
+
+static TEXTS: [(&'static str, Read<'static>); 27] = [
+    ("[]", Err(HierError::Json)),
+    (r#"{"x":1}"#, Err(HierError::Key)),
+    (r#"{"0-0-0-0":-2}"#, Err(HierError::Count)),
+    ("", Err(HierError::Json)),
+    ("7", Err(HierError::Json)),
+    (r#"{"0-0-0-0":1"#, Err(HierError::Json)),
+    (r#"{"0-0-0-0":1}}"#, Err(HierError::Json)),
+    (r#"{"0-0-0-0":1,}"#, Err(HierError::Json)),
+    (r#"{"00-0-0-0":1}"#, Err(HierError::Key)),
+    (r#"{"1-2-0-0":1}"#, Err(HierError::Key)),
+    (r#"{"32-0-0-0":1}"#, Err(HierError::Key)),
+    (r#"{" 0-0-0-0":1}"#, Err(HierError::Key)),
+    (r#"{"0-0-0-0":1.5}"#, Err(HierError::Count)),
+    (r#"{"0-0-0-0":1e2}"#, Err(HierError::Count)),
+    (r#"{"0-0-0-0":-0}"#, Err(HierError::Count)),
+    (r#"{"0-0-0-0":"1"}"#, Err(HierError::Count)),
+    (r#"{"0-0-0-0":null}"#, Err(HierError::Count)),
+    (r#"{"0-0-0-0":9223372036854775808}"#, Err(HierError::Count)),
+    (r#"{"0-0-0-0":"1","x":1}"#, Err(HierError::Count)),
+    (r#"{"x":1,"0-0-0-0":"1"}"#, Err(HierError::Count)),
+    (r#"{"1-0-0-0":"1","0-0-0":1}"#, Err(HierError::Key)),
+    ("{}", Ok(&[])),
+    (r#"{"0-0-0-0":0}"#, Ok(&[("0-0-0-0", 0)])),
+    (
+        r#"{"0-0-0-0":9223372036854775807}"#,
+        Ok(&[("0-0-0-0", i64::MAX)]),
+    ),
+    (r#"{"0-0-0-0":1,"0-0-0-0":2}"#, Ok(&[("0-0-0-0", 2)])),
+    (
+        r#" { "1-0-0-0" : -1 , "0-0-0-0" : 5 } "#,
+        Ok(&[("0-0-0-0", 5), ("1-0-0-0", -1)]),
+    ),
+    (
+        r#"{"10-0-0-0":1,"2-0-0-0":2}"#,
+        Ok(&[("2-0-0-0", 2), ("10-0-0-0", 1)]),
+    ),
+];
+
+fn are_expected(entries: &[(Key, i64)], expected: &[(&str, i64)]) -> bool {
+    entries.len() == expected.len()
+        && entries.iter().zip(expected.iter()).all(|(entry, wanted)| {
+            read_key(wanted.0.as_bytes()) == Some(entry.0) && entry.1 == wanted.1
+        })
+}
+
+#[test]
+fn reads_files(rt: HostRuntime) -> Result<(), Fail> {
+    for (text, wanted) in TEXTS.iter() {
+        let mut entries = Vec::new(rt.alloc());
+        entries.push((Key::ROOT, -1))?;
+        let answer = read_hierarchy_file(rt.alloc(), text.as_bytes(), &mut entries);
+        let expected = match wanted {
+            Ok(expected) => *expected,
+            Err(_) => &[],
+        };
+        assert_eq!(rt; answer.err(), wanted.err(), "{text}");
+        assert!(rt; entries[0] == (Key::ROOT, -1));
+        assert!(rt; are_expected(&entries[1..], expected), "{text}");
+    }
+    Ok(())
+}
+
+#[test]
+fn refuses_what_is_no_text(rt: HostRuntime) -> Result<(), Fail> {
+    let mut entries = Vec::new(rt.alloc());
+    let answer = read_hierarchy_file(rt.alloc(), b"{\"0-0-0-0\":1,\"\xff\":1}", &mut entries);
+    assert!(rt; answer == Err(HierError::Json));
+    assert!(rt; entries.is_empty());
+    Ok(())
+}
+
+// How many of the entries are links, and what the counts of the others add up to.
+fn sums(entries: &[(Key, i64)]) -> (usize, i64) {
+    let links = entries.iter().filter(|entry| entry.1 == -1).count();
+    let counts = entries
+        .iter()
+        .filter(|entry| entry.1 != -1)
+        .fold(0i64, |sum, entry| sum.saturating_add(entry.1));
+    (links, counts)
+}
+
+// All files of the tree together have each count once, and a link to each file but the root's.
+#[test]
+fn reads_what_was_written(rt: HostRuntime) -> Result<(), Fail> {
+    let nodes = nodes_of(rt.alloc(), &TREE)?;
+    for step in 0..6 {
+        assert!(rt; keys_ascend(nodes.as_slice()));
+        let files = hierarchy_files(rt.alloc(), nodes.as_slice(), step)?;
+        let mut entries = Vec::new(rt.alloc());
+        for file in files.iter() {
+            read_hierarchy_file(rt.alloc(), file.text.as_slice(), &mut entries)?;
+        }
+        assert_eq!(rt; sums(entries.as_slice()), (files.len() - 1, 275));
+        assert_eq!(rt; entries.len(), nodes.len() + files.len() - 1);
     }
     Ok(())
 }
