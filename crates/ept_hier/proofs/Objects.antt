@@ -1,5 +1,5 @@
 -- The members of an object, as the map of them has them.
-use Rattle.std.proofs.Common.{◌≡◌, ◌∙◌, ℕ, List, [], ◌∷◌, ◌++◌, map, refl, sym, ap, subst, Option, Some, None, String, Global, string_bytes, IsPermutation}
+use Rattle.std.proofs.Common.{◌≡◌, ◌∙◌, ℕ, List, [], ◌∷◌, ◌++◌, map, refl, sym, ap, subst, Some, None, String, Global, string_bytes}
 use Rattle.std.specs.Option.{option_map, option_and_then}
 use Rattle.std.specs.List.{All, AllZip}
 use Rattle.std.proofs.lemmas.List.{map-append}
@@ -8,10 +8,8 @@ use Rattle.serde_json.specs.Data.{Data}
 use Rattle.serde_json.specs.Find.{as_object}
 use Rattle.serde_json.specs.View.{view, members_view}
 use Rattle.serde_json.specs.declared.value.Value.{Value}
-use Rattle.ept_space.specs.VoxelKey.{VoxelKey, IsKey}
-use Rattle.ept_space.specs.KeyText.{key_text}
 use Rattle.ept_hier.specs.Hierarchy.{Entry}
-use Rattle.ept_hier.specs.Reading.{Member, member_list, members_in, document, Names, NamesKey, IsEntryOf, RefusesMember, StopsAt, Refuses}
+use Rattle.ept_hier.specs.Reading.{Member, member_list, members_in, document, IsEntryOf, RefusesMember, Refuses}
 use Rattle.ept_hier.specs.Objects.{member_at, RefusesMembers}
 use Rattle.ept_hier.specs.declared.hier_error.HierError.{HierError}
 use Rattle.ept_hier.specs.declared.hier_error.HierError.TheVariants.{Json, Key, Count, Memory}
