@@ -5,3 +5,5 @@ mod Steps
 mod AllNodes
 mod Ascending
 mod HierarchyLaws
+pub mod Documents
+mod Objects

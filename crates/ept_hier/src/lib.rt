@@ -7,13 +7,17 @@
 
 mod file;
 mod files;
+mod hier_error;
 mod laws;
 mod open_text;
 mod order;
+mod reader;
 #[cfg(test)]
 mod tests;
 
 pub use file::HierFile;
 pub use files::hierarchy_files;
+pub use hier_error::HierError;
 pub use laws::hierarchy_law;
 pub use order::keys_ascend;
+pub use reader::read_hierarchy_file;

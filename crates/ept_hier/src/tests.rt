@@ -1,4 +1,4 @@
-use crate::{HierFile, hierarchy_files, keys_ascend};
+use crate::{HierError, HierFile, hierarchy_files, keys_ascend, read_hierarchy_file};
 use ept_space::{Key, read_key};
 use std::alloc::{AllocError, Global};
 use std::test::Fail;
@@ -189,6 +189,120 @@ fn nodes_in_another_order_do_not_ascend(rt: HostRuntime) -> Result<(), Fail> {
         let nodes = nodes_of(rt.alloc(), counted)?;
         assert_eq!(rt; nodes.len(), counted.len());
         assert!(rt; !keys_ascend(nodes.as_slice()));
+    }
+    Ok(())
+}
+
+// A text, why it is refused, and its entries.
+type Reading<'a> = (&'a str, Option<HierError>, &'a [(&'a str, i64)]);
+
+static TEXTS: [Reading<'static>; 27] = [
+    ("[]", Some(HierError::Json), &[]),
+    (r#"{"x":1}"#, Some(HierError::Key), &[]),
+    (r#"{"0-0-0-0":-2}"#, Some(HierError::Count), &[]),
+    ("", Some(HierError::Json), &[]),
+    ("7", Some(HierError::Json), &[]),
+    (r#"{"0-0-0-0":1"#, Some(HierError::Json), &[]),
+    (r#"{"0-0-0-0":1}}"#, Some(HierError::Json), &[]),
+    (r#"{"0-0-0-0":1,}"#, Some(HierError::Json), &[]),
+    (r#"{"00-0-0-0":1}"#, Some(HierError::Key), &[]),
+    (r#"{"1-2-0-0":1}"#, Some(HierError::Key), &[]),
+    (r#"{"32-0-0-0":1}"#, Some(HierError::Key), &[]),
+    (r#"{" 0-0-0-0":1}"#, Some(HierError::Key), &[]),
+    (r#"{"0-0-0-0":1.5}"#, Some(HierError::Count), &[]),
+    (r#"{"0-0-0-0":1e2}"#, Some(HierError::Count), &[]),
+    (r#"{"0-0-0-0":-0}"#, Some(HierError::Count), &[]),
+    (r#"{"0-0-0-0":"1"}"#, Some(HierError::Count), &[]),
+    (r#"{"0-0-0-0":null}"#, Some(HierError::Count), &[]),
+    (
+        r#"{"0-0-0-0":9223372036854775808}"#,
+        Some(HierError::Count),
+        &[],
+    ),
+    (r#"{"0-0-0-0":"1","x":1}"#, Some(HierError::Count), &[]),
+    (r#"{"x":1,"0-0-0-0":"1"}"#, Some(HierError::Count), &[]),
+    (r#"{"1-0-0-0":"1","0-0-0":1}"#, Some(HierError::Key), &[]),
+    ("{}", None, &[]),
+    (r#"{"0-0-0-0":0}"#, None, &[("0-0-0-0", 0)]),
+    (
+        r#"{"0-0-0-0":9223372036854775807}"#,
+        None,
+        &[("0-0-0-0", i64::MAX)],
+    ),
+    (r#"{"0-0-0-0":1,"0-0-0-0":2}"#, None, &[("0-0-0-0", 2)]),
+    (
+        r#" { "1-0-0-0" : -1 , "0-0-0-0" : 5 } "#,
+        None,
+        &[("0-0-0-0", 5), ("1-0-0-0", -1)],
+    ),
+    (
+        r#"{"10-0-0-0":1,"2-0-0-0":2}"#,
+        None,
+        &[("2-0-0-0", 2), ("10-0-0-0", 1)],
+    ),
+];
+
+fn are_expected(entries: &[(Key, i64)], expected: &[(&str, i64)]) -> bool {
+    entries.len() == expected.len()
+        && entries.iter().zip(expected.iter()).all(|(entry, wanted)| {
+            read_key(wanted.0.as_bytes()) == Some(entry.0) && entry.1 == wanted.1
+        })
+}
+
+// Whether the entries stand behind the one that was there before.
+fn are_behind(entries: &[(Key, i64)], expected: &[(&str, i64)]) -> bool {
+    match entries.split_first() {
+        Some((first, rest)) => *first == (Key::ROOT, -1) && are_expected(rest, expected),
+        None => false,
+    }
+}
+
+#[test]
+fn reads_files(rt: HostRuntime) -> Result<(), Fail> {
+    for (text, refusal, expected) in TEXTS.iter() {
+        let mut entries = Vec::new(rt.alloc());
+        entries.push((Key::ROOT, -1))?;
+        let answer = read_hierarchy_file(rt.alloc(), text.as_bytes(), &mut entries);
+        assert_eq!(rt; answer.err(), *refusal, "{text}");
+        assert!(rt; are_behind(entries.as_slice(), expected), "{text}");
+    }
+    Ok(())
+}
+
+#[test]
+fn refuses_what_is_no_text(rt: HostRuntime) -> Result<(), Fail> {
+    let mut entries = Vec::new(rt.alloc());
+    let answer = read_hierarchy_file(rt.alloc(), b"{\"0-0-0-0\":1,\"\xff\":1}", &mut entries);
+    assert!(rt; answer == Err(HierError::Json));
+    assert!(rt; entries.is_empty());
+    Ok(())
+}
+
+// How many of the entries are links, and what the counts of the others add up to.
+fn sums(entries: &[(Key, i64)]) -> (usize, i64) {
+    let links = entries.iter().filter(|entry| entry.1 == -1).count();
+    let counts = entries
+        .iter()
+        .filter(|entry| entry.1 != -1)
+        .fold(0i64, |sum, entry| sum.saturating_add(entry.1));
+    (links, counts)
+}
+
+// All files of the tree together have each count once, and a link to each file but the root's.
+#[test]
+fn reads_what_was_written(rt: HostRuntime) -> Result<(), Fail> {
+    let nodes = nodes_of(rt.alloc(), &TREE)?;
+    for step in 0..6 {
+        assert!(rt; keys_ascend(nodes.as_slice()));
+        let files = hierarchy_files(rt.alloc(), nodes.as_slice(), step)?;
+        let mut entries = Vec::new(rt.alloc());
+        for file in files.iter() {
+            read_hierarchy_file(rt.alloc(), file.text.as_slice(), &mut entries)?;
+        }
+        let (links, counts) = sums(entries.as_slice());
+        assert_eq!(rt; links.saturating_add(1), files.len());
+        assert_eq!(rt; links.saturating_add(nodes.len()), entries.len());
+        assert_eq!(rt; counts, 275);
     }
     Ok(())
 }
