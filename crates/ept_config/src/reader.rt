@@ -101,7 +101,7 @@ fn read_value(alloc: Global, top: &Value) -> Result<Config, ConfigError>
     read_object(alloc, top)
 }
 
-#[tactic(auto, unfolding(crate::specs::Configuration::object_reading, crate::specs::Configuration::settings))]
+#[tactic(auto, unfolding(crate::specs::Configuration::object_reading, crate::specs::Configuration::settings, crate::specs::Configuration::values))]
 fn read_object(alloc: Global, top: &Value) -> Result<Config, ConfigError>
     ensures ok { IfOk result (λ config. object_reading (view top.now) ≡ Ok (facts config)) }
     ensures err { IfErr result (λ e. e ≢ ConfigError.Memory → object_reading (view top.now) ≡ Err e) }
