@@ -1,7 +1,7 @@
 //! The configuration of a build: what it is, the ranges that it keeps, and its JSON text.
 #![tactic(auto)]
 
-mod bounds_known;
+mod bounds_range;
 mod config;
 mod config_error;
 mod config_key;
@@ -24,6 +24,7 @@ mod texts;
 mod values;
 mod work;
 
+pub use bounds_range::bounds_known;
 pub use config::Config;
 pub use config_error::ConfigError;
 pub use config_key::ConfigKey;
@@ -38,3 +39,4 @@ pub use limits::{
 pub use reader::read_config;
 pub use source_count::SourceCount;
 pub use srs::Srs;
+pub use texts::{is_path, is_srs_text};
