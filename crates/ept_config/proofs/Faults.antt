@@ -1,15 +1,14 @@
 -- Refusals come in stages: each part of the reading is refused within some of them.
-use Rattle.std.proofs.Common.{ℕ, ◌≡◌, ◌≤◌, Bool, true, false, List, [], ◌∷◌, refl, subst, arith, lit≤}
-use Rattle.std.specs.Prelude.{⊤, Option, Some, None, Result, Ok, Err}
+use Rattle.std.proofs.Common.{ℕ, ◌≡◌, ◌≤◌, Bool, true, false, List, [], ◌∷◌, refl, subst, arith}
+use Rattle.std.specs.Prelude.{Option, Some, None, Result, Ok, Err}
 use Rattle.std.specs.Option.{ok_or, option_map_or}
 use Rattle.serde_json.specs.Data.{Data}
-use Rattle.serde_json.specs.Find.{get}
 use Rattle.ept_config.specs.declared.config_key.ConfigKey.{ConfigKey}
 use Rattle.ept_config.specs.declared.config_key.ConfigKey.TheVariants as key
 use Rattle.ept_config.specs.declared.config_error.ConfigError.{ConfigError}
 use Rattle.ept_config.specs.declared.config_error.ConfigError.TheVariants.{Json, Unknown, Missing, Kind, Range, Threads, Long, Memory}
 use Rattle.ept_config.specs.Steps.{◌>>=◌, unless_refused}
-use Rattle.ept_config.specs.Facts.{Facts, InputFacts, SrsFacts}
+use Rattle.ept_config.specs.Facts.{SrsFacts}
 use Rattle.ept_config.specs.Values.{natural, span, offset, bounds, srs, srs_text, srs_texts, input, each_input, list_inputs, inputs, natural_at, span_at, offset_at, bounds_at, srs_at}
 use Rattle.ept_config.specs.Configuration.{work_at, values}
 

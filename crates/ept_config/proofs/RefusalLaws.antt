@@ -1,6 +1,6 @@
 -- When each refusal comes.
-use Rattle.std.proofs.Common.{ℕ, ◌≡◌, ◌≢◌, ◌≤◌, ◌<◌, ◌^◌, Bool, true, false, List, length, refl, sym, ap, ◌∙◌, arith, rules, lit≤, lit<, subst}
-use Rattle.std.specs.Prelude.{◌↔◌, nat_le, is_some, IsSome, Option, Some, None, Result, Ok, Err, codes}
+use Rattle.std.proofs.Common.{ℕ, ◌≡◌, ◌≢◌, ◌≤◌, ◌<◌, ◌^◌, Bool, true, false, List, length, refl, ap, arith, lit≤, lit<, subst}
+use Rattle.std.specs.Prelude.{nat_le, is_some, IsSome, Option, Some, None, Result, Ok, Err, codes}
 use Rattle.std.specs.Option.{ok_or}
 use Rattle.std.proofs.lemmas.Bool.Decides.{nat_tests}
 use Rattle.serde_json.specs.Data.{Data}

@@ -1,5 +1,5 @@
 -- When each refusal comes, in words of its own. Each law stands on the contract of a function of `laws`.
-use Rattle.std.specs.Prelude.{ℕ, ◌≡◌, ◌≤◌, ◌<◌, ◌^◌, ◌↔◌, List, length, true, false, Option, Some, None, IsSome, Result, Ok, Err, codes}
+use Rattle.std.specs.Prelude.{ℕ, ◌≡◌, ◌≤◌, ◌<◌, ◌^◌, ◌↔◌, List, length, true, false, Some, None, IsSome, Ok, Err, codes}
 use Rattle.serde_json.specs.Data.{Data}
 use Rattle.serde_json.specs.Find.{get, as_object}
 use Rattle.ept_config.specs.declared.config_key.ConfigKey.TheVariants as key
