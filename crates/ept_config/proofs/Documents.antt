@@ -1,5 +1,5 @@
 -- The value of a text, by what `serde_json` says of bytes.
-use Rattle.std.proofs.Common.{ℕ, ◌≡◌, List, Bool, true, false, Option, None, Some, refl, sym}
+use Rattle.std.proofs.Common.{ℕ, ◌≡◌, List, Bool, true, false, None, Some, refl, sym}
 use Rattle.std.specs.Prelude.{if◌then◌else◌}
 use Rattle.std.specs.Str.{IsUtf8, is_utf8}
 use Rattle.std.proofs.lemmas.Str.{is_utf8-from_IsUtf8, IsUtf8-from_is_utf8}

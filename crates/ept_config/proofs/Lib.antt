@@ -4,3 +4,5 @@ pub mod Signed
 pub mod Places
 pub mod EachInput
 pub mod Documents
+pub mod Faults
+pub mod RefusalLaws

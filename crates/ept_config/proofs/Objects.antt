@@ -10,7 +10,7 @@ use Rattle.ept_config.specs.Inputs.{InputMembers, plain_input, input_object, raw
 use Rattle.std.specs.List.{list_all, list_any}
 use Rattle.std.specs.Map.{keys_of}
 use Rattle.serde_json.specs.Data.{Data}
-use Rattle.serde_json.specs.View.{view, items_of, members_view}
+use Rattle.serde_json.specs.View.{items_of, members_view}
 use Rattle.serde_json.specs.declared.value.Value.{Value}
 use Rattle.ept_config.specs.Json as json
 

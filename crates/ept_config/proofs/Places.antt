@@ -1,7 +1,6 @@
 -- Lists of three and of six numbers by their items.
-use Rattle.std.proofs.Common.{ℕ, ℤ, pos, ◌≡◌, List, [], ◌∷◌, length, take, drop, get_or, Option, Some, refl, ap, sym, ◌∙◌, arith}
+use Rattle.std.proofs.Common.{ℕ, ℤ, pos, ◌≡◌, List, [], ◌∷◌, length, take, drop, Some, refl, arith}
 use Rattle.std.specs.Prelude.{slice_index_or}
-use Rattle.ept_config.specs.Json.{each}
 use Rattle.ept_config.specs.Numbers.{coordinate_of, place_of}
 
 abbrev item : List ℤ → ℕ → ℤ

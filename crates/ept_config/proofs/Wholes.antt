@@ -1,5 +1,5 @@
 -- An array of another length is not so many whole numbers.
-use Rattle.std.proofs.Common.{ℕ, ◌≡◌, ◌<◌, List, length, map, Option, None, arith, rules}
+use Rattle.std.proofs.Common.{ℕ, ◌≡◌, ◌<◌, List, length, map, None, arith}
 use Rattle.std.proofs.lemmas.List.{length-map}
 use Rattle.std.proofs.lemmas.Bool.Decides.{nat_tests}
 use Rattle.serde_json.specs.View.{view}

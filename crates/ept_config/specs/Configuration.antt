@@ -1,5 +1,5 @@
 -- What a text is read as: a configuration, or the refusal of the first check that fails.
-use Rattle.std.specs.Prelude.{ℕ, ◌^◌, List, [], ◌∷◌, length, nat_lt, nat_le, is_some, if◌then◌else◌, Option, Some, None, Result, Ok, Err}
+use Rattle.std.specs.Prelude.{ℕ, ◌^◌, List, [], ◌∷◌, length, nat_le, is_some, Result, Ok}
 use Rattle.std.specs.Option.{ok_or}
 use Rattle.serde_json.specs.Data.{Data}
 use Rattle.serde_json.specs.Find.{get, as_object}
@@ -45,11 +45,9 @@ work_at d = do
   checkpoint ← natural_at key.Checkpoint 1 (2 ^ 40) 10000000 d
   Ok (record { threads = threads; cache = cache; max_nodes = max_nodes; checkpoint = checkpoint })
 
--- what the keys say, each by itself: required keys are there, and each value is of its kind and in its range
-unfoldable pub settings : Data → Result Facts ConfigError
-settings d = do
-  input ← required key.Input (get (name_of key.Input) d)
-  scale_value ← required key.Scale (get (name_of key.Scale) d)
+-- what the keys say, in the order of the keys: each value is of its kind and in its range
+unfoldable pub values : Data → Data → Data → Result Facts ConfigError
+values input scale_value d = do
   scale ← natural key.Scale 0 9 scale_value
   list ← inputs scale input
   offset ← offset_at d
@@ -75,6 +73,13 @@ settings d = do
     max_nodes = work.max_nodes;
     checkpoint = work.checkpoint;
   })
+
+-- the required keys are there
+unfoldable pub settings : Data → Result Facts ConfigError
+settings d = do
+  input ← required key.Input (get (name_of key.Input) d)
+  scale_value ← required key.Scale (get (name_of key.Scale) d)
+  values input scale_value d
 
 -- no fewer nodes are kept in memory than there are threads
 unfoldable pub object_reading : Data → Result Facts ConfigError

@@ -1,5 +1,5 @@
 -- The inputs of a configuration.
-use Rattle.std.specs.Prelude.{ℕ, ℤ, pos, Bool, ◌&&◌, ◌||◌, ◌^◌, List, [], ◌∷◌, length, codes, nat_le, is_some, if◌then◌else◌, Option, Some, None, option_map, option_and_then}
+use Rattle.std.specs.Prelude.{ℕ, ℤ, pos, Bool, ◌&&◌, ◌||◌, ◌^◌, List, [], ◌∷◌, codes, nat_le, is_some, if◌then◌else◌, Option, Some, None, option_map, option_and_then}
 use Rattle.std.specs.Option.{option_map_or, option_or}
 use Rattle.std.specs.Result.{result_ok}
 use Rattle.std.specs.List.{list_all}
@@ -7,7 +7,7 @@ use Rattle.hex.specs.Hex.{decode_sized}
 use Rattle.serde_json.specs.Data.{Data}
 use Rattle.serde_json.specs.Find.{get, as_str}
 use Rattle.ept_config.specs.Texts.{is_path}
-use Rattle.ept_config.specs.Json.{whole, wholes, array_items, each, has_only, if_given}
+use Rattle.ept_config.specs.Json.{whole, wholes, array_items, has_only, if_given}
 use Rattle.ept_config.specs.Numbers.{natural_within, all_within}
 use Rattle.ept_config.specs.Facts.{InputFacts}
 

@@ -3,7 +3,7 @@ use Rattle.std.specs.Prelude.{ℕ, ℤ, Bool, false, List, [], ◌∷◌, length
 use Rattle.std.specs.List.{list_all, list_any}
 use Rattle.std.specs.Str.{is_utf8, bytes_eq}
 use Rattle.serde_json.specs.Data.{Data, Items, no_items, item, Members, no_members, member}
-use Rattle.serde_json.specs.Find.{as_number, as_integer, as_array, as_object, as_str, get}
+use Rattle.serde_json.specs.Find.{as_number, as_integer, as_array, as_object}
 use Rattle.serde_json.specs.Read.{read}
 
 -- the value that bytes are the text of

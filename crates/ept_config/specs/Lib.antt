@@ -16,3 +16,4 @@ pub mod Values
 pub mod Configuration
 pub mod WorkFields
 pub mod KeptOf
+pub mod Laws

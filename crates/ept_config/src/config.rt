@@ -3,7 +3,7 @@
 ghost use Rattle.ept_config.specs.Ranges.{LayoutInRange, GivenBoundsInRange, WorkInRange};
 ghost use Rattle.std.proofs.Props.{props};
 
-use crate::bounds_known::bounds_known;
+use crate::bounds_range::bounds_known;
 use crate::copies::{copy_of_inputs, copy_of_srs};
 use crate::input::Input;
 use crate::kept::Kept;

@@ -1,7 +1,7 @@
 //! The configuration of a build: what it is, the ranges that it keeps, and its JSON text.
 #![tactic(auto)]
 
-mod bounds_known;
+mod bounds_range;
 mod config;
 mod config_error;
 mod config_key;
@@ -10,6 +10,7 @@ mod input;
 mod inputs;
 mod json;
 mod kept;
+mod laws;
 mod limits;
 mod numbers;
 mod raw_input;
@@ -23,11 +24,13 @@ mod texts;
 mod values;
 mod work;
 
+pub use bounds_range::bounds_known;
 pub use config::Config;
 pub use config_error::ConfigError;
 pub use config_key::ConfigKey;
 pub use input::Input;
 pub use kept::Kept;
+pub use laws::{object_law, required_law, text_law, threads_law};
 pub use limits::{
     EXPECT_WIDTH, MAX_CACHE, MAX_CHECKPOINT, MAX_DEPTH, MAX_INPUTS, MAX_LENGTH, MAX_NODES,
     MAX_OFFSET, MAX_PATH, MAX_SCALE, MAX_SHIFT, MAX_SPAN, MAX_SRS_TEXT, MAX_STEP, MAX_THREADS,
@@ -36,3 +39,4 @@ pub use limits::{
 pub use reader::read_config;
 pub use source_count::SourceCount;
 pub use srs::Srs;
+pub use texts::{is_path, is_srs_text};

@@ -42,7 +42,20 @@ const KEYS: [&str; 13] = [
     "checkpoint",
 ];
 
-/// Reads a configuration from its JSON text.
+/// Reads a configuration from its JSON text, which is an object.
+///
+/// `input` and `scale` are required, and each other key has a default. An input is a text, its path, or
+/// an object of `path` and, if they are given, `scale`, `shift` and `expect`. A whole number is written
+/// without a fraction or an exponent and fits 64 bits. Of a key that stands twice the last counts.
+///
+/// # Errors
+///
+/// The first check that fails: `Long` where there are more than `MAX_LENGTH` bytes, `Json` where they
+/// are the text of no JSON value, `Kind` of `Top` where the value is no object, `Unknown` where it has
+/// another key, `Missing` for `input` and then for `scale`, then `Kind` before `Range` for `scale` and
+/// then for each key in the order `input`, `offset`, `bounds`, `span`, `minNodeSize`, `maxDepth`,
+/// `hierarchyStep`, `srs`, `threads`, `cacheSize`, `maxNodes`, `checkpoint`, and at last `Threads` where
+/// `cacheSize` is below `threads`. `Memory` may come at any place.
 #[tactic(auto, unfolding(crate::specs::Configuration::reading))]
 pub fn read_config(alloc: Global, bytes: &[u8]) -> Result<Config, ConfigError>
     ensures ok { IfOk result (λ config. reading bytes.now ≡ Ok (facts config)) }
@@ -101,7 +114,7 @@ fn read_value(alloc: Global, top: &Value) -> Result<Config, ConfigError>
     read_object(alloc, top)
 }
 
-#[tactic(auto, unfolding(crate::specs::Configuration::object_reading, crate::specs::Configuration::settings))]
+#[tactic(auto, unfolding(crate::specs::Configuration::object_reading, crate::specs::Configuration::settings, crate::specs::Configuration::values))]
 fn read_object(alloc: Global, top: &Value) -> Result<Config, ConfigError>
     ensures ok { IfOk result (λ config. object_reading (view top.now) ≡ Ok (facts config)) }
     ensures err { IfErr result (λ e. e ≢ ConfigError.Memory → object_reading (view top.now) ≡ Err e) }

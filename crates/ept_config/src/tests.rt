@@ -441,5 +441,17 @@ fn keeps_what_the_output_depends_on(rt: HostRuntime) -> Result<(), Fail> {
     assert_eq!(rt; text_of(&kept.srs.horizontal), "25832");
     assert_eq!(rt; kept.inputs.as_slice().len(), 2);
     assert_eq!(rt; kept.input(0).path.as_str(), "a b.las");
+    let again = kept.copy(rt.alloc())?;
+    assert_eq!(rt; again.s, 4);
+    assert_eq!(rt; again.inputs.as_slice().len(), 2);
     Ok(())
+}
+
+#[test]
+fn judges_texts(rt: HostRuntime) {
+    assert!(rt; is_path("a/\u{e4} b.las"));
+    assert!(rt; !is_path(""));
+    assert!(rt; !is_path("a\n"));
+    assert!(rt; is_srs_text(""));
+    assert!(rt; !is_srs_text("\u{7f}"));
 }

@@ -1,4 +1,3 @@
-use Rattle.std.proofs.Common.{rules}
 use Rattle.ept_config.specs.Json.{array_items}
 use Rattle.ept_config.proofs.Objects.{list_of-items_of}
 use Rattle.ept_config.proofs.json.array_items.Goals as goal

@@ -1,4 +1,3 @@
-use Rattle.std.proofs.Common.{rules, ◌∙◌}
 use Rattle.ept_config.specs.Json.{has_only}
 use Rattle.ept_config.proofs.Objects.{list_all-keys_of, list_any-map}
 use Rattle.ept_config.proofs.json.has_only.Goals as goal

@@ -1,6 +1,5 @@
-use Rattle.std.proofs.Common.{ℤ, pos, List, ◌≡◌, length, rules, FitsSigned, ap, ◌∙◌}
-use Rattle.std.specs.Prelude.{slice_index_or, Some}
-use Rattle.std.specs.Int.{w32}
+use Rattle.std.proofs.Common.{pos, ◌≡◌, length, rules, FitsSigned}
+use Rattle.std.specs.Prelude.{slice_index_or}
 use mir.Syntax.{w128}
 use Rattle.std.proofs.lemmas.Int.{to_z-of_z}
 use Rattle.ept_config.specs.Numbers.{bounds_within}

@@ -1,9 +1,9 @@
 use Rattle.std.proofs.Common.{ℤ, pos, List, ◌≡◌, length, rules, FitsSigned, ap, sym, ◌∙◌}
-use Rattle.std.specs.Prelude.{slice_index_or, Some}
+use Rattle.std.specs.Prelude.{slice_index_or}
 use Rattle.std.specs.Int.{w32}
 use mir.Syntax.{w128}
 use Rattle.std.proofs.lemmas.Int.{to_z-of_z}
-use Rattle.ept_config.specs.Numbers.{place_of, coordinate_of}
+use Rattle.ept_config.specs.Numbers.{place_of}
 use Rattle.ept_config.proofs.Places.{three_items, place_of-three}
 use Rattle.ept_config.proofs.numbers.place_of.Goals as goal
 
