@@ -13,13 +13,14 @@ use std::collections::BTreeMap;
 
 /// The hierarchy files of the nodes, in key order (Entwine Point Tile 1.1.0, "ept-hierarchy").
 ///
-/// Each node is given by its key and the number of its points. The keys ascend, and each node's parent
-/// is there, so that the root comes first. With step 0 the root's file has all nodes. With another step
-/// a node whose depth is a multiple of it has a file: of itself and the nodes below it down to `step`
-/// depths deeper, where -1 stands for a node's count and the node has a file of its own.
+/// Each node is given by its key and the number of its points, and the keys ascend. With step 0 the
+/// root's file has all nodes. With another step each node whose depth is a multiple of it has a file,
+/// of itself and the nodes below it down to `step` depths deeper; -1 stands there for the count of a
+/// node at that depth, which has a file of its own. Of an octree, where each node's parent is there,
+/// each count stands in one file ([`hierarchy_law`](crate::hierarchy_law)).
 ///
-/// Each node is looked up once in an ordered map of the files so far and written into at most two of
-/// them, so the time grows with the number of nodes times the logarithm of the number of files.
+/// Each node is looked up at most twice in an ordered map of the files so far and written into at most
+/// two of them, so the time grows with the number of nodes times the logarithm of the number of files.
 pub fn hierarchy_files(
     alloc: Global,
     nodes: &[(Key, u64)],
