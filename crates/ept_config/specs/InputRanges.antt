@@ -1,7 +1,6 @@
 -- What an input keeps.
 use Rattle.std.specs.Prelude.{ℕ, ℤ, pos, ◌≡◌, ◌<◌, ◌≤◌, ◌^◌, List, length, slice_index, slice_index_or, unsigned_abs, true, Option}
 use Rattle.std.specs.Option.{ForSome}
-use Rattle.ept_config.specs.declared.limits.TheConstants.{MAX_SCALE, MAX_SHIFT, EXPECT_WIDTH}
 use Rattle.ept_config.specs.Texts.{is_path}
 
 -- three numbers, each at most this far from 0
@@ -18,6 +17,6 @@ pub record AreBytes (width : ℕ) (bytes : List ℕ) : Type 0 where
 
 pub record InputInRange (path : List ℕ) (scale : ℕ) (shift : List ℤ) (expect : Option (List ℕ)) : Type 0 where
   pub path_is : is_path path ≡ true
-  pub scale_most : scale ≤ MAX_SCALE
-  pub shift_within : AreThreeWithin MAX_SHIFT shift
-  pub expect_is : ForSome expect (AreBytes EXPECT_WIDTH)
+  pub scale_most : scale ≤ 9
+  pub shift_within : AreThreeWithin (10 ^ 15) shift
+  pub expect_is : ForSome expect (AreBytes 48)

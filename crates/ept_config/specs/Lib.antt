@@ -4,3 +4,16 @@ pub mod SrsRanges
 pub mod Ranges
 pub mod Keys
 pub mod Refusals
+pub mod Steps
+pub mod Json
+pub mod Facts
+pub mod Numbers
+pub mod Inputs
+pub mod SrsTexts
+pub mod RawInputs
+pub mod RawSrs
+pub mod Values
+pub mod Configuration
+pub mod WorkFields
+pub mod KeptOf
+pub mod Laws

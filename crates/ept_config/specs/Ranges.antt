@@ -1,5 +1,5 @@
 -- What a configuration keeps.
-use Rattle.std.specs.Prelude.{ℕ, ℤ, ◌≡◌, ◌≤◌, List, length, FitsSigned, Option}
+use Rattle.std.specs.Prelude.{ℕ, ℤ, ◌≡◌, ◌≤◌, ◌^◌, List, length, FitsSigned, Option}
 use Rattle.std.specs.Option.{ForSome}
 use Rattle.std.specs.List.{All}
 use Rattle.std.specs.Int.{w32}
@@ -7,20 +7,19 @@ use Rattle.ept_space.specs.declared.bounds.Bounds.{Bounds}
 use Rattle.ept_space.specs.Place.{coordinate}
 use Rattle.ept_space.specs.CubeOfBounds.{HasPlace}
 use Rattle.ept_config.specs.declared.input.Input.{Input}
-use Rattle.ept_config.specs.declared.limits.TheConstants.{MAX_SCALE, MAX_OFFSET, MIN_SPAN, MAX_SPAN, MAX_THRESHOLD, MAX_DEPTH, MAX_STEP, MAX_INPUTS, MAX_THREADS, MAX_CACHE, MAX_NODES, MAX_CHECKPOINT}
 use Rattle.ept_config.specs.InputRanges.{AreThreeWithin}
 
 -- what the octree is built of, and how its points are stored
 pub record LayoutInRange (scale : ℕ) (offset : List ℤ) (s threshold max_depth step : ℕ) (inputs : List Input) : Type 0 where
-  pub scale_most : scale ≤ MAX_SCALE
-  pub offset_within : AreThreeWithin MAX_OFFSET offset
-  pub span_least : MIN_SPAN ≤ s
-  pub span_most : s ≤ MAX_SPAN
-  pub threshold_most : threshold ≤ MAX_THRESHOLD
-  pub depth_most : max_depth ≤ MAX_DEPTH
-  pub step_most : step ≤ MAX_STEP
+  pub scale_most : scale ≤ 9
+  pub offset_within : AreThreeWithin (10 ^ 9) offset
+  pub span_least : 1 ≤ s
+  pub span_most : s ≤ 10
+  pub threshold_most : threshold ≤ 2 ^ 31
+  pub depth_most : max_depth ≤ 32
+  pub step_most : step ≤ 32
   pub inputs_some : 1 ≤ length inputs
-  pub inputs_most : length inputs ≤ MAX_INPUTS
+  pub inputs_most : length inputs ≤ 65535
   pub inputs_scale : All (λ input. input.scale ≤ scale) inputs
 
 -- three coordinates of 32 bits
@@ -42,10 +41,10 @@ GivenBoundsInRange bounds = ForSome bounds BoundsInRange
 -- how much of the machine is used
 pub record WorkInRange (threads cache max_nodes checkpoint : ℕ) : Type 0 where
   pub threads_least : 1 ≤ threads
-  pub threads_most : threads ≤ MAX_THREADS
+  pub threads_most : threads ≤ 64
   pub cache_holds : threads ≤ cache
-  pub cache_most : cache ≤ MAX_CACHE
+  pub cache_most : cache ≤ 2 ^ 20
   pub nodes_least : 1 ≤ max_nodes
-  pub nodes_most : max_nodes ≤ MAX_NODES
+  pub nodes_most : max_nodes ≤ 2 ^ 20
   pub checkpoint_least : 1 ≤ checkpoint
-  pub checkpoint_most : checkpoint ≤ MAX_CHECKPOINT
+  pub checkpoint_most : checkpoint ≤ 2 ^ 40

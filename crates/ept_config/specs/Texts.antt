@@ -2,7 +2,6 @@
 use Rattle.std.specs.Prelude.{ℕ, Bool, List, length, nat_le, ◌&&◌, ◌==◌, not}
 use Rattle.std.specs.List.{list_all}
 use Rattle.std.specs.Str.{is_utf8}
-use Rattle.ept_config.specs.declared.limits.TheConstants.{MAX_PATH, MAX_SRS_TEXT}
 
 -- no control byte: neither below 32 nor 127
 abbrev pub is_shown : ℕ → Bool
@@ -14,8 +13,8 @@ is_plain text = is_utf8 text && list_all is_shown text
 
 -- the path of an input: such text, 1 to 4,096 bytes long
 unfoldable pub is_path : List ℕ → Bool
-is_path text = is_plain text && (nat_le 1 (length text) && nat_le (length text) MAX_PATH)
+is_path text = is_plain text && (nat_le 1 (length text) && nat_le (length text) 4096)
 
 -- a text of the spatial reference: such text, at most 65,536 bytes long
 unfoldable pub is_srs_text : List ℕ → Bool
-is_srs_text text = is_plain text && nat_le (length text) MAX_SRS_TEXT
+is_srs_text text = is_plain text && nat_le (length text) 65536

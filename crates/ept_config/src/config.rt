@@ -3,10 +3,14 @@
 ghost use Rattle.ept_config.specs.Ranges.{LayoutInRange, GivenBoundsInRange, WorkInRange};
 ghost use Rattle.std.proofs.Props.{props};
 
+use crate::bounds_range::bounds_known;
+use crate::copies::{copy_of_inputs, copy_of_srs};
 use crate::input::Input;
+use crate::kept::Kept;
 use crate::srs::Srs;
-use ept_point::List;
+use ept_point::{List, Memory};
 use ept_space::Bounds;
+use std::alloc::Global;
 
 /// The configuration of a build: what its output depends on, and how much of the machine it may use.
 #[derive(Debug, Drop)]
@@ -44,7 +48,9 @@ pub struct Config {
 }
 
 impl Config {
-    ghost use Rattle.std.specs.Prelude.{◌≡◌, ◌≤◌, ◌<◌, length, slice_get, Some};
+    ghost use Rattle.std.specs.Prelude.{◌≡◌, ◌≤◌, ◌<◌, length, slice_get, Some, IfOk};
+    ghost use Rattle.ept_space.specs.CubeOfBounds.{HasPlace};
+    ghost use Rattle.ept_config.specs.KeptOf.{IsKeptOf};
 
     /// The input of this place in the list, from 0.
     pub fn input(&self, at: usize) -> &Input
@@ -53,5 +59,26 @@ impl Config {
         ensures scale { result.now.scale ≤ self.now.scale }
     {
         &self.inputs.as_slice()[at]
+    }
+
+    /// What the output of a build with these bounds depends on.
+    pub fn kept(&self, alloc: Global, bounds: &Bounds) -> Result<Kept, Memory>
+        requires { HasPlace bounds.now }
+        ensures { IfOk result (IsKeptOf self.now bounds.now) }
+    {
+        bounds_known(bounds);
+        let srs = copy_of_srs(alloc, &self.srs)?;
+        let inputs = copy_of_inputs(alloc, &self.inputs)?;
+        Ok(Kept {
+            scale: self.scale,
+            offset: self.offset,
+            bounds: *bounds,
+            s: self.s,
+            threshold: self.threshold,
+            max_depth: self.max_depth,
+            step: self.step,
+            srs,
+            inputs,
+        })
     }
 }

@@ -3,10 +3,12 @@
 ghost use Rattle.ept_config.specs.Ranges.{LayoutInRange, BoundsInRange};
 ghost use Rattle.std.proofs.Props.{props};
 
+use crate::copies::{copy_of_inputs, copy_of_srs};
 use crate::input::Input;
 use crate::srs::Srs;
-use ept_point::List;
+use ept_point::{List, Memory};
 use ept_space::Bounds;
+use std::alloc::Global;
 
 /// What the output of a build depends on. It is kept beside the output from the first commit on.
 #[derive(Debug, Drop)]
@@ -34,7 +36,7 @@ pub struct Kept {
 }
 
 impl Kept {
-    ghost use Rattle.std.specs.Prelude.{◌≡◌, ◌≤◌, ◌<◌, length, slice_get, Some};
+    ghost use Rattle.std.specs.Prelude.{◌≡◌, ◌≤◌, ◌<◌, length, slice_get, Some, IfOk};
 
     /// The input of this place in the list, from 0.
     pub fn input(&self, at: usize) -> &Input
@@ -43,5 +45,24 @@ impl Kept {
         ensures scale { result.now.scale ≤ self.now.scale }
     {
         &self.inputs.as_slice()[at]
+    }
+
+    /// The same again.
+    pub fn copy(&self, alloc: Global) -> Result<Kept, Memory>
+        ensures { IfOk result (λ copy. copy ≡ self.now) }
+    {
+        let srs = copy_of_srs(alloc, &self.srs)?;
+        let inputs = copy_of_inputs(alloc, &self.inputs)?;
+        Ok(Kept {
+            scale: self.scale,
+            offset: self.offset,
+            bounds: self.bounds,
+            s: self.s,
+            threshold: self.threshold,
+            max_depth: self.max_depth,
+            step: self.step,
+            srs,
+            inputs,
+        })
     }
 }

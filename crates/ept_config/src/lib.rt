@@ -1,24 +1,42 @@
 //! The configuration of a build: what it is, the ranges that it keeps, and its JSON text.
 #![tactic(auto)]
 
+mod bounds_range;
 mod config;
 mod config_error;
 mod config_key;
+mod copies;
 mod input;
+mod inputs;
+mod json;
 mod kept;
+mod laws;
 mod limits;
+mod numbers;
+mod raw_input;
+mod reader;
 mod source_count;
 mod srs;
+mod srs_texts;
+#[cfg(test)]
+mod tests;
+mod texts;
+mod values;
+mod work;
 
+pub use bounds_range::bounds_known;
 pub use config::Config;
 pub use config_error::ConfigError;
 pub use config_key::ConfigKey;
 pub use input::Input;
 pub use kept::Kept;
+pub use laws::{object_law, required_law, text_law, threads_law};
 pub use limits::{
     EXPECT_WIDTH, MAX_CACHE, MAX_CHECKPOINT, MAX_DEPTH, MAX_INPUTS, MAX_LENGTH, MAX_NODES,
     MAX_OFFSET, MAX_PATH, MAX_SCALE, MAX_SHIFT, MAX_SPAN, MAX_SRS_TEXT, MAX_STEP, MAX_THREADS,
     MAX_THRESHOLD, MIN_SPAN,
 };
+pub use reader::read_config;
 pub use source_count::SourceCount;
 pub use srs::Srs;
+pub use texts::{is_path, is_srs_text};

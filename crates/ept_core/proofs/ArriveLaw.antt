@@ -13,7 +13,8 @@ use Rattle.ept_space.proofs.PlaceKeys.{octant_at-below, InBox-child}
 use Rattle.ept_sample.specs.Place.{place}
 use Rattle.ept_sample.specs.Ids.{comes_before, HasDistinctIds, in_id_order}
 use Rattle.ept_sample.specs.Arrivals.{loses, octant, losers, overflows, is_open, leaves, kept, all_sent}
-use Rattle.ept_sample.proofs.Members.{IsMember, IsMember-left, IsMember-right, IsMember-append}
+use Rattle.ept_sample.specs.Members.{IsMember}
+use Rattle.ept_sample.proofs.Members.{IsMember-left, IsMember-right, IsMember-append}
 use Rattle.ept_sample.proofs.Choices.{either, not_both}
 use Rattle.ept_sample.proofs.Ascending.{IsRising}
 use Rattle.ept_sample.proofs.IdLaws.{HasDistinctIds-IsPermutation, IsMember-in_id_order, in_id_order-IsMember, IsPermutation-in_id_order, IsRising-in_id_order, in_id_order-IsRising}

@@ -13,7 +13,8 @@ use Rattle.ept_space.specs.OctreeCube.{OctreeCube, InCube, InBox}
 use Rattle.ept_sample.specs.Place.{place, AllInCube, AllInBox}
 use Rattle.ept_sample.specs.Ids.{HasDistinctIds, in_id_order}
 use Rattle.ept_sample.specs.declared.tiles.Tile.{Tile}
-use Rattle.ept_sample.proofs.Members.{IsMember, IsMember-right, all-member, All-members}
+use Rattle.ept_sample.specs.Members.{IsMember}
+use Rattle.ept_sample.proofs.Members.{IsMember-right, all-member, All-members}
 use Rattle.ept_core.specs.declared.flight.Flight.{Flight}
 use Rattle.ept_core.specs.State.{State, Entry, node_at, IsHeld}
 use Rattle.ept_core.specs.Law.{KeepsLaw}

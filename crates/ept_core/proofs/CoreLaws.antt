@@ -12,7 +12,8 @@ use Rattle.ept_sample.specs.Arrivals.{none_open, all_octants}
 use Rattle.ept_sample.specs.Sampling.{sampling, is_node}
 use Rattle.ept_sample.specs.SamplingLaws.{CanBeSampled}
 use Rattle.ept_sample.specs.Nodes.{node_keys, sampled}
-use Rattle.ept_sample.proofs.Members.{IsMember, IsMember-left, All-members}
+use Rattle.ept_sample.specs.Members.{IsMember}
+use Rattle.ept_sample.proofs.Members.{IsMember-left, All-members}
 use Rattle.ept_sample.proofs.Choices.{either}
 use Rattle.ept_sample.proofs.SamplingLaws.{given-IsMember, is_node-root, node-cases, node-given, IsMember-sampling}
 use Rattle.ept_sample.proofs.NodeLaws.{node_keys-is}

@@ -6,7 +6,8 @@ use Rattle.ept_point.specs.declared.point.Point.{Point}
 use Rattle.ept_space.specs.VoxelKey.{VoxelKey}
 use Rattle.ept_space.specs.declared.cube.Rules.{Rules}
 use Rattle.ept_sample.specs.Ids.{same_id, HasDistinctIds}
-use Rattle.ept_sample.proofs.Members.{IsMember, IsMember-left, IsMember-right, IsMember-append, IsMember-flat_map, member-flat_map}
+use Rattle.ept_sample.specs.Members.{IsMember}
+use Rattle.ept_sample.proofs.Members.{IsMember-left, IsMember-right, IsMember-append, IsMember-flat_map, member-flat_map}
 use Rattle.ept_sample.proofs.Ascending.{IsRising}
 use Rattle.ept_sample.proofs.KeyOrder.{key_before}
 use Rattle.ept_sample.proofs.IdLaws.{count_by-append, HasDistinctIds-IsPermutation, IsMember-IsPermutation}

@@ -14,7 +14,8 @@ use Rattle.ept_sample.specs.Ids.{HasDistinctIds}
 use Rattle.ept_sample.specs.Arrivals.{loses, octant, losers, leaves, none_open}
 use Rattle.ept_sample.specs.Sampling.{given, sampling, is_node}
 use Rattle.ept_sample.specs.Nodes.{node_keys, tile_at, sampled}
-use Rattle.ept_sample.proofs.Members.{IsMember, IsMember-map, member-map, all-member, All-members}
+use Rattle.ept_sample.specs.Members.{IsMember}
+use Rattle.ept_sample.proofs.Members.{IsMember-map, member-map, all-member, All-members}
 use Rattle.ept_sample.proofs.Choices.{either, not_both}
 use Rattle.ept_sample.proofs.IdLaws.{HasDistinctIds-IsPermutation, HasDistinctIds-IsRising, in_id_order-members, in_id_order-IsRising}
 use Rattle.ept_sample.proofs.ArrivalLaws.{loses-beaten, best, leaves-loses, leaves-open, overflows-depth, overflows-more}

@@ -13,7 +13,8 @@ use Rattle.ept_space.proofs.PlaceKeys.{octant_at-below}
 use Rattle.ept_sample.specs.Place.{place}
 use Rattle.ept_sample.specs.Ids.{HasDistinctIds}
 use Rattle.ept_sample.specs.Arrivals.{loses, octant, losers, overflows, is_open, leaves, kept, sent, all_octants, all_sent}
-use Rattle.ept_sample.proofs.Members.{IsMember, IsMember-filter, IsMember-kept, IsMember-flat_map, member-flat_map}
+use Rattle.ept_sample.specs.Members.{IsMember}
+use Rattle.ept_sample.proofs.Members.{IsMember-filter, IsMember-kept, IsMember-flat_map, member-flat_map}
 use Rattle.ept_sample.proofs.Choices.{and_left, and_right, and_both}
 use Rattle.ept_sample.proofs.IdLaws.{HasDistinctIds-filter}
 use Rattle.ept_sample.proofs.ArrivalLaws.{loses-beaten, beaten-loses, sent-IsMember, loses-kept, same_number}

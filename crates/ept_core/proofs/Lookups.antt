@@ -9,7 +9,7 @@ use Rattle.std.specs.List.Sorted.{IsStrictlySortedBy}
 use Rattle.std.proofs.lemmas.Bool.{false≢true}
 use Rattle.ept_space.specs.VoxelKey.{VoxelKey, same_key, key_cmp}
 use Rattle.ept_space.proofs.Within.{same_key-same}
-use Rattle.ept_sample.proofs.Members.{IsMember}
+use Rattle.ept_sample.specs.Members.{IsMember}
 use Rattle.ept_sample.proofs.Ascending.{IsRising, IsBeforeAll}
 use Rattle.ept_sample.proofs.KeyOrder.{key_before, key_order, key-self, key-equal}
 use Rattle.ept_sample.proofs.Choices.{not_both}

@@ -10,7 +10,8 @@ use Rattle.ept_point.specs.declared.point.Point.{Point}
 use Rattle.ept_space.specs.VoxelKey.{VoxelKey, same_key, key_cmp}
 use Rattle.ept_space.proofs.Within.{same_key-true, same_key-same}
 use Rattle.ept_sample.specs.Nodes.{with_key, in_key_order}
-use Rattle.ept_sample.proofs.Members.{IsMember, member-any, any-member, IsMember-map, member-map}
+use Rattle.ept_sample.specs.Members.{IsMember}
+use Rattle.ept_sample.proofs.Members.{member-any, any-member, IsMember-map, member-map}
 use Rattle.ept_sample.proofs.Ascending.{IsRising, IsBeforeAll, same_rising}
 use Rattle.ept_sample.proofs.Choices.{either, not_both}
 use Rattle.ept_sample.proofs.KeyOrder.{key_before, key_order, key-self, key-equal, with_key-put, IsRising-in_key_order, IsMember-in_key_order, in_key_order-IsMember}

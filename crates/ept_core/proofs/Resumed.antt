@@ -18,7 +18,8 @@ use Rattle.ept_sample.specs.Arrivals.{loses, octant, losers, overflows, leaves, 
 use Rattle.ept_sample.specs.Sampling.{given, sampling, is_node}
 use Rattle.ept_sample.specs.SamplingLaws.{CanBeSampled}
 use Rattle.ept_sample.specs.Nodes.{node_keys, tile_at, sampled}
-use Rattle.ept_sample.proofs.Members.{IsMember, IsMember-left, IsMember-map, member-map, all-member, All-members}
+use Rattle.ept_sample.specs.Members.{IsMember}
+use Rattle.ept_sample.proofs.Members.{IsMember-left, IsMember-map, member-map, all-member, All-members}
 use Rattle.ept_sample.proofs.Ascending.{IsRising}
 use Rattle.ept_sample.proofs.KeyOrder.{key_before}
 use Rattle.ept_sample.proofs.Choices.{either, not_both}

@@ -15,7 +15,8 @@ use Rattle.ept_sample.specs.Place.{place}
 use Rattle.ept_sample.specs.Ids.{same_id, HasDistinctIds}
 use Rattle.ept_sample.specs.Arrivals.{loses, octant, losers, overflows, leaves, none_open}
 use Rattle.ept_sample.specs.Sampling.{given, is_node}
-use Rattle.ept_sample.proofs.Members.{IsMember, IsMember-filter, IsMember-kept, member-any, any-member, all-member}
+use Rattle.ept_sample.specs.Members.{IsMember}
+use Rattle.ept_sample.proofs.Members.{IsMember-filter, IsMember-kept, member-any, any-member, all-member}
 use Rattle.ept_sample.proofs.IdLaws.{same_id-self, same_member, HasDistinctIds-filter, HasDistinctIds-IsRising, IsMember-in_id_order, IsPermutation-members}
 use Rattle.ept_sample.proofs.ArrivalLaws.{leaves-from}
 use Rattle.ept_sample.proofs.SamplingLaws.{given-root, leaves-given, depth-side, is_node-given, IsRising-given}

@@ -1,15 +1,11 @@
--- What points that arrive do to a node, where it is known which of its octants are open afterwards.
-use Rattle.std.specs.Prelude.{ℕ, zero, suc, Bool, false, ◌&&◌, ◌==◌, List, [], ◌++◌, filter, slice_index_or, if◌then◌else◌}
+-- The flights of the points that leave a node, where it is known which of its octants are open afterwards.
+use Rattle.std.specs.Prelude.{ℕ, zero, suc, Bool, false, ◌==◌, List, [], ◌++◌, filter, slice_index_or, if◌then◌else◌}
 use Rattle.ept_point.specs.declared.point.Point.{Point}
 use Rattle.ept_space.specs.declared.cube.Rules.{Rules}
 use Rattle.ept_space.specs.VoxelKey.{VoxelKey, child}
-use Rattle.ept_sample.specs.Arrivals.{loses, octant}
+use Rattle.ept_sample.specs.Arrivals.{octant}
 use Rattle.ept_core.specs.declared.flight.Flight.{Flight}
 use Rattle.ept_core.specs.Steps.{flight_of}
-
--- a given point loses, and its octant is open
-abbrev pub goes : Rules → ℕ → List Point → List Bool → Point → Bool
-goes rules depth given opened p = slice_index_or opened (octant rules depth p) false && loses rules depth given p
 
 -- the losers of an octant, if it is open
 abbrev pub part_of : Rules → ℕ → List Point → Bool → ℕ → List Point

@@ -11,7 +11,7 @@ use Rattle.ept_sample.specs.Ids.{HasDistinctIds, in_id_order}
 use Rattle.ept_sample.specs.Arrivals.{loses, losers, octant}
 use Rattle.ept_sample.specs.Nodes.{in_key_order}
 use Rattle.ept_sample.specs.SamplingLaws.{CanBeSampled}
-use Rattle.ept_sample.proofs.Members.{IsMember}
+use Rattle.ept_sample.specs.Members.{IsMember}
 use Rattle.ept_core.specs.declared.flight.Flight.{Flight}
 use Rattle.ept_core.specs.State.{State, Entry, node_at, has_node, has_open, keys_of, held, IsHeld, IsHeldWithin}
 

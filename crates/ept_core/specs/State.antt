@@ -2,7 +2,7 @@
 use Rattle.std.specs.Prelude.{◌≡◌, ℕ, Bool, true, false, ◌⊎◌, List, [], ◌∷◌, ◌++◌, map, slice_index_or, if◌then◌else◌}
 use Rattle.std.specs.List.{flat_map, list_any}
 use Rattle.ept_sample.specs.declared.tiles.Tile.{Tile}
-use Rattle.ept_sample.proofs.Members.{IsMember}
+use Rattle.ept_sample.specs.Members.{IsMember}
 use Rattle.ept_point.specs.declared.point.Point.{Point}
 use Rattle.ept_space.specs.VoxelKey.{VoxelKey, same_key, is_within}
 use Rattle.ept_core.specs.declared.flight.Flight.{Flight}

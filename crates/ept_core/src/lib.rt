@@ -24,5 +24,5 @@ pub use error::StepError;
 pub use event::Event;
 pub use flight::Flight;
 pub use laws::{key_law, landed_law, start_law, step_law};
-pub use node::{Node, OCTANTS};
+pub use node::Node;
 pub use play::run_events;

@@ -1,9 +1,7 @@
 //! The nodes of the core.
 
 use ept_point::{List, Point};
-
-/// How many octants a box has.
-pub const OCTANTS: usize = 8;
+use ept_sample::OCTANTS;
 
 /// A node: its points in id order, which of its octants are open, and whether its points are in memory
 /// or spilled.

@@ -10,8 +10,8 @@ ghost use Rattle.ept_core.specs.declared.flight.Flight.{Flight};
 use crate::arrival::{Effect, add_flight, effect_on, gather};
 use crate::flight::Flight;
 use crate::machine::Machine;
-use crate::node::OCTANTS;
 use ept_point::{Memory, Point};
+use ept_sample::OCTANTS;
 use ept_space::Key;
 
 // The place of the actor's flight of that number among the flights.

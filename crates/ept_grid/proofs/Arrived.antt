@@ -6,7 +6,8 @@ use Rattle.ept_point.specs.declared.point.Point.{Point}
 use Rattle.ept_space.specs.declared.cube.Rules.{Rules}
 use Rattle.ept_sample.specs.Ids.{HasDistinctIds, placed_by_id}
 use Rattle.ept_sample.specs.Arrivals.{octant, losers, overflows, is_open, leaves, kept, sent}
-use Rattle.ept_sample.proofs.Members.{IsMember, All-members}
+use Rattle.ept_sample.specs.Members.{IsMember}
+use Rattle.ept_sample.proofs.Members.{All-members}
 use Rattle.ept_sample.proofs.Choices.{either}
 use Rattle.ept_sample.proofs.IdLaws.{count_by-cons, count_by-IsPermutation, IsPermutation-placed}
 use Rattle.ept_sample.proofs.ArrivalLaws.{IsMember-sent, leaves-open, sent-open, overflows-depth, overflows-more}

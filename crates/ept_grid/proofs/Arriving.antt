@@ -14,7 +14,8 @@ use Rattle.ept_sample.specs.Place.{place}
 use Rattle.ept_sample.specs.Ids.{comes_before, same_id, HasDistinctIds, placed_by_id, in_id_order}
 use Rattle.ept_sample.specs.Rank.{beats}
 use Rattle.ept_sample.specs.Arrivals.{loses, octant, losers, overflows, is_open, leaves, kept, sent}
-use Rattle.ept_sample.proofs.Members.{IsMember, IsMember-filter, all-member, All-members, member-map}
+use Rattle.ept_sample.specs.Members.{IsMember}
+use Rattle.ept_sample.proofs.Members.{IsMember-filter, all-member, All-members, member-map}
 use Rattle.ept_sample.proofs.Choices.{either, not_both}
 use Rattle.ept_sample.proofs.RankLaws.{beats-self}
 use Rattle.ept_sample.proofs.ArrivalLaws.{loses-IsPermutation, loses-kept}

@@ -16,7 +16,8 @@ use Rattle.ept_space.proofs.PlaceKeys.{InCube-box}
 use Rattle.ept_sample.specs.Place.{place, AllInBox, AllInCube}
 use Rattle.ept_sample.specs.Ids.{comes_before}
 use Rattle.ept_sample.specs.Arrivals.{loses, octant}
-use Rattle.ept_sample.proofs.Members.{IsMember, IsMember-map, all-member, All-members}
+use Rattle.ept_sample.specs.Members.{IsMember}
+use Rattle.ept_sample.proofs.Members.{IsMember-map, all-member, All-members}
 use Rattle.ept_sample.proofs.Ascending.{IsRising}
 use Rattle.ept_sample.proofs.IdLaws.{IsRising-IsAscending}
 use Rattle.ept_grid.specs.declared.slot.Slot.{Slot}

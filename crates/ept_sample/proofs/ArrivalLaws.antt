@@ -12,7 +12,8 @@ use Rattle.ept_space.specs.declared.cube.Rules.{Rules}
 use Rattle.ept_sample.specs.Ids.{comes_before}
 use Rattle.ept_sample.specs.Rank.{beats}
 use Rattle.ept_sample.specs.Arrivals.{loses, octant, losers, overflows, is_open, leaves, kept, sent, none_open}
-use Rattle.ept_sample.proofs.Members.{IsMember, IsMember-filter, IsMember-kept, member-any, any-member}
+use Rattle.ept_sample.specs.Members.{IsMember}
+use Rattle.ept_sample.proofs.Members.{IsMember-filter, IsMember-kept, member-any, any-member}
 use Rattle.ept_sample.proofs.Ascending.{IsRising, IsRising-filter}
 use Rattle.ept_sample.proofs.Best.{winner_of, is_beaten-filter}
 use Rattle.ept_sample.proofs.RankLaws.{contest}

@@ -2,7 +2,8 @@
 use Rattle.std.proofs.Common.{◌≡◌, inl, inr, Bool, true, false, cond, List, [], ◌∷◌, refl, sym, ap, ◌∙◌, subst, filter}
 use Rattle.std.specs.Prelude.{⊤}
 use Rattle.std.proofs.lemmas.Bool.{false≢true}
-use Rattle.ept_sample.proofs.Members.{IsMember, IsMember-filter}
+use Rattle.ept_sample.specs.Members.{IsMember}
+use Rattle.ept_sample.proofs.Members.{IsMember-filter}
 
 -- a strict order of all: nothing is before itself, it goes on
 pub record IsOrder {X : Type 0} (before : X → X → Bool) : Type 0 where

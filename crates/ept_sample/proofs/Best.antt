@@ -2,7 +2,8 @@
 use Rattle.std.proofs.Common.{◌≡◌, Bool, true, false, ◌||◌, inl, inr, List, [], ◌∷◌, refl, ap, sym, ◌∙◌, filter}
 use Rattle.std.specs.List.{list_any}
 use Rattle.std.proofs.lemmas.Bool.{false≢true}
-use Rattle.ept_sample.proofs.Members.{IsMember, member-any, any-member, IsMember-kept, IsMember-filter}
+use Rattle.ept_sample.specs.Members.{IsMember}
+use Rattle.ept_sample.proofs.Members.{member-any, any-member, IsMember-kept, IsMember-filter}
 use Rattle.ept_sample.proofs.Choices.{either, not_both, first_of_two}
 
 -- a strict order in part

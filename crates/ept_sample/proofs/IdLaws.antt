@@ -10,7 +10,8 @@ use Rattle.ept_point.specs.declared.point.Point.{Point}
 use Rattle.ept_point.specs.declared.id.PointId.{PointId}
 use Rattle.ept_point.specs.Order.{IsAscending, IsBefore, id}
 use Rattle.ept_sample.specs.Ids.{same_id, comes_before, HasDistinctIds, placed_by_id, in_id_order}
-use Rattle.ept_sample.proofs.Members.{IsMember, IsMember-contains, contains-IsMember}
+use Rattle.ept_sample.specs.Members.{IsMember}
+use Rattle.ept_sample.proofs.Members.{IsMember-contains, contains-IsMember}
 use Rattle.ept_sample.proofs.Ascending.{IsOrder, IsBeforeAll, IsRising, same_rising}
 use Rattle.ept_sample.proofs.Choices.{either, not_both, and_both}
 

@@ -9,7 +9,8 @@ use Rattle.std.proofs.lemmas.Bool.{false≢true}
 use Rattle.ept_sample.specs.Nodes.{with_key, in_key_order}
 use Rattle.std.specs.List.{AllPairs}
 use Rattle.std.proofs.lemmas.List.Kept.{AllPairs-cons}
-use Rattle.ept_sample.proofs.Members.{IsMember, All-members}
+use Rattle.ept_sample.specs.Members.{IsMember}
+use Rattle.ept_sample.proofs.Members.{All-members}
 use Rattle.ept_sample.proofs.Ascending.{IsOrder, IsBeforeAll, IsRising}
 
 four_cmp : ℕ → ℕ → ℕ → ℕ → ℕ → ℕ → ℕ → ℕ → Ordering

@@ -9,6 +9,7 @@ pub mod ArrivalLaws
 pub mod SamplingLaws
 pub mod NodeLaws
 pub mod WalkLaws
+pub mod Openings
 pub mod WalkNodes
 pub mod Batches
 pub mod Parts

@@ -3,12 +3,8 @@ use Rattle.std.proofs.Common.{◌≡◌, suc, zero, ◌<◌, Bool, true, false, 
 use Rattle.std.specs.List.{All, Contains, list_any, flat_map}
 use Rattle.std.proofs.lemmas.List.Elements.{All-head, All-tail, All-cons, All-nil}
 use Rattle.std.proofs.lemmas.Bool.{false≢true}
+use Rattle.ept_sample.specs.Members.{IsMember}
 use Rattle.ept_sample.proofs.Choices.{or_right}
-
--- x is one of the items
-abbrev pub IsMember : {X : Type 0} → X → List X → Type 0
-IsMember x [] = ⊥
-IsMember x (y ∷ ys) = (y ≡ x) ⊎ IsMember x ys
 
 -- ---- joined lists
 

@@ -9,7 +9,8 @@ use Rattle.ept_space.specs.VoxelKey.{VoxelKey, root, parent, octant_of}
 use Rattle.ept_sample.specs.Ids.{same_id, HasDistinctIds}
 use Rattle.ept_sample.specs.Arrivals.{loses, octant, losers, overflows, is_open, leaves, sent, none_open}
 use Rattle.ept_sample.specs.Sampling.{given, is_node}
-use Rattle.ept_sample.proofs.Members.{IsMember, IsMember-filter, IsMember-kept, contains-IsMember}
+use Rattle.ept_sample.specs.Members.{IsMember}
+use Rattle.ept_sample.proofs.Members.{IsMember-filter, IsMember-kept, contains-IsMember}
 use Rattle.ept_sample.proofs.Choices.{not_both, and_left, and_right, and_both}
 use Rattle.ept_sample.proofs.IdLaws.{same_id-self, HasDistinctIds-head, HasDistinctIds-tail, HasDistinctIds-filter, HasDistinctIds-IsRising, IsMember-IsPermutation, IsMember-in_id_order, in_id_order-IsMember}
 use Rattle.ept_sample.proofs.ArrivalLaws.{loses-beaten, beaten-loses, IsMember-sent, sent-IsMember, leaves-loses, leaves-open, leaves-from, overflows-depth, overflows-more}

@@ -13,7 +13,8 @@ use Rattle.ept_sample.specs.Place.{place, AllInCube}
 use Rattle.ept_sample.specs.Ids.{same_id, HasDistinctIds}
 use Rattle.ept_sample.specs.Sampling.{given, sampling, is_node}
 use Rattle.ept_sample.specs.Nodes.{keys_down_to, candidate_keys, node_keys, tile_at, sampled}
-use Rattle.ept_sample.proofs.Members.{IsMember, IsMember-left, IsMember-right, IsMember-filter, IsMember-kept, IsMember-flat_map, member-flat_map, all-member}
+use Rattle.ept_sample.specs.Members.{IsMember}
+use Rattle.ept_sample.proofs.Members.{IsMember-left, IsMember-right, IsMember-filter, IsMember-kept, IsMember-flat_map, member-flat_map, all-member}
 use Rattle.ept_sample.proofs.Ascending.{IsRising, same_rising}
 use Rattle.ept_sample.proofs.KeyOrder.{key_before, key_order, IsMember-in_key_order, in_key_order-IsMember, IsRising-in_key_order}
 use Rattle.ept_sample.proofs.IdLaws.{count_by-append, count_by-cons, same_id-trans, same_id-sym, same_member, HasDistinctIds-IsRising, IsPermutation-members}

@@ -15,7 +15,7 @@ use Rattle.ept_space.proofs.PlaceKeys.{octant_at-below}
 use Rattle.ept_sample.specs.Place.{place}
 use Rattle.ept_sample.specs.Ids.{HasDistinctIds}
 use Rattle.ept_sample.specs.Arrivals.{loses, octant, losers, overflows, is_open, leaves, kept, sent, all_octants, all_sent}
-use Rattle.ept_sample.proofs.Members.{IsMember}
+use Rattle.ept_sample.specs.Members.{IsMember}
 use Rattle.ept_sample.proofs.IdLaws.{HasDistinctIds-filter, HasDistinctIds-IsPermutation, IsPermutation-members, IsMember-IsPermutation, count_by-IsPermutation}
 use Rattle.ept_sample.proofs.ArrivalLaws.{loses-IsPermutation, IsMember-stays, stays-IsMember, IsMember-sent, sent-IsMember}
 use Rattle.ept_sample.proofs.Batches.{split}

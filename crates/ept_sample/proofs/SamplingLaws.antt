@@ -17,7 +17,8 @@ use Rattle.ept_sample.specs.Place.{place, AllInCube}
 use Rattle.ept_sample.specs.Ids.{comes_before, HasDistinctIds, in_id_order}
 use Rattle.ept_sample.specs.Arrivals.{loses, octant, is_open, leaves, kept, sent, none_open}
 use Rattle.ept_sample.specs.Sampling.{given_at, given, sampling, is_node}
-use Rattle.ept_sample.proofs.Members.{IsMember, all-member}
+use Rattle.ept_sample.specs.Members.{IsMember}
+use Rattle.ept_sample.proofs.Members.{all-member}
 use Rattle.ept_sample.proofs.Ascending.{IsRising}
 use Rattle.ept_sample.proofs.IdLaws.{IsRising-in_id_order, in_id_order-IsMember, IsMember-in_id_order, in_id_order-IsPermutation}
 use Rattle.ept_sample.proofs.ArrivalLaws.{IsMember-sent, sent-IsMember, IsMember-stays, stays-IsMember, leaves-open, overflows-depth, IsRising-sent, IsRising-kept, best, stays-winner, BestOver}

@@ -1,13 +1,12 @@
 -- The walk from the top down, step by step.
-use Rattle.std.proofs.Common.{◌≡◌, ◌≢◌, ◌∙◌, ℕ, zero, suc, ◌+◌, ◌-◌, ◌≤◌, ◌<◌, Bool, true, false, cond, ◌&&◌, ◌==◌, nat_lt, List, [], ◌∷◌, ◌++◌, refl, sym, ap, subst, arith, filter, length, count_by, get_or, set, get_or-set_other, get_or-set_same}
+use Rattle.std.proofs.Common.{◌≡◌, ◌∙◌, ℕ, zero, suc, ◌+◌, ◌-◌, ◌≤◌, ◌<◌, Bool, true, false, cond, ◌&&◌, ◌==◌, nat_lt, List, [], ◌∷◌, ◌++◌, refl, sym, ap, subst, arith, filter, length}
 use Rattle.std.proofs.lemmas.Bool.Decides.{nat_tests}
 use Rattle.std.proofs.lemmas.List.{append-nil}
 use Rattle.ept_space.proofs.Family.{depth-child}
-use borrow.Author.Count.{below_more}
 use Rattle.ept_point.specs.declared.point.Point.{Point}
 use Rattle.ept_space.specs.declared.cube.Rules.{Rules}
-use Rattle.ept_sample.specs.Arrivals.{loses, octant, losers, overflows, is_open, leaves, kept, none_open}
-use Rattle.ept_sample.specs.Walk.{has_too_many, Node, node_of, nodes_of_octants, nodes_below, with_nodes}
+use Rattle.ept_sample.specs.Arrivals.{loses, octant, losers, overflows, kept, none_open, has_too_many}
+use Rattle.ept_sample.specs.Walk.{Node, node_of, nodes_of_octants, nodes_below, with_nodes}
 use Rattle.std.specs.BTreeMap.{insert_entry}
 use Rattle.std.specs.List.{All}
 use Rattle.std.proofs.lemmas.List.Sums.{length-filter}
@@ -24,49 +23,10 @@ use Rattle.ept_sample.proofs.Choices.{and_right}
 and_left_false : (b c : Bool) → b ≡ false → (b && c) ≡ false
 and_left_false b c e = ap (λ (x : Bool). x && c) e
 
-and_right_false : (b c : Bool) → c ≡ false → (b && c) ≡ false
-and_right_false true c e = e
-and_right_false false c e = refl
-
--- ---- who leaves
-
 -- no octant overflows at the greatest depth
 pub overflows-deepest : (rules : Rules) (depth : ℕ) (given : List Point) (o : ℕ) → nat_lt depth rules.cube.depth ≡ false → overflows rules depth given o ≡ false
 unfolding overflows
 overflows-deepest rules depth given o deepest = and_left_false (nat_lt depth rules.cube.depth) _ deepest
-
--- so nobody leaves there
-pub leaves-deepest : (rules : Rules) (depth : ℕ) (given : List Point) (p : Point) (above : Bool) → above ≡ nat_lt depth rules.cube.depth → above ≡ false → false ≡ leaves rules depth none_open given p
-unfolding leaves is_open
-leaves-deepest rules depth given p above is deepest =
-    sym (and_right_false (loses rules depth given p) (overflows rules depth given (octant rules depth p)) (overflows-deepest rules depth given (octant rules depth p) (sym is ∙ deepest)))
-
--- nobody leaves an octant that is not open
-pub leaves-closed : (rules : Rules) (depth : ℕ) (given : List Point) (p : Point) (o : ℕ) (opened : Bool) → o ≡ octant rules depth p → opened ≡ overflows rules depth given o → opened ≡ false → opened ≡ leaves rules depth none_open given p
-unfolding leaves is_open
-leaves-closed rules depth given p o opened here is closed =
-    closed ∙ sym (and_right_false (loses rules depth given p) (overflows rules depth given (octant rules depth p)) (ap (λ (n : ℕ). overflows rules depth given n) (sym here) ∙ (sym is ∙ closed)))
-
-and_true : (b c : Bool) → c ≡ true → b ≡ (b && c)
-and_true true c e = sym e
-and_true false c e = refl
-
--- of an open one, who loses leaves
-pub leaves-opened : (rules : Rules) (depth : ℕ) (given : List Point) (p : Point) (o : ℕ) (opened lost : Bool) → o ≡ octant rules depth p → opened ≡ overflows rules depth given o → opened ≡ true → lost ≡ loses rules depth given p → lost ≡ leaves rules depth none_open given p
-unfolding leaves is_open
-leaves-opened rules depth given p o opened lost here is open' e =
-    e ∙ and_true (loses rules depth given p) (overflows rules depth given (octant rules depth p)) (ap (λ (n : ℕ). overflows rules depth given n) (sym here) ∙ (sym is ∙ open'))
-
--- ---- which octants overflow
-
--- one more test written
-pub written_more : (test : ℕ → Bool) (written : List Bool) (i : ℕ) (b : Bool) → i < length written → ((o : ℕ) → o < i → get_or written o false ≡ test o) → b ≡ test i → (o : ℕ) → o < i + 1 → get_or (set written i b) o false ≡ test o
-written_more test written i b inside before is =
-    below_more (λ o. get_or (set written i b) o false ≡ test o) i (λ o less. let other : o ≢ i = omega arith in rw get_or-set_other (before o less)) (rw get_or-set_same is)
-
-pub too_many : (rules : Rules) (depth : ℕ) (losing : List Point) (o : ℕ) (above many : Bool) (count : ℕ) → above ≡ nat_lt depth rules.cube.depth → above ≡ true → many ≡ nat_lt rules.threshold count → count ≡ count_by (λ p. octant rules depth p == o) losing → many ≡ has_too_many rules depth losing o
-too_many rules depth losing o above many count is yes' more e =
-    more ∙ (ap (λ (n : ℕ). nat_lt rules.threshold n) e ∙ ap (λ (b : Bool). b && nat_lt rules.threshold (count_by (λ p. octant rules depth p == o) losing)) (sym yes' ∙ is))
 
 -- ---- losers, octant by octant
 

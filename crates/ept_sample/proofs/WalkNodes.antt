@@ -20,7 +20,8 @@ use Rattle.ept_sample.specs.Arrivals.{losers, overflows, sent, none_open}
 use Rattle.ept_sample.specs.Sampling.{given, sampling, is_node}
 use Rattle.ept_sample.specs.Nodes.{with_key, tile_at, sampled}
 use Rattle.ept_sample.specs.Walk.{Node, node_of, nodes_of_octants, nodes_below, with_nodes, tile_of}
-use Rattle.ept_sample.proofs.Members.{IsMember, IsMember-left, IsMember-right, IsMember-append, IsMember-map, member-map}
+use Rattle.ept_sample.specs.Members.{IsMember}
+use Rattle.ept_sample.proofs.Members.{IsMember-left, IsMember-right, IsMember-append, IsMember-map, member-map}
 use Rattle.ept_sample.proofs.Ascending.{IsRising}
 use Rattle.ept_sample.proofs.KeyOrder.{key_before, key-equal, with_key-put}
 use Rattle.ept_sample.proofs.ArrivalLaws.{sent-none_open, overflows-depth, overflows-more}

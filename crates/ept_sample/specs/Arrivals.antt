@@ -2,7 +2,7 @@
 --
 -- `given` are the points that a node of a depth was given so far: those that it has, and those that arrive.
 -- `was_open` says which of its octants were open before.
-use Rattle.std.specs.Prelude.{ℕ, Bool, false, ◌&&◌, ◌||◌, not, ◌==◌, nat_lt, List, [], ◌∷◌, length, filter}
+use Rattle.std.specs.Prelude.{ℕ, Bool, false, ◌&&◌, ◌||◌, not, ◌==◌, nat_lt, List, [], ◌∷◌, length, filter, count_by, slice_index_or}
 use Rattle.std.specs.List.{list_any, flat_map}
 use Rattle.ept_point.specs.declared.point.Point.{Point}
 use Rattle.ept_space.specs.declared.cube.Rules.{Rules}
@@ -56,3 +56,14 @@ all_octants = 0 ∷ 1 ∷ 2 ∷ 3 ∷ 4 ∷ 5 ∷ 6 ∷ 7 ∷ []
 -- the points that leave the node, octant by octant
 abbrev pub all_sent : Rules → ℕ → (ℕ → Bool) → List Point → List Point
 all_sent rules depth was_open given = flat_map (sent rules depth was_open given) all_octants
+
+-- ---- the same from a list of losers and a list of octants, as the functions have them
+
+-- above the greatest depth, an octant has more of the points that lose than the threshold
+abbrev pub has_too_many : Rules → ℕ → List Point → ℕ → Bool
+has_too_many rules depth losing o =
+    nat_lt depth rules.cube.depth && nat_lt rules.threshold (count_by (λ p. octant rules depth p == o) losing)
+
+-- a given point loses, and its octant is open
+abbrev pub goes : Rules → ℕ → List Point → List Bool → Point → Bool
+goes rules depth given opened p = slice_index_or opened (octant rules depth p) false && loses rules depth given p

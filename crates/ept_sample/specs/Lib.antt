@@ -1,3 +1,4 @@
+pub mod Members
 pub mod Place
 pub mod Rank
 pub mod Ids

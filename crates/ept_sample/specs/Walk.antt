@@ -1,16 +1,11 @@
 -- The nodes of a subtree, as a walk from the top down comes to them.
-use Rattle.std.specs.Prelude.{ℕ, zero, suc, Bool, ◌&&◌, ◌==◌, nat_lt, List, [], ◌∷◌, ◌++◌, count_by, if◌then◌else◌}
+use Rattle.std.specs.Prelude.{ℕ, zero, suc, List, [], ◌∷◌, ◌++◌, if◌then◌else◌}
 use Rattle.std.specs.BTreeMap.{insert_entry}
 use Rattle.ept_point.specs.declared.point.Point.{Point}
 use Rattle.ept_space.specs.declared.cube.Rules.{Rules}
 use Rattle.ept_space.specs.VoxelKey.{VoxelKey, child, key_cmp}
 use Rattle.ept_sample.specs.declared.tiles.Tile.{Tile}
-use Rattle.ept_sample.specs.Arrivals.{octant, losers, overflows, kept, none_open}
-
--- above the greatest depth, an octant has more of the points that lose than the threshold
-abbrev pub has_too_many : Rules → ℕ → List Point → ℕ → Bool
-has_too_many rules depth losing o =
-    nat_lt depth rules.cube.depth && nat_lt rules.threshold (count_by (λ p. octant rules depth p == o) losing)
+use Rattle.ept_sample.specs.Arrivals.{losers, overflows, kept, none_open}
 
 -- the key of a node, and its points
 abbrev pub Node : Type 0

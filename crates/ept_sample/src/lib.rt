@@ -5,9 +5,9 @@
 //! threshold, and stay otherwise.
 #![tactic(auto)]
 
+mod arrivals;
 mod ids;
 mod laws;
-mod losing;
 mod place;
 mod rank;
 #[cfg(test)]
@@ -15,7 +15,11 @@ mod tests;
 mod tiles;
 mod top_down;
 
-pub use ids::ids_ascend;
+pub use arrivals::{
+    OCTANTS, child_of, count_in_octant, has_children, in_octant, is_too_many, leaves, loses,
+    losing, opening, staying,
+};
+pub use ids::{ids_ascend, in_id_order};
 pub use laws::{arrival_law, batch_law, beat_law, node_law, point_law};
 pub use place::{are_in_cube, place_of};
 pub use rank::{Rank, beats, rank_of};

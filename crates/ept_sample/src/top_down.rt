@@ -1,17 +1,17 @@
 //! The sampling, from the top down.
 
-ghost use Rattle.std.specs.Prelude.{◌≡◌, ◌≤◌, ◌<◌, ◌-◌, OnOk, IfOk, map};
-ghost use Rattle.ept_space.specs.VoxelKey.{child};
-ghost use Rattle.ept_space.specs.OctreeCube.{IsCube};
+ghost use Rattle.std.specs.Prelude.{◌≡◌, ◌≤◌, ◌<◌, ◌-◌, ℕ, false, slice_index_or, OnOk, IfOk, map};
 ghost use Rattle.ept_sample.specs.Place.{AllInCube, AllInBox};
 ghost use Rattle.ept_sample.specs.Ids.{HasDistinctIds, in_id_order};
+ghost use Rattle.ept_sample.specs.Arrivals.{has_too_many};
 ghost use Rattle.ept_sample.specs.Walk.{nodes_below, with_nodes, tile_of};
 ghost use Rattle.ept_sample.specs.Nodes.{sampled};
 
-use crate::losing::{OCTANTS, in_octant, losing, overflowing, staying};
+use crate::arrivals::{OCTANTS, child_of, in_octant, losing, opening, staying};
+use crate::ids::in_id_order;
 use crate::tiles::{Tile, Tiles};
 use ept_point::{List, Memory, Point};
-use ept_space::{Key, Rules, child};
+use ept_space::{Key, Rules};
 use std::alloc::Global;
 use std::collections::BTreeMap;
 
@@ -37,9 +37,7 @@ fn by_id(alloc: Global, points: &[Point]) -> Result<Vec<Point>, Memory>
     requires { HasDistinctIds points.now }
     ensures { IfOk result (λ v. v.items ≡ in_id_order points.now) }
 {
-    let mut sorted = Vec::from_slice(alloc, points)?;
-    sorted.sort_by_key(|point| point.id())?;
-    Ok(sorted)
+    in_id_order(Vec::from_slice(alloc, points)?)
 }
 
 // Adds the node of the key, which was given these points, and the nodes below it.
@@ -56,6 +54,7 @@ fn add_nodes(
     ensures { OnOk result (nodes.new.entries
         ≡ with_nodes nodes.old.entries (nodes_below rules.now (rules.now.cube.depth - key.depth) key given.now)) }
 {
+    rules.cube.known();
     let losers = losing(alloc, rules, key.depth, given)?;
     let open = overflowing(rules, &key, losers.as_slice());
     let points = staying(alloc, rules, &key, given, &open)?;
@@ -75,15 +74,13 @@ fn add_nodes(
     Ok(())
 }
 
-// The key of an octant of a key above the greatest depth.
-fn child_of(rules: &Rules, key: &Key, which: u8) -> Key
-    requires has_children { key.now.depth < rules.now.cube.depth }
-    requires one_of_eight { which < OCTANTS }
-    ensures value { result ≡ child key.now which }
-    ensures cube { IsCube rules.now.cube }
+// Which octants overflow: above the greatest depth, those with more of these losers than the threshold.
+fn overflowing(rules: &Rules, key: &Key, losers: &[Point]) -> [bool; OCTANTS]
+    requires inside { AllInBox rules.now.cube key.now losers.now }
+    ensures { (o : ℕ) → o < OCTANTS →
+        slice_index_or result o false ≡ has_too_many rules.now key.now.depth losers.now o }
 {
-    prove!(rules.cube.depth <= Key::MAX_DEPTH);
-    child(key, which)
+    opening(rules, key, &[false; OCTANTS], losers)
 }
 
 // The nodes as tiles.

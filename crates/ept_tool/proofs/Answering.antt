@@ -6,14 +6,13 @@ use Rattle.ept_point.specs.declared.point.Point.{Point}
 use Rattle.ept_las.specs.declared.shift.Shift.{Shift}
 use Rattle.ept_las.specs.Shifts.{IsIdentity, stored}
 use Rattle.ept_tool.specs.declared.status.TheConstants.{OK, BAD_SCAN, DEVICE, MEMORY, NOT_BUILT}
-use Rattle.ept_tool.specs.declared.configuration.TheConstants.{BEFORE_PATH, BEHIND_PATH}
 use Rattle.ept_tool.specs.declared.extent.TheConstants.{LEAST, GREATEST}
 use Rattle.ept_tool.specs.Configuration.{IsConfiguration}
 use Rattle.ept_tool.specs.Words.{IsBuild}
 use Rattle.ept_tool.specs.Scan.{IsInBounds, IsFirstForm, HasBadRecord, ArePointsOf, IsPointOfRecord, stated}
-use Rattle.ept_tool.specs.Inputs.{NamesScan, HasOtherConfiguration, HasOtherForm, HasBadScan, HasPoints}
+use Rattle.ept_tool.specs.Inputs.{AsksFor, NamesScan, HasOtherConfiguration, HasOtherForm, HasBadScan, HasPoints}
 use Rattle.ept_tool.specs.Answers.{Yields, AsksOtherForm, AsksBadScan, AsksPoints}
-use Rattle.ept_tool.proofs.Paths.{one_path}
+use Rattle.ept_tool.proofs.Paths.{one_configuration}
 
 same_some : {X : Type 0} (o : Option X) (a b : X) → o ≡ Some a → o ≡ Some b → a ≡ b
 same_some o a b left right = cc
@@ -42,28 +41,32 @@ not_both scan points bad good =
     inside q is = let one = good.each bad.0 q bad.1 in one_place scan bad.0 (get_or points bad.0 q) q one.point is one.inside
 
 module _ (all : Files) (config : List ℕ) where
-  one_configuration : (bytes other path scan : List ℕ) → all config ≡ Some bytes → all config ≡ Some other → IsConfiguration bytes path → IsConfiguration other path
-  one_configuration bytes other path scan here there is = subst (λ (l : List ℕ). IsConfiguration l path) (same_some (all config) bytes other here there) is
+  one_text : (bytes other path : List ℕ) (threshold max_depth : ℕ) → all config ≡ Some bytes → all config ≡ Some other → IsConfiguration bytes path threshold max_depth → IsConfiguration other path threshold max_depth
+  one_text bytes other path threshold max_depth here there is = subst (λ (l : List ℕ). IsConfiguration l path threshold max_depth) (same_some (all config) bytes other here there) is
+
+  -- a configuration asks for one scan, one threshold and one greatest depth
+  pub one_request : (threshold max_depth t d : ℕ) (scan other : List ℕ) → AsksFor all config threshold max_depth scan → AsksFor all config t d other → (threshold ≡ t) × (max_depth ≡ d) × (scan ≡ other)
+  one_request threshold max_depth t d scan other is is_other =
+      let same = one_configuration is_other.bytes is.path is_other.path threshold max_depth t d (one_text is.bytes is_other.bytes is.path threshold max_depth is.content is_other.content is.configures) is_other.configures in
+      (same.1, same.2, same_some (all is_other.path) scan other (subst (λ (l : List ℕ). all l ≡ Some scan) same.0 is.scan_is) is_other.scan_is)
 
   one_scan : (scan other : List ℕ) → NamesScan all config scan → NamesScan all config other → scan ≡ other
-  one_scan scan other is is_other =
-      let bytes : is.bytes ≡ is_other.bytes = same_some (all config) is.bytes is_other.bytes is.content is_other.content in
-      let path : is.path ≡ is_other.path = one_path BEFORE_PATH.now BEHIND_PATH.now is.path is_other.path (sym is.configures.text ∙ bytes ∙ is_other.configures.text) in
-      same_some (all is_other.path) scan other (subst (λ (l : List ℕ). all l ≡ Some scan) path is.scan_is) is_other.scan_is
+  one_scan scan other is is_other = (one_request is.0 is.1 is_other.0 is_other.1 scan other is.2 is_other.2).2
 
   no_names : (scan : List ℕ) → HasOtherConfiguration all config → NamesScan all config scan → ⊥
-  no_names scan other is = other.other is.path (one_configuration is.bytes other.bytes is.path scan is.content other.content is.configures)
+  no_names scan other is = other.other is.2.path is.0 is.1 (one_text is.2.bytes other.bytes is.2.path is.0 is.1 is.2.content other.content is.2.configures)
 
   pub other_or_bad : HasOtherForm all config → HasBadScan all config → ⊥
   other_or_bad other bad = ⊎_elim (λ configuration. no_names bad.0 configuration bad.1)
       (λ (scan : (s : List ℕ) × NamesScan all config s × ¬ IsFirstForm s). scan.2 (subst IsFirstForm (one_scan bad.0 scan.0 bad.1 scan.1) bad.2)) other
 
-  pub other_or_points : (points : List Point) → HasOtherForm all config → HasPoints all config points → ⊥
-  other_or_points points other good = ⊎_elim (λ configuration. no_names good.0 configuration good.1)
-      (λ (scan : (s : List ℕ) × NamesScan all config s × ¬ IsFirstForm s). scan.2 (subst IsFirstForm (one_scan good.0 scan.0 good.1 scan.1) good.2)) other
+  module _ (threshold max_depth : ℕ) (points : List Point) where
+    pub other_or_points : HasOtherForm all config → HasPoints all config threshold max_depth points → ⊥
+    other_or_points other good = ⊎_elim (λ configuration. no_names good.0 configuration (threshold, max_depth, good.1))
+        (λ (scan : (s : List ℕ) × NamesScan all config s × ¬ IsFirstForm s). scan.2 (subst IsFirstForm (one_scan good.0 scan.0 (threshold, max_depth, good.1) scan.1) good.2)) other
 
-  pub bad_or_points : (points : List Point) → HasBadScan all config → HasPoints all config points → ⊥
-  bad_or_points points bad good = not_both good.0 points (subst HasBadRecord (one_scan bad.0 good.0 bad.1 good.1) bad.3) good.3
+    pub bad_or_points : HasBadScan all config → HasPoints all config threshold max_depth points → ⊥
+    bad_or_points bad good = not_both good.0 points (subst HasBadRecord (one_scan bad.0 good.0 bad.1 (threshold, max_depth, good.1)) bad.3) good.3
 
 -- the configuration of a build
 one_config : (words : List (List ℕ)) (a b c d : List ℕ) → IsBuild words a b → IsBuild words c d → c ≡ a
@@ -76,14 +79,14 @@ one_config words a b c d is is_other = first (sym is_other.words_are ∙ is.word
 module _ (words : List (List ℕ)) (config out : List ℕ) (is_build : IsBuild words config out) (status : ℕ)
     (statuses : (status ≡ OK) ⊎ (status ≡ BAD_SCAN) ⊎ (status ≡ DEVICE) ⊎ (status ≡ MEMORY) ⊎ (status ≡ NOT_BUILT)) where
   module _ (all : Files) (other : status ≡ NOT_BUILT → HasOtherForm all config) (bad : status ≡ BAD_SCAN → HasBadScan all config)
-      (built : status ≡ OK → (points : List Point) × HasPoints all config points) where
+      (built : status ≡ OK → (threshold max_depth : ℕ) × (points : List Point) × HasPoints all config threshold max_depth points) where
     not_built_told : AsksOtherForm words all → Yields NOT_BUILT status
     not_built_told asks =
         let here : HasOtherForm all config = subst (λ (l : List ℕ). HasOtherForm all l) (one_config words config out asks.config asks.out is_build asks.words_are) asks.other in
         answer statuses here
       where
         answer : (status ≡ OK) ⊎ (status ≡ BAD_SCAN) ⊎ (status ≡ DEVICE) ⊎ (status ≡ MEMORY) ⊎ (status ≡ NOT_BUILT) → HasOtherForm all config → Yields NOT_BUILT status
-        answer (inl ok) here = absurd (other_or_points all config (built ok).0 here (built ok).1)
+        answer (inl ok) here = absurd (other_or_points all config (built ok).0 (built ok).1 (built ok).2 here (built ok).3)
         answer (inr (inl scan)) here = absurd (other_or_bad all config here (bad scan))
         answer (inr (inr (inl device))) here = inr (inl device)
         answer (inr (inr (inr (inl memory)))) here = inr (inr memory)
@@ -95,36 +98,36 @@ module _ (words : List (List ℕ)) (config out : List ℕ) (is_build : IsBuild w
         answer statuses here
       where
         answer : (status ≡ OK) ⊎ (status ≡ BAD_SCAN) ⊎ (status ≡ DEVICE) ⊎ (status ≡ MEMORY) ⊎ (status ≡ NOT_BUILT) → HasBadScan all config → Yields BAD_SCAN status
-        answer (inl ok) here = absurd (bad_or_points all config (built ok).0 here (built ok).1)
+        answer (inl ok) here = absurd (bad_or_points all config (built ok).0 (built ok).1 (built ok).2 here (built ok).3)
         answer (inr (inl scan)) here = inl scan
         answer (inr (inr (inl device))) here = inr (inl device)
         answer (inr (inr (inr (inl memory)))) here = inr (inr memory)
         answer (inr (inr (inr (inr none)))) here = absurd (other_or_bad all config (other none) here)
 
-    built_told : (points : List Point) → AsksPoints words all points → Yields OK status
-    built_told points asks =
-        let here : HasPoints all config points = subst (λ (l : List ℕ). HasPoints all l points) (one_config words config out asks.config asks.out is_build asks.words_are) asks.has in
+    built_told : (threshold max_depth : ℕ) (points : List Point) → AsksPoints words all threshold max_depth points → Yields OK status
+    built_told threshold max_depth points asks =
+        let here : HasPoints all config threshold max_depth points = subst (λ (l : List ℕ). HasPoints all l threshold max_depth points) (one_config words config out asks.config asks.out is_build asks.words_are) asks.has in
         answer statuses here
       where
-        answer : (status ≡ OK) ⊎ (status ≡ BAD_SCAN) ⊎ (status ≡ DEVICE) ⊎ (status ≡ MEMORY) ⊎ (status ≡ NOT_BUILT) → HasPoints all config points → Yields OK status
+        answer : (status ≡ OK) ⊎ (status ≡ BAD_SCAN) ⊎ (status ≡ DEVICE) ⊎ (status ≡ MEMORY) ⊎ (status ≡ NOT_BUILT) → HasPoints all config threshold max_depth points → Yields OK status
         answer (inl ok) here = inl ok
-        answer (inr (inl scan)) here = absurd (bad_or_points all config points (bad scan) here)
+        answer (inr (inl scan)) here = absurd (bad_or_points all config threshold max_depth points (bad scan) here)
         answer (inr (inr (inl device))) here = inr (inl device)
         answer (inr (inr (inr (inl memory)))) here = inr (inr memory)
-        answer (inr (inr (inr (inr none)))) here = absurd (other_or_points all config points (other none) here)
+        answer (inr (inr (inr (inr none)))) here = absurd (other_or_points all config threshold max_depth points (other none) here)
 
   pub not_built_comes : (files : Option Files) → (status ≡ NOT_BUILT → Tells (λ all. HasOtherForm all config) files) → (status ≡ BAD_SCAN → Tells (λ all. HasBadScan all config) files)
-      → (status ≡ OK → (points : List Point) × Tells (λ all. HasPoints all config points) files) → Tells (λ all. AsksOtherForm words all → Yields NOT_BUILT status) files
+      → (status ≡ OK → (threshold max_depth : ℕ) × (points : List Point) × Tells (λ all. HasPoints all config threshold max_depth points) files) → Tells (λ all. AsksOtherForm words all → Yields NOT_BUILT status) files
   not_built_comes None other bad built = tt
   not_built_comes (Some all) other bad built = not_built_told all other bad built
 
   pub bad_scan_comes : (files : Option Files) → (status ≡ NOT_BUILT → Tells (λ all. HasOtherForm all config) files) → (status ≡ BAD_SCAN → Tells (λ all. HasBadScan all config) files)
-      → (status ≡ OK → (points : List Point) × Tells (λ all. HasPoints all config points) files) → Tells (λ all. AsksBadScan words all → Yields BAD_SCAN status) files
+      → (status ≡ OK → (threshold max_depth : ℕ) × (points : List Point) × Tells (λ all. HasPoints all config threshold max_depth points) files) → Tells (λ all. AsksBadScan words all → Yields BAD_SCAN status) files
   bad_scan_comes None other bad built = tt
   bad_scan_comes (Some all) other bad built = bad_scan_told all other bad built
 
   pub built_comes : (files : Option Files) → (status ≡ NOT_BUILT → Tells (λ all. HasOtherForm all config) files) → (status ≡ BAD_SCAN → Tells (λ all. HasBadScan all config) files)
-      → (status ≡ OK → (points : List Point) × Tells (λ all. HasPoints all config points) files) → Tells (λ all. (points : List Point) → AsksPoints words all points → Yields OK status) files
+      → (status ≡ OK → (threshold max_depth : ℕ) × (points : List Point) × Tells (λ all. HasPoints all config threshold max_depth points) files) → Tells (λ all. (threshold max_depth : ℕ) (points : List Point) → AsksPoints words all threshold max_depth points → Yields OK status) files
   built_comes None other bad built = tt
   built_comes (Some all) other bad built = built_told all other bad built
 
@@ -133,6 +136,12 @@ pub no_build_bad : (words : List (List ℕ)) (files : Option Files) (status : �
 no_build_bad words None status none = tt
 no_build_bad words (Some all) status none = λ asks. absurd (none asks.config asks.out asks.words_are)
 
-pub no_build_points : (words : List (List ℕ)) (files : Option Files) (status : ℕ) → ((config out : List ℕ) → ¬ IsBuild words config out) → Tells (λ all. (points : List Point) → AsksPoints words all points → Yields OK status) files
+pub no_build_points : (words : List (List ℕ)) (files : Option Files) (status : ℕ) → ((config out : List ℕ) → ¬ IsBuild words config out) → Tells (λ all. (threshold max_depth : ℕ) (points : List Point) → AsksPoints words all threshold max_depth points → Yields OK status) files
 no_build_points words None status none = tt
-no_build_points words (Some all) status none = λ points asks. absurd (none asks.config asks.out asks.words_are)
+no_build_points words (Some all) status none = λ threshold max_depth points asks. absurd (none asks.config asks.out asks.words_are)
+
+-- a build whose configuration and scan have these points asks for them
+pub asks_points : (words : List (List ℕ)) (config out : List ℕ) (files : Option Files) (threshold max_depth : ℕ) (points : List Point) → IsBuild words config out → Tells (λ all. HasPoints all config threshold max_depth points) files
+    → Tells (λ all. AsksPoints words all threshold max_depth points) files
+asks_points words config out None threshold max_depth points is_build has = tt
+asks_points words config out (Some all) threshold max_depth points is_build has = record { config = config; out = out; words_are = is_build; has = has }

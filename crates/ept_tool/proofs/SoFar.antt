@@ -4,11 +4,12 @@ use Rattle.std.specs.Prelude.{⊤}
 use Rattle.std.specs.declared.alloc.Global.{Global}
 use Rattle.std.proofs.lemmas.Bool.{cases_lt}
 use Rattle.std.proofs.lemmas.List.{take_at, drop_at, drop-drop, get_or_append_left}
+use Rattle.std.proofs.lemmas.List.Elements.{All-nil, All-push}
 use Rattle.std.proofs.Math.Seq.{get_or-append_seam}
 use Rattle.ept_point.specs.declared.point.Point.{Point}
 use Rattle.ept_tool.specs.declared.scan.TheConstants.{RECORD_LENGTH}
 use Rattle.ept_tool.specs.Scan.{IsInBounds}
-use Rattle.ept_tool.specs.Records.{IsRecord, TakesRecord, HasBadNext, ReadsNext, body_record, IsGood, IsBadAt, ReadsAll}
+use Rattle.ept_tool.specs.Records.{IsRecord, TakesRecord, HasBadNext, ReadsNext, body_record, IsGood, IsBadAt, ReadsAll, ArePlaced}
 
 -- n records of the body were read, and these are their points
 pub record HasRead (body : List ℕ) (now : Option (List ℕ)) (n : ℕ) (points : List Point) : Type 0 where
@@ -73,3 +74,20 @@ read_bad (Some body) now new n count points lt so_far next = (n, lt, has_bad bod
 pub read_all : (old now : Option (List ℕ)) (count : ℕ) (points : Vec Point Global) → length points.items ≡ count → IsReadSoFar old now count points.items → ReadsAll count old (Some points)
 read_all None now count points size so_far = tt
 read_all (Some body) now count points size so_far = record { size = size; each = so_far.each }
+
+-- ---- where the points lie, and their numbers
+
+pub placed_none : ArePlaced []
+placed_none = record { inside = All-nil IsInBounds; numbered = λ n d lt. absurd (omega (arith, lt)) }
+
+pub placed_more : (points : List Point) (p : Point) → ArePlaced points → IsInBounds p → p.origin ≡ 0 → p.number ≡ length points → ArePlaced (points ++ p ∷ [])
+placed_more points p so_far inside origin number = record {
+  inside = All-push IsInBounds points p so_far.inside inside;
+  numbered = λ n d lt. ⊎_elim (λ (before : n < length points). subst (λ (q : Point). (q.origin ≡ 0) × (q.number ≡ n)) (sym (get_or_append_left points (p ∷ []) d n before)) (so_far.numbered n d before))
+      (λ (past : length points ≤ n). newest n d (omega (arith, past, lt, length-append points (p ∷ [])))) (cases_lt n (length points));
+}
+  where
+    newest : (n : ℕ) (d : Point) → n ≡ length points → ((get_or (points ++ p ∷ []) n d).origin ≡ 0) × ((get_or (points ++ p ∷ []) n d).number ≡ n)
+    newest n d same =
+        let read : get_or (points ++ p ∷ []) n d ≡ p = ap (λ (i : ℕ). get_or (points ++ p ∷ []) i d) same ∙ get_or-append_seam points p [] d in
+        subst (λ (q : Point). (q.origin ≡ 0) × (q.number ≡ n)) (sym read) (origin, number ∙ sym same)

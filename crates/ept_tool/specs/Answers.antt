@@ -4,6 +4,8 @@ use Rattle.std.specs.Io.KnownBytes.{Appends}
 use Rattle.ept_base.specs.Files.{Files, StepsBy}
 use Rattle.ept_base.specs.Moves.{IsSettled}
 use Rattle.ept_point.specs.declared.point.Point.{Point}
+use Rattle.ept_space.specs.declared.cube.Rules.{Rules}
+use Rattle.ept_sample.specs.Nodes.{sampled}
 use Rattle.ept_tool.specs.declared.status.TheConstants.{OK, USAGE, BAD_SCAN, DEVICE, MEMORY, NOT_BUILT}
 use Rattle.ept_tool.specs.declared.extent.Extent.{Extent}
 use Rattle.ept_tool.specs.Words.{IsBuild}
@@ -38,17 +40,17 @@ pub record AsksBadScan (words : List (List ℕ)) (files : Files) : Type 0 where
   pub words_are : IsBuild words config out
   pub bad : HasBadScan files config
 
--- the words are a build of a scan that has these points
-pub record AsksPoints (words : List (List ℕ)) (files : Files) (points : List Point) : Type 0 where
+-- the words are a build, with this threshold and this greatest depth, of a scan that has these points
+pub record AsksPoints (words : List (List ℕ)) (files : Files) (threshold max_depth : ℕ) (points : List Point) : Type 0 where
   pub config : List ℕ
   pub out : List ℕ
   pub words_are : IsBuild words config out
-  pub has : HasPoints files config points
+  pub has : HasPoints files config threshold max_depth points
 
--- The store has gained the octree of these points, and nothing else changed; all of it is stable; and the sink has gained the summary.
-pub record LeavesOctree (points : List Point) (old new : Option Files) (images : Files → Type 0) (said_old said_new : Option (List ℕ)) : Type 0 where
+-- The store has gained the sampling of these points, and nothing else changed; all of it is stable; and the sink has gained the summary.
+pub record LeavesOctree (rules : Rules) (points : List Point) (old new : Option Files) (images : Files → Type 0) (said_old said_new : Option (List ℕ)) : Type 0 where
   pub extent : Extent
   pub extent_is : IsExtentOf points extent
-  pub files : StepsBy (Publishes points extent) old new
+  pub files : StepsBy (Publishes (sampled rules points) extent (length points)) old new
   pub settled : IsSettled new images
-  pub said : Appends said_old said_new (summary_text (length points))
+  pub said : Appends said_old said_new (summary_text (length points) (length (sampled rules points)))

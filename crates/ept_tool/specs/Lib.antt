@@ -4,7 +4,10 @@ pub mod Extents
 pub mod Texts
 pub mod Output
 pub mod Scan
-pub mod ScanIs
 pub mod Records
+pub mod ScanIs
+pub mod StageRules
 pub mod Inputs
+pub mod Sending
+pub mod Tree
 pub mod Answers

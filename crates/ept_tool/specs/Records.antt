@@ -1,5 +1,5 @@
 -- Records that are read one after the other.
-use Rattle.std.specs.Prelude.{◌≡◌, ◌⊎◌, ℕ, ◌+◌, ◌*◌, ◌<◌, ◌≤◌, Vec, slice_index_or, drop, Option, Some, None, List, ◌++◌, length, take, ⊤}
+use Rattle.std.specs.Prelude.{◌≡◌, ◌⊎◌, ℕ, ◌+◌, ◌*◌, ◌<◌, ◌≤◌, Vec, slice_index_or, drop, Option, Some, None, List, ◌++◌, length, take, ⊤, All}
 use Rattle.std.specs.declared.alloc.Global.{Global}
 use Rattle.ept_point.specs.declared.point.Point.{Point}
 use Rattle.ept_las.specs.declared.shift.Shift.{Shift}
@@ -55,6 +55,11 @@ abbrev pub ReadsAll : ℕ → Option (List ℕ) → Option (Vec Point Global) �
 ReadsAll count None found = ⊤
 ReadsAll count (Some body) None = (n : ℕ) × (n < count) × IsBadAt body n
 ReadsAll count (Some body) (Some points) = AreFirst body count points.items
+
+-- The points lie in the bounds, are those of the first scan, and are numbered in their order.
+pub record ArePlaced (points : List Point) : Type 0 where
+  pub inside : All IsInBounds points
+  pub numbered : (n : ℕ) (d : Point) → n < length points → ((slice_index_or points n d).origin ≡ 0) × ((slice_index_or points n d).number ≡ n)
 
 -- what reading the header found, where the source tells
 abbrev pub ReadsHeader : Option (List ℕ) → Option (List ℕ) → Option ℕ → Type 0

@@ -1,18 +1,24 @@
 //! `ept_tool` builds an Entwine Point Tile folder from a LAS scan.
 #![tactic(auto)]
 
+mod arrival;
 mod build;
 mod configuration;
 mod extent;
 mod inputs;
+#[cfg(test)]
+mod octrees;
 mod output;
 mod real;
 mod run;
 mod scan;
+mod settings;
+mod stage;
 mod status;
 #[cfg(test)]
 mod tests;
 mod texts;
+mod tree;
 mod words;
 
 use crate::real::{RealShelf, RealSink, RealStore};

@@ -6,7 +6,8 @@ ghost use Rattle.ept_base.specs.Devices.{AppendsPrefix};
 ghost use Rattle.ept_point.specs.declared.point.Point.{Point};
 ghost use Rattle.ept_tool.specs.Words.{IsUsage, IsLater};
 ghost use Rattle.ept_tool.specs.Texts.{summary_text};
-ghost use Rattle.ept_tool.specs.Output.{SameButOutput};
+ghost use Rattle.ept_tool.specs.StageRules.{rules_for};
+ghost use Rattle.ept_tool.specs.Output.{SameButOctree};
 ghost use Rattle.ept_tool.specs.Answers.{IsStatus, Yields, IsEarly, AsksOtherForm, AsksBadScan, AsksPoints, LeavesOctree};
 
 use crate::build::build;
@@ -48,9 +49,9 @@ where
     ensures bad_scan_comes { Tells (λ all. AsksBadScan (map string_bytes words.now) all → Yields BAD_SCAN result) (H.files shelf.old) }
 
     // Every other scan is built.
-    ensures built { result ≡ OK → (points : List Point) × Tells (λ all. AsksPoints (map string_bytes words.now) all points) (H.files shelf.old)
-        × LeavesOctree points (T.files store.old) (T.files store.new) (T.may_leave store.new) (O.written out.old) (O.written out.new) }
-    ensures built_comes { Tells (λ all. (points : List Point) → AsksPoints (map string_bytes words.now) all points → Yields OK result) (H.files shelf.old) }
+    ensures built { result ≡ OK → (threshold max_depth : ℕ) × (points : List Point) × Tells (λ all. AsksPoints (map string_bytes words.now) all threshold max_depth points) (H.files shelf.old)
+        × LeavesOctree (rules_for threshold max_depth) points (T.files store.old) (T.files store.new) (T.may_leave store.new) (O.written out.old) (O.written out.new) }
+    ensures built_comes { Tells (λ all. (threshold max_depth : ℕ) (points : List Point) → AsksPoints (map string_bytes words.now) all threshold max_depth points → Yields OK result) (H.files shelf.old) }
 
     // A fault is told only where the count of a device rose.
     ensures fault { result ≡ DEVICE → Rose (H.faults shelf.old) (H.faults shelf.new)
@@ -58,9 +59,9 @@ where
 
     // What stays as it was.
     ensures untouched { IsEarly result → store.new ≡ store.old }
-    ensures any_moment { Moves T.files T.may_leave T.moment T.image_since SameButOutput store.old store.new }
+    ensures any_moment { Moves T.files T.may_leave T.moment T.image_since SameButOctree store.old store.new }
     ensures quiet { result ≢ OK → result ≢ DEVICE → out.new ≡ out.old }
-    ensures said { result ≡ DEVICE → (count : ℕ) × AppendsPrefix (O.written out.old) (O.written out.new) (summary_text count) }
+    ensures said { result ≡ DEVICE → (count : ℕ) × (nodes : ℕ) × AppendsPrefix (O.written out.old) (O.written out.new) (summary_text count nodes) }
     ensures room { _room.new ≡ _room.old }
 {
     match command_of(words) {

@@ -2,9 +2,9 @@ ghost use Rattle.std.specs.Prelude.{◌≡◌, ◌↔◌, ◌<◌, ◌≤◌, �
 ghost use Rattle.ept_base.specs.Causes.{HasCause, HasCauseOf};
 ghost use Rattle.ept_base.specs.Files.{Tells};
 ghost use Rattle.ept_tool.specs.Scan.{HasFirstForm, IsInBounds};
-ghost use Rattle.ept_tool.specs.ScanIs.{IsScan};
+ghost use Rattle.ept_tool.specs.ScanIs.{IsScan, HasPlaced};
 ghost use Rattle.ept_las.specs.Words.{u32_at};
-ghost use Rattle.ept_tool.specs.Records.{IsRecord, ReadsHeader, ReadsNext, ReadsAll};
+ghost use Rattle.ept_tool.specs.Records.{IsRecord, ReadsHeader, ReadsNext, ReadsAll, ArePlaced};
 
 use crate::extent::{GREATEST, LEAST};
 use byteorder::{ByteOrder, LittleEndian};
@@ -53,6 +53,7 @@ fn is_in_bounds(point: &Point) -> bool
 fn read_point<S: Source>(source: &mut S, number: u32) -> Result<Option<Point>, Failed>
     ensures next { IfOk result (λ found. ReadsNext number (S.left source.old) (S.left source.new) found) }
     ensures inside { IfOk result (λ found. IfSome found IsInBounds) }
+    ensures numbered { IfOk result (λ found. IfSome found (λ p. (p.origin ≡ 0) × (p.number ≡ number))) }
     ensures same { S.whole source.new ≡ S.whole source.old }
     ensures cause { HasCause (S.faults source.old) (S.faults source.new) result }
 {
@@ -77,6 +78,7 @@ fn is_first_form(header: &[u8; HEADER_LENGTH]) -> bool
 /// Reads a scan from its front to its last record.
 pub(crate) fn read_scan<S: Source>(alloc: Global, source: &mut S) -> Result<Scan, GetError>
     ensures scan { IfOk result (λ scan. Tells (λ bytes. IsScan bytes scan) (S.left source.old)) }
+    ensures placed { IfOk result HasPlaced }
     ensures same { S.whole source.new ≡ S.whole source.old }
     ensures cause { HasCauseOf GetError.Failed (S.faults source.old) (S.faults source.new) result }
 {
@@ -123,6 +125,7 @@ fn read_points<S: Source>(
     count: u32,
 ) -> Result<Option<Vec<Point>>, GetError>
     ensures points { IfOk result (λ found. ReadsAll count (S.left source.old) found) }
+    ensures placed { IfOk result (λ found. IfSome found (λ points. ArePlaced points.items)) }
     ensures same { S.whole source.new ≡ S.whole source.old }
     ensures cause { HasCauseOf GetError.Failed (S.faults source.old) (S.faults source.new) result }
 {

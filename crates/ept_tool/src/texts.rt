@@ -1,9 +1,12 @@
 ghost use Rattle.std.specs.Prelude.{◌≡◌, ◌++◌, ℕ, IfOk, OnOk, OnErr, codes};
 ghost use Rattle.std.specs.Fmt.{decimal};
-ghost use Rattle.ept_tool.specs.Texts.{coordinate, place, extent_text, ept_text, hierarchy_text, summary_text};
+ghost use Rattle.std.specs.List.{flat_map};
+ghost use Rattle.ept_space.specs.VoxelKey.{VoxelKey};
+ghost use Rattle.ept_tool.specs.Texts.{coordinate, place, extent_text, ept_text, entry_text, hierarchy_text, summary_text};
 
 use crate::extent::Extent;
 use ept_num::decimal_text;
+use ept_space::{Key, key_text};
 use itoa::Buffer;
 use std::alloc::{AllocError, Global};
 
@@ -100,24 +103,54 @@ pub(crate) fn ept_json(alloc: Global, extent: &Extent, count: u64) -> Result<Vec
     Ok(text)
 }
 
-/// The text of the root's hierarchy file.
-#[tactic(auto, unfolding(crate::specs::Texts::hierarchy_text))]
-pub(crate) fn hierarchy_json(alloc: Global, count: u64) -> Result<Vec<u8>, AllocError>
-    ensures { IfOk result (λ text. text.items ≡ hierarchy_text count) }
+// A node's key, and how many points it has.
+#[tactic(auto, unfolding(crate::specs::Texts::entry_text))]
+fn append_entry(text: &mut Vec<u8>, key: &Key, count: u64) -> Result<(), AllocError>
+    ensures { OnOk result (text.new.items ≡ text.old.items ++ entry_text (key.now, count)) }
 {
-    let mut text = Vec::from_slice(alloc, b"{\"0-0-0-0\":")?;
-    append_number(&mut text, count)?;
+    let mut digits = [0; 40];
+    let length = key_text(key, &mut digits);
+    text.extend_from_slice(b"\"")?;
+    text.extend_from_slice(&digits[..length])?;
+    text.extend_from_slice(b"\":")?;
+    append_number(text, count)?;
+    Ok(())
+}
+
+// More nodes, each behind a comma.
+fn append_more(text: &mut Vec<u8>, nodes: &[(Key, u64)]) -> Result<(), AllocError>
+    ensures { OnOk result (text.new.items ≡ text.old.items ++ flat_map (λ (e : VoxelKey × ℕ). codes "," ++ entry_text e) nodes.now) }
+{
+    for (key, count) in nodes {
+        text.extend_from_slice(b",")?;
+        append_entry(text, key, *count)?;
+    }
+    Ok(())
+}
+
+/// The text of the hierarchy file of these nodes (EPT 1.1.0, "ept-hierarchy").
+#[tactic(auto, unfolding(crate::specs::Texts::hierarchy_text))]
+pub(crate) fn hierarchy_json(alloc: Global, nodes: &[(Key, u64)]) -> Result<Vec<u8>, AllocError>
+    ensures { IfOk result (λ text. text.items ≡ hierarchy_text nodes.now) }
+{
+    let mut text = Vec::from_slice(alloc, b"{")?;
+    if let Some(((key, count), more)) = nodes.split_first() {
+        append_entry(&mut text, key, *count)?;
+        append_more(&mut text, more)?;
+    }
     text.extend_from_slice(b"}")?;
     Ok(text)
 }
 
 /// What a build says at its end.
 #[tactic(auto, unfolding(crate::specs::Texts::summary_text))]
-pub(crate) fn summary(alloc: Global, count: u64) -> Result<Vec<u8>, AllocError>
-    ensures { IfOk result (λ text. text.items ≡ summary_text count) }
+pub(crate) fn summary(alloc: Global, points: u64, nodes: u64) -> Result<Vec<u8>, AllocError>
+    ensures { IfOk result (λ text. text.items ≡ summary_text points nodes) }
 {
     let mut text = Vec::from_slice(alloc, b"points ")?;
-    append_number(&mut text, count)?;
-    text.extend_from_slice(b" nodes 1\n")?;
+    append_number(&mut text, points)?;
+    text.extend_from_slice(b" nodes ")?;
+    append_number(&mut text, nodes)?;
+    text.extend_from_slice(b"\n")?;
     Ok(text)
 }

@@ -1,17 +1,23 @@
-use Rattle.std.proofs.Common.{List, ℕ, Option, subst}
-use Rattle.std.specs.Prelude.{String}
-use Rattle.std.specs.declared.alloc.Global.{Global}
-use Rattle.std.proofs.lemmas.Result.{IfOk-weaker}
-use Rattle.ept_base.specs.Files.{Files, Tells}
-use Rattle.ept_tool.specs.Inputs.{NamesPath, HoldsScan, IsFound}
-use Rattle.ept_tool.proofs.Found.{found_is}
+use Rattle.std.proofs.Common.{take}
+use Rattle.ept_tool.specs.declared.scan.Scan.TheVariants.{OtherForm, BadRecord, Points}
+use Rattle.ept_tool.proofs.Found.{found_other, found_is}
 use Rattle.ept_tool.proofs.inputs.read_inputs.Goals as goal
 
-pub returns-in-Some-clause-found : goal.returns-in-Some-clause-found
-returns-in-Some-clause-found g c =
-    let named = subst (λ (o : Option (String Global)). Tells (λ all. NamesPath all c.args.config.now o) (g.H.Shelf.files c.args.shelf.now)) c.in-Some.is c.in_ok-path.ensures.path in
-    IfOk-weaker c.read_scan_of.result (λ scan. Tells (λ all. HoldsScan all c.as_str.result.now scan) (g.H.Shelf.files c.read_configuration.new.shelf)) (λ scan. Tells (λ all. IsFound all c.args.config.now scan) (g.H.Shelf.files c.args.shelf.now))
-    (λ scan held.
-    let here = subst (λ (o : Option Files). Tells (λ all. HoldsScan all c.as_str.result.now scan) o) c.read_configuration.ensures.files held in
-    found_is (g.H.Shelf.files c.args.shelf.now) c.args.config.now c.in-Some.path scan named (subst (λ (l : List ℕ). Tells (λ all. HoldsScan all l scan) (g.H.Shelf.files c.args.shelf.now)) c.as_str.ensures.value here))
-    c.read_scan_of.ensures.scan
+pub returns-in_default-clause-found : goal.returns-in_default-clause-found
+returns-in_default-clause-found g c =
+    found_other (g.H.Shelf.files c.args.shelf.now) c.args.config.now (take c.in_ok-count.count c.read_configuration.new.buffer) c.in_ok-count.ensures.front c.in_default.ensures.none
+
+pub returns-in-OtherForm-clause-found : goal.returns-in-OtherForm-clause-found
+returns-in-OtherForm-clause-found g c =
+    found_is (g.H.Shelf.files c.args.shelf.now) (g.H.Shelf.files c.read_configuration.new.shelf) c.args.config.now (take c.in_ok-count.count c.read_configuration.new.buffer) c.in-Some.settings.path.now c.in-Some.settings.limits
+    c.in_ok-read_scan_of.field-0 OtherForm c.in_ok-count.ensures.front c.in-Some.ensures.some c.read_configuration.ensures.files c.in_ok-read_scan_of.ensures.scan c.in-OtherForm.is
+
+pub returns-in-BadRecord-clause-found : goal.returns-in-BadRecord-clause-found
+returns-in-BadRecord-clause-found g c =
+    found_is (g.H.Shelf.files c.args.shelf.now) (g.H.Shelf.files c.read_configuration.new.shelf) c.args.config.now (take c.in_ok-count.count c.read_configuration.new.buffer) c.in-Some.settings.path.now c.in-Some.settings.limits
+    c.in_ok-read_scan_of.field-0 BadRecord c.in_ok-count.ensures.front c.in-Some.ensures.some c.read_configuration.ensures.files c.in_ok-read_scan_of.ensures.scan c.in-BadRecord.is
+
+pub returns-in-Points-clause-found : goal.returns-in-Points-clause-found
+returns-in-Points-clause-found g c =
+    found_is (g.H.Shelf.files c.args.shelf.now) (g.H.Shelf.files c.read_configuration.new.shelf) c.args.config.now (take c.in_ok-count.count c.read_configuration.new.buffer) c.in-Some.settings.path.now c.in-Some.settings.limits
+    c.in_ok-read_scan_of.field-0 (Points c.in-Points.points) c.in_ok-count.ensures.front c.in-Some.ensures.some c.read_configuration.ensures.files c.in_ok-read_scan_of.ensures.scan c.in-Points.is

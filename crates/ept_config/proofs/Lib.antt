@@ -1,0 +1,8 @@
+pub mod Wholes
+pub mod Objects
+pub mod Signed
+pub mod Places
+pub mod EachInput
+pub mod Documents
+pub mod Faults
+pub mod RefusalLaws

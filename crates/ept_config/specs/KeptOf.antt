@@ -1,0 +1,17 @@
+-- What a build keeps of its configuration.
+use Rattle.std.specs.Prelude.{◌≡◌}
+use Rattle.ept_space.specs.declared.bounds.Bounds.{Bounds}
+use Rattle.ept_config.specs.declared.config.Config.{Config}
+use Rattle.ept_config.specs.declared.kept.Kept.{Kept}
+
+-- all but how much of the machine is used, with these bounds
+pub record IsKeptOf (config : Config) (bounds : Bounds) (kept : Kept) : Type 0 where
+  pub scale_is : kept.scale ≡ config.scale
+  pub offset_is : kept.offset ≡ config.offset
+  pub bounds_is : kept.bounds ≡ bounds
+  pub s_is : kept.s ≡ config.s
+  pub threshold_is : kept.threshold ≡ config.threshold
+  pub max_depth_is : kept.max_depth ≡ config.max_depth
+  pub step_is : kept.step ≡ config.step
+  pub srs_is : kept.srs ≡ config.srs
+  pub inputs_is : kept.inputs ≡ config.inputs

@@ -1,0 +1,5 @@
+pub mod Hierarchy
+pub mod OpenFiles
+pub mod HierarchyLaws
+pub mod Reading
+pub mod Objects

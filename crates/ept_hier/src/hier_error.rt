@@ -1,0 +1,34 @@
+//! Why bytes are no hierarchy file.
+
+ghost use Rattle.std.specs.Prelude.{◌≡◌};
+
+use ept_point::Memory;
+use thiserror::Error;
+
+/// Why bytes are no hierarchy file.
+#[derive(Clone, Copy, Debug, PartialEq, Eq, Error)]
+pub enum HierError {
+    /// The bytes are not the text of a JSON object.
+    #[error("the text is no JSON object")]
+    Json,
+    /// A name is the text of no key, and each name before it, by its bytes, is a key's with a count.
+    #[error("a name is no key")]
+    Key,
+    /// The value of a key is no whole number of 64 bits from -1 up, and each name before it is a key's
+    /// with a count.
+    #[error("a value is no count")]
+    Count,
+    /// Memory ran out.
+    #[error("out of memory")]
+    Memory,
+}
+
+impl From<Memory> for HierError {
+    ghost use Rattle.ept_hier.specs.declared.hier_error.HierError.TheVariants.{Memory};
+
+    ghost from_gives = { λ _ e. e ≡ Memory };
+
+    fn from(_error: Memory) -> HierError {
+        HierError::Memory
+    }
+}
