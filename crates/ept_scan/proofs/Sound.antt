@@ -2,7 +2,7 @@
 use Rattle.std.proofs.Common.{ℕ, zero, suc, ◌+◌, ◌<◌, ◌≤◌, List, [], ◌∷◌, ◌++◌, Option, Some, None, length, get_or, sym, ◌∙◌, ap, subst, arith, length-append}
 use Rattle.std.specs.Prelude.{ℤ, ◌≤ℤ◌, All}
 use Rattle.std.proofs.lemmas.List.{get_or_append_left, get_or-append-add}
-use Rattle.ept_base.specs.Files.{Files}
+use Rattle.ept_base.specs.Files.{Files, Tells}
 use Rattle.ept_point.specs.declared.point.Point.{Point}
 use Rattle.ept_space.specs.declared.bounds.Bounds.{Bounds}
 use Rattle.ept_space.specs.ClosedBox.{IsBetween}
@@ -11,8 +11,13 @@ use Rattle.ept_config.specs.declared.source_count.SourceCount.{SourceCount}
 use Rattle.ept_scan.specs.declared.reading.TheConstants.{MAX_POINTS}
 use Rattle.ept_scan.specs.Extents.{IsWithin, IsAllowed, IsSpanOf, IsExtentOf, HasExtent}
 use Rattle.ept_scan.specs.Counts.{IsCountOf, FitsBounds, IsSound}
-use Rattle.ept_scan.specs.Scans.{in_order, AreBounds}
-use Rattle.ept_scan.specs.Found.{FindsLists}
+use Rattle.ept_scan.specs.Scans.{in_order, AreBounds, ArePointsFrom, IsScan}
+use Rattle.std.specs.Prelude.{IfSome}
+use Rattle.std.specs.Option.{ForSome}
+use Rattle.std.proofs.lemmas.Int.{ints}
+use Rattle.ept_space.specs.CubeOfBounds.{HasPlace}
+use Rattle.ept_config.specs.Ranges.{BoundsInRange}
+use Rattle.ept_scan.specs.Found.{limits_of, FindsLists}
 use Rattle.ept_scan.proofs.Listing.{zip_at, zip_length}
 
 -- what holds of all items of two lists holds of those of each
@@ -72,3 +77,44 @@ pub all_sound : (files : Option Files) (scale : ℕ) (limits : Option Bounds) (i
 all_sound files scale limits inputs from end counts bounds found are = λ k d lt.
     let within : k < length found.lists = omega (arith, lt, zip_length IsCountOf found.lists counts found.counts_are) in
     sound_one bounds (get_or found.lists k []) (get_or counts k d) (zip_at IsCountOf found.lists counts k [] d found.counts_are lt) (found.few k [] within) (within_bounds limits found.lists bounds k within are found.allowed)
+
+-- the bounds have their minimum at most their maximum
+least_most : (axis : Point → ℤ) (points : List Point) (least greatest : ℤ) → IsSpanOf axis points least greatest → least ≤ℤ greatest
+least_most axis points least greatest is =
+    let any = is.least_is in
+    let between = is.within any.0 any.1 any.2 in
+    below _ _ _ between.0 between.1
+  where
+    below : (a b c : ℤ) → a ≤ℤ b → b ≤ℤ c → a ≤ℤ c
+    below a b c p q = omega (arith, ints)
+
+extent_ordered : (points : List Point) (extent : Bounds) → IsExtentOf points extent → HasPlace extent
+extent_ordered points extent is = record {
+  x_ordered = least_most (λ p. p.x) points _ _ is.x;
+  y_ordered = least_most (λ p. p.y) points _ _ is.y;
+  z_ordered = least_most (λ p. p.z) points _ _ is.z;
+}
+
+pub bounds_ordered : (limits : Option Bounds) (points : List Point) (bounds : Bounds) → IfSome limits HasPlace → AreBounds limits points bounds → HasPlace bounds
+bounds_ordered None points bounds place are = extent_ordered points bounds are
+bounds_ordered (Some limits) points bounds place are = subst HasPlace (sym are) place
+
+pub limits_ordered : (kept given : Option Bounds) → IfSome kept HasPlace → ForSome given BoundsInRange → IfSome (limits_of kept given) HasPlace
+limits_ordered (Some kept) given has in_range = has
+limits_ordered None None has in_range = tt
+limits_ordered None (Some given) has in_range = (in_range given refl).ordered
+
+-- what was found of all inputs is the scan of the files that are told
+pub scan_found : (files : Option Files) (scale : ℕ) (limits told : Option Bounds) (inputs : List Input) (from : ℕ) (counts given : List SourceCount) (bounds : Bounds) → limits ≡ told → given ≡ counts → (found : FindsLists files scale limits inputs from (length inputs) counts)
+    → AreBounds limits (in_order found.lists) bounds → Tells (λ all. (points : List Point) × IsScan all scale told inputs from points (record { counts = given; bounds = bounds })) files
+scan_found None scale limits told inputs from counts given bounds same_limits same_counts found are = tt
+scan_found (Some all) scale limits told inputs from counts given bounds same_limits same_counts found are = (
+  in_order found.lists,
+  record {
+    lists = found.lists;
+    are = subst (λ (o : Option Bounds). ArePointsFrom all scale o inputs from (length inputs) found.lists) same_limits found.are;
+    points_are = refl;
+    counts_are = subst (λ (l : List SourceCount). AllZip IsCountOf found.lists l) (sym same_counts) found.counts_are;
+    bounds_are = subst (λ (o : Option Bounds). AreBounds o (in_order found.lists) bounds) same_limits are;
+  },
+)

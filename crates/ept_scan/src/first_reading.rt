@@ -1,10 +1,11 @@
 //! The first reading of the inputs.
 
-ghost use Rattle.std.specs.Prelude.{◌≡◌, ◌≤◌, ◌+◌, [], List, None, IfOk, IfErr, MatchOption, length};
+ghost use Rattle.std.specs.Prelude.{◌≡◌, ◌≤◌, ◌+◌, [], List, None, IfOk, IfErr, IfSome, MatchOption, length};
 ghost use Rattle.std.specs.List.{AllZip, All};
 ghost use Rattle.ept_base.specs.Causes.{HasCauseOf};
 ghost use Rattle.ept_base.specs.Files.{Tells};
 ghost use Rattle.ept_point.specs.declared.point.Point as at;
+ghost use Rattle.ept_space.specs.CubeOfBounds.{HasPlace};
 ghost use Rattle.ept_scan.specs.Extents.{HasExtent};
 ghost use Rattle.ept_scan.specs.Counts.{IsCountOf, FindsCount, IsSound};
 ghost use Rattle.ept_scan.specs.Scans.{in_order, Blames, HasPoints, IsRefused, AreBounds, IsScan, ScanIsRefused};
@@ -39,10 +40,12 @@ pub fn scan<H: Shelf>(
 ) -> Result<ScanDone, ScanError>
     requires from { from ≤ length config.now.inputs }
     requires first { kept ≡ None → from ≡ 0 }
+    requires kept { IfSome kept HasPlace }
     ensures scan { IfOk result (λ done. Tells (λ all. (points : List at.Point) × IsScan all config.now.scale (limits_of kept config.now.bounds) config.now.inputs from points done) (H.files shelf.old)) }
     ensures refused { IfErr result (λ e. Tells (λ all. ScanIsRefused all config.now.scale (limits_of kept config.now.bounds) config.now.inputs from e) (H.files shelf.old)) }
     ensures one_each { IfOk result (λ done. from + length done.counts ≡ length config.now.inputs) }
     ensures sound { IfOk result (λ done. All (IsSound done.bounds) done.counts) }
+    ensures ordered { IfOk result (λ done. HasPlace done.bounds) }
     ensures files { H.files shelf.new ≡ H.files shelf.old }
     ensures cause { HasCauseOf ScanError.SourceFault (H.faults shelf.old) (H.faults shelf.new) result }
 {

@@ -15,6 +15,8 @@ mod reading;
 mod record;
 mod scan_done;
 mod scan_error;
+#[cfg(test)]
+mod tests;
 mod window;
 
 pub use first_reading::scan;
