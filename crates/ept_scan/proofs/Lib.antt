@@ -17,3 +17,4 @@ pub mod Rereading
 pub mod Opened
 pub mod Retiring
 pub mod Begun
+pub mod OneScan

@@ -10,23 +10,23 @@ use Rattle.ept_scan.specs.Extents.{IsAllowed}
 use Rattle.ept_scan.specs.LasFile.{head_of, HasHeader, records_of, record_at, IsTruncated, IsOutsideAt, IsPointAt, ArePointsOf}
 use Rattle.ept_scan.specs.Changes.{HeaderDiffers, RecordDiffers, Differs, HasRecord}
 
-same_ok : (a b : Header) (x y : Result Header LasError) → x ≡ Ok a → y ≡ Ok b → x ≡ y → a ≡ b
+pub same_ok : (a b : Header) (x y : Result Header LasError) → x ≡ Ok a → y ≡ Ok b → x ≡ y → a ≡ b
 same_ok a b x y is_a is_b same = cc
 
-not_err : (a : Header) (f : LasError) (x y : Result Header LasError) → x ≡ Ok a → y ≡ Err f → x ≡ y → ⊥
+pub not_err : (a : Header) (f : LasError) (x y : Result Header LasError) → x ≡ Ok a → y ≡ Err f → x ≡ y → ⊥
 not_err a f x y is_a is_err same = cc
 
-one_header : (reading : Reading) (file : List ℕ) (a b : Header) → HasHeader reading file a → HasHeader reading file b → a ≡ b
+pub one_header : (reading : Reading) (file : List ℕ) (a b : Header) → HasHeader reading file a → HasHeader reading file b → a ≡ b
 one_header reading file a b has_a has_b = same_ok a b (Ok a) (Ok b) refl refl (header_once (head_of file) reading.expect (Ok a) (Ok b) has_a has_b)
 
 -- record n has one point
-one_point : (reading : Reading) (header : Header) (records : List ℕ) (n : ℕ) (p q : Point) → IsPointAt reading header records n p → IsPointAt reading header records n q → p ≡ q
+pub one_point : (reading : Reading) (header : Header) (records : List ℕ) (n : ℕ) (p q : Point) → IsPointAt reading header records n p → IsPointAt reading header records n q → p ≡ q
 one_point reading header records n p q is_p is_q = point_once header.format reading.shift reading.origin n (record_at header records n) p q is_p.point is_q.point
 
-not_truncated : (reading : Reading) (header : Header) (records : List ℕ) (n : ℕ) (p : Point) → IsPointAt reading header records n p → IsTruncated header records n → ⊥
+pub not_truncated : (reading : Reading) (header : Header) (records : List ℕ) (n : ℕ) (p : Point) → IsPointAt reading header records n p → IsTruncated header records n → ⊥
 not_truncated reading header records n p is short = omega (arith, is.whole, short)
 
-not_outside : (reading : Reading) (header : Header) (records : List ℕ) (n : ℕ) (p : Point) → IsPointAt reading header records n p → IsOutsideAt reading header records n → ⊥
+pub not_outside : (reading : Reading) (header : Header) (records : List ℕ) (n : ℕ) (p : Point) → IsPointAt reading header records n p → IsOutsideAt reading header records n → ⊥
 not_outside reading header records n p is out =
     ⊎_elim (λ units. out_or_point header.format reading.shift reading.origin n (record_at header records n) p units is.point)
     (λ (other : (q : Point) × _ × ¬ IsAllowed reading.limits q). other.2 (subst (IsAllowed reading.limits) (point_once header.format reading.shift reading.origin n (record_at header records n) p other.0 is.point other.1) is.allowed)) out.outside

@@ -45,7 +45,7 @@ point_shifted format a b origin other n bytes p factor by same is = record {
 }
 
 module _ (first second : Reading) (factor : second.shift.factor ≡ first.shift.factor) (by : second.shift.by ≡ first.shift.by) (origin : second.origin ≡ first.origin) (expect : second.expect ≡ first.expect) where
-  reread : (file : List ℕ) (points : List Point) → ArePointsOf first file points → All (IsAllowed second.limits) points → ArePointsOf second file points
+  pub reread : (file : List ℕ) (points : List Point) → ArePointsOf first file points → All (IsAllowed second.limits) points → ArePointsOf second file points
   reread file points are allowed = record {
     header = are.header;
     has_header = subst (λ (e : Option (List ℕ)). HeaderReadsAs (head_of file) e (Ok are.header)) (sym expect) are.has_header;
@@ -60,7 +60,7 @@ module _ (first second : Reading) (factor : second.shift.factor ≡ first.shift.
     };
   }
 
-one_input : (inputs : List Input) (i : ℕ) (a b : Input) → slice_get inputs i ≡ Some a → slice_get inputs i ≡ Some b → a ≡ b
+pub one_input : (inputs : List Input) (i : ℕ) (a b : Input) → slice_get inputs i ≡ Some a → slice_get inputs i ≡ Some b → a ≡ b
 one_input inputs i a b is_a is_b = cc
 
 -- what was opened of an input holds its points

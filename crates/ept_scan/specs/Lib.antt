@@ -11,3 +11,4 @@ pub mod Places
 pub mod Queue
 pub mod Reader
 pub mod Opening
+pub mod Laws

@@ -6,6 +6,7 @@ mod extent;
 mod first_reading;
 mod inputs;
 mod las_file;
+mod laws;
 mod open;
 mod part;
 mod queue;
@@ -20,6 +21,9 @@ mod tests;
 mod window;
 
 pub use first_reading::scan;
+pub use laws::{
+    file_once_law, file_or_refusal_law, one_cause_law, scan_once_law, scan_or_refusal_law,
+};
 pub use read_error::ReadError;
 pub use reader::Reader;
 pub use reading::{MAX_POINTS, Reading};

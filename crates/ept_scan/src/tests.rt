@@ -50,7 +50,7 @@ fn front_of(alloc: Global, head: Head) -> Result<Vec<u8>, AllocError> {
     if head.minor == 4 {
         put(bytes, 247, &head.points.to_le_bytes());
     } else {
-        put(bytes, 107, &(head.points as u32).to_le_bytes());
+        put(bytes, 107, &head.points.to_le_bytes()[..4]);
     }
     Ok(file)
 }
