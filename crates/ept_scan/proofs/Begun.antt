@@ -6,7 +6,7 @@ use Rattle.std.proofs.lemmas.Bool.{cases_lt}
 use Rattle.std.proofs.lemmas.Grind.{flat_map-append}
 use Rattle.std.proofs.lemmas.List.{take-append-drop, take_all}
 use Rattle.std.proofs.lemmas.List.Sums.{sum_by-cons}
-use Rattle.std.proofs.lemmas.List.Elements.{All-head, All-tail, All-weaker}
+use Rattle.std.proofs.lemmas.List.Elements.{All-head, All-tail, All-map, All-weaker}
 use Rattle.std.proofs.Math.Seq.{drop-append-add}
 use Rattle.ept_base.specs.Files.{Files, Tells}
 use Rattle.ept_point.specs.declared.point.Point.{Point}
@@ -21,7 +21,7 @@ use Rattle.ept_scan.specs.Places.{StandsAt}
 use Rattle.ept_scan.specs.Reach.{ReadsNoFurther}
 use Rattle.ept_scan.specs.Scans.{in_order, ArePointsFrom}
 use Rattle.ept_scan.specs.Queue.{HoldsPoints, held, RestOf, records_left, IsUnread, StandsBefore, IsQueue, AreNear}
-use Rattle.ept_scan.specs.Opening.{IsKeptScan, total, StartsAt, AreHeld, HasOpened}
+use Rattle.ept_scan.specs.Opening.{IsKeptScan, total, StartsAt, AreHeld, IsFileOf, HasOpened}
 use Rattle.ept_scan.proofs.Listing.{zip_length}
 
 -- the lengths of the first lists are those that the counts state
@@ -102,6 +102,9 @@ module _ {S : Type 0} (whole left : S → Option (List ℕ)) (faults : S → ℕ
       let all : sum_by (λ part. part.points) (drop queue.at queue.parts.items) ≡ sum_by (λ part. part.points) queue.parts.items = ap (λ (k : ℕ). sum_by (λ (part : Part S). part.points) (drop k queue.parts.items)) at in
       let whole_total : total (take (length counts) counts) ≡ total counts = ap total (take_all (length counts) counts (omega arith)) in
       omega (arith, all, whole_total, opened.sum, starts.passed, within, is)
+
+  pub begun_files : All (IsFileOf kept counts) (map (held whole) queue.parts.items)
+  begun_files = All-map (IsFileOf kept counts) (held whole) queue.parts.items opened.known
 
   rest_told : (all : Files) → ((lists : List (List Point)) → ArePointsFrom all kept.scale (Some kept.bounds) kept.inputs 0 (length kept.inputs) lists → AllZip IsCountOf lists counts → AreHeld whole queue.parts.items (drop index (take (length counts) lists)))
       → (points : List Point) → IsKeptScan all kept counts points → RestOf whole queue (drop drawn points)

@@ -3,7 +3,7 @@ use Rattle.std.proofs.Common.{◌≡◌, ◌≢◌, ⊎_elim, ℕ, ◌+◌, ◌<
 use Rattle.std.specs.Prelude.{All, Any, map, slice_get}
 use Rattle.std.specs.List.{AllZip}
 use Rattle.std.proofs.lemmas.Bool.{cases_lt}
-use Rattle.std.proofs.lemmas.Option.{get_or_from_slice_get}
+use Rattle.std.proofs.lemmas.Option.{get_or_from_slice_get, slice_get-get_or}
 use Rattle.std.proofs.lemmas.List.{append-nil, take_more, drop-take, drop-append-le, map-append}
 use Rattle.std.proofs.lemmas.List.Elements.{All-nil, All-push}
 use Rattle.std.proofs.lemmas.List.Sums.{sum_by_push}
@@ -18,7 +18,7 @@ use Rattle.ept_scan.specs.declared.part.Part.{Part}
 use Rattle.ept_scan.specs.Counts.{IsCountOf, FitsBounds, IsSound}
 use Rattle.ept_scan.specs.Scans.{in_order, IsReadingOf, HasPointsAt, ArePointsFrom}
 use Rattle.ept_scan.specs.Queue.{Held, HoldsPoints, held, IsUnread, IsLimited}
-use Rattle.ept_scan.specs.Opening.{total, AreHeld, HasOpened, AddsInput}
+use Rattle.ept_scan.specs.Opening.{total, AreHeld, IsFileOf, HasOpened, AddsInput}
 use Rattle.ept_scan.proofs.Listing.{zip_push, zip_at, zip_length, in_order_push}
 use Rattle.ept_scan.proofs.Spans.{extent_none}
 use Rattle.ept_scan.proofs.Rereading.{part_holds}
@@ -52,6 +52,7 @@ module _ {S : Type 0} (whole left : S → Option (List ℕ)) (faults : S → ℕ
   opened_none = record {
     unread = All-nil (IsUnread whole left);
     limited = All-nil IsLimited;
+    known = All-nil (λ part. IsFileOf kept counts (held whole part));
     fresh = All-nil (λ part. faults part.source ≡ 0);
     sum = omega arith;
     none = λ same. refl;
@@ -84,6 +85,7 @@ module _ {S : Type 0} (whole left : S → Option (List ℕ)) (faults : S → ℕ
       opened_skip = record {
         unread = so_far.unread;
         limited = so_far.limited;
+        known = so_far.known;
         fresh = so_far.fresh;
         sum = omega (arith, so_far.sum, total_more counts i d lt, zero);
         none = λ same. absurd (omega (arith, same, le));
@@ -118,10 +120,24 @@ module _ {S : Type 0} (whole left : S → Option (List ℕ)) (faults : S → ℕ
             same = in_order_push held_before.mine (get_or lists i []) ∙ ap (λ (l : List Point). l ++ get_or lists i []) held_before.same ∙ sym (part_more lists from i le size);
           }
 
+      is_file : IsFileOf kept counts (held whole p)
+      is_file =
+          let here : p.reading.origin ≡ i = reads.origin_is in
+          let at_extent : IsReadingOf kept.scale (get_or counts i d).extent i input p.reading = subst (λ (o : Option Bounds). IsReadingOf kept.scale o i input p.reading) (sym is_extent) reads in
+          record {
+            input = input;
+            is_input = ap (λ (n : ℕ). slice_get kept.inputs n) here ∙ is;
+            count = get_or counts i d;
+            is_count = ap (λ (n : ℕ). slice_get counts n) here ∙ slice_get-get_or counts i d lt;
+            reads = subst (λ (n : ℕ). IsReadingOf kept.scale (get_or counts i d).extent n input p.reading) (sym here) at_extent;
+            points_are = points;
+          }
+
       pub opened_more : HasOpened whole left faults files kept counts from (i + 1) (parts ++ p ∷ [])
       opened_more = record {
         unread = All-push (IsUnread whole left) parts p so_far.unread (record { some = omega (arith, some, points); front = opens.at_start });
         limited = All-push IsLimited parts p so_far.limited (extent, reads.limits_are);
+        known = All-push (λ part. IsFileOf kept counts (held whole part)) parts p so_far.known is_file;
         fresh = All-push (λ part. faults part.source ≡ 0) parts p so_far.fresh fresh;
         sum = omega (arith, so_far.sum, total_more counts i d lt, points, sum_by_push (λ (part : Part S). part.points) parts p);
         none = λ same. absurd (omega (arith, same, le));

@@ -11,7 +11,7 @@ use Rattle.ept_config.specs.declared.source_count.SourceCount.{SourceCount}
 use Rattle.ept_scan.specs.declared.part.Part.{Part}
 use Rattle.ept_scan.specs.Counts.{IsCountOf}
 use Rattle.ept_scan.specs.Scans.{in_order, IsReadingOf, ArePointsFrom, IsScan}
-use Rattle.ept_scan.specs.Queue.{HoldsPoints, held, IsUnread, IsLimited}
+use Rattle.ept_scan.specs.Queue.{Held, HoldsPoints, held, IsUnread, IsLimited}
 
 -- the number of points of some counts
 abbrev pub total : List SourceCount → ℕ
@@ -52,10 +52,20 @@ abbrev pub AddsInput : {S : Type 0} (whole left : S → Option (List ℕ)) (faul
 AddsInput whole left faults files kept i points None old new = new ≡ old
 AddsInput {S} whole left faults files kept i points (Some extent) old new = (part : Part S) × (new ≡ old ++ part ∷ []) × IsOpened whole left faults files kept i points extent part
 
+-- a file is an input of this place, read within the extent and with the number of points that were found of it
+pub record IsFileOf (kept : Kept) (counts : List SourceCount) (file : Held) : Type 0 where
+  pub input : Input
+  pub is_input : slice_get kept.inputs file.reading.origin ≡ Some input
+  pub count : SourceCount
+  pub is_count : slice_get counts file.reading.origin ≡ Some count
+  pub reads : IsReadingOf kept.scale count.extent file.reading.origin input file.reading
+  pub points_are : file.points ≡ count.points
+
 -- the inputs from one on and up to another that have points were opened
 pub record HasOpened {S : Type 0} (whole left : S → Option (List ℕ)) (faults : S → ℕ) (files : Option Files) (kept : Kept) (counts : List SourceCount) (from end : ℕ) (parts : List (Part S)) : Type 0 where
   pub unread : All (IsUnread whole left) parts
   pub limited : All IsLimited parts
+  pub known : All (λ part. IsFileOf kept counts (held whole part)) parts
   pub fresh : All (λ part. faults part.source ≡ 0) parts
   pub sum : sum_by (λ part. part.points) parts + total (take from counts) ≡ total (take end counts)
   pub none : end ≡ from → parts ≡ []

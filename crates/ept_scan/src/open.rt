@@ -7,7 +7,7 @@ ghost use Rattle.ept_point.specs.declared.point.Point as at;
 ghost use Rattle.ept_scan.specs.Counts.{IsSound};
 ghost use Rattle.ept_scan.specs.declared.reading.TheConstants.{MAX_POINTS};
 ghost use Rattle.ept_config.specs.declared.limits.TheConstants.{MAX_INPUTS};
-ghost use Rattle.ept_scan.specs.Opening.{IsKeptScan, total, StartsAt, HasFailed, AddsInput, HasOpened};
+ghost use Rattle.ept_scan.specs.Opening.{IsKeptScan, total, StartsAt, HasFailed, AddsInput, IsFileOf, HasOpened};
 ghost use Rattle.ept_scan.specs.Reader.{drawn_of, allowed_of, left_of, refusal_of, files_of, HasFault, IsRest, ReadsNoFurther, IsReader};
 
 use crate::inputs::reading_of;
@@ -41,6 +41,7 @@ impl<S: Source> Reader<S> {
         ensures left { IfOk result (λ r. left_of r + drawn ≡ total counts.now) }
         ensures allowed { IfOk result (λ r. allowed_of r ≡ 0) }
         ensures refusal { IfOk result (λ r. refusal_of r ≡ None) }
+        ensures inputs { IfOk result (λ r. All (IsFileOf kept.now counts.now) (files_of S.whole r)) }
         ensures rest { IfOk result (λ r. Tells (λ all. (points : List at.Point) → IsKeptScan all kept.now counts.now points → IsRest S.whole r (drop drawn points)) (H.files shelf.old)) }
         ensures far { IfOk result (ReadsNoFurther S.whole S.left) }
         ensures faultless { IfOk result (λ r. HasFault S.faults r → ⊥) }

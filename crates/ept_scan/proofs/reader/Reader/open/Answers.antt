@@ -1,6 +1,6 @@
 use Rattle.std.proofs.Common.{refl, ap, ◌-◌, ℕ, sym, subst, arith}
 use Rattle.ept_scan.specs.Opening.{StartsAt}
-use Rattle.ept_scan.proofs.Begun.{begun_queue, begun_near, begun_count, begun_rest}
+use Rattle.ept_scan.proofs.Begun.{begun_queue, begun_near, begun_count, begun_files, begun_rest}
 use Rattle.ept_scan.proofs.reader.Reader.open.Goals as goal
 
 pub returns-in-Ok-clause-far : goal.returns-in-Ok-clause-far
@@ -17,3 +17,7 @@ returns-in-Ok-clause-reader g c = record {
   fault = λ wrong. cc;
   memory = λ wrong. cc;
 }
+
+pub returns-in-Ok-clause-inputs : goal.returns-in-Ok-clause-inputs
+returns-in-Ok-clause-inputs g c =
+    begun_files g.S.Source.whole g.S.Source.left g.S.Source.faults (g.H.Shelf.files c.args.shelf.now) c.args.kept.now c.args.counts.now c.args.drawn c.start_of-start.result.index (record { parts = c.open_parts.new.parts; at = 0; cursor = c.before-in-Ok.result; window = c.in_ok-window.window }) refl c.before-in-Ok.ensures.header (subst (StartsAt c.args.counts.now c.args.drawn c.start_of-start.result.index) (sym c.before-in-Ok.ensures.number) c.start_of-start.ensures) c.in-Ok.ensures.opened
