@@ -4,7 +4,6 @@ ghost use Rattle.std.specs.Prelude.{◌≡◌, ◌≢◌, ◌≤◌, ◌^◌, �
 ghost use Rattle.std.specs.Option.{ForSome};
 ghost use Rattle.std.specs.List.{All, list_all};
 ghost use Rattle.serde_json.specs.View.{view};
-ghost use Rattle.serde_json.specs.Find.{as_str};
 ghost use Rattle.ept_config.specs.Facts.{input_facts};
 ghost use Rattle.ept_config.specs.InputRanges.{AreBytes, AreThreeWithin};
 ghost use Rattle.ept_config.specs.Inputs.{input_scale, input_shift, input_within, is_input};

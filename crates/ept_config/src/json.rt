@@ -1,12 +1,12 @@
 //! What a JSON value is read as. `specs/Json.antt` has the same words.
 
-ghost use Rattle.std.specs.Prelude.{◌≡◌, ◌≤◌, map, option_map, string_bytes};
+ghost use Rattle.std.specs.Prelude.{◌≡◌, map, option_map, string_bytes};
 ghost use Rattle.std.specs.List.{list_all, list_any};
 ghost use Rattle.std.specs.BTreeMap.{keys as map_keys};
 ghost use Rattle.std.specs.Str.{bytes_eq};
-ghost use Rattle.serde_json.specs.View.{view, items_view};
+ghost use Rattle.serde_json.specs.View.{view};
 ghost use Rattle.serde_json.specs.Find.{as_object};
-ghost use Rattle.ept_config.specs.Json.{whole, wholes, wholes_of, array_items, has_only, is_among, keys_of};
+ghost use Rattle.ept_config.specs.Json.{whole, wholes, wholes_of, array_items, has_only, is_among};
 
 use serde_json::{Map, Number, Value};
 

@@ -1,6 +1,6 @@
 //! The spatial reference of a configuration.
 
-ghost use Rattle.std.specs.Prelude.{◌≡◌, ◌≢◌, codes, option_map, true, IfOk, IfErr};
+ghost use Rattle.std.specs.Prelude.{◌≡◌, ◌≢◌, option_map, true, IfOk, IfErr};
 ghost use Rattle.std.specs.Option.{ForSome};
 ghost use Rattle.serde_json.specs.View.{view};
 ghost use Rattle.ept_config.specs.Facts.{srs_facts};
