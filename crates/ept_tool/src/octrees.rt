@@ -33,7 +33,8 @@ fn scan_of(alloc: Global, places: &[[u8; 3]]) -> Result<Vec<u8>, AllocError> {
     for [x, y, z] in places {
         records.push(at(*x, *y, *z))?;
     }
-    las(alloc, places.len() as u8, &records)
+    let stated = u8::try_from(places.len()).unwrap_or(u8::MAX);
+    las(alloc, stated, &records)
 }
 
 /// Builds points at these places, and compares the line and the files.
