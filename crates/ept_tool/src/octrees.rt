@@ -56,7 +56,10 @@ fn expect_octree(
     }
     assert_eq!(rt; found.status, 0, "{hierarchy}");
     assert_eq!(rt; found.out.bytes(), line.as_bytes(), "{hierarchy}");
-    assert_eq!(rt; found.store.file("ept-hierarchy/0-0-0-0.json"), Some(hierarchy.as_bytes()));
+    assert_eq!(rt;
+        found.store.file("ept-hierarchy/0-0-0-0.json"),
+        Some(hierarchy.as_bytes())
+    );
     for (name, points) in nodes {
         let bytes = packed(alloc, points)?;
         assert_eq!(rt; found.store.file(name), Some(bytes.as_slice()), "{name}");
@@ -74,7 +77,9 @@ fn each_scan_has_its_octree(rt: HostRuntime) -> Result<(), Fail> {
 }
 
 const ROOT: &str = "ept-data/0-0-0-0.bin";
+
 const LOWER: &str = "ept-data/1-0-0-0.bin";
+
 const LOWEST: &str = "ept-data/2-0-0-0.bin";
 
 fn expect_octrees(rt: &impl Abort, alloc: Global) -> Result<(), AllocError> {
