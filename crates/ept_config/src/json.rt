@@ -84,7 +84,8 @@ pub fn has_only(keys: &[&str], value: &Value) -> bool
 }
 
 fn has_members_among(keys: &[&str], members: &Map<String, Value>) -> bool
-    ensures { result ≡ list_all (λ key. list_any (λ other. bytes_eq (string_bytes key) other.now) keys.now) (map_keys members.now) }
+    ensures { result ≡ list_all
+        (λ key. list_any (λ other. bytes_eq (string_bytes key) other.now) keys.now) (map_keys members.now) }
 {
     members.keys().all(|key| is_among(keys, key.as_str()))
 }
