@@ -1,0 +1,34 @@
+use Rattle.std.proofs.Common.{List, sym, subst, arith, length, ap}
+use Rattle.std.specs.Prelude.{All, Option, IfSome}
+use Rattle.std.specs.List.{AllZip}
+use Rattle.ept_config.specs.declared.source_count.SourceCount.{SourceCount}
+use Rattle.ept_space.specs.declared.bounds.Bounds.{Bounds}
+use Rattle.ept_space.specs.CubeOfBounds.{HasPlace}
+use Rattle.ept_scan.specs.Scans.{in_order}
+use Rattle.ept_scan.specs.Counts.{IsCountOf, IsSound}
+use Rattle.ept_scan.proofs.Listing.{zip_length}
+use Rattle.ept_scan.proofs.Sound.{all_sound, scan_found, bounds_ordered, limits_ordered}
+use Rattle.ept_scan.proofs.first_reading.scan.Goals as goal
+
+pub returns-in-Some-clause-one_each : goal.returns-in-Some-clause-one_each
+returns-in-Some-clause-one_each g c =
+    let found = c.in_ok-counts.ensures.found in
+    omega (arith, found.size, zip_length IsCountOf found.lists c.in_ok-counts.counts.items found.counts_are, ap length c.of.ensures)
+
+pub returns-in-Some-clause-sound : goal.returns-in-Some-clause-sound
+returns-in-Some-clause-sound g c =
+    let found = c.in_ok-counts.ensures.found in
+    subst (λ (l : List SourceCount). All (IsSound c.in-Some.bounds) l) (sym c.of.ensures)
+    (all_sound _ _ _ _ _ _ c.in_ok-counts.counts.items c.in-Some.bounds found (c.in-Some.ensures found.lists (subst (λ (l : List SourceCount). AllZip IsCountOf found.lists l) (sym c.deref.ensures.value) found.counts_are)))
+
+pub returns-in-Some-clause-ordered : goal.returns-in-Some-clause-ordered
+returns-in-Some-clause-ordered g c =
+    let found = c.in_ok-counts.ensures.found in
+    let place = subst (λ (o : Option Bounds). IfSome o HasPlace) (sym c.limits_of-limits.ensures) (limits_ordered c.args.kept c.args.config.now.bounds c.requires.kept c.args.config.now.has_bounds) in
+    bounds_ordered c.limits_of-limits.result (in_order found.lists) c.in-Some.bounds place (c.in-Some.ensures found.lists (subst (λ (l : List SourceCount). AllZip IsCountOf found.lists l) (sym c.deref.ensures.value) found.counts_are))
+
+pub returns-in-Some-clause-scan : goal.returns-in-Some-clause-scan
+returns-in-Some-clause-scan g c =
+    let found = c.in_ok-counts.ensures.found in
+    scan_found (g.H.Shelf.files c.args.shelf.now) c.args.config.now.scale c.limits_of-limits.result _ c.args.config.now.inputs c.args.from c.in_ok-counts.counts.items c.of.result c.in-Some.bounds c.limits_of-limits.ensures c.of.ensures found
+    (c.in-Some.ensures found.lists (subst (λ (l : List SourceCount). AllZip IsCountOf found.lists l) (sym c.deref.ensures.value) found.counts_are))

@@ -1,0 +1,38 @@
+use Rattle.std.proofs.Common.{List, ◌+◌, Result, Vec, Global, sym, subst, arith, rules}
+use Rattle.std.proofs.lemmas.Grind.{common_steps}
+use Rattle.std.proofs.lemmas.Result.{err_from_is_err_and}
+use Rattle.std.specs.Prelude.{IfErr}
+use Rattle.std.proofs.lemmas.Option.{slice_get_within}
+use Rattle.ept_base.specs.Files.{Tells}
+use Rattle.ept_config.specs.declared.source_count.SourceCount.{SourceCount}
+use Rattle.ept_scan.specs.declared.scan_error.ScanError.{ScanError}
+use Rattle.ept_scan.specs.Scans.{ScanIsRefused}
+use Rattle.ept_scan.specs.Found.{FindsLists}
+use Rattle.ept_scan.proofs.Listing.{found_none, found_more, found_refused, found_at, refused_at}
+use Rattle.ept_scan.proofs.first_reading.scan_inputs.Goals as goal
+
+pub loop-index-init : goal.loop-index-init
+loop-index-init g c = record {
+  found = subst (λ (l : List SourceCount). FindsLists (g.H.Shelf.files c.args.shelf.now) c.args.config.now.scale c.args.limits c.args.config.now.inputs c.args.from c.args.from l) (sym c.new-counts.ensures.items)
+      (found_none (g.H.Shelf.files c.args.shelf.now) c.args.config.now.scale c.args.limits c.args.config.now.inputs c.args.from);
+  files = search rules;
+  later = search rules;
+}
+
+pub returns-in_err-count-clause-refused : goal.returns-in_err-count-clause-refused
+returns-in_err-count-clause-refused g c =
+    let p = err_from_is_err_and c.from_residual-in_err-count.result c.from_residual-in_err-count.ensures.1 in
+    subst (λ (r : Result (Vec SourceCount Global) ScanError). IfErr r (λ e. Tells (λ all. ScanIsRefused all c.args.config.now.scale c.args.limits c.args.config.now.inputs c.args.from e) (g.H.Shelf.files c.args.shelf.now))) (sym p.1)
+    (found_refused (g.H.Shelf.files c.args.shelf.now) c.args.config.now.scale c.args.limits c.args.config.now.inputs c.args.from c.loop-index.index c.input-input.result.now c.reading_of-reading.result c.input-input.ensures.input c.reading_of-reading.ensures
+    c.loop-index.counts.items p.0 (slice_get_within c.args.config.now.inputs c.loop-index.index c.input-input.result.now c.input-input.ensures.input) c.loop-index.invariant.found
+    (refused_at c.reading_of-reading.result c.in_err-count.field-0.0 p.0 (g.H.Shelf.files c.loop-index.shelf) (g.H.Shelf.files c.args.shelf.now) c.as_str.result.now c.input-input.result.now.path c.loop-index.invariant.files c.as_str.ensures p.2 c.in_err-count.ensures.refused))
+
+pub loop-index-preserved : goal.loop-index-preserved
+loop-index-preserved g c = record {
+  found = subst (λ (l : List SourceCount). FindsLists (g.H.Shelf.files c.args.shelf.now) c.args.config.now.scale c.args.limits c.args.config.now.inputs c.args.from (c.loop-index.index + 1) l) (sym c.in_ok-push.ensures.items)
+      (found_more (g.H.Shelf.files c.args.shelf.now) c.args.config.now.scale c.args.limits c.args.config.now.inputs c.args.from c.loop-index.index c.input-input.result.now c.reading_of-reading.result c.input-input.ensures.input c.reading_of-reading.ensures
+      c.loop-index.counts.items c.in_ok-count.count c.loop-index.invariant.found
+      (found_at c.reading_of-reading.result.limits c.reading_of-reading.result c.in_ok-count.count (g.H.Shelf.files c.loop-index.shelf) (g.H.Shelf.files c.args.shelf.now) c.as_str.result.now c.input-input.result.now.path c.loop-index.invariant.files c.as_str.ensures c.in_ok-count.ensures.count));
+  files = grind (arith, common_steps);
+  later = grind (arith, common_steps);
+}

@@ -1,0 +1,14 @@
+pub mod Reach
+pub mod Extents
+pub mod LasFile
+pub mod Records
+pub mod Refusals
+pub mod Counts
+pub mod Scans
+pub mod Found
+pub mod Changes
+pub mod Places
+pub mod Queue
+pub mod Reader
+pub mod Opening
+pub mod Laws

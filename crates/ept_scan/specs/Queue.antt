@@ -1,0 +1,107 @@
+-- The files of the second reading: what each holds, where it stands, and which points are left.
+use Rattle.std.specs.Prelude.{◌≡◌, ◌≢◌, ℕ, ◌-◌, ◌<◌, ◌≤◌, List, [], ◌∷◌, Option, Some, length, drop, map, sum_by, ⊤, All, Any, Contains}
+use Rattle.std.specs.List.{AllZip}
+use Rattle.ept_base.specs.Files.{Tells}
+use Rattle.ept_point.specs.declared.point.Point.{Point}
+use Rattle.ept_space.specs.declared.bounds.Bounds.{Bounds}
+use Rattle.ept_scan.specs.declared.reading.Reading.{Reading}
+use Rattle.ept_scan.specs.declared.read_error.ReadError.{ReadError}
+use Rattle.ept_scan.specs.declared.read_error.ReadError.TheVariants.{SourceFault, SourceChanged, Memory}
+use Rattle.ept_scan.specs.declared.part.Part.{Part}
+use Rattle.ept_scan.specs.declared.part.Cursor.{Cursor}
+use Rattle.ept_scan.specs.declared.queue.Queue.{Queue}
+use Rattle.ept_scan.specs.Extents.{IsWithin}
+use Rattle.ept_scan.specs.LasFile.{ArePointsOf}
+use Rattle.ept_scan.specs.Scans.{in_order}
+use Rattle.ept_scan.specs.Changes.{Differs}
+use Rattle.ept_scan.specs.Places.{StandsAt}
+use Rattle.ept_scan.specs.Reach.{ReadsNoFurther}
+
+-- a file of which records were left: how it is read, how many points were found, and its bytes where they are told
+pub record Held : Type 0 where
+  pub reading : Reading
+  pub points : ℕ
+  pub file : Option (List ℕ)
+
+-- the bytes are told, and read as the points that were found
+pub record HoldsPoints (held : Held) (points : List Point) : Type 0 where
+  pub file : List ℕ
+  pub told : held.file ≡ Some file
+  pub are : ArePointsOf held.reading file points
+  pub count : length points ≡ held.points
+
+-- the points of these files, without the first ones
+pub record AreRest (ahead : List Held) (passed : ℕ) (points : List Point) : Type 0 where
+  pub lists : List (List Point)
+  pub hold : AllZip HoldsPoints ahead lists
+  pub rest : points ≡ drop passed (in_order lists)
+
+-- the point is of one of these files, and lies where its points may lie
+pub record LiesIn (files : List Held) (p : Point) : Type 0 where
+  pub held : Held
+  pub among : Contains files held
+  pub origin : p.origin ≡ held.reading.origin
+  pub extent : Bounds
+  pub kept : held.reading.limits ≡ Some extent
+  pub within : IsWithin extent p
+
+-- the file of this place in the list of inputs is one of these, and differs from what was found in its header or in record n
+pub record IsChanged (files : List Held) (source n : ℕ) : Type 0 where
+  pub held : Held
+  pub among : Contains files held
+  pub origin : source ≡ held.reading.origin
+  pub differs : Tells (λ bytes. Differs held.reading held.points bytes n) held.file
+
+-- why one of these files is told to have changed; a fault of the device and want of memory say nothing of them
+abbrev pub HasChanged : List Held → ReadError → Type 0
+HasChanged files SourceFault = ⊤
+HasChanged files Memory = ⊤
+HasChanged files (SourceChanged source n) = IsChanged files source n
+
+module _ {S : Type 0} (whole : S → Option (List ℕ)) where
+  abbrev pub held : Part S → Held
+  held part = record { reading = part.reading; points = part.points; file = whole part.source }
+
+  abbrev pub held_of : Queue S → List Held
+  held_of queue = map held queue.parts.items
+
+  -- the points that are left
+  abbrev pub RestOf : Queue S → List Point → Type 0
+  RestOf queue points = AreRest (map held (drop queue.at queue.parts.items)) queue.cursor.number points
+
+-- how many records are left
+abbrev pub records_left : {S : Type 0} → Queue S → ℕ
+records_left queue = sum_by (λ part. part.points) (drop queue.at queue.parts.items) - queue.cursor.number
+
+-- some source has failed
+abbrev pub HasFault : {S : Type 0} → (S → ℕ) → Queue S → Type 0
+HasFault faults queue = Any (λ part. faults part.source ≢ 0) queue.parts.items
+
+-- a file has an extent within which its points are to lie
+abbrev pub IsLimited : {S : Type 0} → Part S → Type 0
+IsLimited part = (extent : Bounds) × (part.reading.limits ≡ Some extent)
+
+module _ {S : Type 0} (whole left : S → Option (List ℕ)) where
+  -- a file that was not begun
+  pub record IsUnread (part : Part S) : Type 0 where
+    pub some : 0 < part.points
+    pub front : left part.source ≡ whole part.source
+
+  -- the file that is read
+  pub record IsCurrent (part : Part S) (cursor : Cursor) (window : List ℕ) : Type 0 where
+    pub more : cursor.number < part.points
+    pub at : StandsAt part.reading part.points (whole part.source) (left part.source) window cursor.number cursor.header
+
+  abbrev pub StandsBefore : List (Part S) → Cursor → List ℕ → Type 0
+  StandsBefore [] cursor window = cursor.number ≡ 0
+  StandsBefore (part ∷ parts) cursor window = IsCurrent part cursor window × All IsUnread parts
+
+  -- the files behind the place are not begun, and the one at the place is read to the record that is next
+  pub record IsQueue (queue : Queue S) : Type 0 where
+    pub within : queue.at ≤ length queue.parts.items
+    pub stands : StandsBefore (drop queue.at queue.parts.items) queue.cursor queue.window
+    pub limited : All IsLimited queue.parts.items
+
+  -- no file was read further than its last record
+  abbrev pub AreNear : Queue S → Type 0
+  AreNear queue = All (λ part. ReadsNoFurther part.reading (whole part.source) (left part.source)) queue.parts.items

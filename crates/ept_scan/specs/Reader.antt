@@ -1,0 +1,52 @@
+-- The second reading, as its callers see it.
+use Rattle.std.specs.Prelude.{◌≡◌, ◌≢◌, ℕ, ◌+◌, ◌^◌, ◌<◌, min, List, Option, Some, None}
+use Rattle.ept_point.specs.declared.point.Point.{Point}
+use Rattle.ept_scan.specs.declared.read_error.ReadError.{ReadError}
+use Rattle.ept_scan.specs.declared.read_error.ReadError.TheVariants.{SourceFault, Memory}
+use Rattle.ept_scan.specs.declared.reader.Reader.{Reader}
+use Rattle.ept_scan.specs.Queue as queue
+
+-- how many records were drawn, counted from the first record of the first input
+abbrev pub drawn_of : {S : Type 0} → Reader S → ℕ
+drawn_of reader = reader.drawn
+
+-- how many more may be drawn
+abbrev pub allowed_of : {S : Type 0} → Reader S → ℕ
+allowed_of reader = reader.allowed
+
+-- how many are left of those that the counts state
+abbrev pub left_of : {S : Type 0} → Reader S → ℕ
+left_of reader = reader.left
+
+-- the refusal that it answers from now on, if there is one
+abbrev pub refusal_of : {S : Type 0} → Reader S → Option ReadError
+refusal_of reader = reader.refused
+
+-- how many records a batch of at most n has: no more than are allowed, and than are left
+abbrev pub batch_of : {S : Type 0} → ℕ → Reader S → ℕ
+batch_of n reader = min n (min (allowed_of reader) (left_of reader))
+
+-- some source has failed
+abbrev pub HasFault : {S : Type 0} → (S → ℕ) → Reader S → Type 0
+HasFault faults reader = queue.HasFault faults reader.queue
+
+module _ {S : Type 0} (whole : S → Option (List ℕ)) where
+  -- the files that are read: how each is read, how many points it was found to have, and its bytes where they are told
+  abbrev pub files_of : Reader S → List queue.Held
+  files_of reader = queue.held_of whole reader.queue
+
+  -- the points that are left, where the sources hold the bytes that were scanned
+  abbrev pub IsRest : Reader S → List Point → Type 0
+  IsRest reader points = queue.RestOf whole reader.queue points
+
+-- no source was read further than the last record that its header states
+abbrev pub ReadsNoFurther : {S : Type 0} → (S → Option (List ℕ)) → (S → Option (List ℕ)) → Reader S → Type 0
+ReadsNoFurther whole left reader = queue.AreNear whole left reader.queue
+
+-- A reader stands before the record that is next, or has a refusal: that it may be a fault of a source, one has failed.
+pub record IsReader {S : Type 0} (whole left : S → Option (List ℕ)) (faults : S → ℕ) (reader : Reader S) : Type 0 where
+  pub stands : refusal_of reader ≡ None → queue.IsQueue whole left reader.queue
+  pub counts : refusal_of reader ≡ None → queue.records_left reader.queue ≡ left_of reader
+  pub fits : drawn_of reader + left_of reader < 2 ^ 64
+  pub fault : refusal_of reader ≡ Some SourceFault → HasFault faults reader
+  pub memory : refusal_of reader ≢ Some Memory

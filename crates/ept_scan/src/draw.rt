@@ -1,0 +1,132 @@
+//! The next record of the second reading.
+
+ghost use Rattle.std.specs.Prelude.{◌≡◌, ◌≢◌, ◌<◌, ◌+◌, Err, IfOk, IfErr, OnOk, OnErr};
+ghost use Rattle.ept_base.specs.Causes.{HasCauseOf};
+ghost use Rattle.ept_base.specs.Files.{Tells};
+ghost use Rattle.ept_scan.specs.Extents.{IsAllowed};
+ghost use Rattle.ept_scan.specs.Changes.{IsChange, HasRecord, change_of};
+ghost use Rattle.ept_scan.specs.Places.{IsWithinFile, StandsAt};
+ghost use Rattle.ept_scan.specs.Reach.{ReadsNoFurther};
+
+use crate::las_file::{begin, skip};
+use crate::part::{Cursor, Part};
+use crate::read_error::ReadError;
+use crate::reading::Reading;
+use crate::record::{Found, next_point};
+use crate::scan_error::ScanError;
+use crate::window::Window;
+use ept_base::Source;
+use ept_las::Header;
+use ept_point::Point;
+
+/// Reads the next record of a file, of which there is one, and moves on behind it.
+pub(crate) fn draw<S: Source>(
+    window: &mut Window,
+    part: &mut Part<S>,
+    cursor: &mut Cursor,
+) -> Result<Point, ReadError>
+    requires more { cursor.old.number < part.old.points }
+    requires at { StandsAt part.old.reading part.old.points (S.whole part.old.source) (S.left part.old.source) window.old cursor.old.number cursor.old.header }
+    ensures allowed { IfOk result (λ p. IsAllowed part.old.reading.limits p) }
+    ensures origin { IfOk result (λ p. p.origin ≡ part.old.reading.origin) }
+    ensures record { IfOk result (λ p. Tells (λ file. HasRecord part.old.reading part.old.points file cursor.old.number p) (S.whole part.old.source)) }
+    ensures changed { IfErr result (IsChange part.old.reading part.old.points (S.whole part.old.source)) }
+    ensures enough { result ≢ Err ReadError.Memory }
+    ensures next { OnOk result (cursor.new.number ≡ cursor.old.number + 1) }
+    ensures at { OnOk result (StandsAt part.old.reading part.old.points (S.whole part.old.source) (S.left part.new.source) window.new cursor.new.number cursor.new.header) }
+    ensures far { ReadsNoFurther part.old.reading (S.whole part.old.source) (S.left part.new.source) }
+    ensures whole { S.whole part.new.source ≡ S.whole part.old.source }
+    ensures reading { part.new.reading ≡ part.old.reading }
+    ensures points { part.new.points ≡ part.old.points }
+    ensures cause { HasCauseOf ReadError.SourceFault (S.faults part.old.source) (S.faults part.new.source) result }
+{
+    let number = cursor.number;
+    let header = header_at(
+        window,
+        &mut part.source,
+        &part.reading,
+        part.points,
+        cursor.header,
+        number,
+    )?;
+    let found = next_point(window, &mut part.source, &part.reading, &header, number)?;
+    let Found::At(point) = found else {
+        return Err(ReadError::SourceChanged {
+            source: part.reading.origin,
+            number,
+        });
+    };
+    cursor.header = Some(header);
+    cursor.number = number + 1;
+    Ok(point)
+}
+
+// The header of a file, which is read now where it was not yet. The place is then before this record.
+fn header_at<S: Source>(
+    window: &mut Window,
+    source: &mut S,
+    reading: &Reading,
+    points: u32,
+    header: Option<Header>,
+    number: u32,
+) -> Result<Header, ReadError>
+    requires more { number < points }
+    requires at { StandsAt reading.now points (S.whole source.old) (S.left source.old) window.old number header }
+    ensures at { IfOk result (IsWithinFile reading.now points (S.whole source.old) (S.left source.new) window.new number) }
+    ensures changed { IfErr result (IsChange reading.now points (S.whole source.old)) }
+    ensures enough { result ≢ Err ReadError.Memory }
+    ensures far { OnErr result (ReadsNoFurther reading.now (S.whole source.old) (S.left source.new)) }
+    ensures whole { S.whole source.new ≡ S.whole source.old }
+    ensures cause { HasCauseOf ReadError.SourceFault (S.faults source.old) (S.faults source.new) result }
+{
+    match header {
+        Some(header) => Ok(header),
+        None => start(window, source, reading, points, number),
+    }
+}
+
+// Reads the header of a file that is at its front, and passes over the records before this one.
+fn start<S: Source>(
+    window: &mut Window,
+    source: &mut S,
+    reading: &Reading,
+    points: u32,
+    number: u32,
+) -> Result<Header, ReadError>
+    requires more { number < points }
+    requires front { S.left source.old ≡ S.whole source.old }
+    ensures at { IfOk result (IsWithinFile reading.now points (S.whole source.old) (S.left source.new) window.new number) }
+    ensures changed { IfErr result (IsChange reading.now points (S.whole source.old)) }
+    ensures enough { result ≢ Err ReadError.Memory }
+    ensures far { OnErr result (ReadsNoFurther reading.now (S.whole source.old) (S.left source.new)) }
+    ensures whole { S.whole source.new ≡ S.whole source.old }
+    ensures cause { HasCauseOf ReadError.SourceFault (S.faults source.old) (S.faults source.new) result }
+{
+    let origin = reading.origin;
+    let header = match begin(window, source, reading) {
+        Ok(header) => header,
+        Err(refused) => return Err(change_of(refused, origin)),
+    };
+    if header.points != u64::from(points) {
+        return Err(ReadError::SourceChanged {
+            source: origin,
+            number: 0,
+        });
+    }
+    let before = u64::from(header.length) * u64::from(number);
+    skip(window, source, u64::from(header.offset) + before)?;
+    Ok(header)
+}
+
+// How a refused header is told: as a fault of the source, or as a change of this file.
+fn change_of(refused: ScanError, origin: u32) -> ReadError
+    ensures { result ≡ change_of refused origin }
+{
+    match refused {
+        ScanError::SourceFault => ReadError::SourceFault,
+        _ => ReadError::SourceChanged {
+            source: origin,
+            number: 0,
+        },
+    }
+}

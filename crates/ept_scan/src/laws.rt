@@ -1,0 +1,29 @@
+//! What holds of all scans. Each law is the contract of a function that does nothing.
+
+ghost use Rattle.ept_scan.specs.Laws.{FileInOneWay, FileOrRefusal, FileForOneCause, ScanInOneWay, ScanOrRefusal};
+
+/// A file reads as one list of points.
+pub fn file_once_law()
+    ensures { FileInOneWay }
+{}
+
+/// A file that reads as points is not refused.
+pub fn file_or_refusal_law()
+    ensures { FileOrRefusal }
+{}
+
+/// A file is refused for one cause.
+pub fn one_cause_law()
+    ensures { FileForOneCause }
+{}
+
+/// Inputs have one list of points.
+pub fn scan_once_law()
+    ensures { ScanInOneWay }
+{}
+
+/// Inputs that have points and bounds are not refused, so where they have, `scan` answers `Ok`, or a
+/// fault of a source or want of memory.
+pub fn scan_or_refusal_law()
+    ensures { ScanOrRefusal }
+{}

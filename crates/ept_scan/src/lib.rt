@@ -1,0 +1,32 @@
+//! Scans: LAS files that are read one after the other, first whole and then in batches.
+#![tactic(auto)]
+
+mod draw;
+mod extent;
+mod first_reading;
+mod inputs;
+mod las_file;
+mod laws;
+mod open;
+mod part;
+mod queue;
+mod read_error;
+mod reader;
+mod reading;
+mod record;
+mod scan_done;
+mod scan_error;
+#[cfg(test)]
+mod tests;
+mod window;
+
+pub use first_reading::scan;
+pub use laws::{
+    file_once_law, file_or_refusal_law, one_cause_law, scan_once_law, scan_or_refusal_law,
+};
+pub use read_error::ReadError;
+pub use reader::Reader;
+pub use reading::{MAX_POINTS, Reading};
+pub use scan_done::ScanDone;
+pub use scan_error::ScanError;
+pub use window::PIECE;

@@ -1,0 +1,39 @@
+//! A file of which records are left.
+
+use crate::reading::Reading;
+use ept_las::Header;
+use ept_point::PointNumber;
+
+/// A file that the first reading has found to have points, as the second one reads it.
+#[derive(Debug)]
+pub(crate) struct Part<S> {
+    pub(crate) source: S,
+    /// How it is read. Its points are to lie within the extent that was found.
+    pub(crate) reading: Reading,
+    /// The number of its points that was found.
+    pub(crate) points: u32,
+}
+
+/// The place of the second reading in a file.
+#[derive(Clone, Copy, Debug)]
+pub(crate) struct Cursor {
+    /// What the header says, once it was read.
+    pub(crate) header: Option<Header>,
+    /// The record that is read next.
+    pub(crate) number: PointNumber,
+}
+
+impl Cursor {
+    ghost use Rattle.std.specs.Prelude.{◌≡◌, None};
+
+    /// Before a record of a file that was not read yet.
+    pub(crate) fn before(number: PointNumber) -> Cursor
+        ensures header { result.header ≡ None }
+        ensures number { result.number ≡ number }
+    {
+        Cursor {
+            header: None,
+            number,
+        }
+    }
+}

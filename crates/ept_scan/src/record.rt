@@ -1,0 +1,84 @@
+//! The next record of a file.
+
+ghost use Rattle.std.specs.Prelude.{◌≡◌, ◌<◌, ◌≤◌, ◌-◌, ◌*◌, IfOk, length, max};
+ghost use Rattle.std.specs.Io.KnownBytes.{prepend_known};
+ghost use Rattle.ept_base.specs.Causes.{HasCause};
+ghost use Rattle.ept_las.specs.Format.{IsFormat, record_length};
+ghost use Rattle.ept_scan.specs.Reach.{HasLeftOf};
+ghost use Rattle.ept_scan.specs.Records.{BytesAre, FindsAllowed, FindsNumbered, ReadsNext, IsWithinReach};
+
+use crate::extent::is_allowed;
+use crate::reading::Reading;
+use crate::window::{PIECE, Window};
+use ept_base::{Failed, Source};
+use ept_las::{Header, read_record};
+use ept_point::Point;
+
+/// What the next record of a file was found to be.
+#[derive(Clone, Copy, Debug)]
+pub(crate) enum Found {
+    /// Its point, which lies where points may lie.
+    At(Point),
+    /// Its place is not in stored units, or not within the limits.
+    Outside,
+    /// The file ends before its last byte.
+    Early,
+}
+
+/// Reads record `number` of a file, which is the next one: from its place on the window and the source
+/// have the rest of the file. Reads in pieces, and no further than the last record.
+pub(crate) fn next_point<S: Source>(
+    window: &mut Window,
+    source: &mut S,
+    reading: &Reading,
+    header: &Header,
+    number: u32,
+) -> Result<Found, Failed>
+    requires format { IsFormat header.now.format }
+    requires size { record_length header.now.format ≤ header.now.length }
+    requires more { number < header.now.points }
+    ensures next { IfOk result (λ it. ReadsNext reading.now header.now number (prepend_known window.old (S.left source.old)) (prepend_known window.new (S.left source.new)) it) }
+    ensures allowed { IfOk result (FindsAllowed reading.now) }
+    ensures numbered { IfOk result (FindsNumbered reading.now number) }
+    ensures reach { IfOk result (λ it. IsWithinReach header.now.length (length window.new) (max (length window.old) (header.now.length * (header.now.points - number))) it) }
+    ensures left { HasLeftOf (S.left source.old) (S.left source.new) (header.now.length * (header.now.points - number) - length window.old) }
+    ensures same { S.whole source.new ≡ S.whole source.old }
+    ensures cause { HasCause (S.faults source.old) (S.faults source.new) result }
+{
+    let length = usize::from(header.length);
+    if !window.fill(source, length, piece_of(header, number))? {
+        return Ok(Found::Early);
+    }
+    let found = point_of(reading, header.format, &window.bytes()[..length], number);
+    window.consume(length);
+    Ok(found)
+}
+
+// How many bytes may be read ahead from record `number` on: those of the records, a piece at most.
+fn piece_of(header: &Header, number: u32) -> usize
+    requires { number < header.now.points }
+    ensures piece { result ≤ PIECE }
+    ensures one { header.now.length ≤ result }
+    ensures all { result ≤ header.now.length * (header.now.points - number) }
+{
+    let left = u64::from(header.length).saturating_mul(header.points - u64::from(number));
+    left.min(PIECE as u64) as usize
+}
+
+// The point of a record's bytes.
+fn point_of(reading: &Reading, format: u8, bytes: &[u8], number: u32) -> Found
+    requires format { IsFormat format }
+    requires size { record_length format ≤ length bytes.now }
+    ensures bytes { BytesAre reading.now format number bytes.now result }
+    ensures allowed { FindsAllowed reading.now result }
+    ensures numbered { FindsNumbered reading.now number result }
+{
+    let Ok(point) = read_record(format, bytes, &reading.shift, reading.origin, number) else {
+        return Found::Outside;
+    };
+    if is_allowed(reading.limits, &point) {
+        Found::At(point)
+    } else {
+        Found::Outside
+    }
+}
