@@ -4,7 +4,6 @@ ghost use Rattle.std.specs.Prelude.{◌≡◌, ◌≢◌, ◌≤◌, ◌^◌, �
 ghost use Rattle.std.specs.Option.{ForSome};
 ghost use Rattle.std.specs.List.{All, list_all};
 ghost use Rattle.serde_json.specs.View.{view};
-ghost use Rattle.serde_json.specs.Find.{as_str};
 ghost use Rattle.ept_config.specs.Facts.{input_facts};
 ghost use Rattle.ept_config.specs.InputRanges.{AreBytes, AreThreeWithin};
 ghost use Rattle.ept_config.specs.Inputs.{input_scale, input_shift, input_within, is_input};
@@ -30,7 +29,8 @@ use std::alloc::Global;
 pub fn inputs(alloc: Global, scale: u8, value: &Value) -> Result<List<Input>, ConfigError>
     requires { scale ≤ 9 }
     ensures ok { IfOk result (λ list. inputs scale (view value.now) ≡ Ok (map input_facts list)) }
-    ensures err { IfErr result (λ e. e ≢ ConfigError.Memory → inputs scale (view value.now) ≡ Err e) }
+    ensures err { IfErr result (λ e. e ≢ ConfigError.Memory
+        → inputs scale (view value.now) ≡ Err e) }
     ensures some { IfOk result (λ list. 1 ≤ length list) }
     ensures most { IfOk result (λ list. length list ≤ 65535) }
     ensures scales { IfOk result (λ list. All (λ input. input.scale ≤ scale) list) }
@@ -49,8 +49,10 @@ pub fn inputs(alloc: Global, scale: u8, value: &Value) -> Result<List<Input>, Co
 #[tactic(auto, unfolding(crate::specs::Values::list_inputs), using(crate::proofs::Objects::mapped))]
 fn list_inputs(alloc: Global, scale: u8, items: &[Value]) -> Result<List<Input>, ConfigError>
     requires { scale ≤ 9 }
-    ensures ok { IfOk result (λ list. list_inputs scale (map view items.now) ≡ Ok (map input_facts list)) }
-    ensures err { IfErr result (λ e. e ≢ ConfigError.Memory → list_inputs scale (map view items.now) ≡ Err e) }
+    ensures ok { IfOk result (λ list. list_inputs scale (map view items.now)
+        ≡ Ok (map input_facts list)) }
+    ensures err { IfErr result (λ e. e ≢ ConfigError.Memory
+        → list_inputs scale (map view items.now) ≡ Err e) }
     ensures some { IfOk result (λ list. 1 ≤ length list) }
     ensures most { IfOk result (λ list. length list ≤ 65535) }
     ensures scales { IfOk result (λ list. All (λ input. input.scale ≤ scale) list) }
@@ -112,8 +114,10 @@ fn input_shift(given: Option<[i128; 3]>) -> Option<[i64; 3]>
 fn input_within(alloc: Global, scale: u8, raw: &RawInput) -> Result<Input, ConfigError>
     requires scale { scale ≤ 9 }
     requires expect { ForSome raw.now.expect (AreBytes 48) }
-    ensures ok { IfOk result (λ input. in_range key.Input (input_within scale (members_of raw.now)) ≡ Ok (input_facts input)) }
-    ensures err { IfErr result (λ e. e ≢ ConfigError.Memory → in_range key.Input (input_within scale (members_of raw.now)) ≡ Err e) }
+    ensures ok { IfOk result (λ input. in_range key.Input (input_within scale (members_of raw.now))
+        ≡ Ok (input_facts input)) }
+    ensures err { IfErr result (λ e. e ≢ ConfigError.Memory
+        → in_range key.Input (input_within scale (members_of raw.now)) ≡ Err e) }
     ensures scale { IfOk result (λ input. input.scale ≤ scale) }
 {
     let key = ConfigKey::Input;
@@ -136,7 +140,8 @@ fn input_within(alloc: Global, scale: u8, raw: &RawInput) -> Result<Input, Confi
 fn input_of(alloc: Global, scale: u8, value: &Value) -> Result<Input, ConfigError>
     requires { scale ≤ 9 }
     ensures ok { IfOk result (λ i. input scale (view value.now) ≡ Ok (input_facts i)) }
-    ensures err { IfErr result (λ e. e ≢ ConfigError.Memory → input scale (view value.now) ≡ Err e) }
+    ensures err { IfErr result (λ e. e ≢ ConfigError.Memory
+        → input scale (view value.now) ≡ Err e) }
     ensures scale { IfOk result (λ i. i.scale ≤ scale) }
 {
     let key = ConfigKey::Input;
@@ -149,8 +154,10 @@ fn input_of(alloc: Global, scale: u8, value: &Value) -> Result<Input, ConfigErro
 fn one_input(alloc: Global, scale: u8, value: &Value) -> Result<List<Input>, ConfigError>
     requires scale { scale ≤ 9 }
     requires kind { is_input (view value.now) ≡ true }
-    ensures ok { IfOk result (λ list. list_inputs scale (view value.now ∷ []) ≡ Ok (map input_facts list)) }
-    ensures err { IfErr result (λ e. e ≢ ConfigError.Memory → list_inputs scale (view value.now ∷ []) ≡ Err e) }
+    ensures ok { IfOk result (λ list. list_inputs scale (view value.now ∷ [])
+        ≡ Ok (map input_facts list)) }
+    ensures err { IfErr result (λ e. e ≢ ConfigError.Memory
+        → list_inputs scale (view value.now ∷ []) ≡ Err e) }
     ensures count { IfOk result (λ list. length list ≡ 1) }
     ensures scales { IfOk result (λ list. All (λ input. input.scale ≤ scale) list) }
 {
@@ -162,8 +169,10 @@ fn one_input(alloc: Global, scale: u8, value: &Value) -> Result<List<Input>, Con
 // As many inputs as there are items.
 fn inputs_of(alloc: Global, scale: u8, items: &[Value]) -> Result<List<Input>, ConfigError>
     requires { scale ≤ 9 }
-    ensures ok { IfOk result (λ list. each_input scale (map view items.now) ≡ Ok (map input_facts list)) }
-    ensures err { IfErr result (λ e. e ≢ ConfigError.Memory → each_input scale (map view items.now) ≡ Err e) }
+    ensures ok { IfOk result (λ list. each_input scale (map view items.now)
+        ≡ Ok (map input_facts list)) }
+    ensures err { IfErr result (λ e. e ≢ ConfigError.Memory
+        → each_input scale (map view items.now) ≡ Err e) }
     ensures count { IfOk result (λ list. length list ≡ length items.now) }
     ensures scales { IfOk result (λ list. All (λ input. input.scale ≤ scale) list) }
 {

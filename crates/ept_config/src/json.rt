@@ -1,12 +1,12 @@
 //! What a JSON value is read as. `specs/Json.antt` has the same words.
 
-ghost use Rattle.std.specs.Prelude.{◌≡◌, ◌≤◌, map, option_map, string_bytes};
+ghost use Rattle.std.specs.Prelude.{◌≡◌, map, option_map, string_bytes};
 ghost use Rattle.std.specs.List.{list_all, list_any};
 ghost use Rattle.std.specs.BTreeMap.{keys as map_keys};
 ghost use Rattle.std.specs.Str.{bytes_eq};
-ghost use Rattle.serde_json.specs.View.{view, items_view};
+ghost use Rattle.serde_json.specs.View.{view};
 ghost use Rattle.serde_json.specs.Find.{as_object};
-ghost use Rattle.ept_config.specs.Json.{whole, wholes, wholes_of, array_items, has_only, is_among, keys_of};
+ghost use Rattle.ept_config.specs.Json.{whole, wholes, wholes_of, array_items, has_only, is_among};
 
 use serde_json::{Map, Number, Value};
 
@@ -84,7 +84,8 @@ pub fn has_only(keys: &[&str], value: &Value) -> bool
 }
 
 fn has_members_among(keys: &[&str], members: &Map<String, Value>) -> bool
-    ensures { result ≡ list_all (λ key. list_any (λ other. bytes_eq (string_bytes key) other.now) keys.now) (map_keys members.now) }
+    ensures { result ≡ list_all
+        (λ key. list_any (λ other. bytes_eq (string_bytes key) other.now) keys.now) (map_keys members.now) }
 {
     members.keys().all(|key| is_among(keys, key.as_str()))
 }

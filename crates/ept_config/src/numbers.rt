@@ -1,6 +1,6 @@
 //! Which numbers are in range.
 
-ghost use Rattle.std.specs.Prelude.{◌≡◌, ◌≤◌, ◌<◌, ◌==◌, position, IfSome, IsTrue, ◌≤ℤ◌, FitsSigned, int_le, unsigned_abs, true};
+ghost use Rattle.std.specs.Prelude.{◌≡◌, ◌≤◌, ◌<◌, ◌==◌, position, IfSome, IsTrue, ◌≤ℤ◌, FitsSigned, int_le, unsigned_abs};
 ghost use Rattle.std.specs.Int.{w32};
 ghost use Rattle.ept_space.specs.CubeOfBounds.{HasPlace};
 ghost use Rattle.std.specs.Option.{SomeIff};

@@ -1,6 +1,6 @@
 //! What a configuration says of an input, before its ranges are looked at.
 
-ghost use Rattle.std.specs.Prelude.{◌≡◌, codes, option_map, option_and_then, IfSome};
+ghost use Rattle.std.specs.Prelude.{◌≡◌, option_map, IfSome};
 ghost use Rattle.std.specs.Option.{ForSome};
 ghost use Rattle.serde_json.specs.View.{view};
 ghost use Rattle.ept_config.specs.Inputs.{path_member, scale_member, shift_member, expect_member, raw_input, input_members, input_object};

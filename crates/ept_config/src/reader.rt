@@ -1,6 +1,6 @@
 //! The text of a configuration.
 
-ghost use Rattle.std.specs.Prelude.{◌≡◌, ◌≢◌, ◌≤◌, ◌<◌, option_map, is_some, length, IfOk, IfErr, IsErrOf, IsTrue, ◌↔◌, Some, None, Ok, Err};
+ghost use Rattle.std.specs.Prelude.{◌≡◌, ◌≢◌, ◌<◌, IfOk, IfErr, Some, None, Ok, Err};
 ghost use Rattle.serde_json.specs.Errors.{IsMemory};
 ghost use Rattle.serde_json.specs.View.{view};
 ghost use Rattle.ept_config.specs.Facts.{facts};
@@ -72,7 +72,8 @@ pub fn read_config(alloc: Global, bytes: &[u8]) -> Result<Config, ConfigError>
 #[tactic(auto, using(crate::proofs::Documents::document_read, crate::proofs::Documents::document_refused))]
 fn document(alloc: Global, bytes: &[u8]) -> Result<Value, ConfigError>
     ensures ok { IfOk result (λ value. document bytes.now ≡ Some (view value)) }
-    ensures err { IfErr result (λ e. e ≢ ConfigError.Memory → (e ≡ ConfigError.Json) × (document bytes.now ≡ None)) }
+    ensures err { IfErr result (λ e. e ≢ ConfigError.Memory
+        → (e ≡ ConfigError.Json) × (document bytes.now ≡ None)) }
 {
     match Value::from_slice(alloc, bytes) {
         Ok(value) => Ok(value),
@@ -101,7 +102,8 @@ fn has_known_keys(top: &Value) -> bool
 #[tactic(auto, unfolding(crate::specs::Configuration::value_reading))]
 fn read_value(alloc: Global, top: &Value) -> Result<Config, ConfigError>
     ensures ok { IfOk result (λ config. value_reading (view top.now) ≡ Ok (facts config)) }
-    ensures err { IfErr result (λ e. e ≢ ConfigError.Memory → value_reading (view top.now) ≡ Err e) }
+    ensures err { IfErr result (λ e. e ≢ ConfigError.Memory
+        → value_reading (view top.now) ≡ Err e) }
 {
     if !top.is_object() {
         return Err(ConfigError::Kind {
@@ -117,7 +119,8 @@ fn read_value(alloc: Global, top: &Value) -> Result<Config, ConfigError>
 #[tactic(auto, unfolding(crate::specs::Configuration::object_reading, crate::specs::Configuration::settings, crate::specs::Configuration::values))]
 fn read_object(alloc: Global, top: &Value) -> Result<Config, ConfigError>
     ensures ok { IfOk result (λ config. object_reading (view top.now) ≡ Ok (facts config)) }
-    ensures err { IfErr result (λ e. e ≢ ConfigError.Memory → object_reading (view top.now) ≡ Err e) }
+    ensures err { IfErr result (λ e. e ≢ ConfigError.Memory
+        → object_reading (view top.now) ≡ Err e) }
 {
     let input = required(ConfigKey::Input, top)?;
     let scale = required(ConfigKey::Scale, top)?;
@@ -171,7 +174,8 @@ fn read_object(alloc: Global, top: &Value) -> Result<Config, ConfigError>
 
 // The value of a required key.
 fn required(key: ConfigKey, top: &Value) -> Result<&Value, ConfigError>
-    ensures ok { IfOk result (λ value. required key (get (name_of key) (view top.now)) ≡ Ok (view value.now)) }
+    ensures ok { IfOk result (λ value. required key (get (name_of key) (view top.now))
+        ≡ Ok (view value.now)) }
     ensures err { IfErr result (λ e. required key (get (name_of key) (view top.now)) ≡ Err e) }
 {
     top.get(key.name()).ok_or(ConfigError::Missing { key })

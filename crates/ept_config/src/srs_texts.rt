@@ -1,6 +1,6 @@
 //! The spatial reference of a configuration.
 
-ghost use Rattle.std.specs.Prelude.{◌≡◌, ◌≢◌, codes, option_map, true, IfOk, IfErr};
+ghost use Rattle.std.specs.Prelude.{◌≡◌, ◌≢◌, option_map, true, IfOk, IfErr};
 ghost use Rattle.std.specs.Option.{ForSome};
 ghost use Rattle.serde_json.specs.View.{view};
 ghost use Rattle.ept_config.specs.Facts.{srs_facts};
@@ -84,7 +84,8 @@ fn srs_members(object: &Value) -> Option<RawSrs<'_>>
 // A text that may be absent: `None` where it is there and no text.
 #[tactic(auto, unfolding(crate::specs::SrsTexts::srs_member))]
 fn srs_member<'a>(object: &'a Value, name: &str) -> Option<Option<&'a str>>
-    ensures { option_map (λ text. option_map (λ t. t.now) text) result ≡ srs_member name.now (view object.now) }
+    ensures { option_map (λ text. option_map (λ t. t.now) text) result
+        ≡ srs_member name.now (view object.now) }
 {
     match object.get(name) {
         Some(value) => Some(Some(value.as_str()?)),
@@ -95,7 +96,8 @@ fn srs_member<'a>(object: &'a Value, name: &str) -> Option<Option<&'a str>>
 #[tactic(auto, unfolding(crate::specs::Values::srs_texts))]
 fn srs_texts(alloc: Global, raw: &RawSrs) -> Result<Srs, ConfigError>
     ensures ok { IfOk result (λ texts. srs_texts (raw_srs_facts raw.now) ≡ Ok (srs_facts texts)) }
-    ensures err { IfErr result (λ e. e ≢ ConfigError.Memory → srs_texts (raw_srs_facts raw.now) ≡ Err e) }
+    ensures err { IfErr result (λ e. e ≢ ConfigError.Memory
+        → srs_texts (raw_srs_facts raw.now) ≡ Err e) }
 {
     Ok(Srs {
         authority: srs_text(alloc, raw.authority)?,
@@ -108,7 +110,8 @@ fn srs_texts(alloc: Global, raw: &RawSrs) -> Result<Srs, ConfigError>
 #[tactic(auto, unfolding(crate::specs::Values::srs_text, crate::specs::SrsTexts::fits_srs))]
 fn srs_text(alloc: Global, text: Option<&str>) -> Result<Option<Text>, ConfigError>
     ensures ok { IfOk result (λ kept. srs_text (option_map (λ t. t.now) text.entry) ≡ Ok kept) }
-    ensures err { IfErr result (λ e. e ≢ ConfigError.Memory → srs_text (option_map (λ t. t.now) text.entry) ≡ Err e) }
+    ensures err { IfErr result (λ e. e ≢ ConfigError.Memory
+        → srs_text (option_map (λ t. t.now) text.entry) ≡ Err e) }
     ensures fits { IfOk result (λ kept. ForSome kept (λ t. is_srs_text t ≡ true)) }
 {
     let Some(text) = text else {

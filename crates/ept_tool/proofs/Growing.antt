@@ -1,6 +1,6 @@
 -- A tree that points are brought into keeps the law of the core: each turn is a step of it.
-use Rattle.std.proofs.Common.{◌≡◌, ◌∙◌, ℕ, zero, suc, ◌+◌, ◌≤◌, ◌<◌, Bool, true, false, not, ◌||◌, ◌&&◌, ◌==◌, inl, inr, List, [], ◌∷◌, ◌++◌, map, refl, sym, ap, subst, arith, filter, length, Option, Some, None, Result, Ok, Err, OnOk}
-use Rattle.std.specs.List.{All, flat_map}
+use Rattle.std.proofs.Common.{◌≡◌, ◌∙◌, ℕ, zero, suc, ◌+◌, ◌≤◌, ◌<◌, Bool, true, not, ◌||◌, ◌&&◌, ◌==◌, inl, inr, List, [], ◌∷◌, ◌++◌, map, refl, sym, ap, subst, arith, Some, None, Result, Ok, Err, OnOk}
+use Rattle.std.specs.List.{flat_map}
 use Rattle.std.specs.BTreeMap.{is_at, insert_entry}
 use Rattle.std.specs.Map.{lookup, set_value}
 use Rattle.std.proofs.lemmas.List.Elements.{filter_agree, All-nil, All-cons, All-head, All-append}
@@ -23,8 +23,7 @@ use Rattle.ept_grid.specs.Node.{is_open_in, given_with, TakesIn}
 use Rattle.ept_core.specs.declared.flight.Flight.{Flight}
 use Rattle.ept_core.specs.declared.node.Node as core
 use Rattle.ept_core.specs.State.{State, Entry, blank, node_at, has_node, has_open}
-use Rattle.ept_core.specs.Steps as steps
-use Rattle.ept_core.specs.Steps.{with_node, gathered, node_after, flights_after, arrived, drawn, begun}
+use Rattle.ept_core.specs.Steps.{with_node, gathered, node_after, flights_after}
 use Rattle.ept_core.specs.Law.{KeepsLaw}
 use Rattle.ept_core.proofs.ArriveLaw.{arrive-keeps}
 use Rattle.ept_core.proofs.OtherSteps.{draw-keeps}
@@ -180,7 +179,7 @@ module _ (rules : Rules) (points left : List Point) (a : Arrival) (others : List
     pub arrived-tree : (nodes' : List Branch) → map entry_of nodes' ≡ with_node (map entry_of nodes) a.key (node_of new) → AreNodes rules nodes' → IsTree rules points left (others ++ on_the_way) nodes'
     arrived-tree nodes' are own' = record {
       law = subst (λ (es : List Entry). KeepsLaw rules points (record { left = left; flights = map flight_of (others ++ on_the_way); nodes = es })) (ap (λ (n : core.Node). with_node (map entry_of nodes) a.key n) (sym node_is) ∙ sym are)
-      (regrouped rules points left core_nodes (map flight_of others ++ flights_after 0 rules a.key here (gathered (map entry_of nodes) (flight_of a))) (map flight_of (others ++ on_the_way)) same_flights (arrive-keeps rules points s [] (flight_of a) (map flight_of others) tree.law refl));
+          (regrouped rules points left core_nodes (map flight_of others ++ flights_after 0 rules a.key here (gathered (map entry_of nodes) (flight_of a))) (map flight_of (others ++ on_the_way)) same_flights (arrive-keeps rules points s [] (flight_of a) (map flight_of others) tree.law refl));
       own = own';
     }
 

@@ -1,6 +1,5 @@
 -- Points that a scan of this stage has can be sampled.
-use Rattle.std.proofs.Common.{◌≡◌, ◌∙◌, inr, ℕ, suc, ◌<◌, List, get_or, length, sym, ap, subst, arith}
-use Rattle.std.specs.Prelude.{ℤ, ◌≤ℤ◌, All}
+use Rattle.std.proofs.Common.{◌∙◌, inr, ℕ, suc, ◌<◌, List, get_or, length, sym, arith}
 use Rattle.std.proofs.lemmas.List.Elements.{All-weaker}
 use Rattle.ept_point.specs.declared.point.Point.{Point}
 use Rattle.ept_point.specs.Order.{id, IsBefore}

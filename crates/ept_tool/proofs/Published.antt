@@ -1,5 +1,5 @@
 -- Files that were put one after another are the octree's.
-use Rattle.std.proofs.Common.{◌≡◌, ◌≢◌, ◌∙◌, inl, inr, ℕ, suc, ◌<◌, List, [], ◌∷◌, ◌++◌, map, cond, refl, sym, ap, subst, arith, length, get_or, append_assoc, Option, Some}
+use Rattle.std.proofs.Common.{◌≡◌, ◌≢◌, ◌∙◌, inl, inr, ℕ, suc, List, [], ◌∷◌, ◌++◌, map, cond, refl, sym, ap, subst, arith, get_or, append_assoc, Option, Some}
 use Rattle.std.specs.Prelude.{codes, decimal, All, true, false, bytes_eq}
 use Rattle.std.proofs.lemmas.List.{append_cancel_left, append_cancel_right}
 use Rattle.std.proofs.lemmas.List.Kept.{AllPairs-cons}
@@ -109,10 +109,10 @@ module _ (tiles : List Tile) (extent : Extent) (count : ℕ) (hierarchy metadata
     published = record {
       tiles_are = All-weaker (λ (t : Tile). with_tiles old tiles (tile_name t.key) ≡ Some (tile t.points)) (λ (t : Tile). new (tile_name t.key) ≡ Some (tile t.points)) (λ t is. reads (tile_name t.key) (not_hierarchy t.key) (not_metadata t.key) ∙ is) tiles (tiles_at old tiles distinct);
       hierarchy_is = same HIERARCHY.now
-      ∙ (changed_other (changed (with_tiles old tiles) HIERARCHY.now (Some hierarchy)) METADATA.now (Some metadata) HIERARCHY.now hierarchy_apart
-      ∙ (changed_same (with_tiles old tiles) HIERARCHY.now (Some hierarchy) ∙ ap (λ (w : List ℕ). Some w) hierarchy_is));
+          ∙ (changed_other (changed (with_tiles old tiles) HIERARCHY.now (Some hierarchy)) METADATA.now (Some metadata) HIERARCHY.now hierarchy_apart
+          ∙ (changed_same (with_tiles old tiles) HIERARCHY.now (Some hierarchy) ∙ ap (λ (w : List ℕ). Some w) hierarchy_is));
       metadata_is = same METADATA.now
-      ∙ (changed_same (changed (with_tiles old tiles) HIERARCHY.now (Some hierarchy)) METADATA.now (Some metadata) ∙ ap (λ (w : List ℕ). Some w) metadata_is);
+          ∙ (changed_same (changed (with_tiles old tiles) HIERARCHY.now (Some hierarchy)) METADATA.now (Some metadata) ∙ ap (λ (w : List ℕ). Some w) metadata_is);
       others_stay = λ name no_tile no_hierarchy no_metadata. reads name no_hierarchy no_metadata ∙ others_at old tiles name no_tile;
     }
 

@@ -1,5 +1,5 @@
 -- Flights that carry the same points to the same nodes are alike to the law: a flight may be split into its points.
-use Rattle.std.proofs.Common.{◌≡◌, ◌∙◌, ℕ, ◌<◌, ◌⊎◌, inl, inr, List, [], ◌∷◌, ◌++◌, map, refl, sym, ap, subst, arith}
+use Rattle.std.proofs.Common.{◌≡◌, ◌∙◌, ℕ, ◌⊎◌, inl, inr, List, [], ◌∷◌, ◌++◌, map, refl, sym, ap, subst}
 use Rattle.std.specs.List.{flat_map}
 use Rattle.std.specs.List.Sorted.{IsPermutation}
 use Rattle.std.proofs.lemmas.List.Concat.{flat_map-append}
@@ -8,9 +8,8 @@ use Rattle.ept_space.specs.declared.cube.Rules.{Rules}
 use Rattle.ept_space.specs.VoxelKey.{VoxelKey, child}
 use Rattle.ept_sample.specs.Members.{IsMember}
 use Rattle.ept_sample.proofs.Members.{IsMember-left, IsMember-right, IsMember-append, IsMember-map, member-map, IsMember-flat_map, member-flat_map}
-use Rattle.ept_sample.specs.Arrivals.{all_octants}
 use Rattle.ept_core.specs.declared.flight.Flight.{Flight}
-use Rattle.ept_core.specs.State.{State, Entry, held, IsFlying, IsHeld, IsHeldWithin}
+use Rattle.ept_core.specs.State.{State, Entry, IsFlying, IsHeld, IsHeldWithin}
 use Rattle.ept_core.specs.Law.{KeepsLaw, HoldsMore, HasPoint}
 use Rattle.ept_core.proofs.NodeMap.{points_of}
 use Rattle.ept_core.proofs.Held.{flown}
@@ -50,10 +49,13 @@ module _ (rules : Rules) (points left : List Point) (nodes : List Entry) (xs ys 
   pub regrouped : KeepsLaw rules points (state_with xs) → KeepsLaw rules points (state_with ys)
   regrouped law = record {
     points_law = law.points_law;
-    same_points = (law.same_points.0, record {
-      suffix = law.same_points.1.suffix;
-      held_once = subst (λ (w : List Point). IsPermutation law.same_points.0 (points_of nodes ++ w)) same.carried law.same_points.1.held_once;
-    });
+    same_points = (
+      law.same_points.0,
+      record {
+        suffix = law.same_points.1.suffix;
+        held_once = subst (λ (w : List Point). IsPermutation law.same_points.0 (points_of nodes ++ w)) same.carried law.same_points.1.held_once;
+      },
+    );
     placed = record {
       in_box = λ key p h. law.placed.in_box key p (held_back key p h);
       shallow = λ key p h. law.placed.shallow key p (held_back key p h);
@@ -96,7 +98,7 @@ behind-others others xs ys full same = record {
     | inr r ↦ flying-right others xs key p (same.back key p r)
   ];
   carried = flat_map-append (λ (f : Flight). f.points) others xs
-  ∙ (ap (λ (w : List Point). flown others ++ w) same.carried ∙ sym (flat_map-append (λ (f : Flight). f.points) others ys));
+      ∙ (ap (λ (w : List Point). flown others ++ w) same.carried ∙ sym (flat_map-append (λ (f : Flight). f.points) others ys));
   flying = λ f m. elim (IsMember-append f others ys m) [ inl l ↦ full f l | inr r ↦ same.flying f r ];
 }
 

@@ -33,7 +33,8 @@ fn scan_of(alloc: Global, places: &[[u8; 3]]) -> Result<Vec<u8>, AllocError> {
     for [x, y, z] in places {
         records.push(at(*x, *y, *z))?;
     }
-    las(alloc, places.len() as u8, &records)
+    let stated = u8::try_from(places.len()).unwrap_or(u8::MAX);
+    las(alloc, stated, &records)
 }
 
 /// Builds points at these places, and compares the line and the files.
@@ -55,7 +56,10 @@ fn expect_octree(
     }
     assert_eq!(rt; found.status, 0, "{hierarchy}");
     assert_eq!(rt; found.out.bytes(), line.as_bytes(), "{hierarchy}");
-    assert_eq!(rt; found.store.file("ept-hierarchy/0-0-0-0.json"), Some(hierarchy.as_bytes()));
+    assert_eq!(rt;
+        found.store.file("ept-hierarchy/0-0-0-0.json"),
+        Some(hierarchy.as_bytes())
+    );
     for (name, points) in nodes {
         let bytes = packed(alloc, points)?;
         assert_eq!(rt; found.store.file(name), Some(bytes.as_slice()), "{name}");
@@ -73,7 +77,9 @@ fn each_scan_has_its_octree(rt: HostRuntime) -> Result<(), Fail> {
 }
 
 const ROOT: &str = "ept-data/0-0-0-0.bin";
+
 const LOWER: &str = "ept-data/1-0-0-0.bin";
+
 const LOWEST: &str = "ept-data/2-0-0-0.bin";
 
 fn expect_octrees(rt: &impl Abort, alloc: Global) -> Result<(), AllocError> {

@@ -72,12 +72,7 @@ fn texts_of(alloc: Global, tree: &Tree, extent: &Extent, count: u64) -> Result<T
 }
 
 // Puts the tile of a node.
-fn put_tile<T: Store>(
-    alloc: Global,
-    store: &mut T,
-    key: &Key,
-    node: &Grid,
-) -> Result<(), PutError>
+fn put_tile<T: Store>(alloc: Global, store: &mut T, key: &Key, node: &Grid) -> Result<(), PutError>
     ensures ok { OnOk result (StepsBy (Puts (tile_name key.now) (tile node.now.points)) (T.files store.old) (T.files store.new)) }
     ensures any_moment { Moves T.files T.may_leave T.moment T.image_since SameButOctree store.old store.new }
     ensures cause { HasCauseOf PutError.Failed (T.faults store.old) (T.faults store.new) result }

@@ -322,7 +322,11 @@ fn each_configuration_has_its_status(rt: HostRuntime) -> Result<(), Fail> {
 }
 
 /// A configuration of this path and this ending.
-pub(crate) fn configuration(alloc: Global, path: &[u8], ending: &[u8]) -> Result<Vec<u8>, AllocError> {
+pub(crate) fn configuration(
+    alloc: Global,
+    path: &[u8],
+    ending: &[u8],
+) -> Result<Vec<u8>, AllocError> {
     let mut text = Vec::from_slice(alloc, BEFORE_PATH)?;
     text.extend_from_slice(path)?;
     text.extend_from_slice(BEHIND_PATH)?;

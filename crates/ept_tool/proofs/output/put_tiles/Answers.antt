@@ -1,4 +1,4 @@
-use Rattle.std.proofs.Common.{◌≡◌, ◌∙◌, List, map, refl, subst, arith, rules}
+use Rattle.std.proofs.Common.{◌≡◌, List, map, refl, subst, arith, rules}
 use Rattle.std.specs.Map.Iter.{deref_pair}
 use Rattle.std.proofs.lemmas.Map.Iter.{iter_end}
 use Rattle.ept_base.specs.Files.{SameFiles, StepsBy}

@@ -1,4 +1,4 @@
-use Rattle.std.proofs.Common.{◌≡◌, ◌∙◌, ℕ, ◌+◌, length, List, refl, sym, subst, arith}
+use Rattle.std.proofs.Common.{◌≡◌, ◌∙◌, ◌+◌, length, List, refl, sym, subst, arith}
 use Rattle.std.proofs.lemmas.List.Elements.{All-nil}
 use Rattle.ept_tool.specs.declared.arrival.Arrival.{Arrival}
 use Rattle.ept_tool.specs.Tree.{AreAtDepth}
@@ -21,8 +21,7 @@ arrive-requires-clause-tree c =
     let i = c.loop-arrival in
     let rules = c.args.self.now.rules in
     let arrivals = c.args.arrivals.now in
-    let old = c.args.self.now.nodes.entries in
-    (
+    let old = c.args.self.now.nodes.entries in (
       others rules i.self.rules i.invariant.rules arrivals i.next.items i.arrival-index c.arrival-item.result c.loop-arrival-test.true c.arrival-item.is old i.self.nodes.entries i.invariant.becomes,
       (c.requires.tree.0, c.requires.tree.1, descent-next rules i.self.rules i.invariant.rules arrivals i.next.items i.arrival-index c.arrival-item.result c.loop-arrival-test.true c.arrival-item.is old i.self.nodes.entries i.invariant.becomes c.requires.tree.0 c.requires.tree.1 c.requires.tree.2),
     )

@@ -1,11 +1,10 @@
-use Rattle.std.proofs.Common.{◌≡◌, ◌∙◌, ℕ, ◌+◌, ◌<◌, List, [], ◌∷◌, refl, sym, subst, ap, arith}
+use Rattle.std.proofs.Common.{◌≡◌, ◌∙◌, List, [], ◌∷◌, refl, sym, subst, ap, arith}
 use Rattle.std.proofs.lemmas.List.Elements.{All-nil, All-cons}
-use Rattle.ept_point.specs.declared.point.Point.{Point}
 use Rattle.ept_space.specs.declared.cube.Rules.{Rules}
 use Rattle.ept_space.specs.VoxelKey.{root}
 use Rattle.ept_tool.specs.declared.tree.Tree.{Tree}
 use Rattle.ept_tool.specs.declared.arrival.Arrival.{Arrival}
-use Rattle.ept_tool.specs.Tree.{IsTree, Becomes, AreAtDepth}
+use Rattle.ept_tool.specs.Tree.{IsTree, AreAtDepth}
 use Rattle.ept_tool.proofs.Growing.{drawn-tree, none-deeper}
 use Rattle.ept_tool.proofs.tree.Tree.insert.Goals as goal
 

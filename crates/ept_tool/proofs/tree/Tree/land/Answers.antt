@@ -1,6 +1,5 @@
-use Rattle.std.proofs.Common.{◌≡◌, ◌∙◌, ℕ, ◌<◌, List, ◌++◌, sym, ap, subst, length}
-use Rattle.std.specs.BTreeMap.{is_at, insert_entry}
-use Rattle.std.specs.Map.{set_value}
+use Rattle.std.proofs.Common.{◌∙◌, ℕ, ◌<◌, List, ◌++◌, sym, ap, subst, length}
+use Rattle.std.specs.BTreeMap.{insert_entry}
 use Rattle.ept_space.specs.declared.cube.Rules.{Rules}
 use Rattle.ept_space.specs.VoxelKey.{VoxelKey, key_cmp}
 use Rattle.ept_space.specs.OctreeCube.{InBox}
@@ -8,7 +7,7 @@ use Rattle.ept_sample.specs.Place.{place}
 use Rattle.ept_grid.specs.Node.{TakesIn}
 use Rattle.ept_grid.specs.Outgoing.{points_at}
 use Rattle.ept_tool.specs.Sending.{sending}
-use Rattle.ept_tool.specs.Tree.{Branch, IsTree, HasLanded}
+use Rattle.ept_tool.specs.Tree.{Branch, IsTree}
 use Rattle.ept_tool.proofs.Growing.{arrival-inside, arrival-shallow, found-inside, found-distinct, found-above, found-tree, new-distinct, new-node-tree, both-ok}
 use Rattle.ept_tool.proofs.tree.Tree.land.Goals as goal
 
