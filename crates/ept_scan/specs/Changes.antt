@@ -21,26 +21,33 @@ pub record StatesPoints (reading : Reading) (points : ℕ) (file : List ℕ) (he
 
 -- the header is refused, or states another number of points
 abbrev pub HeaderDiffers : Reading → ℕ → List ℕ → Type 0
-HeaderDiffers reading points file = ((fault : LasError) × HeaderReadsAs (head_of file) reading.expect (Err fault)) ⊎ ((header : Header) × HasHeader reading file header × (header.points ≢ points))
+HeaderDiffers reading points file = ((fault : LasError)
+    × HeaderReadsAs (head_of file) reading.expect (Err fault))
+    ⊎ ((header : Header) × HasHeader reading file header × (header.points ≢ points))
 
 -- record n, one of those stated, ends early or does not lie where points may lie
 abbrev pub RecordDiffers : Reading → ℕ → List ℕ → ℕ → Type 0
 RecordDiffers reading points file n =
-    (n < points) × (header : Header) × StatesPoints reading points file header × (IsTruncated header (records_of header file) n ⊎ IsOutsideAt reading header (records_of header file) n)
+    (n < points) × (header : Header) × StatesPoints reading points file header
+    × (IsTruncated header (records_of header file) n
+    ⊎ IsOutsideAt reading header (records_of header file) n)
 
 -- the file differs in its header, which is told as the number 0, or in record n
 abbrev pub Differs : Reading → ℕ → List ℕ → ℕ → Type 0
-Differs reading points file n = ((n ≡ 0) × HeaderDiffers reading points file) ⊎ RecordDiffers reading points file n
+Differs reading points file n = ((n ≡ 0) × HeaderDiffers reading points file)
+    ⊎ RecordDiffers reading points file n
 
 -- why a file is refused as changed; a fault of the device and want of memory say nothing of it
 abbrev pub IsChange : Reading → ℕ → Option (List ℕ) → ReadError → Type 0
 IsChange reading points file SourceFault = ⊤
 IsChange reading points file Memory = ⊤
-IsChange reading points file (SourceChanged source n) = (source ≡ reading.origin) × Tells (λ bytes. Differs reading points bytes n) file
+IsChange reading points file (SourceChanged source n) = (source ≡ reading.origin)
+    × Tells (λ bytes. Differs reading points bytes n) file
 
 -- record n of a file that states so many points has this point
 abbrev pub HasRecord : Reading → ℕ → List ℕ → ℕ → Point → Type 0
-HasRecord reading points file n p = (header : Header) × StatesPoints reading points file header × IsPointAt reading header (records_of header file) n p
+HasRecord reading points file n p = (header : Header) × StatesPoints reading points file header
+    × IsPointAt reading header (records_of header file) n p
 
 -- what is answered where a source cannot be had
 abbrev pub read_error_of : GetError → ReadError

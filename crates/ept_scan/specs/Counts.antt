@@ -12,7 +12,8 @@ use Rattle.ept_scan.specs.Extents.{IsAllowed, HasExtent}
 use Rattle.ept_scan.specs.LasFile.{AreFirstPoints}
 
 -- so many records were found to have an extent: that of their points, which lie where points may lie
-pub record FindsExtent (reading : Reading) (header : Header) (records : Option (List ℕ)) (extent : Option Bounds) : Type 0 where
+pub record FindsExtent (reading : Reading) (header : Header) (records : Option (List ℕ))
+    (extent : Option Bounds) : Type 0 where
   pub points : List Point
   pub count : length points ≡ header.points
   pub allowed : All (IsAllowed reading.limits) points
@@ -25,7 +26,8 @@ pub record IsCountOf (points : List Point) (count : SourceCount) : Type 0 where
   pub has_extent : HasExtent points count.extent
 
 -- The number and the extent of points that were found, which lie where points may lie, and of which something is known.
-pub record FindsCount (limits : Option Bounds) (Are : List Point → Type 0) (count : SourceCount) : Type 0 where
+pub record FindsCount (limits : Option Bounds) (Are : List Point → Type 0)
+    (count : SourceCount) : Type 0 where
   pub points : List Point
   pub is_count : IsCountOf points count
   pub few : length points ≤ MAX_POINTS

@@ -17,7 +17,8 @@ limits_of None given = given
 limits_of (Some kept) given = Some kept
 
 -- The points that were found in the inputs from one on and up to another, a list for each, with their counts.
-pub record FindsLists (files : Option Files) (scale : ℕ) (limits : Option Bounds) (inputs : List Input) (from end : ℕ) (counts : List SourceCount) : Type 0 where
+pub record FindsLists (files : Option Files) (scale : ℕ) (limits : Option Bounds)
+    (inputs : List Input) (from end : ℕ) (counts : List SourceCount) : Type 0 where
   pub lists : List (List Point)
   pub size : from + length lists ≡ end
   pub counts_are : AllZip IsCountOf lists counts

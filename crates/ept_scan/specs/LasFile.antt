@@ -34,7 +34,8 @@ abbrev pub IsTruncated : Header → List ℕ → ℕ → Type 0
 IsTruncated header records n = length records < header.length * (n + 1)
 
 -- record n is whole and has this point, which lies where points may lie
-pub record IsPointAt (reading : Reading) (header : Header) (records : List ℕ) (n : ℕ) (p : Point) : Type 0 where
+pub record IsPointAt (reading : Reading) (header : Header) (records : List ℕ) (n : ℕ)
+    (p : Point) : Type 0 where
   pub whole : IsWhole header records n
   pub point : IsPointOf header.format reading.shift reading.origin n (record_at header records n) p
   pub allowed : IsAllowed reading.limits p
@@ -42,7 +43,9 @@ pub record IsPointAt (reading : Reading) (header : Header) (records : List ℕ) 
 -- the bytes of a record have a place that no 32 bits hold, or one outside the limits
 abbrev pub IsOutside : Reading → ℕ → ℕ → List ℕ → Type 0
 IsOutside reading format n bytes =
-    IsOutOfUnits reading.shift bytes ⊎ ((p : Point) × IsPointOf format reading.shift reading.origin n bytes p × ¬ IsAllowed reading.limits p)
+    IsOutOfUnits reading.shift bytes
+    ⊎ ((p : Point) × IsPointOf format reading.shift reading.origin n bytes p
+    × ¬ IsAllowed reading.limits p)
 
 -- record n is whole, and has such a place
 pub record IsOutsideAt (reading : Reading) (header : Header) (records : List ℕ) (n : ℕ) : Type 0 where
@@ -50,7 +53,8 @@ pub record IsOutsideAt (reading : Reading) (header : Header) (records : List ℕ
   pub outside : IsOutside reading header.format n (record_at header records n)
 
 -- the points of the first n records, in order
-pub record AreFirstPoints (reading : Reading) (header : Header) (records : List ℕ) (n : ℕ) (points : List Point) : Type 0 where
+pub record AreFirstPoints (reading : Reading) (header : Header) (records : List ℕ) (n : ℕ)
+    (points : List Point) : Type 0 where
   pub count : length points ≡ n
   pub each : (k : ℕ) (d : Point) → k < n → IsPointAt reading header records k (slice_index_or points k d)
 

@@ -13,21 +13,28 @@ use Rattle.ept_scan.specs.Scans.{Blames, IsScan, ScanIsRefused}
 
 -- a file reads as one list of points
 abbrev pub FileInOneWay : Type 0
-FileInOneWay = (reading : Reading) (file : List ℕ) (xs ys : List Point) → ArePointsOf reading file xs → ArePointsOf reading file ys → xs ≡ ys
+FileInOneWay = (reading : Reading) (file : List ℕ) (xs ys : List Point)
+    → ArePointsOf reading file xs → ArePointsOf reading file ys → xs ≡ ys
 
 -- a file that reads as points is not refused
 abbrev pub FileOrRefusal : Type 0
-FileOrRefusal = (reading : Reading) (file : List ℕ) (xs : List Point) (e : ScanError) → ArePointsOf reading file xs → FileIsRefused reading file e → Blames e ⊥
+FileOrRefusal = (reading : Reading) (file : List ℕ) (xs : List Point) (e : ScanError)
+    → ArePointsOf reading file xs → FileIsRefused reading file e → Blames e ⊥
 
 -- a file is refused for one cause
 abbrev pub FileForOneCause : Type 0
-FileForOneCause = (reading : Reading) (file : List ℕ) (e f : ScanError) → FileIsRefused reading file e → FileIsRefused reading file f → Blames e (Blames f (e ≡ f))
+FileForOneCause = (reading : Reading) (file : List ℕ) (e f : ScanError)
+    → FileIsRefused reading file e → FileIsRefused reading file f → Blames e (Blames f (e ≡ f))
 
 -- inputs have one list of points
 abbrev pub ScanInOneWay : Type 0
 ScanInOneWay =
-    (all : Files) (scale : ℕ) (limits : Option Bounds) (inputs : List Input) (from : ℕ) (xs ys : List Point) (a b : ScanDone) → IsScan all scale limits inputs from xs a → IsScan all scale limits inputs from ys b → xs ≡ ys
+    (all : Files) (scale : ℕ) (limits : Option Bounds) (inputs : List Input) (from : ℕ)
+    (xs ys : List Point) (a b : ScanDone) → IsScan all scale limits inputs from xs a
+    → IsScan all scale limits inputs from ys b → xs ≡ ys
 
 -- inputs that have points and bounds are not refused
 abbrev pub ScanOrRefusal : Type 0
-ScanOrRefusal = (all : Files) (scale : ℕ) (limits : Option Bounds) (inputs : List Input) (from : ℕ) (xs : List Point) (a : ScanDone) (e : ScanError) → IsScan all scale limits inputs from xs a → ScanIsRefused all scale limits inputs from e → Blames e ⊥
+ScanOrRefusal = (all : Files) (scale : ℕ) (limits : Option Bounds) (inputs : List Input) (from : ℕ)
+    (xs : List Point) (a : ScanDone) (e : ScanError) → IsScan all scale limits inputs from xs a
+    → ScanIsRefused all scale limits inputs from e → Blames e ⊥

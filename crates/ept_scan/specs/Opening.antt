@@ -19,7 +19,8 @@ total counts = sum_by (λ count. count.points) counts
 
 -- the inputs that are kept have these counts, and these points, all in order
 abbrev pub IsKeptScan : Files → Kept → List SourceCount → List Point → Type 0
-IsKeptScan all kept counts points = IsScan all kept.scale (Some kept.bounds) kept.inputs 0 points (record { counts = counts; bounds = kept.bounds })
+IsKeptScan all kept counts points = IsScan all kept.scale (Some kept.bounds) kept.inputs 0 points
+    (record { counts = counts; bounds = kept.bounds })
 
 -- behind so many records comes this record of this input; behind the last record there is no input
 pub record StartsAt (counts : List SourceCount) (drawn index number : ℕ) : Type 0 where
@@ -33,13 +34,15 @@ abbrev pub HasFailed : {S : Type 0} → (S → ℕ) → List (Part S) → Type 0
 HasFailed faults parts = Any (λ part. faults part.source ≢ 0) parts
 
 -- these files hold the points of these lists, those without points left out
-pub record AreHeld {S : Type 0} (whole : S → Option (List ℕ)) (parts : List (Part S)) (lists : List (List Point)) : Type 0 where
+pub record AreHeld {S : Type 0} (whole : S → Option (List ℕ)) (parts : List (Part S))
+    (lists : List (List Point)) : Type 0 where
   pub mine : List (List Point)
   pub hold : AllZip HoldsPoints (map (held whole) parts) mine
   pub same : in_order mine ≡ in_order lists
 
 -- input i was opened: it is at its front, and its points are to lie within this extent
-pub record IsOpened {S : Type 0} (whole left : S → Option (List ℕ)) (faults : S → ℕ) (files : Option Files) (kept : Kept) (i points : ℕ) (extent : Bounds) (part : Part S) : Type 0 where
+pub record IsOpened {S : Type 0} (whole left : S → Option (List ℕ)) (faults : S → ℕ)
+    (files : Option Files) (kept : Kept) (i points : ℕ) (extent : Bounds) (part : Part S) : Type 0 where
   pub input : Input
   pub is : slice_get kept.inputs i ≡ Some input
   pub reads : IsReadingOf kept.scale (Some extent) i input part.reading
@@ -48,9 +51,11 @@ pub record IsOpened {S : Type 0} (whole left : S → Option (List ℕ)) (faults 
   pub fresh : faults part.source ≡ 0
 
 -- an input with an extent is opened, and one without has no points and is left out
-abbrev pub AddsInput : {S : Type 0} (whole left : S → Option (List ℕ)) (faults : S → ℕ) → Option Files → Kept → ℕ → ℕ → Option Bounds → List (Part S) → List (Part S) → Type 0
+abbrev pub AddsInput : {S : Type 0} (whole left : S → Option (List ℕ)) (faults : S → ℕ)
+    → Option Files → Kept → ℕ → ℕ → Option Bounds → List (Part S) → List (Part S) → Type 0
 AddsInput whole left faults files kept i points None old new = new ≡ old
-AddsInput {S} whole left faults files kept i points (Some extent) old new = (part : Part S) × (new ≡ old ++ part ∷ []) × IsOpened whole left faults files kept i points extent part
+AddsInput {S} whole left faults files kept i points (Some extent) old new = (part : Part S)
+    × (new ≡ old ++ part ∷ []) × IsOpened whole left faults files kept i points extent part
 
 -- a file is an input of this place, read within the extent and with the number of points that were found of it
 pub record IsFileOf (kept : Kept) (counts : List SourceCount) (file : Held) : Type 0 where
@@ -62,12 +67,18 @@ pub record IsFileOf (kept : Kept) (counts : List SourceCount) (file : Held) : Ty
   pub points_are : file.points ≡ count.points
 
 -- the inputs from one on and up to another that have points were opened
-pub record HasOpened {S : Type 0} (whole left : S → Option (List ℕ)) (faults : S → ℕ) (files : Option Files) (kept : Kept) (counts : List SourceCount) (from end : ℕ) (parts : List (Part S)) : Type 0 where
+pub record HasOpened {S : Type 0} (whole left : S → Option (List ℕ)) (faults : S → ℕ)
+    (files : Option Files) (kept : Kept) (counts : List SourceCount) (from end : ℕ)
+    (parts : List (Part S)) : Type 0 where
   pub unread : All (IsUnread whole left) parts
   pub limited : All IsLimited parts
   pub known : All (λ part. IsFileOf kept counts (held whole part)) parts
   pub fresh : All (λ part. faults part.source ≡ 0) parts
   pub sum : sum_by (λ part. part.points) parts + total (take from counts) ≡ total (take end counts)
   pub none : end ≡ from → parts ≡ []
-  pub first : (count : SourceCount) → slice_get counts from ≡ Some count → 0 < count.points → from < end → (part : Part S) × (others : List (Part S)) × (parts ≡ part ∷ others) × (part.points ≡ count.points)
-  pub holds : Tells (λ all. (lists : List (List Point)) → ArePointsFrom all kept.scale (Some kept.bounds) kept.inputs 0 (length kept.inputs) lists → AllZip IsCountOf lists counts → AreHeld whole parts (drop from (take end lists))) files
+  pub first : (count : SourceCount) → slice_get counts from ≡ Some count → 0 < count.points
+      → from < end → (part : Part S) × (others : List (Part S)) × (parts ≡ part ∷ others)
+      × (part.points ≡ count.points)
+  pub holds : Tells (λ all. (lists : List (List Point))
+      → ArePointsFrom all kept.scale (Some kept.bounds) kept.inputs 0 (length kept.inputs) lists
+      → AllZip IsCountOf lists counts → AreHeld whole parts (drop from (take end lists))) files

@@ -10,7 +10,8 @@ use Rattle.ept_scan.specs.LasFile.{HasHeader}
 use Rattle.ept_scan.specs.Reach.{Skips, end_of}
 
 -- The header was read and states this number of points, and the bytes ahead are those from record n on; of them none past the last record was read.
-pub record IsWithinFile (reading : Reading) (points : ℕ) (whole left : Option (List ℕ)) (window : List ℕ) (n : ℕ) (header : Header) : Type 0 where
+pub record IsWithinFile (reading : Reading) (points : ℕ) (whole left : Option (List ℕ))
+    (window : List ℕ) (n : ℕ) (header : Header) : Type 0 where
   pub format : IsFormat header.format
   pub size : record_length header.format ≤ header.length
   pub stated : header.points ≡ points
@@ -21,4 +22,5 @@ pub record IsWithinFile (reading : Reading) (points : ℕ) (whole left : Option 
 -- before record n of a file: at its front where the header was not read yet
 abbrev pub StandsAt : Reading → ℕ → Option (List ℕ) → Option (List ℕ) → List ℕ → ℕ → Option Header → Type 0
 StandsAt reading points whole left window n None = left ≡ whole
-StandsAt reading points whole left window n (Some header) = IsWithinFile reading points whole left window n header
+StandsAt reading points whole left window n (Some header) =
+    IsWithinFile reading points whole left window n header

@@ -90,7 +90,8 @@ module _ {S : Type 0} (whole left : S → Option (List ℕ)) where
   -- the file that is read
   pub record IsCurrent (part : Part S) (cursor : Cursor) (window : List ℕ) : Type 0 where
     pub more : cursor.number < part.points
-    pub at : StandsAt part.reading part.points (whole part.source) (left part.source) window cursor.number cursor.header
+    pub at : StandsAt part.reading part.points (whole part.source)
+        (left part.source) window cursor.number cursor.header
 
   abbrev pub StandsBefore : List (Part S) → Cursor → List ℕ → Type 0
   StandsBefore [] cursor window = cursor.number ≡ 0
@@ -104,4 +105,5 @@ module _ {S : Type 0} (whole left : S → Option (List ℕ)) where
 
   -- no file was read further than its last record
   abbrev pub AreNear : Queue S → Type 0
-  AreNear queue = All (λ part. ReadsNoFurther part.reading (whole part.source) (left part.source)) queue.parts.items
+  AreNear queue = All (λ part. ReadsNoFurther part.reading (whole part.source)
+      (left part.source)) queue.parts.items

@@ -24,7 +24,9 @@ end_of header = header.offset + header.length * header.points
 -- No byte was read that lies both past those that may belong to a header and past the last record; where no header is accepted, or it states no record, none past the first.
 abbrev pub IsWithinRecords : Reading → List ℕ → List ℕ → Type 0
 IsWithinRecords reading file left =
-    (length file ≤ length left + HEAD_LENGTH) ⊎ ((header : Header) × HasHeader reading file header × (0 < header.points) × (length file ≤ length left + end_of header))
+    (length file ≤ length left + HEAD_LENGTH)
+    ⊎ ((header : Header) × HasHeader reading file header × (0 < header.points)
+    × (length file ≤ length left + end_of header))
 
 -- the same of a source, where it tells
 abbrev pub ReadsNoFurther : Reading → Option (List ℕ) → Option (List ℕ) → Type 0

@@ -44,7 +44,8 @@ abbrev pub ReadsNoFurther : {S : Type 0} → (S → Option (List ℕ)) → (S �
 ReadsNoFurther whole left reader = queue.AreNear whole left reader.queue
 
 -- A reader stands before the record that is next, or has a refusal: that it may be a fault of a source, one has failed.
-pub record IsReader {S : Type 0} (whole left : S → Option (List ℕ)) (faults : S → ℕ) (reader : Reader S) : Type 0 where
+pub record IsReader {S : Type 0} (whole left : S → Option (List ℕ)) (faults : S → ℕ)
+    (reader : Reader S) : Type 0 where
   pub stands : refusal_of reader ≡ None → queue.IsQueue whole left reader.queue
   pub counts : refusal_of reader ≡ None → queue.records_left reader.queue ≡ left_of reader
   pub fits : drawn_of reader + left_of reader < 2 ^ 64

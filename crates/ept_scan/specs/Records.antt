@@ -27,7 +27,8 @@ FindsNumbered reading n found.Outside = ⊤
 FindsNumbered reading n found.Early = ⊤
 
 -- so many bytes were taken, and had this form
-pub record Takes (reading : Reading) (header : Header) (n : ℕ) (ahead : List ℕ) (new : Option (List ℕ)) (it : Found) : Type 0 where
+pub record Takes (reading : Reading) (header : Header) (n : ℕ) (ahead : List ℕ)
+    (new : Option (List ℕ)) (it : Found) : Type 0 where
   pub whole : header.length ≤ length ahead
   pub rest : new ≡ Some (drop header.length ahead)
   pub bytes : BytesAre reading header.format n (take header.length ahead) it

@@ -14,15 +14,18 @@ use Rattle.ept_scan.specs.LasFile.{head_of, HasHeader, records_of, IsTruncated, 
 
 -- Why a header is refused. A fault of the device and want of memory say nothing of the file.
 abbrev pub HeaderIsRefused : Reading → List ℕ → ScanError → Type 0
-HeaderIsRefused reading file (BadLas source fault) = (source ≡ reading.origin) × HeaderReadsAs (head_of file) reading.expect (Err fault)
-HeaderIsRefused reading file (TooManyPoints source) = (source ≡ reading.origin) × ((header : Header) × HasHeader reading file header × MAX_POINTS < header.points)
+HeaderIsRefused reading file (BadLas source fault) = (source ≡ reading.origin)
+    × HeaderReadsAs (head_of file) reading.expect (Err fault)
+HeaderIsRefused reading file (TooManyPoints source) = (source ≡ reading.origin)
+    × ((header : Header) × HasHeader reading file header × MAX_POINTS < header.points)
 HeaderIsRefused reading file (OutOfBounds source number) = ⊥
 HeaderIsRefused reading file NoBounds = ⊥
 HeaderIsRefused reading file SourceFault = ⊤
 HeaderIsRefused reading file Memory = ⊤
 
 -- record n is the first of those stated that is bad
-pub record IsFirstBad (reading : Reading) (header : Header) (records : List ℕ) (IsBad : ℕ → Type 0) (n : ℕ) : Type 0 where
+pub record IsFirstBad (reading : Reading) (header : Header) (records : List ℕ) (IsBad : ℕ → Type 0)
+    (n : ℕ) : Type 0 where
   pub stated : n < header.points
   pub before : List Point
   pub good : AreFirstPoints reading header records n before
@@ -31,8 +34,10 @@ pub record IsFirstBad (reading : Reading) (header : Header) (records : List ℕ)
 -- why the records are refused
 abbrev pub RecordsAreRefused : Reading → Header → List ℕ → ScanError → Type 0
 RecordsAreRefused reading header records (BadLas source fault) =
-    (source ≡ reading.origin) × ((n : ℕ) × (fault ≡ Truncated n) × IsFirstBad reading header records (IsTruncated header records) n)
-RecordsAreRefused reading header records (OutOfBounds source number) = (source ≡ reading.origin) × IsFirstBad reading header records (IsOutsideAt reading header records) number
+    (source ≡ reading.origin) × ((n : ℕ) × (fault ≡ Truncated n)
+    × IsFirstBad reading header records (IsTruncated header records) n)
+RecordsAreRefused reading header records (OutOfBounds source number) = (source ≡ reading.origin)
+    × IsFirstBad reading header records (IsOutsideAt reading header records) number
 RecordsAreRefused reading header records (TooManyPoints source) = ⊥
 RecordsAreRefused reading header records NoBounds = ⊥
 RecordsAreRefused reading header records SourceFault = ⊤
@@ -41,7 +46,9 @@ RecordsAreRefused reading header records Memory = ⊤
 -- why a file is refused: its header is, or that is accepted and its records are
 abbrev pub FileIsRefused : Reading → List ℕ → ScanError → Type 0
 FileIsRefused reading file error =
-    HeaderIsRefused reading file error ⊎ ((header : Header) × HasHeader reading file header × (header.points ≤ MAX_POINTS) × RecordsAreRefused reading header (records_of header file) error)
+    HeaderIsRefused reading file error
+    ⊎ ((header : Header) × HasHeader reading file header × (header.points ≤ MAX_POINTS)
+    × RecordsAreRefused reading header (records_of header file) error)
 
 -- the code of a refusal
 abbrev pub code_of : ScanError → ℕ

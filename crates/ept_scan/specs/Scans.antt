@@ -19,7 +19,8 @@ abbrev pub in_order : List (List Point) → List Point
 in_order lists = flat_map (λ points. points) lists
 
 -- How the input of this place is read, where a stored unit is 10^-scale native units: a raw coordinate is multiplied by 10^(scale - its own scale) and shifted.
-pub record IsReadingOf (scale : ℕ) (limits : Option Bounds) (origin : ℕ) (input : Input) (reading : Reading) : Type 0 where
+pub record IsReadingOf (scale : ℕ) (limits : Option Bounds) (origin : ℕ) (input : Input)
+    (reading : Reading) : Type 0 where
   pub origin_is : reading.origin ≡ origin
   pub factor_is : reading.shift.factor ≡ pos (10 ^ (scale - input.scale))
   pub shift_is : reading.shift.by ≡ input.shift

@@ -26,19 +26,24 @@ pub(crate) fn draw<S: Source>(
     cursor: &mut Cursor,
 ) -> Result<Point, ReadError>
     requires more { cursor.old.number < part.old.points }
-    requires at { StandsAt part.old.reading part.old.points (S.whole part.old.source) (S.left part.old.source) window.old cursor.old.number cursor.old.header }
+    requires at { StandsAt part.old.reading part.old.points (S.whole part.old.source)
+        (S.left part.old.source) window.old cursor.old.number cursor.old.header }
     ensures allowed { IfOk result (λ p. IsAllowed part.old.reading.limits p) }
     ensures origin { IfOk result (λ p. p.origin ≡ part.old.reading.origin) }
-    ensures record { IfOk result (λ p. Tells (λ file. HasRecord part.old.reading part.old.points file cursor.old.number p) (S.whole part.old.source)) }
+    ensures record { IfOk result (λ p. Tells
+        (λ file. HasRecord part.old.reading part.old.points file cursor.old.number p)
+        (S.whole part.old.source)) }
     ensures changed { IfErr result (IsChange part.old.reading part.old.points (S.whole part.old.source)) }
     ensures enough { result ≢ Err ReadError.Memory }
     ensures next { OnOk result (cursor.new.number ≡ cursor.old.number + 1) }
-    ensures at { OnOk result (StandsAt part.old.reading part.old.points (S.whole part.old.source) (S.left part.new.source) window.new cursor.new.number cursor.new.header) }
+    ensures at { OnOk result (StandsAt part.old.reading part.old.points (S.whole part.old.source)
+        (S.left part.new.source) window.new cursor.new.number cursor.new.header) }
     ensures far { ReadsNoFurther part.old.reading (S.whole part.old.source) (S.left part.new.source) }
     ensures whole { S.whole part.new.source ≡ S.whole part.old.source }
     ensures reading { part.new.reading ≡ part.old.reading }
     ensures points { part.new.points ≡ part.old.points }
-    ensures cause { HasCauseOf ReadError.SourceFault (S.faults part.old.source) (S.faults part.new.source) result }
+    ensures cause { HasCauseOf ReadError.SourceFault (S.faults part.old.source)
+        (S.faults part.new.source) result }
 {
     let number = cursor.number;
     let header = header_at(
@@ -71,8 +76,10 @@ fn header_at<S: Source>(
     number: u32,
 ) -> Result<Header, ReadError>
     requires more { number < points }
-    requires at { StandsAt reading.now points (S.whole source.old) (S.left source.old) window.old number header }
-    ensures at { IfOk result (IsWithinFile reading.now points (S.whole source.old) (S.left source.new) window.new number) }
+    requires at { StandsAt reading.now points (S.whole source.old)
+        (S.left source.old) window.old number header }
+    ensures at { IfOk result (IsWithinFile reading.now points (S.whole source.old)
+        (S.left source.new) window.new number) }
     ensures changed { IfErr result (IsChange reading.now points (S.whole source.old)) }
     ensures enough { result ≢ Err ReadError.Memory }
     ensures far { OnErr result (ReadsNoFurther reading.now (S.whole source.old) (S.left source.new)) }
@@ -95,7 +102,8 @@ fn start<S: Source>(
 ) -> Result<Header, ReadError>
     requires more { number < points }
     requires front { S.left source.old ≡ S.whole source.old }
-    ensures at { IfOk result (IsWithinFile reading.now points (S.whole source.old) (S.left source.new) window.new number) }
+    ensures at { IfOk result (IsWithinFile reading.now points (S.whole source.old)
+        (S.left source.new) window.new number) }
     ensures changed { IfErr result (IsChange reading.now points (S.whole source.old)) }
     ensures enough { result ≢ Err ReadError.Memory }
     ensures far { OnErr result (ReadsNoFurther reading.now (S.whole source.old) (S.left source.new)) }

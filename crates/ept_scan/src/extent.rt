@@ -60,7 +60,8 @@ fn extent_of(point: &Point) -> Bounds
 
 /// The extent of all points of two extents.
 pub(crate) fn joined(a: &Bounds, b: &Bounds) -> Bounds
-    ensures { (xs ys : List at.Point) → IsExtentOf xs a.now → IsExtentOf ys b.now → IsExtentOf (xs ++ ys) result }
+    ensures { (xs ys : List at.Point) → IsExtentOf xs a.now → IsExtentOf ys b.now
+        → IsExtentOf (xs ++ ys) result }
 {
     Bounds {
         min: [

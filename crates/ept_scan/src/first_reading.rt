@@ -41,8 +41,13 @@ pub fn scan<H: Shelf>(
     requires from { from ≤ length config.now.inputs }
     requires first { kept ≡ None → from ≡ 0 }
     requires kept { IfSome kept HasPlace }
-    ensures scan { IfOk result (λ done. Tells (λ all. (points : List at.Point) × IsScan all config.now.scale (limits_of kept config.now.bounds) config.now.inputs from points done) (H.files shelf.old)) }
-    ensures refused { IfErr result (λ e. Tells (λ all. ScanIsRefused all config.now.scale (limits_of kept config.now.bounds) config.now.inputs from e) (H.files shelf.old)) }
+    ensures scan { IfOk result (λ done. Tells
+        (λ all. (points : List at.Point)
+        × IsScan all config.now.scale
+        (limits_of kept config.now.bounds) config.now.inputs from points done) (H.files shelf.old)) }
+    ensures refused { IfErr result (λ e. Tells
+        (λ all. ScanIsRefused all config.now.scale
+        (limits_of kept config.now.bounds) config.now.inputs from e) (H.files shelf.old)) }
     ensures one_each { IfOk result (λ done. from + length done.counts ≡ length config.now.inputs) }
     ensures sound { IfOk result (λ done. All (IsSound done.bounds) done.counts) }
     ensures ordered { IfOk result (λ done. HasPlace done.bounds) }
@@ -78,8 +83,12 @@ fn scan_inputs<H: Shelf>(
     limits: Option<Bounds>,
 ) -> Result<Vec<SourceCount>, ScanError>
     requires from { from ≤ length config.now.inputs }
-    ensures found { IfOk result (λ counts. FindsLists (H.files shelf.old) config.now.scale limits config.now.inputs from (length config.now.inputs) counts.items) }
-    ensures refused { IfErr result (λ e. Tells (λ all. ScanIsRefused all config.now.scale limits config.now.inputs from e) (H.files shelf.old)) }
+    ensures found { IfOk result (λ counts. FindsLists
+        (H.files shelf.old) config.now.scale limits config.now.inputs from
+        (length config.now.inputs) counts.items) }
+    ensures refused { IfErr result (λ e. Tells
+        (λ all. ScanIsRefused all config.now.scale limits config.now.inputs from e)
+        (H.files shelf.old)) }
     ensures files { H.files shelf.new ≡ H.files shelf.old }
     ensures cause { HasCauseOf ScanError.SourceFault (H.faults shelf.old) (H.faults shelf.new) result }
 {
@@ -101,8 +110,10 @@ fn scan_path<H: Shelf>(
     path: &str,
     reading: &Reading,
 ) -> Result<SourceCount, ScanError>
-    ensures count { IfOk result (FindsCount reading.now.limits (λ points. Tells (λ all. HasPoints all path.now reading.now points) (H.files shelf.old))) }
-    ensures refused { IfErr result (λ e. Tells (λ all. Blames e (IsRefused all path.now reading.now e)) (H.files shelf.old)) }
+    ensures count { IfOk result (FindsCount reading.now.limits
+        (λ points. Tells (λ all. HasPoints all path.now reading.now points) (H.files shelf.old))) }
+    ensures refused { IfErr result (λ e. Tells
+        (λ all. Blames e (IsRefused all path.now reading.now e)) (H.files shelf.old)) }
     ensures files { H.files shelf.new ≡ H.files shelf.old }
     ensures cause { HasCauseOf ScanError.SourceFault (H.faults shelf.old) (H.faults shelf.new) result }
 {
@@ -114,7 +125,9 @@ fn scan_path<H: Shelf>(
 
 // The bounds of the points with these counts: the limits, or their extent.
 fn bounds_of(limits: Option<Bounds>, counts: &[SourceCount]) -> Option<Bounds>
-    ensures { (lists : List (List at.Point)) → AllZip IsCountOf lists counts.now → MatchOption result ((limits ≡ None) × (in_order lists ≡ [])) (AreBounds limits (in_order lists)) }
+    ensures { (lists : List (List at.Point)) → AllZip IsCountOf lists counts.now
+        → MatchOption result ((limits ≡ None) × (in_order lists ≡ []))
+        (AreBounds limits (in_order lists)) }
 {
     match limits {
         Some(limits) => Some(limits),
@@ -124,7 +137,8 @@ fn bounds_of(limits: Option<Bounds>, counts: &[SourceCount]) -> Option<Bounds>
 
 // The extent of all points with these counts.
 fn whole_extent(counts: &[SourceCount]) -> Option<Bounds>
-    ensures { (lists : List (List at.Point)) → AllZip IsCountOf lists counts.now → HasExtent (in_order lists) result }
+    ensures { (lists : List (List at.Point)) → AllZip IsCountOf lists counts.now
+        → HasExtent (in_order lists) result }
 {
     let mut extent = None;
     for count in counts {

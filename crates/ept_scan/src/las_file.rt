@@ -28,8 +28,10 @@ pub(crate) fn scan_file<S: Source>(
     reading: &Reading,
 ) -> Result<SourceCount, ScanError>
     requires { S.left source.old ≡ S.whole source.old }
-    ensures count { IfOk result (FindsCount reading.now.limits (λ points. Tells (λ file. ArePointsOf reading.now file points) (S.whole source.old))) }
-    ensures refused { IfErr result (λ e. Tells (λ file. FileIsRefused reading.now file e) (S.whole source.old)) }
+    ensures count { IfOk result (FindsCount reading.now.limits
+        (λ points. Tells (λ file. ArePointsOf reading.now file points) (S.whole source.old))) }
+    ensures refused { IfErr result (λ e. Tells (λ file. FileIsRefused reading.now file e)
+        (S.whole source.old)) }
     ensures far { ReadsNoFurther reading.now (S.whole source.old) (S.left source.new) }
     ensures same { S.whole source.new ≡ S.whole source.old }
     ensures cause { HasCauseOf ScanError.SourceFault (S.faults source.old) (S.faults source.new) result }
@@ -63,7 +65,8 @@ pub(crate) fn begin<S: Source>(
     ensures header { IfOk result (λ h. Tells (λ file. HasHeader reading.now file h) (S.left source.old)) }
     ensures format { IfOk result (λ h. IsFormat h.format) }
     ensures size { IfOk result (λ h. record_length h.format ≤ h.length) }
-    ensures refused { IfErr result (λ e. Tells (λ file. HeaderIsRefused reading.now file e) (S.left source.old)) }
+    ensures refused { IfErr result (λ e. Tells (λ file. HeaderIsRefused reading.now file e)
+        (S.left source.old)) }
     ensures enough { result ≢ Err ScanError.Memory }
     ensures ahead { OnOk result (Keeps (S.left source.old) (prepend_known window.new (S.left source.new))) }
     ensures reach { OnOk result (length window.new ≤ HEAD_LENGTH) }
@@ -96,7 +99,8 @@ fn header_of(bytes: &[u8], expect: Option<[u8; SCALE_WIDTH]>) -> Result<Header, 
 
 /// Passes over so many of the bytes ahead, or over all where there are fewer.
 pub(crate) fn skip<S: Source>(window: &mut Window, source: &mut S, count: u64) -> Result<(), Failed>
-    ensures ahead { OnOk result (Skips (prepend_known window.old (S.left source.old)) (prepend_known window.new (S.left source.new)) count) }
+    ensures ahead { OnOk result (Skips (prepend_known window.old (S.left source.old))
+        (prepend_known window.new (S.left source.new)) count) }
     ensures reach { OnOk result (length window.new ≤ length window.old - count) }
     ensures left { HasLeftOf (S.left source.old) (S.left source.new) (count - length window.old) }
     ensures same { S.whole source.new ≡ S.whole source.old }
@@ -124,9 +128,13 @@ fn scan_records<S: Source>(
     requires format { IsFormat header.now.format }
     requires size { record_length header.now.format ≤ header.now.length }
     requires few { header.now.points ≤ MAX_POINTS }
-    ensures extent { IfOk result (FindsExtent reading.now header.now (prepend_known window.old (S.left source.old))) }
-    ensures refused { IfErr result (λ e. Tells (λ records. RecordsAreRefused reading.now header.now records e) (prepend_known window.old (S.left source.old))) }
-    ensures left { HasLeftOf (S.left source.old) (S.left source.new) (header.now.length * header.now.points - length window.old) }
+    ensures extent { IfOk result (FindsExtent reading.now header.now
+        (prepend_known window.old (S.left source.old))) }
+    ensures refused { IfErr result (λ e. Tells
+        (λ records. RecordsAreRefused reading.now header.now records e)
+        (prepend_known window.old (S.left source.old))) }
+    ensures left { HasLeftOf (S.left source.old) (S.left source.new)
+        (header.now.length * header.now.points - length window.old) }
     ensures same { S.whole source.new ≡ S.whole source.old }
     ensures cause { HasCauseOf ScanError.SourceFault (S.faults source.old) (S.faults source.new) result }
 {

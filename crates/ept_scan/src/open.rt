@@ -42,7 +42,9 @@ impl<S: Source> Reader<S> {
         ensures allowed { IfOk result (λ r. allowed_of r ≡ 0) }
         ensures refusal { IfOk result (λ r. refusal_of r ≡ None) }
         ensures inputs { IfOk result (λ r. All (IsFileOf kept.now counts.now) (files_of S.whole r)) }
-        ensures rest { IfOk result (λ r. Tells (λ all. (points : List at.Point) → IsKeptScan all kept.now counts.now points → IsRest S.whole r (drop drawn points)) (H.files shelf.old)) }
+        ensures rest { IfOk result (λ r. Tells
+            (λ all. (points : List at.Point) → IsKeptScan all kept.now counts.now points
+            → IsRest S.whole r (drop drawn points)) (H.files shelf.old)) }
         ensures far { IfOk result (ReadsNoFurther S.whole S.left) }
         ensures faultless { IfOk result (λ r. HasFault S.faults r → ⊥) }
         ensures reader { IfOk result (IsReader S.whole S.left S.faults) }
@@ -169,7 +171,8 @@ fn open_parts<S: Source, H: Shelf<Source = S>>(
     requires within { from ≤ length counts.now }
     requires none { parts.old.items ≡ [] }
     requires room { length counts.now ≤ vec_capacity parts.old }
-    ensures opened { OnOk result (HasOpened S.whole S.left S.faults (H.files shelf.old) kept.now counts.now from (length counts.now) parts.new.items) }
+    ensures opened { OnOk result (HasOpened S.whole S.left S.faults
+        (H.files shelf.old) kept.now counts.now from (length counts.now) parts.new.items) }
     ensures fresh { HasFailed S.faults parts.new.items → ⊥ }
     ensures unchanged { (source number : ℕ) → result ≢ Err (ReadError.SourceChanged source number) }
     ensures files { H.files shelf.new ≡ H.files shelf.old }
@@ -192,7 +195,8 @@ fn open_input<S: Source, H: Shelf<Source = S>>(
     requires within { index < length kept.now.inputs }
     requires sound { IsSound kept.now.bounds count }
     requires room { vec_len parts.old < vec_capacity parts.old }
-    ensures adds { OnOk result (AddsInput S.whole S.left S.faults (H.files shelf.old) kept.now index count.points count.extent parts.old.items parts.new.items) }
+    ensures adds { OnOk result (AddsInput S.whole S.left S.faults
+        (H.files shelf.old) kept.now index count.points count.extent parts.old.items parts.new.items) }
     ensures one { vec_len parts.new ≤ vec_len parts.old + 1 }
     ensures room { vec_capacity parts.new ≡ vec_capacity parts.old }
     ensures refused { OnErr result (parts.new.items ≡ parts.old.items) }

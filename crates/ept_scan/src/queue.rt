@@ -45,8 +45,11 @@ impl<S: Source> Queue<S> {
         ensures held { held_of S.whole self.new ≡ held_of S.whole self.old }
         ensures left { OnOk result (records_left self.new + 1 ≡ records_left self.old) }
         ensures lies { IfOk result (LiesIn (held_of S.whole self.old)) }
-        ensures rest { (points : List at.Point) → RestOf S.whole self.old points → IfOk result (λ p. (rest : List at.Point) × (points ≡ p ∷ rest) × RestOf S.whole self.new rest) }
-        ensures unchanged { (points : List at.Point) → RestOf S.whole self.old points → (source number : ℕ) → result ≢ Err (ReadError.SourceChanged source number) }
+        ensures rest { (points : List at.Point) → RestOf S.whole self.old points
+            → IfOk result (λ p. (rest : List at.Point) × (points ≡ p ∷ rest)
+            × RestOf S.whole self.new rest) }
+        ensures unchanged { (points : List at.Point) → RestOf S.whole self.old points
+            → (source number : ℕ) → result ≢ Err (ReadError.SourceChanged source number) }
         ensures changed { IfErr result (HasChanged (held_of S.whole self.old)) }
         ensures enough { result ≢ Err ReadError.Memory }
         ensures near { AreNear S.whole S.left self.old → AreNear S.whole S.left self.new }
@@ -75,10 +78,15 @@ impl<S: Source> Queue<S> {
         ensures queue { OnOk result (IsQueue S.whole S.left self.new) }
         ensures held { held_of S.whole self.new ≡ held_of S.whole self.old }
         ensures left { OnOk result (records_left self.new + count ≡ records_left self.old) }
-        ensures points { OnOk result ((drawn : List at.Point) × (out.new.items ≡ out.old.items ++ drawn) × (length drawn ≡ count) × All (LiesIn (held_of S.whole self.old)) drawn) }
-        ensures rest { (points : List at.Point) → RestOf S.whole self.old points → OnOk result ((out.new.items ≡ out.old.items ++ take count points) × RestOf S.whole self.new (drop count points)) }
+        ensures points { OnOk result
+            ((drawn : List at.Point) × (out.new.items ≡ out.old.items ++ drawn)
+            × (length drawn ≡ count) × All (LiesIn (held_of S.whole self.old)) drawn) }
+        ensures rest { (points : List at.Point) → RestOf S.whole self.old points
+            → OnOk result ((out.new.items ≡ out.old.items ++ take count points)
+            × RestOf S.whole self.new (drop count points)) }
         ensures refused { OnErr result (out.new.items ≡ out.old.items) }
-        ensures unchanged { (points : List at.Point) → RestOf S.whole self.old points → (source number : ℕ) → result ≢ Err (ReadError.SourceChanged source number) }
+        ensures unchanged { (points : List at.Point) → RestOf S.whole self.old points
+            → (source number : ℕ) → result ≢ Err (ReadError.SourceChanged source number) }
         ensures changed { IfErr result (HasChanged (held_of S.whole self.old)) }
         ensures memory { result ≢ Err ReadError.Memory }
         ensures near { AreNear S.whole S.left self.old → AreNear S.whole S.left self.new }
@@ -106,20 +114,27 @@ fn draw_on<S: Source>(
     cursor: &mut Cursor,
 ) -> Result<Drawn, ReadError>
     requires more { cursor.old.number < part.old.points }
-    requires at { StandsAt part.old.reading part.old.points (S.whole part.old.source) (S.left part.old.source) window.old cursor.old.number cursor.old.header }
+    requires at { StandsAt part.old.reading part.old.points (S.whole part.old.source)
+        (S.left part.old.source) window.old cursor.old.number cursor.old.header }
     ensures allowed { IfOk result (λ d. IsAllowed part.old.reading.limits d.point) }
     ensures origin { IfOk result (λ d. d.point.origin ≡ part.old.reading.origin) }
-    ensures record { IfOk result (λ d. Tells (λ file. HasRecord part.old.reading part.old.points file cursor.old.number d.point) (S.whole part.old.source)) }
+    ensures record { IfOk result (λ d. Tells
+        (λ file. HasRecord part.old.reading part.old.points file cursor.old.number d.point)
+        (S.whole part.old.source)) }
     ensures changed { IfErr result (IsChange part.old.reading part.old.points (S.whole part.old.source)) }
     ensures enough { result ≢ Err ReadError.Memory }
     ensures next { OnOk result (cursor.new.number ≡ cursor.old.number + 1) }
-    ensures last { IfOk result (λ d. IsTrue d.last → (cursor.new.number ≡ part.old.points) × (S.left part.new.source ≡ S.whole part.old.source)) }
-    ensures on { IfOk result (λ d. d.last ≡ false → (cursor.new.number < part.old.points) × StandsAt part.old.reading part.old.points (S.whole part.old.source) (S.left part.new.source) window.new cursor.new.number cursor.new.header) }
+    ensures last { IfOk result (λ d. IsTrue d.last → (cursor.new.number ≡ part.old.points)
+        × (S.left part.new.source ≡ S.whole part.old.source)) }
+    ensures on { IfOk result (λ d. d.last ≡ false → (cursor.new.number < part.old.points)
+        × StandsAt part.old.reading part.old.points (S.whole part.old.source)
+        (S.left part.new.source) window.new cursor.new.number cursor.new.header) }
     ensures far { ReadsNoFurther part.old.reading (S.whole part.old.source) (S.left part.new.source) }
     ensures whole { S.whole part.new.source ≡ S.whole part.old.source }
     ensures reading { part.new.reading ≡ part.old.reading }
     ensures points { part.new.points ≡ part.old.points }
-    ensures cause { HasCauseOf ReadError.SourceFault (S.faults part.old.source) (S.faults part.new.source) result }
+    ensures cause { HasCauseOf ReadError.SourceFault (S.faults part.old.source)
+        (S.faults part.new.source) result }
 {
     let point = draw(window, part, cursor)?;
     let last = cursor.number == part.points;

@@ -31,7 +31,8 @@ impl<S: Source> Reader<S> {
         ensures left { left_of self.new ≡ left_of self.old }
         ensures refusal { refusal_of self.new ≡ refusal_of self.old }
         ensures files { files_of S.whole self.new ≡ files_of S.whole self.old }
-        ensures rest { (points : List at.Point) → IsRest S.whole self.old points → IsRest S.whole self.new points }
+        ensures rest { (points : List at.Point) → IsRest S.whole self.old points
+            → IsRest S.whole self.new points }
         ensures far { ReadsNoFurther S.whole S.left self.old → ReadsNoFurther S.whole S.left self.new }
         ensures faults { HasFault S.faults self.old → HasFault S.faults self.new }
         ensures reader { IsReader S.whole S.left S.faults self.new }
@@ -57,14 +58,22 @@ impl<S: Source> Reader<S> {
 
         // Whatever the sources tell, so many records are drawn, and each lies where the first reading
         // has found the points of its file.
-        ensures drawn { drawn_of self.new ≡ drawn_of self.old + (if is_ok result then batch_of n self.old else 0) }
-        ensures allowed { allowed_of self.new ≡ allowed_of self.old - (if is_ok result then batch_of n self.old else 0) }
+        ensures drawn { drawn_of self.new
+            ≡ drawn_of self.old + (if is_ok result then batch_of n self.old else 0) }
+        ensures allowed { allowed_of self.new
+            ≡ allowed_of self.old - (if is_ok result then batch_of n self.old else 0) }
         ensures left { OnOk result (left_of self.new + batch_of n self.old ≡ left_of self.old) }
-        ensures points { OnOk result ((points : List at.Point) × (out.new.items ≡ out.old.items ++ points) × (length points ≡ batch_of n self.old) × All (LiesIn (files_of S.whole self.old)) points) }
+        ensures points { OnOk result
+            ((points : List at.Point) × (out.new.items ≡ out.old.items ++ points)
+            × (length points ≡ batch_of n self.old) × All (LiesIn (files_of S.whole self.old)) points) }
 
         // Where the sources hold the bytes that were scanned, the batch is the next points.
-        ensures rest { (points : List at.Point) → IsRest S.whole self.old points → OnOk result ((out.new.items ≡ out.old.items ++ take (batch_of n self.old) points) × IsRest S.whole self.new (drop (batch_of n self.old) points)) }
-        ensures unchanged { (points : List at.Point) → IsRest S.whole self.old points → refusal_of self.old ≡ None → (source number : ℕ) → result ≢ Err (ReadError.SourceChanged source number) }
+        ensures rest { (points : List at.Point) → IsRest S.whole self.old points
+            → OnOk result ((out.new.items ≡ out.old.items ++ take (batch_of n self.old) points)
+            × IsRest S.whole self.new (drop (batch_of n self.old) points)) }
+        ensures unchanged { (points : List at.Point) → IsRest S.whole self.old points
+            → refusal_of self.old ≡ None → (source number : ℕ)
+            → result ≢ Err (ReadError.SourceChanged source number) }
 
         // The causes of a refusal, and what it leaves.
         ensures fault { result ≡ Err ReadError.SourceFault → HasFault S.faults self.new }

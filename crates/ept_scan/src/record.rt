@@ -37,11 +37,15 @@ pub(crate) fn next_point<S: Source>(
     requires format { IsFormat header.now.format }
     requires size { record_length header.now.format ≤ header.now.length }
     requires more { number < header.now.points }
-    ensures next { IfOk result (λ it. ReadsNext reading.now header.now number (prepend_known window.old (S.left source.old)) (prepend_known window.new (S.left source.new)) it) }
+    ensures next { IfOk result (λ it. ReadsNext reading.now header.now number
+        (prepend_known window.old (S.left source.old))
+        (prepend_known window.new (S.left source.new)) it) }
     ensures allowed { IfOk result (FindsAllowed reading.now) }
     ensures numbered { IfOk result (FindsNumbered reading.now number) }
-    ensures reach { IfOk result (λ it. IsWithinReach header.now.length (length window.new) (max (length window.old) (header.now.length * (header.now.points - number))) it) }
-    ensures left { HasLeftOf (S.left source.old) (S.left source.new) (header.now.length * (header.now.points - number) - length window.old) }
+    ensures reach { IfOk result (λ it. IsWithinReach header.now.length (length window.new)
+        (max (length window.old) (header.now.length * (header.now.points - number))) it) }
+    ensures left { HasLeftOf (S.left source.old) (S.left source.new)
+        (header.now.length * (header.now.points - number) - length window.old) }
     ensures same { S.whole source.new ≡ S.whole source.old }
     ensures cause { HasCause (S.faults source.old) (S.faults source.new) result }
 {

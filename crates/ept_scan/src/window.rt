@@ -82,7 +82,8 @@ impl Window {
     ) -> Result<bool, Failed>
         requires order { least ≤ most }
         requires piece { most ≤ PIECE }
-        ensures ahead { OnOk result (Keeps (prepend_known self.old (S.left source.old)) (prepend_known self.new (S.left source.new))) }
+        ensures ahead { OnOk result (Keeps (prepend_known self.old (S.left source.old))
+            (prepend_known self.new (S.left source.new))) }
         ensures held { result ≡ Ok true → least ≤ length self.new }
         ensures short { result ≡ Ok false → (length self.new < least) × IsAtEnd (S.left source.new) }
         ensures bound { length self.new ≤ max (length self.old) most }
@@ -101,7 +102,8 @@ impl Window {
     /// Reads on until there are `most` bytes, or the source is at its end.
     pub(crate) fn refill<S: Source>(&mut self, source: &mut S, most: usize) -> Result<(), Failed>
         requires { most ≤ PIECE }
-        ensures ahead { OnOk result (Keeps (prepend_known self.old (S.left source.old)) (prepend_known self.new (S.left source.new))) }
+        ensures ahead { OnOk result (Keeps (prepend_known self.old (S.left source.old))
+            (prepend_known self.new (S.left source.new))) }
         ensures bound { length self.new ≤ max (length self.old) most }
         ensures more { OnOk result (length self.old ≤ length self.new) }
         ensures filled { OnOk result (length self.new < most → IsAtEnd (S.left source.new)) }
@@ -128,7 +130,9 @@ fn read_behind<S: Source>(
     requires order { start ≤ end }
     requires within { end ≤ length buffer.old }
     requires room { most ≤ length buffer.old }
-    ensures ahead { IfOk result (λ n. Keeps (prepend_known (take (end - start) (drop start buffer.old)) (S.left source.old)) (prepend_known (take n buffer.new) (S.left source.new))) }
+    ensures ahead { IfOk result (λ n. Keeps
+        (prepend_known (take (end - start) (drop start buffer.old)) (S.left source.old))
+        (prepend_known (take n buffer.new) (S.left source.new))) }
     ensures bound { IfOk result (λ n. n ≤ max (end - start) most) }
     ensures more { IfOk result (λ n. end - start ≤ n) }
     ensures filled { IfOk result (λ n. n < most → IsAtEnd (S.left source.new)) }
