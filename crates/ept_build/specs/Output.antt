@@ -1,0 +1,84 @@
+-- The files of the output: what the octree of some points is as files, and what a store gains by them.
+use Rattle.std.specs.Prelude.{◌≡◌, ◌≢◌, ◌⊎◌, ℕ, Some, Option, List, [], ◌∷◌, ◌++◌, length, codes, map, All, AllPairs}
+use Rattle.ept_base.specs.Files.{Files, changed}
+use Rattle.ept_point.specs.declared.point.Point.{Point}
+use Rattle.ept_point.specs.Packed.{tile}
+use Rattle.ept_space.specs.declared.bounds.Bounds.{Bounds}
+use Rattle.ept_space.specs.declared.cube.Rules.{Rules}
+use Rattle.ept_space.specs.CubeOfBounds.{cube_of}
+use Rattle.ept_space.specs.VoxelKey.{VoxelKey}
+use Rattle.ept_space.specs.KeyText.{key_text}
+use Rattle.ept_sample.specs.declared.tiles.Tile.{Tile}
+use Rattle.ept_sample.specs.Nodes.{sampled}
+use Rattle.ept_config.specs.declared.kept.Kept.{Kept}
+use Rattle.ept_config.specs.declared.source_count.SourceCount.{SourceCount}
+use Rattle.ept_hier.specs.declared.file.HierFile.{HierFile}
+use Rattle.ept_hier.specs.Hierarchy.{hierarchy}
+use Rattle.ept_build.specs.declared.names.TheConstants.{METADATA, MANIFEST, BUILD_FILE}
+use Rattle.ept_build.specs.MetaTexts.{ept_text, manifest_text, build_text}
+
+-- ---- names (Entwine Point Tile 1.1.0)
+
+-- of the tile of a key
+unfoldable pub tile_name : VoxelKey → List ℕ
+tile_name key = codes "ept-data/" ++ key_text key ++ codes ".bin"
+
+-- of the hierarchy file of a key
+unfoldable pub hierarchy_name : VoxelKey → List ℕ
+hierarchy_name key = codes "ept-hierarchy/" ++ key_text key ++ codes ".json"
+
+-- the name is one of an output's files
+abbrev pub IsOutputName : List ℕ → Type 0
+IsOutputName name =
+    ((key : VoxelKey) × (name ≡ tile_name key)) ⊎ ((key : VoxelKey) × (name ≡ hierarchy_name key))
+    ⊎ (name ≡ METADATA.now) ⊎ (name ≡ MANIFEST.now) ⊎ (name ≡ BUILD_FILE.now)
+
+-- ---- files
+
+-- a file: its name and its bytes
+abbrev pub File : Type 0
+File = List ℕ × List ℕ
+
+abbrev pub tile_file : Tile → File
+tile_file t = (tile_name t.key, tile t.points)
+
+abbrev pub hierarchy_file : HierFile → File
+hierarchy_file f = (hierarchy_name f.key, f.text)
+
+-- a node's key and how many points it has
+abbrev pub counted : Tile → VoxelKey × ℕ
+counted t = (t.key, length t.points)
+
+-- the rules of the sampling: the cube of the bounds, and the threshold
+abbrev pub rules_of : Kept → Rules
+rules_of kept = record { cube = cube_of kept.bounds kept.s kept.max_depth; threshold = kept.threshold }
+
+-- the files of these tiles, of so many points with this extent: each tile, the hierarchy, and three texts
+abbrev pub files_of : Kept → List SourceCount → Option Bounds → ℕ → List Tile → List File
+files_of kept counts extent points tiles =
+    map tile_file tiles ++ map hierarchy_file (hierarchy kept.step (map counted tiles))
+    ++ (METADATA.now, ept_text kept extent points) ∷ (MANIFEST.now, manifest_text kept counts) ∷ (BUILD_FILE.now, build_text kept) ∷ []
+
+-- the output of points: the files of their sampling
+abbrev pub output : Kept → List SourceCount → Option Bounds → List Point → List File
+output kept counts extent points = files_of kept counts extent (length points) (sampled (rules_of kept) points)
+
+-- ---- what a store gains
+
+-- each of these files is there, and every other name reads as before
+pub record Gains (gained : List File) (old new : Files) : Type 0 where
+  pub are_there : All (λ (f : File). new f.0 ≡ Some f.1) gained
+  pub others_stay : (name : List ℕ) → All (λ (f : File). name ≢ f.0) gained → new name ≡ old name
+
+-- the files with these, put one after another
+abbrev pub with_files : Files → List File → Files
+with_files files [] = files
+with_files files (f ∷ more) = with_files (changed files f.0 (Some f.1)) more
+
+-- no two have one name
+abbrev pub HaveDistinctNames : List File → Type 0
+HaveDistinctNames files = AllPairs (λ (a b : File). a.0 ≢ b.0) files
+
+-- every name but those of an output's files reads as before
+abbrev pub SameButOutput : Files → Files → Type 0
+SameButOutput old new = (name : List ℕ) → ¬ IsOutputName name → new name ≡ old name

@@ -1,0 +1,60 @@
+//! A build.
+
+ghost use Rattle.std.specs.Prelude.{◌≡◌, ◌⊎◌, ◌≤◌, List, Err, IsOk, IfOk, IfErr, OnOk};
+ghost use Rattle.ept_base.specs.Causes.{HasCauseOf};
+ghost use Rattle.ept_base.specs.Files.{Tells};
+ghost use Rattle.ept_base.specs.Moves.{Moves, IsSettled};
+ghost use Rattle.ept_point.specs.declared.point.Point.{Point};
+ghost use Rattle.ept_config.specs.declared.kept.Kept as of;
+ghost use Rattle.ept_scan.specs.declared.scan_done.ScanDone as found;
+ghost use Rattle.ept_build.specs.Output.{SameButOutput};
+ghost use Rattle.ept_build.specs.Building.{HasPoints, node_count, IsBuilt, IsRefused, IsDefinite, IsLate, Fails};
+
+use crate::error::BuildError;
+use crate::summary::Summary;
+use ept_base::{Gate, Room, Shelf, Store};
+use ept_config::Config;
+use std::alloc::Global;
+
+/// Builds the octree of the points of all inputs of the configuration, and puts its files into the store: the
+/// tile of each node, the hierarchy, the metadata, the manifest and the build file. Nothing is put before all
+/// points are inserted.
+///
+/// # Errors
+///
+/// The first cause in the order in which [`BuildError`] tells. After `StoreFault` and `Memory` some of the
+/// output's files may have been put.
+pub fn build<H: Shelf, T: Store, R: Room, G: Gate + Sync>(
+    alloc: Global,
+    config: &Config,
+    shelf: &mut H,
+    store: &mut T,
+    room: &mut R,
+    gate: &G,
+) -> Result<Summary, BuildError>
+where
+    H::Source: Send,
+    R::File: Send,
+    // What it leaves.
+    ensures built { IfOk result (λ summary. Tells
+        (λ all. IsBuilt all config.now summary (T.files store.old) (T.files store.new)) (H.files shelf.old)) }
+    ensures settled { OnOk result (IsSettled (T.files store.new) (T.may_leave store.new)) }
+
+    // Why it is refused, and when.
+    ensures refused { IfErr result (λ e. Tells (λ all. IsRefused all config.now e) (H.files shelf.old)) }
+    ensures refusal_comes { Tells (λ all. (e : BuildError) → IsDefinite e → IsRefused all config.now e
+        → (result ≡ Err e) ⊎ Fails result) (H.files shelf.old) }
+    ensures accepted { Tells (λ all. (done : found.ScanDone) (kept : of.Kept) (points : List Point)
+        → HasPoints all config.now done kept points → node_count kept points ≤ config.now.max_nodes
+        → IsOk result ⊎ Fails result) (H.files shelf.old) }
+    ensures sources { HasCauseOf BuildError.SourceFault (H.faults shelf.old) (H.faults shelf.new) result }
+    ensures stores { HasCauseOf BuildError.StoreFault (T.faults store.old) (T.faults store.new) result }
+
+    // What stays as it was.
+    ensures untouched { IfErr result (λ e. (IsLate e → ⊥) → store.new ≡ store.old) }
+    ensures any_moment { Moves T.files T.may_leave T.moment T.image_since SameButOutput store.old store.new }
+    ensures files { H.files shelf.new ≡ H.files shelf.old }
+    ensures room { room.new ≡ room.old }
+{
+    Err(BuildError::Memory)
+}
