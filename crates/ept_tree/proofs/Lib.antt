@@ -1,0 +1,5 @@
+pub mod Branches
+pub mod Descending
+pub mod Growing
+pub mod Inside
+pub mod Regrouping

@@ -1,0 +1,54 @@
+use Rattle.std.proofs.Common.{◌≡◌, ◌∙◌, ◌+◌, length, List, refl, sym, subst, arith}
+use Rattle.std.proofs.lemmas.List.Elements.{All-nil}
+use Rattle.ept_tree.specs.declared.arrival.Arrival.{Arrival}
+use Rattle.ept_tree.specs.Tree.{IsPlaced, ArePlaced, AreAtDepth}
+use Rattle.ept_tree.proofs.Descending.{descent-begins, descent-goes-on, descent-deepens, descent-placed, descent-places, descent-ends}
+use Rattle.ept_tree.proofs.octree.Tree.descend.Goals as goal
+
+pub loop-arrival-init : goal.loop-arrival-init
+loop-arrival-init c = record {
+  rules = refl;
+  rest = c.requires.rest;
+  placed = subst (λ (w : List Arrival). ArePlaced c.args.self.now.rules w) (sym c.new-next.ensures.items) (All-nil (IsPlaced c.args.self.now.rules));
+  deeper = λ depth at. subst (λ (w : List Arrival). AreAtDepth (depth + 1) w) (sym c.new-next.ensures.items) (All-nil (λ (b : Arrival). b.key.depth ≡ depth + 1));
+  becomes = descent-begins c.args.self.now.rules c.args.arrivals.now c.new-next.result.items c.args.self.now.nodes.entries c.new-next.ensures.items;
+}
+
+pub arrive-requires-clause-placed : goal.arrive-requires-clause-placed
+arrive-requires-clause-placed c =
+    let i = c.loop-arrival in
+    descent-placed c.args.self.now.rules i.self.rules i.invariant.rules c.args.arrivals.now i.arrival-index c.arrival-item.result c.loop-arrival-test.true c.arrival-item.is c.requires.placed
+
+pub returns-in_err-arrive-clause-rules : goal.returns-in_err-arrive-clause-rules
+returns-in_err-arrive-clause-rules c = c.in_err-arrive.ensures.rules ∙ c.loop-arrival.invariant.rules
+
+pub loop-arrival-preserved : goal.loop-arrival-preserved
+loop-arrival-preserved c =
+    let i = c.loop-arrival in
+    let rules = c.args.self.now.rules in
+    let arrivals = c.args.arrivals.now in
+    let old = c.args.self.now.nodes.entries in
+    record {
+      rules = c.in_ok-arrive.ensures.rules ∙ i.invariant.rules;
+      rest = c.in_ok-arrive.ensures.rest;
+      placed = descent-places rules i.self.rules i.invariant.rules c.arrival-item.result i.self.nodes.entries c.arrive.new.self.nodes.entries i.next.items c.arrive.new.next.items c.in_ok-arrive.ensures.arrived i.invariant.placed;
+      deeper = descent-deepens rules i.self.rules i.invariant.rules arrivals i.next.items i.arrival-index c.arrival-item.result c.loop-arrival-test.true c.arrival-item.is old i.self.nodes.entries i.invariant.becomes c.arrive.new.self.nodes.entries c.arrive.new.next.items c.in_ok-arrive.ensures.arrived i.invariant.deeper;
+      becomes = descent-goes-on rules i.self.rules i.invariant.rules arrivals i.next.items i.arrival-index c.arrival-item.result c.loop-arrival-test.true c.arrival-item.is old i.self.nodes.entries i.invariant.becomes c.arrive.new.self.nodes.entries c.arrive.new.next.items c.in_ok-arrive.ensures.arrived;
+    }
+
+pub returns-clause-rules : goal.returns-clause-rules
+returns-clause-rules c = c.loop-arrival.invariant.rules
+
+pub returns-clause-rest : goal.returns-clause-rest
+returns-clause-rest c = c.loop-arrival.invariant.rest
+
+pub returns-clause-placed : goal.returns-clause-placed
+returns-clause-placed c = c.loop-arrival.invariant.placed
+
+pub returns-clause-deeper : goal.returns-clause-deeper
+returns-clause-deeper c = c.loop-arrival.invariant.deeper
+
+pub returns-clause-becomes : goal.returns-clause-becomes
+returns-clause-becomes c =
+    let all : c.loop-arrival.arrival-index ≡ length c.args.arrivals.now = omega arith in
+    descent-ends c.args.self.now.rules c.args.arrivals.now c.loop-arrival.next.items c.loop-arrival.arrival-index c.args.self.now.nodes.entries c.loop-arrival.self.nodes.entries all c.loop-arrival.invariant.becomes

@@ -1,0 +1,13 @@
+use Rattle.std.proofs.Common.{◌≡◌, ℕ, ◌+◌, ◌++◌, drop}
+use Rattle.ept_tree.specs.Tree.{ArePlaced, Becomes, AreAtDepth}
+use Rattle.ept_tree.specs.Grown.{IsAtRest}
+use Rattle.ept_tree.proofs.octree.Tree.descend.Given as goal
+
+abbrev pub invariant-loop-arrival : goal.invariant-loop-arrival
+invariant-loop-arrival l = record {
+  rules : l.self.rules ≡ l.initial.self.rules;
+  rest : IsAtRest l.self;
+  placed : ArePlaced l.initial.self.rules l.next.items;
+  deeper : (depth : ℕ) → AreAtDepth depth l.arrivals → AreAtDepth (depth + 1) l.next.items;
+  becomes : Becomes l.initial.self.rules l.arrivals l.initial.self.nodes.entries (drop l.arrival-index l.arrivals ++ l.next.items) l.self.nodes.entries;
+}

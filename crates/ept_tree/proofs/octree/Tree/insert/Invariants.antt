@@ -1,0 +1,14 @@
+use Rattle.std.proofs.Common.{◌≡◌, List, [], ◌∷◌}
+use Rattle.ept_point.specs.declared.point.Point.{Point}
+use Rattle.ept_tree.specs.Tree.{IsTree, ArePlaced, AreAtDepth}
+use Rattle.ept_tree.specs.Grown.{IsAtRest}
+use Rattle.ept_tree.proofs.octree.Tree.insert.Given as goal
+
+abbrev pub invariant-loop-depth : goal.invariant-loop-depth
+invariant-loop-depth l = record {
+  rules : l.self.rules ≡ l.initial.self.rules;
+  rest : IsAtRest l.self;
+  placed : ArePlaced l.initial.self.rules l.arrivals.items;
+  at : AreAtDepth l._depth l.arrivals.items;
+  becomes : (points left : List Point) → IsTree l.initial.self.rules points (l.fn.point ∷ left) [] l.initial.self.nodes.entries → IsTree l.initial.self.rules points left l.arrivals.items l.self.nodes.entries;
+}

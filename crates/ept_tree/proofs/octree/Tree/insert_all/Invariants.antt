@@ -1,0 +1,12 @@
+use Rattle.std.proofs.Common.{◌≡◌, ◌≤◌, List, ◌++◌, drop, length}
+use Rattle.ept_point.specs.declared.point.Point.{Point}
+use Rattle.ept_tree.specs.Grown.{IsAtRest, HasTaken}
+use Rattle.ept_tree.proofs.octree.Tree.insert_all.Given as goal
+
+abbrev pub invariant-loop-point : goal.invariant-loop-point
+invariant-loop-point l = record {
+  rules : l.self.rules ≡ l.initial.self.rules;
+  rest : IsAtRest l.self;
+  few : length l.self.nodes.entries ≤ l.most;
+  taken : (points left : List Point) → HasTaken points (l.given ++ left) l.initial.self → HasTaken points (drop l.point-index l.given ++ left) l.self;
+}

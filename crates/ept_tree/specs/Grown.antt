@@ -1,0 +1,24 @@
+-- A tree, as its callers see it.
+use Rattle.std.specs.Prelude.{◌≡◌, ℕ, List, []}
+use Rattle.ept_point.specs.declared.point.Point.{Point}
+use Rattle.ept_space.specs.declared.cube.Rules.{Rules}
+use Rattle.ept_grid.specs.Outgoing.{points_at}
+use Rattle.ept_tree.specs.declared.octree.Tree.{Tree}
+use Rattle.ept_tree.specs.Tree.{Branch, AreNodes, IsTree}
+
+-- the rules of its sampling
+abbrev pub rules_of : Tree → Rules
+rules_of tree = tree.rules
+
+-- its nodes by their keys, in key order
+abbrev pub nodes_of : Tree → List Branch
+nodes_of tree = tree.nodes.entries
+
+-- Each node has its key and the tree's rules, and no point is on its way.
+pub record IsAtRest (tree : Tree) : Type 0 where
+  pub own : AreNodes (rules_of tree) (nodes_of tree)
+  pub none : (o : ℕ) → points_at tree.leaving o ≡ []
+
+-- of these points, all but those left were brought in
+abbrev pub HasTaken : List Point → List Point → Tree → Type 0
+HasTaken points left tree = IsTree (rules_of tree) points left [] (nodes_of tree)

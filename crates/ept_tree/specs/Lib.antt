@@ -1,0 +1,4 @@
+pub mod Sending
+pub mod Tree
+pub mod Grown
+pub mod TreeLaws
