@@ -1,0 +1,4 @@
+pub mod Passed
+pub mod Near
+pub mod Joining
+pub mod Members

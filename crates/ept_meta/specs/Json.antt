@@ -1,0 +1,16 @@
+-- The pieces of a JSON text without white space.
+use Rattle.std.specs.Prelude.{ℕ, ℤ, ◌||◌, ◌==◌, List, [], ◌∷◌, ◌++◌, if◌then◌else◌, codes}
+use Rattle.std.specs.List.{flat_map, join_by}
+use Rattle.std.specs.Fmt.{signed_decimal}
+
+-- a byte of a string, with a backslash before a quotation mark and a backslash
+abbrev pub escaped : ℕ → List ℕ
+escaped byte = if (byte == 34) || (byte == 92) then 92 ∷ byte ∷ [] else byte ∷ []
+
+-- a string
+unfoldable pub quoted : List ℕ → List ℕ
+quoted text = codes "\"" ++ flat_map escaped text ++ codes "\""
+
+-- an array of whole numbers
+unfoldable pub wholes_text : List ℤ → List ℕ
+wholes_text numbers = codes "[" ++ join_by signed_decimal (codes ",") numbers ++ codes "]"
