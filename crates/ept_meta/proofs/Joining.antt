@@ -1,5 +1,5 @@
 -- Texts joined by commas, one item after another.
-use Rattle.std.proofs.Common.{◌≡◌, ◌∙◌, ℕ, zero, suc, ◌+◌, ◌<◌, Bool, true, false, List, [], ◌∷◌, ◌++◌, refl, sym, ap, subst, arith, length, take, get_or, ℤ, append_assoc, codes, rules, tests}
+use Rattle.std.proofs.Common.{◌≡◌, ◌∙◌, ℕ, zero, suc, ◌+◌, ◌<◌, Bool, true, false, List, [], ◌∷◌, ◌++◌, refl, sym, ap, subst, arith, length, take, get_or, append_assoc, codes, rules, tests}
 use Rattle.std.specs.Prelude.{if◌then◌else◌, nat_lt}
 use Rattle.std.specs.List.{flat_map, join_by}
 use Rattle.std.proofs.lemmas.List.{take_more, append-nil}
@@ -33,14 +33,3 @@ item_written f sep xs k x start before middle after inside is at_first then_sep 
     ∙ ap (λ w. w ++ f x) (append_assoc start (join_by f sep (take k xs)) (if nat_lt 0 k then sep else []))
     ∙ append_assoc start (join_by f sep (take k xs) ++ (if nat_lt 0 k then sep else [])) (f x)
     ∙ ap (λ w. start ++ w) (sym (one_more f sep xs k x inside is))
-
--- a number of a list, whatever stands for one past its end
-pub same_number : (xs : List ℤ) (k : ℕ) (d : ℤ) → k < length xs → get_or xs k d ≡ get_or xs k (get_or xs k d)
-same_number [] k d inside = absurd (omega (arith, inside))
-same_number (x ∷ xs) zero d inside = refl
-same_number (x ∷ xs) (suc k) d inside = default xs k d (get_or xs k d) (omega (arith, inside))
-  where
-    default : (ys : List ℤ) (i : ℕ) (d e : ℤ) → i < length ys → get_or ys i d ≡ get_or ys i e
-    default [] i d e inside = absurd (omega (arith, inside))
-    default (y ∷ ys) zero d e inside = refl
-    default (y ∷ ys) (suc i) d e inside = default ys i d e (omega (arith, inside))

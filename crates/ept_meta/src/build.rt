@@ -3,12 +3,15 @@
 ghost use Rattle.std.specs.Prelude.{◌≡◌, ◌++◌, codes, OnOk, OnErr};
 ghost use Rattle.std.specs.List.{join_by};
 ghost use Rattle.hex.specs.Hex.{encode_lower};
-ghost use Rattle.ept_meta.specs.Json.{quoted, wholes_text};
-ghost use Rattle.ept_meta.specs.BuildText.{build_text, units_text, octree_text, inputs_text, input_text, expect_text};
+ghost use Rattle.ept_meta.specs.Json.{quoted};
+ghost use Rattle.ept_meta.specs.BuildText.{build_text, units_text, stored_bounds_text, octree_text, inputs_text, input_text, expect_text};
 
-use crate::json::{append, append_comma, append_number, append_quoted, append_wholes};
+use crate::json::{
+    append, append_comma, append_number, append_number_member, append_quoted, append_whole_items,
+    append_wholes,
+};
 use crate::srs_object::append_srs;
-use crate::units::{append_span, wide};
+use crate::units::{span, wide};
 use ept_config::{EXPECT_WIDTH, Input, Kept};
 use ept_point::Memory;
 use ept_space::Bounds;
@@ -31,12 +34,10 @@ pub fn build_json(kept: &Kept, out: &mut Vec<u8>) -> Result<(), Memory>
 fn append_build(text: &mut Vec<u8>, kept: &Kept) -> Result<(), Memory>
     ensures { OnOk result (text.new.items ≡ text.old.items ++ build_text kept.now) }
 {
-    append(text, b"{")?;
     append_units(text, kept)?;
     append_octree(text, kept)?;
     append(text, b",\"srs\":")?;
     append_srs(text, &kept.srs)?;
-    append(text, b",\"input\":")?;
     append_inputs(text, kept.inputs.as_slice())?;
     append(text, b"}")?;
     Ok(())
@@ -46,7 +47,7 @@ fn append_build(text: &mut Vec<u8>, kept: &Kept) -> Result<(), Memory>
 fn append_units(text: &mut Vec<u8>, kept: &Kept) -> Result<(), Memory>
     ensures { OnOk result (text.new.items ≡ text.old.items ++ units_text kept.now) }
 {
-    append(text, b"\"scale\":")?;
+    append(text, b"{\"scale\":")?;
     append_number(text, u64::from(kept.scale))?;
     append(text, b",\"offset\":")?;
     append_wholes(text, &kept.offset)?;
@@ -55,27 +56,27 @@ fn append_units(text: &mut Vec<u8>, kept: &Kept) -> Result<(), Memory>
     Ok(())
 }
 
+#[tactic(auto, unfolding(crate::specs::BuildText::stored_bounds_text))]
 fn append_stored_bounds(text: &mut Vec<u8>, bounds: &Bounds) -> Result<(), Memory>
     ensures { OnOk result (text.new.items
-        ≡ text.old.items ++ wholes_text (bounds.now.min ++ bounds.now.max)) }
+        ≡ text.old.items ++ stored_bounds_text bounds.now) }
 {
-    let [a, b, c] = wide(&bounds.min);
-    let [d, e, f] = wide(&bounds.max);
-    append_wholes(text, &[a, b, c, d, e, f])
+    append(text, b"[")?;
+    append_whole_items(text, &wide(&bounds.min))?;
+    append(text, b",")?;
+    append_whole_items(text, &wide(&bounds.max))?;
+    append(text, b"]")?;
+    Ok(())
 }
 
 #[tactic(auto, unfolding(crate::specs::BuildText::octree_text))]
 fn append_octree(text: &mut Vec<u8>, kept: &Kept) -> Result<(), Memory>
     ensures { OnOk result (text.new.items ≡ text.old.items ++ octree_text kept.now) }
 {
-    append(text, b",\"span\":")?;
-    append_span(text, kept)?;
-    append(text, b",\"minNodeSize\":")?;
-    append_number(text, kept.threshold)?;
-    append(text, b",\"maxDepth\":")?;
-    append_number(text, u64::from(kept.max_depth))?;
-    append(text, b",\"hierarchyStep\":")?;
-    append_number(text, u64::from(kept.step))?;
+    append_number_member(text, b"span", span(kept))?;
+    append_number_member(text, b"minNodeSize", kept.threshold)?;
+    append_number_member(text, b"maxDepth", u64::from(kept.max_depth))?;
+    append_number_member(text, b"hierarchyStep", u64::from(kept.step))?;
     Ok(())
 }
 
@@ -83,7 +84,7 @@ fn append_octree(text: &mut Vec<u8>, kept: &Kept) -> Result<(), Memory>
 fn append_inputs(text: &mut Vec<u8>, inputs: &[Input]) -> Result<(), Memory>
     ensures { OnOk result (text.new.items ≡ text.old.items ++ inputs_text inputs.now) }
 {
-    append(text, b"[")?;
+    append(text, b",\"input\":[")?;
     append_input_items(text, inputs)?;
     append(text, b"]")?;
     Ok(())
@@ -105,8 +106,7 @@ fn append_input(text: &mut Vec<u8>, input: &Input) -> Result<(), Memory>
 {
     append(text, b"{\"path\":")?;
     append_quoted(text, input.path.as_str())?;
-    append(text, b",\"scale\":")?;
-    append_number(text, u64::from(input.scale))?;
+    append_number_member(text, b"scale", u64::from(input.scale))?;
     append(text, b",\"shift\":")?;
     append_wholes(text, &input.shift)?;
     append_expect(text, &input.expect)?;
@@ -114,10 +114,7 @@ fn append_input(text: &mut Vec<u8>, input: &Input) -> Result<(), Memory>
     Ok(())
 }
 
-fn append_expect(
-    text: &mut Vec<u8>,
-    expect: &Option<[u8; EXPECT_WIDTH]>,
-) -> Result<(), Memory>
+fn append_expect(text: &mut Vec<u8>, expect: &Option<[u8; EXPECT_WIDTH]>) -> Result<(), Memory>
     ensures { OnOk result (text.new.items ≡ text.old.items ++ expect_text expect.now) }
 {
     if let Some(bytes) = expect {

@@ -2,8 +2,8 @@
 
 ghost use Rattle.std.specs.Prelude.{◌≡◌, ◌++◌, [], ℤ, OnOk, codes, if◌then◌else◌};
 ghost use Rattle.std.specs.Fmt.{decimal, signed_decimal};
-ghost use Rattle.std.specs.List.{flat_map, join_by};
-ghost use Rattle.ept_meta.specs.Json.{quoted, escaped, wholes_text};
+ghost use Rattle.std.specs.List.{flat_map};
+ghost use Rattle.ept_meta.specs.Json.{quoted, escaped, number_member, wholes, wholes_text};
 
 use ept_point::Memory;
 use itoa::Buffer;
@@ -21,6 +21,22 @@ pub(crate) fn append_number(text: &mut Vec<u8>, number: u64) -> Result<(), Memor
     ensures { OnOk result (text.new.items ≡ text.old.items ++ decimal number) }
 {
     append(text, Buffer::new().format(number).as_bytes())
+}
+
+/// Appends a member that is a number, behind other members.
+#[tactic(auto, unfolding(crate::specs::Json::number_member))]
+pub(crate) fn append_number_member(
+    text: &mut Vec<u8>,
+    key: &[u8],
+    number: u64,
+) -> Result<(), Memory>
+    ensures { OnOk result (text.new.items ≡ text.old.items ++ number_member key.now number) }
+{
+    append(text, b",\"")?;
+    append(text, key)?;
+    append(text, b"\":")?;
+    append_number(text, number)?;
+    Ok(())
 }
 
 /// Appends a comma where there are items or members before it.
@@ -52,8 +68,9 @@ pub(crate) fn append_wholes(text: &mut Vec<u8>, numbers: &[i64]) -> Result<(), M
     Ok(())
 }
 
-fn append_whole_items(text: &mut Vec<u8>, numbers: &[i64]) -> Result<(), Memory>
-    ensures { OnOk result (text.new.items ≡ text.old.items ++ join_by signed_decimal (codes ",") numbers.now) }
+/// Appends whole numbers with commas between them.
+pub(crate) fn append_whole_items(text: &mut Vec<u8>, numbers: &[i64]) -> Result<(), Memory>
+    ensures { OnOk result (text.new.items ≡ text.old.items ++ wholes numbers.now) }
 {
     for (at, number) in numbers.iter().enumerate() {
         append_comma(text, at > 0)?;

@@ -4,7 +4,7 @@ ghost use Rattle.std.specs.Prelude.{◌≡◌, ◌++◌, length, codes, OnOk, On
 ghost use Rattle.std.specs.List.{join_by, zip};
 ghost use Rattle.ept_meta.specs.ManifestText.{manifest_text, source_text, extent_text};
 
-use crate::json::{append, append_comma, append_number, append_quoted};
+use crate::json::{append, append_comma, append_number_member, append_quoted};
 use crate::units::append_bounds;
 use ept_config::{Input, Kept, SourceCount};
 use ept_point::Memory;
@@ -26,11 +26,7 @@ pub fn manifest_json(kept: &Kept, counts: &[SourceCount], out: &mut Vec<u8>) -> 
 }
 
 #[tactic(auto, unfolding(crate::specs::ManifestText::manifest_text))]
-fn append_manifest(
-    text: &mut Vec<u8>,
-    kept: &Kept,
-    counts: &[SourceCount],
-) -> Result<(), Memory>
+fn append_manifest(text: &mut Vec<u8>, kept: &Kept, counts: &[SourceCount]) -> Result<(), Memory>
     requires { length counts.now ≡ length kept.now.inputs }
     ensures { OnOk result (text.new.items ≡ text.old.items ++ manifest_text kept.now counts.now) }
 {
@@ -63,8 +59,7 @@ fn append_source(
 {
     append(text, b"{\"path\":")?;
     append_quoted(text, input.path.as_str())?;
-    append(text, b",\"points\":")?;
-    append_number(text, count.points)?;
+    append_number_member(text, b"points", count.points)?;
     append_extent(text, kept, &count.extent)?;
     append(text, b",\"inserted\":true}")?;
     Ok(())

@@ -4,10 +4,10 @@ ghost use Rattle.std.specs.Prelude.{◌≡◌, ◌++◌, OnOk, OnErr};
 ghost use Rattle.std.specs.Option.{option_copied};
 ghost use Rattle.ept_meta.specs.EptText.{place_text, points_text, ept_text};
 
-use crate::json::{append, append_number};
+use crate::json::{append, append_number_member};
 use crate::schema::append_schema;
 use crate::srs_object::append_srs;
-use crate::units::{append_bounds, append_cube, append_span};
+use crate::units::{append_bounds, append_cube, span};
 use ept_config::Kept;
 use ept_point::Memory;
 use ept_space::Bounds;
@@ -42,11 +42,9 @@ fn append_ept(
 ) -> Result<(), Memory>
     ensures { OnOk result (text.new.items ≡ text.old.items ++ ept_text kept.now (option_copied extent.entry) points) }
 {
-    append(text, b"{")?;
     append_place(text, kept, extent)?;
     append_points(text, kept, points)?;
-    append(text, b",\"span\":")?;
-    append_span(text, kept)?;
+    append_number_member(text, b"span", span(kept))?;
     append(text, b",\"srs\":")?;
     append_srs(text, &kept.srs)?;
     append(text, b",\"version\":\"1.1.0\"}")?;
@@ -57,7 +55,7 @@ fn append_ept(
 fn append_place(text: &mut Vec<u8>, kept: &Kept, extent: Option<&Bounds>) -> Result<(), Memory>
     ensures { OnOk result (text.new.items ≡ text.old.items ++ place_text kept.now (option_copied extent.entry)) }
 {
-    append(text, b"\"bounds\":")?;
+    append(text, b"{\"bounds\":")?;
     append_cube(text, kept)?;
     append(text, b",\"boundsConforming\":")?;
     append_bounds(text, kept, extent.unwrap_or(&kept.bounds))?;
@@ -68,8 +66,8 @@ fn append_place(text: &mut Vec<u8>, kept: &Kept, extent: Option<&Bounds>) -> Res
 fn append_points(text: &mut Vec<u8>, kept: &Kept, points: u64) -> Result<(), Memory>
     ensures { OnOk result (text.new.items ≡ text.old.items ++ points_text kept.now points) }
 {
-    append(text, b",\"dataType\":\"binary\",\"hierarchyType\":\"json\",\"points\":")?;
-    append_number(text, points)?;
+    append(text, b",\"dataType\":\"binary\",\"hierarchyType\":\"json\"")?;
+    append_number_member(text, b"points", points)?;
     append(text, b",\"schema\":")?;
     append_schema(text, kept)?;
     Ok(())

@@ -1,10 +1,8 @@
 //! The schema: what a packed point is made of.
 
-ghost use Rattle.std.specs.Prelude.{◌≡◌, ◌<◌, ◌≤◌, ◌++◌, pos, codes, OnOk};
-ghost use Rattle.std.specs.Option.{ForSome};
-ghost use Rattle.std.specs.List.{join_by};
+ghost use Rattle.std.specs.Prelude.{◌≡◌, ◌≤◌, ◌++◌, pos, OnOk};
 ghost use Rattle.ept_num.specs.Decimals.{decimal_text_of};
-ghost use Rattle.ept_meta.specs.Dimensions.{field_of, field_text, fields, transform_text, schema_text};
+ghost use Rattle.ept_meta.specs.Dimensions.{row_text, rows_text, transform_text, schema_text};
 
 use crate::json::{append, append_comma, append_number, append_quoted, append_whole};
 use ept_config::Kept;
@@ -35,16 +33,41 @@ impl Kind {
     }
 }
 
+/// An axis that a dimension is the coordinate on.
+#[derive(Clone, Copy)]
+enum Axis {
+    X,
+    Y,
+    Z,
+}
+
+impl Axis {
+    ghost use Rattle.std.specs.Prelude.{◌≡◌, ◌<◌};
+    ghost use Rattle.ept_meta.specs.Dimensions.{axis_number};
+
+    /// Its place in the order x, y, z.
+    fn number(self) -> usize
+        ensures value { result ≡ axis_number self }
+        ensures range { result < 3 }
+    {
+        match self {
+            Axis::X => 0,
+            Axis::Y => 1,
+            Axis::Z => 2,
+        }
+    }
+}
+
 /// A dimension: its name, how its bytes are read, how many there are, and the axis that it is the
 /// coordinate on.
 #[derive(Clone, Copy)]
-struct Dimension(&'static str, Kind, u8, Option<usize>);
+struct Dimension(&'static str, Kind, u8, Option<Axis>);
 
 /// The dimensions of a packed point in the order of its bytes (Entwine Point Tile 1.1.0, "schema").
 const DIMENSIONS: [Dimension; 21] = [
-    Dimension("X", Kind::Signed, 4, Some(0)),
-    Dimension("Y", Kind::Signed, 4, Some(1)),
-    Dimension("Z", Kind::Signed, 4, Some(2)),
+    Dimension("X", Kind::Signed, 4, Some(Axis::X)),
+    Dimension("Y", Kind::Signed, 4, Some(Axis::Y)),
+    Dimension("Z", Kind::Signed, 4, Some(Axis::Z)),
     Dimension("Intensity", Kind::Unsigned, 2, None),
     Dimension("ReturnNumber", Kind::Unsigned, 1, None),
     Dimension("NumberOfReturns", Kind::Unsigned, 1, None),
@@ -66,34 +89,33 @@ const DIMENSIONS: [Dimension; 21] = [
 ];
 
 /// Appends the schema of the points.
-#[tactic(auto, unfolding(crate::specs::Dimensions::schema_text))]
 pub(crate) fn append_schema(text: &mut Vec<u8>, kept: &Kept) -> Result<(), Memory>
     ensures { OnOk result (text.new.items ≡ text.old.items ++ schema_text kept.now) }
 {
     append(text, b"[")?;
-    append_dimensions(text, kept)?;
+    append_dimensions(text, kept, &DIMENSIONS)?;
     append(text, b"]")?;
     Ok(())
 }
 
-fn append_dimensions(text: &mut Vec<u8>, kept: &Kept) -> Result<(), Memory>
-    ensures { OnOk result (text.new.items ≡ text.old.items ++ join_by (field_text kept.now) (codes ",") fields) }
+#[tactic(auto, unfolding(crate::specs::Dimensions::rows_text))]
+fn append_dimensions(
+    text: &mut Vec<u8>,
+    kept: &Kept,
+    dimensions: &[Dimension],
+) -> Result<(), Memory>
+    ensures { OnOk result (text.new.items ≡ text.old.items ++ rows_text kept.now dimensions.now) }
 {
-    for (at, dimension) in DIMENSIONS.iter().enumerate() {
+    for (at, dimension) in dimensions.iter().enumerate() {
         append_comma(text, at > 0)?;
         append_dimension(text, kept, dimension)?;
     }
     Ok(())
 }
 
-#[tactic(auto, unfolding(crate::specs::Dimensions::field_text))]
-fn append_dimension(
-    text: &mut Vec<u8>,
-    kept: &Kept,
-    dimension: &Dimension,
-) -> Result<(), Memory>
-    requires { ForSome dimension.now.3 (λ axis. axis < 3) }
-    ensures { OnOk result (text.new.items ≡ text.old.items ++ field_text kept.now (field_of dimension.now)) }
+#[tactic(auto, unfolding(crate::specs::Dimensions::row_text, crate::specs::Dimensions::field_text))]
+fn append_dimension(text: &mut Vec<u8>, kept: &Kept, dimension: &Dimension) -> Result<(), Memory>
+    ensures { OnOk result (text.new.items ≡ text.old.items ++ row_text kept.now dimension.now) }
 {
     append(text, b"{\"name\":")?;
     append_quoted(text, dimension.0)?;
@@ -107,15 +129,14 @@ fn append_dimension(
 }
 
 // Appends how stored coordinates on an axis become native ones.
-fn append_transform(text: &mut Vec<u8>, kept: &Kept, axis: Option<usize>) -> Result<(), Memory>
-    requires { ForSome axis (λ at. at < 3) }
+fn append_transform(text: &mut Vec<u8>, kept: &Kept, axis: Option<Axis>) -> Result<(), Memory>
     ensures { OnOk result (text.new.items ≡ text.old.items ++ transform_text kept.now axis) }
 {
     if let Some(axis) = axis {
         append(text, b",\"scale\":")?;
         append_unit(text, kept.scale)?;
         append(text, b",\"offset\":")?;
-        append_whole(text, &kept.offset[axis])?;
+        append_whole(text, &kept.offset[axis.number()])?;
     }
     Ok(())
 }

@@ -2,13 +2,12 @@
 
 ghost use Rattle.std.specs.Prelude.{◌≡◌, ◌<◌, ◌≤◌, ◌^◌, ◌++◌, ◌*ℤ◌, pos, unsigned_abs, OnOk};
 ghost use Rattle.ept_config.specs.InputRanges.{AreThreeWithin};
-ghost use Rattle.std.specs.Fmt.{decimal};
 ghost use Rattle.ept_space.specs.Place.{coordinate};
 ghost use Rattle.ept_space.specs.CubeOfBounds.{cube_of};
 ghost use Rattle.ept_space.specs.OctreeCube.{OctreeCube};
 ghost use Rattle.ept_meta.specs.Units.{coordinate_text, corner_text, box_text, bounds_text, cube_text, far_corner};
 
-use crate::json::{append, append_number};
+use crate::json::append;
 use ept_config::Kept;
 use ept_num::decimal_text;
 use ept_point::Memory;
@@ -114,9 +113,9 @@ fn origin(kept: &Kept, axis: usize) -> i64
     kept.offset[axis] * 10i64.pow(u32::from(kept.scale))
 }
 
-/// Appends the span: how many cells a node has an axis.
-pub(crate) fn append_span(text: &mut Vec<u8>, kept: &Kept) -> Result<(), Memory>
-    ensures { OnOk result (text.new.items ≡ text.old.items ++ decimal (2 ^ kept.now.s)) }
+/// The span: how many cells a node has an axis.
+pub(crate) fn span(kept: &Kept) -> u64
+    ensures { result ≡ 2 ^ kept.now.s }
 {
-    append_number(text, 2u64.pow(u32::from(kept.s)))
+    2u64.pow(u32::from(kept.s))
 }

@@ -4,6 +4,6 @@ use Rattle.ept_meta.proofs.Joining.{item_written}
 use Rattle.ept_meta.proofs.build.append_input_items.Goals as goal
 
 pub loop-at-preserved : goal.loop-at-preserved
-loop-at-preserved c = let i = c.loop-at-item in
-    item_written input_text (codes ",") c.args.inputs.now c.loop-at.at ? c.args.text.now.items c.loop-at.text.items c.append_comma.new.text.items c.append_input.new.text.items
-    c.loop-at-test.true ? c.loop-at.invariant c.in_ok-append_comma.ensures c.in_ok-append_input.ensures
+loop-at-preserved c =
+    item_written input_text (codes ",") c.args.inputs.now c.loop-at.at c.index-inputs-at.result c.args.text.now.items c.loop-at.text.items c.append_comma.new.text.items c.append_input.new.text.items
+    c.loop-at-test.true c.index-inputs-at.is c.loop-at.invariant c.in_ok-append_comma.ensures c.in_ok-append_input.ensures
