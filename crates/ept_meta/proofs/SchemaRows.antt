@@ -1,6 +1,6 @@
 -- Rows of the code's table that are the dimensions.
 use Rattle.std.proofs.Common.{◌≡◌, ◌∙◌, ◌++◌, List, [], ◌∷◌, ℕ, map, codes, ap, sym, refl, append_assoc}
-use Rattle.std.specs.List.{join_by, flat_map}
+use Rattle.std.specs.List.{join_by}
 use Rattle.std.proofs.lemmas.List.Folds.{flat_map-map}
 use Rattle.ept_config.specs.declared.kept.Kept.{Kept}
 use Rattle.ept_meta.specs.declared.schema.Dimension.{Dimension}

@@ -17,7 +17,8 @@ expect_text None = []
 -- the object of an input
 unfoldable pub input_text : Input → List ℕ
 input_text input =
-    codes "{\"path\":" ++ quoted input.path ++ number_member (codes "scale") input.scale ++ codes ",\"shift\":" ++ wholes_text input.shift ++ expect_text input.expect ++ codes "}"
+    codes "{\"path\":" ++ quoted input.path ++ number_member (codes "scale") input.scale
+    ++ codes ",\"shift\":" ++ wholes_text input.shift ++ expect_text input.expect ++ codes "}"
 
 -- the member of the inputs, in order
 unfoldable pub inputs_text : List Input → List ℕ
@@ -30,14 +31,18 @@ stored_bounds_text bounds = codes "[" ++ wholes bounds.min ++ codes "," ++ whole
 -- how the points are stored: in which units, and within which bounds
 unfoldable pub units_text : Kept → List ℕ
 units_text kept =
-    codes "{\"scale\":" ++ decimal kept.scale ++ codes ",\"offset\":" ++ wholes_text kept.offset ++ codes ",\"bounds\":" ++ stored_bounds_text kept.bounds
+    codes "{\"scale\":" ++ decimal kept.scale ++ codes ",\"offset\":" ++ wholes_text kept.offset
+    ++ codes ",\"bounds\":" ++ stored_bounds_text kept.bounds
 
 -- how the octree is divided
 unfoldable pub octree_text : Kept → List ℕ
 octree_text kept =
-    number_member (codes "span") (2 ^ kept.s) ++ number_member (codes "minNodeSize") kept.threshold ++ number_member (codes "maxDepth") kept.max_depth ++ number_member (codes "hierarchyStep") kept.step
+    number_member (codes "span") (2 ^ kept.s) ++ number_member (codes "minNodeSize") kept.threshold
+    ++ number_member (codes "maxDepth") kept.max_depth
+    ++ number_member (codes "hierarchyStep") kept.step
 
 -- all of it
 unfoldable pub build_text : Kept → List ℕ
 build_text kept =
-    units_text kept ++ octree_text kept ++ codes ",\"srs\":" ++ srs_text kept.srs ++ inputs_text kept.inputs ++ codes "}"
+    units_text kept ++ octree_text kept ++ codes ",\"srs\":" ++ srs_text kept.srs
+    ++ inputs_text kept.inputs ++ codes "}"

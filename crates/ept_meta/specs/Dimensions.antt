@@ -1,7 +1,7 @@
 -- The dimensions of a packed point (Entwine Point Tile 1.1.0, "schema").
-use Rattle.std.specs.Prelude.{ℕ, ℤ, pos, List, [], ◌∷◌, ◌++◌, codes, Option, Some, None}
+use Rattle.std.specs.Prelude.{ℕ, pos, List, [], ◌∷◌, ◌++◌, codes, Option, Some, None}
 use Rattle.std.specs.List.{join_by}
-use Rattle.std.specs.Fmt.{decimal, signed_decimal}
+use Rattle.std.specs.Fmt.{signed_decimal}
 use Rattle.ept_num.specs.Decimals.{decimal_text_of}
 use Rattle.ept_space.specs.Place.{coordinate}
 use Rattle.ept_config.specs.declared.kept.Kept.{Kept}
@@ -10,7 +10,7 @@ use Rattle.ept_meta.specs.declared.schema.Kind.TheVariants.{Signed, Unsigned, Fl
 use Rattle.ept_meta.specs.declared.schema.Axis.{Axis}
 use Rattle.ept_meta.specs.declared.schema.Axis.TheVariants.{X, Y, Z}
 use Rattle.ept_meta.specs.declared.schema.Dimension.{Dimension}
-use Rattle.ept_meta.specs.Json.{quoted}
+use Rattle.ept_meta.specs.Json.{quoted, number_member}
 
 -- the axes x, y and z
 abbrev pub axis_number : Axis → ℕ
@@ -68,13 +68,15 @@ fields =
 -- how the stored units of a coordinate become native ones: the unit is 10 ^ -scale, and 0 is at the offset
 abbrev pub transform_text : Kept → Option Axis → List ℕ
 transform_text kept (Some axis) =
-    codes ",\"scale\":" ++ decimal_text_of (pos 1) kept.scale ++ codes ",\"offset\":" ++ signed_decimal (coordinate kept.offset (axis_number axis))
+    codes ",\"scale\":" ++ decimal_text_of (pos 1) kept.scale ++ codes ",\"offset\":"
+    ++ signed_decimal (coordinate kept.offset (axis_number axis))
 transform_text kept None = []
 
 -- the object of a dimension
 unfoldable pub field_text : Kept → Field → List ℕ
 field_text kept field =
-    codes "{\"name\":" ++ quoted field.name ++ codes ",\"type\":" ++ quoted (kind_name field.kind) ++ codes ",\"size\":" ++ decimal field.size ++ transform_text kept field.axis ++ codes "}"
+    codes "{\"name\":" ++ quoted field.name ++ codes ",\"type\":" ++ quoted (kind_name field.kind)
+    ++ number_member (codes "size") field.size ++ transform_text kept field.axis ++ codes "}"
 
 -- the array of the dimensions
 unfoldable pub schema_text : Kept → List ℕ

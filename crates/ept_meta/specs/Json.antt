@@ -3,7 +3,7 @@ use Rattle.std.specs.Prelude.{ℕ, ℤ, ◌||◌, ◌==◌, List, [], ◌∷◌,
 use Rattle.std.specs.List.{flat_map, join_by}
 use Rattle.std.specs.Fmt.{decimal, signed_decimal}
 
--- a byte of a string, with a backslash before a quotation mark and a backslash
+-- a byte of a string, with a backslash before a quotation mark (34) and a backslash (92)
 abbrev pub escaped : ℕ → List ℕ
 escaped byte = if (byte == 34) || (byte == 92) then 92 ∷ byte ∷ [] else byte ∷ []
 

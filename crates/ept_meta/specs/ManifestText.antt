@@ -16,7 +16,8 @@ extent_text kept None = []
 -- the object of a scan
 unfoldable pub source_text : Kept → Input × SourceCount → List ℕ
 source_text kept source =
-    codes "{\"path\":" ++ quoted source.0.path ++ number_member (codes "points") source.1.points ++ extent_text kept source.1.extent ++ codes ",\"inserted\":true}"
+    codes "{\"path\":" ++ quoted source.0.path ++ number_member (codes "points") source.1.points
+    ++ extent_text kept source.1.extent ++ codes ",\"inserted\":true}"
 
 -- the array of the inputs, each with its count
 unfoldable pub manifest_text : Kept → List SourceCount → List ℕ

@@ -8,6 +8,7 @@ use Rattle.ept_meta.specs.Json.{quoted}
 abbrev pub Member : Type 0
 Member = List ℕ × List ℕ
 
+-- `"key":"text"`
 unfoldable pub member_text : Member → List ℕ
 member_text m = quoted m.0 ++ codes ":" ++ quoted m.1
 
@@ -19,7 +20,8 @@ given key None = []
 -- the members that are there
 unfoldable pub members : Srs → List Member
 members srs =
-    given (codes "authority") srs.authority ++ given (codes "horizontal") srs.horizontal ++ given (codes "vertical") srs.vertical ++ given (codes "wkt") srs.wkt
+    given (codes "authority") srs.authority ++ given (codes "horizontal") srs.horizontal
+    ++ given (codes "vertical") srs.vertical ++ given (codes "wkt") srs.wkt
 
 -- the object of them
 unfoldable pub srs_text : Srs → List ℕ

@@ -1,5 +1,5 @@
 -- Stored coordinates in native units.
-use Rattle.std.specs.Prelude.{ℕ, ◌^◌, ℤ, pos, ◌+ℤ◌, ◌*ℤ◌, List, [], ◌∷◌, ◌++◌, codes}
+use Rattle.std.specs.Prelude.{ℕ, ◌^◌, pos, ◌+ℤ◌, ◌*ℤ◌, List, [], ◌∷◌, ◌++◌, codes}
 use Rattle.ept_num.specs.Decimals.{decimal_text_of}
 use Rattle.ept_space.specs.declared.bounds.Bounds.{Bounds}
 use Rattle.ept_space.specs.Place.{Place, coordinate}
@@ -15,7 +15,8 @@ coordinate_text kept place axis =
 -- the coordinates of a place, with commas between them
 unfoldable pub corner_text : Kept → Place → List ℕ
 corner_text kept place =
-    coordinate_text kept place 0 ++ codes "," ++ coordinate_text kept place 1 ++ codes "," ++ coordinate_text kept place 2
+    coordinate_text kept place 0 ++ codes "," ++ coordinate_text kept place 1 ++ codes ","
+    ++ coordinate_text kept place 2
 
 -- a box from its least corner to its greatest one
 unfoldable pub box_text : Kept → Place → Place → List ℕ
@@ -29,7 +30,10 @@ bounds_text kept bounds = box_text kept bounds.min bounds.max
 -- the corner of a cube whose coordinates are its side above those of the least one
 unfoldable pub far_corner : OctreeCube → Place
 far_corner cube =
-    (coordinate cube.corner 0 +ℤ pos (2 ^ cube.e)) ∷ (coordinate cube.corner 1 +ℤ pos (2 ^ cube.e)) ∷ (coordinate cube.corner 2 +ℤ pos (2 ^ cube.e)) ∷ []
+    (coordinate cube.corner 0 +ℤ pos (2 ^ cube.e))
+    ∷ (coordinate cube.corner 1 +ℤ pos (2 ^ cube.e))
+    ∷ (coordinate cube.corner 2 +ℤ pos (2 ^ cube.e))
+    ∷ []
 
 -- the box of the octree's cube
 unfoldable pub cube_text : Kept → List ℕ

@@ -4,7 +4,8 @@ ghost use Rattle.std.specs.Prelude.{◌≡◌, ◌++◌, codes, OnOk, OnErr};
 ghost use Rattle.std.specs.List.{join_by};
 ghost use Rattle.hex.specs.Hex.{encode_lower};
 ghost use Rattle.ept_meta.specs.Json.{quoted};
-ghost use Rattle.ept_meta.specs.BuildText.{build_text, units_text, stored_bounds_text, octree_text, inputs_text, input_text, expect_text};
+ghost use Rattle.ept_meta.specs.BuildText.{build_text, units_text, stored_bounds_text, octree_text};
+ghost use Rattle.ept_meta.specs.BuildText.{inputs_text, input_text, expect_text};
 
 use crate::json::{
     append, append_comma, append_number, append_number_member, append_quoted, append_whole_items,
@@ -19,7 +20,7 @@ use ept_space::Bounds;
 /// Appends the build file: all of the configuration that the output depends on, with the bounds in
 /// stored units.
 ///
-/// Where memory runs out, `out` is as it was.
+/// The text is made beside `out` first, so where memory runs out, `out` is as it was.
 pub fn build_json(kept: &Kept, out: &mut Vec<u8>) -> Result<(), Memory>
     ensures text { OnOk result (out.new.items ≡ out.old.items ++ build_text kept.now) }
     ensures unchanged { OnErr result (out.new.items ≡ out.old.items) }

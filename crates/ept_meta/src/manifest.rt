@@ -13,7 +13,8 @@ use ept_space::Bounds;
 /// Appends the manifest of the inputs in order (Entwine Point Tile 1.1.0, "ept-sources"): the path of
 /// each, how many points it has, and their extent in native units where it has some.
 ///
-/// The counts are those of the inputs, in their order. Where memory runs out, `out` is as it was.
+/// The counts are those of the inputs, in their order. The text is made beside `out` first, so where
+/// memory runs out, `out` is as it was.
 pub fn manifest_json(kept: &Kept, counts: &[SourceCount], out: &mut Vec<u8>) -> Result<(), Memory>
     requires { length counts.now ≡ length kept.now.inputs }
     ensures text { OnOk result (out.new.items ≡ out.old.items ++ manifest_text kept.now counts.now) }

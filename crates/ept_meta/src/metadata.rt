@@ -16,15 +16,16 @@ use ept_space::Bounds;
 /// the extent of its points in native units, how many points there are, what a point is made of, the
 /// span and the spatial reference.
 ///
-/// `extent` is in stored units. Where there is none, the bounds of the build stand for it. Where
-/// memory runs out, `out` is as it was.
+/// `extent` is in stored units. Where there is none, the bounds of the build stand for it. The text is
+/// made beside `out` first, so where memory runs out, `out` is as it was.
 pub fn ept_json(
     kept: &Kept,
     extent: Option<&Bounds>,
     points: u64,
     out: &mut Vec<u8>,
 ) -> Result<(), Memory>
-    ensures text { OnOk result (out.new.items ≡ out.old.items ++ ept_text kept.now (option_copied extent.entry) points) }
+    ensures text { OnOk result (out.new.items
+        ≡ out.old.items ++ ept_text kept.now (option_copied extent.entry) points) }
     ensures unchanged { OnErr result (out.new.items ≡ out.old.items) }
 {
     let mut text = Vec::new(*out.allocator());
@@ -40,7 +41,8 @@ fn append_ept(
     extent: Option<&Bounds>,
     points: u64,
 ) -> Result<(), Memory>
-    ensures { OnOk result (text.new.items ≡ text.old.items ++ ept_text kept.now (option_copied extent.entry) points) }
+    ensures { OnOk result (text.new.items
+        ≡ text.old.items ++ ept_text kept.now (option_copied extent.entry) points) }
 {
     append_place(text, kept, extent)?;
     append_points(text, kept, points)?;
@@ -53,7 +55,8 @@ fn append_ept(
 
 #[tactic(auto, unfolding(crate::specs::EptText::place_text))]
 fn append_place(text: &mut Vec<u8>, kept: &Kept, extent: Option<&Bounds>) -> Result<(), Memory>
-    ensures { OnOk result (text.new.items ≡ text.old.items ++ place_text kept.now (option_copied extent.entry)) }
+    ensures { OnOk result (text.new.items
+        ≡ text.old.items ++ place_text kept.now (option_copied extent.entry)) }
 {
     append(text, b"{\"bounds\":")?;
     append_cube(text, kept)?;

@@ -4,7 +4,7 @@ ghost use Rattle.std.specs.Prelude.{◌≡◌, ◌≤◌, ◌++◌, pos, OnOk};
 ghost use Rattle.ept_num.specs.Decimals.{decimal_text_of};
 ghost use Rattle.ept_meta.specs.Dimensions.{row_text, rows_text, transform_text, schema_text};
 
-use crate::json::{append, append_comma, append_number, append_quoted, append_whole};
+use crate::json::{append, append_comma, append_number_member, append_quoted, append_whole};
 use ept_config::Kept;
 use ept_num::decimal_text;
 use ept_point::Memory;
@@ -117,13 +117,13 @@ fn append_dimensions(
 fn append_dimension(text: &mut Vec<u8>, kept: &Kept, dimension: &Dimension) -> Result<(), Memory>
     ensures { OnOk result (text.new.items ≡ text.old.items ++ row_text kept.now dimension.now) }
 {
+    let Dimension(name, kind, size, axis) = *dimension;
     append(text, b"{\"name\":")?;
-    append_quoted(text, dimension.0)?;
+    append_quoted(text, name)?;
     append(text, b",\"type\":")?;
-    append_quoted(text, dimension.1.name())?;
-    append(text, b",\"size\":")?;
-    append_number(text, u64::from(dimension.2))?;
-    append_transform(text, kept, dimension.3)?;
+    append_quoted(text, kind.name())?;
+    append_number_member(text, b"size", u64::from(size))?;
+    append_transform(text, kept, axis)?;
     append(text, b"}")?;
     Ok(())
 }

@@ -1,4 +1,4 @@
-use Rattle.std.proofs.Common.{◌∙◌, ◌++◌, codes, arith, ap, List, ℕ}
+use Rattle.std.proofs.Common.{◌∙◌, ◌++◌, codes, ap, List}
 use Rattle.std.specs.List.{zip, join_by}
 use Rattle.std.proofs.lemmas.List.{take_all}
 use Rattle.ept_config.specs.declared.input.Input.{Input}
