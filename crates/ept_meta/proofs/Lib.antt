@@ -1,0 +1,6 @@
+pub mod Passed
+pub mod Near
+pub mod Joining
+pub mod Members
+pub mod Sources
+pub mod SchemaRows

@@ -1,0 +1,48 @@
+-- What a dataset was built with.
+use Rattle.std.specs.Prelude.{ℕ, ◌^◌, List, [], ◌++◌, codes, Option, Some, None}
+use Rattle.std.specs.List.{join_by}
+use Rattle.std.specs.Fmt.{decimal}
+use Rattle.hex.specs.Hex.{encode_lower}
+use Rattle.ept_space.specs.declared.bounds.Bounds.{Bounds}
+use Rattle.ept_config.specs.declared.input.Input.{Input}
+use Rattle.ept_config.specs.declared.kept.Kept.{Kept}
+use Rattle.ept_meta.specs.Json.{number_member, quoted, wholes, wholes_text}
+use Rattle.ept_meta.specs.SrsObject.{srs_text}
+
+-- the bytes that the header of a scan is to have, in hexadecimal, where they were given
+abbrev pub expect_text : Option (List ℕ) → List ℕ
+expect_text (Some bytes) = codes ",\"expect\":" ++ quoted (encode_lower bytes)
+expect_text None = []
+
+-- the object of an input
+unfoldable pub input_text : Input → List ℕ
+input_text input =
+    codes "{\"path\":" ++ quoted input.path ++ number_member (codes "scale") input.scale
+    ++ codes ",\"shift\":" ++ wholes_text input.shift ++ expect_text input.expect ++ codes "}"
+
+-- the member of the inputs, in order
+unfoldable pub inputs_text : List Input → List ℕ
+inputs_text inputs = codes ",\"input\":[" ++ join_by input_text (codes ",") inputs ++ codes "]"
+
+-- the six numbers of bounds, in stored units
+unfoldable pub stored_bounds_text : Bounds → List ℕ
+stored_bounds_text bounds = codes "[" ++ wholes bounds.min ++ codes "," ++ wholes bounds.max ++ codes "]"
+
+-- how the points are stored: in which units, and within which bounds
+unfoldable pub units_text : Kept → List ℕ
+units_text kept =
+    codes "{\"scale\":" ++ decimal kept.scale ++ codes ",\"offset\":" ++ wholes_text kept.offset
+    ++ codes ",\"bounds\":" ++ stored_bounds_text kept.bounds
+
+-- how the octree is divided
+unfoldable pub octree_text : Kept → List ℕ
+octree_text kept =
+    number_member (codes "span") (2 ^ kept.s) ++ number_member (codes "minNodeSize") kept.threshold
+    ++ number_member (codes "maxDepth") kept.max_depth
+    ++ number_member (codes "hierarchyStep") kept.step
+
+-- all of it
+unfoldable pub build_text : Kept → List ℕ
+build_text kept =
+    units_text kept ++ octree_text kept ++ codes ",\"srs\":" ++ srs_text kept.srs
+    ++ inputs_text kept.inputs ++ codes "}"

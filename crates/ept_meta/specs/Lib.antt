@@ -1,0 +1,7 @@
+pub mod Json
+pub mod Units
+pub mod SrsObject
+pub mod Dimensions
+pub mod EptText
+pub mod ManifestText
+pub mod BuildText

@@ -1,0 +1,19 @@
+//! The texts that tell what a finished dataset is: its metadata (Entwine Point Tile 1.1.0, "ept.json"),
+//! the manifest of its scans ("ept-sources") and the file of what it was built with.
+//!
+//! Each is a JSON text without white space outside its strings, appended to what a buffer has.
+#![tactic(auto)]
+
+mod build;
+mod json;
+mod manifest;
+mod metadata;
+mod schema;
+mod srs_object;
+#[cfg(test)]
+mod tests;
+mod units;
+
+pub use build::build_json;
+pub use manifest::manifest_json;
+pub use metadata::ept_json;

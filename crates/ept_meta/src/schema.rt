@@ -1,0 +1,152 @@
+//! The schema: what a packed point is made of.
+
+ghost use Rattle.std.specs.Prelude.{◌≡◌, ◌≤◌, ◌++◌, pos, OnOk};
+ghost use Rattle.ept_num.specs.Decimals.{decimal_text_of};
+ghost use Rattle.ept_meta.specs.Dimensions.{row_text, rows_text, transform_text, schema_text};
+
+use crate::json::{append, append_comma, append_number_member, append_quoted, append_whole};
+use ept_config::Kept;
+use ept_num::decimal_text;
+use ept_point::Memory;
+
+/// How the bytes of a dimension are read.
+#[derive(Clone, Copy)]
+enum Kind {
+    Signed,
+    Unsigned,
+    Float,
+}
+
+impl Kind {
+    ghost use Rattle.std.specs.Prelude.{◌≡◌};
+    ghost use Rattle.ept_meta.specs.Dimensions.{kind_name};
+
+    /// As the schema spells it.
+    fn name(self) -> &'static str
+        ensures { result.now ≡ kind_name self }
+    {
+        match self {
+            Kind::Signed => "signed",
+            Kind::Unsigned => "unsigned",
+            Kind::Float => "float",
+        }
+    }
+}
+
+/// An axis that a dimension is the coordinate on.
+#[derive(Clone, Copy)]
+enum Axis {
+    X,
+    Y,
+    Z,
+}
+
+impl Axis {
+    ghost use Rattle.std.specs.Prelude.{◌≡◌, ◌<◌};
+    ghost use Rattle.ept_meta.specs.Dimensions.{axis_number};
+
+    /// Its place in the order x, y, z.
+    fn number(self) -> usize
+        ensures value { result ≡ axis_number self }
+        ensures range { result < 3 }
+    {
+        match self {
+            Axis::X => 0,
+            Axis::Y => 1,
+            Axis::Z => 2,
+        }
+    }
+}
+
+/// A dimension: its name, how its bytes are read, how many there are, and the axis that it is the
+/// coordinate on.
+#[derive(Clone, Copy)]
+struct Dimension(&'static str, Kind, u8, Option<Axis>);
+
+/// The dimensions of a packed point in the order of its bytes (Entwine Point Tile 1.1.0, "schema").
+const DIMENSIONS: [Dimension; 21] = [
+    Dimension("X", Kind::Signed, 4, Some(Axis::X)),
+    Dimension("Y", Kind::Signed, 4, Some(Axis::Y)),
+    Dimension("Z", Kind::Signed, 4, Some(Axis::Z)),
+    Dimension("Intensity", Kind::Unsigned, 2, None),
+    Dimension("ReturnNumber", Kind::Unsigned, 1, None),
+    Dimension("NumberOfReturns", Kind::Unsigned, 1, None),
+    Dimension("ScanDirectionFlag", Kind::Unsigned, 1, None),
+    Dimension("EdgeOfFlightLine", Kind::Unsigned, 1, None),
+    Dimension("Classification", Kind::Unsigned, 1, None),
+    Dimension("ClassFlags", Kind::Unsigned, 1, None),
+    Dimension("ScanChannel", Kind::Unsigned, 1, None),
+    Dimension("ScanAngleRank", Kind::Signed, 1, None),
+    Dimension("ScanAngle", Kind::Signed, 2, None),
+    Dimension("UserData", Kind::Unsigned, 1, None),
+    Dimension("PointSourceId", Kind::Unsigned, 2, None),
+    Dimension("GpsTime", Kind::Float, 8, None),
+    Dimension("Red", Kind::Unsigned, 2, None),
+    Dimension("Green", Kind::Unsigned, 2, None),
+    Dimension("Blue", Kind::Unsigned, 2, None),
+    Dimension("OriginId", Kind::Unsigned, 4, None),
+    Dimension("PointId", Kind::Unsigned, 4, None),
+];
+
+/// Appends the schema of the points.
+pub(crate) fn append_schema(text: &mut Vec<u8>, kept: &Kept) -> Result<(), Memory>
+    ensures { OnOk result (text.new.items ≡ text.old.items ++ schema_text kept.now) }
+{
+    append(text, b"[")?;
+    append_dimensions(text, kept, &DIMENSIONS)?;
+    append(text, b"]")?;
+    Ok(())
+}
+
+#[tactic(auto, unfolding(crate::specs::Dimensions::rows_text))]
+fn append_dimensions(
+    text: &mut Vec<u8>,
+    kept: &Kept,
+    dimensions: &[Dimension],
+) -> Result<(), Memory>
+    ensures { OnOk result (text.new.items ≡ text.old.items ++ rows_text kept.now dimensions.now) }
+{
+    for (at, dimension) in dimensions.iter().enumerate() {
+        append_comma(text, at > 0)?;
+        append_dimension(text, kept, dimension)?;
+    }
+    Ok(())
+}
+
+#[tactic(auto, unfolding(crate::specs::Dimensions::row_text, crate::specs::Dimensions::field_text))]
+fn append_dimension(text: &mut Vec<u8>, kept: &Kept, dimension: &Dimension) -> Result<(), Memory>
+    ensures { OnOk result (text.new.items ≡ text.old.items ++ row_text kept.now dimension.now) }
+{
+    let Dimension(name, kind, size, axis) = *dimension;
+    append(text, b"{\"name\":")?;
+    append_quoted(text, name)?;
+    append(text, b",\"type\":")?;
+    append_quoted(text, kind.name())?;
+    append_number_member(text, b"size", u64::from(size))?;
+    append_transform(text, kept, axis)?;
+    append(text, b"}")?;
+    Ok(())
+}
+
+// Appends how stored coordinates on an axis become native ones.
+fn append_transform(text: &mut Vec<u8>, kept: &Kept, axis: Option<Axis>) -> Result<(), Memory>
+    ensures { OnOk result (text.new.items ≡ text.old.items ++ transform_text kept.now axis) }
+{
+    if let Some(axis) = axis {
+        append(text, b",\"scale\":")?;
+        append_unit(text, kept.scale)?;
+        append(text, b",\"offset\":")?;
+        append_whole(text, &kept.offset[axis.number()])?;
+    }
+    Ok(())
+}
+
+// Appends the stored unit, 10^-scale native units.
+fn append_unit(text: &mut Vec<u8>, scale: u8) -> Result<(), Memory>
+    requires { scale ≤ 9 }
+    ensures { OnOk result (text.new.items ≡ text.old.items ++ decimal_text_of (pos 1) scale) }
+{
+    let mut digits = [0; 24];
+    let length = decimal_text(1, scale, &mut digits);
+    append(text, &digits[..length])
+}
