@@ -1,16 +1,19 @@
-ghost use Rattle.std.specs.Prelude.{◌≡◌, ℕ, List, IfOk, OnOk, OnErr};
+ghost use Rattle.std.specs.Prelude.{◌≡◌, ◌+◌, ◌≤◌, ℕ, List, IfOk, OnOk, OnErr, length};
 ghost use Rattle.std.specs.Io.KnownBytes.{Appends};
 ghost use Rattle.ept_base.specs.Causes.{HasCause};
 ghost use Rattle.ept_base.specs.Devices.{ReadsFull, ReadsSome, AppendsPrefix};
 
 use crate::{Failed, Sink, Source};
 
-/// Fills `into`, or stops at the end of the source, and answers the number of bytes read.
+/// Fills `into`, or stops at the end of the source, and answers the number of bytes read. No more are
+/// given by the source.
 ///
 /// After `Failed` the place is past the bytes that were read, which stand in the front of `into`.
 pub fn read_full<S: Source>(source: &mut S, into: &mut [u8]) -> Result<usize, Failed>
     ensures ok { IfOk result (λ n. ReadsFull (S.left source.old) (S.left source.new) n into.new) }
     ensures refused { OnErr result (ReadsSome (S.left source.old) (S.left source.new) into.new) }
+    ensures given { S.given source.new ≤ S.given source.old + length into.new }
+    ensures gained { IfOk result (λ n. S.given source.new ≤ S.given source.old + n) }
     ensures same { S.whole source.new ≡ S.whole source.old }
     ensures cause { HasCause (S.faults source.old) (S.faults source.new) result }
 {

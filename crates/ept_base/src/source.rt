@@ -1,9 +1,9 @@
-ghost use Rattle.std.specs.Prelude.{◌≡◌, ◌≢◌, ◌≤◌, ℕ, List, Option, Some, IfOk, OnErr, is_ok, if◌then◌else◌};
+ghost use Rattle.std.specs.Prelude.{◌≡◌, ◌≢◌, ◌≤◌, ℕ, List, Option, Some, IfOk, MatchResult, OnErr, is_ok, if◌then◌else◌};
 ghost use Rattle.std.specs.Io.{ReadsAtMost};
 ghost use Rattle.std.specs.Io.KnownBytes.{ReadConsumes};
 ghost use Rattle.ept_base.specs.Causes.{Rose, HasCause, HasCauseOf};
 ghost use Rattle.ept_base.specs.Files.{Files};
-ghost use Rattle.ept_base.specs.Devices.{Opens};
+ghost use Rattle.ept_base.specs.Devices.{Opens, counts_on};
 
 use crate::{Failed, GetError};
 
@@ -20,18 +20,25 @@ pub trait Source {
     /// How often it has failed.
     ghost faults: { Self → ℕ };
 
+    /// How many bytes it has given, since it was opened: a count of 64 bits, which stands still at its
+    /// last value.
+    ghost given: { Self → ℕ };
+
     /// Reads the next bytes into the front of `into` and answers their number, which is 0 only at the
     /// end or where `into` is empty. After `Failed` the place and `into` are as they were.
     fn read(&mut self, into: &mut [u8]) -> Result<usize, Failed>
         ensures bound { ReadsAtMost result into.new }
         ensures bytes { ReadConsumes (left self.old) (left self.new) result into.new }
         ensures refused { OnErr result ((left self.new ≡ left self.old) × (into.new ≡ into.old)) }
+        ensures given { MatchResult result (λ n. given self.new ≡ counts_on (given self.old) n)
+            (λ _. given self.new ≡ given self.old) }
         ensures same { whole self.new ≡ whole self.old }
         ensures cause { HasCause (faults self.old) (faults self.new) result };
 
     /// Sets the place to the first byte. After `Failed` the place is as it was.
     fn rewind(&mut self) -> Result<(), Failed>
         ensures place { left self.new ≡ (if is_ok result then whole self.old else left self.old) }
+        ensures given { given self.new ≡ given self.old }
         ensures same { whole self.new ≡ whole self.old }
         ensures cause { HasCause (faults self.old) (faults self.new) result };
 }
@@ -46,20 +53,27 @@ pub trait Shelf {
     /// How often it has failed, the sources that it took back included.
     ghost faults: { Self → ℕ };
 
-    /// A source with the bytes of this path, at their start and without a fault. A path that is not in
+    /// How many bytes the sources have given that it took back: a count of 64 bits, which stands still
+    /// at its last value.
+    ghost given: { Self → ℕ };
+
+    /// A source with the bytes of this path, at their start, without a fault and unread. A path that is not in
     /// the map is `Failed`.
     fn open(&mut self, path: &str) -> Result<Self::Source, GetError>
         ensures opened { IfOk result (λ source.
             Opens (files self.old) path.now (Self.Source.whole source) (Self.Source.left source)) }
         ensures fresh { IfOk result (λ source. Self.Source.faults source ≡ 0) }
+        ensures unread { IfOk result (λ source. Self.Source.given source ≡ 0) }
+        ensures given { given self.new ≡ given self.old }
         ensures same { files self.new ≡ files self.old }
         ensures cause { HasCauseOf GetError.Failed (faults self.old) (faults self.new) result };
 
     /// Takes a source back. The count of faults rises where the source has failed, and stands still
-    /// where it has not.
+    /// where it has not. The count of bytes goes on by those that the source has given.
     fn retire(&mut self, source: Self::Source)
         ensures later { faults self.old ≤ faults self.new }
         ensures failed { Self.Source.faults source ≢ 0 → Rose (faults self.old) (faults self.new) }
         ensures sound { Self.Source.faults source ≡ 0 → faults self.new ≡ faults self.old }
+        ensures given { given self.new ≡ counts_on (given self.old) (Self.Source.given source) }
         ensures same { files self.new ≡ files self.old };
 }

@@ -74,6 +74,13 @@ room_faults room = room.plan.faults
 abbrev pub store_faults : MemStore → ℕ
 store_faults store = store.plan.faults
 
+-- the counts of the bytes that a source gave, and that the sources of a shelf gave that it took back
+abbrev pub source_given : MemSource → ℕ
+source_given source = source.given
+
+abbrev pub shelf_given : MemShelf → ℕ
+shelf_given shelf = shelf.given
+
 -- the counts of calls of `keep`, and of `get`
 abbrev pub spill_keeps : MemSpill → ℕ
 spill_keeps spill = spill.keeps

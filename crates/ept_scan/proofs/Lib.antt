@@ -18,3 +18,5 @@ pub mod Opened
 pub mod Retiring
 pub mod Begun
 pub mod OneScan
+pub mod OneRefusal
+pub mod Taking

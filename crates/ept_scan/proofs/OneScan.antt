@@ -24,7 +24,7 @@ use Rattle.ept_scan.proofs.Once.{some_point, one_header, not_err, one_point, not
 use Rattle.ept_scan.proofs.Rereading.{one_input, reread}
 
 -- what is known of a refusal, where it is one of a file
-blames : (e : ScanError) (fact : Type 0) → fact → Blames e fact
+pub blames : (e : ScanError) (fact : Type 0) → fact → Blames e fact
 blames SourceFault fact is = tt
 blames Memory fact is = tt
 blames NoBounds fact is = is
@@ -143,7 +143,7 @@ module _ (reading : Reading) (header : Header) (records : List ℕ) where
       both : (a b n m : ℕ) → a ≡ b → n ≡ m → OutOfBounds a n ≡ OutOfBounds b m
       both a b n m p q = cc
 
-from_blame : (e f : ScanError) → Blames e ⊥ → Blames e (Blames f (e ≡ f))
+pub from_blame : (e f : ScanError) → Blames e ⊥ → Blames e (Blames f (e ≡ f))
 from_blame SourceFault f wrong = tt
 from_blame Memory f wrong = tt
 from_blame NoBounds f wrong = absurd wrong
@@ -151,7 +151,7 @@ from_blame (BadLas source fault) f wrong = absurd wrong
 from_blame (OutOfBounds source number) f wrong = absurd wrong
 from_blame (TooManyPoints source) f wrong = absurd wrong
 
-from_second : (e f : ScanError) → Blames f ⊥ → Blames e (Blames f (e ≡ f))
+pub from_second : (e f : ScanError) → Blames f ⊥ → Blames e (Blames f (e ≡ f))
 from_second e SourceFault wrong = blames e (Blames SourceFault (e ≡ SourceFault)) tt
 from_second e Memory wrong = blames e (Blames Memory (e ≡ Memory)) tt
 from_second e NoBounds wrong = absurd wrong
@@ -171,7 +171,7 @@ one_cause reading file e f is_e is_f =
     records_once reading records_e.0 (records_of records_e.0 file) e f records_e.3 (subst (λ (h : Header). RecordsAreRefused reading h (records_of h file) f) same records_f.3)) is_f)
     is_e
 
-one_content : (o : Option (List ℕ)) (a b : List ℕ) → o ≡ Some a → o ≡ Some b → a ≡ b
+pub one_content : (o : Option (List ℕ)) (a b : List ℕ) → o ≡ Some a → o ≡ Some b → a ≡ b
 one_content o a b is_a is_b = cc
 
 -- inputs that are read in one way
@@ -197,12 +197,15 @@ module _ (all : Files) (scale : ℕ) (limits : Option Bounds) (inputs : List Inp
   pub scan_once : (from : ℕ) (xs ys : List Point) (a b : ScanDone) → IsScan all scale limits inputs from xs a → IsScan all scale limits inputs from ys b → xs ≡ ys
   scan_once from xs ys a b is_xs is_ys = is_xs.points_are ∙ ap in_order (lists_once from (length inputs) is_xs.lists is_ys.lists is_xs.are is_ys.are) ∙ sym is_ys.points_are
 
-  first_refused : (from : ℕ) (lists : List (List Point)) (e : ScanError) → ArePointsFrom all scale limits inputs from (length inputs) lists → IsFirstRefused all scale limits inputs from e → Blames e ⊥
-  first_refused from lists e are refused =
-      let k : ℕ = length refused.before in
-      let within : length refused.before < length lists = omega (arith, are.count, refused.good.count, refused.within) in
+  -- an input that is refused is not among those that read as points
+  pub refused_among : (from end : ℕ) (lists : List (List Point)) (e : ScanError) → ArePointsFrom all scale limits inputs from end lists → (refused : IsFirstRefused all scale limits inputs from e) → refused.at < end → Blames e ⊥
+  refused_among from end lists e are refused lt =
+      let within : length refused.before < length lists = omega (arith, are.count, refused.good.count, lt) in
       let has : HasPointsAt all scale limits inputs refused.at (get_or lists (length refused.before) []) = subst (λ (n : ℕ). HasPointsAt all scale limits inputs n (get_or lists (length refused.before) [])) refused.good.count (are.each (length refused.before) [] within) in
       file_or_refusal refused.reading refused.refused.file (get_or lists (length refused.before) []) e (again refused.at (get_or lists (length refused.before) []) refused.input refused.reading refused.refused.file has refused.is_input.is refused.is_input.reading_is refused.refused.content) refused.refused.refused
+
+  pub first_refused : (from : ℕ) (lists : List (List Point)) (e : ScanError) → ArePointsFrom all scale limits inputs from (length inputs) lists → IsFirstRefused all scale limits inputs from e → Blames e ⊥
+  first_refused from lists e are refused = refused_among from (length inputs) lists e are refused refused.within
 
   bounds_lack : (from : ℕ) (xs : List Point) (done : ScanDone) → IsScan all scale limits inputs from xs done → LacksBounds all scale limits inputs from → ⊥
   bounds_lack from xs done scan lacks =

@@ -36,3 +36,12 @@ left_records header first held (Some old) (Some now) (Some exit) n place within 
 
     sized : (first old held now exit done rest all : ℕ) → held + now ≡ first + old - done → rest + done ≡ all → held + done ≤ max first all → now ≤ exit + (rest - held) → old ≤ exit + (all - first)
     sized first old held now exit done rest all sizes split reach left = omega arith
+
+-- what was given on the way
+pub given_records : (size n points first held before now exit : ℕ) → n ≤ points → now + first ≤ before + held + size * n → held + size * n ≤ max first (size * points) → exit ≤ now + (size * (points - n) - held) → exit ≤ before + (size * points - first)
+given_records size n points first held before now exit within gained reach given =
+    let split : size * (points - n) + size * n ≡ size * points = split_product size n points within in
+    sized (size * n) (size * (points - n)) (size * points) split gained reach given
+  where
+    sized : (done rest all : ℕ) → rest + done ≡ all → now + first ≤ before + held + done → held + done ≤ max first all → exit ≤ now + (rest - held) → exit ≤ before + (all - first)
+    sized done rest all split gained reach given = omega arith

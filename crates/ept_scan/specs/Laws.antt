@@ -38,3 +38,9 @@ abbrev pub ScanOrRefusal : Type 0
 ScanOrRefusal = (all : Files) (scale : ℕ) (limits : Option Bounds) (inputs : List Input) (from : ℕ)
     (xs : List Point) (a : ScanDone) (e : ScanError) → IsScan all scale limits inputs from xs a
     → ScanIsRefused all scale limits inputs from e → Blames e ⊥
+
+-- inputs are refused for one cause
+abbrev pub ScanForOneCause : Type 0
+ScanForOneCause = (all : Files) (scale : ℕ) (limits : Option Bounds) (inputs : List Input) (from : ℕ)
+    (e f : ScanError) → ScanIsRefused all scale limits inputs from e
+    → ScanIsRefused all scale limits inputs from f → Blames e (Blames f (e ≡ f))

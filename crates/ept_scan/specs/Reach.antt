@@ -1,9 +1,13 @@
 -- How far a file was read.
-use Rattle.std.specs.Prelude.{ℕ, ◌⊎◌, ◌+◌, ◌*◌, ◌<◌, ◌≤◌, List, Option, Some, None, length, drop, ⊤, ◌≡◌}
+use Rattle.std.specs.Prelude.{ℕ, ◌⊎◌, ◌+◌, ◌*◌, ◌<◌, ◌≤◌, List, Option, Some, None, length, drop, sum, slice_index, ⊤, ◌≡◌}
+use Rattle.ept_base.specs.Files.{Files}
+use Rattle.ept_space.specs.declared.bounds.Bounds.{Bounds}
+use Rattle.ept_config.specs.declared.input.Input.{Input}
 use Rattle.ept_las.specs.declared.header.Header.{Header}
 use Rattle.ept_las.specs.declared.header.TheConstants.{HEAD_LENGTH}
 use Rattle.ept_scan.specs.declared.reading.Reading.{Reading}
 use Rattle.ept_scan.specs.LasFile.{HasHeader}
+use Rattle.ept_scan.specs.Scans.{IsInput}
 
 -- Of what was left at most so many bytes were read, where the source tells.
 abbrev pub HasLeftOf : Option (List ℕ) → Option (List ℕ) → ℕ → Type 0
@@ -33,3 +37,43 @@ abbrev pub ReadsNoFurther : Reading → Option (List ℕ) → Option (List ℕ) 
 ReadsNoFurther reading None left = ⊤
 ReadsNoFurther reading (Some file) None = ⊤
 ReadsNoFurther reading (Some file) (Some left) = IsWithinRecords reading file left
+
+-- a number of bytes that may be read of a file: those that may belong to a header, or those up to the last record, where a header is accepted and states one
+abbrev pub IsReach : Reading → List ℕ → ℕ → Type 0
+IsReach reading file most =
+    (most ≤ HEAD_LENGTH)
+    ⊎ ((header : Header) × HasHeader reading file header × (0 < header.points)
+    × (most ≤ end_of header))
+
+-- no more bytes were given than may be read of this file
+pub record TakesOfFile (reading : Reading) (file : List ℕ) (before now : ℕ) : Type 0 where
+  pub most : ℕ
+  pub reach : IsReach reading file most
+  pub taken : now ≤ before + most
+
+-- no byte was given, or no more than may be read of the file of this path
+abbrev pub TakesOfPath : Files → List ℕ → Reading → ℕ → ℕ → Type 0
+TakesOfPath all path reading before now =
+    (now ≤ before)
+    ⊎ ((file : List ℕ) × (all path ≡ Some file) × TakesOfFile reading file before now)
+
+module _ (all : Files) (scale : ℕ) (limits : Option Bounds) (inputs : List Input) where
+  -- a number of bytes that may be read of input i
+  pub record IsReachOf (i most : ℕ) : Type 0 where
+    pub input : Input
+    pub reading : Reading
+    pub is_input : IsInput all scale limits inputs i input reading
+    pub file : List ℕ
+    pub content : all input.path ≡ Some file
+    pub reach : IsReach reading file most
+
+  -- no more bytes were given than may be read of the inputs from one on and up to another, each once
+  pub record ReadsUpTo (from end before now : ℕ) : Type 0 where
+    pub mosts : List ℕ
+    pub count : from + length mosts ≡ end
+    pub each : (k : ℕ) → k < length mosts → IsReachOf (from + k) (slice_index mosts k)
+    pub taken : now ≤ before + sum mosts
+
+  -- the same of the inputs from one on and up to some other, or to the last
+  abbrev pub ReadsWithin : ℕ → ℕ → ℕ → Type 0
+  ReadsWithin from before now = (end : ℕ) × (end ≤ length inputs) × ReadsUpTo from end before now

@@ -10,6 +10,7 @@ ghost use Rattle.ept_scan.specs.Extents.{HasExtent};
 ghost use Rattle.ept_scan.specs.Counts.{IsCountOf, FindsCount, IsSound};
 ghost use Rattle.ept_scan.specs.Scans.{in_order, Blames, HasPoints, IsRefused, AreBounds, IsScan, ScanIsRefused};
 ghost use Rattle.ept_scan.specs.Found.{limits_of, FindsLists};
+ghost use Rattle.ept_scan.specs.Reach.{TakesOfPath, ReadsWithin};
 
 use crate::extent::united;
 use crate::inputs::reading_of;
@@ -26,7 +27,8 @@ use std::alloc::Global;
 
 /// Reads the inputs from the place `from` on, each from its front to its last record, and answers how
 /// many points each has and where they lie. Points are to lie within the kept bounds, or where there
-/// are none within the given ones.
+/// are none within the given ones. In all no more bytes are read than of each file the first 375, or
+/// those up to the end of the last record where its header is accepted and states one.
 ///
 /// # Errors
 ///
@@ -51,6 +53,10 @@ pub fn scan<H: Shelf>(
     ensures one_each { IfOk result (λ done. from + length done.counts ≡ length config.now.inputs) }
     ensures sound { IfOk result (λ done. All (IsSound done.bounds) done.counts) }
     ensures ordered { IfOk result (λ done. HasPlace done.bounds) }
+    ensures far { Tells
+        (λ all. ReadsWithin all config.now.scale
+        (limits_of kept config.now.bounds) config.now.inputs from (H.given shelf.old) (H.given shelf.new))
+        (H.files shelf.old) }
     ensures files { H.files shelf.new ≡ H.files shelf.old }
     ensures cause { HasCauseOf ScanError.SourceFault (H.faults shelf.old) (H.faults shelf.new) result }
 {
@@ -89,6 +95,9 @@ fn scan_inputs<H: Shelf>(
     ensures refused { IfErr result (λ e. Tells
         (λ all. ScanIsRefused all config.now.scale limits config.now.inputs from e)
         (H.files shelf.old)) }
+    ensures far { Tells
+        (λ all. ReadsWithin all config.now.scale limits config.now.inputs from (H.given shelf.old)
+        (H.given shelf.new)) (H.files shelf.old) }
     ensures files { H.files shelf.new ≡ H.files shelf.old }
     ensures cause { HasCauseOf ScanError.SourceFault (H.faults shelf.old) (H.faults shelf.new) result }
 {
@@ -114,6 +123,9 @@ fn scan_path<H: Shelf>(
         (λ points. Tells (λ all. HasPoints all path.now reading.now points) (H.files shelf.old))) }
     ensures refused { IfErr result (λ e. Tells
         (λ all. Blames e (IsRefused all path.now reading.now e)) (H.files shelf.old)) }
+    ensures far { Tells
+        (λ all. TakesOfPath all path.now reading.now (H.given shelf.old) (H.given shelf.new))
+        (H.files shelf.old) }
     ensures files { H.files shelf.new ≡ H.files shelf.old }
     ensures cause { HasCauseOf ScanError.SourceFault (H.faults shelf.old) (H.faults shelf.new) result }
 {

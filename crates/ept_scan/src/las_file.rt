@@ -1,6 +1,6 @@
 //! The first reading of one file.
 
-ghost use Rattle.std.specs.Prelude.{◌≡◌, ◌≢◌, ◌≤◌, ◌-◌, ◌*◌, Err, IfOk, IfErr, OnOk, length};
+ghost use Rattle.std.specs.Prelude.{◌≡◌, ◌≢◌, ◌≤◌, ◌+◌, ◌-◌, ◌*◌, Err, IfOk, IfErr, OnOk, length};
 ghost use Rattle.std.specs.Io.KnownBytes.{prepend_known, Keeps};
 ghost use Rattle.ept_base.specs.Causes.{HasCause, HasCauseOf};
 ghost use Rattle.ept_base.specs.Files.{Tells};
@@ -8,7 +8,7 @@ ghost use Rattle.ept_las.specs.Format.{IsFormat, record_length};
 ghost use Rattle.ept_las.specs.LasHeader.{HeaderReadsAs};
 ghost use Rattle.ept_scan.specs.Counts.{FindsExtent, FindsCount};
 ghost use Rattle.ept_scan.specs.LasFile.{HasHeader, ArePointsOf};
-ghost use Rattle.ept_scan.specs.Reach.{HasLeftOf, Skips, ReadsNoFurther};
+ghost use Rattle.ept_scan.specs.Reach.{HasLeftOf, Skips, ReadsNoFurther, TakesOfFile};
 ghost use Rattle.ept_scan.specs.Refusals.{HeaderIsRefused, RecordsAreRefused, FileIsRefused};
 
 use crate::extent::grown;
@@ -33,6 +33,8 @@ pub(crate) fn scan_file<S: Source>(
     ensures refused { IfErr result (λ e. Tells (λ file. FileIsRefused reading.now file e)
         (S.whole source.old)) }
     ensures far { ReadsNoFurther reading.now (S.whole source.old) (S.left source.new) }
+    ensures given { Tells (λ file. TakesOfFile reading.now file (S.given source.old) (S.given source.new))
+        (S.whole source.old) }
     ensures same { S.whole source.new ≡ S.whole source.old }
     ensures cause { HasCauseOf ScanError.SourceFault (S.faults source.old) (S.faults source.new) result }
 {
@@ -71,6 +73,8 @@ pub(crate) fn begin<S: Source>(
     ensures ahead { OnOk result (Keeps (S.left source.old) (prepend_known window.new (S.left source.new))) }
     ensures reach { OnOk result (length window.new ≤ HEAD_LENGTH) }
     ensures left { HasLeftOf (S.left source.old) (S.left source.new) HEAD_LENGTH }
+    ensures given { S.given source.new ≤ S.given source.old + HEAD_LENGTH }
+    ensures gained { OnOk result (S.given source.new ≤ S.given source.old + length window.new) }
     ensures same { S.whole source.new ≡ S.whole source.old }
     ensures cause { HasCauseOf ScanError.SourceFault (S.faults source.old) (S.faults source.new) result }
 {
@@ -103,6 +107,9 @@ pub(crate) fn skip<S: Source>(window: &mut Window, source: &mut S, count: u64) -
         (prepend_known window.new (S.left source.new)) count) }
     ensures reach { OnOk result (length window.new ≤ length window.old - count) }
     ensures left { HasLeftOf (S.left source.old) (S.left source.new) (count - length window.old) }
+    ensures given { S.given source.new ≤ S.given source.old + (count - length window.old) }
+    ensures gained { OnOk result (S.given source.new + length window.old
+        ≤ S.given source.old + length window.new + count) }
     ensures same { S.whole source.new ≡ S.whole source.old }
     ensures cause { HasCause (S.faults source.old) (S.faults source.new) result }
 {
@@ -135,6 +142,8 @@ fn scan_records<S: Source>(
         (prepend_known window.old (S.left source.old))) }
     ensures left { HasLeftOf (S.left source.old) (S.left source.new)
         (header.now.length * header.now.points - length window.old) }
+    ensures given { S.given source.new ≤ S.given source.old
+        + (header.now.length * header.now.points - length window.old) }
     ensures same { S.whole source.new ≡ S.whole source.old }
     ensures cause { HasCauseOf ScanError.SourceFault (S.faults source.old) (S.faults source.new) result }
 {

@@ -1,6 +1,6 @@
 //! What holds of all scans. Each law is the contract of a function that does nothing.
 
-ghost use Rattle.ept_scan.specs.Laws.{FileInOneWay, FileOrRefusal, FileForOneCause, ScanInOneWay, ScanOrRefusal};
+ghost use Rattle.ept_scan.specs.Laws.{FileInOneWay, FileOrRefusal, FileForOneCause, ScanInOneWay, ScanOrRefusal, ScanForOneCause};
 
 /// A file reads as one list of points.
 pub fn file_once_law()
@@ -26,4 +26,10 @@ pub fn scan_once_law()
 /// fault of a source or want of memory.
 pub fn scan_or_refusal_law()
     ensures { ScanOrRefusal }
+{}
+
+/// Inputs are refused for one cause, so where there is one, `scan` answers it, or a fault of a source
+/// or want of memory.
+pub fn one_refusal_law()
+    ensures { ScanForOneCause }
 {}

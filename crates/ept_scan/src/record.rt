@@ -1,6 +1,6 @@
 //! The next record of a file.
 
-ghost use Rattle.std.specs.Prelude.{◌≡◌, ◌<◌, ◌≤◌, ◌-◌, ◌*◌, IfOk, length, max};
+ghost use Rattle.std.specs.Prelude.{◌≡◌, ◌<◌, ◌≤◌, ◌+◌, ◌-◌, ◌*◌, IfOk, OnOk, length, max};
 ghost use Rattle.std.specs.Io.KnownBytes.{prepend_known};
 ghost use Rattle.ept_base.specs.Causes.{HasCause};
 ghost use Rattle.ept_las.specs.Format.{IsFormat, record_length};
@@ -46,6 +46,10 @@ pub(crate) fn next_point<S: Source>(
         (max (length window.old) (header.now.length * (header.now.points - number))) it) }
     ensures left { HasLeftOf (S.left source.old) (S.left source.new)
         (header.now.length * (header.now.points - number) - length window.old) }
+    ensures given { S.given source.new ≤ S.given source.old
+        + (header.now.length * (header.now.points - number) - length window.old) }
+    ensures gained { OnOk result (S.given source.new + length window.old
+        ≤ S.given source.old + length window.new + header.now.length) }
     ensures same { S.whole source.new ≡ S.whole source.old }
     ensures cause { HasCause (S.faults source.old) (S.faults source.new) result }
 {

@@ -1,6 +1,6 @@
 //! The bytes of a source that were read and are not yet used.
 
-ghost use Rattle.std.specs.Prelude.{◌≡◌, ◌<◌, ◌≤◌, ◌-◌, IfOk, OnOk, Ok, true, false, [], length, take, drop, max};
+ghost use Rattle.std.specs.Prelude.{◌≡◌, ◌<◌, ◌≤◌, ◌+◌, ◌-◌, IfOk, OnOk, Ok, true, false, [], length, take, drop, max};
 ghost use Rattle.std.specs.Io.KnownBytes.{prepend_known, Keeps, IsAtEnd};
 ghost use Rattle.ept_base.specs.Causes.{HasCause};
 ghost use Rattle.ept_scan.specs.Reach.{HasLeftOf};
@@ -89,6 +89,9 @@ impl Window {
         ensures bound { length self.new ≤ max (length self.old) most }
         ensures more { OnOk result (length self.old ≤ length self.new) }
         ensures left { HasLeftOf (S.left source.old) (S.left source.new) (most - length self.old) }
+        ensures given { S.given source.new ≤ S.given source.old + (most - length self.old) }
+        ensures gained { OnOk result (S.given source.new + length self.old
+            ≤ S.given source.old + length self.new) }
         ensures same { S.whole source.new ≡ S.whole source.old }
         ensures cause { HasCause (S.faults source.old) (S.faults source.new) result }
     {
@@ -108,6 +111,9 @@ impl Window {
         ensures more { OnOk result (length self.old ≤ length self.new) }
         ensures filled { OnOk result (length self.new < most → IsAtEnd (S.left source.new)) }
         ensures left { HasLeftOf (S.left source.old) (S.left source.new) (most - length self.old) }
+        ensures given { S.given source.new ≤ S.given source.old + (most - length self.old) }
+        ensures gained { OnOk result (S.given source.new + length self.old
+            ≤ S.given source.old + length self.new) }
         ensures same { S.whole source.new ≡ S.whole source.old }
         ensures cause { HasCause (S.faults source.old) (S.faults source.new) result }
     {
@@ -138,6 +144,8 @@ fn read_behind<S: Source>(
     ensures filled { IfOk result (λ n. n < most → IsAtEnd (S.left source.new)) }
     ensures size { length buffer.new ≡ length buffer.old }
     ensures left { HasLeftOf (S.left source.old) (S.left source.new) (most - (end - start)) }
+    ensures given { S.given source.new ≤ S.given source.old + (most - (end - start)) }
+    ensures gained { IfOk result (λ n. S.given source.new + (end - start) ≤ S.given source.old + n) }
     ensures same { S.whole source.new ≡ S.whole source.old }
     ensures cause { HasCause (S.faults source.old) (S.faults source.new) result }
 {

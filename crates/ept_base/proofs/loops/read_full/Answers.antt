@@ -14,6 +14,7 @@ loop-filled-preserved g c =
       fits = simp (length-append, length-take, length-drop) (omega (arith, c.in_ok-count.ensures.bound.0));
       consumed = subst (λ (l : List ℕ). Consumes (g.S.Source.left c.args.source.now) (g.S.Source.left c.read.new.self) l) (sym grown)
           (consumes_both _ (g.S.Source.left c.loop-filled.source) _ _ _ c.loop-filled.invariant.consumed c.in_ok-count.ensures.bytes.0);
+      given = omega (arith, c.in_ok-count.ensures.given);
       same = grind (arith, common_steps);
       later = grind (arith, common_steps);
     }

@@ -1,4 +1,4 @@
-use Rattle.std.proofs.Common.{List, ◌+◌, Result, Vec, Global, sym, subst, arith, rules}
+use Rattle.std.proofs.Common.{List, ◌+◌, Result, Vec, Global, length, sym, ap, subst, arith, rules}
 use Rattle.std.proofs.lemmas.Grind.{common_steps}
 use Rattle.std.proofs.lemmas.Result.{err_from_is_err_and}
 use Rattle.std.specs.Prelude.{IfErr}
@@ -9,12 +9,14 @@ use Rattle.ept_scan.specs.declared.scan_error.ScanError.{ScanError}
 use Rattle.ept_scan.specs.Scans.{ScanIsRefused}
 use Rattle.ept_scan.specs.Found.{FindsLists}
 use Rattle.ept_scan.proofs.Listing.{found_none, found_more, found_refused, found_at, refused_at}
+use Rattle.ept_scan.proofs.Taking.{path_at, reads_none, reads_more, reads_last, reads_end}
 use Rattle.ept_scan.proofs.first_reading.scan_inputs.Goals as goal
 
 pub loop-index-init : goal.loop-index-init
 loop-index-init g c = record {
   found = subst (λ (l : List SourceCount). FindsLists (g.H.Shelf.files c.args.shelf.now) c.args.config.now.scale c.args.limits c.args.config.now.inputs c.args.from c.args.from l) (sym c.new-counts.ensures.items)
       (found_none (g.H.Shelf.files c.args.shelf.now) c.args.config.now.scale c.args.limits c.args.config.now.inputs c.args.from);
+  far = reads_none (g.H.Shelf.files c.args.shelf.now) c.args.config.now.scale c.args.limits c.args.config.now.inputs c.args.from (g.H.Shelf.given c.args.shelf.now);
   files = search rules;
   later = search rules;
 }
@@ -33,6 +35,31 @@ loop-index-preserved g c = record {
       (found_more (g.H.Shelf.files c.args.shelf.now) c.args.config.now.scale c.args.limits c.args.config.now.inputs c.args.from c.loop-index.index c.input-input.result.now c.reading_of-reading.result c.input-input.ensures.input c.reading_of-reading.ensures
       c.loop-index.counts.items c.in_ok-count.count c.loop-index.invariant.found
       (found_at c.reading_of-reading.result.limits c.reading_of-reading.result c.in_ok-count.count (g.H.Shelf.files c.loop-index.shelf) (g.H.Shelf.files c.args.shelf.now) c.as_str.result.now c.input-input.result.now.path c.loop-index.invariant.files c.as_str.ensures c.in_ok-count.ensures.count));
+  far = reads_more (g.H.Shelf.files c.args.shelf.now) c.args.config.now.scale c.args.limits c.args.config.now.inputs c.args.from c.loop-index.index c.input-input.result.now c.reading_of-reading.result c.input-input.ensures.input c.reading_of-reading.ensures
+      (g.H.Shelf.given c.args.shelf.now) (g.H.Shelf.given c.loop-index.shelf) (g.H.Shelf.given c.scan_path.new.shelf) c.in_ok-count.count c.loop-index.invariant.far
+      (found_at c.reading_of-reading.result.limits c.reading_of-reading.result c.in_ok-count.count (g.H.Shelf.files c.loop-index.shelf) (g.H.Shelf.files c.args.shelf.now) c.as_str.result.now c.input-input.result.now.path c.loop-index.invariant.files c.as_str.ensures c.in_ok-count.ensures.count)
+      (path_at c.reading_of-reading.result (g.H.Shelf.files c.loop-index.shelf) (g.H.Shelf.files c.args.shelf.now) c.as_str.result.now c.input-input.result.now.path (g.H.Shelf.given c.loop-index.shelf) (g.H.Shelf.given c.scan_path.new.shelf) c.loop-index.invariant.files c.as_str.ensures c.scan_path.ensures.far);
   files = grind (arith, common_steps);
   later = grind (arith, common_steps);
 }
+
+pub returns-in_err-window-clause-far : goal.returns-in_err-window-clause-far
+returns-in_err-window-clause-far g c =
+    reads_end (g.H.Shelf.files c.args.shelf.now) c.args.config.now.scale c.args.limits c.args.config.now.inputs c.args.from c.args.from (g.H.Shelf.given c.args.shelf.now) _ c.requires.from
+    (reads_none (g.H.Shelf.files c.args.shelf.now) c.args.config.now.scale c.args.limits c.args.config.now.inputs c.args.from (g.H.Shelf.given c.args.shelf.now))
+
+pub returns-in_err-count-clause-far : goal.returns-in_err-count-clause-far
+returns-in_err-count-clause-far g c =
+    reads_last (g.H.Shelf.files c.args.shelf.now) c.args.config.now.scale c.args.limits c.args.config.now.inputs c.args.from c.loop-index.index c.input-input.result.now c.reading_of-reading.result c.input-input.ensures.input c.reading_of-reading.ensures
+    (g.H.Shelf.given c.args.shelf.now) (g.H.Shelf.given c.loop-index.shelf) (g.H.Shelf.given c.scan_path.new.shelf) (slice_get_within c.args.config.now.inputs c.loop-index.index c.input-input.result.now c.input-input.ensures.input) c.loop-index.invariant.far
+    (path_at c.reading_of-reading.result (g.H.Shelf.files c.loop-index.shelf) (g.H.Shelf.files c.args.shelf.now) c.as_str.result.now c.input-input.result.now.path (g.H.Shelf.given c.loop-index.shelf) (g.H.Shelf.given c.scan_path.new.shelf) c.loop-index.invariant.files c.as_str.ensures c.scan_path.ensures.far)
+
+pub returns-in_err-push-clause-far : goal.returns-in_err-push-clause-far
+returns-in_err-push-clause-far g c =
+    reads_last (g.H.Shelf.files c.args.shelf.now) c.args.config.now.scale c.args.limits c.args.config.now.inputs c.args.from c.loop-index.index c.input-input.result.now c.reading_of-reading.result c.input-input.ensures.input c.reading_of-reading.ensures
+    (g.H.Shelf.given c.args.shelf.now) (g.H.Shelf.given c.loop-index.shelf) (g.H.Shelf.given c.scan_path.new.shelf) (slice_get_within c.args.config.now.inputs c.loop-index.index c.input-input.result.now c.input-input.ensures.input) c.loop-index.invariant.far
+    (path_at c.reading_of-reading.result (g.H.Shelf.files c.loop-index.shelf) (g.H.Shelf.files c.args.shelf.now) c.as_str.result.now c.input-input.result.now.path (g.H.Shelf.given c.loop-index.shelf) (g.H.Shelf.given c.scan_path.new.shelf) c.loop-index.invariant.files c.as_str.ensures c.scan_path.ensures.far)
+
+pub returns-clause-far : goal.returns-clause-far
+returns-clause-far g c =
+    reads_end (g.H.Shelf.files c.args.shelf.now) c.args.config.now.scale c.args.limits c.args.config.now.inputs c.args.from c.loop-index.index (g.H.Shelf.given c.args.shelf.now) (g.H.Shelf.given c.loop-index.shelf) (omega (arith, ap length c.as_slice.ensures)) c.loop-index.invariant.far

@@ -12,6 +12,7 @@ loop-rest-preserved g c =
       skips = skips_more _ (g.S.Source.left c.fill.new.source) c.fill.new.self c.consume.new.self (c.args.count - c.loop-rest.rest) _ c.min-held.result (omega arith) held c.consume.ensures (skips_keeps _ _ _ _ c.loop-rest.invariant.skips c.in_ok-fill.ensures.ahead);
       upper = omega (arith, ap length c.consume.ensures, length-drop c.min-held.result c.fill.new.self);
       lower = omega (arith, ap length c.consume.ensures, length-drop c.min-held.result c.fill.new.self, c.in_ok-fill.ensures.more);
+      gained = omega (arith, ap length c.consume.ensures, length-drop c.min-held.result c.fill.new.self, c.in_ok-fill.ensures.gained, c.loop-rest.invariant.gained);
       same = grind (arith, common_steps);
       later = grind (arith, common_steps);
     }
