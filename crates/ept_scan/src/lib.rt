@@ -20,7 +20,7 @@ mod scan_error;
 mod tests;
 mod window;
 
-pub use first_reading::scan;
+pub use first_reading::{scan, whole_extent};
 pub use laws::{
     file_once_law, file_or_refusal_law, one_cause_law, scan_once_law, scan_or_refusal_law,
 };
