@@ -18,3 +18,4 @@ pub mod Opened
 pub mod Retiring
 pub mod Begun
 pub mod OneScan
+pub mod Scanned

@@ -10,6 +10,7 @@ use Rattle.ept_scan.specs.declared.scan_done.ScanDone.{ScanDone}
 use Rattle.ept_scan.specs.LasFile.{ArePointsOf}
 use Rattle.ept_scan.specs.Refusals.{FileIsRefused}
 use Rattle.ept_scan.specs.Scans.{Blames, IsScan, ScanIsRefused}
+use Rattle.std.specs.Prelude.{Some}
 
 -- a file reads as one list of points
 abbrev pub FileInOneWay : Type 0
@@ -38,3 +39,9 @@ abbrev pub ScanOrRefusal : Type 0
 ScanOrRefusal = (all : Files) (scale : ℕ) (limits : Option Bounds) (inputs : List Input) (from : ℕ)
     (xs : List Point) (a : ScanDone) (e : ScanError) → IsScan all scale limits inputs from xs a
     → ScanIsRefused all scale limits inputs from e → Blames e ⊥
+
+-- what was scanned is read the same within the bounds that were found
+abbrev pub ScanIsKept : Type 0
+ScanIsKept = (all : Files) (scale : ℕ) (limits : Option Bounds) (inputs : List Input) (from : ℕ)
+    (points : List Point) (done : ScanDone) → IsScan all scale limits inputs from points done
+    → IsScan all scale (Some done.bounds) inputs from points done

@@ -1,6 +1,7 @@
 //! What holds of all scans. Each law is the contract of a function that does nothing.
 
 ghost use Rattle.ept_scan.specs.Laws.{FileInOneWay, FileOrRefusal, FileForOneCause, ScanInOneWay, ScanOrRefusal};
+ghost use Rattle.ept_scan.specs.Laws.{ScanIsKept};
 
 /// A file reads as one list of points.
 pub fn file_once_law()
@@ -26,4 +27,10 @@ pub fn scan_once_law()
 /// fault of a source or want of memory.
 pub fn scan_or_refusal_law()
     ensures { ScanOrRefusal }
+{}
+
+/// Inputs that were scanned have the same points and counts within the bounds that were found, so what
+/// [`scan`](crate::scan) answers can be kept for a second reading.
+pub fn kept_law()
+    ensures { ScanIsKept }
 {}
