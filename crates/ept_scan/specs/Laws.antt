@@ -7,10 +7,11 @@ use Rattle.ept_config.specs.declared.input.Input.{Input}
 use Rattle.ept_scan.specs.declared.reading.Reading.{Reading}
 use Rattle.ept_scan.specs.declared.scan_error.ScanError.{ScanError}
 use Rattle.ept_scan.specs.declared.scan_done.ScanDone.{ScanDone}
+use Rattle.ept_scan.specs.Extents.{IsWithin}
 use Rattle.ept_scan.specs.LasFile.{ArePointsOf}
 use Rattle.ept_scan.specs.Refusals.{FileIsRefused}
 use Rattle.ept_scan.specs.Scans.{Blames, IsScan, ScanIsRefused}
-use Rattle.std.specs.Prelude.{Some}
+use Rattle.std.specs.Prelude.{Some, All}
 
 -- a file reads as one list of points
 abbrev pub FileInOneWay : Type 0
@@ -45,3 +46,9 @@ abbrev pub ScanIsKept : Type 0
 ScanIsKept = (all : Files) (scale : ℕ) (limits : Option Bounds) (inputs : List Input) (from : ℕ)
     (points : List Point) (done : ScanDone) → IsScan all scale limits inputs from points done
     → IsScan all scale (Some done.bounds) inputs from points done
+
+-- what was scanned lies within the bounds that were found
+abbrev pub ScanLiesWithin : Type 0
+ScanLiesWithin = (all : Files) (scale : ℕ) (limits : Option Bounds) (inputs : List Input) (from : ℕ)
+    (points : List Point) (done : ScanDone) → IsScan all scale limits inputs from points done
+    → All (IsWithin done.bounds) points

@@ -1,7 +1,7 @@
 //! What holds of all scans. Each law is the contract of a function that does nothing.
 
 ghost use Rattle.ept_scan.specs.Laws.{FileInOneWay, FileOrRefusal, FileForOneCause, ScanInOneWay, ScanOrRefusal};
-ghost use Rattle.ept_scan.specs.Laws.{ScanIsKept};
+ghost use Rattle.ept_scan.specs.Laws.{ScanIsKept, ScanLiesWithin};
 
 /// A file reads as one list of points.
 pub fn file_once_law()
@@ -33,4 +33,9 @@ pub fn scan_or_refusal_law()
 /// [`scan`](crate::scan) answers can be kept for a second reading.
 pub fn kept_law()
     ensures { ScanIsKept }
+{}
+
+/// Each point that was scanned lies within the bounds that were found, both ends included.
+pub fn placed_law()
+    ensures { ScanLiesWithin }
 {}
