@@ -19,3 +19,4 @@ pub mod Retiring
 pub mod Begun
 pub mod OneScan
 pub mod Scanned
+pub mod Ascending

@@ -1,7 +1,7 @@
 //! What holds of all scans. Each law is the contract of a function that does nothing.
 
 ghost use Rattle.ept_scan.specs.Laws.{FileInOneWay, FileOrRefusal, FileForOneCause, ScanInOneWay, ScanOrRefusal};
-ghost use Rattle.ept_scan.specs.Laws.{ScanIsKept, ScanLiesWithin};
+ghost use Rattle.ept_scan.specs.Laws.{ScanIsKept, ScanLiesWithin, ScanAscends, ScanHasDistinctIds, ScanComesFromInputs};
 
 /// A file reads as one list of points.
 pub fn file_once_law()
@@ -38,4 +38,16 @@ pub fn kept_law()
 /// Each point that was scanned lies within the bounds that were found, both ends included.
 pub fn placed_law()
     ensures { ScanLiesWithin }
+{}
+
+/// The points that were scanned stand in the order of their ids, by the place of the input and then by
+/// the number of the record, so no two of them have one id.
+pub fn ascending_law()
+    ensures ascending { ScanAscends }
+    ensures distinct { ScanHasDistinctIds }
+{}
+
+/// Each point that was scanned carries the place of one of the inputs.
+pub fn origin_law()
+    ensures { ScanComesFromInputs }
 {}
