@@ -11,7 +11,7 @@ use Rattle.ept_config.specs.declared.input.Input.{Input}
 use Rattle.ept_scan.specs.declared.reading.Reading.{Reading}
 use Rattle.ept_scan.specs.declared.scan_done.ScanDone.{ScanDone}
 use Rattle.ept_scan.specs.Extents.{IsWithin, IsAllowed}
-use Rattle.ept_scan.specs.Scans.{in_order, HasPointsAt, ArePointsFrom, IsScan}
+use Rattle.ept_scan.specs.Scans.{in_order, HasPointsAt, IsScan}
 use Rattle.ept_scan.proofs.Rereading.{reread}
 use Rattle.ept_scan.proofs.Sound.{all_within}
 
