@@ -20,3 +20,5 @@ pub mod Begun
 pub mod OneScan
 pub mod OneRefusal
 pub mod Taking
+pub mod Scanned
+pub mod Ascending

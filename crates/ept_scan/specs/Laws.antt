@@ -2,14 +2,17 @@
 use Rattle.std.specs.Prelude.{◌≡◌, ℕ, List, Option}
 use Rattle.ept_base.specs.Files.{Files}
 use Rattle.ept_point.specs.declared.point.Point.{Point}
+use Rattle.ept_point.specs.Order.{id, IsAscending}
 use Rattle.ept_space.specs.declared.bounds.Bounds.{Bounds}
 use Rattle.ept_config.specs.declared.input.Input.{Input}
 use Rattle.ept_scan.specs.declared.reading.Reading.{Reading}
 use Rattle.ept_scan.specs.declared.scan_error.ScanError.{ScanError}
 use Rattle.ept_scan.specs.declared.scan_done.ScanDone.{ScanDone}
+use Rattle.ept_scan.specs.Extents.{IsWithin}
 use Rattle.ept_scan.specs.LasFile.{ArePointsOf}
 use Rattle.ept_scan.specs.Refusals.{FileIsRefused}
 use Rattle.ept_scan.specs.Scans.{Blames, IsScan, ScanIsRefused}
+use Rattle.std.specs.Prelude.{◌<◌, Some, length, slice_index_or, All}
 
 -- a file reads as one list of points
 abbrev pub FileInOneWay : Type 0
@@ -44,3 +47,38 @@ abbrev pub ScanForOneCause : Type 0
 ScanForOneCause = (all : Files) (scale : ℕ) (limits : Option Bounds) (inputs : List Input) (from : ℕ)
     (e f : ScanError) → ScanIsRefused all scale limits inputs from e
     → ScanIsRefused all scale limits inputs from f → Blames e (Blames f (e ≡ f))
+
+-- what was scanned is read the same within the bounds that were found
+abbrev pub ScanIsKept : Type 0
+ScanIsKept = (all : Files) (scale : ℕ) (limits : Option Bounds) (inputs : List Input) (from : ℕ)
+    (points : List Point) (done : ScanDone) → IsScan all scale limits inputs from points done
+    → IsScan all scale (Some done.bounds) inputs from points done
+
+-- what was scanned lies within the bounds that were found
+abbrev pub ScanLiesWithin : Type 0
+ScanLiesWithin = (all : Files) (scale : ℕ) (limits : Option Bounds) (inputs : List Input) (from : ℕ)
+    (points : List Point) (done : ScanDone) → IsScan all scale limits inputs from points done
+    → All (IsWithin done.bounds) points
+
+-- no two places of a list have points with one id
+abbrev pub HaveDistinctIds : List Point → Type 0
+HaveDistinctIds points = (i j : ℕ) (d : Point) → i < length points → j < length points
+    → id (slice_index_or points i d) ≡ id (slice_index_or points j d) → i ≡ j
+
+-- what was scanned stands in the order of ids: by the place of the input, then by the record
+abbrev pub ScanAscends : Type 0
+ScanAscends = (all : Files) (scale : ℕ) (limits : Option Bounds) (inputs : List Input) (from : ℕ)
+    (points : List Point) (done : ScanDone) → IsScan all scale limits inputs from points done
+    → IsAscending points
+
+-- no two points that were scanned have one id
+abbrev pub ScanHasDistinctIds : Type 0
+ScanHasDistinctIds = (all : Files) (scale : ℕ) (limits : Option Bounds) (inputs : List Input)
+    (from : ℕ) (points : List Point) (done : ScanDone)
+    → IsScan all scale limits inputs from points done → HaveDistinctIds points
+
+-- each point that was scanned comes from one of the inputs
+abbrev pub ScanComesFromInputs : Type 0
+ScanComesFromInputs = (all : Files) (scale : ℕ) (limits : Option Bounds) (inputs : List Input)
+    (from : ℕ) (points : List Point) (done : ScanDone)
+    → IsScan all scale limits inputs from points done → All (λ p. p.origin < length inputs) points

@@ -147,8 +147,9 @@ fn bounds_of(limits: Option<Bounds>, counts: &[SourceCount]) -> Option<Bounds>
     }
 }
 
-// The extent of all points with these counts.
-fn whole_extent(counts: &[SourceCount]) -> Option<Bounds>
+/// The extent of all points with these counts, in stored units: the union of their extents, or `None`
+/// where no input has a point. Of a scan without bounds this is what [`scan`] answers as its bounds.
+pub fn whole_extent(counts: &[SourceCount]) -> Option<Bounds>
     ensures { (lists : List (List at.Point)) → AllZip IsCountOf lists counts.now
         → HasExtent (in_order lists) result }
 {

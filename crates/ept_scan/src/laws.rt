@@ -1,6 +1,7 @@
 //! What holds of all scans. Each law is the contract of a function that does nothing.
 
 ghost use Rattle.ept_scan.specs.Laws.{FileInOneWay, FileOrRefusal, FileForOneCause, ScanInOneWay, ScanOrRefusal, ScanForOneCause};
+ghost use Rattle.ept_scan.specs.Laws.{ScanIsKept, ScanLiesWithin, ScanAscends, ScanHasDistinctIds, ScanComesFromInputs};
 
 /// A file reads as one list of points.
 pub fn file_once_law()
@@ -32,4 +33,27 @@ pub fn scan_or_refusal_law()
 /// or want of memory.
 pub fn one_refusal_law()
     ensures { ScanForOneCause }
+{}
+
+/// Inputs that were scanned have the same points and counts within the bounds that were found, so what
+/// [`scan`](crate::scan) answers can be kept for a second reading.
+pub fn kept_law()
+    ensures { ScanIsKept }
+{}
+
+/// Each point that was scanned lies within the bounds that were found, both ends included.
+pub fn placed_law()
+    ensures { ScanLiesWithin }
+{}
+
+/// The points that were scanned stand in the order of their ids, by the place of the input and then by
+/// the number of the record, so no two of them have one id.
+pub fn ascending_law()
+    ensures ascending { ScanAscends }
+    ensures distinct { ScanHasDistinctIds }
+{}
+
+/// Each point that was scanned carries the place of one of the inputs.
+pub fn origin_law()
+    ensures { ScanComesFromInputs }
 {}

@@ -20,10 +20,10 @@ mod scan_error;
 mod tests;
 mod window;
 
-pub use first_reading::scan;
+pub use first_reading::{scan, whole_extent};
 pub use laws::{
-    file_once_law, file_or_refusal_law, one_cause_law, one_refusal_law, scan_once_law,
-    scan_or_refusal_law,
+    ascending_law, file_once_law, file_or_refusal_law, kept_law, one_cause_law, one_refusal_law,
+    origin_law, placed_law, scan_once_law, scan_or_refusal_law,
 };
 pub use read_error::ReadError;
 pub use reader::Reader;

@@ -254,6 +254,36 @@ fn bounds_are_those_given_or_the_extent(rt: HostRuntime) -> Result<(), Fail> {
 }
 
 #[test]
+fn the_whole_extent_is_that_of_each_input(rt: HostRuntime) -> Result<(), Fail> {
+    let counts = [
+        SourceCount {
+            points: 2,
+            extent: Some(Bounds {
+                min: [-1, 4, 10],
+                max: [2, 6, 12],
+            }),
+        },
+        SourceCount {
+            points: 0,
+            extent: None,
+        },
+        SourceCount {
+            points: 5,
+            extent: Some(Bounds {
+                min: [0, -3, 11],
+                max: [5, 5, 20],
+            }),
+        },
+    ];
+    let whole = Bounds {
+        min: [-1, -3, 10],
+        max: [5, 6, 20],
+    };
+    assert_eq!(rt; whole_extent(&counts), Some(whole));
+    Ok(())
+}
+
+#[test]
 fn a_stated_number_may_be_too_great(rt: HostRuntime) -> Result<(), Fail> {
     let alloc = rt.alloc();
     let file = front_of(
