@@ -57,8 +57,8 @@ pub trait Shelf {
     /// at its last value.
     ghost given: { Self → ℕ };
 
-    /// A source with the bytes of this path, at their start, without a fault and unread. A path that is not in
-    /// the map is `Failed`.
+    /// A source with the bytes of this path, at their start, without a fault and unread. A path that is
+    /// not in the map is `Failed`.
     fn open(&mut self, path: &str) -> Result<Self::Source, GetError>
         ensures opened { IfOk result (λ source.
             Opens (files self.old) path.now (Self.Source.whole source) (Self.Source.left source)) }

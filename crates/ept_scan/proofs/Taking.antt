@@ -6,6 +6,7 @@ use Rattle.std.proofs.lemmas.List.{get_or_append_left}
 use Rattle.std.proofs.lemmas.List.Sums.{sum_by-append}
 use Rattle.std.proofs.Math.Seq.{get_or-append_seam}
 use Rattle.ept_base.specs.Files.{Files, Tells}
+use Rattle.ept_point.specs.declared.point.Point.{Point}
 use Rattle.ept_space.specs.declared.bounds.Bounds.{Bounds}
 use Rattle.ept_config.specs.declared.input.Input.{Input}
 use Rattle.ept_config.specs.declared.source_count.SourceCount.{SourceCount}
@@ -13,8 +14,9 @@ use Rattle.ept_las.specs.declared.header.Header.{Header}
 use Rattle.ept_las.specs.declared.header.TheConstants.{HEAD_LENGTH}
 use Rattle.ept_scan.specs.declared.reading.Reading.{Reading}
 use Rattle.ept_scan.specs.Counts.{FindsCount}
+use Rattle.ept_scan.specs.Found.{FindsLists}
 use Rattle.ept_scan.specs.LasFile.{HasHeader}
-use Rattle.ept_scan.specs.Scans.{IsReadingOf, HasPoints}
+use Rattle.ept_scan.specs.Scans.{IsReadingOf, HasPoints, HasPointsAt, ArePointsFrom}
 use Rattle.ept_scan.specs.Reach.{end_of, IsReach, TakesOfFile, TakesOfPath, IsReachOf, ReadsUpTo, ReadsWithin}
 
 -- no more than the header
@@ -55,12 +57,20 @@ module _ (files : Option Files) (scale : ℕ) (limits : Option Bounds) (inputs :
       told None = tt
       told (Some all) = record { mosts = []; count = omega arith; each = λ k lt. absurd (omega (arith, lt)); taken = omega arith }
 
-  pub reads_end : (end before now : ℕ) → end ≤ length inputs → Tells (λ all. ReadsUpTo all scale limits inputs from end before now) files → Tells (λ all. ReadsWithin all scale limits inputs from before now) files
-  reads_end end before now fits reads = told files reads
+  -- each of the inputs that were found reads as points
+  good_at : (all : Files) (end : ℕ) (lists : List (List Point)) → ArePointsFrom all scale limits inputs from end lists → (i : ℕ) → from ≤ i → i < end → (points : List Point) × HasPointsAt all scale limits inputs i points
+  good_at all end lists are i least less =
+      let at : from + (i - from) ≡ i = omega (arith, least) in
+      let within : i - from < length lists = omega (arith, are.count, least, less) in
+      (get_or lists (i - from) [], subst (λ (n : ℕ). HasPointsAt all scale limits inputs n (get_or lists (i - from) [])) at (are.each (i - from) [] within))
+
+  -- all inputs that were begun read as points
+  pub reads_end : (end before now : ℕ) (counts : List SourceCount) → end ≤ length inputs → FindsLists files scale limits inputs from end counts → Tells (λ all. ReadsUpTo all scale limits inputs from end before now) files → Tells (λ all. ReadsWithin all scale limits inputs from before now) files
+  reads_end end before now counts fits found reads = told files found.are reads
     where
-      told : (files : Option Files) → Tells (λ all. ReadsUpTo all scale limits inputs from end before now) files → Tells (λ all. ReadsWithin all scale limits inputs from before now) files
-      told None reads = tt
-      told (Some all) reads = (end, fits, reads)
+      told : (files : Option Files) → Tells (λ all. ArePointsFrom all scale limits inputs from end found.lists) files → Tells (λ all. ReadsUpTo all scale limits inputs from end before now) files → Tells (λ all. ReadsWithin all scale limits inputs from before now) files
+      told None are reads = tt
+      told (Some all) are reads = record { end = end; within = fits; reads = reads; good = λ i least less. good_at all end found.lists are i least (omega (arith, less)) }
 
   module _ (i : ℕ) (input : Input) (reading : Reading) (is : slice_get inputs i ≡ Some input) (reading_is : IsReadingOf scale limits i input reading) (before now later : ℕ) where
     push : (all : Files) (file : List ℕ) (most : ℕ) → all input.path ≡ Some file → IsReach reading file most → later ≤ now + most → ReadsUpTo all scale limits inputs from i before now → ReadsUpTo all scale limits inputs from (i + 1) before later
@@ -91,12 +101,27 @@ module _ (files : Option Files) (scale : ℕ) (limits : Option Bounds) (inputs :
             ⊎_elim (λ (none : later ≤ now). push all has.file 0 has.content (inl (omega arith)) (omega arith) so_far)
             (λ (some : (file : List ℕ) × (all input.path ≡ Some file) × TakesOfFile reading file now later). push all some.0 some.2.most some.1 some.2.reach some.2.taken so_far) taken
 
-    -- an input that was refused
-    pub reads_last : i < length inputs → Tells (λ all. ReadsUpTo all scale limits inputs from i before now) files → Tells (λ all. TakesOfPath all input.path reading now later) files → Tells (λ all. ReadsWithin all scale limits inputs from before later) files
-    reads_last lt so_far taken = told files so_far taken
+    -- an input behind which none was begun
+    pub reads_last : (counts : List SourceCount) → i < length inputs → FindsLists files scale limits inputs from i counts → Tells (λ all. ReadsUpTo all scale limits inputs from i before now) files → Tells (λ all. TakesOfPath all input.path reading now later) files
+        → Tells (λ all. ReadsWithin all scale limits inputs from before later) files
+    reads_last counts lt found so_far taken = told files found.are so_far taken
       where
-        told : (files : Option Files) → Tells (λ all. ReadsUpTo all scale limits inputs from i before now) files → Tells (λ all. TakesOfPath all input.path reading now later) files → Tells (λ all. ReadsWithin all scale limits inputs from before later) files
-        told None so_far taken = tt
-        told (Some all) so_far taken =
-            ⊎_elim (λ (none : later ≤ now). (i, omega (arith, lt), record { mosts = so_far.mosts; count = so_far.count; each = so_far.each; taken = omega (arith, so_far.taken, none) }))
-            (λ (some : (file : List ℕ) × (all input.path ≡ Some file) × TakesOfFile reading file now later). (i + 1, omega (arith, lt), push all some.0 some.2.most some.1 some.2.reach some.2.taken so_far)) taken
+        told : (files : Option Files) → Tells (λ all. ArePointsFrom all scale limits inputs from i found.lists) files → Tells (λ all. ReadsUpTo all scale limits inputs from i before now) files → Tells (λ all. TakesOfPath all input.path reading now later) files
+            → Tells (λ all. ReadsWithin all scale limits inputs from before later) files
+        told None are so_far taken = tt
+        told (Some all) are so_far taken =
+            ⊎_elim
+            (λ (none : later ≤ now).
+            record {
+              end = i;
+              within = omega (arith, lt);
+              reads = record { mosts = so_far.mosts; count = so_far.count; each = so_far.each; taken = omega (arith, so_far.taken, none) };
+              good = λ k least less. good_at all i found.lists are k least (omega (arith, less));
+            })
+            (λ (some : (file : List ℕ) × (all input.path ≡ Some file) × TakesOfFile reading file now later).
+            record {
+              end = i + 1;
+              within = omega (arith, lt);
+              reads = push all some.0 some.2.most some.1 some.2.reach some.2.taken so_far;
+              good = λ k least less. good_at all i found.lists are k least (omega (arith, less));
+            }) taken

@@ -1,13 +1,14 @@
 -- How far a file was read.
 use Rattle.std.specs.Prelude.{ℕ, ◌⊎◌, ◌+◌, ◌*◌, ◌<◌, ◌≤◌, List, Option, Some, None, length, drop, sum, slice_index, ⊤, ◌≡◌}
 use Rattle.ept_base.specs.Files.{Files}
+use Rattle.ept_point.specs.declared.point.Point.{Point}
 use Rattle.ept_space.specs.declared.bounds.Bounds.{Bounds}
 use Rattle.ept_config.specs.declared.input.Input.{Input}
 use Rattle.ept_las.specs.declared.header.Header.{Header}
 use Rattle.ept_las.specs.declared.header.TheConstants.{HEAD_LENGTH}
 use Rattle.ept_scan.specs.declared.reading.Reading.{Reading}
 use Rattle.ept_scan.specs.LasFile.{HasHeader}
-use Rattle.ept_scan.specs.Scans.{IsInput}
+use Rattle.ept_scan.specs.Scans.{IsInput, HasPointsAt}
 
 -- Of what was left at most so many bytes were read, where the source tells.
 abbrev pub HasLeftOf : Option (List ℕ) → Option (List ℕ) → ℕ → Type 0
@@ -38,7 +39,7 @@ ReadsNoFurther reading None left = ⊤
 ReadsNoFurther reading (Some file) None = ⊤
 ReadsNoFurther reading (Some file) (Some left) = IsWithinRecords reading file left
 
--- a number of bytes that may be read of a file: those that may belong to a header, or those up to the last record, where a header is accepted and states one
+-- so many bytes may be read of a file: those that may belong to a header, or those up to its last record, if it states one
 abbrev pub IsReach : Reading → List ℕ → ℕ → Type 0
 IsReach reading file most =
     (most ≤ HEAD_LENGTH)
@@ -58,7 +59,7 @@ TakesOfPath all path reading before now =
     ⊎ ((file : List ℕ) × (all path ≡ Some file) × TakesOfFile reading file before now)
 
 module _ (all : Files) (scale : ℕ) (limits : Option Bounds) (inputs : List Input) where
-  -- a number of bytes that may be read of input i
+  -- so many bytes may be read of input i
   pub record IsReachOf (i most : ℕ) : Type 0 where
     pub input : Input
     pub reading : Reading
@@ -74,6 +75,10 @@ module _ (all : Files) (scale : ℕ) (limits : Option Bounds) (inputs : List Inp
     pub each : (k : ℕ) → k < length mosts → IsReachOf (from + k) (slice_index mosts k)
     pub taken : now ≤ before + sum mosts
 
-  -- the same of the inputs from one on and up to some other, or to the last
-  abbrev pub ReadsWithin : ℕ → ℕ → ℕ → Type 0
-  ReadsWithin from before now = (end : ℕ) × (end ≤ length inputs) × ReadsUpTo from end before now
+  -- the same up to an input of which each one before reads as points: none is read behind one that does not
+  pub record ReadsWithin (from before now : ℕ) : Type 0 where
+    pub end : ℕ
+    pub within : end ≤ length inputs
+    pub reads : ReadsUpTo from end before now
+    pub good : (i : ℕ) → from ≤ i → i + 1 < end
+        → (points : List Point) × HasPointsAt all scale limits inputs i points

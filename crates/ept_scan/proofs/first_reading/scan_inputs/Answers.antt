@@ -1,4 +1,4 @@
-use Rattle.std.proofs.Common.{List, ◌+◌, Result, Vec, Global, length, sym, ap, subst, arith, rules}
+use Rattle.std.proofs.Common.{List, [], ◌+◌, Result, Vec, Global, length, sym, ap, subst, arith, rules}
 use Rattle.std.proofs.lemmas.Grind.{common_steps}
 use Rattle.std.proofs.lemmas.Result.{err_from_is_err_and}
 use Rattle.std.specs.Prelude.{IfErr}
@@ -45,21 +45,22 @@ loop-index-preserved g c = record {
 
 pub returns-in_err-window-clause-far : goal.returns-in_err-window-clause-far
 returns-in_err-window-clause-far g c =
-    reads_end (g.H.Shelf.files c.args.shelf.now) c.args.config.now.scale c.args.limits c.args.config.now.inputs c.args.from c.args.from (g.H.Shelf.given c.args.shelf.now) _ c.requires.from
+    reads_end (g.H.Shelf.files c.args.shelf.now) c.args.config.now.scale c.args.limits c.args.config.now.inputs c.args.from c.args.from (g.H.Shelf.given c.args.shelf.now) _ [] c.requires.from
+    (found_none (g.H.Shelf.files c.args.shelf.now) c.args.config.now.scale c.args.limits c.args.config.now.inputs c.args.from)
     (reads_none (g.H.Shelf.files c.args.shelf.now) c.args.config.now.scale c.args.limits c.args.config.now.inputs c.args.from (g.H.Shelf.given c.args.shelf.now))
 
 pub returns-in_err-count-clause-far : goal.returns-in_err-count-clause-far
 returns-in_err-count-clause-far g c =
     reads_last (g.H.Shelf.files c.args.shelf.now) c.args.config.now.scale c.args.limits c.args.config.now.inputs c.args.from c.loop-index.index c.input-input.result.now c.reading_of-reading.result c.input-input.ensures.input c.reading_of-reading.ensures
-    (g.H.Shelf.given c.args.shelf.now) (g.H.Shelf.given c.loop-index.shelf) (g.H.Shelf.given c.scan_path.new.shelf) (slice_get_within c.args.config.now.inputs c.loop-index.index c.input-input.result.now c.input-input.ensures.input) c.loop-index.invariant.far
+    (g.H.Shelf.given c.args.shelf.now) (g.H.Shelf.given c.loop-index.shelf) (g.H.Shelf.given c.scan_path.new.shelf) c.loop-index.counts.items (slice_get_within c.args.config.now.inputs c.loop-index.index c.input-input.result.now c.input-input.ensures.input) c.loop-index.invariant.found c.loop-index.invariant.far
     (path_at c.reading_of-reading.result (g.H.Shelf.files c.loop-index.shelf) (g.H.Shelf.files c.args.shelf.now) c.as_str.result.now c.input-input.result.now.path (g.H.Shelf.given c.loop-index.shelf) (g.H.Shelf.given c.scan_path.new.shelf) c.loop-index.invariant.files c.as_str.ensures c.scan_path.ensures.far)
 
 pub returns-in_err-push-clause-far : goal.returns-in_err-push-clause-far
 returns-in_err-push-clause-far g c =
     reads_last (g.H.Shelf.files c.args.shelf.now) c.args.config.now.scale c.args.limits c.args.config.now.inputs c.args.from c.loop-index.index c.input-input.result.now c.reading_of-reading.result c.input-input.ensures.input c.reading_of-reading.ensures
-    (g.H.Shelf.given c.args.shelf.now) (g.H.Shelf.given c.loop-index.shelf) (g.H.Shelf.given c.scan_path.new.shelf) (slice_get_within c.args.config.now.inputs c.loop-index.index c.input-input.result.now c.input-input.ensures.input) c.loop-index.invariant.far
+    (g.H.Shelf.given c.args.shelf.now) (g.H.Shelf.given c.loop-index.shelf) (g.H.Shelf.given c.scan_path.new.shelf) c.loop-index.counts.items (slice_get_within c.args.config.now.inputs c.loop-index.index c.input-input.result.now c.input-input.ensures.input) c.loop-index.invariant.found c.loop-index.invariant.far
     (path_at c.reading_of-reading.result (g.H.Shelf.files c.loop-index.shelf) (g.H.Shelf.files c.args.shelf.now) c.as_str.result.now c.input-input.result.now.path (g.H.Shelf.given c.loop-index.shelf) (g.H.Shelf.given c.scan_path.new.shelf) c.loop-index.invariant.files c.as_str.ensures c.scan_path.ensures.far)
 
 pub returns-clause-far : goal.returns-clause-far
 returns-clause-far g c =
-    reads_end (g.H.Shelf.files c.args.shelf.now) c.args.config.now.scale c.args.limits c.args.config.now.inputs c.args.from c.loop-index.index (g.H.Shelf.given c.args.shelf.now) (g.H.Shelf.given c.loop-index.shelf) (omega (arith, ap length c.as_slice.ensures)) c.loop-index.invariant.far
+    reads_end (g.H.Shelf.files c.args.shelf.now) c.args.config.now.scale c.args.limits c.args.config.now.inputs c.args.from c.loop-index.index (g.H.Shelf.given c.args.shelf.now) (g.H.Shelf.given c.loop-index.shelf) c.loop-index.counts.items (omega (arith, ap length c.as_slice.ensures)) c.loop-index.invariant.found c.loop-index.invariant.far
