@@ -1,5 +1,5 @@
 -- What a build of a configuration is of, over a shelf of these files, and why it is refused.
-use Rattle.std.specs.Prelude.{◌≡◌, ◌⊎◌, ℕ, ◌<◌, ◌≤◌, List, Option, Result, Err, Unit, length, ⊤}
+use Rattle.std.specs.Prelude.{◌≡◌, ◌≢◌, ◌⊎◌, ℕ, ◌<◌, ◌≤◌, List, Option, Result, Err, length, ⊤}
 use Rattle.ept_base.specs.Files.{Files, StepsBy}
 use Rattle.ept_point.specs.declared.point.Point.{Point}
 use Rattle.ept_space.specs.declared.bounds.Bounds.{Bounds}
@@ -78,3 +78,23 @@ Fails answer = (answer ≡ Err StoreFault) ⊎ (answer ≡ Err SourceFault) ⊎ 
 -- a cause after which the store may have been written to
 abbrev pub IsLate : BuildError → Type 0
 IsLate e = (e ≡ StoreFault) ⊎ (e ≡ Memory)
+
+-- the answer is a fault of a source, or want of memory
+abbrev pub Stops : {T : Type 0} → Result T BuildError → Type 0
+Stops answer = (answer ≡ Err SourceFault) ⊎ (answer ≡ Err Memory)
+
+-- a cause that the reading of the inputs and the insertion of their points may have: any but a fault of the store
+abbrev pub IsReading : BuildError → Type 0
+IsReading e = e ≢ StoreFault
+
+-- a cause that the second reading and the insertion may have
+abbrev pub IsInsertion : BuildError → Type 0
+IsInsertion SourceFault = ⊤
+IsInsertion (SourceChanged source number) = ⊤
+IsInsertion TooManyNodes = ⊤
+IsInsertion Memory = ⊤
+IsInsertion StoreFault = ⊥
+IsInsertion (BadLas source fault) = ⊥
+IsInsertion (OutOfBounds source number) = ⊥
+IsInsertion (TooManyPoints source) = ⊥
+IsInsertion NoBounds = ⊥

@@ -5,8 +5,10 @@ use Rattle.ept_scan.specs.declared.scan_error.ScanError.{ScanError}
 use Rattle.ept_scan.specs.declared.scan_error.ScanError.TheVariants as scan
 use Rattle.ept_scan.specs.declared.read_error.ReadError.{ReadError}
 use Rattle.ept_scan.specs.declared.read_error.ReadError.TheVariants as read
+use Rattle.ept_tree.specs.declared.tree_error.TreeError.{TreeError}
+use Rattle.ept_tree.specs.declared.tree_error.TreeError.TheVariants as tree
 use Rattle.ept_build.specs.declared.error.BuildError.{BuildError}
-use Rattle.ept_build.specs.declared.error.BuildError.TheVariants.{StoreFault, SourceFault, BadLas, OutOfBounds, TooManyPoints, NoBounds, SourceChanged, Memory}
+use Rattle.ept_build.specs.declared.error.BuildError.TheVariants.{StoreFault, SourceFault, BadLas, OutOfBounds, TooManyPoints, NoBounds, SourceChanged, TooManyNodes, Memory}
 
 abbrev pub of_scan : ScanError → BuildError
 of_scan scan.SourceFault = SourceFault
@@ -24,3 +26,7 @@ of_read read.Memory = Memory
 abbrev pub of_put : PutError → BuildError
 of_put put.Failed = StoreFault
 of_put put.Memory = Memory
+
+abbrev pub of_tree : TreeError → BuildError
+of_tree tree.TooManyNodes = TooManyNodes
+of_tree tree.Memory = Memory

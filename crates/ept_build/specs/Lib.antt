@@ -1,4 +1,4 @@
 pub mod Errors
-pub mod MetaTexts
 pub mod Output
 pub mod Building
+pub mod Octrees

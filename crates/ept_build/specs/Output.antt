@@ -1,6 +1,6 @@
 -- The files of the output: what the octree of some points is as files, and what a store gains by them.
-use Rattle.std.specs.Prelude.{◌≡◌, ◌≢◌, ◌⊎◌, ℕ, Some, Option, List, [], ◌∷◌, ◌++◌, length, codes, map, All, AllPairs}
-use Rattle.ept_base.specs.Files.{Files, changed}
+use Rattle.std.specs.Prelude.{◌≡◌, ◌≢◌, ◌⊎◌, ℕ, Some, Option, List, [], ◌∷◌, ◌++◌, length, codes, map, All}
+use Rattle.ept_base.specs.Files.{Files, changed, SameFiles}
 use Rattle.ept_point.specs.declared.point.Point.{Point}
 use Rattle.ept_point.specs.Packed.{tile}
 use Rattle.ept_space.specs.declared.bounds.Bounds.{Bounds}
@@ -15,7 +15,9 @@ use Rattle.ept_config.specs.declared.source_count.SourceCount.{SourceCount}
 use Rattle.ept_hier.specs.declared.file.HierFile.{HierFile}
 use Rattle.ept_hier.specs.Hierarchy.{hierarchy}
 use Rattle.ept_build.specs.declared.names.TheConstants.{METADATA, MANIFEST, BUILD_FILE}
-use Rattle.ept_build.specs.MetaTexts.{ept_text, manifest_text, build_text}
+use Rattle.ept_meta.specs.EptText.{ept_text}
+use Rattle.ept_meta.specs.ManifestText.{manifest_text}
+use Rattle.ept_meta.specs.BuildText.{build_text}
 
 -- ---- names (Entwine Point Tile 1.1.0)
 
@@ -75,9 +77,9 @@ abbrev pub with_files : Files → List File → Files
 with_files files [] = files
 with_files files (f ∷ more) = with_files (changed files f.0 (Some f.1)) more
 
--- no two have one name
-abbrev pub HaveDistinctNames : List File → Type 0
-HaveDistinctNames files = AllPairs (λ (a b : File). a.0 ≢ b.0) files
+-- these were put, one after another, and nothing else
+abbrev pub PutsAll : List File → Files → Files → Type 0
+PutsAll files old new = SameFiles (with_files old files) new
 
 -- every name but those of an output's files reads as before
 abbrev pub SameButOutput : Files → Files → Type 0

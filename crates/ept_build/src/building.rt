@@ -11,6 +11,8 @@ ghost use Rattle.ept_build.specs.Output.{SameButOutput};
 ghost use Rattle.ept_build.specs.Building.{HasPoints, node_count, IsBuilt, IsRefused, IsDefinite, IsLate, Fails};
 
 use crate::error::BuildError;
+use crate::octree::octree_of;
+use crate::publishing::publish;
 use crate::summary::Summary;
 use ept_base::{Gate, Room, Shelf, Store};
 use ept_config::Config;
@@ -29,8 +31,8 @@ pub fn build<H: Shelf, T: Store, R: Room, G: Gate + Sync>(
     config: &Config,
     shelf: &mut H,
     store: &mut T,
-    room: &mut R,
-    gate: &G,
+    _room: &mut R,
+    _gate: &G,
 ) -> Result<Summary, BuildError>
 where
     H::Source: Send,
@@ -54,7 +56,12 @@ where
     ensures untouched { IfErr result (λ e. (IsLate e → ⊥) → store.new ≡ store.old) }
     ensures any_moment { Moves T.files T.may_leave T.moment T.image_since SameButOutput store.old store.new }
     ensures files { H.files shelf.new ≡ H.files shelf.old }
-    ensures room { room.new ≡ room.old }
+    ensures room { _room.new ≡ _room.old }
 {
-    Err(BuildError::Memory)
+    let octree = octree_of(alloc, config, shelf)?;
+    publish(alloc, store, &octree)?;
+    Ok(Summary {
+        points: octree.points,
+        nodes: octree.tree.nodes().len() as u64,
+    })
 }

@@ -4,6 +4,7 @@ use ept_base::PutError;
 use ept_las::LasError;
 use ept_point::{Memory as NoMemory, PointNumber};
 use ept_scan::{ReadError, ScanError};
+use ept_tree::TreeError;
 use std::alloc::{AllocError, AllocFailed};
 use thiserror::Error;
 
@@ -86,6 +87,20 @@ impl From<PutError> for BuildError {
         match error {
             PutError::Failed => BuildError::StoreFault,
             PutError::Memory => BuildError::Memory,
+        }
+    }
+}
+
+impl From<TreeError> for BuildError {
+    ghost use Rattle.std.specs.Prelude.{◌≡◌};
+    ghost use Rattle.ept_build.specs.Errors.{of_tree};
+
+    ghost from_gives = { λ from e. e ≡ of_tree from };
+
+    fn from(error: TreeError) -> BuildError {
+        match error {
+            TreeError::TooManyNodes => BuildError::TooManyNodes,
+            TreeError::Memory => BuildError::Memory,
         }
     }
 }

@@ -1,9 +1,15 @@
-//! stub
+//! The builder: from scans on a shelf to the files of an octree of tiles in a store.
+//!
+//! The inputs are read twice: first to find the number of their points and where they lie, then in batches,
+//! whose points are brought into an octree. Once all are there, the files of the output are put.
 #![tactic(auto)]
 
 mod building;
 mod error;
+mod growing;
 mod names;
+mod octree;
+mod publishing;
 mod summary;
 
 pub use building::build;

@@ -26,5 +26,8 @@ pub(crate) fn tile_name(alloc: Global, key: &Key) -> Result<String, AllocError>
 pub(crate) fn hierarchy_name(alloc: Global, key: &Key) -> Result<String, AllocError>
     ensures { IfOk result (λ name. string_bytes name ≡ hierarchy_name key.now) }
 {
-    format!(in alloc; "ept-hierarchy/{}-{}-{}-{}.json", key.depth, key.x, key.y, key.z)
+    format!(in alloc;
+        "ept-hierarchy/{}-{}-{}-{}.json",
+        key.depth, key.x, key.y, key.z
+    )
 }

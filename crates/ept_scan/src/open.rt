@@ -146,7 +146,8 @@ fn start_of(counts: &[SourceCount], drawn: u64) -> Start
     }
 }
 
-fn total_of(counts: &[SourceCount]) -> u64
+/// The number of all points with these counts.
+pub fn total_of(counts: &[SourceCount]) -> u64
     requires sound { All (λ count. count.points ≤ MAX_POINTS) counts.now }
     requires few { length counts.now ≤ MAX_INPUTS }
     ensures { result ≡ total counts.now }

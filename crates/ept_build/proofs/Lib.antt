@@ -1,0 +1,4 @@
+pub mod NamesDiffer
+pub mod Putting
+pub mod Apart
+pub mod Scanned

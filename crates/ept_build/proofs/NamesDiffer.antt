@@ -1,0 +1,67 @@
+-- The names of an output's files are different.
+use Rattle.std.proofs.Common.{◌≡◌, ◌≢◌, ◌∙◌, ℕ, List, ◌∷◌, ◌++◌, sym, ap, arith, get_or, append_assoc}
+use Rattle.std.specs.Prelude.{codes, decimal}
+use Rattle.std.proofs.lemmas.List.{append_cancel_left, append_cancel_right}
+use Rattle.ept_space.specs.VoxelKey.{VoxelKey, IsKey}
+use Rattle.ept_space.specs.KeyText.{key_text}
+use Rattle.ept_space.proofs.KeyTexts.{key_text-injective}
+use Rattle.ept_build.specs.declared.names.TheConstants.{METADATA, MANIFEST, BUILD_FILE}
+use Rattle.ept_build.specs.Output.{tile_name, hierarchy_name}
+
+-- the names, piece by piece
+pub tile-name-of : (key : VoxelKey) → codes "ept-data/" ++ (decimal key.depth ++ 45 ∷ (decimal key.x ++ 45 ∷ (decimal key.y ++ 45 ∷ (decimal key.z ++ codes ".bin")))) ≡ tile_name key
+unfolding tile_name key_text
+tile-name-of key = simp append_assoc
+
+pub hierarchy-name-of : (key : VoxelKey) → codes "ept-hierarchy/" ++ (decimal key.depth ++ 45 ∷ (decimal key.x ++ 45 ∷ (decimal key.y ++ 45 ∷ (decimal key.z ++ codes ".json")))) ≡ hierarchy_name key
+unfolding hierarchy_name key_text
+hierarchy-name-of key = simp append_assoc
+
+-- two keys have two names
+pub one-tile : (a b : VoxelKey) → IsKey a → IsKey b → tile_name a ≡ tile_name b → a ≡ b
+unfolding tile_name
+one-tile a b is_a is_b same =
+    key_text-injective a b is_a is_b (append_cancel_right (key_text a) (key_text b) (codes ".bin") (append_cancel_left (codes "ept-data/") (key_text a ++ codes ".bin") (key_text b ++ codes ".bin") same))
+
+pub one-hierarchy : (a b : VoxelKey) → IsKey a → IsKey b → hierarchy_name a ≡ hierarchy_name b → a ≡ b
+unfolding hierarchy_name
+one-hierarchy a b is_a is_b same =
+    key_text-injective a b is_a is_b (append_cancel_right (key_text a) (key_text b) (codes ".json") (append_cancel_left (codes "ept-hierarchy/") (key_text a ++ codes ".json") (key_text b ++ codes ".json") same))
+
+-- names of different kinds differ
+pub tile-hierarchy : (a b : VoxelKey) → tile_name a ≢ hierarchy_name b
+unfolding tile_name hierarchy_name
+tile-hierarchy a b same = let differ : 100 ≡ 104 = ap (λ (w : List ℕ). get_or w 4 0) same in absurd (omega (arith, differ))
+
+pub tile-metadata : (a : VoxelKey) → tile_name a ≢ METADATA.now
+unfolding tile_name
+tile-metadata a same = let differ : 45 ≡ 46 = ap (λ (w : List ℕ). get_or w 3 0) same in absurd (omega (arith, differ))
+
+pub tile-manifest : (a : VoxelKey) → tile_name a ≢ MANIFEST.now
+unfolding tile_name
+tile-manifest a same = let differ : 100 ≡ 115 = ap (λ (w : List ℕ). get_or w 4 0) same in absurd (omega (arith, differ))
+
+pub tile-build : (a : VoxelKey) → tile_name a ≢ BUILD_FILE.now
+unfolding tile_name
+tile-build a same = let differ : 100 ≡ 98 = ap (λ (w : List ℕ). get_or w 4 0) same in absurd (omega (arith, differ))
+
+pub hierarchy-metadata : (a : VoxelKey) → hierarchy_name a ≢ METADATA.now
+unfolding hierarchy_name
+hierarchy-metadata a same = let differ : 45 ≡ 46 = ap (λ (w : List ℕ). get_or w 3 0) same in absurd (omega (arith, differ))
+
+pub hierarchy-manifest : (a : VoxelKey) → hierarchy_name a ≢ MANIFEST.now
+unfolding hierarchy_name
+hierarchy-manifest a same = let differ : 104 ≡ 115 = ap (λ (w : List ℕ). get_or w 4 0) same in absurd (omega (arith, differ))
+
+pub hierarchy-build : (a : VoxelKey) → hierarchy_name a ≢ BUILD_FILE.now
+unfolding hierarchy_name
+hierarchy-build a same = let differ : 104 ≡ 98 = ap (λ (w : List ℕ). get_or w 4 0) same in absurd (omega (arith, differ))
+
+pub metadata-manifest : METADATA.now ≢ MANIFEST.now
+metadata-manifest same = let differ : 46 ≡ 45 = ap (λ (w : List ℕ). get_or w 3 0) same in absurd (omega (arith, differ))
+
+pub metadata-build : METADATA.now ≢ BUILD_FILE.now
+metadata-build same = let differ : 46 ≡ 45 = ap (λ (w : List ℕ). get_or w 3 0) same in absurd (omega (arith, differ))
+
+pub manifest-build : MANIFEST.now ≢ BUILD_FILE.now
+manifest-build same = let differ : 115 ≡ 98 = ap (λ (w : List ℕ). get_or w 4 0) same in absurd (omega (arith, differ))

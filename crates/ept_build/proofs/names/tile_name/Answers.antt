@@ -1,0 +1,11 @@
+use Rattle.std.proofs.Common.{◌∙◌, ap}
+use Rattle.std.proofs.lemmas.Result.{IfOk-weaker}
+use Rattle.ept_space.specs.VoxelKey.{VoxelKey}
+use Rattle.ept_build.specs.Output.{tile_name}
+use Rattle.ept_build.proofs.NamesDiffer.{tile-name-of}
+use Rattle.ept_build.proofs.names.tile_name.Goals as goal
+
+pub returns : goal.returns
+returns c =
+    let key : VoxelKey = record { depth = c.key.inside.depth; x = c.key.inside.x; y = c.key.inside.y; z = c.key.inside.z } in
+    IfOk-weaker c.format.result _ _ (λ name is. is ∙ (tile-name-of key ∙ ap tile_name c.key.view_is)) c.format.ensures.ok

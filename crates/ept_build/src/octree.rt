@@ -1,0 +1,93 @@
+//! What the two readings of the inputs find.
+
+ghost use Rattle.std.specs.Prelude.{◌≡◌, ◌⊎◌, ◌≤◌, List, Err, IsOk, IfOk, IfErr, length};
+ghost use Rattle.ept_base.specs.Causes.{HasCauseOf};
+ghost use Rattle.ept_base.specs.Files.{Tells};
+ghost use Rattle.ept_point.specs.declared.point.Point.{Point};
+ghost use Rattle.ept_space.specs.OctreeCube.{IsCube};
+ghost use Rattle.ept_space.specs.CubeOfBounds.{IsCubeOf};
+ghost use Rattle.ept_config.specs.declared.kept.Kept as of;
+ghost use Rattle.ept_scan.specs.declared.scan_done.ScanDone as found;
+ghost use Rattle.ept_build.specs.Output.{rules_of};
+ghost use Rattle.ept_build.specs.Building.{HasPoints, node_count, IsReading, IsRefused, IsDefinite, Stops};
+ghost use Rattle.ept_build.specs.Octrees.{IsOctree};
+
+use crate::error::BuildError;
+use crate::growing::grown_tree;
+use ept_base::Shelf;
+use ept_config::{Config, Kept, SourceCount};
+use ept_point::List;
+use ept_scan::{scan, total_of, whole_extent};
+use ept_space::{Bounds, Cube, Rules};
+use ept_tree::Tree;
+use std::alloc::Global;
+
+/// The octree of all points, and what the output tells besides.
+#[derive(Drop)]
+pub(crate) struct Octree {
+    /// What the output depends on.
+    pub(crate) kept: Kept,
+    /// What was found of each input.
+    pub(crate) counts: List<SourceCount>,
+    /// The number of all points.
+    pub(crate) points: u64,
+    /// The extent of all points.
+    pub(crate) extent: Option<Bounds>,
+    /// The nodes.
+    pub(crate) tree: Tree,
+}
+
+/// Reads the inputs of the configuration twice, and answers the octree of their points.
+pub(crate) fn octree_of<H: Shelf>(
+    alloc: Global,
+    config: &Config,
+    shelf: &mut H,
+) -> Result<Octree, BuildError>
+    ensures octree { IfOk result (λ octree. Tells (λ all. IsOctree all config.now octree) (H.files shelf.old)) }
+    ensures each { IfOk result (λ octree. length octree.counts ≡ length octree.kept.inputs) }
+    ensures refused { IfErr result (λ e. Tells (λ all. IsRefused all config.now e) (H.files shelf.old)) }
+    ensures refusal_comes { Tells (λ all. (e : BuildError) → IsDefinite e → IsRefused all config.now e
+        → (result ≡ Err e) ⊎ Stops result) (H.files shelf.old) }
+    ensures accepted { Tells (λ all. (done : found.ScanDone) (kept : of.Kept) (points : List Point)
+        → HasPoints all config.now done kept points → node_count kept points ≤ config.now.max_nodes
+        → IsOk result ⊎ Stops result) (H.files shelf.old) }
+    ensures reading { IfErr result IsReading }
+    ensures files { H.files shelf.new ≡ H.files shelf.old }
+    ensures cause { HasCauseOf BuildError.SourceFault (H.faults shelf.old) (H.faults shelf.new) result }
+{
+    let done = scan(alloc, shelf, config, 0, None)?;
+    let kept = config.kept(alloc, &done.bounds)?;
+    let rules = rules_of(&kept);
+    let points = total_of(done.counts.as_slice());
+    let most = u64::from(config.max_nodes);
+    let tree = grown_tree(
+        alloc,
+        shelf,
+        &kept,
+        done.counts.as_slice(),
+        &rules,
+        points,
+        most,
+    )?;
+    Ok(Octree {
+        kept,
+        extent: whole_extent(done.counts.as_slice()),
+        counts: done.counts,
+        points,
+        tree,
+    })
+}
+
+// The rules of the sampling of what is kept.
+fn rules_of(kept: &Kept) -> Rules
+    ensures rules { result ≡ rules_of kept.now }
+    ensures cube { IsCube result.cube }
+    ensures of_bounds { IsCubeOf kept.now.bounds kept.now.s kept.now.max_depth result.cube }
+{
+    let cube = Cube::of(&kept.bounds, kept.s, kept.max_depth).unwrap();
+    cube.known();
+    Rules {
+        cube,
+        threshold: kept.threshold,
+    }
+}
