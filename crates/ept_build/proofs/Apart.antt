@@ -55,7 +55,7 @@ module _ {X : Type 0} (key : X → VoxelKey) (name : VoxelKey → List ℕ) (one
 -- items whose keys rise, rise
 rising_by_keys : {X : Type 0} (key : X → VoxelKey) (xs : List X) → IsRising key_before (map key xs) → IsRising (keyed_before key) xs
 rising_by_keys key [] up = tt
-rising_by_keys key (x ∷ xs) up = (λ y m. up.0 (key y) (there y xs m), rising_by_keys key xs up.1)
+rising_by_keys {X} key (x ∷ xs) up = (λ y m. up.0 (key y) (there y xs m), rising_by_keys key xs up.1)
   where
     there : (y : X) (ys : List X) → IsMember y ys → IsMember (key y) (map key ys)
     there y [] m = absurd m
@@ -135,21 +135,23 @@ module _ (rules : Rules) (points : List Point) (can : CanBeSampled rules points)
     among_texts name a b c g (inr (inr (inl is))) = subst (λ (h : File). name ≢ h.0) is c
     among_texts name a b c g (inr (inr (inr m))) = absurd m
 
+    files_apart : AreApart (map tile_file (sampled rules points) ++ map hierarchy_file (hierarchy kept.step nodes))
+    files_apart =
+        apart-append (map tile_file (sampled rules points)) (map hierarchy_file (hierarchy kept.step nodes)) tiles_apart (hierarchy_apart kept.step) (λ x y m n. (
+        let from = member-map tile_file x (sampled rules points) m in
+        let at = member-map hierarchy_file y (hierarchy kept.step nodes) n in
+        subst (λ (h : File). h.0 ≢ y.0) from.2 (subst (λ (h : File). tile_name from.0.key ≢ h.0) at.2 (tile-hierarchy from.0.key at.0.key))))
+
     pub output-apart : AreApart (files_of kept counts extent count (sampled rules points))
     output-apart =
-        apart-append (map tile_file (sampled rules points)) (map hierarchy_file (hierarchy kept.step nodes) ++ texts) tiles_apart
-        (apart-append (map hierarchy_file (hierarchy kept.step nodes)) texts (hierarchy_apart kept.step) texts_apart (λ x y m n. (
-        let from = member-map hierarchy_file x (hierarchy kept.step nodes) m in
-        subst (λ (h : File). h.0 ≢ y.0) from.2 (among_texts (hierarchy_name from.0.key) (hierarchy-metadata from.0.key) (hierarchy-manifest from.0.key) (hierarchy-build from.0.key) y n))))
-        (λ x y m n. (
-        let from = member-map tile_file x (sampled rules points) m in
-        subst (λ (h : File). h.0 ≢ y.0) from.2
-        (elim (IsMember-append y (map hierarchy_file (hierarchy kept.step nodes)) texts n) [
+        apart-append (map tile_file (sampled rules points) ++ map hierarchy_file (hierarchy kept.step nodes)) texts files_apart texts_apart (λ x y m n. elim (IsMember-append x (map tile_file (sampled rules points)) (map hierarchy_file (hierarchy kept.step nodes)) m) [
           | inl l ↦ (
-              let at = member-map hierarchy_file y (hierarchy kept.step nodes) l in
-              subst (λ (h : File). tile_name from.0.key ≢ h.0) at.2 (tile-hierarchy from.0.key at.0.key))
-          | inr r ↦ among_texts (tile_name from.0.key) (tile-metadata from.0.key) (tile-manifest from.0.key) (tile-build from.0.key) y r
-        ])))
+              let from = member-map tile_file x (sampled rules points) l in
+              subst (λ (h : File). h.0 ≢ y.0) from.2 (among_texts (tile_name from.0.key) (tile-metadata from.0.key) (tile-manifest from.0.key) (tile-build from.0.key) y n))
+          | inr r ↦ (
+              let at = member-map hierarchy_file x (hierarchy kept.step nodes) r in
+              subst (λ (h : File). h.0 ≢ y.0) at.2 (among_texts (hierarchy_name at.0.key) (hierarchy-metadata at.0.key) (hierarchy-manifest at.0.key) (hierarchy-build at.0.key) y n))
+        ])
 
 -- ---- the keys of a tree's nodes ascend
 

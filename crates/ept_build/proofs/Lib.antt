@@ -2,3 +2,5 @@ pub mod NamesDiffer
 pub mod Putting
 pub mod Apart
 pub mod Scanned
+pub mod Drawn
+pub mod Causes

@@ -1,13 +1,15 @@
 -- Files that are put one after another.
-use Rattle.std.proofs.Common.{◌≡◌, ◌≢◌, ◌∙◌, inl, inr, ◌⊎◌, ℕ, List, [], ◌∷◌, ◌++◌, map, cond, refl, sym, ap, subst, Option, Some, Bool}
+use Rattle.std.proofs.Common.{◌≡◌, ◌≢◌, ◌∙◌, inl, inr, ◌⊎◌, ℕ, ◌+◌, ◌<◌, List, length, take, get_or, [], ◌∷◌, ◌++◌, map, cond, refl, sym, ap, subst, Option, Some, Bool}
 use Rattle.std.specs.Prelude.{All, bytes_eq, Result, Ok, Err, OnOk}
 use Rattle.ept_base.specs.Files.{Files, changed, SameFiles, SameBut, Puts, StepsBy}
-use Rattle.ept_base.specs.Moves.{Follows, Elapses, Moves}
+use Rattle.ept_base.specs.Moves.{Follows, NoMore, Elapses, Moves}
 use Rattle.ept_base.proofs.Moving.{steps_weaker, steps_both, moves_once, moves_weaker, moves_both}
 use Rattle.ept_base.proofs.Changing.{changed_same, changed_other}
+use Rattle.std.proofs.lemmas.List.{take_more, map-append}
+use Rattle.ept_tree.specs.Tree.{Branch, tile_of}
 use Rattle.ept_sample.specs.Members.{IsMember}
 use Rattle.ept_sample.proofs.Members.{All-members, all-member, IsMember-append}
-use Rattle.ept_build.specs.Output.{IsOutputName, File, Gains, with_files, PutsAll, SameButOutput}
+use Rattle.ept_build.specs.Output.{IsOutputName, File, tile_file, Gains, with_files, PutsAll, SameButOutput}
 
 -- ---- several puts
 
@@ -22,7 +24,7 @@ with_files-append f (x ∷ xs) ys = with_files-append (changed f x.0 (Some x.1))
 
 puts_both : (xs ys : List File) (a b c : Files) → PutsAll xs a b → PutsAll ys b c → PutsAll (xs ++ ys) a c
 puts_both xs ys a b c first second name =
-    second name ∙ (with_files-same b (with_files a xs) ys first name ∙ ap (λ (f : Files). f name) (sym (with_files-append a xs ys)))
+    second name ∙ (with_files-same (with_files a xs) b ys first name ∙ ap (λ (f : Files). f name) (sym (with_files-append a xs ys)))
 
 pub puts-none : (a b : Option Files) → StepsBy SameFiles a b → StepsBy (PutsAll []) a b
 puts-none a b step = step
@@ -33,6 +35,22 @@ puts-both xs ys a b c = steps_both (PutsAll xs) (PutsAll ys) (PutsAll (xs ++ ys)
 -- a single put
 pub puts-one : (name bytes : List ℕ) (a b : Option Files) → StepsBy (Puts name bytes) a b → StepsBy (PutsAll ((name, bytes) ∷ [])) a b
 puts-one name bytes a b step = step
+
+-- and one more
+pub puts-more : (files more : List File) (name bytes : List ℕ) → more ≡ files ++ (name, bytes) ∷ [] → (a b c : Option Files) → StepsBy (PutsAll files) a b → StepsBy (Puts name bytes) b c → StepsBy (PutsAll more) a c
+puts-more files more name bytes is a b c first second =
+    subst (λ (w : List File). StepsBy (PutsAll w) a c) (sym is) (puts-both files ((name, bytes) ∷ []) a b c first (puts-one name bytes b c second))
+
+-- the tiles of entries that were handed out, with one more
+pub yielded-more : {A : Type 0} (f : A → Branch) (xs : List A) (x : A) → map tile_file (map tile_of (map f (xs ++ x ∷ []))) ≡ map tile_file (map tile_of (map f xs)) ++ tile_file (tile_of (f x)) ∷ []
+yielded-more f [] x = refl
+yielded-more f (y ∷ xs) x = ap (λ (w : List File). tile_file (tile_of (f y)) ∷ w) (yielded-more f xs x)
+
+-- the first items of a list, with one more
+pub taken-more : {X : Type 0} (f : X → File) (xs : List X) (i : ℕ) (x : X) → i < length xs → x ≡ get_or xs i x → map f (take (i + 1) xs) ≡ map f (take i xs) ++ f x ∷ []
+taken-more {X} f xs i x low is =
+    let more : take (i + 1) xs ≡ take i xs ++ x ∷ [] = take_more xs i x low ∙ ap (λ (y : X). take i xs ++ y ∷ []) (sym is) in
+    ap (map f) more ∙ map-append f (take i xs) (x ∷ [])
 
 -- what is read stays
 pub puts-kept : (xs : List File) (a b c : Option Files) → StepsBy (PutsAll xs) a b → StepsBy SameFiles b c → StepsBy (PutsAll xs) a c
@@ -85,6 +103,16 @@ module _ {D : Type 0} (files : D → Option Files) (may_leave : D → Files → 
   pub output-moves : (old mid new : D) → Moves files may_leave moment image_since SameButOutput old mid → Moves files may_leave moment image_since SameButOutput mid new → Moves files may_leave moment image_since SameButOutput old new
   output-moves old mid new f s =
       moves_both files may_leave moment image_since SameButOutput SameButOutput SameButOutput (λ a b c one two name apart. two name apart ∙ one name apart) (λ a b one. one) old mid new f s
+
+  -- a sync changes nothing
+  pub sync-moves : (old new : D) → StepsBy SameFiles (files old) (files new) → NoMore (may_leave old) (may_leave new) → Elapses (moment old) (moment new) (image_since old) (image_since new) (may_leave new) → Moves files may_leave moment image_since SameButOutput old new
+  sync-moves old new reads images time =
+      moves_weaker files may_leave moment image_since SameFiles SameButOutput (λ a b same name apart. same name) old new (moves_once files may_leave moment image_since SameFiles old new reads (λ image is. (image, images image is, λ name. refl)) time)
+
+-- a fact holds at Ok
+pub any-ok : {E : Type 0} (r : Result (Unit {0}) E) (P : Type 0) → P → OnOk r P
+any-ok (Ok u) P p = p
+any-ok (Err e) P p = tt
 
 -- what follows of facts at Ok holds at Ok
 pub one-ok : {E : Type 0} (r : Result (Unit {0}) E) (P R : Type 0) → OnOk r P → (P → R) → OnOk r R

@@ -1,6 +1,6 @@
 //! The second reading of the inputs, and the insertion of their points.
 
-ghost use Rattle.std.specs.Prelude.{◌≡◌, ◌≢◌, ◌≤◌, ◌+◌, ℕ, List, [], Err, IfOk, IfErr, length, All, None};
+ghost use Rattle.std.specs.Prelude.{◌≡◌, ◌≤◌, ◌<◌, ℕ, List, [], Err, IfOk, IfErr, length, All, None};
 ghost use Rattle.ept_base.specs.Causes.{HasCauseOf};
 ghost use Rattle.ept_base.specs.Files.{Tells};
 ghost use Rattle.ept_point.specs.declared.point.Point.{Point};
