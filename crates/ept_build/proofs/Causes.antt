@@ -1,5 +1,6 @@
 -- Which refusal of a layer below was told.
-use Rattle.std.proofs.Common.{◌≡◌, ℕ}
+use Rattle.std.proofs.Common.{◌≡◌, ℕ, Option, Some, None}
+use Rattle.ept_base.specs.Files.{Tells}
 use Rattle.ept_scan.specs.declared.read_error.ReadError.{ReadError}
 use Rattle.ept_scan.specs.declared.read_error.ReadError.TheVariants as read
 use Rattle.ept_tree.specs.declared.tree_error.TreeError.{TreeError}
@@ -21,3 +22,12 @@ was_fault (read.SourceChanged a b) is = absurd (cc)
 pub was_many : (e : TreeError) → of_tree e ≡ TooManyNodes → e ≡ tree.TooManyNodes
 was_many tree.TooManyNodes is = cc
 was_many tree.Memory is = absurd (cc)
+
+-- what follows of a told fact is told
+pub tells-more : {X : Type 0} (P Q : X → Type 0) → ((x : X) → P x → Q x) → (o : Option X) → Tells P o → Tells Q o
+tells-more P Q more None told = tt
+tells-more P Q more (Some x) told = more x told
+
+pub tells-both : {X : Type 0} (P Q R : X → Type 0) → ((x : X) → P x → Q x → R x) → (o : Option X) → Tells P o → Tells Q o → Tells R o
+tells-both P Q R more None one two = tt
+tells-both P Q R more (Some x) one two = more x one two

@@ -46,6 +46,9 @@ total_of_lists (l ∷ lists) [] zip = absurd zip
 total_of_lists (l ∷ lists) (c ∷ counts) zip =
     omega (arith, length-append l (in_order lists), sum_by-cons (λ (count : SourceCount). count.points) c counts, total_of_lists lists counts zip.1, zip.0.number)
 
+pub kept-number : (all : Files) (kept : Kept) (counts : List SourceCount) (points : List Point) → IsKeptScan all kept counts points → length points ≡ total counts
+kept-number all kept counts points scan = ap length scan.points_are ∙ total_of_lists scan.lists counts scan.counts_are
+
 module _ (all : Files) (config : Config) (done : ScanDone) (kept : Kept) (points : List Point) (has : HasPoints all config done kept points) where
   pub has-number : length points ≡ total done.counts
   has-number = ap length has.scan.points_are ∙ total_of_lists has.scan.lists done.counts has.scan.counts_are
