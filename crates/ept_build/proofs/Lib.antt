@@ -4,3 +4,5 @@ pub mod Apart
 pub mod Scanned
 pub mod Drawn
 pub mod Causes
+pub mod Judged
+pub mod Found

@@ -1,15 +1,17 @@
 //! What the two readings of the inputs find.
 
-ghost use Rattle.std.specs.Prelude.{◌≡◌, ◌⊎◌, ◌≤◌, List, Err, IsOk, IfOk, IfErr, length};
+ghost use Rattle.std.specs.Prelude.{◌≡◌, ◌⊎◌, ◌≤◌, List, Err, IsOk, IfOk, IfErr, length, All};
 ghost use Rattle.ept_base.specs.Causes.{HasCauseOf};
 ghost use Rattle.ept_base.specs.Files.{Tells};
 ghost use Rattle.ept_point.specs.declared.point.Point.{Point};
 ghost use Rattle.ept_space.specs.OctreeCube.{IsCube};
-ghost use Rattle.ept_space.specs.CubeOfBounds.{IsCubeOf};
+ghost use Rattle.ept_space.specs.CubeOfBounds.{IsCubeOf, HasPlace};
+ghost use Rattle.ept_scan.specs.Counts.{IsSound};
+ghost use Rattle.ept_scan.specs.Scans.{IsScan};
 ghost use Rattle.ept_config.specs.declared.kept.Kept as of;
 ghost use Rattle.ept_scan.specs.declared.scan_done.ScanDone as found;
 ghost use Rattle.ept_build.specs.Output.{rules_of};
-ghost use Rattle.ept_build.specs.Building.{HasPoints, node_count, IsReading, IsRefused, IsDefinite, Stops};
+ghost use Rattle.ept_build.specs.Building.{HasPoints, node_count, IsReading, IsInsertion, IsRefused, IsDefinite, Stops};
 ghost use Rattle.ept_build.specs.Octrees.{IsOctree};
 
 use crate::error::BuildError;
@@ -17,7 +19,7 @@ use crate::growing::grown_tree;
 use ept_base::Shelf;
 use ept_config::{Config, Kept, SourceCount};
 use ept_point::List;
-use ept_scan::{scan, total_of, whole_extent};
+use ept_scan::{ScanDone, scan, total_of, whole_extent};
 use ept_space::{Bounds, Cube, Rules};
 use ept_tree::Tree;
 use std::alloc::Global;
@@ -56,26 +58,44 @@ pub(crate) fn octree_of<H: Shelf>(
     ensures cause { HasCauseOf BuildError.SourceFault (H.faults shelf.old) (H.faults shelf.new) result }
 {
     let done = scan(alloc, shelf, config, 0, None)?;
+    inserted(alloc, config, shelf, done)
+}
+
+// Reads the inputs again, of which this was found, and answers the octree of their points.
+fn inserted<H: Shelf>(
+    alloc: Global,
+    config: &Config,
+    shelf: &mut H,
+    done: ScanDone,
+) -> Result<Octree, BuildError>
+    requires scanned { Tells (λ all. (points : List Point)
+        × IsScan all config.now.scale config.now.bounds config.now.inputs 0 points done) (H.files shelf.old) }
+    requires each { length done.counts ≡ length config.now.inputs }
+    requires sound { All (IsSound done.bounds) done.counts }
+    requires ordered { HasPlace done.bounds }
+    ensures octree { IfOk result (λ octree. Tells (λ all. IsOctree all config.now octree) (H.files shelf.old)) }
+    ensures each { IfOk result (λ octree. length octree.counts ≡ length octree.kept.inputs) }
+    ensures refused { IfErr result (λ e. Tells (λ all. IsRefused all config.now e) (H.files shelf.old)) }
+    ensures inserts { IfErr result IsInsertion }
+    ensures files { H.files shelf.new ≡ H.files shelf.old }
+    ensures cause { HasCauseOf BuildError.SourceFault (H.faults shelf.old) (H.faults shelf.new) result }
+{
     let kept = config.kept(alloc, &done.bounds)?;
     let rules = rules_of(&kept);
-    let points = total_of(done.counts.as_slice());
+    let counts = done.counts.as_slice();
+    let points = total_of(counts);
+    let extent = whole_extent(counts);
     let most = u64::from(config.max_nodes);
-    let tree = grown_tree(
-        alloc,
-        shelf,
-        &kept,
-        done.counts.as_slice(),
-        &rules,
-        points,
-        most,
-    )?;
-    Ok(Octree {
-        kept,
-        extent: whole_extent(done.counts.as_slice()),
-        counts: done.counts,
-        points,
-        tree,
-    })
+    match grown_tree(alloc, shelf, &kept, counts, &rules, points, most) {
+        Ok(tree) => Ok(Octree {
+            kept,
+            counts: done.counts,
+            points,
+            extent,
+            tree,
+        }),
+        Err(refused) => Err(refused),
+    }
 }
 
 // The rules of the sampling of what is kept.
