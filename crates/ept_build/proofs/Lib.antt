@@ -6,3 +6,4 @@ pub mod Drawn
 pub mod Causes
 pub mod Judged
 pub mod Found
+pub mod Built

@@ -1,0 +1,54 @@
+-- What a build leaves, and how its answers follow from those of the readings.
+use Rattle.std.proofs.Common.{◌≡◌, ◌∙◌, ℕ, ◌⊎◌, inl, inr, List, map, length, refl, sym, ap, subst, arith, Option, Some, None}
+use Rattle.std.specs.Prelude.{Result, Ok, Err, IsOk}
+use Rattle.std.proofs.lemmas.List.{length-map}
+use Rattle.ept_base.specs.Files.{Files, Tells, StepsBy}
+use Rattle.ept_sample.specs.declared.tiles.Tile.{Tile}
+use Rattle.ept_sample.specs.Nodes.{sampled}
+use Rattle.ept_config.specs.declared.config.Config.{Config}
+use Rattle.ept_config.specs.declared.source_count.SourceCount.{SourceCount}
+use Rattle.ept_tree.specs.Tree.{tile_of}
+use Rattle.ept_tree.specs.Grown.{nodes_of}
+use Rattle.ept_build.specs.declared.octree.Octree.{Octree}
+use Rattle.ept_build.specs.declared.summary.Summary.{Summary}
+use Rattle.ept_build.specs.declared.error.BuildError.{BuildError}
+use Rattle.ept_build.specs.Output.{rules_of, files_of, output, Gains, PutsAll}
+use Rattle.ept_build.specs.Building.{IsBuilt, Stops, Fails}
+use Rattle.ept_build.specs.Octrees.{IsOctree}
+use Rattle.ept_build.proofs.Putting.{puts-gain}
+use Rattle.ept_build.proofs.Apart.{output-apart}
+
+-- an octree is no refusal
+pub no-refusal : (o : Octree) (e : BuildError) → (◌≡◌ {A = Result Octree BuildError} (Ok o) (Err e)) ⊎ Stops {T = Octree} (Ok o) → ⊥
+no-refusal o e (inl is) = cc
+no-refusal o e (inr (inl is)) = cc
+no-refusal o e (inr (inr is)) = cc
+
+-- where the readings stop, the build fails
+pub stops-fails : (f : BuildError) (r : Result Summary BuildError) → r ≡ Err f → IsOk {T = Octree} {E = BuildError} (Err f) ⊎ Stops {T = Octree} (Err f) → IsOk r ⊎ Fails r
+stops-fails f r is (inl fine) = absurd (cc)
+stops-fails f r is (inr (inl source)) = inr (inr (inl (cc)))
+stops-fails f r is (inr (inr memory)) = inr (inr (inr (cc)))
+
+module _ (config : Config) (o : Octree) (nodes : ℕ) (nodes_are : nodes ≡ length (nodes_of o.tree)) (old new : Option Files) (put : StepsBy (PutsAll (files_of o.kept o.counts o.extent o.points (map tile_of (nodes_of o.tree)))) old new) where
+  built_at : (all : Files) → IsOctree all config o → IsBuilt all config (record { points = o.points; nodes = nodes }) old new
+  built_at all is =
+      let counts = subst (λ (w : List SourceCount). StepsBy (PutsAll (files_of o.kept w o.extent o.points (map tile_of (nodes_of o.tree)))) old new) is.counts_are put in
+      let tiles = subst (λ (w : List Tile). StepsBy (PutsAll (files_of o.kept is.done.counts o.extent o.points w)) old new) is.tiles counts in
+      let all_put : StepsBy (PutsAll (output o.kept is.done.counts o.extent is.points)) old new = subst (λ (n : ℕ). StepsBy (PutsAll (files_of o.kept is.done.counts o.extent n (sampled (rules_of o.kept) is.points))) old new) is.number tiles in
+      record {
+        done = is.done;
+        kept = o.kept;
+        points = is.points;
+        has_points = is.has_points;
+        few = is.few;
+        extent = o.extent;
+        has_extent = is.has_extent;
+        gains = puts-gain (output o.kept is.done.counts o.extent is.points) (output-apart (rules_of o.kept) is.points is.can o.kept is.done.counts o.extent (length is.points)) old new all_put;
+        points_are = is.number;
+        nodes_are = nodes_are ∙ (sym (length-map (nodes_of o.tree) tile_of) ∙ ap (λ (w : List Tile). length w) is.tiles);
+      }
+
+  pub built-told : (files : Option Files) → Tells (λ all. IsOctree all config o) files → Tells (λ all. IsBuilt all config (record { points = o.points; nodes = nodes }) old new) files
+  built-told None is = tt
+  built-told (Some all) is = built_at all is
