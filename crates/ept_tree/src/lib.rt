@@ -3,12 +3,12 @@
 #![tactic(auto)]
 
 mod arrival;
-mod octree;
 mod laws;
-mod tree_error;
+mod octree;
 #[cfg(test)]
 mod tests;
+mod tree_error;
 
-pub use octree::Tree;
 pub use laws::sampled_law;
+pub use octree::Tree;
 pub use tree_error::TreeError;

@@ -8,8 +8,10 @@ use Rattle.ept_tree.proofs.Inside.{sending-placed, sends-above}
 use Rattle.ept_tree.proofs.octree.Tree.arrive.Goals as goal
 
 pub send_on-requires : goal.send_on-requires
-send_on-requires c = record { above = λ o low some.
-    omega (arith, sends-above c.args.self.now.rules c.args.arrival.now.key c.land.new.self.leaving c.in_ok-land.ensures.landed.down o low some, c.known.ensures.cells_whole, c.known.ensures.side_high, c.known.ensures.span_low) }
+send_on-requires c = record {
+  above = λ o low some.
+      omega (arith, sends-above c.args.self.now.rules c.args.arrival.now.key c.land.new.self.leaving c.in_ok-land.ensures.landed.down o low some, c.known.ensures.cells_whole, c.known.ensures.side_high, c.known.ensures.span_low);
+}
 
 pub returns-clause-rest : goal.returns-clause-rest
 returns-clause-rest c =
