@@ -1,0 +1,142 @@
+//! The tree beside the slow sampling, and the bound on its nodes.
+
+use crate::{Tree, TreeError, sampled_law};
+use ept_num::lcg;
+use ept_point::Point;
+use ept_sample::{Tiles, are_in_cube, ids_ascend, sample};
+use ept_space::{Bounds, Cube, Rules};
+use std::alloc::{AllocError, Global};
+use std::test::Fail;
+
+/// A point of which only the number and the place matter.
+fn point(number: u32, place: [i32; 3]) -> Point {
+    Point {
+        x: place[0],
+        y: place[1],
+        z: place[2],
+        intensity: 0,
+        return_number: 1,
+        number_of_returns: 1,
+        scan_direction: 0,
+        edge: 0,
+        class: 0,
+        class_flags: 0,
+        channel: 0,
+        angle_rank: 0,
+        angle: 0,
+        user: 0,
+        source_id: 0,
+        gps: [0; 8],
+        red: 0,
+        green: 0,
+        blue: 0,
+        origin: 0,
+        number,
+    }
+}
+
+/// So many points by lot, each coordinate from 0 to 31.
+fn points_by_lot(alloc: Global, seed: u64, count: u32) -> Result<Vec<Point>, AllocError> {
+    let mut points = Vec::new(alloc);
+    let mut state = seed;
+    for number in 0..count {
+        let mut place = [0; 3];
+        for coordinate in place.iter_mut() {
+            state = lcg(state);
+            *coordinate = (state >> 33) as i32 & 31;
+        }
+        points.push(point(number, place))?;
+    }
+    Ok(points)
+}
+
+/// Whether the tree has the keys and the points of the tiles.
+fn is_same(alloc: Global, tree: &Tree, tiles: &Tiles) -> Result<bool, AllocError> {
+    let tiles = tiles.tiles.as_slice();
+    let mut index = 0;
+    for (key, node) in tree.nodes().iter() {
+        let mut points = Vec::new(alloc);
+        if node.points_into(&mut points).is_err() {
+            return Err(AllocError);
+        }
+        match tiles.get(index) {
+            Some(tile) if tile.key == *key && tile.points.as_slice() == points.as_slice() => {}
+            _ => return Ok(false),
+        }
+        index += 1;
+    }
+    Ok(index == tiles.len())
+}
+
+/// The rules of places from 0 to 31.
+fn rules(threshold: u64, s: u8, max_depth: u8) -> Option<Rules> {
+    let bounds = Bounds {
+        min: [0; 3],
+        max: [31; 3],
+    };
+    let cube = Cube::of(&bounds, s, max_depth)?;
+    Some(Rules { cube, threshold })
+}
+
+// The points come in two parts, and make the tree of all.
+#[test]
+fn the_tree_is_the_sampling(rt: HostRuntime) -> Result<(), Fail> {
+    let alloc = rt.alloc();
+    sampled_law();
+    for (seed, threshold, s, max_depth) in [
+        (1, 0, 1, 32),
+        (2, 0, 2, 32),
+        (3, 1, 1, 3),
+        (4, 3, 1, 32),
+        (5, 10, 2, 1),
+        (6, 40, 1, 32),
+        (7, 0, 5, 32),
+    ] {
+        let points = points_by_lot(alloc, seed, 300)?;
+        let Some(rules) = rules(threshold, s, max_depth) else {
+            assert!(rt; false);
+            return Ok(());
+        };
+        rules.cube.known();
+        assert!(rt; ids_ascend(&points));
+        assert!(rt; are_in_cube(&points, &rules.cube));
+        let (first, second) = points.split_at(100);
+        assert!(rt; are_in_cube(first, &rules.cube) && are_in_cube(second, &rules.cube));
+        let (Ok(mut tree), Ok(tiles)) = (Tree::new(alloc, &rules), sample(alloc, &points, &rules))
+        else {
+            return Ok(());
+        };
+        if tree.insert_all(first, 100_000).is_err() || tree.insert_all(second, 100_000).is_err() {
+            return Ok(());
+        }
+        assert!(rt; is_same(alloc, &tree, &tiles)?, "seed {seed}");
+    }
+    Ok(())
+}
+
+// Five points at one place, of which none may wait, make a node on each of three depths.
+#[test]
+fn no_more_nodes_are_made_than_there_may_be(rt: HostRuntime) -> Result<(), Fail> {
+    let alloc = rt.alloc();
+    for (most, is_built) in [(1, false), (2, false), (3, true), (4, true)] {
+        let Some(rules) = rules(0, 3, 32) else {
+            assert!(rt; false);
+            return Ok(());
+        };
+        rules.cube.known();
+        let mut points = Vec::new(alloc);
+        for number in 0..5 {
+            points.push(point(number, [1, 1, 1]))?;
+        }
+        assert!(rt; are_in_cube(&points, &rules.cube));
+        let Ok(mut tree) = Tree::new(alloc, &rules) else {
+            return Ok(());
+        };
+        match tree.insert_all(&points, most) {
+            Ok(()) => assert!(rt; is_built && tree.nodes().len() == 3, "{most}"),
+            Err(TreeError::TooManyNodes) => assert!(rt; !is_built, "{most}"),
+            Err(TreeError::Memory) => return Ok(()),
+        }
+    }
+    Ok(())
+}
