@@ -1,8 +1,8 @@
 -- What changed files read as.
-use Rattle.std.proofs.Common.{◌≡◌, ◌≢◌, ℕ, List, Option, Some, Bool, true, false, cond, refl, sym, ◌∙◌, ap, inl, inr, ◌⊎◌}
+use Rattle.std.proofs.Common.{◌≡◌, ◌≢◌, ℕ, List, Option, Bool, true, false, cond, refl, ap, inl, inr, ◌⊎◌}
 use Rattle.std.specs.Prelude.{bytes_eq}
 use Rattle.std.proofs.lemmas.Slice.Eq.{bytes_eq-Decides}
-use Rattle.ept_base.specs.Files.{Files, changed, SameBut}
+use Rattle.ept_base.specs.Files.{Files, changed}
 
 bytes_eq_true : (xs ys : List ℕ) → xs ≡ ys → bytes_eq xs ys ≡ true
 bytes_eq_true xs ys same = (bytes_eq-Decides xs ys).1 same

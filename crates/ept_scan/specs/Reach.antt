@@ -39,7 +39,7 @@ ReadsNoFurther reading None left = ⊤
 ReadsNoFurther reading (Some file) None = ⊤
 ReadsNoFurther reading (Some file) (Some left) = IsWithinRecords reading file left
 
--- so many bytes may be read of a file: those that may belong to a header, or those up to its last record, if it states one
+-- so many bytes may be read of a file: those that may belong to a header, or those up to the last record that an accepted header states
 abbrev pub IsReach : Reading → List ℕ → ℕ → Type 0
 IsReach reading file most =
     (most ≤ HEAD_LENGTH)
