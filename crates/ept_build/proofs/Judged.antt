@@ -71,11 +71,11 @@ module _ (all : Files) (config : Config) {T : Type 0} (r : Result T BuildError) 
     | of_fault same ↦ inr (inl (is ∙ ap (λ (g : ScanError). Err (of_scan g)) same))
     | of_want same ↦ inr (inr (is ∙ ap (λ (g : ScanError). Err (of_scan g)) same))
     | of_cause blamed ↦ elim (reason all config e definite because) [
-        | by_scan h blames refused_h same ↦
-            let one : f ≡ h = blames (f ≡ h) (blamed (Blames h (f ≡ h)) (one_refusal all config.scale config.bounds config.inputs 0 f h refused refused_h)) in
-            inl (is ∙ (ap (λ (g : ScanError). Err (of_scan g)) one ∙ ap (λ (b : BuildError). Err b) (sym same)))
-        | by_nodes too same ↦ absurd (blamed ⊥ (scan_or_refusal all config.scale config.bounds config.inputs 0 too.points too.done f too.has_points.scan refused))
-      ]
+      | by_scan h blames refused_h same ↦
+          let one : f ≡ h = blames (f ≡ h) (blamed (Blames h (f ≡ h)) (one_refusal all config.scale config.bounds config.inputs 0 f h refused refused_h)) in
+          inl (is ∙ (ap (λ (g : ScanError). Err (of_scan g)) one ∙ ap (λ (b : BuildError). Err b) (sym same)))
+      | by_nodes too same ↦ absurd (blamed ⊥ (scan_or_refusal all config.scale config.bounds config.inputs 0 too.points too.done f too.has_points.scan refused))
+    ]
   ]
 
   pub scan-accepted : (done : ScanDone) (kept : Kept) (points : List Point) → HasPoints all config done kept points → IsOk r ⊎ Stops r
@@ -132,18 +132,18 @@ module _ (all : Files) (config : Config) {T : Type 0} (r : Result T BuildError) 
   insertion-comes e definite because = elim (stops_or_many all config f inserts refused) [
     | inl same ↦ inr (inl (is ∙ ap (λ (b : BuildError). Err b) same))
     | inr more ↦ elim more [
-        | inl same ↦ inr (inr (is ∙ ap (λ (b : BuildError). Err b) same))
-        | inr too ↦
-            let only = only-many all config too.1.done too.1.kept too.1.points too.1.has_points e definite because in
-            inl (is ∙ ap (λ (b : BuildError). Err b) (too.0 ∙ sym only.0))
-      ]
+      | inl same ↦ inr (inr (is ∙ ap (λ (b : BuildError). Err b) same))
+      | inr too ↦
+          let only = only-many all config too.1.done too.1.kept too.1.points too.1.has_points e definite because in
+          inl (is ∙ ap (λ (b : BuildError). Err b) (too.0 ∙ sym only.0))
+    ]
   ]
 
   pub insertion-accepted : (done : ScanDone) (kept : Kept) (points : List Point) → HasPoints all config done kept points → node_count kept points ≤ config.max_nodes → IsOk r ⊎ Stops r
   insertion-accepted done kept points has few = elim (stops_or_many all config f inserts refused) [
     | inl same ↦ inr (inl (is ∙ ap (λ (b : BuildError). Err b) same))
     | inr more ↦ elim more [
-        | inl same ↦ inr (inr (is ∙ ap (λ (b : BuildError). Err b) same))
-        | inr too ↦ absurd (omega (arith, few, too.1.many, nodes-once all config done kept points has too.1.done too.1.kept too.1.points too.1.has_points))
-      ]
+      | inl same ↦ inr (inr (is ∙ ap (λ (b : BuildError). Err b) same))
+      | inr too ↦ absurd (omega (arith, few, too.1.many, nodes-once all config done kept points has too.1.done too.1.kept too.1.points too.1.has_points))
+    ]
   ]

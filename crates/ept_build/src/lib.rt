@@ -11,6 +11,8 @@ mod names;
 mod octree;
 mod publishing;
 mod summary;
+#[cfg(test)]
+mod tests;
 
 pub use building::build;
 pub use error::BuildError;

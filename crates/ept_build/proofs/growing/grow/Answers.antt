@@ -37,13 +37,13 @@ loop-batch-preserved g c =
       counts = omega (arith, next.drawn, next.left, i.invariant.counts);
       files = next.files ∙ i.invariant.files;
       taken = λ all rest can. (
-        let t = i.invariant.taken all rest can in
-        let left = t.0 in
-        let drawn = next.rest left t.1 in
-        let front : left ≡ c.deref.result.now ++ drop k left = batch-front c.clear.new.self.items c.deref.result.now left k c.clear.ensures.items (c.deref.ensures.value ∙ drawn.0) in
-        let some = next.points in
-        let size : length (drop k left) + k ≡ length left = batch-left c.clear.new.self.items c.deref.result.now left some.0 k c.clear.ensures.items (c.deref.ensures.value ∙ some.1) some.2 (c.deref.ensures.value ∙ drawn.0) in
-        (drop k left, drawn.1, c.in_ok-insert_all.ensures.taken all (drop k left) (subst (λ (w : List Point). HasTaken all w i.grown) front t.2), omega (arith, size, t.3, next.drawn)));
+          let t = i.invariant.taken all rest can in
+          let left = t.0 in
+          let drawn = next.rest left t.1 in
+          let front : left ≡ c.deref.result.now ++ drop k left = batch-front c.clear.new.self.items c.deref.result.now left k c.clear.ensures.items (c.deref.ensures.value ∙ drawn.0) in
+          let some = next.points in
+          let size : length (drop k left) + k ≡ length left = batch-left c.clear.new.self.items c.deref.result.now left some.0 k c.clear.ensures.items (c.deref.ensures.value ∙ some.1) some.2 (c.deref.ensures.value ∙ drawn.0) in
+          (drop k left, drawn.1, c.in_ok-insert_all.ensures.taken all (drop k left) (subst (λ (w : List Point). HasTaken all w i.grown) front t.2), omega (arith, size, t.3, next.drawn)));
     }
 
 pub returns-in_err-next_batch-clause-unchanged : goal.returns-in_err-next_batch-clause-unchanged

@@ -36,16 +36,16 @@ returns-clause-ok g c =
     let o = c.args.octree.now in
     let files = g.T.Store.files in
     let first : StepsBy (PutsAll (map tile_file (map tile_of (nodes_of o.tree)))) (files c.args.store.now) (files c.put_tiles.new.store) =
-        subst (λ (w : List Branch). StepsBy (PutsAll (map tile_file (map tile_of w))) (files c.args.store.now) (files c.put_tiles.new.store)) c.nodes-2.ensures.nodes c.in_ok-put_tiles.ensures.ok in
+    subst (λ (w : List Branch). StepsBy (PutsAll (map tile_file (map tile_of w))) (files c.args.store.now) (files c.put_tiles.new.store)) c.nodes-2.ensures.nodes c.in_ok-put_tiles.ensures.ok in
     let hierarchy_is : c.deref.result.now ≡ hierarchy o.kept.step (map counted (map tile_of (nodes_of o.tree))) =
-        c.deref.ensures.value ∙ (c.in-Ok.ensures.hierarchy ∙ ap (λ (w : List Branch). hierarchy o.kept.step (map counted (map tile_of w))) c.nodes.ensures.nodes) in
+    c.deref.ensures.value ∙ (c.in-Ok.ensures.hierarchy ∙ ap (λ (w : List Branch). hierarchy o.kept.step (map counted (map tile_of w))) c.nodes.ensures.nodes) in
     let second : StepsBy (PutsAll (map hierarchy_file (hierarchy o.kept.step (map counted (map tile_of (nodes_of o.tree)))))) (files c.put_tiles.new.store) (files c.put_hierarchy.new.store) =
-        subst (λ (w : List HierFile). StepsBy (PutsAll (map hierarchy_file w)) (files c.put_tiles.new.store) (files c.put_hierarchy.new.store)) hierarchy_is c.in_ok-put_hierarchy.ensures.ok in
+    subst (λ (w : List HierFile). StepsBy (PutsAll (map hierarchy_file w)) (files c.put_tiles.new.store) (files c.put_hierarchy.new.store)) hierarchy_is c.in_ok-put_hierarchy.ensures.ok in
     let metadata : List ℕ = ept_text o.kept o.extent o.points in
     let third : StepsBy (PutsAll ((METADATA.now, metadata) ∷ (MANIFEST.now, manifest_text o.kept o.counts) ∷ (BUILD_FILE.now, build_text o.kept) ∷ [])) (files c.put_hierarchy.new.store) (files c.put_texts.new.store) =
-        subst (λ (w : List ℕ). StepsBy (PutsAll ((METADATA.now, w) ∷ (MANIFEST.now, manifest_text o.kept o.counts) ∷ (BUILD_FILE.now, build_text o.kept) ∷ [])) (files c.put_hierarchy.new.store) (files c.put_texts.new.store)) c.in-Ok.ensures.metadata
-        (subst (λ (w : List ℕ). StepsBy (PutsAll ((METADATA.now, c.in-Ok.texts.metadata.items) ∷ (MANIFEST.now, w) ∷ (BUILD_FILE.now, build_text o.kept) ∷ [])) (files c.put_hierarchy.new.store) (files c.put_texts.new.store)) c.in-Ok.ensures.manifest
-        (subst (λ (w : List ℕ). StepsBy (PutsAll ((METADATA.now, c.in-Ok.texts.metadata.items) ∷ (MANIFEST.now, c.in-Ok.texts.manifest.items) ∷ (BUILD_FILE.now, w) ∷ [])) (files c.put_hierarchy.new.store) (files c.put_texts.new.store)) c.in-Ok.ensures.build_file c.in_ok-put_texts.ensures.ok)) in
+    subst (λ (w : List ℕ). StepsBy (PutsAll ((METADATA.now, w) ∷ (MANIFEST.now, manifest_text o.kept o.counts) ∷ (BUILD_FILE.now, build_text o.kept) ∷ [])) (files c.put_hierarchy.new.store) (files c.put_texts.new.store)) c.in-Ok.ensures.metadata
+    (subst (λ (w : List ℕ). StepsBy (PutsAll ((METADATA.now, c.in-Ok.texts.metadata.items) ∷ (MANIFEST.now, w) ∷ (BUILD_FILE.now, build_text o.kept) ∷ [])) (files c.put_hierarchy.new.store) (files c.put_texts.new.store)) c.in-Ok.ensures.manifest
+    (subst (λ (w : List ℕ). StepsBy (PutsAll ((METADATA.now, c.in-Ok.texts.metadata.items) ∷ (MANIFEST.now, c.in-Ok.texts.manifest.items) ∷ (BUILD_FILE.now, w) ∷ [])) (files c.put_hierarchy.new.store) (files c.put_texts.new.store)) c.in-Ok.ensures.build_file c.in_ok-put_texts.ensures.ok)) in
     any-ok c.sync.result _
     (puts-kept (files_of o.kept o.counts o.extent o.points (map tile_of (nodes_of o.tree))) (files c.args.store.now) (files c.put_texts.new.store) (files c.sync.new.self)
     (puts-both (map tile_file (map tile_of (nodes_of o.tree)) ++ map hierarchy_file (hierarchy o.kept.step (map counted (map tile_of (nodes_of o.tree))))) _ (files c.args.store.now) (files c.put_hierarchy.new.store) (files c.put_texts.new.store)
