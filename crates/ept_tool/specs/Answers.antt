@@ -1,56 +1,119 @@
 -- What a run answers, and what it leaves.
-use Rattle.std.specs.Prelude.{◌≡◌, ◌⊎◌, ℕ, Option, List, length}
+use Rattle.std.specs.Prelude.{◌≡◌, ◌⊎◌, ℕ, Option, List, Vec, Result, Ok, Err, ⊤}
 use Rattle.std.specs.Io.KnownBytes.{Appends}
-use Rattle.ept_base.specs.Files.{Files, StepsBy}
-use Rattle.ept_base.specs.Moves.{IsSettled}
-use Rattle.ept_point.specs.declared.point.Point.{Point}
-use Rattle.ept_space.specs.declared.cube.Rules.{Rules}
-use Rattle.ept_sample.specs.Nodes.{sampled}
-use Rattle.ept_tool.specs.declared.status.TheConstants.{OK, USAGE, BAD_SCAN, DEVICE, MEMORY, NOT_BUILT}
-use Rattle.ept_tool.specs.declared.extent.Extent.{Extent}
-use Rattle.ept_tool.specs.Words.{IsBuild}
-use Rattle.ept_tool.specs.Extents.{IsExtentOf}
-use Rattle.ept_tool.specs.Texts.{summary_text}
-use Rattle.ept_tool.specs.Inputs.{HasOtherForm, HasBadScan, HasPoints}
-use Rattle.ept_tool.specs.Output.{Publishes}
-
--- one of the six statuses
-abbrev pub IsStatus : ℕ → Type 0
-IsStatus status = (status ≡ OK) ⊎ (status ≡ USAGE) ⊎ (status ≡ BAD_SCAN) ⊎ (status ≡ DEVICE) ⊎ (status ≡ MEMORY) ⊎ (status ≡ NOT_BUILT)
+use Rattle.std.specs.declared.alloc.Global.{Global}
+use Rattle.ept_base.specs.Devices.{AppendsPrefix}
+use Rattle.ept_base.specs.Files.{Files, Tells}
+use Rattle.ept_las.specs.declared.header.Header.{Header}
+use Rattle.ept_tool.specs.declared.status.TheConstants.{OK, DEVICE, MEMORY}
+use Rattle.ept_tool.specs.declared.refusal.Refusal.{Refusal}
+use Rattle.ept_tool.specs.declared.refusal.Refusal.TheVariants.{Usage, BadConfiguration, BadLas, OutOfBounds, NoBounds, SourceChanged, TooManyPoints, TooManyNodes, SourceFault, StoreFault, Memory}
+use Rattle.ept_tool.specs.Words.{IsBuild, IsInfo, IsUsage}
+use Rattle.ept_tool.specs.Lines.{summary_text, header_text, status_of, line_of}
+use Rattle.ept_tool.specs.Requests.{HasBuilt, HasTold, BuildIsRefused, InfoIsRefused, IsLate}
 
 -- this status, if no device failed and memory sufficed
 abbrev pub Yields : ℕ → ℕ → Type 0
 Yields wanted status = (status ≡ wanted) ⊎ (status ≡ DEVICE) ⊎ (status ≡ MEMORY)
 
--- a status of a refusal before anything was put
-abbrev pub IsEarly : ℕ → Type 0
-IsEarly status = (status ≡ USAGE) ⊎ (status ≡ BAD_SCAN) ⊎ (status ≡ NOT_BUILT)
+-- ---- what the words ask for
 
--- the words are a build whose configuration, or whose scan, has another form
-pub record AsksOtherForm (words : List (List ℕ)) (files : Files) : Type 0 where
-  pub config : List ℕ
+-- a build of the configuration of some path, of which this holds
+pub record AsksBuild (words : List (List ℕ)) (Fact : List ℕ → Type 0) : Type 0 where
+  pub path : List ℕ
   pub out : List ℕ
-  pub words_are : IsBuild words config out
-  pub other : HasOtherForm files config
+  pub words_are : IsBuild words path out
+  pub holds : Fact path
 
--- the words are a build of a scan that has a bad record
-pub record AsksBadScan (words : List (List ℕ)) (files : Files) : Type 0 where
-  pub config : List ℕ
-  pub out : List ℕ
-  pub words_are : IsBuild words config out
-  pub bad : HasBadScan files config
+-- what is known of the LAS file of some path, of which this holds
+pub record AsksInfo (words : List (List ℕ)) (Fact : List ℕ → Type 0) : Type 0 where
+  pub path : List ℕ
+  pub words_are : IsInfo words path
+  pub holds : Fact path
 
--- the words are a build, with this threshold and this greatest depth, of a scan that has these points
-pub record AsksPoints (words : List (List ℕ)) (files : Files) (threshold max_depth : ℕ) (points : List Point) : Type 0 where
-  pub config : List ℕ
-  pub out : List ℕ
-  pub words_are : IsBuild words config out
-  pub has : HasPoints files config threshold max_depth points
+-- ---- what is done
 
--- The store has gained the sampling of these points, and nothing else changed; all of it is stable; and the sink has gained the summary.
-pub record LeavesOctree (rules : Rules) (points : List Point) (old new : Option Files) (images : Files → Type 0) (said_old said_new : Option (List ℕ)) : Type 0 where
-  pub extent : Extent
-  pub extent_is : IsExtentOf points extent
-  pub files : StepsBy (Publishes (sampled rules points) extent (length points)) old new
-  pub settled : IsSettled new images
-  pub said : Appends said_old said_new (summary_text (length points) (length (sampled rules points)))
+-- the line that a command ends with, whatever the files are
+abbrev pub IsAnswer : List (List ℕ) → List ℕ → Type 0
+IsAnswer words line =
+    AsksBuild words (λ _. (points : ℕ) × (nodes : ℕ) × (line ≡ summary_text points nodes))
+    ⊎ AsksInfo words (λ _. (header : Header) × (line ≡ header_text header))
+
+-- a build has put its output into the store, or a LAS file has a header; and this is the line that tells it
+abbrev pub IsDone : List (List ℕ) → Files → List ℕ → Option Files → Option Files → Type 0
+IsDone words files line old new =
+    AsksBuild words (λ path. HasBuilt files path line old new) ⊎ AsksInfo words (λ path. HasTold files path line)
+
+-- A command is carried out, and so much of its line is said.
+pub record Ends (words : List (List ℕ)) (files : Option Files) (old new : Option Files)
+    (Said : List ℕ → Type 0) : Type 0 where
+  pub line : List ℕ
+  pub is_answer : IsAnswer words line
+  pub done : Tells (λ all. IsDone words all line old new) files
+  pub said : Said line
+
+-- ---- refusals
+
+-- the words, or the files that they name, are refused for this cause
+abbrev pub IsRefused : List (List ℕ) → Files → Refusal → Type 0
+IsRefused words files r =
+    ((r ≡ Usage) × IsUsage words)
+    ⊎ AsksBuild words (λ path. BuildIsRefused files path r) ⊎ AsksInfo words (λ path. InfoIsRefused files path r)
+
+-- the count of a device rose, where the refusal is that device's fault: of the shelf, or of the store
+abbrev pub HasRisen : Refusal → Type 0 → Type 0 → Type 0
+HasRisen SourceFault shelf store = shelf
+HasRisen StoreFault shelf store = store
+HasRisen Usage shelf store = ⊤
+HasRisen (BadConfiguration e) shelf store = ⊤
+HasRisen (BadLas source fault) shelf store = ⊤
+HasRisen (OutOfBounds source number) shelf store = ⊤
+HasRisen NoBounds shelf store = ⊤
+HasRisen (SourceChanged source number) shelf store = ⊤
+HasRisen (TooManyPoints source) shelf store = ⊤
+HasRisen TooManyNodes shelf store = ⊤
+HasRisen Memory shelf store = ⊤
+
+-- the sink has gained this line, or, where it failed, a prefix of it
+abbrev pub Says : List ℕ → Option (List ℕ) → Option (List ℕ) → Type 0 → Type 0
+Says line old new failed = Appends old new line ⊎ (failed × AppendsPrefix old new line)
+
+-- a refusal is told by its line and its status; where memory doesn't suffice for that, want of memory is told
+pub record IsTold (r : Refusal) (status : ℕ) (old new : Option (List ℕ)) (failed : Type 0) : Type 0 where
+  pub told : Refusal
+  pub told_is : (told ≡ r) ⊎ (told ≡ Memory)
+  pub status_is : status_of told ≡ status
+  pub says : Says (line_of told) old new failed
+
+-- the line of a command that is carried out is said, or the sink failed at it
+abbrev pub IsSaid : List ℕ → ℕ → Option (List ℕ) → Option (List ℕ) → Type 0 → Type 0
+IsSaid line status old new failed = ((status ≡ OK) × Appends old new line)
+    ⊎ ((status ≡ DEVICE) × failed × AppendsPrefix old new line)
+
+-- how a command ends that has this line, or is refused
+abbrev pub EndsWith : Result (Vec ℕ Global) Refusal → ℕ → Option (List ℕ) → Option (List ℕ)
+    → Type 0 → Type 0
+EndsWith (Ok line) status old new failed = IsSaid line.items status old new failed
+EndsWith (Err r) status old new failed = IsTold r status old new failed
+
+-- A run is refused for a cause: its status and its line; of the shelf, the store and the sink, whether the count rose; and where the store stays as it was.
+pub record Refuses (words : List (List ℕ)) (files : Option Files) (status : ℕ) (shelf store out : Type 0)
+    (old new : Option (List ℕ)) (same : Type 0) : Type 0 where
+  pub cause : Refusal
+  pub status_is : status_of cause ≡ status
+  pub has_cause : Tells (λ all. IsRefused words all cause) files
+  pub risen : HasRisen cause shelf store
+  pub says : Says (line_of cause) old new out
+  pub untouched : (IsLate cause → ⊥) → same
+
+-- A command is carried out, and its line is cut where the sink failed.
+pub record IsCut (words : List (List ℕ)) (files : Option Files) (status : ℕ) (old new : Option Files)
+    (failed : Type 0) (said_old said_new : Option (List ℕ)) : Type 0 where
+  pub status_is : status ≡ DEVICE
+  pub risen : failed
+  pub ends : Ends words files old new (AppendsPrefix said_old said_new)
+
+-- this refusal is told, if no device failed and memory sufficed
+abbrev pub YieldsRefusal : Refusal → ℕ → Option (List ℕ) → Option (List ℕ) → Type 0 → Type 0
+YieldsRefusal r status old new failed =
+    ((status ≡ status_of r) × Says (line_of r) old new failed) ⊎ (status ≡ DEVICE) ⊎ (status ≡ MEMORY)

@@ -1,13 +1,5 @@
 pub mod Words
-pub mod Configuration
-pub mod Extents
-pub mod Texts
-pub mod Output
-pub mod Scan
-pub mod Records
-pub mod ScanIs
-pub mod StageRules
-pub mod Inputs
-pub mod Sending
-pub mod Tree
+pub mod Errors
+pub mod Lines
+pub mod Requests
 pub mod Answers

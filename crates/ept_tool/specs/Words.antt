@@ -1,7 +1,12 @@
 -- What the words of a command line ask for.
-use Rattle.std.specs.Prelude.{◌≡◌, ◌≢◌, ◌⊎◌, ℕ, List, [], ◌∷◌, codes}
+use Rattle.std.specs.Prelude.{◌≡◌, ◌≢◌, ◌⊎◌, ℕ, List, [], ◌∷◌, String, map, string_bytes, codes}
+use Rattle.std.specs.declared.alloc.Global.{Global}
 use Rattle.ept_tool.specs.declared.words.Command.{Command}
-use Rattle.ept_tool.specs.declared.words.Command.TheVariants.{Build, Later, Usage}
+use Rattle.ept_tool.specs.declared.words.Command.TheVariants.{Build, Info, Later, Usage}
+
+-- words as lists of bytes
+abbrev pub bytes_of : List (String Global) → List (List ℕ)
+bytes_of words = map string_bytes words
 
 -- `build`, the path of a configuration and the path of a folder
 pub record IsBuild (words : List (List ℕ)) (config out : List ℕ) : Type 0 where
@@ -9,9 +14,14 @@ pub record IsBuild (words : List (List ℕ)) (config out : List ℕ) : Type 0 wh
   pub config_is : config ≢ []
   pub out_is : out ≢ []
 
+-- `info` and the path of a LAS file
+pub record IsInfo (words : List (List ℕ)) (las : List ℕ) : Type 0 where
+  pub words_are : words ≡ codes "info" ∷ las ∷ []
+  pub las_is : las ≢ []
+
 -- the name of a command that this program doesn't carry out
 abbrev pub NamesLater : List ℕ → Type 0
-NamesLater first = (first ≡ codes "query") ⊎ (first ≡ codes "info") ⊎ (first ≡ codes "trial")
+NamesLater first = (first ≡ codes "query") ⊎ (first ≡ codes "trial")
 
 -- the first word is such a name
 pub record IsLater (words : List (List ℕ)) : Type 0 where
@@ -23,10 +33,12 @@ pub record IsLater (words : List (List ℕ)) : Type 0 where
 -- the words are none of these
 pub record IsUsage (words : List (List ℕ)) : Type 0 where
   pub not_build : (config out : List ℕ) → ¬ IsBuild words config out
+  pub not_info : (las : List ℕ) → ¬ IsInfo words las
   pub not_later : ¬ IsLater words
 
 -- the command that the words are
 abbrev pub IsCommand : List (List ℕ) → Command → Type 0
 IsCommand words (Build config out) = IsBuild words config.now out.now
+IsCommand words (Info las) = IsInfo words las.now
 IsCommand words Later = IsLater words
 IsCommand words Usage = IsUsage words

@@ -1,72 +1,91 @@
-ghost use Rattle.std.specs.Prelude.{◌≡◌, ◌≢◌, ◌⊎◌, ◌≤◌, ◌↔◌, ℕ, List, length, map, string_bytes};
+//! A run of the program.
+
+ghost use Rattle.std.specs.Prelude.{◌≡◌, ◌≢◌, ◌⊎◌, ◌↔◌, ℕ, List};
+ghost use Rattle.std.specs.Io.KnownBytes.{Appends};
 ghost use Rattle.ept_base.specs.Causes.{Rose};
 ghost use Rattle.ept_base.specs.Files.{Tells};
-ghost use Rattle.ept_base.specs.Moves.{Moves};
-ghost use Rattle.ept_base.specs.Devices.{AppendsPrefix};
-ghost use Rattle.ept_point.specs.declared.point.Point.{Point};
-ghost use Rattle.ept_tool.specs.Words.{IsUsage, IsLater};
-ghost use Rattle.ept_tool.specs.Texts.{summary_text};
-ghost use Rattle.ept_tool.specs.StageRules.{rules_for};
-ghost use Rattle.ept_tool.specs.Output.{SameButOctree};
-ghost use Rattle.ept_tool.specs.Answers.{IsStatus, Yields, IsEarly, AsksOtherForm, AsksBadScan, AsksPoints, LeavesOctree};
+ghost use Rattle.ept_base.specs.Moves.{Moves, IsSettled};
+ghost use Rattle.ept_las.specs.declared.header.Header as found;
+ghost use Rattle.ept_build.specs.Output.{SameButOutput};
+ghost use Rattle.ept_tool.specs.declared.refusal.Refusal as cause;
+ghost use Rattle.ept_tool.specs.Words.{bytes_of, IsBuild, IsInfo, IsUsage, IsLater};
+ghost use Rattle.ept_tool.specs.Requests.{HasFewNodes, HasHeader, IsDefinite};
+ghost use Rattle.ept_tool.specs.Answers.{Yields, YieldsRefusal, AsksBuild, AsksInfo, Ends, IsRefused, Refuses, IsCut};
 
-use crate::build::build;
-use crate::status::{BAD_SCAN, DEVICE, MEMORY, NOT_BUILT, OK, USAGE};
+use crate::answers::{finish, refuse_usage};
+use crate::commands::{build_line, info_line};
+use crate::status::{DEVICE, NOT_BUILT, OK, USAGE};
 use crate::words::{Command, command_of};
 use ept_base::{Gate, Room, Shelf, Sink, Store};
 use std::alloc::Global;
 
-/// Carries out the command that the words are, over these devices, and answers the status with which
-/// the program ends. The words are those behind the program's name.
+/// Carries out the command that the words are, over these devices, and answers the status with which the
+/// program ends. The words are those behind the program's name.
 ///
-/// `build CONFIG OUT` reads the configuration and the scan that it names from the shelf, puts the
-/// octree of the scan's points into the store, and writes one line to the sink.
+/// `build CONFIG OUT` reads the configuration from the shelf, and the LAS files that it names, puts the octree
+/// of their points into the store, and writes how many points and nodes it has to the sink. `info LAS` reads
+/// the header of a LAS file from the shelf and writes what it says to the sink. A refusal is one line on the
+/// sink, except that of a command that this program doesn't carry out, which writes nothing.
 pub fn run<H: Shelf, T: Store, R: Room, O: Sink, G: Gate + Sync>(
     alloc: Global,
     words: &[String],
     shelf: &mut H,
     store: &mut T,
-    _room: &mut R,
+    room: &mut R,
     out: &mut O,
-    _gate: &G,
+    gate: &G,
 ) -> u8
 where
     H::Source: Send,
     R::File: Send,
-    ensures statuses { IsStatus result }
+    // Words that are no command, and nothing else, are faulty; a later command, and nothing else, is refused as such.
+    ensures usage { (result ≡ USAGE) ↔ IsUsage (bytes_of words.now) }
+    ensures later { (result ≡ NOT_BUILT) ↔ IsLater (bytes_of words.now) }
 
-    // Words that are no command, and nothing else, are faulty.
-    ensures usage { (result ≡ USAGE) ↔ IsUsage (map string_bytes words.now) }
+    // What is done.
+    ensures done { result ≡ OK
+        → Ends (bytes_of words.now) (H.files shelf.old) (T.files store.old) (T.files store.new)
+        (Appends (O.written out.old) (O.written out.new)) }
+    ensures settled { (config folder : List ℕ) → IsBuild (bytes_of words.now) config folder
+        → result ≡ OK → IsSettled (T.files store.new) (T.may_leave store.new) }
+    ensures build_comes { Tells (λ all. AsksBuild (bytes_of words.now) (HasFewNodes all) → Yields OK result)
+        (H.files shelf.old) }
+    ensures info_comes { Tells (λ all. (header : found.Header)
+        → AsksInfo (bytes_of words.now) (λ path. HasHeader all path header) → Yields OK result)
+        (H.files shelf.old) }
 
-    // A later command, and another form of the configuration or of the scan, is refused as such.
-    ensures later { IsLater (map string_bytes words.now) → result ≡ NOT_BUILT }
-    ensures not_built { result ≡ NOT_BUILT → IsLater (map string_bytes words.now)
-        ⊎ Tells (AsksOtherForm (map string_bytes words.now)) (H.files shelf.old) }
-    ensures not_built_comes { Tells (λ all. AsksOtherForm (map string_bytes words.now) all → Yields NOT_BUILT result) (H.files shelf.old) }
-
-    // So is a scan with a bad record.
-    ensures bad_scan { result ≡ BAD_SCAN → Tells (AsksBadScan (map string_bytes words.now)) (H.files shelf.old) }
-    ensures bad_scan_comes { Tells (λ all. AsksBadScan (map string_bytes words.now) all → Yields BAD_SCAN result) (H.files shelf.old) }
-
-    // Every other scan is built.
-    ensures built { result ≡ OK → (threshold max_depth : ℕ) × (points : List Point) × Tells (λ all. AsksPoints (map string_bytes words.now) all threshold max_depth points) (H.files shelf.old)
-        × LeavesOctree (rules_for threshold max_depth) points (T.files store.old) (T.files store.new) (T.may_leave store.new) (O.written out.old) (O.written out.new) }
-    ensures built_comes { Tells (λ all. (threshold max_depth : ℕ) (points : List Point) → AsksPoints (map string_bytes words.now) all threshold max_depth points → Yields OK result) (H.files shelf.old) }
-
-    // A fault is told only where the count of a device rose.
+    // Each refusal has its cause and its line, but where the line of a command that is carried out is cut.
+    ensures refused { result ≢ OK → result ≢ NOT_BUILT
+        → Refuses (bytes_of words.now) (H.files shelf.old) result
+        (Rose (H.faults shelf.old) (H.faults shelf.new)) (Rose (T.faults store.old) (T.faults store.new))
+        (Rose (O.faults out.old) (O.faults out.new)) (O.written out.old) (O.written out.new)
+        (store.new ≡ store.old)
+        ⊎ IsCut (bytes_of words.now) (H.files shelf.old) result (T.files store.old) (T.files store.new)
+        (Rose (O.faults out.old) (O.faults out.new)) (O.written out.old) (O.written out.new) }
+    ensures refusal_comes { Tells (λ all. (r : cause.Refusal) → IsDefinite r
+        → IsRefused (bytes_of words.now) all r
+        → YieldsRefusal r result (O.written out.old) (O.written out.new)
+        (Rose (O.faults out.old) (O.faults out.new))) (H.files shelf.old) }
     ensures fault { result ≡ DEVICE → Rose (H.faults shelf.old) (H.faults shelf.new)
         ⊎ Rose (T.faults store.old) (T.faults store.new) ⊎ Rose (O.faults out.old) (O.faults out.new) }
 
     // What stays as it was.
-    ensures untouched { IsEarly result → store.new ≡ store.old }
-    ensures any_moment { Moves T.files T.may_leave T.moment T.image_since SameButOctree store.old store.new }
-    ensures quiet { result ≢ OK → result ≢ DEVICE → out.new ≡ out.old }
-    ensures said { result ≡ DEVICE → (count : ℕ) × (nodes : ℕ) × AppendsPrefix (O.written out.old) (O.written out.new) (summary_text count nodes) }
-    ensures room { _room.new ≡ _room.old }
+    ensures silent { result ≡ NOT_BUILT → (out.new ≡ out.old) × (store.new ≡ store.old) }
+    ensures info_puts_nothing { (las : List ℕ) → IsInfo (bytes_of words.now) las → store.new ≡ store.old }
+    ensures any_moment { Moves T.files T.may_leave T.moment T.image_since SameButOutput store.old store.new }
+    ensures files { H.files shelf.new ≡ H.files shelf.old }
+    ensures room { room.new ≡ room.old }
 {
     match command_of(words) {
-        Command::Build { config, .. } => build(alloc, config, shelf, store, out),
+        Command::Build { config, .. } => {
+            let line = build_line(alloc, config, shelf, store, room, gate);
+            finish(alloc, out, line)
+        }
+        Command::Info { las } => {
+            let line = info_line(alloc, shelf, las);
+            finish(alloc, out, line)
+        }
         Command::Later => NOT_BUILT,
-        Command::Usage => USAGE,
+        Command::Usage => refuse_usage(out),
     }
 }

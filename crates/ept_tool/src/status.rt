@@ -6,8 +6,14 @@ pub const OK: u8 = 0;
 /// The words are no command.
 pub const USAGE: u8 = 2;
 
-/// A record of the scan ends past the file, or has a place outside the bounds.
+/// The configuration is refused.
+pub const BAD_CONFIGURATION: u8 = 3;
+
+/// A LAS file is refused, or the points of the inputs have no bounds or lie outside of them.
 pub const BAD_SCAN: u8 = 4;
+
+/// There are more points, or more nodes, than there may be.
+pub const TOO_MANY: u8 = 5;
 
 /// A device failed: the shelf, the store or the sink.
 pub const DEVICE: u8 = 7;
@@ -15,5 +21,5 @@ pub const DEVICE: u8 = 7;
 /// There was no memory.
 pub const MEMORY: u8 = 9;
 
-/// The command, the configuration or the scan is of a form that this program doesn't carry out.
+/// The command is one that this program doesn't carry out.
 pub const NOT_BUILT: u8 = 10;

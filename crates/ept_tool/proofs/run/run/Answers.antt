@@ -1,30 +1,98 @@
-use Rattle.std.specs.Prelude.{map, string_bytes}
-use Rattle.ept_tool.proofs.Answering.{not_built_comes, bad_scan_comes, built_comes, asks_points, no_build_bad, no_build_points}
+use Rattle.std.proofs.Common.{◌≡◌, map, string_bytes, refl}
+use Rattle.ept_base.specs.Causes.{Rose}
+use Rattle.ept_tool.specs.Requests.{HasFewNodes, HasHeader}
+use Rattle.ept_tool.specs.Answers.{AsksBuild, AsksInfo, IsRefused}
+use Rattle.ept_tool.proofs.Runs.{Carries, never_usage, never_later, is_done, has_risen, is_refused, refusal_yields, done_yields, info_yields, usage_comes, usage_yields}
+use Rattle.ept_tool.proofs.Asked.{build_or_info, build_carries, build_accepted, info_carries, info_accepted}
+use Rattle.ept_tool.proofs.run.run.Given as given
 use Rattle.ept_tool.proofs.run.run.Goals as goal
 
-pub returns-in-Build-clause-not_built_comes : goal.returns-in-Build-clause-not_built_comes
-returns-in-Build-clause-not_built_comes g c =
-    not_built_comes (map string_bytes c.args.words.now) c.in-Build.config.now c.in-Build.out.now c.in-Build.ensures c.build.result c.build.ensures.statuses (g.H.Shelf.files c.args.shelf.now) c.build.ensures.other c.build.ensures.bad
-    (λ ok. ((c.build.ensures.built ok).0, (c.build.ensures.built ok).1, (c.build.ensures.built ok).2, (c.build.ensures.built ok).3))
+-- ---- build
 
-pub returns-in-Build-clause-bad_scan_comes : goal.returns-in-Build-clause-bad_scan_comes
-returns-in-Build-clause-bad_scan_comes g c =
-    bad_scan_comes (map string_bytes c.args.words.now) c.in-Build.config.now c.in-Build.out.now c.in-Build.ensures c.build.result c.build.ensures.statuses (g.H.Shelf.files c.args.shelf.now) c.build.ensures.other c.build.ensures.bad
-    (λ ok. ((c.build.ensures.built ok).0, (c.build.ensures.built ok).1, (c.build.ensures.built ok).2, (c.build.ensures.built ok).3))
+build_known : (g : given.Over) (c : goal.After-finish g) → Carries (map string_bytes c.args.words.now) (g.H.Shelf.files c.args.shelf.now) (g.T.Store.files c.args.store.now) (g.T.Store.files c.build_line-line.new.store) (Rose (g.H.Shelf.faults c.args.shelf.now) (g.H.Shelf.faults c.build_line-line.new.shelf)) (Rose (g.T.Store.faults c.args.store.now) (g.T.Store.faults c.build_line-line.new.store)) (c.build_line-line.new.store ≡ c.args.store.now) c.build_line-line.result
+build_known g c =
+    build_carries (map string_bytes c.args.words.now) c.in-Build.config.now c.in-Build.out.now c.in-Build.ensures c.build_line-line.result (g.H.Shelf.files c.args.shelf.now) (g.T.Store.files c.args.store.now) (g.T.Store.files c.build_line-line.new.store) (Rose (g.H.Shelf.faults c.args.shelf.now) (g.H.Shelf.faults c.build_line-line.new.shelf)) (Rose (g.T.Store.faults c.args.store.now) (g.T.Store.faults c.build_line-line.new.store)) (c.build_line-line.new.store ≡ c.args.store.now)
+    c.build_line-line.ensures.said c.build_line-line.ensures.built c.build_line-line.ensures.causes c.build_line-line.ensures.refused c.build_line-line.ensures.sources.failed c.build_line-line.ensures.stores.failed
+    c.build_line-line.ensures.untouched c.build_line-line.ensures.refusal_comes
 
-pub returns-in-Build-clause-built_comes : goal.returns-in-Build-clause-built_comes
-returns-in-Build-clause-built_comes g c =
-    built_comes (map string_bytes c.args.words.now) c.in-Build.config.now c.in-Build.out.now c.in-Build.ensures c.build.result c.build.ensures.statuses (g.H.Shelf.files c.args.shelf.now) c.build.ensures.other c.build.ensures.bad
-    (λ ok. ((c.build.ensures.built ok).0, (c.build.ensures.built ok).1, (c.build.ensures.built ok).2, (c.build.ensures.built ok).3))
+pub returns-in-Build-clause-usage : goal.returns-in-Build-clause-usage
+returns-in-Build-clause-usage g c = (
+  λ is. absurd (never_usage c.finish.result (g.O.Sink.written c.args.out.now) (g.O.Sink.written c.finish.new.out) (Rose (g.O.Sink.faults c.args.out.now) (g.O.Sink.faults c.finish.new.out)) c.build_line-line.result (build_known g c).named c.finish.ensures is),
+  λ usage. absurd (usage.not_build c.in-Build.config.now c.in-Build.out.now c.in-Build.ensures),
+)
 
-pub returns-in-Usage-clause-bad_scan_comes : goal.returns-in-Usage-clause-bad_scan_comes
-returns-in-Usage-clause-bad_scan_comes g c = no_build_bad (map string_bytes c.args.words.now) (g.H.Shelf.files c.args.shelf.now) 2 c.in-Usage.ensures.not_build
+pub returns-in-Build-clause-done : goal.returns-in-Build-clause-done
+returns-in-Build-clause-done g c =
+    is_done c.finish.result (g.O.Sink.written c.args.out.now) (g.O.Sink.written c.finish.new.out) (Rose (g.O.Sink.faults c.args.out.now) (g.O.Sink.faults c.finish.new.out)) (map string_bytes c.args.words.now) (g.H.Shelf.files c.args.shelf.now) (g.T.Store.files c.args.store.now) (g.T.Store.files c.build_line-line.new.store) (Rose (g.H.Shelf.faults c.args.shelf.now) (g.H.Shelf.faults c.build_line-line.new.shelf)) (Rose (g.T.Store.faults c.args.store.now) (g.T.Store.faults c.build_line-line.new.store)) (c.build_line-line.new.store ≡ c.args.store.now) c.build_line-line.result (build_known g c) c.finish.ensures
 
-pub returns-in-Usage-clause-built_comes : goal.returns-in-Usage-clause-built_comes
-returns-in-Usage-clause-built_comes g c = no_build_points (map string_bytes c.args.words.now) (g.H.Shelf.files c.args.shelf.now) 2 c.in-Usage.ensures.not_build
+pub returns-in-Build-clause-refused : goal.returns-in-Build-clause-refused
+returns-in-Build-clause-refused g c = λ not_ok not_later.
+    is_refused c.finish.result (g.O.Sink.written c.args.out.now) (g.O.Sink.written c.finish.new.out) (Rose (g.O.Sink.faults c.args.out.now) (g.O.Sink.faults c.finish.new.out)) (map string_bytes c.args.words.now) (g.H.Shelf.files c.args.shelf.now) (g.T.Store.files c.args.store.now) (g.T.Store.files c.build_line-line.new.store) (Rose (g.H.Shelf.faults c.args.shelf.now) (g.H.Shelf.faults c.build_line-line.new.shelf)) (Rose (g.T.Store.faults c.args.store.now) (g.T.Store.faults c.build_line-line.new.store)) (c.build_line-line.new.store ≡ c.args.store.now) c.build_line-line.result (build_known g c) c.finish.ensures not_ok
 
-pub returns-in-Build-clause-built : goal.returns-in-Build-clause-built
-returns-in-Build-clause-built g c = λ ok.
-    let built = c.build.ensures.built ok in
-    let asks = asks_points (map string_bytes c.args.words.now) c.in-Build.config.now c.in-Build.out.now (g.H.Shelf.files c.args.shelf.now) built.0 built.1 built.2 c.in-Build.ensures built.3 in
-    (built.0, built.1, built.2, asks, built.4)
+pub returns-in-Build-clause-fault : goal.returns-in-Build-clause-fault
+returns-in-Build-clause-fault g c =
+    has_risen c.finish.result (g.O.Sink.written c.args.out.now) (g.O.Sink.written c.finish.new.out) (Rose (g.O.Sink.faults c.args.out.now) (g.O.Sink.faults c.finish.new.out)) (map string_bytes c.args.words.now) (g.H.Shelf.files c.args.shelf.now) (g.T.Store.files c.args.store.now) (g.T.Store.files c.build_line-line.new.store) (Rose (g.H.Shelf.faults c.args.shelf.now) (g.H.Shelf.faults c.build_line-line.new.shelf)) (Rose (g.T.Store.faults c.args.store.now) (g.T.Store.faults c.build_line-line.new.store)) (c.build_line-line.new.store ≡ c.args.store.now) c.build_line-line.result (build_known g c) c.finish.ensures
+
+pub returns-in-Build-clause-refusal_comes : goal.returns-in-Build-clause-refusal_comes
+returns-in-Build-clause-refusal_comes g c =
+    refusal_yields c.finish.result (g.O.Sink.written c.args.out.now) (g.O.Sink.written c.finish.new.out) (Rose (g.O.Sink.faults c.args.out.now) (g.O.Sink.faults c.finish.new.out)) c.build_line-line.result (g.H.Shelf.files c.args.shelf.now) (λ all r. IsRefused (map string_bytes c.args.words.now) all r) c.finish.ensures (build_known g c).comes
+
+pub returns-in-Build-clause-silent : goal.returns-in-Build-clause-silent
+returns-in-Build-clause-silent g c = λ is. absurd (never_later c.finish.result (g.O.Sink.written c.args.out.now) (g.O.Sink.written c.finish.new.out) (Rose (g.O.Sink.faults c.args.out.now) (g.O.Sink.faults c.finish.new.out)) c.build_line-line.result c.finish.ensures is)
+
+pub returns-in-Build-clause-build_comes : goal.returns-in-Build-clause-build_comes
+returns-in-Build-clause-build_comes g c =
+    done_yields c.finish.result (g.O.Sink.written c.args.out.now) (g.O.Sink.written c.finish.new.out) (Rose (g.O.Sink.faults c.args.out.now) (g.O.Sink.faults c.finish.new.out)) c.build_line-line.result (g.H.Shelf.files c.args.shelf.now) (λ all. AsksBuild (map string_bytes c.args.words.now) (HasFewNodes all)) c.finish.ensures
+    (build_accepted (map string_bytes c.args.words.now) c.in-Build.config.now c.in-Build.out.now c.in-Build.ensures c.build_line-line.result (g.H.Shelf.files c.args.shelf.now) c.build_line-line.ensures.accepted)
+
+-- ---- info
+
+info_known : (g : given.Over) (c : goal.After-finish-in-Info g) → Carries (map string_bytes c.args.words.now) (g.H.Shelf.files c.args.shelf.now) (g.T.Store.files c.args.store.now) (g.T.Store.files c.args.store.now) (Rose (g.H.Shelf.faults c.args.shelf.now) (g.H.Shelf.faults c.info_line-line.new.shelf)) (Rose (g.T.Store.faults c.args.store.now) (g.T.Store.faults c.args.store.now)) (c.args.store.now ≡ c.args.store.now) c.info_line-line.result
+info_known g c =
+    info_carries (map string_bytes c.args.words.now) c.in-Info.las.now c.in-Info.ensures c.info_line-line.result (g.H.Shelf.files c.args.shelf.now) (g.T.Store.files c.args.store.now) (g.T.Store.files c.args.store.now) (Rose (g.H.Shelf.faults c.args.shelf.now) (g.H.Shelf.faults c.info_line-line.new.shelf)) (Rose (g.T.Store.faults c.args.store.now) (g.T.Store.faults c.args.store.now)) (c.args.store.now ≡ c.args.store.now) refl
+    c.info_line-line.ensures.said c.info_line-line.ensures.told c.info_line-line.ensures.causes c.info_line-line.ensures.refused c.info_line-line.ensures.sources.failed c.info_line-line.ensures.refusal_comes
+
+pub returns-in-Info-clause-usage : goal.returns-in-Info-clause-usage
+returns-in-Info-clause-usage g c = (
+  λ is. absurd (never_usage c.finish-in-Info.result (g.O.Sink.written c.args.out.now) (g.O.Sink.written c.finish-in-Info.new.out) (Rose (g.O.Sink.faults c.args.out.now) (g.O.Sink.faults c.finish-in-Info.new.out)) c.info_line-line.result (info_known g c).named c.finish-in-Info.ensures is),
+  λ usage. absurd (usage.not_info c.in-Info.las.now c.in-Info.ensures),
+)
+
+pub returns-in-Info-clause-done : goal.returns-in-Info-clause-done
+returns-in-Info-clause-done g c =
+    is_done c.finish-in-Info.result (g.O.Sink.written c.args.out.now) (g.O.Sink.written c.finish-in-Info.new.out) (Rose (g.O.Sink.faults c.args.out.now) (g.O.Sink.faults c.finish-in-Info.new.out)) (map string_bytes c.args.words.now) (g.H.Shelf.files c.args.shelf.now) (g.T.Store.files c.args.store.now) (g.T.Store.files c.args.store.now) (Rose (g.H.Shelf.faults c.args.shelf.now) (g.H.Shelf.faults c.info_line-line.new.shelf)) (Rose (g.T.Store.faults c.args.store.now) (g.T.Store.faults c.args.store.now)) (c.args.store.now ≡ c.args.store.now) c.info_line-line.result (info_known g c) c.finish-in-Info.ensures
+
+pub returns-in-Info-clause-refused : goal.returns-in-Info-clause-refused
+returns-in-Info-clause-refused g c = λ not_ok not_later.
+    is_refused c.finish-in-Info.result (g.O.Sink.written c.args.out.now) (g.O.Sink.written c.finish-in-Info.new.out) (Rose (g.O.Sink.faults c.args.out.now) (g.O.Sink.faults c.finish-in-Info.new.out)) (map string_bytes c.args.words.now) (g.H.Shelf.files c.args.shelf.now) (g.T.Store.files c.args.store.now) (g.T.Store.files c.args.store.now) (Rose (g.H.Shelf.faults c.args.shelf.now) (g.H.Shelf.faults c.info_line-line.new.shelf)) (Rose (g.T.Store.faults c.args.store.now) (g.T.Store.faults c.args.store.now)) (c.args.store.now ≡ c.args.store.now) c.info_line-line.result (info_known g c) c.finish-in-Info.ensures not_ok
+
+pub returns-in-Info-clause-fault : goal.returns-in-Info-clause-fault
+returns-in-Info-clause-fault g c =
+    has_risen c.finish-in-Info.result (g.O.Sink.written c.args.out.now) (g.O.Sink.written c.finish-in-Info.new.out) (Rose (g.O.Sink.faults c.args.out.now) (g.O.Sink.faults c.finish-in-Info.new.out)) (map string_bytes c.args.words.now) (g.H.Shelf.files c.args.shelf.now) (g.T.Store.files c.args.store.now) (g.T.Store.files c.args.store.now) (Rose (g.H.Shelf.faults c.args.shelf.now) (g.H.Shelf.faults c.info_line-line.new.shelf)) (Rose (g.T.Store.faults c.args.store.now) (g.T.Store.faults c.args.store.now)) (c.args.store.now ≡ c.args.store.now) c.info_line-line.result (info_known g c) c.finish-in-Info.ensures
+
+pub returns-in-Info-clause-refusal_comes : goal.returns-in-Info-clause-refusal_comes
+returns-in-Info-clause-refusal_comes g c =
+    refusal_yields c.finish-in-Info.result (g.O.Sink.written c.args.out.now) (g.O.Sink.written c.finish-in-Info.new.out) (Rose (g.O.Sink.faults c.args.out.now) (g.O.Sink.faults c.finish-in-Info.new.out)) c.info_line-line.result (g.H.Shelf.files c.args.shelf.now) (λ all r. IsRefused (map string_bytes c.args.words.now) all r) c.finish-in-Info.ensures (info_known g c).comes
+
+pub returns-in-Info-clause-silent : goal.returns-in-Info-clause-silent
+returns-in-Info-clause-silent g c = λ is. absurd (never_later c.finish-in-Info.result (g.O.Sink.written c.args.out.now) (g.O.Sink.written c.finish-in-Info.new.out) (Rose (g.O.Sink.faults c.args.out.now) (g.O.Sink.faults c.finish-in-Info.new.out)) c.info_line-line.result c.finish-in-Info.ensures is)
+
+pub returns-in-Info-clause-info_comes : goal.returns-in-Info-clause-info_comes
+returns-in-Info-clause-info_comes g c =
+    info_yields c.finish-in-Info.result (g.O.Sink.written c.args.out.now) (g.O.Sink.written c.finish-in-Info.new.out) (Rose (g.O.Sink.faults c.args.out.now) (g.O.Sink.faults c.finish-in-Info.new.out)) c.info_line-line.result (g.H.Shelf.files c.args.shelf.now) (λ all header. AsksInfo (map string_bytes c.args.words.now) (λ path. HasHeader all path header)) c.finish-in-Info.ensures
+    (info_accepted (map string_bytes c.args.words.now) c.in-Info.las.now c.in-Info.ensures c.info_line-line.result (g.H.Shelf.files c.args.shelf.now) c.info_line-line.ensures.accepted)
+
+-- ---- words that are no command
+
+pub returns-in-Usage-clause-build_comes : goal.returns-in-Usage-clause-build_comes
+returns-in-Usage-clause-build_comes g c = usage_comes (g.H.Shelf.files c.args.shelf.now) (map string_bytes c.args.words.now) (λ all. HasFewNodes all) c.refuse_usage.result c.in-Usage.ensures
+
+pub returns-in-Usage-clause-refusal_comes : goal.returns-in-Usage-clause-refusal_comes
+returns-in-Usage-clause-refusal_comes g c =
+    usage_yields (g.H.Shelf.files c.args.shelf.now) (map string_bytes c.args.words.now) c.refuse_usage.result (g.O.Sink.written c.args.out.now) (g.O.Sink.written c.refuse_usage.new.out)
+    (Rose (g.O.Sink.faults c.args.out.now) (g.O.Sink.faults c.refuse_usage.new.out)) c.in-Usage.ensures c.refuse_usage.ensures.status c.refuse_usage.ensures.says
+
+-- ---- what stays as it was
+
+pub returns-in-Build-clause-info_puts_nothing : goal.returns-in-Build-clause-info_puts_nothing
+returns-in-Build-clause-info_puts_nothing g c = λ las is. absurd (build_or_info (map string_bytes c.args.words.now) c.in-Build.config.now c.in-Build.out.now las c.in-Build.ensures is)

@@ -1,0 +1,280 @@
+//! Builds over devices in memory: their lines, and what they leave in the store.
+
+use crate::run::run;
+use crate::tests::{
+    Answer, BUILD, CONFIGURATION, Failing, Given, Shelved, at, compare, expect, expect_text, las,
+    many, may_lack_memory, spaced, store_of, texts,
+};
+use ept_base::{Failed, GetError, OpenGate, Shelf, Source};
+use ept_mem::{MemRoom, MemSink};
+use std::alloc::{AllocError, Global};
+use std::process::Abort;
+use std::test::Fail;
+
+/// Builds a configuration of these scans, and compares the answer. Where it is refused, nothing is put.
+fn expect_build(
+    rt: &impl Abort,
+    alloc: Global,
+    configuration: &str,
+    a: &[u8],
+    b: &[u8],
+    want: (u8, &str),
+) -> Result<(), AllocError> {
+    let given = Given {
+        words: BUILD,
+        shelved: Shelved {
+            configuration: configuration.as_bytes(),
+            a,
+            b,
+        },
+        failing: Failing::Nothing,
+    };
+    expect(rt, alloc, given, want, want.0 == 0)
+}
+
+#[test]
+fn a_configuration_may_be_long(rt: HostRuntime) -> Result<(), Fail> {
+    let alloc = rt.alloc();
+    if expect_long(&rt, alloc).is_err() {
+        expect_long(&rt, alloc)?;
+    }
+    Ok(())
+}
+
+// The configuration is accepted, and its input is on no shelf.
+fn expect_long(rt: &impl Abort, alloc: Global) -> Result<(), AllocError> {
+    for length in [65_535, 65_536, 65_537, 16_777_216] {
+        let text = spaced(alloc, length)?;
+        expect_text(rt, alloc, &text, (7, "error 7 source\n"))?;
+    }
+    Ok(())
+}
+
+#[test]
+fn each_scan_has_its_line(rt: HostRuntime) -> Result<(), Fail> {
+    let alloc = rt.alloc();
+    if expect_scans(&rt, alloc).is_err() {
+        expect_scans(&rt, alloc)?;
+    }
+    Ok(())
+}
+
+fn expect_scans(rt: &impl Abort, alloc: Global) -> Result<(), AllocError> {
+    let none = las(alloc, 0, &[])?;
+    let outside = las(alloc, 2, &[at(7, 7, 7), at(8, 0, 0)])?;
+    let mut cut = las(alloc, 3, &[at(1, 1, 1), at(2, 2, 2), at(3, 3, 3)])?;
+    cut.truncate(286);
+    let stated = many(alloc)?;
+    let unbounded = "{\"input\":\"a.las\",\"scale\":2,\"span\":2}";
+    for (configuration, scan, want) in [
+        (CONFIGURATION, &none, (0, "points 0 nodes 1\n")),
+        (
+            CONFIGURATION,
+            &outside,
+            (4, "error 4 bounds source 0 number 1\n"),
+        ),
+        (
+            CONFIGURATION,
+            &cut,
+            (4, "error 4 las 10 source 0 number 2\n"),
+        ),
+        (unbounded, &none, (4, "error 4 nobounds\n")),
+        (CONFIGURATION, &stated, (5, "error 5 points source 0\n")),
+    ] {
+        expect_build(rt, alloc, configuration, scan, b"", want)?;
+    }
+    Ok(())
+}
+
+#[test]
+fn each_octree_has_its_number_of_nodes(rt: HostRuntime) -> Result<(), Fail> {
+    let alloc = rt.alloc();
+    if expect_nodes(&rt, alloc).is_err() {
+        expect_nodes(&rt, alloc)?;
+    }
+    Ok(())
+}
+
+// The same place five times: with two cells an axis in 8 stored units, the third node is at the greatest
+// depth, where all stay.
+fn expect_nodes(rt: &impl Abort, alloc: Global) -> Result<(), AllocError> {
+    let five = las(alloc, 5, &[at(1, 1, 1); 5])?;
+    let three = las(alloc, 1, &[at(3, 3, 3)])?;
+    let one = las(alloc, 1, &[at(1, 1, 1)])?;
+    expect_build(
+        rt,
+        alloc,
+        "{\"input\":\"a.las\",\"scale\":2,\"bounds\":[0,0,0,7,7,7],\"span\":2,\
+\"minNodeSize\":0,\"maxNodes\":2}",
+        &five,
+        b"",
+        (5, "error 5 nodes\n"),
+    )?;
+    expect_build(
+        rt,
+        alloc,
+        "{\"input\":\"a.las\",\"scale\":2,\"bounds\":[0,0,0,7,7,7],\"span\":2,\
+\"minNodeSize\":0,\"maxNodes\":3}",
+        &five,
+        b"",
+        (0, "points 5 nodes 3\n"),
+    )?;
+    expect_build(
+        rt,
+        alloc,
+        "{\"input\":[\"a.las\",\"b.las\"],\"scale\":2,\"bounds\":[0,0,0,7,7,7],\"span\":2,\"minNodeSize\":0}",
+        &three,
+        &one,
+        (0, "points 2 nodes 2\n"),
+    )
+}
+
+#[test]
+fn each_call_that_fails_is_told(rt: HostRuntime) -> Result<(), Fail> {
+    let alloc = rt.alloc();
+    if expect_faults(&rt, alloc).is_err() {
+        expect_faults(&rt, alloc)?;
+    }
+    Ok(())
+}
+
+// The configuration is opened, and the scan for each of two readings. The sink takes four bytes at a time.
+fn expect_faults(rt: &impl Abort, alloc: Global) -> Result<(), AllocError> {
+    let scan = las(alloc, 1, &[at(1, 2, 3)])?;
+    let shelved = Shelved {
+        configuration: CONFIGURATION.as_bytes(),
+        a: &scan,
+        b: b"",
+    };
+    for (failing, want, is_complete) in [
+        (Failing::Open(0), (7, "error 7 source\n"), false),
+        (Failing::Open(1), (7, "error 7 source\n"), false),
+        (Failing::Open(2), (7, "error 7 source\n"), false),
+        (Failing::Open(3), (0, "points 1 nodes 1\n"), true),
+        (Failing::Read(0), (7, "error 7 source\n"), false),
+        (Failing::Read(1), (7, "error 7 source\n"), false),
+        (Failing::StoreCall(0), (7, "error 7 store\n"), false),
+        (Failing::Write(0), (7, ""), true),
+        (Failing::Write(1), (7, "poin"), true),
+        (Failing::Write(4), (7, "points 1 nodes 1"), true),
+        (Failing::Write(5), (0, "points 1 nodes 1\n"), true),
+    ] {
+        let given = Given {
+            words: BUILD,
+            shelved,
+            failing,
+        };
+        expect(rt, alloc, given, want, is_complete)?;
+    }
+    Ok(())
+}
+
+/// A source in memory that never fails.
+#[derive(Drop)]
+struct SureSource {
+    bytes: Vec<u8>,
+    place: usize,
+}
+
+impl Source for SureSource {
+    ghost use Rattle.std.specs.Prelude.{None};
+
+    ghost whole = { λ _. None };
+
+    ghost left = { λ _. None };
+
+    ghost faults = { λ _. 0 };
+
+    fn read(&mut self, into: &mut [u8]) -> Result<usize, Failed> {
+        let place = self.place.min(self.bytes.len());
+        let left = &self.bytes[place..];
+        let count = left.len().min(into.len());
+        into[..count].copy_from_slice(&left[..count]);
+        self.place = place + count;
+        Ok(count)
+    }
+
+    fn rewind(&mut self) -> Result<(), Failed> {
+        self.place = 0;
+        Ok(())
+    }
+}
+
+/// A shelf whose one scan is another at its second opening.
+#[derive(Drop)]
+struct ChangingShelf {
+    alloc: Global,
+    first: Vec<u8>,
+    later: Vec<u8>,
+    is_opened: bool,
+}
+
+impl Shelf for ChangingShelf {
+    type Source = SureSource;
+
+    ghost use Rattle.std.specs.Prelude.{None};
+
+    ghost files = { λ _. None };
+
+    ghost faults = { λ _. 0 };
+
+    fn open(&mut self, path: &str) -> Result<SureSource, GetError> {
+        let bytes = if path == "a.json" {
+            Vec::from_slice(self.alloc, CONFIGURATION.as_bytes())?
+        } else if self.is_opened {
+            Vec::from_slice(self.alloc, &self.later)?
+        } else {
+            self.is_opened = true;
+            Vec::from_slice(self.alloc, &self.first)?
+        };
+        Ok(SureSource { bytes, place: 0 })
+    }
+
+    fn retire(&mut self, _source: SureSource) {}
+}
+
+/// Builds a scan that is another at its second reading.
+fn carry_out_changing(alloc: Global, first: &[u8], later: &[u8]) -> Result<Answer, AllocError> {
+    let words = texts(alloc, BUILD)?;
+    let mut shelf = ChangingShelf {
+        alloc,
+        first: Vec::from_slice(alloc, first)?,
+        later: Vec::from_slice(alloc, later)?,
+        is_opened: false,
+    };
+    let mut store = store_of(alloc, Vec::new(alloc))?;
+    let mut room = MemRoom::new(alloc, Vec::new(alloc), Vec::new(alloc));
+    let mut out = MemSink::new(alloc, 4, Vec::new(alloc));
+    let status = run(
+        alloc, &words, &mut shelf, &mut store, &mut room, &mut out, &OpenGate,
+    );
+    Ok(Answer { status, store, out })
+}
+
+#[test]
+fn a_scan_that_changes_is_refused(rt: HostRuntime) -> Result<(), Fail> {
+    let alloc = rt.alloc();
+    if expect_changed(&rt, alloc).is_err() {
+        expect_changed(&rt, alloc)?;
+    }
+    Ok(())
+}
+
+fn expect_changed(rt: &impl Abort, alloc: Global) -> Result<(), AllocError> {
+    let two = las(alloc, 2, &[at(1, 1, 1), at(2, 2, 2)])?;
+    let mut cut = las(alloc, 2, &[at(1, 1, 1), at(2, 2, 2)])?;
+    cut.truncate(266);
+    let fewer = las(alloc, 1, &[at(1, 1, 1), at(2, 2, 2)])?;
+    for (later, want) in [
+        (&two, (0, "points 2 nodes 1\n")),
+        (&cut, (4, "error 4 changed source 0 number 1\n")),
+        (&fewer, (4, "error 4 changed source 0 number 0\n")),
+    ] {
+        let mut found = carry_out_changing(alloc, &two, later)?;
+        if may_lack_memory(&found, want) {
+            found = carry_out_changing(alloc, &two, later)?;
+        }
+        compare(rt, &found, want, want.0 == 0);
+    }
+    Ok(())
+}
