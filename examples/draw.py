@@ -3,7 +3,7 @@
 
 Usage: examples/draw.py OUT PICTURE.svg
 
-It reads `ept.json`, the hierarchy file of the root and the tiles themselves, and knows nothing else
+It reads `ept.json`, the hierarchy files from the root's on and the tiles themselves, and knows nothing else
 of how the folder was made. A panel shows the points of one depth, seen from above one corner.
 """
 
@@ -30,17 +30,26 @@ def point_format(schema):
     return struct.Struct(text), [names.index(n) for n in "XYZ"]
 
 
+def read_hierarchy(folder, key="0-0-0-0"):
+    """The count of each node; -1 leads to the file of that key."""
+    for name, count in json.loads((folder / f"ept-hierarchy/{key}.json").read_text()).items():
+        if count == -1:
+            yield from read_hierarchy(folder, name)
+        else:
+            yield name, count
+
+
 def read_points(folder):
     """The points of each depth, as native coordinates."""
     ept = json.loads((folder / "ept.json").read_text())
-    hierarchy = json.loads((folder / "ept-hierarchy/0-0-0-0.json").read_text())
     form, places = point_format(ept["schema"])
     scales = [ept["schema"][i]["scale"] for i in range(3)]
+    offsets = [ept["schema"][i]["offset"] for i in range(3)]
     depths = {}
-    for key, count in hierarchy.items():
+    for key, count in read_hierarchy(folder):
         tile = (folder / "ept-data" / (key + ".bin")).read_bytes()
         points = [
-            [p[i] * s for i, s in zip(places, scales)] for p in form.iter_unpack(tile)
+            [p[i] * s + o for i, s, o in zip(places, scales, offsets)] for p in form.iter_unpack(tile)
         ]
         assert len(points) == count, f"{key}: {len(points)} points, {count} in the hierarchy"
         depths.setdefault(int(key.split("-")[0]), []).append((key, points))
