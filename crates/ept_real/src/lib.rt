@@ -1,0 +1,20 @@
+//! The outside world over the real machine: the shelf that opens files by their paths and the sources
+//! that it opens, a store in a folder, and a sink over a writer.
+//!
+//! What they hold is not told: clauses on contents say nothing of them. Each keeps its counts, of
+//! faults, of bytes given and of gets, in 64 bits, and a count stands still at its last value.
+#![tactic(auto)]
+
+mod shelf;
+mod sink;
+mod source;
+mod store;
+mod unsynced;
+
+pub use shelf::RealShelf;
+pub use sink::RealSink;
+pub use source::RealSource;
+pub use store::RealStore;
+
+#[cfg(test)]
+mod tests;
