@@ -96,7 +96,7 @@ abbrev pub EndsWith : Result (Vec ℕ Global) Refusal → ℕ → Option (List �
 EndsWith (Ok line) status old new failed = IsSaid line.items status old new failed
 EndsWith (Err r) status old new failed = IsTold r status old new failed
 
--- A run is refused for a cause: its status and its line; of the shelf, the store and the sink, whether the count rose; and where the store stays as it was.
+-- A run is refused for a cause, with its status and its line: the device that it names has failed (shelf, store and out say that the count of that one rose), and the store stays as it was but after a late cause (same).
 pub record Refuses (words : List (List ℕ)) (files : Option Files) (status : ℕ) (shelf store out : Type 0)
     (old new : Option (List ℕ)) (same : Type 0) : Type 0 where
   pub cause : Refusal

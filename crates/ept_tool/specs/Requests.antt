@@ -68,7 +68,7 @@ pub record HasBuilt (files : Files) (path line : List ℕ) (old new : Option Fil
   pub built : IsBuiltAt files path summary old new
   pub line_is : line ≡ summary_text summary.points summary.nodes
 
--- why a build of the configuration of this path is refused; faults of devices and want of memory say nothing of the files
+-- why a build of the configuration of this path is refused; device faults and want of memory say nothing of files
 abbrev pub BuildIsRefused : Files → List ℕ → Refusal → Type 0
 BuildIsRefused files path Usage = ⊥
 BuildIsRefused files path (BadConfiguration error) = HasBadConfiguration files path error

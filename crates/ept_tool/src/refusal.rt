@@ -6,7 +6,7 @@ use ept_build::BuildError;
 use ept_config::ConfigError;
 use ept_las::LasError;
 use ept_point::PointNumber;
-use std::alloc::{AllocError, AllocFailed};
+use std::alloc::AllocError;
 
 /// Why the words, or the files that they name, are refused. The inputs of a build are numbered from 0, and
 /// so are the records of an input.

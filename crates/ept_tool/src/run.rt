@@ -22,10 +22,10 @@ use std::alloc::Global;
 /// Carries out the command that the words are, over these devices, and answers the status with which the
 /// program ends. The words are those behind the program's name.
 ///
-/// `build CONFIG OUT` reads the configuration from the shelf, and the LAS files that it names, puts the octree
-/// of their points into the store, and writes how many points and nodes it has to the sink. `info LAS` reads
-/// the header of a LAS file from the shelf and writes what it says to the sink. A refusal is one line on the
-/// sink, except that of a command that this program doesn't carry out, which writes nothing.
+/// `build CONFIG OUT` reads the configuration from the shelf, and the LAS files that it names, puts the
+/// octree of their points into the store, and writes how many points and nodes it has to the sink. `info LAS`
+/// reads the header of a LAS file from the shelf and writes what it says to the sink. A refusal is one line on
+/// the sink, except that of a command that this program doesn't carry out, which writes nothing.
 pub fn run<H: Shelf, T: Store, R: Room, O: Sink, G: Gate + Sync>(
     alloc: Global,
     words: &[String],
@@ -38,7 +38,7 @@ pub fn run<H: Shelf, T: Store, R: Room, O: Sink, G: Gate + Sync>(
 where
     H::Source: Send,
     R::File: Send,
-    // Words that are no command, and nothing else, are faulty; a later command, and nothing else, is refused as such.
+    // Words that are no command, and nothing else, are faulty; a later command, and nothing else, is put off.
     ensures usage { (result ≡ USAGE) ↔ IsUsage (bytes_of words.now) }
     ensures later { (result ≡ NOT_BUILT) ↔ IsLater (bytes_of words.now) }
 
