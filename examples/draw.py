@@ -14,6 +14,7 @@ import sys
 from pathlib import Path
 
 PANEL = 260
+MOST = 1500  # points of a depth that are drawn
 MARGIN = 24
 COLOURS = ["#1b6ca8", "#d1495b", "#edae49", "#66a182", "#8d6cab"]
 
@@ -81,10 +82,12 @@ def panel(depth, nodes, low, side, left):
     yield f'<g transform="translate({left},{MARGIN})">'
     for (a, b), (c, d) in edges(low, side):
         yield f'<line x1="{a:.1f}" y1="{b:.1f}" x2="{c:.1f}" y2="{d:.1f}" stroke="#c8c8c8"/>'
+    step = max(1, -(-total // MOST))
+    radius = 3 if total < 400 else 1.4
     for _, points in nodes:
-        for point in sorted(points, key=lambda p: (p[0] + p[1], p[2])):
+        for point in sorted(points[::step], key=lambda p: (p[0] + p[1], p[2])):
             x, y = project(point, low, side)
-            yield f'<circle cx="{x:.1f}" cy="{y:.1f}" r="3" fill="{colour}" fill-opacity="0.75"/>'
+            yield f'<circle cx="{x:.1f}" cy="{y:.1f}" r="{radius}" fill="{colour}" fill-opacity="0.75"/>'
     label = f"depth {depth}: {len(nodes)} node{'s' * (len(nodes) != 1)}, {total} points"
     yield f'<text x="{PANEL / 2}" y="{PANEL + 16}" text-anchor="middle">{label}</text>'
     yield "</g>"

@@ -1,6 +1,6 @@
 -- The files of a sampling have different names.
 use Rattle.std.proofs.Common.{◌≡◌, ◌≢◌, ◌∙◌, inl, inr, ℕ, Bool, true, false, List, [], ◌∷◌, ◌++◌, map, refl, sym, ap, subst, Option}
-use Rattle.std.specs.Prelude.{length, filter, AllPairs, ◌<◌}
+use Rattle.std.specs.Prelude.{filter, AllPairs}
 use Rattle.std.specs.List.Sorted.{IsStrictlySortedBy}
 use Rattle.std.specs.declared.cmp.Ordering.TheVariants.{Less}
 use Rattle.ept_point.specs.declared.point.Point.{Point}
@@ -21,7 +21,6 @@ use Rattle.ept_core.proofs.Lookups.{sorted-rising}
 use Rattle.ept_config.specs.declared.kept.Kept.{Kept}
 use Rattle.ept_config.specs.declared.source_count.SourceCount.{SourceCount}
 use Rattle.ept_hier.specs.Hierarchy.{Node, file_of, has_file, hierarchy, keys_of, KeysAscend}
-use Rattle.ept_hier.specs.declared.file.HierFile.{HierFile}
 use Rattle.ept_tree.specs.Tree as tree
 use Rattle.ept_build.specs.declared.names.TheConstants.{METADATA, MANIFEST, BUILD_FILE}
 use Rattle.ept_meta.specs.EptText.{ept_text}

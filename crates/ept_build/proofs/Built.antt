@@ -1,5 +1,5 @@
 -- What a build leaves, and how its answers follow from those of the readings.
-use Rattle.std.proofs.Common.{◌≡◌, ◌∙◌, ℕ, ◌⊎◌, inl, inr, List, map, length, refl, sym, ap, subst, arith, Option, Some, None}
+use Rattle.std.proofs.Common.{◌≡◌, ◌∙◌, ℕ, ◌⊎◌, inl, inr, List, map, length, sym, ap, subst, Option, Some, None}
 use Rattle.std.specs.Prelude.{Result, Ok, Err, IsOk}
 use Rattle.std.proofs.lemmas.List.{length-map}
 use Rattle.ept_base.specs.Files.{Files, Tells, StepsBy}
@@ -12,7 +12,7 @@ use Rattle.ept_tree.specs.Grown.{nodes_of}
 use Rattle.ept_build.specs.declared.octree.Octree.{Octree}
 use Rattle.ept_build.specs.declared.summary.Summary.{Summary}
 use Rattle.ept_build.specs.declared.error.BuildError.{BuildError}
-use Rattle.ept_build.specs.Output.{rules_of, files_of, output, Gains, PutsAll}
+use Rattle.ept_build.specs.Output.{rules_of, files_of, output, PutsAll}
 use Rattle.ept_build.specs.Building.{IsBuilt, Stops, Fails}
 use Rattle.ept_build.specs.Octrees.{IsOctree}
 use Rattle.ept_build.proofs.Putting.{puts-gain}

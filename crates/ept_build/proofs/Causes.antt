@@ -5,7 +5,6 @@ use Rattle.ept_scan.specs.declared.read_error.ReadError.{ReadError}
 use Rattle.ept_scan.specs.declared.read_error.ReadError.TheVariants as read
 use Rattle.ept_tree.specs.declared.tree_error.TreeError.{TreeError}
 use Rattle.ept_tree.specs.declared.tree_error.TreeError.TheVariants as tree
-use Rattle.ept_build.specs.declared.error.BuildError.{BuildError}
 use Rattle.ept_build.specs.declared.error.BuildError.TheVariants.{SourceFault, SourceChanged, TooManyNodes}
 use Rattle.ept_build.specs.Errors.{of_read, of_tree}
 

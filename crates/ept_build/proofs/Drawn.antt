@@ -1,5 +1,5 @@
 -- Points that are drawn in batches and brought into a tree.
-use Rattle.std.proofs.Common.{◌≡◌, ◌∙◌, ℕ, ◌+◌, ◌-◌, ◌<◌, ◌≤◌, List, [], ◌∷◌, ◌++◌, length, take, drop, refl, sym, ap, subst, arith, length-take, length-drop}
+use Rattle.std.proofs.Common.{◌≡◌, ◌∙◌, ℕ, ◌+◌, List, [], ◌∷◌, ◌++◌, length, take, drop, refl, sym, ap, subst, arith, length-take, length-drop}
 use Rattle.std.specs.Prelude.{All}
 use Rattle.std.proofs.lemmas.List.{take-append-drop}
 use Rattle.std.proofs.lemmas.List.Elements.{All-weaker}
@@ -9,7 +9,7 @@ use Rattle.ept_space.specs.OctreeCube.{InCube}
 use Rattle.ept_sample.specs.Place.{place, AllInCube}
 use Rattle.ept_scan.specs.Queue.{Held, LiesIn}
 use Rattle.ept_tree.specs.declared.octree.Tree.{Tree}
-use Rattle.ept_tree.specs.Grown.{rules_of, HasTaken}
+use Rattle.ept_tree.specs.Grown.{HasTaken}
 
 none_of : {X : Type 0} (xs : List X) → length xs ≡ 0 → xs ≡ []
 none_of [] none = refl

@@ -1,5 +1,5 @@
 -- What the two readings find is the octree of the inputs' points, or why the build is refused.
-use Rattle.std.proofs.Common.{◌≡◌, ◌∙◌, ℕ, ◌<◌, ◌≤◌, ◌⊎◌, inl, inr, List, [], map, length, refl, sym, ap, subst, arith, Option, Some, None}
+use Rattle.std.proofs.Common.{◌≡◌, ◌∙◌, ℕ, ◌<◌, ◌≤◌, ◌⊎◌, inl, List, [], map, length, refl, sym, ap, subst, arith, Option, Some, None}
 use Rattle.std.specs.Prelude.{Result, Ok, Err, IsOk, IfOk, IfErr}
 use Rattle.std.specs.List.{AllZip}
 use Rattle.std.proofs.lemmas.List.{length-map}
@@ -22,7 +22,7 @@ use Rattle.ept_scan.specs.Counts.{IsCountOf}
 use Rattle.ept_scan.specs.Scans.{in_order, IsScan}
 use Rattle.ept_scan.specs.Opening.{IsKeptScan, total}
 use Rattle.ept_tree.specs.declared.octree.Tree.{Tree}
-use Rattle.ept_tree.specs.Tree.{Branch, tile_of}
+use Rattle.ept_tree.specs.Tree.{tile_of}
 use Rattle.ept_tree.specs.Grown as tree
 use Rattle.ept_tree.specs.Grown.{nodes_of, HasTaken}
 use Rattle.ept_tree.proofs.Growing.{grown-tree}
@@ -33,7 +33,7 @@ use Rattle.ept_build.specs.Output.{rules_of}
 use Rattle.ept_build.specs.Building.{HasPoints, node_count, IsRefused, IsDefinite, Stops, IsInsertion}
 use Rattle.ept_build.specs.Octrees.{IsOctree}
 use Rattle.ept_build.proofs.Scanned.{has-number, has-extent, has-kept, has-sampling}
-use Rattle.ept_build.proofs.Judged.{only-many, refused-by-insertion, insertion-comes, insertion-accepted, nodes-once}
+use Rattle.ept_build.proofs.Judged.{only-many, refused-by-insertion, insertion-comes, insertion-accepted}
 
 module _ (config : Config) (done : ScanDone) (kept : Kept) (is_kept : IsKeptOf config done.bounds kept) (cube : OctreeCube) (cube_is : cube ≡ (rules_of kept).cube) (is_cube : IsCube cube) (of_bounds : IsCubeOf kept.bounds kept.s kept.max_depth cube) (most : ℕ) (most_is : most ≡ config.max_nodes) where
   -- the points that were scanned

@@ -1,6 +1,6 @@
 -- Why a build is refused: one cause, and none where the inputs have points.
-use Rattle.std.proofs.Common.{◌≡◌, ◌≢◌, ◌∙◌, ℕ, ◌<◌, ◌≤◌, ◌⊎◌, inl, inr, List, length, refl, sym, ap, subst, arith}
-use Rattle.std.specs.Prelude.{Result, Ok, Err, IsOk}
+use Rattle.std.proofs.Common.{◌≡◌, ◌∙◌, ℕ, ◌<◌, ◌≤◌, ◌⊎◌, inl, inr, List, length, refl, sym, ap, subst, arith}
+use Rattle.std.specs.Prelude.{Result, Err, IsOk}
 use Rattle.ept_base.specs.Files.{Files}
 use Rattle.ept_point.specs.declared.point.Point.{Point}
 use Rattle.ept_space.specs.declared.cube.Rules.{Rules}
@@ -10,7 +10,7 @@ use Rattle.ept_config.specs.declared.kept.Kept.{Kept}
 use Rattle.ept_scan.specs.declared.scan_done.ScanDone.{ScanDone}
 use Rattle.ept_scan.specs.declared.scan_error.ScanError.{ScanError}
 use Rattle.ept_scan.specs.declared.scan_error.ScanError.TheVariants as scan
-use Rattle.ept_scan.specs.Scans.{Blames, IsScan, ScanIsRefused}
+use Rattle.ept_scan.specs.Scans.{Blames}
 use Rattle.ept_scan.proofs.OneScan.{scan_or_refusal}
 use Rattle.ept_scan.proofs.OneRefusal.{one_refusal}
 use Rattle.ept_build.specs.declared.error.BuildError.{BuildError}

@@ -1,6 +1,6 @@
 -- Files that are put one after another.
-use Rattle.std.proofs.Common.{◌≡◌, ◌≢◌, ◌∙◌, inl, inr, ◌⊎◌, ℕ, ◌+◌, ◌<◌, List, length, take, get_or, [], ◌∷◌, ◌++◌, map, cond, refl, sym, ap, subst, Option, Some, Bool}
-use Rattle.std.specs.Prelude.{All, bytes_eq, Result, Ok, Err, OnOk}
+use Rattle.std.proofs.Common.{◌≡◌, ◌≢◌, ◌∙◌, inl, inr, ℕ, ◌+◌, ◌<◌, List, length, take, get_or, [], ◌∷◌, ◌++◌, map, cond, refl, sym, ap, subst, Option, Some}
+use Rattle.std.specs.Prelude.{bytes_eq, Result, Ok, Err, OnOk}
 use Rattle.ept_base.specs.Files.{Files, changed, SameFiles, SameBut, Puts, StepsBy}
 use Rattle.ept_base.specs.Moves.{Follows, NoMore, Elapses, Moves}
 use Rattle.ept_base.proofs.Moving.{steps_weaker, steps_both, moves_once, moves_weaker, moves_both}

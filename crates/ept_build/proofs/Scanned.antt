@@ -1,16 +1,14 @@
 -- What was scanned can be kept, read again and sampled, and the same inputs are found in one way.
-use Rattle.std.proofs.Common.{◌≡◌, ◌∙◌, ℕ, ◌+◌, ◌<◌, ◌≤◌, List, [], ◌∷◌, ◌++◌, length, get_or, refl, sym, ap, subst, arith, Option, Some, None, length-append}
-use Rattle.std.specs.Prelude.{ℤ, ◌≤ℤ◌, All, Any, Contains, slice_get}
-use Rattle.std.specs.List.{AllZip, sum_by}
+use Rattle.std.proofs.Common.{◌≡◌, ◌∙◌, ℕ, List, [], ◌∷◌, length, refl, sym, ap, subst, arith, Option, Some, None, length-append}
+use Rattle.std.specs.Prelude.{ℤ, All, Any, Contains, slice_get}
+use Rattle.std.specs.List.{AllZip}
 use Rattle.std.proofs.lemmas.Int.{ints}
 use Rattle.std.proofs.lemmas.List.Sums.{sum_by-cons}
 use Rattle.std.proofs.lemmas.List.Elements.{All-weaker}
 use Rattle.std.proofs.lemmas.Option.{slice_get_within, get_or_from_slice_get}
 use Rattle.ept_base.specs.Files.{Files}
 use Rattle.ept_point.specs.declared.point.Point.{Point}
-use Rattle.ept_point.specs.Order.{IsAscending}
 use Rattle.ept_space.specs.declared.bounds.Bounds.{Bounds}
-use Rattle.ept_space.specs.declared.cube.Rules.{Rules}
 use Rattle.ept_space.specs.Place.{coordinate}
 use Rattle.ept_space.specs.ClosedBox.{IsBetween}
 use Rattle.ept_space.specs.OctreeCube.{OctreeCube, IsCube, InCube}
@@ -23,8 +21,7 @@ use Rattle.ept_config.specs.declared.config.Config.{Config}
 use Rattle.ept_config.specs.declared.input.Input.{Input}
 use Rattle.ept_config.specs.declared.kept.Kept.{Kept}
 use Rattle.ept_config.specs.declared.source_count.SourceCount.{SourceCount}
-use Rattle.ept_config.specs.KeptOf.{IsKeptOf}
-use Rattle.ept_config.specs.Ranges.{AreCoordinates, BoundsInRange}
+use Rattle.ept_config.specs.Ranges.{BoundsInRange}
 use Rattle.ept_scan.specs.declared.scan_done.ScanDone.{ScanDone}
 use Rattle.ept_scan.specs.Extents.{IsWithin, IsSpanOf, IsExtentOf, HasExtent}
 use Rattle.ept_scan.specs.Counts.{IsCountOf, IsInside, FitsBounds, IsSound}

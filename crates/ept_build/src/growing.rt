@@ -47,10 +47,13 @@ pub(crate) fn grown_tree<H: Shelf>(
     requires some { 1 ≤ most }
     ensures rules { IfOk result (λ grown. tree.rules_of grown ≡ rules_of kept.now) }
     ensures few { IfOk result (λ grown. length (tree.nodes_of grown) ≤ most) }
-    ensures taken { IfOk result (λ grown. Tells (λ all. (points : List Point) → IsKeptScan all kept.now counts.now points
+    ensures taken { IfOk result (λ grown. Tells
+        (λ all. (points : List Point) → IsKeptScan all kept.now counts.now points
         → CanBeSampled (rules_of kept.now) points → tree.HasTaken points [] grown) (H.files shelf.old)) }
-    ensures too_many { result ≡ Err BuildError.TooManyNodes → Tells (λ all. (points : List Point) → IsKeptScan all kept.now counts.now points
-        → CanBeSampled (rules_of kept.now) points → most < length (sampled (rules_of kept.now) points)) (H.files shelf.old) }
+    ensures too_many { result ≡ Err BuildError.TooManyNodes → Tells
+        (λ all. (points : List Point) → IsKeptScan all kept.now counts.now points
+        → CanBeSampled (rules_of kept.now) points
+        → most < length (sampled (rules_of kept.now) points)) (H.files shelf.old) }
     ensures unchanged { (source number : ℕ) → result ≡ Err (BuildError.SourceChanged source number)
         → Tells (λ all. (points : List Point) → IsKeptScan all kept.now counts.now points
         → CanBeSampled (rules_of kept.now) points → ⊥) (H.files shelf.old) }

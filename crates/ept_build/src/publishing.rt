@@ -41,7 +41,8 @@ pub(crate) fn publish<T: Store>(
     octree: &Octree,
 ) -> Result<(), PutError>
     requires { length octree.now.counts ≡ length octree.now.kept.inputs }
-    ensures ok { OnOk result (StepsBy (PutsAll (files_of octree.now.kept octree.now.counts octree.now.extent octree.now.points
+    ensures ok { OnOk result (StepsBy (PutsAll (files_of
+        octree.now.kept octree.now.counts octree.now.extent octree.now.points
         (map tile_of (nodes_of octree.now.tree)))) (T.files store.old) (T.files store.new)) }
     ensures settled { OnOk result (IsSettled (T.files store.new) (T.may_leave store.new)) }
     ensures any_moment { Moves T.files T.may_leave T.moment T.image_since SameButOutput store.old store.new }
@@ -61,7 +62,8 @@ fn texts_of(alloc: Global, octree: &Octree, nodes: &BTreeMap<Key, Grid>) -> Resu
     requires { length octree.now.counts ≡ length octree.now.kept.inputs }
     ensures hierarchy { IfOk result (λ all. all.hierarchy.items
         ≡ hierarchy octree.now.kept.step (map counted (map tile_of nodes.now.entries))) }
-    ensures metadata { IfOk result (λ all. all.metadata.items ≡ ept_text octree.now.kept octree.now.extent octree.now.points) }
+    ensures metadata { IfOk result (λ all. all.metadata.items
+        ≡ ept_text octree.now.kept octree.now.extent octree.now.points) }
     ensures manifest { IfOk result (λ all. all.manifest.items ≡ manifest_text octree.now.kept octree.now.counts) }
     ensures build_file { IfOk result (λ all. all.build_file.items ≡ build_text octree.now.kept) }
 {
@@ -110,7 +112,8 @@ fn tile_of(alloc: Global, node: &Grid) -> Result<Vec<u8>, Memory>
 
 // Puts the tile of a node.
 fn put_tile<T: Store>(alloc: Global, store: &mut T, key: &Key, node: &Grid) -> Result<(), PutError>
-    ensures ok { OnOk result (StepsBy (Puts (tile_name key.now) (tile node.now.points)) (T.files store.old) (T.files store.new)) }
+    ensures ok { OnOk result (StepsBy (Puts (tile_name key.now) (tile node.now.points))
+        (T.files store.old) (T.files store.new)) }
     ensures any_moment { Moves T.files T.may_leave T.moment T.image_since SameButOutput store.old store.new }
     ensures cause { HasCauseOf PutError.Failed (T.faults store.old) (T.faults store.new) result }
 {
@@ -129,7 +132,8 @@ fn put_tiles<T: Store>(
     store: &mut T,
     nodes: &BTreeMap<Key, Grid>,
 ) -> Result<(), PutError>
-    ensures ok { OnOk result (StepsBy (PutsAll (map tile_file (map tile_of nodes.now.entries))) (T.files store.old) (T.files store.new)) }
+    ensures ok { OnOk result (StepsBy (PutsAll (map tile_file (map tile_of nodes.now.entries)))
+        (T.files store.old) (T.files store.new)) }
     ensures any_moment { Moves T.files T.may_leave T.moment T.image_since SameButOutput store.old store.new }
     ensures cause { HasCauseOf PutError.Failed (T.faults store.old) (T.faults store.new) result }
 {
@@ -145,7 +149,8 @@ fn put_hierarchy_file<T: Store>(
     store: &mut T,
     file: &HierFile,
 ) -> Result<(), PutError>
-    ensures ok { OnOk result (StepsBy (Puts (hierarchy_name file.now.key) file.now.text) (T.files store.old) (T.files store.new)) }
+    ensures ok { OnOk result (StepsBy (Puts (hierarchy_name file.now.key) file.now.text)
+        (T.files store.old) (T.files store.new)) }
     ensures any_moment { Moves T.files T.may_leave T.moment T.image_since SameButOutput store.old store.new }
     ensures cause { HasCauseOf PutError.Failed (T.faults store.old) (T.faults store.new) result }
 {
@@ -157,7 +162,8 @@ fn put_hierarchy_file<T: Store>(
 
 // Puts the hierarchy files.
 fn put_hierarchy<T: Store>(alloc: Global, store: &mut T, files: &[HierFile]) -> Result<(), PutError>
-    ensures ok { OnOk result (StepsBy (PutsAll (map hierarchy_file files.now)) (T.files store.old) (T.files store.new)) }
+    ensures ok { OnOk result (StepsBy (PutsAll (map hierarchy_file files.now))
+        (T.files store.old) (T.files store.new)) }
     ensures any_moment { Moves T.files T.may_leave T.moment T.image_since SameButOutput store.old store.new }
     ensures cause { HasCauseOf PutError.Failed (T.faults store.old) (T.faults store.new) result }
 {

@@ -5,8 +5,7 @@ use Rattle.ept_point.specs.declared.point.Point.{Point}
 use Rattle.ept_config.specs.declared.kept.Kept.{Kept}
 use Rattle.ept_scan.specs.declared.scan_done.ScanDone.{ScanDone}
 use Rattle.ept_tree.specs.Tree.{Branch}
-use Rattle.ept_build.specs.declared.error.BuildError.{BuildError}
-use Rattle.ept_build.specs.Building.{HasPoints, node_count, IsRefused, IsDefinite, Fails}
+use Rattle.ept_build.specs.Building.{HasPoints, node_count, Fails}
 use Rattle.ept_build.proofs.Causes.{tells-more}
 use Rattle.ept_build.proofs.Built.{no-refusal, stops-fails, built-told}
 use Rattle.ept_build.proofs.building.build.Goals as goal

@@ -1,17 +1,12 @@
-use Rattle.std.proofs.Common.{◌≡◌, ◌∙◌, ℕ, ◌+◌, ◌≤◌, ◌<◌, List, [], ◌++◌, length, take, drop, refl, sym, ap, subst, arith, rules}
+use Rattle.std.proofs.Common.{◌≡◌, ◌∙◌, ◌+◌, ◌<◌, List, ◌++◌, length, drop, ap, subst, arith, rules}
 use Rattle.std.specs.Prelude.{Err}
 use Rattle.ept_point.specs.declared.point.Point.{Point}
 use Rattle.ept_space.specs.declared.cube.Rules.{Rules}
-use Rattle.ept_sample.specs.Place.{AllInCube}
 use Rattle.ept_sample.specs.Nodes.{sampled}
-use Rattle.ept_scan.specs.Reader.{drawn_of, left_of, batch_of, files_of, IsRest, HasFault}
+use Rattle.ept_scan.specs.Reader.{batch_of, files_of}
 use Rattle.ept_scan.specs.declared.read_error.ReadError.{ReadError}
-use Rattle.ept_scan.specs.declared.read_error.ReadError.TheVariants as read
 use Rattle.ept_tree.specs.declared.tree_error.TreeError.{TreeError}
-use Rattle.ept_tree.specs.declared.tree_error.TreeError.TheVariants as tree
 use Rattle.ept_tree.specs.Grown.{rules_of, HasTaken}
-use Rattle.ept_build.specs.declared.error.BuildError.TheVariants.{SourceFault, SourceChanged, TooManyNodes}
-use Rattle.ept_build.specs.Errors.{of_read, of_tree}
 use Rattle.ept_build.proofs.Drawn.{batch-inside, batch-front, batch-left, all-taken}
 use Rattle.ept_build.proofs.Causes.{was_changed, was_fault, was_many}
 use Rattle.ept_build.proofs.growing.grow.Goals as goal

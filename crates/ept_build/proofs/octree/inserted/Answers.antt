@@ -1,4 +1,4 @@
-use Rattle.std.proofs.Common.{◌≡◌, ◌∙◌, ℕ, sym, ap, subst}
+use Rattle.std.proofs.Common.{ap}
 use Rattle.std.specs.Prelude.{Err}
 use Rattle.ept_space.specs.declared.cube.Rules.{Rules}
 use Rattle.ept_build.specs.declared.error.BuildError.{BuildError}

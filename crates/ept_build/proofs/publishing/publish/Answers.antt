@@ -1,4 +1,4 @@
-use Rattle.std.proofs.Common.{◌≡◌, ◌∙◌, List, [], ◌∷◌, ◌++◌, map, sym, ap, subst}
+use Rattle.std.proofs.Common.{◌≡◌, ◌∙◌, List, [], ◌∷◌, ◌++◌, map, ap, subst}
 use Rattle.std.specs.Prelude.{ℕ}
 use Rattle.ept_base.specs.Files.{StepsBy}
 use Rattle.ept_hier.specs.Hierarchy.{hierarchy}
@@ -9,7 +9,7 @@ use Rattle.ept_meta.specs.BuildText.{build_text}
 use Rattle.ept_tree.specs.Tree.{Branch, tile_of}
 use Rattle.ept_tree.specs.Grown.{nodes_of}
 use Rattle.ept_build.specs.declared.names.TheConstants.{METADATA, MANIFEST, BUILD_FILE}
-use Rattle.ept_build.specs.Output.{File, tile_file, hierarchy_file, counted, files_of, PutsAll}
+use Rattle.ept_build.specs.Output.{tile_file, hierarchy_file, counted, files_of, PutsAll}
 use Rattle.ept_build.proofs.Putting.{puts-both, puts-kept, output-moves, sync-moves, any-ok}
 use Rattle.ept_build.proofs.publishing.publish.Goals as goal
 

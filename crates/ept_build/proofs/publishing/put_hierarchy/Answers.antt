@@ -1,4 +1,4 @@
-use Rattle.std.proofs.Common.{◌≡◌, ◌≤◌, ◌∙◌, List, length, map, take, sym, ap, subst, arith}
+use Rattle.std.proofs.Common.{◌≤◌, List, length, map, take, subst, arith}
 use Rattle.std.proofs.lemmas.List.{take_all}
 use Rattle.ept_base.specs.Files.{StepsBy}
 use Rattle.ept_hier.specs.declared.file.HierFile.{HierFile}

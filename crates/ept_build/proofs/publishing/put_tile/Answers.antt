@@ -1,4 +1,4 @@
-use Rattle.std.proofs.Common.{◌∙◌, inl, inr}
+use Rattle.std.proofs.Common.{◌∙◌, inl}
 use Rattle.ept_build.proofs.Putting.{put-moves}
 use Rattle.ept_build.proofs.publishing.put_tile.Goals as goal
 

@@ -1,10 +1,10 @@
-use Rattle.std.proofs.Common.{◌≡◌, List, map, refl, subst, arith, rules}
+use Rattle.std.proofs.Common.{◌≡◌, List, map, subst, arith, rules}
 use Rattle.std.specs.Map.Iter.{deref_pair}
 use Rattle.std.proofs.lemmas.Map.Iter.{iter_end}
 use Rattle.ept_base.specs.Files.{StepsBy}
 use Rattle.ept_point.specs.Packed.{tile}
 use Rattle.ept_tree.specs.Tree.{Branch, tile_of}
-use Rattle.ept_build.specs.Output.{tile_name, File, tile_file, PutsAll}
+use Rattle.ept_build.specs.Output.{tile_name, tile_file, PutsAll}
 use Rattle.ept_build.proofs.Putting.{output-moves, puts-more, yielded-more}
 use Rattle.ept_build.proofs.publishing.put_tiles.Goals as goal
 
