@@ -1,8 +1,9 @@
-ghost use Rattle.std.specs.Prelude.{◌≡◌, ◌≤◌, IsTrue, OnOk};
+ghost use Rattle.std.specs.Prelude.{◌≡◌, ◌≤◌, IsTrue, IfOk, OnOk, string_bytes};
 ghost use Rattle.std.specs.BTreeSet.{contains_text};
 ghost use Rattle.ept_base.specs.Causes.{Rose, HasCauseOf};
 
-use crate::unsynced::{Unsynced, path_in};
+use crate::paths::{or_here, path_in};
+use crate::unsynced::Unsynced;
 use ept_base::{GetError, PutError, Store};
 use std::alloc::{AllocError, Global};
 use std::fs;
@@ -13,8 +14,11 @@ use std::rt::Files;
 /// A folder of the machine, which is made where it is not there. A name is a path below it.
 ///
 /// `sync` flushes the files that were put, and the folders on the way to each name that was put or
-/// removed, up to the folder that the store's own folder is in. Those that had to be made are flushed
-/// too. A name below a file is a fault.
+/// removed: those below the store's folder, the store's folder, the one that it is in, and any above
+/// that had to be made. So each of these folders must be readable. After a refused `sync` all of it
+/// stays to be flushed.
+///
+/// A name below a file is a fault; one that is absent is not.
 #[derive(Drop)]
 pub struct RealStore<'a, R: Files> {
     files: &'a R,
@@ -54,17 +58,19 @@ fn remove_file(files: &impl Files, path: &str) -> io::Result<()> {
 
 impl<'a, R: Files> RealStore<'a, R> {
     ghost use Rattle.ept_real.specs.Counts.{store_faults, store_gets};
+    ghost use Rattle.ept_real.specs.Paths.{joined, folder_path, store_folder};
 
     /// The store in this folder, without a fault and without a get. An empty path is that of the
     /// folder in which the program runs.
     pub fn new(alloc: Global, files: &'a R, folder: &'a str) -> Self
         ensures sound { store_faults result ≡ 0 }
         ensures unread { store_gets result ≡ 0 }
+        ensures folder { store_folder result ≡ folder_path folder.now }
     {
         RealStore {
             files,
             alloc,
-            folder: if folder.is_empty() { "." } else { folder },
+            folder: or_here(folder),
             unsynced: Unsynced::new(alloc),
             faults: 0,
             gets: 0,
@@ -81,7 +87,9 @@ impl<'a, R: Files> RealStore<'a, R> {
     }
 
     /// The path of a name.
-    fn path_of(&self, name: &str) -> Result<String, AllocError> {
+    fn path_of(&self, name: &str) -> Result<String, AllocError>
+        ensures { IfOk result (λ path. string_bytes path ≡ joined (store_folder self.now) name.now) }
+    {
         path_in(self.alloc, self.folder, name)
     }
 

@@ -7,8 +7,17 @@ use crate::{RealShelf, RealSink, RealStore};
 use ept_base::{Failed, GetError, PutError, Shelf, Sink, Source, Store, read_full, write_full};
 use std::alloc::{AllocError, Global};
 use std::cell::{Cell, RefCell};
-use std::fs;
 use std::test::Fail;
+use std::{env, fs};
+
+// Puts a test into an empty folder of its own.
+fn enter(rt: &HostRuntime, name: &str) -> Result<(), Fail> {
+    let folder = format!(in rt.alloc(); "out/tests/{name}")?;
+    let _absent = fs::remove_dir_all(rt, folder.as_str());
+    fs::create_dir_all(rt, folder.as_str())?;
+    env::set_current_dir(rt, folder.as_str())?;
+    Ok(())
+}
 
 // Bytes in which no block of 64 KiB is like the next.
 fn pattern(alloc: Global, length: u32) -> Result<Vec<u8>, AllocError> {
@@ -35,6 +44,7 @@ fn read_by<S: Source>(alloc: Global, source: &mut S, size: usize) -> Result<Vec<
 
 #[test]
 fn a_source_gives_its_file(rt: HostRuntime) -> Result<(), Fail> {
+    enter(&rt, "source")?;
     let alloc = rt.alloc();
     let long = pattern(alloc, 200_003)?;
     fs::write(&rt, "long", long.as_slice())?;
@@ -58,6 +68,7 @@ fn a_source_gives_its_file(rt: HostRuntime) -> Result<(), Fail> {
 
 #[test]
 fn what_can_not_be_read_is_a_fault(rt: HostRuntime) -> Result<(), Fail> {
+    enter(&rt, "faults")?;
     let alloc = rt.alloc();
     fs::write(&rt, "file", "one")?;
     fs::create_dir(&rt, "folder")?;
@@ -88,6 +99,7 @@ fn what_can_not_be_read_is_a_fault(rt: HostRuntime) -> Result<(), Fail> {
 
 #[test]
 fn many_sources_may_be_open(rt: HostRuntime) -> Result<(), Fail> {
+    enter(&rt, "many")?;
     let alloc = rt.alloc();
     fs::write(&rt, "file", "points")?;
     let mut shelf = RealShelf::new(alloc, &rt);
@@ -109,6 +121,7 @@ fn many_sources_may_be_open(rt: HostRuntime) -> Result<(), Fail> {
 
 #[test]
 fn a_store_keeps_its_files(rt: HostRuntime) -> Result<(), Fail> {
+    enter(&rt, "store")?;
     let alloc = rt.alloc();
     let mut store = RealStore::new(alloc, &rt, "new/out");
     let mut into = Vec::from_slice(alloc, b"before")?;
@@ -135,6 +148,7 @@ fn a_store_keeps_its_files(rt: HostRuntime) -> Result<(), Fail> {
 
 #[test]
 fn a_store_refuses_names_that_can_not_be(rt: HostRuntime) -> Result<(), Fail> {
+    enter(&rt, "names")?;
     let alloc = rt.alloc();
     let mut store = RealStore::new(alloc, &rt, "out");
     let mut into = Vec::new(alloc);
@@ -174,6 +188,7 @@ fn flushed_for(rt: &HostRuntime, folder: &str, name: &str) -> Result<String, Fai
 
 #[test]
 fn a_sync_flushes_the_way_to_a_file(rt: HostRuntime) -> Result<(), Fail> {
+    enter(&rt, "way")?;
     fs::create_dir(&rt, "there")?;
     for (folder, name, want) in [
         ("out", "file", "out/file\n.\nout/\n"),
@@ -200,6 +215,7 @@ fn a_sync_flushes_the_way_to_a_file(rt: HostRuntime) -> Result<(), Fail> {
 
 #[test]
 fn what_was_not_flushed_stays_to_be_flushed(rt: HostRuntime) -> Result<(), Fail> {
+    enter(&rt, "stays")?;
     let alloc = rt.alloc();
     let flushed = RefCell::new(String::new(alloc));
     let to_fault = Cell::new(0);
@@ -231,6 +247,7 @@ fn what_was_not_flushed_stays_to_be_flushed(rt: HostRuntime) -> Result<(), Fail>
 
 #[test]
 fn a_sink_writes_to_its_writer(rt: HostRuntime) -> Result<(), Fail> {
+    enter(&rt, "sink")?;
     let alloc = rt.alloc();
     let mut sink = RealSink::new(Pieces::new(alloc, 3));
     assert_eq!(rt; sink.write(b"points"), Ok(3));

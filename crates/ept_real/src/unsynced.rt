@@ -1,6 +1,7 @@
 ghost use Rattle.std.specs.Prelude.{◌≡◌, false, IsTrue, OnOk, OnErr};
 ghost use Rattle.std.specs.BTreeSet.{IsEmpty, contains_text};
 
+use crate::paths::{or_here, path_in};
 use std::alloc::{AllocError, Global};
 use std::collections::BTreeSet;
 use std::fs::{self, OpenFile};
@@ -72,11 +73,7 @@ impl Unsynced {
         ensures files { self.new.files ≡ self.old.files }
     {
         for above in Path::new(folder).ancestors().skip(1) {
-            let path = if above.as_str().is_empty() {
-                "."
-            } else {
-                above.as_str()
-            };
+            let path = or_here(above.as_str());
             self.note_folder(path)?;
             if Path::new(path).exists(files) {
                 return Ok(());
@@ -98,11 +95,6 @@ impl Unsynced {
         self.folders.clear();
         Ok(())
     }
-}
-
-/// The path of a name in a folder.
-pub(crate) fn path_in(alloc: Global, folder: &str, name: &str) -> Result<String, AllocError> {
-    format!(in alloc; "{folder}/{name}")
 }
 
 /// Adds a path to a set of paths.
