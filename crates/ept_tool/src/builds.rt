@@ -174,6 +174,7 @@ fn expect_faults(rt: &impl Abort, alloc: Global) -> Result<(), AllocError> {
 struct SureSource {
     bytes: Vec<u8>,
     place: usize,
+    given: u64,
 }
 
 impl Source for SureSource {
@@ -185,12 +186,15 @@ impl Source for SureSource {
 
     ghost faults = { λ _. 0 };
 
+    ghost given = { λ source. source.given };
+
     fn read(&mut self, into: &mut [u8]) -> Result<usize, Failed> {
         let place = self.place.min(self.bytes.len());
         let left = &self.bytes[place..];
         let count = left.len().min(into.len());
         into[..count].copy_from_slice(&left[..count]);
         self.place = place + count;
+        self.given = self.given.saturating_add(count as u64);
         Ok(count)
     }
 
@@ -207,6 +211,7 @@ struct ChangingShelf {
     first: Vec<u8>,
     later: Vec<u8>,
     is_opened: bool,
+    given: u64,
 }
 
 impl Shelf for ChangingShelf {
@@ -218,6 +223,8 @@ impl Shelf for ChangingShelf {
 
     ghost faults = { λ _. 0 };
 
+    ghost given = { λ shelf. shelf.given };
+
     fn open(&mut self, path: &str) -> Result<SureSource, GetError> {
         let bytes = if path == "a.json" {
             Vec::from_slice(self.alloc, CONFIGURATION.as_bytes())?
@@ -227,10 +234,16 @@ impl Shelf for ChangingShelf {
             self.is_opened = true;
             Vec::from_slice(self.alloc, &self.first)?
         };
-        Ok(SureSource { bytes, place: 0 })
+        Ok(SureSource {
+            bytes,
+            place: 0,
+            given: 0,
+        })
     }
 
-    fn retire(&mut self, _source: SureSource) {}
+    fn retire(&mut self, source: SureSource) {
+        self.given = self.given.saturating_add(source.given);
+    }
 }
 
 /// Builds a scan that is another at its second reading.
@@ -241,6 +254,7 @@ fn carry_out_changing(alloc: Global, first: &[u8], later: &[u8]) -> Result<Answe
         first: Vec::from_slice(alloc, first)?,
         later: Vec::from_slice(alloc, later)?,
         is_opened: false,
+        given: 0,
     };
     let mut store = store_of(alloc, Vec::new(alloc))?;
     let mut room = MemRoom::new(alloc, Vec::new(alloc), Vec::new(alloc));
