@@ -76,6 +76,17 @@ fn at(x: u8, y: u8, z: u8) -> [u8; 20] {
     [x, 0, 0, 0, y, 0, 0, 0, z, 0, 0, 0, 0, 0, 0, 0, 0, 0, 0, 0]
 }
 
+/// The packed point of the first record of an input at this place, with all else zero.
+fn tile(place: [u8; 3], origin: u8) -> [u8; 49] {
+    let [x, y, z] = place;
+    let mut bytes = [0; 49];
+    bytes[0] = x;
+    bytes[4] = y;
+    bytes[8] = z;
+    bytes[41] = origin;
+    bytes
+}
+
 fn file(alloc: Global, name: &str, bytes: Vec<u8>) -> Result<(String, Vec<u8>), AllocError> {
     Ok((String::from_str(alloc, name)?, bytes))
 }
@@ -219,13 +230,8 @@ fn the_first_of_two_inputs_wins(rt: HostRuntime) -> Result<(), Fail> {
     let text =
         "{\"input\":[\"a.las\",{\"path\":\"b.las\"}],\"scale\":2,\"bounds\":[0,0,0,7,7,7],\"span\":2,\"minNodeSize\":0}";
     let left = build_of(alloc, text, files, None)?;
-    let mut root = [0u8; 49];
-    let mut lower = [0u8; 49];
-    for place in [0, 4, 8] {
-        root[place] = 3;
-        lower[place] = 1;
-    }
-    lower[41] = 1;
+    let root = tile([3, 3, 3], 0);
+    let lower = tile([1, 1, 1], 1);
     compare(
         &rt,
         &left,
@@ -288,10 +294,7 @@ fn an_input_is_scaled_and_shifted(rt: HostRuntime) -> Result<(), Fail> {
     let text =
         "{\"input\":[{\"path\":\"a.las\",\"scale\":1,\"shift\":[5,0,-7]}],\"scale\":2,\"bounds\":[0,0,0,63,63,63],\"span\":2}";
     let left = build_of(alloc, text, files, None)?;
-    let mut tile = [0u8; 49];
-    tile[0] = 35;
-    tile[4] = 30;
-    tile[8] = 23;
+    let tile = tile([35, 30, 23], 0);
     compare(
         &rt,
         &left,

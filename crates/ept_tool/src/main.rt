@@ -8,6 +8,8 @@ mod commands;
 mod files;
 mod lines;
 mod refusal;
+#[cfg(test)]
+mod rows;
 mod run;
 mod status;
 #[cfg(test)]

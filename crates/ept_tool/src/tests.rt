@@ -136,7 +136,7 @@ pub(crate) fn store_of(alloc: Global, fails: Vec<u64>) -> Result<MemStore, Alloc
 }
 
 /// Carries out the words over the files. An `Err` says that there was no memory for the preparation.
-fn carry_out(alloc: Global, given: Given<'_>) -> Result<Answer, AllocError> {
+pub(crate) fn carry_out(alloc: Global, given: Given<'_>) -> Result<Answer, AllocError> {
     let mut opens = Vec::new(alloc);
     let mut reads = Vec::new(alloc);
     let mut calls = Vec::new(alloc);
