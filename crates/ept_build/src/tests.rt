@@ -339,10 +339,9 @@ fn refused_inputs_leave_nothing(rt: HostRuntime) -> Result<(), Fail> {
     let alloc = rt.alloc();
     let inside = at(7, 7, 7);
     let outside = at(8, 0, 0);
-    for (bounds, records, want) in [
+    for (bounds, want) in [
         (
             "[0,0,0,7,7,7]",
-            &[inside.as_slice(), outside.as_slice()],
             Err(BuildError::OutOfBounds {
                 source: 0,
                 number: 1,
@@ -350,7 +349,6 @@ fn refused_inputs_leave_nothing(rt: HostRuntime) -> Result<(), Fail> {
         ),
         (
             "[0,0,0,8,7,7]",
-            &[inside.as_slice(), outside.as_slice()],
             Ok(Summary {
                 points: 2,
                 nodes: 1,
@@ -358,7 +356,8 @@ fn refused_inputs_leave_nothing(rt: HostRuntime) -> Result<(), Fail> {
         ),
     ] {
         let mut files = Vec::new(alloc);
-        files.push(file(alloc, "a.las", las(alloc, &FIRST, records)?)?)?;
+        let scan = las(alloc, &FIRST, &[&inside, &outside])?;
+        files.push(file(alloc, "a.las", scan)?)?;
         let text = format!(in alloc;
             "{{\"input\":\"a.las\",\"scale\":2,\"bounds\":{bounds},\"span\":2}}"
         )?;

@@ -67,14 +67,14 @@ fn has_text(found: &Answer, name: &str, text: &str) -> bool {
     }
 }
 
-/// A build of one scan of format 0: the points' places, the line, the hierarchy, and the tiles of the three
-/// nodes on the way to the least corner.
+/// A build of one scan of format 0: the points' places, the line, the hierarchy, and the tiles on the way from
+/// the root to the least corner.
 struct Tree<'a> {
     configuration: &'a str,
     places: &'a [[u8; 3]],
     line: &'a str,
     hierarchy: &'a str,
-    tiles: [Option<&'a [Seen]>; 3],
+    tiles: &'a [&'a [Seen]],
 }
 
 const NONE_WAITS: &str = "{\"input\":\"a.las\",\"scale\":2,\"bounds\":[0,0,0,7,7,7],\"span\":2,\
@@ -97,7 +97,7 @@ const TREES: &[Tree<'static>] = &[
         places: &[],
         line: "points 0 nodes 1\n",
         hierarchy: "{\"0-0-0-0\":0}",
-        tiles: [Some(&[]), None, None],
+        tiles: &[&[]],
     },
     // The nearer to the centre of the cell wins, wherever it comes.
     Tree {
@@ -105,14 +105,14 @@ const TREES: &[Tree<'static>] = &[
         places: &[ONE, TWO],
         line: "points 2 nodes 2\n",
         hierarchy: "{\"0-0-0-0\":1,\"1-0-0-0\":1}",
-        tiles: [Some(&[(TWO, 1, 0)]), Some(&[(ONE, 0, 0)]), None],
+        tiles: &[&[(TWO, 1, 0)], &[(ONE, 0, 0)]],
     },
     Tree {
         configuration: NONE_WAITS,
         places: &[TWO, ONE],
         line: "points 2 nodes 2\n",
         hierarchy: "{\"0-0-0-0\":1,\"1-0-0-0\":1}",
-        tiles: [Some(&[(TWO, 0, 0)]), Some(&[(ONE, 1, 0)]), None],
+        tiles: &[&[(TWO, 0, 0)], &[(ONE, 1, 0)]],
     },
     // Of two at one distance the first wins.
     Tree {
@@ -120,7 +120,7 @@ const TREES: &[Tree<'static>] = &[
         places: &[ONE, THREE],
         line: "points 2 nodes 2\n",
         hierarchy: "{\"0-0-0-0\":1,\"1-0-0-0\":1}",
-        tiles: [Some(&[(ONE, 0, 0)]), Some(&[(THREE, 1, 0)]), None],
+        tiles: &[&[(ONE, 0, 0)], &[(THREE, 1, 0)]],
     },
     // At the greatest depth all stay.
     Tree {
@@ -128,10 +128,10 @@ const TREES: &[Tree<'static>] = &[
         places: &[ONE, ONE, ONE, ONE, ONE],
         line: "points 5 nodes 3\n",
         hierarchy: "{\"0-0-0-0\":1,\"1-0-0-0\":1,\"2-0-0-0\":3}",
-        tiles: [
-            Some(&[(ONE, 0, 0)]),
-            Some(&[(ONE, 1, 0)]),
-            Some(&[(ONE, 2, 0), (ONE, 3, 0), (ONE, 4, 0)]),
+        tiles: &[
+            &[(ONE, 0, 0)],
+            &[(ONE, 1, 0)],
+            &[(ONE, 2, 0), (ONE, 3, 0), (ONE, 4, 0)],
         ],
     },
     // Losers wait up to the threshold, and go down together.
@@ -140,18 +140,14 @@ const TREES: &[Tree<'static>] = &[
         places: &[ONE, ONE, ONE],
         line: "points 3 nodes 1\n",
         hierarchy: "{\"0-0-0-0\":3}",
-        tiles: [Some(&[(ONE, 0, 0), (ONE, 1, 0), (ONE, 2, 0)]), None, None],
+        tiles: &[&[(ONE, 0, 0), (ONE, 1, 0), (ONE, 2, 0)]],
     },
     Tree {
         configuration: TWO_WAIT,
         places: &[ONE, ONE, ONE, ONE],
         line: "points 4 nodes 2\n",
         hierarchy: "{\"0-0-0-0\":1,\"1-0-0-0\":3}",
-        tiles: [
-            Some(&[(ONE, 0, 0)]),
-            Some(&[(ONE, 1, 0), (ONE, 2, 0), (ONE, 3, 0)]),
-            None,
-        ],
+        tiles: &[&[(ONE, 0, 0)], &[(ONE, 1, 0), (ONE, 2, 0), (ONE, 3, 0)]],
     },
     // Bounds of one place: cells of one unit, and no node below the root.
     Tree {
@@ -159,7 +155,7 @@ const TREES: &[Tree<'static>] = &[
         places: &[[0, 0, 0], [0, 0, 0]],
         line: "points 2 nodes 1\n",
         hierarchy: "{\"0-0-0-0\":2}",
-        tiles: [Some(&[([0, 0, 0], 0, 0), ([0, 0, 0], 1, 0)]), None, None],
+        tiles: &[&[([0, 0, 0], 0, 0), ([0, 0, 0], 1, 0)]],
     },
 ];
 
@@ -193,16 +189,27 @@ fn expect_trees(rt: &impl Abort, alloc: Global) -> Result<(), AllocError> {
             "ept-hierarchy/0-0-0-0.json",
             tree.hierarchy.as_bytes(),
         );
-        let [root, lower, lowest] = tree.tiles;
-        for (name, tile) in [
-            ("ept-data/0-0-0-0.bin", root),
-            ("ept-data/1-0-0-0.bin", lower),
-            ("ept-data/2-0-0-0.bin", lowest),
-        ] {
-            match tile {
-                Some(points) => expect_file(rt, &found, name, &packed(alloc, points)?),
-                None => assert!(rt; found.store.file(name).is_none(), "{name}"),
-            }
+        expect_tiles(rt, alloc, &found, tree.tiles)?;
+    }
+    Ok(())
+}
+
+/// Compares the tiles from the root down to the least corner; a node past the last of them has no tile.
+fn expect_tiles(
+    rt: &impl Abort,
+    alloc: Global,
+    found: &Answer,
+    tiles: &[&[Seen]],
+) -> Result<(), AllocError> {
+    let names = [
+        "ept-data/0-0-0-0.bin",
+        "ept-data/1-0-0-0.bin",
+        "ept-data/2-0-0-0.bin",
+    ];
+    for (depth, name) in names.into_iter().enumerate() {
+        match tiles.get(depth) {
+            Some(points) => expect_file(rt, found, name, &packed(alloc, points)?),
+            None => assert!(rt; found.store.file(name).is_none(), "{name}"),
         }
     }
     Ok(())
