@@ -59,11 +59,12 @@ fn expect_file(rt: &impl Abort, found: &Answer, name: &str, bytes: &[u8]) {
 
 /// Whether a file that is left has this text in it.
 fn has_text(found: &Answer, name: &str, text: &str) -> bool {
-    match found.store.file(name) {
-        Some(bytes) => bytes
-            .windows(text.len())
-            .any(|part| part == text.as_bytes()),
-        None => false,
+    let Some(bytes) = found.store.file(name) else {
+        return false;
+    };
+    match str::from_utf8(bytes) {
+        Ok(file) => file.contains(text),
+        Err(_) => false,
     }
 }
 
@@ -349,7 +350,7 @@ fn other_form(
     record: &[u8],
 ) -> Result<Vec<u8>, AllocError> {
     let mut file = las(alloc, 0, &[])?;
-    while file.len() < length {
+    for _ in file.len()..length {
         file.push(0)?;
     }
     for (place, byte) in changes {
