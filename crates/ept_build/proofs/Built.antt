@@ -13,7 +13,7 @@ use Rattle.ept_build.specs.declared.octree.Octree.{Octree}
 use Rattle.ept_build.specs.declared.summary.Summary.{Summary}
 use Rattle.ept_build.specs.declared.error.BuildError.{BuildError}
 use Rattle.ept_build.specs.Output.{rules_of, files_of, output, PutsAll}
-use Rattle.ept_build.specs.Building.{IsBuilt, Stops, Fails}
+use Rattle.ept_build.specs.Building.{IsAccepted, IsBuilt, IsRefused, IsDefinite, Stops, Fails}
 use Rattle.ept_build.specs.Octrees.{IsOctree}
 use Rattle.ept_build.proofs.Putting.{puts-gain}
 use Rattle.ept_build.proofs.Apart.{output-apart}
@@ -24,11 +24,34 @@ no-refusal o e (inl is) = cc
 no-refusal o e (inr (inl is)) = cc
 no-refusal o e (inr (inr is)) = cc
 
--- where the readings stop, the build fails
-pub stops-fails : (f : BuildError) (r : Result Summary BuildError) → r ≡ Err f → IsOk {T = Octree} {E = BuildError} (Err f) ⊎ Stops {T = Octree} (Err f) → IsOk r ⊎ Fails r
-stops-fails f r is (inl fine) = absurd (cc)
-stops-fails f r is (inr (inl source)) = inr (inr (inl (cc)))
-stops-fails f r is (inr (inr memory)) = inr (inr (inr (cc)))
+-- where the readings are refused, so is the build, and what their answer tells it tells too
+module _ (config : Config) (f : BuildError) (r : Result Summary BuildError) (is : r ≡ Err f) where
+  stops-fails : Stops {T = Octree} (Err f) → Fails r
+  stops-fails (inl source) = inr (inl (cc))
+  stops-fails (inr memory) = inr (inr (cc))
+
+  fails-too : IsOk {T = Octree} {E = BuildError} (Err f) ⊎ Stops {T = Octree} (Err f) → IsOk r ⊎ Fails r
+  fails-too (inl fine) = absurd (cc)
+  fails-too (inr stops) = inr (stops-fails stops)
+
+  refused-too : (e : BuildError) → (◌≡◌ {A = Result Octree BuildError} (Err f) (Err e)) ⊎ Stops {T = Octree} (Err f) → (r ≡ Err e) ⊎ Fails r
+  refused-too e (inl same) = inl (cc)
+  refused-too e (inr stops) = inr (stops-fails stops)
+
+  pub accepted-too : (files : Option Files) → Tells (λ all. IsAccepted all config → IsOk {T = Octree} {E = BuildError} (Err f) ⊎ Stops {T = Octree} (Err f)) files
+      → Tells (λ all. IsAccepted all config → IsOk r ⊎ Fails r) files
+  accepted-too None accepted = tt
+  accepted-too (Some all) accepted = λ inputs. fails-too (accepted inputs)
+
+  pub refusal-too : (files : Option Files) → Tells (λ all. (e : BuildError) → IsDefinite e → IsRefused all config e → (◌≡◌ {A = Result Octree BuildError} (Err f) (Err e)) ⊎ Stops {T = Octree} (Err f)) files
+      → Tells (λ all. (e : BuildError) → IsDefinite e → IsRefused all config e → (r ≡ Err e) ⊎ Fails r) files
+  refusal-too None comes = tt
+  refusal-too (Some all) comes = λ e definite because. refused-too e (comes e definite because)
+
+-- inputs with an octree are accepted
+pub accepted-told : (config : Config) (o : Octree) (files : Option Files) → Tells (λ all. IsOctree all config o) files → Tells (λ all. IsAccepted all config) files
+accepted-told config o None is = tt
+accepted-told config o (Some all) is = record { done = is.done; kept = o.kept; points = is.points; has_points = is.has_points; few = is.few }
 
 module _ (config : Config) (o : Octree) (nodes : ℕ) (nodes_are : nodes ≡ length (nodes_of o.tree)) (old new : Option Files) (put : StepsBy (PutsAll (files_of o.kept o.counts o.extent o.points (map tile_of (nodes_of o.tree)))) old new) where
   built_at : (all : Files) → IsOctree all config o → IsBuilt all config (record { points = o.points; nodes = nodes }) old new

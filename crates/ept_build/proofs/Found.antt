@@ -30,7 +30,7 @@ use Rattle.ept_build.specs.declared.octree.Octree.{Octree}
 use Rattle.ept_build.specs.declared.error.BuildError.{BuildError}
 use Rattle.ept_build.specs.declared.error.BuildError.TheVariants.{SourceChanged, TooManyNodes}
 use Rattle.ept_build.specs.Output.{rules_of}
-use Rattle.ept_build.specs.Building.{HasPoints, node_count, IsRefused, IsDefinite, Stops, IsInsertion}
+use Rattle.ept_build.specs.Building.{HasPoints, node_count, IsAccepted, IsRefused, IsDefinite, Stops, IsInsertion}
 use Rattle.ept_build.specs.Octrees.{IsOctree}
 use Rattle.ept_build.proofs.Scanned.{has-number, has-extent, has-kept, has-sampling}
 use Rattle.ept_build.proofs.Judged.{only-many, refused-by-insertion, insertion-comes, insertion-accepted}
@@ -99,7 +99,7 @@ module _ (config : Config) where
   judged-comes (Some all) (Err f) octree refused inserts = insertion-comes all config (Err f) f refl inserts refused
 
   pub judged-accepted : (files : Option Files) (r : Result Octree BuildError) → IfErr r (λ e. Tells (λ all. IsRefused all config e) files) → IfErr r IsInsertion
-      → Tells (λ all. (done : ScanDone) (kept : Kept) (points : List Point) → HasPoints all config done kept points → node_count kept points ≤ config.max_nodes → IsOk r ⊎ Stops r) files
+      → Tells (λ all. IsAccepted all config → IsOk r ⊎ Stops r) files
   judged-accepted None r refused inserts = tt
-  judged-accepted (Some all) (Ok o) refused inserts = λ done kept points has few. inl refl
+  judged-accepted (Some all) (Ok o) refused inserts = λ is_accepted. inl refl
   judged-accepted (Some all) (Err f) refused inserts = insertion-accepted all config (Err f) f refl inserts refused

@@ -1,5 +1,5 @@
 -- Why a build is refused: one cause, and none where the inputs have points.
-use Rattle.std.proofs.Common.{◌≡◌, ◌∙◌, ℕ, ◌<◌, ◌≤◌, ◌⊎◌, inl, inr, List, length, refl, sym, ap, subst, arith}
+use Rattle.std.proofs.Common.{◌≡◌, ◌∙◌, ℕ, ◌<◌, ◌⊎◌, inl, inr, List, length, refl, sym, ap, subst, arith}
 use Rattle.std.specs.Prelude.{Result, Err, IsOk}
 use Rattle.ept_base.specs.Files.{Files}
 use Rattle.ept_point.specs.declared.point.Point.{Point}
@@ -17,7 +17,7 @@ use Rattle.ept_build.specs.declared.error.BuildError.{BuildError}
 use Rattle.ept_build.specs.declared.error.BuildError.TheVariants.{StoreFault, SourceFault, BadLas, OutOfBounds, TooManyPoints, NoBounds, SourceChanged, TooManyNodes, Memory}
 use Rattle.ept_build.specs.Errors.{of_scan}
 use Rattle.ept_build.specs.Output.{rules_of}
-use Rattle.ept_build.specs.Building.{HasPoints, node_count, HasTooManyNodes, InputsAreRefused, IsRefused, IsDefinite, Stops, IsInsertion}
+use Rattle.ept_build.specs.Building.{HasPoints, node_count, IsAccepted, HasTooManyNodes, InputsAreRefused, IsRefused, IsDefinite, Stops, IsInsertion}
 use Rattle.ept_build.proofs.Scanned.{points-once, rules-once}
 
 -- ---- causes that lie in the inputs
@@ -78,11 +78,11 @@ module _ (all : Files) (config : Config) {T : Type 0} (r : Result T BuildError) 
     ]
   ]
 
-  pub scan-accepted : (done : ScanDone) (kept : Kept) (points : List Point) → HasPoints all config done kept points → IsOk r ⊎ Stops r
-  scan-accepted done kept points has = elim (kind_of f) [
+  pub scan-accepted : IsAccepted all config → IsOk r ⊎ Stops r
+  scan-accepted is_accepted = elim (kind_of f) [
     | of_fault same ↦ inr (inl (is ∙ ap (λ (g : ScanError). Err (of_scan g)) same))
     | of_want same ↦ inr (inr (is ∙ ap (λ (g : ScanError). Err (of_scan g)) same))
-    | of_cause blamed ↦ absurd (blamed ⊥ (scan_or_refusal all config.scale config.bounds config.inputs 0 points done f has.scan refused))
+    | of_cause blamed ↦ absurd (blamed ⊥ (scan_or_refusal all config.scale config.bounds config.inputs 0 is_accepted.points is_accepted.done f is_accepted.has_points.scan refused))
   ]
 
 -- ---- where the inputs have points
@@ -139,11 +139,11 @@ module _ (all : Files) (config : Config) {T : Type 0} (r : Result T BuildError) 
     ]
   ]
 
-  pub insertion-accepted : (done : ScanDone) (kept : Kept) (points : List Point) → HasPoints all config done kept points → node_count kept points ≤ config.max_nodes → IsOk r ⊎ Stops r
-  insertion-accepted done kept points has few = elim (stops_or_many all config f inserts refused) [
+  pub insertion-accepted : IsAccepted all config → IsOk r ⊎ Stops r
+  insertion-accepted is_accepted = elim (stops_or_many all config f inserts refused) [
     | inl same ↦ inr (inl (is ∙ ap (λ (b : BuildError). Err b) same))
     | inr more ↦ elim more [
       | inl same ↦ inr (inr (is ∙ ap (λ (b : BuildError). Err b) same))
-      | inr too ↦ absurd (omega (arith, few, too.1.many, nodes-once all config done kept points has too.1.done too.1.kept too.1.points too.1.has_points))
+      | inr too ↦ absurd (omega (arith, is_accepted.few, too.1.many, nodes-once all config is_accepted.done is_accepted.kept is_accepted.points is_accepted.has_points too.1.done too.1.kept too.1.points too.1.has_points))
     ]
   ]

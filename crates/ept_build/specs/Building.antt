@@ -26,6 +26,14 @@ pub record HasPoints (all : Files) (config : Config) (done : ScanDone) (kept : K
 abbrev pub node_count : Kept → List Point → ℕ
 node_count kept points = length (sampled (rules_of kept) points)
 
+-- The inputs are accepted: they have points, and the sampling of these has few enough nodes.
+pub record IsAccepted (all : Files) (config : Config) : Type 0 where
+  pub done : ScanDone
+  pub kept : Kept
+  pub points : List Point
+  pub has_points : HasPoints all config done kept points
+  pub few : node_count kept points ≤ config.max_nodes
+
 -- The points of the inputs have few enough nodes; the store has gained the files of their sampling, and this is said of them.
 pub record IsBuilt (all : Files) (config : Config) (summary : Summary) (old new : Option Files) : Type 0 where
   pub done : ScanDone

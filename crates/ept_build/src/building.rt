@@ -1,14 +1,11 @@
 //! A build.
 
-ghost use Rattle.std.specs.Prelude.{◌≡◌, ◌⊎◌, ◌≤◌, List, Err, IsOk, IfOk, IfErr, OnOk};
+ghost use Rattle.std.specs.Prelude.{◌≡◌, ◌⊎◌, Err, IsOk, IfOk, IfErr, OnOk};
 ghost use Rattle.ept_base.specs.Causes.{HasCauseOf};
 ghost use Rattle.ept_base.specs.Files.{Tells};
 ghost use Rattle.ept_base.specs.Moves.{Moves, IsSettled};
-ghost use Rattle.ept_point.specs.declared.point.Point.{Point};
-ghost use Rattle.ept_config.specs.declared.kept.Kept as of;
-ghost use Rattle.ept_scan.specs.declared.scan_done.ScanDone as found;
 ghost use Rattle.ept_build.specs.Output.{SameButOutput};
-ghost use Rattle.ept_build.specs.Building.{HasPoints, node_count, IsBuilt, IsRefused, IsDefinite, IsLate, Fails};
+ghost use Rattle.ept_build.specs.Building.{IsAccepted, IsBuilt, IsRefused, IsDefinite, IsLate, Fails};
 
 use crate::error::BuildError;
 use crate::octree::octree_of;
@@ -20,7 +17,7 @@ use std::alloc::Global;
 
 /// Builds the octree of the points of all inputs of the configuration, and puts its files into the store: the
 /// tile of each node, the hierarchy, the metadata, the manifest and the build file. Nothing is put before all
-/// points are inserted.
+/// points are inserted, so inputs that aren't accepted leave no trace, whatever fails besides.
 ///
 /// # Errors
 ///
@@ -46,14 +43,13 @@ where
     ensures refused { IfErr result (λ e. Tells (λ all. IsRefused all config.now e) (H.files shelf.old)) }
     ensures refusal_comes { Tells (λ all. (e : BuildError) → IsDefinite e → IsRefused all config.now e
         → (result ≡ Err e) ⊎ Fails result) (H.files shelf.old) }
-    ensures accepted { Tells (λ all. (done : found.ScanDone) (kept : of.Kept) (points : List Point)
-        → HasPoints all config.now done kept points → node_count kept points ≤ config.now.max_nodes
-        → IsOk result ⊎ Fails result) (H.files shelf.old) }
+    ensures accepted { Tells (λ all. IsAccepted all config.now → IsOk result ⊎ Fails result) (H.files shelf.old) }
     ensures sources { HasCauseOf BuildError.SourceFault (H.faults shelf.old) (H.faults shelf.new) result }
     ensures stores { HasCauseOf BuildError.StoreFault (T.faults store.old) (T.faults store.new) result }
 
     // What stays as it was.
     ensures untouched { IfErr result (λ e. (IsLate e → ⊥) → store.new ≡ store.old) }
+    ensures puts_accepted { (store.new ≡ store.old) ⊎ Tells (λ all. IsAccepted all config.now) (H.files shelf.old) }
     ensures any_moment { Moves T.files T.may_leave T.moment T.image_since SameButOutput store.old store.new }
     ensures files { H.files shelf.new ≡ H.files shelf.old }
     ensures room { _room.new ≡ _room.old }

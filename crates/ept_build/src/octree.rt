@@ -1,6 +1,6 @@
 //! What the two readings of the inputs find.
 
-ghost use Rattle.std.specs.Prelude.{◌≡◌, ◌⊎◌, ◌≤◌, List, Err, IsOk, IfOk, IfErr, length, All};
+ghost use Rattle.std.specs.Prelude.{◌≡◌, ◌⊎◌, List, Err, IsOk, IfOk, IfErr, length, All};
 ghost use Rattle.ept_base.specs.Causes.{HasCauseOf};
 ghost use Rattle.ept_base.specs.Files.{Tells};
 ghost use Rattle.ept_point.specs.declared.point.Point.{Point};
@@ -8,10 +8,8 @@ ghost use Rattle.ept_space.specs.OctreeCube.{IsCube};
 ghost use Rattle.ept_space.specs.CubeOfBounds.{IsCubeOf, HasPlace};
 ghost use Rattle.ept_scan.specs.Counts.{IsSound};
 ghost use Rattle.ept_scan.specs.Scans.{IsScan};
-ghost use Rattle.ept_config.specs.declared.kept.Kept as of;
-ghost use Rattle.ept_scan.specs.declared.scan_done.ScanDone as found;
 ghost use Rattle.ept_build.specs.Output.{rules_of};
-ghost use Rattle.ept_build.specs.Building.{HasPoints, node_count, IsReading, IsInsertion, IsRefused, IsDefinite, Stops};
+ghost use Rattle.ept_build.specs.Building.{IsAccepted, IsReading, IsInsertion, IsRefused, IsDefinite, Stops};
 ghost use Rattle.ept_build.specs.Octrees.{IsOctree};
 
 use crate::error::BuildError;
@@ -50,9 +48,7 @@ pub(crate) fn octree_of<H: Shelf>(
     ensures refused { IfErr result (λ e. Tells (λ all. IsRefused all config.now e) (H.files shelf.old)) }
     ensures refusal_comes { Tells (λ all. (e : BuildError) → IsDefinite e → IsRefused all config.now e
         → (result ≡ Err e) ⊎ Stops result) (H.files shelf.old) }
-    ensures accepted { Tells (λ all. (done : found.ScanDone) (kept : of.Kept) (points : List Point)
-        → HasPoints all config.now done kept points → node_count kept points ≤ config.now.max_nodes
-        → IsOk result ⊎ Stops result) (H.files shelf.old) }
+    ensures accepted { Tells (λ all. IsAccepted all config.now → IsOk result ⊎ Stops result) (H.files shelf.old) }
     ensures reading { IfErr result IsReading }
     ensures files { H.files shelf.new ≡ H.files shelf.old }
     ensures cause { HasCauseOf BuildError.SourceFault (H.faults shelf.old) (H.faults shelf.new) result }

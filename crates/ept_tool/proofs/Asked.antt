@@ -8,7 +8,7 @@ use Rattle.ept_tool.specs.declared.refusal.Refusal.{Refusal}
 use Rattle.ept_tool.specs.declared.refusal.Refusal.TheVariants.{Usage, SourceFault, StoreFault, Memory}
 use Rattle.ept_tool.specs.Words.{IsBuild, IsInfo}
 use Rattle.ept_tool.specs.Lines.{summary_text, header_text}
-use Rattle.ept_tool.specs.Requests.{HasBuilt, HasTold, HasFewNodes, HasHeader, BuildIsRefused, InfoIsRefused, IsOfHeader, IsDefinite, IsLate, Fails}
+use Rattle.ept_tool.specs.Requests.{HasBuilt, HasTold, IsAcceptedAt, HasHeader, BuildIsRefused, InfoIsRefused, IsOfHeader, IsDefinite, IsLate, Fails}
 use Rattle.ept_tool.specs.Answers.{AsksBuild, AsksInfo, IsAnswer, IsDone, IsRefused}
 use Rattle.ept_tool.proofs.Runs.{Carries}
 
@@ -81,11 +81,17 @@ module _ (words : List (List ℕ)) (path out : List ℕ) (is : IsBuild words pat
           build_came comes;
     }
 
-    pub build_accepted : (files : Option Files) → Tells (λ all. HasFewNodes all path → IsOk answer ⊎ Fails answer) files
-        → Tells (λ all. AsksBuild words (HasFewNodes all) → IsOk answer ⊎ Fails answer) files
+    pub build_accepted : (files : Option Files) → Tells (λ all. IsAcceptedAt all path → IsOk answer ⊎ Fails answer) files
+        → Tells (λ all. AsksBuild words (IsAcceptedAt all) → IsOk answer ⊎ Fails answer) files
     build_accepted files accepted =
-        told_as (λ all. HasFewNodes all path → IsOk answer ⊎ Fails answer) (λ all. AsksBuild words (HasFewNodes all) → IsOk answer ⊎ Fails answer) files
-        (λ all accept asks. accept (of_build {P = HasFewNodes all} asks)) accepted
+        told_as (λ all. IsAcceptedAt all path → IsOk answer ⊎ Fails answer) (λ all. AsksBuild words (IsAcceptedAt all) → IsOk answer ⊎ Fails answer) files
+        (λ all accept asks. accept (of_build {P = IsAcceptedAt all} asks)) accepted
+
+  -- the store stays as it was (same), or the build that is asked for is accepted
+  pub build_puts : (files : Option Files) (same : Type 0) → same ⊎ Tells (λ all. IsAcceptedAt all path) files → same ⊎ Tells (λ all. AsksBuild words (IsAcceptedAt all)) files
+  build_puts files same (inl unchanged) = inl unchanged
+  build_puts files same (inr accepted) =
+      inr (told_as (λ all. IsAcceptedAt all path) (λ all. AsksBuild words (IsAcceptedAt all)) files (λ all h. record { path = path; out = out; words_are = is; holds = h }) accepted)
 
 module _ (words : List (List ℕ)) (path : List ℕ) (is : IsInfo words path) where
   of_info : {P : List ℕ → Type 0} → AsksInfo words P → P path

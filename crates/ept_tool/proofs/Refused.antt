@@ -1,11 +1,8 @@
 -- A build is refused for what its configuration, or its inputs, are refused for.
 use Rattle.std.proofs.Common.{◌≡◌, ◌⊎◌, inl, inr, ⊎_elim, ℕ, List, Option, Some, None, Ok, Err, refl, sym, ◌∙◌, ap, subst}
-use Rattle.std.specs.Prelude.{Result, IsOk, IsErrAnd, ◌≤◌}
+use Rattle.std.specs.Prelude.{Result, IsOk, IsErrAnd}
 use Rattle.ept_base.specs.Files.{Files, Tells}
-use Rattle.ept_point.specs.declared.point.Point.{Point}
 use Rattle.ept_config.specs.declared.config.Config.{Config}
-use Rattle.ept_config.specs.declared.kept.Kept.{Kept}
-use Rattle.ept_scan.specs.declared.scan_done.ScanDone.{ScanDone}
 use Rattle.ept_config.specs.declared.config_error.ConfigError.{ConfigError}
 use Rattle.ept_config.specs.Configuration.{reading}
 use Rattle.ept_config.specs.Facts.{Facts, facts}
@@ -16,7 +13,7 @@ use Rattle.ept_build.specs.Building as building
 use Rattle.ept_tool.specs.declared.refusal.Refusal.{Refusal}
 use Rattle.ept_tool.specs.declared.refusal.Refusal.TheVariants.{Usage, BadConfiguration, BadLas, OutOfBounds, NoBounds, SourceChanged, TooManyPoints, TooManyNodes, SourceFault, StoreFault, Memory}
 use Rattle.ept_tool.specs.Errors.{of_build}
-use Rattle.ept_tool.specs.Requests.{HasConfiguration, HasBadConfiguration, HasFewNodes, IsBuiltAt, BuildIsRefused, IsOfConfiguration, IsDefinite, Fails}
+use Rattle.ept_tool.specs.Requests.{HasConfiguration, HasBadConfiguration, IsAcceptedAt, IsBuiltAt, BuildIsRefused, IsOfConfiguration, IsDefinite, Fails}
 use Rattle.ept_tool.proofs.Configs.{config_same}
 
 -- three facts of one told thing
@@ -150,13 +147,11 @@ module _ (all : Files) (path : List ℕ) where
         came_after StoreFault definite why = absurd (definite (inr (inl refl)))
         came_after Memory definite why = absurd (definite (inr (inr refl)))
 
-      accepted_after : ((done : ScanDone) (kept : Kept) (points : List Point) → building.HasPoints all config done kept points → building.node_count kept points ≤ config.max_nodes → IsOk answer ⊎ building.Fails answer)
-          → HasFewNodes all path → IsOk (told_as answer) ⊎ Fails (told_as answer)
+      accepted_after : (building.IsAccepted all config → IsOk answer ⊎ building.Fails answer)
+          → IsAcceptedAt all path → IsOk (told_as answer) ⊎ Fails (told_as answer)
       accepted_after accepts asked =
-          let same = one_config asked.config config asked.configures configures in
-          let has : building.HasPoints all config asked.done asked.kept asked.points = subst (λ (c : Config). building.HasPoints all c asked.done asked.kept asked.points) same asked.has_points in
-          let few : building.node_count asked.kept asked.points ≤ config.max_nodes = subst (λ (c : Config). building.node_count asked.kept asked.points ≤ c.max_nodes) same asked.few in
-          ⊎_elim (λ is. inl (ok_as answer is)) (λ fails. inr (fails_as fails)) (accepts asked.done asked.kept asked.points has few)
+          let mine : building.IsAccepted all config = subst (λ (c : Config). building.IsAccepted all c) (one_config asked.config config asked.configures configures) asked.accepted in
+          ⊎_elim (λ is. inl (ok_as answer is)) (λ fails. inr (fails_as fails)) (accepts mine)
         where
           ok_as : (a : Result Summary BuildError) → IsOk a → IsOk (told_as a)
           ok_as (Ok summary) is = is
@@ -178,15 +173,21 @@ module _ (files later : Option Files) (same : later ≡ files) (path : List ℕ)
         (λ all. (r : Refusal) → IsDefinite r → BuildIsRefused all path r → (told_as answer ≡ Err r) ⊎ Fails (told_as answer)) files later same
         (λ all has come. came_after all path config has answer come) configures comes
 
-    pub build_accepted : Tells (λ all. (done : ScanDone) (kept : Kept) (points : List Point) → building.HasPoints all config done kept points → building.node_count kept points ≤ config.max_nodes → IsOk answer ⊎ building.Fails answer) later
-        → Tells (λ all. HasFewNodes all path → IsOk (told_as answer) ⊎ Fails (told_as answer)) files
+    pub build_accepted : Tells (λ all. building.IsAccepted all config → IsOk answer ⊎ building.Fails answer) later
+        → Tells (λ all. IsAcceptedAt all path → IsOk (told_as answer) ⊎ Fails (told_as answer)) files
     build_accepted accepts =
         both_tell (λ all. HasConfiguration all path config)
-        (λ all. (done : ScanDone) (kept : Kept) (points : List Point) → building.HasPoints all config done kept points → building.node_count kept points ≤ config.max_nodes → IsOk answer ⊎ building.Fails answer)
-        (λ all. HasFewNodes all path → IsOk (told_as answer) ⊎ Fails (told_as answer)) files later same
+        (λ all. building.IsAccepted all config → IsOk answer ⊎ building.Fails answer)
+        (λ all. IsAcceptedAt all path → IsOk (told_as answer) ⊎ Fails (told_as answer)) files later same
         (λ all has accept. accepted_after all path config has answer accept) configures accepts
 
   pub built_at : (summary : Summary) (old new : Option Files) → Tells (λ all. building.IsBuilt all config summary old new) later → Tells (λ all. IsBuiltAt all path summary old new) files
   built_at summary old new built =
       both_tell (λ all. HasConfiguration all path config) (λ all. building.IsBuilt all config summary old new) (λ all. IsBuiltAt all path summary old new) files later same
       (λ all has is. record { config = config; configures = has; built = is }) configures built
+
+  -- the store stays as it was (unchanged), or the inputs are accepted
+  pub accepted_at : (same_store : Type 0) → same_store ⊎ Tells (λ all. building.IsAccepted all config) later → same_store ⊎ Tells (λ all. IsAcceptedAt all path) files
+  accepted_at same_store (inl unchanged) = inl unchanged
+  accepted_at same_store (inr accepted) = inr (both_tell (λ all. HasConfiguration all path config) (λ all. building.IsAccepted all config) (λ all. IsAcceptedAt all path) files later same
+      (λ all has is. record { config = config; configures = has; accepted = is }) configures accepted)

@@ -1,16 +1,13 @@
 -- What the files of these paths are, on a shelf of these files, and why a command on them is refused.
-use Rattle.std.specs.Prelude.{◌≡◌, ◌≢◌, ◌⊎◌, ℕ, ◌≤◌, List, Option, None, Some, Result, Ok, Err, take, ⊤}
+use Rattle.std.specs.Prelude.{◌≡◌, ◌≢◌, ◌⊎◌, ℕ, List, Option, None, Some, Result, Ok, Err, take, ⊤}
 use Rattle.ept_base.specs.Files.{Files}
-use Rattle.ept_point.specs.declared.point.Point.{Point}
 use Rattle.ept_config.specs.declared.config.Config.{Config}
-use Rattle.ept_config.specs.declared.kept.Kept.{Kept}
 use Rattle.ept_config.specs.declared.config_error.ConfigError.{ConfigError}
 use Rattle.ept_config.specs.Configuration.{reading}
 use Rattle.ept_config.specs.Facts.{facts}
 use Rattle.ept_las.specs.declared.header.Header.{Header}
 use Rattle.ept_las.specs.declared.las_error.LasError.{LasError}
 use Rattle.ept_las.specs.LasHeader.{HeaderReadsAs}
-use Rattle.ept_scan.specs.declared.scan_done.ScanDone.{ScanDone}
 use Rattle.ept_scan.specs.LasFile.{head_of}
 use Rattle.ept_build.specs.declared.error.BuildError.{BuildError}
 use Rattle.ept_build.specs.declared.error.BuildError.TheVariants as build
@@ -45,15 +42,11 @@ abbrev pub HasBadBuild : Files → List ℕ → BuildError → Type 0
 HasBadBuild files path error =
     (config : Config) × HasConfiguration files path config × building.IsRefused files config error
 
--- it is a configuration whose inputs have points, and the sampling of these has few enough nodes
-pub record HasFewNodes (files : Files) (path : List ℕ) : Type 0 where
+-- it is a configuration, and its inputs are accepted
+pub record IsAcceptedAt (files : Files) (path : List ℕ) : Type 0 where
   pub config : Config
   pub configures : HasConfiguration files path config
-  pub done : ScanDone
-  pub kept : Kept
-  pub points : List Point
-  pub has_points : building.HasPoints files config done kept points
-  pub few : building.node_count kept points ≤ config.max_nodes
+  pub accepted : building.IsAccepted files config
 
 -- it is a configuration, and a store has gained the output of its build
 pub record IsBuiltAt (files : Files) (path : List ℕ) (summary : Summary) (old new : Option Files)

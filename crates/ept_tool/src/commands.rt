@@ -7,7 +7,7 @@ ghost use Rattle.ept_base.specs.Moves.{Moves, IsSettled};
 ghost use Rattle.ept_las.specs.declared.header.Header as found;
 ghost use Rattle.ept_build.specs.Output.{SameButOutput};
 ghost use Rattle.ept_tool.specs.Lines.{summary_text, header_text};
-ghost use Rattle.ept_tool.specs.Requests.{IsBuiltAt, HasBuilt, HasFewNodes, BuildIsRefused, HasTold, HasHeader, InfoIsRefused, IsOfBuild, IsOfHeader, IsDefinite, IsLate, Fails};
+ghost use Rattle.ept_tool.specs.Requests.{IsBuiltAt, HasBuilt, IsAcceptedAt, BuildIsRefused, HasTold, HasHeader, InfoIsRefused, IsOfBuild, IsOfHeader, IsDefinite, IsLate, Fails};
 
 use crate::files::{read_configuration, read_file_header};
 use crate::lines::{header_line, summary_line};
@@ -40,12 +40,14 @@ where
     ensures refused { IfErr result (λ r. Tells (λ all. BuildIsRefused all path.now r) (H.files shelf.old)) }
     ensures refusal_comes { Tells (λ all. (r : Refusal) → IsDefinite r → BuildIsRefused all path.now r
         → (result ≡ Err r) ⊎ Fails result) (H.files shelf.old) }
-    ensures accepted { Tells (λ all. HasFewNodes all path.now
+    ensures accepted { Tells (λ all. IsAcceptedAt all path.now
         → IsOk result ⊎ Fails result) (H.files shelf.old) }
     ensures causes { IfErr result IsOfBuild }
     ensures sources { HasCauseOf Refusal.SourceFault (H.faults shelf.old) (H.faults shelf.new) result }
     ensures stores { HasCauseOf Refusal.StoreFault (T.faults store.old) (T.faults store.new) result }
     ensures untouched { IfErr result (λ r. (IsLate r → ⊥) → store.new ≡ store.old) }
+    ensures puts_accepted { (store.new ≡ store.old)
+        ⊎ Tells (λ all. IsAcceptedAt all path.now) (H.files shelf.old) }
     ensures any_moment { Moves T.files T.may_leave T.moment T.image_since SameButOutput store.old store.new }
     ensures files { H.files shelf.new ≡ H.files shelf.old }
     ensures room { room.new ≡ room.old }
@@ -73,12 +75,14 @@ where
     ensures refused { IfErr result (λ r. Tells (λ all. BuildIsRefused all path.now r) (H.files shelf.old)) }
     ensures refusal_comes { Tells (λ all. (r : Refusal) → IsDefinite r → BuildIsRefused all path.now r
         → (result ≡ Err r) ⊎ Fails result) (H.files shelf.old) }
-    ensures accepted { Tells (λ all. HasFewNodes all path.now
+    ensures accepted { Tells (λ all. IsAcceptedAt all path.now
         → IsOk result ⊎ Fails result) (H.files shelf.old) }
     ensures causes { IfErr result IsOfBuild }
     ensures sources { HasCauseOf Refusal.SourceFault (H.faults shelf.old) (H.faults shelf.new) result }
     ensures stores { HasCauseOf Refusal.StoreFault (T.faults store.old) (T.faults store.new) result }
     ensures untouched { IfErr result (λ r. (IsLate r → ⊥) → store.new ≡ store.old) }
+    ensures puts_accepted { (store.new ≡ store.old)
+        ⊎ Tells (λ all. IsAcceptedAt all path.now) (H.files shelf.old) }
     ensures any_moment { Moves T.files T.may_leave T.moment T.image_since SameButOutput store.old store.new }
     ensures files { H.files shelf.new ≡ H.files shelf.old }
     ensures room { room.new ≡ room.old }

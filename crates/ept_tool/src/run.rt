@@ -9,7 +9,7 @@ ghost use Rattle.ept_las.specs.declared.header.Header as found;
 ghost use Rattle.ept_build.specs.Output.{SameButOutput};
 ghost use Rattle.ept_tool.specs.declared.refusal.Refusal as cause;
 ghost use Rattle.ept_tool.specs.Words.{bytes_of, IsBuild, IsInfo, IsUsage, IsLater};
-ghost use Rattle.ept_tool.specs.Requests.{HasFewNodes, HasHeader, IsDefinite};
+ghost use Rattle.ept_tool.specs.Requests.{IsAcceptedAt, HasHeader, IsDefinite};
 ghost use Rattle.ept_tool.specs.Answers.{Yields, YieldsRefusal, AsksBuild, AsksInfo, Ends, IsRefused, Refuses, IsCut};
 
 use crate::answers::{finish, refuse_usage};
@@ -48,7 +48,7 @@ where
         (Appends (O.written out.old) (O.written out.new)) }
     ensures settled { (config folder : List ℕ) → IsBuild (bytes_of words.now) config folder
         → result ≡ OK → IsSettled (T.files store.new) (T.may_leave store.new) }
-    ensures build_comes { Tells (λ all. AsksBuild (bytes_of words.now) (HasFewNodes all) → Yields OK result)
+    ensures build_comes { Tells (λ all. AsksBuild (bytes_of words.now) (IsAcceptedAt all) → Yields OK result)
         (H.files shelf.old) }
     ensures info_comes { Tells (λ all. (header : found.Header)
         → AsksInfo (bytes_of words.now) (λ path. HasHeader all path header) → Yields OK result)
@@ -71,6 +71,8 @@ where
 
     // What stays as it was.
     ensures silent { result ≡ NOT_BUILT → (out.new ≡ out.old) × (store.new ≡ store.old) }
+    ensures puts_accepted { (store.new ≡ store.old)
+        ⊎ Tells (λ all. AsksBuild (bytes_of words.now) (IsAcceptedAt all)) (H.files shelf.old) }
     ensures info_puts_nothing { (las : List ℕ) → IsInfo (bytes_of words.now) las → store.new ≡ store.old }
     ensures any_moment { Moves T.files T.may_leave T.moment T.image_since SameButOutput store.old store.new }
     ensures files { H.files shelf.new ≡ H.files shelf.old }

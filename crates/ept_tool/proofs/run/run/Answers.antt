@@ -1,9 +1,9 @@
 use Rattle.std.proofs.Common.{◌≡◌, map, string_bytes, refl}
 use Rattle.ept_base.specs.Causes.{Rose}
-use Rattle.ept_tool.specs.Requests.{HasFewNodes, HasHeader}
+use Rattle.ept_tool.specs.Requests.{IsAcceptedAt, HasHeader}
 use Rattle.ept_tool.specs.Answers.{AsksBuild, AsksInfo, IsRefused}
 use Rattle.ept_tool.proofs.Runs.{Carries, never_usage, never_later, is_done, has_risen, is_refused, refusal_yields, done_yields, info_yields, usage_comes, usage_yields}
-use Rattle.ept_tool.proofs.Asked.{build_or_info, build_carries, build_accepted, info_carries, info_accepted}
+use Rattle.ept_tool.proofs.Asked.{build_or_info, build_carries, build_accepted, build_puts, info_carries, info_accepted}
 use Rattle.ept_tool.proofs.run.run.Given as given
 use Rattle.ept_tool.proofs.run.run.Goals as goal
 
@@ -42,8 +42,12 @@ returns-in-Build-clause-silent g c = λ is. absurd (never_later c.finish.result 
 
 pub returns-in-Build-clause-build_comes : goal.returns-in-Build-clause-build_comes
 returns-in-Build-clause-build_comes g c =
-    done_yields c.finish.result (g.O.Sink.written c.args.out.now) (g.O.Sink.written c.finish.new.out) (Rose (g.O.Sink.faults c.args.out.now) (g.O.Sink.faults c.finish.new.out)) c.build_line-line.result (g.H.Shelf.files c.args.shelf.now) (λ all. AsksBuild (map string_bytes c.args.words.now) (HasFewNodes all)) c.finish.ensures
+    done_yields c.finish.result (g.O.Sink.written c.args.out.now) (g.O.Sink.written c.finish.new.out) (Rose (g.O.Sink.faults c.args.out.now) (g.O.Sink.faults c.finish.new.out)) c.build_line-line.result (g.H.Shelf.files c.args.shelf.now) (λ all. AsksBuild (map string_bytes c.args.words.now) (IsAcceptedAt all)) c.finish.ensures
     (build_accepted (map string_bytes c.args.words.now) c.in-Build.config.now c.in-Build.out.now c.in-Build.ensures c.build_line-line.result (g.H.Shelf.files c.args.shelf.now) c.build_line-line.ensures.accepted)
+
+pub returns-in-Build-clause-puts_accepted : goal.returns-in-Build-clause-puts_accepted
+returns-in-Build-clause-puts_accepted g c =
+    build_puts (map string_bytes c.args.words.now) c.in-Build.config.now c.in-Build.out.now c.in-Build.ensures (g.H.Shelf.files c.args.shelf.now) (c.build_line-line.new.store ≡ c.args.store.now) c.build_line-line.ensures.puts_accepted
 
 -- ---- info
 
@@ -85,7 +89,7 @@ returns-in-Info-clause-info_comes g c =
 -- ---- words that are no command
 
 pub returns-in-Usage-clause-build_comes : goal.returns-in-Usage-clause-build_comes
-returns-in-Usage-clause-build_comes g c = usage_comes (g.H.Shelf.files c.args.shelf.now) (map string_bytes c.args.words.now) (λ all. HasFewNodes all) c.refuse_usage.result c.in-Usage.ensures
+returns-in-Usage-clause-build_comes g c = usage_comes (g.H.Shelf.files c.args.shelf.now) (map string_bytes c.args.words.now) (λ all. IsAcceptedAt all) c.refuse_usage.result c.in-Usage.ensures
 
 pub returns-in-Usage-clause-refusal_comes : goal.returns-in-Usage-clause-refusal_comes
 returns-in-Usage-clause-refusal_comes g c =
