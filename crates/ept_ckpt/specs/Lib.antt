@@ -1,0 +1,10 @@
+pub mod SettingRanges
+pub mod Facts
+pub mod Octree
+pub mod Valid
+pub mod Drafts
+pub mod Body
+pub mod Fields
+pub mod Forms
+pub mod Reads
+pub mod Refusals

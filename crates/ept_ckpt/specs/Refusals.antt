@@ -1,0 +1,30 @@
+-- Why bytes are no body of a checkpoint.
+use Rattle.std.specs.Prelude.{◌≡◌, ℕ, List, [], length, Ok, Err}
+use Rattle.ept_ckpt.specs.declared.field_error.FieldError.{FieldError}
+use Rattle.ept_ckpt.specs.declared.field_error.FieldError.TheVariants as field
+use Rattle.ept_ckpt.specs.declared.ckpt_error.CkptError.{CkptError}
+use Rattle.ept_ckpt.specs.declared.ckpt_error.CkptError.TheVariants.{Length, Version, Field, Tree, Memory}
+use Rattle.ept_ckpt.specs.Facts.{Facts}
+use Rattle.ept_ckpt.specs.Octree.{AreNodesOf}
+use Rattle.ept_ckpt.specs.Forms.{fields}
+
+-- what the refusal of a field is told as
+abbrev pub of_field : FieldError → CkptError
+of_field field.Length = Length
+of_field field.Version = Version
+of_field (field.Field at) = Field at
+of_field field.Memory = Memory
+
+-- each field is within its range, but the nodes are no whole octree of the points that are inserted
+pub record HasNoOctree (bytes : List ℕ) : Type 0 where
+  pub read : Facts
+  pub reads : fields (length bytes) bytes ≡ Ok (read, [])
+  pub no_octree : ¬ AreNodesOf read.inserted read.nodes
+
+-- the first fault in the order of the fields, and at last that of the octree
+abbrev pub Refuses : List ℕ → CkptError → Type 0
+Refuses bytes Length = fields (length bytes) bytes ≡ Err field.Length
+Refuses bytes Version = fields (length bytes) bytes ≡ Err field.Version
+Refuses bytes (Field at) = fields (length bytes) bytes ≡ Err (field.Field at)
+Refuses bytes Tree = HasNoOctree bytes
+Refuses bytes Memory = ⊥

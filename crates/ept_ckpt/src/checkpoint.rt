@@ -1,0 +1,27 @@
+//! A checkpoint.
+
+ghost use Rattle.ept_ckpt.specs.Valid.{IsCheckpoint};
+ghost use Rattle.std.proofs.Props.{props};
+
+use crate::node_line::NodeLine;
+use ept_config::{Kept, SourceCount};
+use ept_point::List;
+
+/// How far a build has come: the first points of its inputs are inserted, and their nodes are in files.
+///
+/// There is a count for each input. The nodes are a whole octree of the points that are inserted, in the
+/// order of their keys.
+#[derive(Debug, Drop)]
+pub struct Checkpoint {
+    /// How many commits there were, this one included; at most one for each point and each input.
+    pub generation: u64,
+    /// What the output depends on.
+    pub kept: Kept,
+    /// What was found of each input.
+    pub counts: List<SourceCount>,
+    /// How many of the inputs' points are inserted, the first in order.
+    pub inserted: u64,
+    /// The nodes, in the order of their keys.
+    pub nodes: List<NodeLine>,
+    pub ghost is_checkpoint: { IsCheckpoint generation kept counts inserted nodes } by { Prim.hlevel props },
+}

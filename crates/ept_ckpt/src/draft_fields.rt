@@ -1,0 +1,124 @@
+//! All fields of a body, as a cursor reads them.
+
+ghost use Rattle.std.specs.Prelude.{◌≡◌, ◌≤◌, ◌<◌, ◌*◌, ◌^◌, length, [], OnOk};
+ghost use Rattle.std.specs.List.{All};
+ghost use Rattle.ept_ckpt.specs.Facts.{sources_of, draft_facts};
+ghost use Rattle.ept_ckpt.specs.Forms.{mark, end, ripe, fields, points_of_sources};
+ghost use Rattle.ept_ckpt.specs.Reads.{ReadsAs};
+ghost use Rattle.ept_ckpt.specs.Valid.{points_of, deepest};
+ghost use Rattle.ept_space.specs.CubeOfBounds.{HasCube};
+
+use crate::cursor::Cursor;
+use crate::draft::Draft;
+use crate::field_error::FieldError;
+use crate::limits::{GENERATION_AT, MARK, VERSION};
+use crate::settings::Settings;
+use crate::sources::Sources;
+use ept_config::{MAX_INPUTS, SourceCount};
+use ept_space::{Bounds, Cube};
+use std::alloc::Global;
+
+impl<'a> Cursor<'a> {
+    /// The name of the format and its version.
+    #[tactic(auto, unfolding(crate::specs::Forms::mark, crate::specs::Fields::bytes))]
+    fn mark(&mut self) -> Result<(), FieldError>
+        ensures reads { ReadsAs mark (λ _. tt) self.old self.new result }
+    {
+        let name = self.bytes(MARK.len())?;
+        if !name.starts_with(&MARK) {
+            return Err(FieldError::Version);
+        }
+        if self.u32()? != VERSION {
+            return Err(FieldError::Version);
+        }
+        Ok(())
+    }
+
+    /// The end of the body.
+    #[tactic(auto, unfolding(crate::specs::Forms::end))]
+    fn end(&mut self) -> Result<(), FieldError>
+        ensures reads { ReadsAs end (λ _. tt) self.old self.new result }
+        ensures empty { OnOk result (self.new.rest.now ≡ []) }
+    {
+        if !self.rest.is_empty() {
+            return Err(FieldError::Length);
+        }
+        Ok(())
+    }
+
+    /// The judgement of the generation, which stands between 1 and this.
+    #[tactic(auto, unfolding(crate::specs::Forms::ripe))]
+    fn ripe(&mut self, generation: u64, most: u64) -> Result<(), FieldError>
+        ensures reads { ReadsAs (ripe generation most) (λ _. tt) self.old self.new result }
+        ensures least { OnOk result (1 ≤ generation) }
+        ensures most { OnOk result (generation ≤ most) }
+        ensures same { self.new.rest.now ≡ self.old.rest.now }
+    {
+        if generation < 1 || generation > most {
+            return Err(FieldError::Field { at: GENERATION_AT });
+        }
+        Ok(())
+    }
+
+    /// All fields, in order.
+    #[tactic(auto, unfolding(crate::specs::Forms::fields))]
+    pub(crate) fn draft(&mut self, alloc: Global) -> Result<Draft, FieldError>
+        ensures reads { ReadsAs fields draft_facts self.old self.new result }
+        ensures empty { OnOk result (self.new.rest.now ≡ []) }
+    {
+        self.mark()?;
+        let generation = self.number(8)?;
+        let settings = self.settings(alloc)?;
+        let inputs = self.within(4, 1, MAX_INPUTS as u64)? as u32;
+        let sources = self.sources(alloc, inputs, settings.scale, &settings.bounds)?;
+        let inserted = self.within(8, 0, points_in(&sources))?;
+        let lines = self.u32()?;
+        let nodes = self.nodes(alloc, lines, deepest(&settings))?;
+        self.end()?;
+        self.ripe(generation, inserted + u64::from(inputs))?;
+        Ok(Draft {
+            generation,
+            settings,
+            sources,
+            inserted,
+            nodes,
+        })
+    }
+}
+
+// The greatest depth of a node.
+fn deepest(settings: &Settings) -> u8
+    ensures depth { result ≡ deepest settings.now.bounds settings.now.s settings.now.max_depth }
+    ensures most { result ≤ 31 }
+{
+    let cube = Cube::of(&settings.bounds, settings.s, settings.max_depth).unwrap();
+    cube.known();
+    cube.depth
+}
+
+// How many points the inputs have.
+#[tactic(auto, using(crate::proofs::Paired::points_of_pairs))]
+fn points_in(sources: &Sources) -> u64
+    requires few { length sources.now.inputs ≤ MAX_INPUTS }
+    requires each { length sources.now.counts ≡ length sources.now.inputs }
+    requires counted { All (λ count. count.points < 2 ^ 32) sources.now.counts }
+    ensures points { result ≡ points_of_sources (sources_of sources.now.inputs sources.now.counts) }
+    ensures counts { result ≡ points_of sources.now.counts }
+    ensures most { result ≤ 65535 * 4294967295 }
+{
+    points_of(sources.counts.as_slice())
+}
+
+// How many points there are of these counts.
+fn points_of(counts: &[SourceCount]) -> u64
+    requires few { length counts.now ≤ MAX_INPUTS }
+    requires counted { All (λ count. count.points < 2 ^ 32) counts.now }
+    ensures points { result ≡ points_of counts.now }
+    ensures most { result ≤ 65535 * 4294967295 }
+{
+    let mut sum: u64 = 0;
+    for count in counts {
+        sum += count.points;
+    }
+    sum
+}

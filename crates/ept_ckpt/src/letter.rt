@@ -1,0 +1,23 @@
+//! Which version of a tile is named.
+
+/// Which of the two versions of a node's tile, or of the two bodies, is meant.
+#[derive(Clone, Copy, Debug, PartialEq, Eq)]
+pub enum Letter {
+    A,
+    B,
+}
+
+impl Letter {
+    ghost use Rattle.std.specs.Prelude.{◌≡◌};
+    ghost use Rattle.ept_ckpt.specs.Body.{letter_code};
+
+    /// The number that stands for the letter.
+    pub(crate) fn code(self) -> u8
+        ensures { result ≡ letter_code self }
+    {
+        match self {
+            Letter::A => 0,
+            Letter::B => 1,
+        }
+    }
+}

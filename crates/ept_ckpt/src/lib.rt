@@ -1,0 +1,32 @@
+//! The body of a checkpoint: how far a build has come, as bytes.
+#![tactic(auto)]
+
+mod append;
+mod boxes;
+mod checkpoint;
+mod ckpt_error;
+mod cursor;
+mod draft;
+mod draft_fields;
+mod field_error;
+mod fields;
+mod letter;
+mod limits;
+mod node_line;
+mod nodes;
+mod octree;
+mod reader;
+mod setting_fields;
+mod settings;
+mod sources;
+#[cfg(test)]
+mod tests;
+mod texts;
+mod writer;
+
+pub use checkpoint::Checkpoint;
+pub use ckpt_error::CkptError;
+pub use letter::Letter;
+pub use node_line::NodeLine;
+pub use reader::read_ckpt;
+pub use writer::write_ckpt;
