@@ -1,44 +1,34 @@
 -- A body whose fields are all read is the body of what is read.
-use Rattle.std.proofs.Common.{◌≡◌, ◌∙◌, ℕ, ◌+◌, ◌<◌, ◌^◌, true, List, [], ◌++◌, length, take, slice_index, Ok, refl, sym, subst, arith, append-nil}
-use Rattle.std.specs.Prelude.{⊤, codes, nat_eq}
+use Rattle.std.proofs.Common.{◌≡◌, ◌∙◌, ℕ, ◌+◌, ◌<◌, ◌^◌, true, List, [], ◌++◌, length, take, slice_index, Ok, sym, arith, append-nil}
+use Rattle.std.specs.Prelude.{⊤, nat_eq}
 use Rattle.std.specs.List.{flat_map, starts_with}
 use Rattle.std.proofs.lemmas.List.{take_all}
-use Rattle.std.proofs.lemmas.Bool.{eqb-true}
 use Rattle.std.proofs.lemmas.Slice.Eq.{bytes_eq-Decides}
 use Rattle.byteorder.specs.Endian.{little_bytes}
-use Rattle.ept_ckpt.specs.declared.field_error.FieldError.TheVariants.{Version}
 use Rattle.ept_ckpt.specs.Facts.{Facts}
 use Rattle.ept_ckpt.specs.Body.{mark_bytes, kept_bytes, source_bytes, node_bytes, body}
-use Rattle.ept_ckpt.specs.Fields.{unless, bytes, number, within, times}
+use Rattle.ept_ckpt.specs.Fields.{bytes, number, within, times}
 use Rattle.ept_ckpt.specs.Forms.{mark, kept_form, source_form, node_form, points_of_sources, deepest_of, end, ripe, fields}
-use Rattle.ept_ckpt.proofs.ReadNumbers.{Cut, CutsOff, steps, same_read, tested, uncut, cut_by, all_cut, field_cut, bytes_length, number_cut, bytes_cut}
+use Rattle.ept_ckpt.proofs.ReadNumbers.{CutsOff, steps, same_read, tested, uncut, cut_by, all_cut, field_cut, bytes_length, number_cut, bytes_cut}
 use Rattle.ept_ckpt.proofs.ReadSettings.{kept_cut}
 use Rattle.ept_ckpt.proofs.ReadSources.{source_cut}
 use Rattle.ept_ckpt.proofs.ReadNodes.{node_cut, times_cut, times_count}
 
--- a name of four bytes that starts with the name of the format is this name
-name_is : (name : List ℕ) → length name ≡ 4 → starts_with nat_eq name (codes "EPTW") ≡ true → name ≡ codes "EPTW"
-name_is name four passed =
-    let same : codes "EPTW" ≡ take 4 name = (bytes_eq-Decides (codes "EPTW") (take 4 name)).0 passed in
-    sym (same ∙ take_all 4 name (omega (arith, four)))
-
--- a name and a version are the mark, where they are those of the format
-mark_is : (name : List ℕ) (version : ℕ) → name ≡ codes "EPTW" → version ≡ 1 → name ++ little_bytes 4 version ≡ mark_bytes
+-- eight bytes that start with the mark are the mark
+mark_is : (front : List ℕ) → length front ≡ 8 → starts_with nat_eq front mark_bytes ≡ true → front ≡ mark_bytes
 unfolding mark_bytes
-mark_is name version is_name is_version = rw (is_name, is_version) refl
+mark_is front eight passed =
+    let same : mark_bytes ≡ take 8 front = (bytes_eq-Decides mark_bytes (take 8 front)).0 passed in
+    sym (same ∙ take_all 8 front (omega (arith, eight)))
 
 mark_cut : CutsOff ⊤ mark (λ _. mark_bytes)
 unfolding mark
 mark_cut = record {
   cut = λ total rest left marked fit read.
-      steps (bytes 4 total rest) _ read (λ name m1 r1 read1.
-      steps (unless Version (starts_with nat_eq name (codes "EPTW")) total m1) _ read1 (λ named m2 r2 read2.
-      steps (number 4 total m2) _ read2 (λ version m3 r3 last.
-      let named_so = tested _ _ _ r2 in
-      let versioned = tested _ _ _ last in
-      let name_at = name_is name (bytes_length 4 total rest m1 name r1) named_so.0 in
-      let four : Cut rest name m2 = subst (Cut rest name) (same_read named_so.1).1 (cut_by total (bytes_cut 4) (uncut rest fit) r1) in
-      all_cut (λ _. mark_bytes) (cut_by total (number_cut 4) four r3) (mark_is name version name_at (eqb-true version 1 versioned.0)) versioned.1)));
+      steps (bytes 8 total rest) _ read (λ front m1 r1 last.
+      let passed = tested _ _ _ last in
+      let front_is = mark_is front (bytes_length 8 total rest m1 front r1) passed.0 in
+      all_cut (λ _. mark_bytes) (cut_by total (bytes_cut 8) (uncut rest fit) r1) front_is passed.1);
 }
 
 -- nothing is read where the end is seen, or the generation judged

@@ -1,6 +1,5 @@
 -- The body of a checkpoint reads back as that checkpoint.
 use Rattle.std.proofs.Common.{◌≡◌, ◌∙◌, ℕ, ◌+◌, ◌^◌, ◌<◌, ◌≤◌, List, [], ◌++◌, length, Ok, refl, sym, ap, arith, append-nil, get_or}
-use Rattle.std.specs.Prelude.{codes}
 use Rattle.std.specs.List.{All, flat_map}
 use Rattle.std.proofs.lemmas.Bool.{le-leb}
 use Rattle.std.proofs.lemmas.List.Sums.{sum_by-le, get_or-le-sum_by}
@@ -26,9 +25,7 @@ use Rattle.ept_ckpt.proofs.WrittenSources.{sources_read}
 
 mark_written : (total : ℕ) (rest : List ℕ) → mark total (mark_bytes ++ rest) ≡ Ok (tt, rest)
 unfolding mark mark_bytes
-mark_written total rest =
-    read_then _ (bytes_written total 4 (codes "EPTW") (little_bytes 4 1 ++ rest) refl)
-    (read_then _ (number_written total 4 1 rest (omega arith)) refl)
+mark_written total rest = read_then _ (bytes_written total 8 mark_bytes rest refl) refl
 
 ripe_written : (total generation most : ℕ) (rest : List ℕ) → 1 ≤ generation → generation ≤ most → ripe generation most total rest ≡ Ok (tt, rest)
 unfolding ripe

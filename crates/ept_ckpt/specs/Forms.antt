@@ -1,5 +1,5 @@
 -- The fields of a body, each with its range.
-use Rattle.std.specs.Prelude.{ℕ, ℤ, ◌+◌, ◌-◌, ◌^◌, Bool, ◌&&◌, ◌==◌, nat_le, nat_eq, ⊤, List, [], ◌∷◌, codes, length, sum_by, Ok, Err, if◌then◌else◌, unsigned_abs, int_le}
+use Rattle.std.specs.Prelude.{ℕ, ℤ, ◌+◌, ◌-◌, ◌^◌, Bool, ◌&&◌, ◌==◌, nat_le, nat_eq, ⊤, List, [], ◌∷◌, length, sum_by, Ok, Err, if◌then◌else◌, unsigned_abs, int_le}
 use Rattle.std.specs.Int.{w32, w64, bit_at}
 use Rattle.std.specs.List.{starts_with}
 use Rattle.ept_space.specs.declared.bounds.Bounds.{Bounds}
@@ -14,6 +14,7 @@ use Rattle.ept_ckpt.specs.declared.letter.Letter.{Letter}
 use Rattle.ept_ckpt.specs.declared.letter.Letter.TheVariants.{A, B}
 use Rattle.ept_ckpt.specs.declared.limits.TheConstants.{WHOLE, GENERATION_AT}
 use Rattle.ept_ckpt.specs.Facts.{KeptFacts, Source, Facts}
+use Rattle.ept_ckpt.specs.Body.{mark_bytes}
 use Rattle.ept_ckpt.specs.Valid.{deepest}
 use Rattle.ept_ckpt.specs.Fields.{Reading, ◌>>=◌, give, unless, bytes, number, signed, field, within, three, optional, times}
 
@@ -131,10 +132,8 @@ node_form most = do
 -- the name of the format, and its version
 unfoldable pub mark : Reading ⊤
 mark = do
-  name ← bytes 4
-  named ← unless Version (starts_with nat_eq name (codes "EPTW"))
-  version ← number 4
-  unless Version (version == 1)
+  front ← bytes 8
+  unless Version (starts_with nat_eq front mark_bytes)
 
 -- how many points the sources have
 abbrev pub points_of_sources : List Source → ℕ

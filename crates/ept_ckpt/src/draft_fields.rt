@@ -11,7 +11,7 @@ ghost use Rattle.ept_space.specs.CubeOfBounds.{HasCube};
 use crate::cursor::Cursor;
 use crate::draft::Draft;
 use crate::field_error::FieldError;
-use crate::limits::{GENERATION_AT, MARK, VERSION};
+use crate::limits::{GENERATION_AT, MARK};
 use crate::settings::Settings;
 use crate::sources::Sources;
 use ept_config::{MAX_INPUTS, SourceCount};
@@ -20,15 +20,12 @@ use std::alloc::Global;
 
 impl<'a> Cursor<'a> {
     /// The name of the format and its version.
-    #[tactic(auto, unfolding(crate::specs::Forms::mark, crate::specs::Fields::bytes))]
+    #[tactic(auto, unfolding(crate::specs::Forms::mark, crate::specs::Body::mark_bytes))]
     fn mark(&mut self) -> Result<(), FieldError>
         ensures reads { ReadsAs mark (λ _. tt) self.old self.new result }
     {
-        let name = self.bytes(MARK.len())?;
-        if !name.starts_with(&MARK) {
-            return Err(FieldError::Version);
-        }
-        if self.u32()? != VERSION {
+        let front = self.bytes(MARK.len())?;
+        if !front.starts_with(&MARK) {
             return Err(FieldError::Version);
         }
         Ok(())

@@ -2,11 +2,8 @@
 
 use ept_space::Bounds;
 
-/// The name of the format, with which a body begins.
-pub const MARK: [u8; 4] = *b"EPTW";
-
-/// The version of the format.
-pub const VERSION: u32 = 1;
+/// The name of the format, `EPTW`, and its version, 1, with which a body begins.
+pub(crate) const MARK: [u8; 8] = *b"EPTW\x01\0\0\0";
 
 /// Where the generation begins, in bytes.
 pub const GENERATION_AT: u64 = 8;

@@ -130,6 +130,9 @@ fn refuses_each_part_and_each_longer_one(rt: HostRuntime) -> Result<(), Fail> {
     }
     body.push(0)?;
     assert!(rt; read_ckpt(rt.alloc(), &body).err() == Some(CkptError::Length));
+    // The name and the version are one field.
+    assert!(rt; read_ckpt(rt.alloc(), b"EPTX\x01\0\0").err() == Some(CkptError::Length));
+    assert!(rt; read_ckpt(rt.alloc(), b"EPTX\x01\0\0\0").err() == Some(CkptError::Version));
     Ok(())
 }
 

@@ -11,7 +11,7 @@ use crate::append::{
     append_u64, flag,
 };
 use crate::checkpoint::Checkpoint;
-use crate::limits::{MARK, VERSION};
+use crate::limits::MARK;
 use crate::node_line::NodeLine;
 use ept_config::{EXPECT_WIDTH, Input, Kept, SourceCount, Srs};
 use ept_point::Memory;
@@ -50,9 +50,7 @@ fn append_body(out: &mut Vec<u8>, checkpoint: &Checkpoint) -> Result<(), Memory>
 fn append_mark(out: &mut Vec<u8>) -> Result<(), Memory>
     ensures { OnOk result (out.new.items ≡ out.old.items ++ mark_bytes) }
 {
-    append(out, &MARK)?;
-    append_u32(out, VERSION)?;
-    Ok(())
+    append(out, &MARK)
 }
 
 #[tactic(auto, unfolding(crate::specs::Body::kept_bytes))]
