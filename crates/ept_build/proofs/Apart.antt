@@ -22,12 +22,12 @@ use Rattle.ept_config.specs.declared.kept.Kept.{Kept}
 use Rattle.ept_config.specs.declared.source_count.SourceCount.{SourceCount}
 use Rattle.ept_hier.specs.Hierarchy.{Node, file_of, has_file, hierarchy, keys_of, KeysAscend}
 use Rattle.ept_tree.specs.Tree as tree
-use Rattle.ept_build.specs.declared.names.TheConstants.{METADATA, MANIFEST, BUILD_FILE}
+use Rattle.ept_meta.specs.declared.names.TheConstants.{METADATA, MANIFEST, BUILD_FILE}
 use Rattle.ept_meta.specs.EptText.{ept_text}
 use Rattle.ept_meta.specs.ManifestText.{manifest_text}
 use Rattle.ept_meta.specs.BuildText.{build_text}
-use Rattle.ept_build.specs.Output.{tile_name, hierarchy_name, File, tile_file, hierarchy_file, counted, files_of}
-use Rattle.ept_build.proofs.NamesDiffer.{one-tile, one-hierarchy, tile-hierarchy, tile-metadata, tile-manifest, tile-build, hierarchy-metadata, hierarchy-manifest, hierarchy-build, metadata-manifest, metadata-build, manifest-build}
+use Rattle.ept_meta.specs.Output.{tile_name, hierarchy_name, File, tile_file, hierarchy_file, counted, files_of}
+use Rattle.ept_meta.proofs.NamesDiffer.{one-tile, one-hierarchy, tile-hierarchy, tile-metadata, tile-manifest, tile-build, hierarchy-metadata, hierarchy-manifest, hierarchy-build, metadata-manifest, metadata-build, manifest-build}
 use Rattle.ept_build.proofs.Putting.{AreApart, apart-append}
 
 -- ---- items with rising keys

@@ -12,7 +12,8 @@ use Rattle.ept_tree.specs.Grown.{nodes_of}
 use Rattle.ept_build.specs.declared.octree.Octree.{Octree}
 use Rattle.ept_build.specs.declared.summary.Summary.{Summary}
 use Rattle.ept_build.specs.declared.error.BuildError.{BuildError}
-use Rattle.ept_build.specs.Output.{rules_of, files_of, output, PutsAll}
+use Rattle.ept_meta.specs.Output.{rules_of, files_of, output}
+use Rattle.ept_build.specs.Gains.{PutsAll}
 use Rattle.ept_build.specs.Building.{IsAccepted, IsBuilt, IsRefused, IsDefinite, Stops, Fails}
 use Rattle.ept_build.specs.Octrees.{IsOctree}
 use Rattle.ept_build.proofs.Putting.{puts-gain}

@@ -29,7 +29,7 @@ use Rattle.ept_tree.proofs.Growing.{grown-tree}
 use Rattle.ept_build.specs.declared.octree.Octree.{Octree}
 use Rattle.ept_build.specs.declared.error.BuildError.{BuildError}
 use Rattle.ept_build.specs.declared.error.BuildError.TheVariants.{SourceChanged, TooManyNodes}
-use Rattle.ept_build.specs.Output.{rules_of}
+use Rattle.ept_meta.specs.Output.{rules_of}
 use Rattle.ept_build.specs.Building.{HasPoints, node_count, IsAccepted, IsRefused, IsDefinite, Stops, IsInsertion}
 use Rattle.ept_build.specs.Octrees.{IsOctree}
 use Rattle.ept_build.proofs.Scanned.{has-number, has-extent, has-kept, has-sampling}

@@ -16,7 +16,7 @@ use Rattle.ept_scan.proofs.OneRefusal.{one_refusal}
 use Rattle.ept_build.specs.declared.error.BuildError.{BuildError}
 use Rattle.ept_build.specs.declared.error.BuildError.TheVariants.{StoreFault, SourceFault, BadLas, OutOfBounds, TooManyPoints, NoBounds, SourceChanged, TooManyNodes, Memory}
 use Rattle.ept_build.specs.Errors.{of_scan}
-use Rattle.ept_build.specs.Output.{rules_of}
+use Rattle.ept_meta.specs.Output.{rules_of}
 use Rattle.ept_build.specs.Building.{HasPoints, node_count, IsAccepted, HasTooManyNodes, InputsAreRefused, IsRefused, IsDefinite, Stops, IsInsertion}
 use Rattle.ept_build.proofs.Scanned.{points-once, rules-once}
 

@@ -1,4 +1,3 @@
-pub mod NamesDiffer
 pub mod Putting
 pub mod Apart
 pub mod Scanned

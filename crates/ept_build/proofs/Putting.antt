@@ -9,7 +9,8 @@ use Rattle.std.proofs.lemmas.List.{take_more, map-append}
 use Rattle.ept_tree.specs.Tree.{Branch, tile_of}
 use Rattle.ept_sample.specs.Members.{IsMember}
 use Rattle.ept_sample.proofs.Members.{All-members, all-member, IsMember-append}
-use Rattle.ept_build.specs.Output.{IsOutputName, File, tile_file, Gains, with_files, PutsAll, SameButOutput}
+use Rattle.ept_meta.specs.Output.{IsOutputName, File, tile_file}
+use Rattle.ept_build.specs.Gains.{Gains, with_files, PutsAll, SameButOutput}
 
 -- ---- several puts
 

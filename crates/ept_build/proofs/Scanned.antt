@@ -31,7 +31,7 @@ use Rattle.ept_scan.specs.Queue.{Held, LiesIn}
 use Rattle.ept_scan.proofs.Scanned.{scan_kept, scan_placed}
 use Rattle.ept_scan.proofs.Ascending.{scan_ascends}
 use Rattle.ept_scan.proofs.OneScan.{scan_once}
-use Rattle.ept_build.specs.Output.{rules_of}
+use Rattle.ept_meta.specs.Output.{rules_of}
 use Rattle.ept_build.specs.Building.{HasPoints}
 
 -- ---- the number and the extent of the points

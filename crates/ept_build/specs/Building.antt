@@ -15,7 +15,8 @@ use Rattle.ept_scan.specs.Scans.{IsScan, ScanIsRefused}
 use Rattle.ept_build.specs.declared.error.BuildError.{BuildError}
 use Rattle.ept_build.specs.declared.error.BuildError.TheVariants.{StoreFault, SourceFault, BadLas, OutOfBounds, TooManyPoints, NoBounds, SourceChanged, TooManyNodes, Memory}
 use Rattle.ept_build.specs.declared.summary.Summary.{Summary}
-use Rattle.ept_build.specs.Output.{rules_of, output, Gains}
+use Rattle.ept_meta.specs.Output.{rules_of, output}
+use Rattle.ept_build.specs.Gains.{Gains}
 
 -- The inputs of the configuration have these points, all in order; within the bounds that were found, this is kept of the configuration.
 pub record HasPoints (all : Files) (config : Config) (done : ScanDone) (kept : Kept) (points : List Point) : Type 0 where

@@ -1,4 +1,4 @@
 pub mod Errors
-pub mod Output
+pub mod Gains
 pub mod Building
 pub mod Octrees

@@ -10,7 +10,7 @@ use Rattle.ept_scan.specs.Extents.{HasExtent}
 use Rattle.ept_tree.specs.Tree.{tile_of}
 use Rattle.ept_tree.specs.Grown.{nodes_of}
 use Rattle.ept_build.specs.declared.octree.Octree.{Octree}
-use Rattle.ept_build.specs.Output.{rules_of}
+use Rattle.ept_meta.specs.Output.{rules_of}
 use Rattle.ept_build.specs.Building.{HasPoints, node_count}
 
 -- The octree has the sampling of the inputs' points, which has few enough nodes, and tells their number, their counts and their extent.

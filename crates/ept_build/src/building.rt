@@ -4,7 +4,7 @@ ghost use Rattle.std.specs.Prelude.{◌≡◌, ◌⊎◌, Err, IsOk, IfOk, IfErr
 ghost use Rattle.ept_base.specs.Causes.{HasCauseOf};
 ghost use Rattle.ept_base.specs.Files.{Tells};
 ghost use Rattle.ept_base.specs.Moves.{Moves, IsSettled};
-ghost use Rattle.ept_build.specs.Output.{SameButOutput};
+ghost use Rattle.ept_build.specs.Gains.{SameButOutput};
 ghost use Rattle.ept_build.specs.Building.{IsAccepted, IsBuilt, IsRefused, IsDefinite, IsLate, Fails};
 
 use crate::error::BuildError;

@@ -14,7 +14,7 @@ ghost use Rattle.ept_scan.specs.Opening.{IsKeptScan, total};
 ghost use Rattle.ept_scan.specs.Queue.{LiesIn};
 ghost use Rattle.ept_scan.specs.Reader.{drawn_of, left_of, refusal_of, files_of, IsRest, HasFault, IsReader};
 ghost use Rattle.ept_tree.specs.Grown as tree;
-ghost use Rattle.ept_build.specs.Output.{rules_of};
+ghost use Rattle.ept_meta.specs.Output.{rules_of};
 ghost use Rattle.ept_build.specs.Building.{IsInsertion};
 
 use crate::error::BuildError;

@@ -7,7 +7,6 @@
 mod building;
 mod error;
 mod growing;
-mod names;
 mod octree;
 mod publishing;
 mod summary;
@@ -16,5 +15,4 @@ mod tests;
 
 pub use building::build;
 pub use error::BuildError;
-pub use names::{BUILD_FILE, MANIFEST, METADATA};
 pub use summary::Summary;

@@ -8,7 +8,7 @@ ghost use Rattle.ept_space.specs.OctreeCube.{IsCube};
 ghost use Rattle.ept_space.specs.CubeOfBounds.{IsCubeOf, HasPlace};
 ghost use Rattle.ept_scan.specs.Counts.{IsSound};
 ghost use Rattle.ept_scan.specs.Scans.{IsScan};
-ghost use Rattle.ept_build.specs.Output.{rules_of};
+ghost use Rattle.ept_meta.specs.Output.{rules_of};
 ghost use Rattle.ept_build.specs.Building.{IsAccepted, IsReading, IsInsertion, IsRefused, IsDefinite, Stops};
 ghost use Rattle.ept_build.specs.Octrees.{IsOctree};
 

@@ -9,17 +9,19 @@ ghost use Rattle.ept_meta.specs.EptText.{ept_text};
 ghost use Rattle.ept_meta.specs.ManifestText.{manifest_text};
 ghost use Rattle.ept_meta.specs.BuildText.{build_text};
 ghost use Rattle.ept_hier.specs.Hierarchy.{hierarchy, KeysAscend};
-ghost use Rattle.ept_build.specs.declared.names.TheConstants.{METADATA, MANIFEST, BUILD_FILE};
+ghost use Rattle.ept_meta.specs.declared.names.TheConstants.{METADATA, MANIFEST, BUILD_FILE};
 ghost use Rattle.ept_tree.specs.Tree.{tile_of};
 ghost use Rattle.ept_tree.specs.Grown.{nodes_of};
-ghost use Rattle.ept_build.specs.Output.{tile_name, hierarchy_name, tile_file, hierarchy_file, counted, files_of, PutsAll, SameButOutput};
+ghost use Rattle.ept_meta.specs.Output.{tile_name, hierarchy_name, tile_file, hierarchy_file, counted, files_of};
+ghost use Rattle.ept_build.specs.Gains.{PutsAll, SameButOutput};
 
-use crate::names::{BUILD_FILE, MANIFEST, METADATA, hierarchy_name, tile_name};
 use crate::octree::Octree;
 use ept_base::{PutError, Store};
 use ept_grid::Grid;
 use ept_hier::{HierFile, hierarchy_files};
-use ept_meta::{build_json, ept_json, manifest_json};
+use ept_meta::{
+    BUILD_FILE, MANIFEST, METADATA, build_json, ept_json, hierarchy_name, manifest_json, tile_name,
+};
 use ept_point::{Memory, tile_bytes};
 use ept_space::Key;
 use std::alloc::{AllocError, Global};

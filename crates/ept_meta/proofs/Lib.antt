@@ -4,3 +4,4 @@ pub mod Joining
 pub mod Members
 pub mod Sources
 pub mod SchemaRows
+pub mod NamesDiffer

@@ -5,3 +5,4 @@ pub mod Dimensions
 pub mod EptText
 pub mod ManifestText
 pub mod BuildText
+pub mod Output

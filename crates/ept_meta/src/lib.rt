@@ -1,13 +1,15 @@
-//! The texts that tell what a finished dataset is: its metadata (Entwine Point Tile 1.1.0, "ept.json"),
-//! the manifest of its scans ("ept-sources") and the file of what it was built with.
+//! What a finished dataset is as files: their names, and the texts that tell of it, which are its metadata
+//! (Entwine Point Tile 1.1.0, "ept.json"), the manifest of its scans ("ept-sources") and the file of what it
+//! was built with.
 //!
-//! Each is a JSON text without white space outside its strings, appended to what a buffer has.
+//! Each text is JSON without white space outside its strings, appended to what a buffer has.
 #![tactic(auto)]
 
 mod build;
 mod json;
 mod manifest;
 mod metadata;
+mod names;
 mod schema;
 mod srs_object;
 #[cfg(test)]
@@ -17,3 +19,4 @@ mod units;
 pub use build::build_json;
 pub use manifest::manifest_json;
 pub use metadata::ept_json;
+pub use names::{BUILD_FILE, MANIFEST, METADATA, hierarchy_name, tile_name};

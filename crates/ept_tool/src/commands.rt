@@ -5,7 +5,7 @@ ghost use Rattle.ept_base.specs.Causes.{HasCauseOf};
 ghost use Rattle.ept_base.specs.Files.{Tells};
 ghost use Rattle.ept_base.specs.Moves.{Moves, IsSettled};
 ghost use Rattle.ept_las.specs.declared.header.Header as found;
-ghost use Rattle.ept_build.specs.Output.{SameButOutput};
+ghost use Rattle.ept_build.specs.Gains.{SameButOutput};
 ghost use Rattle.ept_tool.specs.Lines.{summary_text, header_text};
 ghost use Rattle.ept_tool.specs.Requests.{IsBuiltAt, HasBuilt, IsAcceptedAt, BuildIsRefused, HasTold, HasHeader, InfoIsRefused, IsOfBuild, IsOfHeader, IsDefinite, IsLate, Fails};
 

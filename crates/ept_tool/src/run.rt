@@ -6,7 +6,7 @@ ghost use Rattle.ept_base.specs.Causes.{Rose};
 ghost use Rattle.ept_base.specs.Files.{Tells};
 ghost use Rattle.ept_base.specs.Moves.{Moves, IsSettled};
 ghost use Rattle.ept_las.specs.declared.header.Header as found;
-ghost use Rattle.ept_build.specs.Output.{SameButOutput};
+ghost use Rattle.ept_build.specs.Gains.{SameButOutput};
 ghost use Rattle.ept_tool.specs.declared.refusal.Refusal as cause;
 ghost use Rattle.ept_tool.specs.Words.{bytes_of, IsBuild, IsInfo, IsUsage, IsLater};
 ghost use Rattle.ept_tool.specs.Requests.{IsAcceptedAt, HasHeader, IsDefinite};

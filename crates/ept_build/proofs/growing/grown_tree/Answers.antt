@@ -9,7 +9,7 @@ use Rattle.ept_scan.specs.Opening.{IsKeptScan}
 use Rattle.ept_scan.specs.Reader.{files_of}
 use Rattle.ept_tree.specs.declared.octree.Tree.{Tree}
 use Rattle.ept_tree.specs.Grown.{HasTaken}
-use Rattle.ept_build.specs.Output.{rules_of}
+use Rattle.ept_meta.specs.Output.{rules_of}
 use Rattle.ept_build.proofs.Scanned.{lies-in-cube, kept-number}
 use Rattle.ept_build.proofs.Causes.{tells-more}
 use Rattle.ept_build.proofs.growing.grown_tree.Goals as goal

@@ -3,7 +3,7 @@ use Rattle.std.specs.Map.Iter.{deref_pair}
 use Rattle.std.proofs.lemmas.Map.Iter.{iter_end}
 use Rattle.ept_hier.specs.Hierarchy.{Node, KeysAscend}
 use Rattle.ept_tree.specs.Tree.{Branch, tile_of}
-use Rattle.ept_build.specs.Output.{counted}
+use Rattle.ept_meta.specs.Output.{counted}
 use Rattle.ept_build.proofs.Apart.{keys-ascend}
 use Rattle.ept_build.proofs.publishing.counts_of.Goals as goal
 

@@ -1,7 +1,7 @@
 use Rattle.std.proofs.Common.{◌≡◌, map}
 use Rattle.std.specs.Map.Iter.{deref_pair}
 use Rattle.ept_tree.specs.Tree.{tile_of}
-use Rattle.ept_build.specs.Output.{counted}
+use Rattle.ept_meta.specs.Output.{counted}
 use Rattle.ept_build.proofs.publishing.counts_of.Given as goal
 
 abbrev pub invariant-loop-key : goal.invariant-loop-key

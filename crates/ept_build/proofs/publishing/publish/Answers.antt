@@ -8,8 +8,9 @@ use Rattle.ept_meta.specs.ManifestText.{manifest_text}
 use Rattle.ept_meta.specs.BuildText.{build_text}
 use Rattle.ept_tree.specs.Tree.{Branch, tile_of}
 use Rattle.ept_tree.specs.Grown.{nodes_of}
-use Rattle.ept_build.specs.declared.names.TheConstants.{METADATA, MANIFEST, BUILD_FILE}
-use Rattle.ept_build.specs.Output.{tile_file, hierarchy_file, counted, files_of, PutsAll}
+use Rattle.ept_meta.specs.declared.names.TheConstants.{METADATA, MANIFEST, BUILD_FILE}
+use Rattle.ept_meta.specs.Output.{tile_file, hierarchy_file, counted, files_of}
+use Rattle.ept_build.specs.Gains.{PutsAll}
 use Rattle.ept_build.proofs.Putting.{puts-both, puts-kept, output-moves, sync-moves, any-ok}
 use Rattle.ept_build.proofs.publishing.publish.Goals as goal
 

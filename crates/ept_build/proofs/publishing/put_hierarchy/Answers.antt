@@ -2,7 +2,8 @@ use Rattle.std.proofs.Common.{◌≤◌, List, length, map, take, subst, arith}
 use Rattle.std.proofs.lemmas.List.{take_all}
 use Rattle.ept_base.specs.Files.{StepsBy}
 use Rattle.ept_hier.specs.declared.file.HierFile.{HierFile}
-use Rattle.ept_build.specs.Output.{hierarchy_name, hierarchy_file, PutsAll}
+use Rattle.ept_meta.specs.Output.{hierarchy_name, hierarchy_file}
+use Rattle.ept_build.specs.Gains.{PutsAll}
 use Rattle.ept_build.proofs.Putting.{output-moves, puts-more, taken-more}
 use Rattle.ept_build.proofs.publishing.put_hierarchy.Goals as goal
 

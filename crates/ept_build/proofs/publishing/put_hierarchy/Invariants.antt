@@ -1,7 +1,8 @@
 use Rattle.std.proofs.Common.{◌≤◌, map, take}
 use Rattle.ept_base.specs.Files.{StepsBy}
 use Rattle.ept_base.specs.Moves.{Moves}
-use Rattle.ept_build.specs.Output.{hierarchy_file, PutsAll, SameButOutput}
+use Rattle.ept_meta.specs.Output.{hierarchy_file}
+use Rattle.ept_build.specs.Gains.{PutsAll, SameButOutput}
 use Rattle.ept_build.proofs.publishing.put_hierarchy.Given as goal
 
 abbrev pub invariant-loop-file : goal.invariant-loop-file

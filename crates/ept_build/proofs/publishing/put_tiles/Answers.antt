@@ -4,7 +4,8 @@ use Rattle.std.proofs.lemmas.Map.Iter.{iter_end}
 use Rattle.ept_base.specs.Files.{StepsBy}
 use Rattle.ept_point.specs.Packed.{tile}
 use Rattle.ept_tree.specs.Tree.{Branch, tile_of}
-use Rattle.ept_build.specs.Output.{tile_name, tile_file, PutsAll}
+use Rattle.ept_meta.specs.Output.{tile_name, tile_file}
+use Rattle.ept_build.specs.Gains.{PutsAll}
 use Rattle.ept_build.proofs.Putting.{output-moves, puts-more, yielded-more}
 use Rattle.ept_build.proofs.publishing.put_tiles.Goals as goal
 

@@ -3,7 +3,8 @@ use Rattle.std.specs.Map.Iter.{deref_pair}
 use Rattle.ept_base.specs.Files.{StepsBy}
 use Rattle.ept_base.specs.Moves.{Moves}
 use Rattle.ept_tree.specs.Tree.{tile_of}
-use Rattle.ept_build.specs.Output.{tile_file, PutsAll, SameButOutput}
+use Rattle.ept_meta.specs.Output.{tile_file}
+use Rattle.ept_build.specs.Gains.{PutsAll, SameButOutput}
 use Rattle.ept_build.proofs.publishing.put_tiles.Given as goal
 
 abbrev pub invariant-loop-key : goal.invariant-loop-key

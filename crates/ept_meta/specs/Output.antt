@@ -1,6 +1,5 @@
--- The files of the output: what the octree of some points is as files, and what a store gains by them.
-use Rattle.std.specs.Prelude.{◌≡◌, ◌≢◌, ◌⊎◌, ℕ, Some, Option, List, [], ◌∷◌, ◌++◌, length, codes, map, All}
-use Rattle.ept_base.specs.Files.{Files, changed, SameFiles}
+-- The files of the output: what the octree of some points is as files.
+use Rattle.std.specs.Prelude.{◌≡◌, ◌⊎◌, ℕ, Option, List, [], ◌∷◌, ◌++◌, length, codes, map}
 use Rattle.ept_point.specs.declared.point.Point.{Point}
 use Rattle.ept_point.specs.Packed.{tile}
 use Rattle.ept_space.specs.declared.bounds.Bounds.{Bounds}
@@ -14,7 +13,7 @@ use Rattle.ept_config.specs.declared.kept.Kept.{Kept}
 use Rattle.ept_config.specs.declared.source_count.SourceCount.{SourceCount}
 use Rattle.ept_hier.specs.declared.file.HierFile.{HierFile}
 use Rattle.ept_hier.specs.Hierarchy.{hierarchy}
-use Rattle.ept_build.specs.declared.names.TheConstants.{METADATA, MANIFEST, BUILD_FILE}
+use Rattle.ept_meta.specs.declared.names.TheConstants.{METADATA, MANIFEST, BUILD_FILE}
 use Rattle.ept_meta.specs.EptText.{ept_text}
 use Rattle.ept_meta.specs.ManifestText.{manifest_text}
 use Rattle.ept_meta.specs.BuildText.{build_text}
@@ -64,23 +63,3 @@ files_of kept counts extent points tiles =
 -- the output of points: the files of their sampling
 abbrev pub output : Kept → List SourceCount → Option Bounds → List Point → List File
 output kept counts extent points = files_of kept counts extent (length points) (sampled (rules_of kept) points)
-
--- ---- what a store gains
-
--- each of these files is there, and every other name reads as before
-pub record Gains (gained : List File) (old new : Files) : Type 0 where
-  pub are_there : All (λ (f : File). new f.0 ≡ Some f.1) gained
-  pub others_stay : (name : List ℕ) → All (λ (f : File). name ≢ f.0) gained → new name ≡ old name
-
--- the files with these, put one after another
-abbrev pub with_files : Files → List File → Files
-with_files files [] = files
-with_files files (f ∷ more) = with_files (changed files f.0 (Some f.1)) more
-
--- these were put, one after another, and nothing else
-abbrev pub PutsAll : List File → Files → Files → Type 0
-PutsAll files old new = SameFiles (with_files old files) new
-
--- every name but those of an output's files reads as before
-abbrev pub SameButOutput : Files → Files → Type 0
-SameButOutput old new = (name : List ℕ) → ¬ IsOutputName name → new name ≡ old name

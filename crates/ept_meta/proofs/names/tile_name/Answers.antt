@@ -1,9 +1,9 @@
 use Rattle.std.proofs.Common.{◌∙◌, ap}
 use Rattle.std.proofs.lemmas.Result.{IfOk-weaker}
 use Rattle.ept_space.specs.VoxelKey.{VoxelKey}
-use Rattle.ept_build.specs.Output.{tile_name}
-use Rattle.ept_build.proofs.NamesDiffer.{tile-name-of}
-use Rattle.ept_build.proofs.names.tile_name.Goals as goal
+use Rattle.ept_meta.specs.Output.{tile_name}
+use Rattle.ept_meta.proofs.NamesDiffer.{tile-name-of}
+use Rattle.ept_meta.proofs.names.tile_name.Goals as goal
 
 pub returns : goal.returns
 returns c =

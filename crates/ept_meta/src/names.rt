@@ -1,7 +1,7 @@
 //! The names of the output's files.
 
 ghost use Rattle.std.specs.Prelude.{◌≡◌, IfOk, string_bytes};
-ghost use Rattle.ept_build.specs.Output.{tile_name, hierarchy_name};
+ghost use Rattle.ept_meta.specs.Output.{tile_name, hierarchy_name};
 
 use ept_space::Key;
 use std::alloc::{AllocError, Global};
@@ -16,14 +16,14 @@ pub const MANIFEST: &str = "ept-sources/manifest.json";
 pub const BUILD_FILE: &str = "ept-build.json";
 
 /// The name of the tile of a key (Entwine Point Tile 1.1.0, "ept-data").
-pub(crate) fn tile_name(alloc: Global, key: &Key) -> Result<String, AllocError>
+pub fn tile_name(alloc: Global, key: &Key) -> Result<String, AllocError>
     ensures { IfOk result (λ name. string_bytes name ≡ tile_name key.now) }
 {
     format!(in alloc; "ept-data/{}-{}-{}-{}.bin", key.depth, key.x, key.y, key.z)
 }
 
 /// The name of the hierarchy file of a key (Entwine Point Tile 1.1.0, "ept-hierarchy").
-pub(crate) fn hierarchy_name(alloc: Global, key: &Key) -> Result<String, AllocError>
+pub fn hierarchy_name(alloc: Global, key: &Key) -> Result<String, AllocError>
     ensures { IfOk result (λ name. string_bytes name ≡ hierarchy_name key.now) }
 {
     format!(in alloc;
