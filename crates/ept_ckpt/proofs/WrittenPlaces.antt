@@ -93,7 +93,7 @@ place_fits low xs high same low_fits high_fits above below = record {
 -- the extent of some points within the bounds
 pub extent_written : (total : ℕ) (bounds extent : Bounds) (rest : List ℕ) → BoundsInRange bounds → IsExtent bounds extent → box_within bounds total (bounds_bytes extent ++ rest) ≡ Ok (extent, rest)
 extent_written total bounds extent rest are is =
-    let ordered : AreOrdered extent.min extent.max = record { x = is.is.ordered.x_ordered; y = is.is.ordered.y_ordered; z = is.is.ordered.z_ordered } in
+    let ordered : AreOrdered extent.min extent.max = record { x = is.in_range.ordered.x_ordered; y = is.in_range.ordered.y_ordered; z = is.in_range.ordered.z_ordered } in
     let under : AreOrdered extent.min bounds.max = ordered-through _ _ _ ordered is.below in
     let over : AreOrdered bounds.min extent.max = ordered-through _ _ _ is.above ordered in
-    box_written total bounds extent rest (place_fits bounds.min extent.min bounds.max is.is.min_is.three are.min_is are.max_is is.above under) (place_fits bounds.min extent.max bounds.max is.is.max_is.three are.min_is are.max_is over is.below) is.above under ordered is.below
+    box_written total bounds extent rest (place_fits bounds.min extent.min bounds.max is.in_range.min_is.three are.min_is are.max_is is.above under) (place_fits bounds.min extent.max bounds.max is.in_range.max_is.three are.min_is are.max_is over is.below) is.above under ordered is.below

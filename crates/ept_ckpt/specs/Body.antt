@@ -10,7 +10,7 @@ use Rattle.ept_ckpt.specs.declared.letter.Letter.{Letter}
 use Rattle.ept_ckpt.specs.declared.letter.Letter.TheVariants.{A, B}
 use Rattle.ept_ckpt.specs.Facts.{KeptFacts, Source, Facts}
 
--- three numbers of 32 bits, and of 64
+-- numbers of 32 bits, and of 64
 abbrev pub i32_bytes : List ℤ → List ℕ
 i32_bytes xs = flat_map (λ x. little_bytes 4 (cast_unsigned w32 x)) xs
 

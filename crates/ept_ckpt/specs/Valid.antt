@@ -19,7 +19,7 @@ pub record AreOrdered (low high : List ℤ) : Type 0 where
 
 -- the extent of some points within the bounds
 pub record IsExtent (bounds extent : Bounds) : Type 0 where
-  pub is : BoundsInRange extent
+  pub in_range : BoundsInRange extent
   pub above : AreOrdered bounds.min extent.min
   pub below : AreOrdered extent.max bounds.max
 

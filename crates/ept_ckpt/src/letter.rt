@@ -3,7 +3,9 @@
 /// Which of the two versions of a node's tile, or of the two bodies, is meant.
 #[derive(Clone, Copy, Debug, PartialEq, Eq)]
 pub enum Letter {
+    /// The version named a.
     A,
+    /// The version named b.
     B,
 }
 

@@ -6,7 +6,7 @@ use ept_space::Bounds;
 pub(crate) const MARK: [u8; 8] = *b"EPTW\x01\0\0\0";
 
 /// Where the generation begins, in bytes.
-pub const GENERATION_AT: u64 = 8;
+pub(crate) const GENERATION_AT: u64 = 8;
 
 /// All places that there are.
 pub(crate) const WHOLE: Bounds = Bounds {
