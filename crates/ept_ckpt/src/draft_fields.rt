@@ -6,7 +6,6 @@ ghost use Rattle.ept_ckpt.specs.Facts.{sources_of, draft_facts};
 ghost use Rattle.ept_ckpt.specs.Forms.{mark, end, ripe, fields, points_of_sources};
 ghost use Rattle.ept_ckpt.specs.Reads.{ReadsAs};
 ghost use Rattle.ept_ckpt.specs.Valid.{points_of, deepest};
-ghost use Rattle.ept_space.specs.CubeOfBounds.{HasCube};
 
 use crate::cursor::Cursor;
 use crate::draft::Draft;
@@ -15,7 +14,7 @@ use crate::limits::{GENERATION_AT, MARK};
 use crate::settings::Settings;
 use crate::sources::Sources;
 use ept_config::{MAX_INPUTS, SourceCount};
-use ept_space::{Bounds, Cube};
+use ept_space::Cube;
 use std::alloc::Global;
 
 impl<'a> Cursor<'a> {

@@ -1,8 +1,9 @@
 //! The fields of a body, as a cursor reads them.
 
-ghost use Rattle.std.specs.Prelude.{◌≡◌, ◌≢◌, ◌≤◌, ◌<◌, ◌-◌, ◌*◌, ◌^◌, ◌≤ℤ◌, length, unsigned_abs, Ok, Err, IfOk, IfErr};
+ghost use Rattle.std.specs.Prelude.{◌≡◌, ◌≤◌, ◌<◌, ◌-◌, ◌^◌, ◌≤ℤ◌, length, unsigned_abs, Ok, Err, IfOk, IfErr};
 ghost use Rattle.std.specs.Int.{w32, w64};
-ghost use Rattle.ept_ckpt.specs.Fields.{bytes, number, signed, within, three};
+ghost use Rattle.byteorder.specs.Endian.{little_number};
+ghost use Rattle.ept_ckpt.specs.Fields.{bytes, number, signed, within};
 ghost use Rattle.ept_ckpt.specs.Forms.{near, between};
 ghost use Rattle.ept_ckpt.specs.Reads.{Reads};
 
@@ -41,65 +42,44 @@ impl<'a> Cursor<'a> {
         requires some { 1 ≤ width }
         requires few { width ≤ 8 }
         ensures reads { Reads (number width) self.old self.new result }
+        ensures fits { IfOk result (λ n. n < 256 ^ width) }
     {
         if self.rest.len() < width {
             return Err(FieldError::Length);
         }
-        let n = LittleEndian::read_uint(self.rest, width);
+        let n = number_of(self.rest, width);
         self.rest = &self.rest[width..];
         Ok(n)
     }
 
     /// The next byte.
-    #[tactic(auto, unfolding(crate::specs::Fields::number))]
     pub(crate) fn byte(&mut self) -> Result<u8, FieldError>
         ensures reads { Reads (number 1) self.old self.new result }
     {
-        if self.rest.is_empty() {
-            return Err(FieldError::Length);
-        }
-        let n = self.rest[0];
-        self.rest = &self.rest[1..];
-        Ok(n)
+        Ok(self.number(1)? as u8)
     }
 
     /// The number in the next 4 bytes.
-    #[tactic(auto, unfolding(crate::specs::Fields::number))]
     pub(crate) fn u32(&mut self) -> Result<u32, FieldError>
         ensures reads { Reads (number 4) self.old self.new result }
     {
-        if self.rest.len() < 4 {
-            return Err(FieldError::Length);
-        }
-        let n = LittleEndian::read_u32(self.rest);
-        self.rest = &self.rest[4..];
-        Ok(n)
+        Ok(self.number(4)? as u32)
     }
 
     /// The signed number in the next 4 bytes.
-    #[tactic(auto, unfolding(crate::specs::Fields::number, crate::specs::Fields::signed))]
+    #[tactic(auto, unfolding(crate::specs::Fields::signed))]
     fn i32(&mut self) -> Result<i32, FieldError>
         ensures reads { Reads (signed w32 4) self.old self.new result }
     {
-        if self.rest.len() < 4 {
-            return Err(FieldError::Length);
-        }
-        let n = LittleEndian::read_i32(self.rest);
-        self.rest = &self.rest[4..];
-        Ok(n)
+        Ok(self.u32()?.cast_signed())
     }
 
     /// The signed number in the next 8 bytes.
-    #[tactic(auto, unfolding(crate::specs::Fields::number, crate::specs::Fields::signed))]
+    #[tactic(auto, unfolding(crate::specs::Fields::signed))]
     fn i64(&mut self) -> Result<i64, FieldError>
         ensures reads { Reads (signed w64 8) self.old self.new result }
     {
-        if self.rest.len() < 8 {
-            return Err(FieldError::Length);
-        }
-        let n = LittleEndian::read_i64(self.rest);
-        self.rest = &self.rest[8..];
-        Ok(n)
+        Ok(self.number(8)?.cast_signed())
     }
 
     /// The number in the next bytes, which is from `least` to `most`.
@@ -146,4 +126,15 @@ impl<'a> Cursor<'a> {
         }
         Ok(n)
     }
+}
+
+// The number in the first bytes, of which there are 1 to 8.
+fn number_of(bytes: &[u8], width: usize) -> u64
+    requires some { 1 ≤ width }
+    requires few { width ≤ 8 }
+    requires room { width ≤ length bytes.now }
+    ensures number { result ≡ little_number width bytes.now }
+    ensures fits { result < 256 ^ width }
+{
+    LittleEndian::read_uint(bytes, width)
 }

@@ -2,6 +2,7 @@
 #![tactic(auto)]
 
 mod append;
+mod bits;
 mod boxes;
 mod checkpoint;
 mod ckpt_error;

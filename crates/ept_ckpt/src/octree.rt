@@ -5,6 +5,7 @@ ghost use Rattle.std.specs.declared.cmp.Ordering.TheVariants.{Less};
 ghost use Rattle.ept_space.specs.VoxelKey.{IsKey, key_cmp, parent, child};
 ghost use Rattle.ept_ckpt.specs.Octree.{keys_of, is_among, HasParent, TellsChildren, IsOctree, points_in, AreNodesOf};
 
+use crate::bits::has_bit;
 use crate::node_line::NodeLine;
 use ept_space::{Key, child};
 
@@ -92,7 +93,7 @@ fn tells_children(nodes: &[NodeLine], line: &NodeLine) -> bool
     ensures { IsTrue result ↔ TellsChildren (keys_of nodes.now) line.now }
 {
     for octant in 0..8 {
-        if (line.mask >> octant & 1 == 1) != has_child(nodes, &line.key, octant) {
+        if has_bit(line.mask, octant) != has_child(nodes, &line.key, octant) {
             return false;
         }
     }

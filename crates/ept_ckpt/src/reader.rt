@@ -1,6 +1,6 @@
 //! The body of a checkpoint, read.
 
-ghost use Rattle.std.specs.Prelude.{◌≡◌, ◌≢◌, ◌↔◌, ◌≤◌, IsTrue, [], length, Ok, Err, IfOk, IfErr};
+ghost use Rattle.std.specs.Prelude.{◌≡◌, ◌≢◌, ◌≤◌, [], length, Ok, Err, IfOk, IfErr};
 ghost use Rattle.std.specs.List.{All};
 ghost use Rattle.ept_ckpt.specs.declared.checkpoint.Checkpoint as kept;
 ghost use Rattle.ept_ckpt.specs.Body.{body};

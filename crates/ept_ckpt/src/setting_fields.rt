@@ -1,7 +1,6 @@
 //! What a body tells of the configuration, as a cursor reads it.
 
-ghost use Rattle.std.specs.Prelude.{◌≡◌, ◌==◌, ◌<◌, true, IfOk};
-ghost use Rattle.std.specs.Int.{bit_at};
+ghost use Rattle.std.specs.Prelude.{◌≡◌, true, IfOk};
 ghost use Rattle.std.specs.Option.{ForSome};
 ghost use Rattle.ept_config.specs.Texts.{is_srs_text};
 ghost use Rattle.ept_config.specs.Facts.{srs_facts};
@@ -11,6 +10,7 @@ ghost use Rattle.ept_ckpt.specs.Fields.{three, optional};
 ghost use Rattle.ept_ckpt.specs.Forms.{near, srs_text, srs_form, kept_form};
 ghost use Rattle.ept_ckpt.specs.Reads.{Reads, ReadsAs};
 
+use crate::bits::has_bit;
 use crate::cursor::Cursor;
 use crate::field_error::FieldError;
 use crate::limits::WHOLE;
@@ -87,12 +87,4 @@ impl<'a> Cursor<'a> {
             srs,
         })
     }
-}
-
-// Whether a bit of a byte is set.
-fn has_bit(byte: u8, bit: u8) -> bool
-    requires { bit < 8 }
-    ensures { result ≡ (bit_at byte bit == 1) }
-{
-    byte >> bit & 1 == 1
 }
