@@ -11,7 +11,7 @@ use Rattle.ept_base.proofs.Changing.{changed_same, changed_other, same_name}
 use Rattle.ept_mem.specs.Crash.{reads_image}
 use Rattle.ept_mem.specs.declared.store.Call.{Call}
 use Rattle.ept_mem.specs.declared.store.Call.TheVariants.{Write, Sync}
-use Rattle.ept_mem.specs.Disk.{Disk, disk, settled, after, bytes_of, IsImage, WasImageSince}
+use Rattle.ept_mem.specs.Disk.{Disk, disk, settled, after, bytes_of, IsImage, WasImageSince, MaySpoil}
 
 -- a name is among those touched, or among the one more
 contains_more : (names : List (List ℕ)) (more name : List ℕ) → name ≢ more → ¬ Contains names name → ¬ Contains (more ∷ names) name
@@ -33,6 +33,11 @@ touched_follows now text content image is =
       (λ other differ. sym (changed_other image name (now.stable name) other differ)),
     )
 
+pub touched_spoils : (now : Disk) (text : String Global) (content : Option (Vec ℕ Global)) → MaySpoil (string_bytes text) (IsImage now) (IsImage (after now (Write text content)))
+touched_spoils now text content image found is other free =
+    changed_other image (string_bytes text) found other (λ same. free (subst (λ (n : List ℕ). Contains (string_bytes text ∷ now.touched) n) (sym same) (contains_first now.touched (string_bytes text))))
+    ∙ is other (λ had. free (suc had.0, omega (arith, had.1), had.2))
+
 module _ (first : Files) (calls later : List Call) where
   -- the state after one call more
   pub disk_more : (call : Call) → later ≡ calls ++ call ∷ [] → disk first later ≡ after (disk first calls) call
@@ -48,6 +53,11 @@ module _ (first : Files) (calls later : List Call) where
   pub write_images : (text : String Global) (content : Option (Vec ℕ Global)) (name : List ℕ) → string_bytes text ≡ name → later ≡ calls ++ Write text content ∷ [] → Follows (SameBut name) (IsImage (disk first calls)) (IsImage (disk first later))
   write_images text content name is more = subst (λ (n : List ℕ). Follows (SameBut n) (IsImage (disk first calls)) (IsImage (disk first later))) is
       (subst (λ (d : Disk). Follows (SameBut (string_bytes text)) (IsImage (disk first calls)) (IsImage d)) (sym (disk_more (Write text content) more)) (touched_follows (disk first calls) text content))
+
+  -- the name may hold anything after a crash
+  pub write_spoils : (text : String Global) (content : Option (Vec ℕ Global)) (name : List ℕ) → string_bytes text ≡ name → later ≡ calls ++ Write text content ∷ [] → MaySpoil name (IsImage (disk first calls)) (IsImage (disk first later))
+  write_spoils text content name is more = subst (λ (n : List ℕ). MaySpoil n (IsImage (disk first calls)) (IsImage (disk first later))) is
+      (subst (λ (d : Disk). MaySpoil (string_bytes text) (IsImage (disk first calls)) (IsImage d)) (sym (disk_more (Write text content) more)) (touched_spoils (disk first calls) text content))
 
   -- an image since t is one from before, or one of now
   pub time_more : (call : Call) → later ≡ calls ++ call ∷ [] → Elapses (length calls) (length later) (WasImageSince first calls) (WasImageSince first later) (IsImage (disk first later))

@@ -38,3 +38,7 @@ IsImage disk files = (name : List ℕ) → ¬ Contains disk.touched name → fil
 -- a crash after some number of calls, t at least, may have left these files
 abbrev pub WasImageSince : Files → List Call → ℕ → Files → Type 0
 WasImageSince first calls t files = (k : ℕ) × (t ≤ k) × (k ≤ length calls) × IsImage (disk first (take k calls)) files
+
+-- each image may have anything under this name instead
+abbrev pub MaySpoil : List ℕ → (Files → Type 0) → (Files → Type 0) → Type 0
+MaySpoil name old new = (image : Files) (content : Option (List ℕ)) → old image → new (changed image name content)

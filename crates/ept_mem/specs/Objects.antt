@@ -1,8 +1,9 @@
 -- What the objects in memory hold.
-use Rattle.std.specs.Prelude.{◌≡◌, ℕ, List, length, map, drop, string_bytes}
+use Rattle.std.specs.Prelude.{◌≡◌, ℕ, List, [], length, map, drop, string_bytes}
 use Rattle.ept_base.specs.Files.{Files}
 use Rattle.ept_mem.specs.Named.{content_of}
 use Rattle.ept_mem.specs.Disk.{Disk, disk, IsImage, WasImageSince}
+use Rattle.ept_mem.specs.declared.plan.Plan.{Plan}
 use Rattle.ept_mem.specs.declared.source.MemSource.{MemSource}
 use Rattle.ept_mem.specs.declared.source.MemShelf.{MemShelf}
 use Rattle.ept_mem.specs.declared.sink.MemSink.{MemSink}
@@ -33,6 +34,48 @@ sink_bytes sink = sink.bytes.items
 -- the bytes that a spill file holds
 abbrev pub spill_bytes : MemSpill → List ℕ
 spill_bytes spill = spill.held.items
+
+-- which calls are to fail, and how many there were
+abbrev pub source_plan : MemSource → Plan
+source_plan source = source.plan
+
+abbrev pub shelf_plan : MemShelf → Plan
+shelf_plan shelf = shelf.plan
+
+abbrev pub sink_plan : MemSink → Plan
+sink_plan sink = sink.plan
+
+abbrev pub spill_plan : MemSpill → Plan
+spill_plan spill = spill.plan
+
+abbrev pub room_plan : MemRoom → Plan
+room_plan room = room.plan
+
+abbrev pub store_plan : MemStore → Plan
+store_plan store = store.plan
+
+-- how many bytes a sink takes in a write, at most
+abbrev pub sink_most : MemSink → ℕ
+sink_most sink = sink.most
+
+-- how many calls there were
+abbrev pub source_calls : MemSource → ℕ
+source_calls source = source.plan.calls
+
+abbrev pub shelf_calls : MemShelf → ℕ
+shelf_calls shelf = shelf.plan.calls
+
+abbrev pub sink_calls : MemSink → ℕ
+sink_calls sink = sink.plan.calls
+
+abbrev pub spill_calls : MemSpill → ℕ
+spill_calls spill = spill.plan.calls
+
+abbrev pub room_calls : MemRoom → ℕ
+room_calls room = room.plan.calls
+
+abbrev pub store_calls : MemStore → ℕ
+store_calls store = store.plan.calls
 
 -- the numbers of the calls that are to fail, and of those of the sources and files that an object makes
 abbrev pub source_fails : MemSource → List ℕ
@@ -85,13 +128,6 @@ source_given source = source.given
 abbrev pub shelf_given : MemShelf → ℕ
 shelf_given shelf = shelf.given
 
--- a source as it is opened: at its start, without a fault and unread, and these calls of it are to fail
-pub record IsFresh (source : MemSource) (fails : List ℕ) : Type 0 where
-  pub at_start : source_left source ≡ source_bytes source
-  pub sound : source_faults source ≡ 0
-  pub unread : source_given source ≡ 0
-  pub listed : source_fails source ≡ fails
-
 -- the counts of calls of `keep`, and of `get`
 abbrev pub spill_keeps : MemSpill → ℕ
 spill_keeps spill = spill.keeps
@@ -101,6 +137,22 @@ room_keeps room = room.keeps
 
 abbrev pub store_gets : MemStore → ℕ
 store_gets store = store.gets
+
+-- a source as it is opened: at its start, without a fault and unread, and these calls of it are to fail
+pub record IsFresh (source : MemSource) (fails : List ℕ) : Type 0 where
+  pub at_start : source_left source ≡ source_bytes source
+  pub sound : source_faults source ≡ 0
+  pub unread : source_given source ≡ 0
+  pub unused : source_calls source ≡ 0
+  pub listed : source_fails source ≡ fails
+
+-- a spill file as it is made: empty, without a fault and unused, and these calls of it are to fail
+pub record IsFreshFile (file : MemSpill) (fails : List ℕ) : Type 0 where
+  pub empty : spill_bytes file ≡ []
+  pub sound : spill_faults file ≡ 0
+  pub unused : spill_calls file ≡ 0
+  pub unkept : spill_keeps file ≡ 0
+  pub listed : spill_fails file ≡ fails
 
 -- what a store's calls made of its files
 abbrev pub store_disk : MemStore → Disk

@@ -17,7 +17,7 @@ pub struct MemSource {
 }
 
 impl MemSource {
-    ghost use Rattle.ept_mem.specs.Objects.{source_bytes, source_left, source_faults, source_given, source_fails};
+    ghost use Rattle.ept_mem.specs.Objects.{source_bytes, source_left, source_faults, source_given, source_fails, source_calls};
 
     /// A source of these bytes, at their start, whose calls of these numbers fail.
     pub fn new(bytes: Vec<u8>, fails: Vec<u64>) -> Self
@@ -26,6 +26,7 @@ impl MemSource {
         ensures sound { source_faults result ≡ 0 }
         ensures unread { source_given result ≡ 0 }
         ensures fails { source_fails result ≡ fails.items }
+        ensures unused { source_calls result ≡ 0 }
     {
         MemSource {
             bytes,
@@ -37,8 +38,13 @@ impl MemSource {
 }
 
 impl Source for MemSource {
-    ghost use Rattle.std.specs.Prelude.{Some};
-    ghost use Rattle.ept_mem.specs.Objects.{source_bytes, source_left, source_faults, source_given};
+    ghost use Rattle.std.specs.Prelude.{Some, IfOk, MatchResult, OnErr, IsOk, IsErr, is_ok, min, if◌then◌else◌};
+    ghost use Rattle.std.specs.Io.{ReadsAtMost};
+    ghost use Rattle.std.specs.Io.KnownBytes.{ReadConsumes};
+    ghost use Rattle.ept_base.specs.Causes.{HasCause};
+    ghost use Rattle.ept_base.specs.Devices.{counts_on};
+    ghost use Rattle.ept_mem.specs.Objects.{source_bytes, source_left, source_faults, source_given, source_plan};
+    ghost use Rattle.ept_mem.specs.Plans.{IsToFail, IsOneCallMore};
 
     ghost whole = { λ source. Some (source_bytes source) };
 
@@ -48,7 +54,20 @@ impl Source for MemSource {
 
     ghost given = { source_given };
 
-    fn read(&mut self, into: &mut [u8]) -> Result<usize, Failed> {
+    fn read(&mut self, into: &mut [u8]) -> Result<usize, Failed>
+        ensures bound { ReadsAtMost result into.new }
+        ensures bytes { ReadConsumes (Some (source_left self.old)) (Some (source_left self.new)) result into.new }
+        ensures refused { OnErr result ((source_left self.new ≡ source_left self.old) × (into.new ≡ into.old)) }
+        ensures given { MatchResult result (λ n. source_given self.new ≡ counts_on (source_given self.old) n)
+            (λ _. source_given self.new ≡ source_given self.old) }
+        ensures same { source_bytes self.new ≡ source_bytes self.old }
+        ensures cause { HasCause (source_faults self.old) (source_faults self.new) result }
+        ensures most { IfOk result (λ n. n ≡ min (length into.new) (length (source_left self.old))) }
+        ensures to_fail { IsToFail (source_plan self.old) → IsErr result }
+        ensures not_to_fail { ¬ IsToFail (source_plan self.old) → IsOk result }
+        ensures sound { ¬ IsToFail (source_plan self.old) → source_faults self.new ≡ source_faults self.old }
+        ensures numbered { IsOneCallMore (source_plan self.old) (source_plan self.new) }
+    {
         if self.plan.next() {
             return Err(self.plan.fault());
         }
@@ -60,7 +79,16 @@ impl Source for MemSource {
         Ok(count)
     }
 
-    fn rewind(&mut self) -> Result<(), Failed> {
+    fn rewind(&mut self) -> Result<(), Failed>
+        ensures place { source_left self.new ≡ (if is_ok result then source_bytes self.old else source_left self.old) }
+        ensures given { source_given self.new ≡ source_given self.old }
+        ensures same { source_bytes self.new ≡ source_bytes self.old }
+        ensures cause { HasCause (source_faults self.old) (source_faults self.new) result }
+        ensures to_fail { IsToFail (source_plan self.old) → IsErr result }
+        ensures not_to_fail { ¬ IsToFail (source_plan self.old) → IsOk result }
+        ensures sound { ¬ IsToFail (source_plan self.old) → source_faults self.new ≡ source_faults self.old }
+        ensures numbered { IsOneCallMore (source_plan self.old) (source_plan self.new) }
+    {
         if self.plan.next() {
             return Err(self.plan.fault());
         }
@@ -81,9 +109,9 @@ pub struct MemShelf {
 }
 
 impl MemShelf {
-    ghost use Rattle.std.specs.Prelude.{◌≡◌, [], ◌∷◌, ◌++◌, IfOk, IfSome, OnOk, OnErr, option_map};
+    ghost use Rattle.std.specs.Prelude.{◌≡◌, [], ◌∷◌, ◌++◌, IfOk, IfSome, OnOk, OnErr, map, option_map, string_bytes};
     ghost use Rattle.ept_mem.specs.Named.{content_of};
-    ghost use Rattle.ept_mem.specs.Objects.{IsFresh, source_bytes, shelf_files, shelf_faults, shelf_given, shelf_asked, shelf_fails, shelf_source_fails};
+    ghost use Rattle.ept_mem.specs.Objects.{IsFresh, source_bytes, shelf_files, shelf_faults, shelf_given, shelf_asked, shelf_fails, shelf_calls, shelf_source_fails};
 
     /// A shelf of these files, of which the first of a path counts. Its own calls of the numbers
     /// `fails` fail, and so do those of the numbers `source_fails` of each source that it opens.
@@ -98,6 +126,7 @@ impl MemShelf {
         ensures unread { shelf_given result ≡ 0 }
         ensures not_asked { shelf_asked result ≡ [] }
         ensures fails { shelf_fails result ≡ fails.items }
+        ensures unused { shelf_calls result ≡ 0 }
         ensures source_fails { shelf_source_fails result ≡ source_fails.items }
     {
         MemShelf {
@@ -108,6 +137,13 @@ impl MemShelf {
             plan: Plan::new(fails),
             source_fails,
         }
+    }
+
+    /// The paths that it was asked to open, in order.
+    pub fn asked(&self) -> &[String]
+        ensures asked { map string_bytes result.now ≡ shelf_asked self.now }
+    {
+        &self.asked
     }
 
     /// A source of the bytes of this path, where there is such a path.
@@ -129,6 +165,7 @@ impl MemShelf {
         ensures refused { OnErr result (shelf_asked self.new ≡ shelf_asked self.old) }
         ensures files { shelf_files self.new ≡ shelf_files self.old }
         ensures given { shelf_given self.new ≡ shelf_given self.old }
+        ensures source_fails { shelf_source_fails self.new ≡ shelf_source_fails self.old }
         ensures plan { self.new.plan ≡ self.old.plan }
     {
         self.asked.push(String::from_str(self.alloc, path)?)?;
@@ -139,8 +176,11 @@ impl MemShelf {
 impl Shelf for MemShelf {
     type Source = MemSource;
 
-    ghost use Rattle.std.specs.Prelude.{Some};
-    ghost use Rattle.ept_mem.specs.Objects.{shelf_files, shelf_faults, shelf_given, shelf_asked};
+    ghost use Rattle.std.specs.Prelude.{Some, ◌≢◌, IfOk, IsErr, IsSome, IsOkUnless};
+    ghost use Rattle.ept_base.specs.Causes.{Rose, HasCauseOf};
+    ghost use Rattle.ept_base.specs.Devices.{Opens, Asks, counts_on};
+    ghost use Rattle.ept_mem.specs.Objects.{IsFresh, source_bytes, source_left, source_faults, source_given, shelf_files, shelf_faults, shelf_given, shelf_asked, shelf_plan, shelf_source_fails};
+    ghost use Rattle.ept_mem.specs.Plans.{IsToFail, IsOneCallMore, IsNoCall};
 
     ghost files = { λ shelf. Some (shelf_files shelf) };
 
@@ -150,7 +190,24 @@ impl Shelf for MemShelf {
 
     ghost asked = { λ shelf. Some (shelf_asked shelf) };
 
-    fn open(&mut self, path: &str) -> Result<MemSource, GetError> {
+    fn open(&mut self, path: &str) -> Result<MemSource, GetError>
+        ensures opened { IfOk result (λ source.
+            Opens (Some (shelf_files self.old)) path.now (Some (source_bytes source)) (Some (source_left source))) }
+        ensures fresh { IfOk result (λ source. source_faults source ≡ 0) }
+        ensures unread { IfOk result (λ source. source_given source ≡ 0) }
+        ensures given { shelf_given self.new ≡ shelf_given self.old }
+        ensures asked { Asks (Some (shelf_asked self.old)) (Some (shelf_asked self.new)) path.now result }
+        ensures same { shelf_files self.new ≡ shelf_files self.old }
+        ensures cause { HasCauseOf GetError.Failed (shelf_faults self.old) (shelf_faults self.new) result }
+        ensures source_fails { IfOk result (λ source. IsFresh source (shelf_source_fails self.old)) }
+        ensures same_source_fails { shelf_source_fails self.new ≡ shelf_source_fails self.old }
+        ensures to_fail { IsToFail (shelf_plan self.old) → IsErr result }
+        ensures not_to_fail { ¬ IsToFail (shelf_plan self.old) → IsSome (shelf_files self.old path.now)
+            → IsOkUnless result GetError.Memory }
+        ensures sound { ¬ IsToFail (shelf_plan self.old) → IsSome (shelf_files self.old path.now)
+            → shelf_faults self.new ≡ shelf_faults self.old }
+        ensures numbered { IsOneCallMore (shelf_plan self.old) (shelf_plan self.new) }
+    {
         let is_to_fail = self.plan.next();
         let opened = self.source_of(path)?;
         self.note(path)?;
@@ -160,7 +217,16 @@ impl Shelf for MemShelf {
         }
     }
 
-    fn retire(&mut self, source: MemSource) {
+    fn retire(&mut self, source: MemSource)
+        ensures later { shelf_faults self.old ≤ shelf_faults self.new }
+        ensures failed { source_faults source ≢ 0 → Rose (shelf_faults self.old) (shelf_faults self.new) }
+        ensures sound { source_faults source ≡ 0 → shelf_faults self.new ≡ shelf_faults self.old }
+        ensures given { shelf_given self.new ≡ counts_on (shelf_given self.old) (source_given source) }
+        ensures asked { shelf_asked self.new ≡ shelf_asked self.old }
+        ensures same { shelf_files self.new ≡ shelf_files self.old }
+        ensures same_source_fails { shelf_source_fails self.new ≡ shelf_source_fails self.old }
+        ensures not_numbered { IsNoCall (shelf_plan self.old) (shelf_plan self.new) }
+    {
         self.given = self.given.saturating_add(source.given);
         if source.plan.faults > 0 {
             self.plan.fault();

@@ -3,8 +3,8 @@ ghost use Rattle.std.specs.Option.{option_copied};
 ghost use Rattle.ept_base.specs.Files.{changed, SameFiles, SameBut};
 ghost use Rattle.ept_base.specs.Moves.{Follows, SameImages, NoMore, IsSettled, Elapses};
 ghost use Rattle.ept_mem.specs.Named.{content_of};
-ghost use Rattle.ept_mem.specs.Disk.{Disk, disk, after, bytes_of};
-ghost use Rattle.ept_mem.specs.Objects.{store_files, store_images, store_images_since, store_moment, store_faults, store_gets, store_fails};
+ghost use Rattle.ept_mem.specs.Disk.{Disk, disk, after, bytes_of, MaySpoil};
+ghost use Rattle.ept_mem.specs.Objects.{store_files, store_images, store_images_since, store_moment, store_faults, store_gets, store_fails, store_calls, store_plan};
 
 use crate::named::find;
 use crate::plan::Plan;
@@ -70,6 +70,7 @@ impl MemStore {
         ensures sound { store_faults result ≡ 0 }
         ensures fails { store_fails result ≡ fails.items }
         ensures unread { store_gets result ≡ 0 }
+        ensures unused { store_calls result ≡ 0 }
     {
         MemStore {
             alloc,
@@ -94,9 +95,10 @@ impl MemStore {
             × SameImages (store_images self.old) (store_images self.new)) }
         ensures reads { SameBut name.now (store_files self.old) (store_files self.new) }
         ensures images { Follows (SameBut name.now) (store_images self.old) (store_images self.new) }
+        ensures spoils { OnOk result (MaySpoil name.now (store_images self.old) (store_images self.new)) }
         ensures time { Elapses (store_moment self.old) (store_moment self.new) (store_images_since self.old) (store_images_since self.new) (store_images self.new) }
         ensures gets { self.new.gets ≡ self.old.gets }
-        ensures faults { self.new.plan.faults ≡ self.old.plan.faults }
+        ensures plan { store_plan self.new ≡ store_plan self.old }
     {
         let name = String::from_str(self.alloc, name)?;
         self.calls.push(Call::Write { name, content })?;
@@ -111,7 +113,7 @@ impl MemStore {
         ensures images { NoMore (store_images self.old) (store_images self.new) }
         ensures time { Elapses (store_moment self.old) (store_moment self.new) (store_images_since self.old) (store_images_since self.new) (store_images self.new) }
         ensures gets { self.new.gets ≡ self.old.gets }
-        ensures faults { self.new.plan.faults ≡ self.old.plan.faults }
+        ensures plan { store_plan self.new ≡ store_plan self.old }
     {
         self.calls.push(Call::Sync)?;
         Ok(())
@@ -119,9 +121,15 @@ impl MemStore {
 }
 
 impl Store for MemStore {
-    ghost use Rattle.std.specs.Prelude.{Some};
+    ghost use Rattle.std.specs.Prelude.{Some, Err, ◌≢◌, false, [], IfOk, OnOk, OnErr, IsErr, IsErrOf, IsOkUnless};
+    ghost use Rattle.ept_base.specs.Causes.{HasCauseOf};
+    ghost use Rattle.ept_base.specs.Devices.{Gets, counts_on};
+    ghost use Rattle.ept_base.specs.Files.{SameFiles, SameBut, Puts, Removes};
+    ghost use Rattle.ept_base.specs.Moves.{Follows, SameImages, NoMore, IsSettled, Elapses};
+    ghost use Rattle.ept_mem.specs.Disk.{MaySpoil};
     ghost use Rattle.ept_mem.specs.Named.{content_of};
-    ghost use Rattle.ept_mem.specs.Objects.{store_files, store_images, store_images_since, store_moment, store_faults, store_gets};
+    ghost use Rattle.ept_mem.specs.Objects.{store_files, store_images, store_images_since, store_moment, store_faults, store_gets, store_plan};
+    ghost use Rattle.ept_mem.specs.Plans.{IsToFail, IsOneCallMore};
     ghost use Rattle.ept_mem.specs.Crash.{image_counts, image_only, reads_image};
 
     ghost files = { λ store. Some (store_files store) };
@@ -142,7 +150,20 @@ impl Store for MemStore {
 
     ghost reads_an_image = { λ store. reads_image (content_of store.first.items) store.calls.items };
 
-    fn get(&mut self, name: &str, into: &mut Vec<u8>) -> Result<bool, GetError> {
+    fn get(&mut self, name: &str, into: &mut Vec<u8>) -> Result<bool, GetError>
+        ensures ok { IfOk result (λ found. Gets (store_files self.old) name.now found into.new.items) }
+        ensures absent { IfOk result (λ found. found ≡ false → into.new.items ≡ []) }
+        ensures refused { OnErr result (into.new.items ≡ into.old.items) }
+        ensures reads { SameFiles (store_files self.old) (store_files self.new) }
+        ensures images { SameImages (store_images self.old) (store_images self.new) }
+        ensures time { Elapses (store_moment self.old) (store_moment self.new) (store_images_since self.old) (store_images_since self.new) (store_images self.new) }
+        ensures counted { store_gets self.new ≡ counts_on (store_gets self.old) 1 }
+        ensures cause { HasCauseOf GetError.Failed (store_faults self.old) (store_faults self.new) result }
+        ensures to_fail { IsToFail (store_plan self.old) → IsErr result }
+        ensures not_to_fail { ¬ IsToFail (store_plan self.old) → IsOkUnless result GetError.Memory }
+        ensures sound { ¬ IsToFail (store_plan self.old) → store_faults self.new ≡ store_faults self.old }
+        ensures numbered { IsOneCallMore (store_plan self.old) (store_plan self.new) }
+    {
         self.gets = self.gets.saturating_add(1);
         if self.plan.next() {
             return Err(self.plan.fault().into());
@@ -159,7 +180,22 @@ impl Store for MemStore {
         }
     }
 
-    fn put(&mut self, name: &str, bytes: &[u8]) -> Result<(), PutError> {
+    fn put(&mut self, name: &str, bytes: &[u8]) -> Result<(), PutError>
+        ensures ok { OnOk result (Puts name.now bytes.now (store_files self.old) (store_files self.new)) }
+        ensures failed { IsErrOf result PutError.Failed → Removes name.now (store_files self.old) (store_files self.new) }
+        ensures memory { IsErrOf result PutError.Memory → SameFiles (store_files self.old) (store_files self.new)
+            × SameImages (store_images self.old) (store_images self.new) }
+        ensures reads { SameBut name.now (store_files self.old) (store_files self.new) }
+        ensures images { Follows (SameBut name.now) (store_images self.old) (store_images self.new) }
+        ensures spoils { (result ≢ Err PutError.Memory) → MaySpoil name.now (store_images self.old) (store_images self.new) }
+        ensures time { Elapses (store_moment self.old) (store_moment self.new) (store_images_since self.old) (store_images_since self.new) (store_images self.new) }
+        ensures counted { store_gets self.new ≡ store_gets self.old }
+        ensures cause { HasCauseOf PutError.Failed (store_faults self.old) (store_faults self.new) result }
+        ensures to_fail { IsToFail (store_plan self.old) → IsErr result }
+        ensures not_to_fail { ¬ IsToFail (store_plan self.old) → IsOkUnless result PutError.Memory }
+        ensures sound { ¬ IsToFail (store_plan self.old) → store_faults self.new ≡ store_faults self.old }
+        ensures numbered { IsOneCallMore (store_plan self.old) (store_plan self.new) }
+    {
         if self.plan.next() {
             self.write(name, None)?;
             return Err(self.plan.fault().into());
@@ -169,7 +205,22 @@ impl Store for MemStore {
         Ok(())
     }
 
-    fn remove(&mut self, name: &str) -> Result<(), PutError> {
+    fn remove(&mut self, name: &str) -> Result<(), PutError>
+        ensures ok { OnOk result (Removes name.now (store_files self.old) (store_files self.new)) }
+        ensures failed { IsErrOf result PutError.Failed → Removes name.now (store_files self.old) (store_files self.new) }
+        ensures memory { IsErrOf result PutError.Memory → SameFiles (store_files self.old) (store_files self.new)
+            × SameImages (store_images self.old) (store_images self.new) }
+        ensures reads { SameBut name.now (store_files self.old) (store_files self.new) }
+        ensures images { Follows (SameBut name.now) (store_images self.old) (store_images self.new) }
+        ensures spoils { (result ≢ Err PutError.Memory) → MaySpoil name.now (store_images self.old) (store_images self.new) }
+        ensures time { Elapses (store_moment self.old) (store_moment self.new) (store_images_since self.old) (store_images_since self.new) (store_images self.new) }
+        ensures counted { store_gets self.new ≡ store_gets self.old }
+        ensures cause { HasCauseOf PutError.Failed (store_faults self.old) (store_faults self.new) result }
+        ensures to_fail { IsToFail (store_plan self.old) → IsErr result }
+        ensures not_to_fail { ¬ IsToFail (store_plan self.old) → IsOkUnless result PutError.Memory }
+        ensures sound { ¬ IsToFail (store_plan self.old) → store_faults self.new ≡ store_faults self.old }
+        ensures numbered { IsOneCallMore (store_plan self.old) (store_plan self.new) }
+    {
         let is_to_fail = self.plan.next();
         self.write(name, None)?;
         if is_to_fail {
@@ -178,7 +229,19 @@ impl Store for MemStore {
         Ok(())
     }
 
-    fn sync(&mut self) -> Result<(), PutError> {
+    fn sync(&mut self) -> Result<(), PutError>
+        ensures ok { OnOk result (IsSettled (Some (store_files self.new)) (store_images self.new)) }
+        ensures refused { OnErr result (SameImages (store_images self.old) (store_images self.new)) }
+        ensures reads { SameFiles (store_files self.old) (store_files self.new) }
+        ensures images { NoMore (store_images self.old) (store_images self.new) }
+        ensures time { Elapses (store_moment self.old) (store_moment self.new) (store_images_since self.old) (store_images_since self.new) (store_images self.new) }
+        ensures counted { store_gets self.new ≡ store_gets self.old }
+        ensures cause { HasCauseOf PutError.Failed (store_faults self.old) (store_faults self.new) result }
+        ensures to_fail { IsToFail (store_plan self.old) → IsErr result }
+        ensures not_to_fail { ¬ IsToFail (store_plan self.old) → IsOkUnless result PutError.Memory }
+        ensures sound { ¬ IsToFail (store_plan self.old) → store_faults self.new ≡ store_faults self.old }
+        ensures numbered { IsOneCallMore (store_plan self.old) (store_plan self.new) }
+    {
         if self.plan.next() {
             return Err(self.plan.fault().into());
         }

@@ -40,24 +40,53 @@ fn a_source_gives_its_bytes_but_at_the_calls_that_fail(rt: HostRuntime) -> Resul
     Ok(())
 }
 
-#[test]
-fn a_shelf_opens_its_paths_and_counts_the_faults_of_its_sources(
-    rt: HostRuntime,
-) -> Result<(), Fail> {
-    let alloc = rt.alloc();
+// A shelf of three files, whose third call is to fail, and of each of its sources the second.
+fn shelf_of_three(alloc: Global) -> Result<MemShelf, AllocError> {
     let files = named(alloc, &[("a", b"one"), ("b", b"two"), ("a", b"three")])?;
-    let mut shelf = MemShelf::new(alloc, files, vec![in alloc; 2]?, vec![in alloc; 1]?);
-    let mut into = [0; 8];
+    Ok(MemShelf::new(alloc, files, vec![in alloc; 2]?, vec![in alloc; 1]?))
+}
+
+#[test]
+fn a_shelf_opens_its_paths(rt: HostRuntime) -> Result<(), Fail> {
+    let mut shelf = shelf_of_three(rt.alloc())?;
     let mut source = shelf.open("a")?;
+    let mut into = [0; 8];
     assert_eq!(rt; source.read(&mut into), Ok(3));
-    assert_eq!(rt; &into[..3], b"one".as_slice());
+    assert_eq!(rt; into, *b"one\0\0\0\0\0");
     shelf.retire(source);
     assert!(rt; matches!(shelf.open("c"), Err(GetError::Failed)));
     assert!(rt; matches!(shelf.open("a"), Err(GetError::Failed)));
-    let mut source = shelf.open("b")?;
-    assert_eq!(rt; read_full(&mut source, &mut into), Err(Failed));
-    assert_eq!(rt; &into[..3], b"two".as_slice());
+    let source = shelf.open("b")?;
     shelf.retire(source);
+    Ok(())
+}
+
+#[test]
+fn the_second_call_of_an_opened_source_fails(rt: HostRuntime) -> Result<(), Fail> {
+    let mut shelf = shelf_of_three(rt.alloc())?;
+    let mut source = shelf.open("b")?;
+    let mut into = [0; 8];
+    assert_eq!(rt; read_full(&mut source, &mut into), Err(Failed));
+    assert_eq!(rt; into, *b"two\0\0\0\0\0");
+    shelf.retire(source);
+    Ok(())
+}
+
+#[test]
+fn a_shelf_tells_which_paths_it_was_asked_for(rt: HostRuntime) -> Result<(), Fail> {
+    let alloc = rt.alloc();
+    let files = named(alloc, &[("a", b"one")])?;
+    let mut shelf = MemShelf::new(alloc, files, vec![in alloc; 1]?, Vec::new(alloc));
+    for path in ["b", "a", "a"] {
+        if let Ok(source) = shelf.open(path) {
+            shelf.retire(source);
+        }
+    }
+    let mut asked = String::new(alloc);
+    for path in shelf.asked() {
+        asked.push_str(path.as_str())?;
+    }
+    assert_eq!(rt; asked.as_str(), "baa");
     Ok(())
 }
 

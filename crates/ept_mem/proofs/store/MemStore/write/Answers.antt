@@ -1,6 +1,6 @@
 use Rattle.std.proofs.lemmas.Result.{err_from_is_err_and}
 use Rattle.ept_mem.specs.Named.{content_of}
-use Rattle.ept_mem.proofs.Calls.{write_reads, write_images, time_more, time_same, same_files, same_images, same_follows}
+use Rattle.ept_mem.proofs.Calls.{write_reads, write_images, write_spoils, time_more, time_same, same_files, same_images, same_follows}
 use Rattle.ept_mem.specs.declared.store.Call.TheVariants.{Write}
 use Rattle.ept_mem.proofs.store.MemStore.write.Goals as goal
 
@@ -28,3 +28,7 @@ returns-clause-images c =
 
 pub returns-clause-time : goal.returns-clause-time
 returns-clause-time c = time_more (content_of c.args.self.now.first.items) c.args.self.now.calls.items c.push.new.self.items (Write c.in_ok-name.name c.args.content) c.in_ok-push.ensures.items
+
+pub returns-clause-spoils : goal.returns-clause-spoils
+returns-clause-spoils c =
+    write_spoils (content_of c.args.self.now.first.items) c.args.self.now.calls.items c.push.new.self.items c.in_ok-name.name c.args.content c.args.name.now c.in_ok-name.ensures.ok c.in_ok-push.ensures.items
