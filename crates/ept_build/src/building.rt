@@ -58,6 +58,6 @@ where
     publish(alloc, store, &octree)?;
     Ok(Summary {
         points: octree.points,
-        nodes: octree.tree.nodes().len() as u64,
+        nodes: octree.tree.nodes().len() as u32,
     })
 }

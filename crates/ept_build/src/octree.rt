@@ -1,6 +1,6 @@
 //! What the two readings of the inputs find.
 
-ghost use Rattle.std.specs.Prelude.{◌≡◌, ◌⊎◌, List, Err, IsOk, IfOk, IfErr, length, All};
+ghost use Rattle.std.specs.Prelude.{◌≡◌, ◌⊎◌, ◌^◌, ◌<◌, List, Err, IsOk, IfOk, IfErr, length, All};
 ghost use Rattle.ept_base.specs.Causes.{HasCauseOf};
 ghost use Rattle.ept_base.specs.Files.{Tells};
 ghost use Rattle.ept_point.specs.declared.point.Point.{Point};
@@ -9,6 +9,7 @@ ghost use Rattle.ept_space.specs.CubeOfBounds.{IsCubeOf, HasPlace};
 ghost use Rattle.ept_scan.specs.Counts.{IsSound};
 ghost use Rattle.ept_scan.specs.Scans.{IsScan};
 ghost use Rattle.ept_meta.specs.Output.{rules_of};
+ghost use Rattle.ept_tree.specs.Grown.{nodes_of};
 ghost use Rattle.ept_build.specs.Building.{IsAccepted, IsReading, IsInsertion, IsRefused, IsDefinite, Stops};
 ghost use Rattle.ept_build.specs.Octrees.{IsOctree};
 
@@ -45,6 +46,7 @@ pub(crate) fn octree_of<H: Shelf>(
 ) -> Result<Octree, BuildError>
     ensures octree { IfOk result (λ octree. Tells (λ all. IsOctree all config.now octree) (H.files shelf.old)) }
     ensures each { IfOk result (λ octree. length octree.counts ≡ length octree.kept.inputs) }
+    ensures few { IfOk result (λ octree. length (nodes_of octree.tree) < 2 ^ 32) }
     ensures refused { IfErr result (λ e. Tells (λ all. IsRefused all config.now e) (H.files shelf.old)) }
     ensures refusal_comes { Tells (λ all. (e : BuildError) → IsDefinite e → IsRefused all config.now e
         → (result ≡ Err e) ⊎ Stops result) (H.files shelf.old) }
@@ -71,6 +73,7 @@ fn inserted<H: Shelf>(
     requires ordered { HasPlace done.bounds }
     ensures octree { IfOk result (λ octree. Tells (λ all. IsOctree all config.now octree) (H.files shelf.old)) }
     ensures each { IfOk result (λ octree. length octree.counts ≡ length octree.kept.inputs) }
+    ensures few { IfOk result (λ octree. length (nodes_of octree.tree) < 2 ^ 32) }
     ensures refused { IfErr result (λ e. Tells (λ all. IsRefused all config.now e) (H.files shelf.old)) }
     ensures inserts { IfErr result IsInsertion }
     ensures files { H.files shelf.new ≡ H.files shelf.old }

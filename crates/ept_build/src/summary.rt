@@ -6,5 +6,5 @@ pub struct Summary {
     /// How many points there are in all.
     pub points: u64,
     /// How many nodes the octree has.
-    pub nodes: u64,
+    pub nodes: u32,
 }
