@@ -1,7 +1,18 @@
 //! What holds of every packed point, tile and id. Each law is the contract of a function that does
 //! nothing.
 
-ghost use Rattle.ept_point.specs.Laws.{EachHasPackedLength, EachIsWithinBounds, IsPackedFormOfOne, EachTileHasLength, ReadInOneWay, NoneIsBeforeItself, BeforeIsTransitive, EitherIsBefore};
+ghost use Rattle.std.specs.Prelude.{◌≡◌};
+ghost use Rattle.ept_point.specs.Dimensions.{packed_width};
+ghost use Rattle.ept_point.specs.Laws.{EachPieceIsItsField, EachHasPackedLength, EachIsWithinBounds, IsPackedFormOfOne, EachTileHasLength, ReadInOneWay, NoneIsBeforeItself, BeforeIsTransitive, EitherIsBefore};
+
+use crate::packed::PACKED_LENGTH;
+
+/// The dimensions take the bytes of a packed point, one after another: each field of a point
+/// stands behind those of the dimensions before it, and is as wide as its dimension.
+pub fn layout_law()
+    ensures width { packed_width ≡ PACKED_LENGTH }
+    ensures pieces { EachPieceIsItsField }
+{}
 
 /// Every packed point has the packed length.
 pub fn packed_length_law()
