@@ -8,27 +8,126 @@ use Rattle.std.proofs.Math.Seq.{take-append_seam, drop-append_seam}
 use denote.Struct.Record.{values_one}
 use Rattle.ept_point.specs.contracts.point.Point.{struct, the_propositions}
 use Rattle.ept_point.specs.declared.point.Point.{Point}
-use Rattle.ept_point.specs.Dimensions.{dimensions, packed_width, pieces}
-use Rattle.ept_point.specs.Packed.{little_endian, Field, fields, field_bytes, packed, IsAboveBound, HasFieldAboveBound}
+use Rattle.ept_point.specs.Dimensions.{Dimension, dimensions, packed_width, pieces, X, Y, Z, Intensity, ReturnNumber, NumberOfReturns, ScanDirectionFlag, EdgeOfFlightLine, Classification, ClassFlags, ScanChannel, ScanAngleRank, ScanAngle, UserData, PointSourceId, Red, Green, Blue, OriginId, PointId}
+use Rattle.ept_point.specs.Packed.{little_endian, Value, Whole, Natural, bytes_of, read, number_in, fields, field_bytes, packed, IsAboveBound, HasFieldAboveBound}
+
+-- the piece of a field
+abbrev pub piece_of : Dimension × Value → Dimension × List ℕ
+piece_of field = (field.0, bytes_of field.0 field.1)
 
 -- pieces of the widths of their dimensions are cut out of their bytes again
-pieces_of_fields : (front : List ℕ) (fs : List Field) → AllByRecursion (λ f. length f.1 ≡ f.0.width) fs → pieces (length front) (map (λ f. f.0) fs) (front ++ concat (map (λ f. f.1) fs)) ≡ fs
+pieces_of_fields : (front : List ℕ) (fs : List (Dimension × List ℕ)) → AllByRecursion (λ f. length f.1 ≡ f.0.width) fs → pieces (length front) (map (λ f. f.0) fs) (front ++ concat (map (λ f. f.1) fs)) ≡ fs
 pieces_of_fields front [] h = refl
 pieces_of_fields front ((d, bytes) ∷ fs) h =
-    let behind : List ℕ = concat (map (λ (f : Field). f.1) fs) in
+    let behind : List ℕ = concat (map (λ (f : Dimension × List ℕ). f.1) fs) in
     let piece : take d.width (drop (length front) (front ++ (bytes ++ behind))) ≡ bytes = rw (drop-append_seam front (bytes ++ behind), ← h.0) (take-append_seam bytes behind) in
     let place : length front + d.width ≡ length (front ++ bytes) = rw (← h.0) (sym (length-append front bytes)) in
     let later = pieces_of_fields (front ++ bytes) fs h.1 in
     rw (piece, place, ← append_assoc front bytes behind, later) refl
 
-pub each_has_its_width : (p : Point) → AllByRecursion (λ f. length f.1 ≡ f.0.width) (fields p)
+each_has_its_width : (p : Point) → AllByRecursion (λ f. length f.1 ≡ f.0.width) (map piece_of (fields p))
 unfolding little_endian
 each_has_its_width p = (refl, (refl, (refl, (refl, (refl, (refl, (refl, (refl, (refl, (refl, (refl, (refl, (refl, (refl, (refl, (p.widths.gps_length, (refl, (refl, (refl, (refl, (refl, tt)))))))))))))))))))))
 
--- the pieces of a packed point are its fields
-pub pieces_of_packed : (p : Point) → pieces 0 dimensions (packed p) ≡ fields p
+-- the pieces of a packed point are those of its fields
+pub pieces_of_packed : (p : Point) → pieces 0 dimensions (packed p) ≡ map piece_of (fields p)
 unfolding packed field_bytes
-pieces_of_packed p = pieces_of_fields [] (fields p) (each_has_its_width p)
+pieces_of_packed p = pieces_of_fields [] (map piece_of (fields p)) (each_has_its_width p)
+
+-- a number is read of its bytes
+read_1 : (n : ℕ) → n < 2 ^ 8 → number_in (little_endian 1 n) ≡ n
+unfolding little_endian
+read_1 n h = omega arith
+
+read_2 : (n : ℕ) → n < 2 ^ 16 → number_in (little_endian 2 n) ≡ n
+unfolding little_endian
+read_2 n h = omega arith
+
+read_4 : (n : ℕ) → n < 2 ^ 32 → number_in (little_endian 4 n) ≡ n
+unfolding little_endian
+read_4 n h = omega arith
+
+read_signed_1 : (z : ℤ) → FitsSigned w8 z → cast_signed w8 (number_in (little_endian 1 (cast_unsigned w8 z))) ≡ z
+read_signed_1 z h = rw (read_1 (cast_unsigned w8 z) (omega (arith, ints))) (to_z-of_z w8 z h)
+
+read_signed_2 : (z : ℤ) → FitsSigned w16 z → cast_signed w16 (number_in (little_endian 2 (cast_unsigned w16 z))) ≡ z
+read_signed_2 z h = rw (read_2 (cast_unsigned w16 z) (omega (arith, ints))) (to_z-of_z w16 z h)
+
+read_signed_4 : (z : ℤ) → FitsSigned w32 z → cast_signed w32 (number_in (little_endian 4 (cast_unsigned w32 z))) ≡ z
+read_signed_4 z h = rw (read_4 (cast_unsigned w32 z) (omega (arith, ints))) (to_z-of_z w32 z h)
+
+each_reads : (p : Point) → AllByRecursion (λ f. read (piece_of f) ≡ f) (fields p)
+each_reads p = (
+  ap (λ (z : ℤ). (X, Whole z)) (read_signed_4 p.x p.widths.x_fits),
+  (
+    ap (λ (z : ℤ). (Y, Whole z)) (read_signed_4 p.y p.widths.y_fits),
+    (
+      ap (λ (z : ℤ). (Z, Whole z)) (read_signed_4 p.z p.widths.z_fits),
+      (
+        ap (λ (n : ℕ). (Intensity, Natural n)) (read_2 p.intensity p.widths.intensity_fits),
+        (
+          ap (λ (n : ℕ). (ReturnNumber, Natural n)) (read_1 p.return_number (omega (arith, p.return_number_bound))),
+          (
+            ap (λ (n : ℕ). (NumberOfReturns, Natural n)) (read_1 p.number_of_returns (omega (arith, p.number_of_returns_bound))),
+            (
+              ap (λ (n : ℕ). (ScanDirectionFlag, Natural n)) (read_1 p.scan_direction (omega (arith, p.scan_direction_bound))),
+              (
+                ap (λ (n : ℕ). (EdgeOfFlightLine, Natural n)) (read_1 p.edge (omega (arith, p.edge_bound))),
+                (
+                  ap (λ (n : ℕ). (Classification, Natural n)) (read_1 p.class p.widths.class_fits),
+                  (
+                    ap (λ (n : ℕ). (ClassFlags, Natural n)) (read_1 p.class_flags (omega (arith, p.class_flags_bound))),
+                    (
+                      ap (λ (n : ℕ). (ScanChannel, Natural n)) (read_1 p.channel (omega (arith, p.channel_bound))),
+                      (
+                        ap (λ (z : ℤ). (ScanAngleRank, Whole z)) (read_signed_1 p.angle_rank p.widths.angle_rank_fits),
+                        (
+                          ap (λ (z : ℤ). (ScanAngle, Whole z)) (read_signed_2 p.angle p.widths.angle_fits),
+                          (
+                            ap (λ (n : ℕ). (UserData, Natural n)) (read_1 p.user p.widths.user_fits),
+                            (
+                              ap (λ (n : ℕ). (PointSourceId, Natural n)) (read_2 p.source_id p.widths.source_id_fits),
+                              (
+                                refl,
+                                (
+                                  ap (λ (n : ℕ). (Red, Natural n)) (read_2 p.red p.widths.red_fits),
+                                  (
+                                    ap (λ (n : ℕ). (Green, Natural n)) (read_2 p.green p.widths.green_fits),
+                                    (
+                                      ap (λ (n : ℕ). (Blue, Natural n)) (read_2 p.blue p.widths.blue_fits),
+                                      (
+                                        ap (λ (n : ℕ). (OriginId, Natural n)) (read_4 p.origin p.widths.origin_fits),
+                                        (
+                                          ap (λ (n : ℕ). (PointId, Natural n)) (read_4 p.number p.widths.number_fits),
+                                          tt,
+                                        ),
+                                      ),
+                                    ),
+                                  ),
+                                ),
+                              ),
+                            ),
+                          ),
+                        ),
+                      ),
+                    ),
+                  ),
+                ),
+              ),
+            ),
+          ),
+        ),
+      ),
+    ),
+  ),
+)
+
+reads_each : (fs : List (Dimension × Value)) → AllByRecursion (λ f. read (piece_of f) ≡ f) fs → map read (map piece_of fs) ≡ fs
+reads_each [] h = refl
+reads_each (f ∷ fs) h = cc (h.0, reads_each fs h.1)
+
+pub reads_of_packed : (p : Point) → map read (pieces 0 dimensions (packed p)) ≡ fields p
+reads_of_packed p = ap (map read) (pieces_of_packed p) ∙ reads_each (fields p) (each_reads p)
 
 -- a packed point has this length
 pub length-packed : (p : Point) → length (packed p) ≡ packed_width
@@ -41,7 +140,7 @@ none_by_recursion P [] h (k, x, small, is, holds) = absurd (omega arith)
 none_by_recursion P (y ∷ xs) h (zero, x, small, is, holds) = h.0 (subst P (sym is) holds)
 none_by_recursion P (y ∷ xs) h (suc k, x, small, is, holds) = none_by_recursion P xs h.1 (k, x, omega arith, is, holds)
 
-none_above : (p : Point) → AllByRecursion (λ f. ¬ IsAboveBound f) (fields p)
+none_above : (p : Point) → AllByRecursion (λ f. ¬ IsAboveBound f) (map piece_of (fields p))
 unfolding little_endian
 none_above p = (
   λ h. h,
@@ -112,7 +211,7 @@ none_above p = (
 pub packed_within_bounds : (p : Point) → HasFieldAboveBound (packed p) → ⊥
 unfolding HasFieldAboveBound
 packed_within_bounds p h =
-    none_by_recursion IsAboveBound (fields p) (none_above p) (subst (Any IsAboveBound) (pieces_of_packed p) h)
+    none_by_recursion IsAboveBound (map piece_of (fields p)) (none_above p) (subst (Any IsAboveBound) (pieces_of_packed p) h)
 
 -- pieces of the same lengths, whose bytes are the same one after another, are the same
 pub append_same : (a b x y : List ℕ) → length a ≡ length b → a ++ x ≡ b ++ y → (a ≡ b) × (x ≡ y)

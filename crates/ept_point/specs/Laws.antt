@@ -1,15 +1,19 @@
-use Rattle.std.specs.Prelude.{ℕ, ◌≡◌, ◌*◌, ◌⊎◌, List, length, Result}
+use Rattle.std.specs.Prelude.{ℕ, ◌≡◌, ◌*◌, ◌⊎◌, List, length, map, Result}
 use Rattle.ept_point.specs.declared.point.Point.{Point}
 use Rattle.ept_point.specs.declared.id.PointId.{PointId}
 use Rattle.ept_point.specs.declared.tile.TileError.{TileError}
 use Rattle.ept_point.specs.Dimensions.{dimensions, packed_width, pieces}
-use Rattle.ept_point.specs.Packed.{fields, packed, tile, HasFieldAboveBound}
+use Rattle.ept_point.specs.Packed.{fields, bytes_of, read, packed, tile, HasFieldAboveBound}
 use Rattle.ept_point.specs.Order.{IsBefore}
 use Rattle.ept_point.specs.Tile.{ReadsAs}
 
--- the pieces of a packed point are the point's fields, each of its dimension's width
+-- the pieces of a packed point, cut by the widths of the dimensions alone, are the bytes of its fields
 abbrev pub EachPieceIsItsField : Type 0
-EachPieceIsItsField = (p : Point) → pieces 0 dimensions (packed p) ≡ fields p
+EachPieceIsItsField = (p : Point) → pieces 0 dimensions (packed p) ≡ map (λ field. (field.0, bytes_of field.0 field.1)) (fields p)
+
+-- and each piece, read by the kind of its dimension alone, is what the point has of it
+abbrev pub EachPieceReadsAsItsField : Type 0
+EachPieceReadsAsItsField = (p : Point) → map read (pieces 0 dimensions (packed p)) ≡ fields p
 
 -- a packed point takes as many bytes as its dimensions
 abbrev pub EachHasPackedLength : Type 0

@@ -3,15 +3,16 @@
 
 ghost use Rattle.std.specs.Prelude.{◌≡◌};
 ghost use Rattle.ept_point.specs.Dimensions.{packed_width};
-ghost use Rattle.ept_point.specs.Laws.{EachPieceIsItsField, EachHasPackedLength, EachIsWithinBounds, IsPackedFormOfOne, EachTileHasLength, ReadInOneWay, NoneIsBeforeItself, BeforeIsTransitive, EitherIsBefore};
+ghost use Rattle.ept_point.specs.Laws.{EachPieceIsItsField, EachPieceReadsAsItsField, EachHasPackedLength, EachIsWithinBounds, IsPackedFormOfOne, EachTileHasLength, ReadInOneWay, NoneIsBeforeItself, BeforeIsTransitive, EitherIsBefore};
 
 use crate::packed::PACKED_LENGTH;
 
-/// The dimensions take the bytes of a packed point, one after another: each field of a point
-/// stands behind those of the dimensions before it, and is as wide as its dimension.
+/// Who has the table of dimensions alone can read a packed point: each piece stands behind those of
+/// the dimensions before it, is as wide as its dimension, and reads as what the point has of it.
 pub fn layout_law()
     ensures width { packed_width ≡ PACKED_LENGTH }
     ensures pieces { EachPieceIsItsField }
+    ensures read { EachPieceReadsAsItsField }
 {}
 
 /// Every packed point has the packed length.
