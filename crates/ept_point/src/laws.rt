@@ -17,27 +17,27 @@ pub fn layout_law()
 
 /// Every packed point has the packed length.
 pub fn packed_length_law()
-    ensures { EachHasPackedLength }
+    ensures length { EachHasPackedLength }
 {}
 
 /// No field of a packed point is above its greatest value.
 pub fn packed_bounds_law()
-    ensures { EachIsWithinBounds }
+    ensures within { EachIsWithinBounds }
 {}
 
 /// Two points with the same packed form are the same point.
 pub fn packed_once_law()
-    ensures { IsPackedFormOfOne }
+    ensures once { IsPackedFormOfOne }
 {}
 
 /// The length of a tile is the packed length for each of its points.
 pub fn tile_length_law()
-    ensures { EachTileHasLength }
+    ensures length { EachTileHasLength }
 {}
 
 /// Bytes read as one tile, or as one first fault.
 pub fn tile_once_law()
-    ensures { ReadInOneWay }
+    ensures once { ReadInOneWay }
 {}
 
 /// The order of ids is strict, and of two different ids one comes first.

@@ -108,7 +108,7 @@ pub fn unpack(bytes: &[u8; PACKED_LENGTH]) -> Option<Point>
 
 /// The packed point. It takes no memory.
 pub fn pack(point: &Point) -> [u8; PACKED_LENGTH]
-    ensures { result ≡ packed point.now }
+    ensures bytes { result ≡ packed point.now }
 {
     let x = point.x.to_le_bytes();
     let y = point.y.to_le_bytes();

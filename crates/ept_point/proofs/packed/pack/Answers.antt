@@ -9,6 +9,7 @@ pub returns : goal.returns
 unfolding packed field_bytes
 returns c =
     let p = c.args.point.now in
+    record { bytes =
     cells_4 (cast_unsigned w32 p.x) _ (signed w32 p.x _ p.widths.x_fits c.to_le_bytes-x.ensures)
     (cells_4 (cast_unsigned w32 p.y) _ (signed w32 p.y _ p.widths.y_fits c.to_le_bytes-y.ensures)
     (cells_4 (cast_unsigned w32 p.z) _ (signed w32 p.z _ p.widths.z_fits c.to_le_bytes-z.ensures)
@@ -29,4 +30,4 @@ returns c =
     (cells_2 p.green _ c.to_le_bytes-green.ensures
     (cells_2 p.blue _ c.to_le_bytes-blue.ensures
     (cells_4 p.origin _ c.to_le_bytes-origin.ensures
-    (cells_4 p.number _ c.to_le_bytes-number.ensures refl))))))))))))))))))))
+    (cells_4 p.number _ c.to_le_bytes-number.ensures refl)))))))))))))))))))) }
