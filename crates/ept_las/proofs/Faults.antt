@@ -2,10 +2,8 @@
 use Rattle.std.proofs.Common.{ℕ, ◌<◌, ◌≤◌, List, Option, Bool, true, false, IsTrue, length, refl, arith, inl, inr}
 use Rattle.std.proofs.lemmas.Bool.{cases_lt}
 use Rattle.ept_las.specs.declared.las_error.LasError.TheVariants.{HeaderSize, Format, RecordLength}
-use Rattle.ept_las.specs.declared.header.TheConstants.{LENGTH_AT}
-use Rattle.ept_las.specs.Words.{u16_at}
 use Rattle.ept_las.specs.Format.{IsFormat, is_format, record_length}
-use Rattle.ept_las.specs.LasHeader.{HasNoneBelow, least_size, minor_of, format_of}
+use Rattle.ept_las.specs.LasHeader.{HasNoneBelow, least_size, minor_of, format_of, stated_length_of}
 
 true_from_double : (b : Bool) → ¬ ¬ IsTrue b → IsTrue b
 true_from_double true h = refl
@@ -21,5 +19,5 @@ module _ (head : List ℕ) (expect : Option (List ℕ)) (none : HasNoneBelow hea
   pub sound_format : IsFormat (format_of head)
   sound_format = true_from_double (is_format (format_of head)) (none Format (omega arith))
 
-  pub sound_length : record_length (format_of head) ≤ u16_at head LENGTH_AT
-  sound_length = le_from_not (u16_at head LENGTH_AT) (record_length (format_of head)) (none RecordLength (omega arith))
+  pub sound_length : record_length (format_of head) ≤ stated_length_of head
+  sound_length = le_from_not (stated_length_of head) (record_length (format_of head)) (none RecordLength (omega arith))

@@ -1,17 +1,16 @@
 -- The six point data record formats that are read (LAS 1.4 R15, section 2.6).
 use Rattle.std.specs.Prelude.{ℕ, Bool, Option, Some, None, nat_le, ◌==◌, ◌||◌, if◌then◌else◌, IsTrue}
-use Rattle.ept_las.specs.declared.format.TheConstants.{LAST_PLAIN, FIRST_EXTENDED}
 
 -- a format of the six: 0 to 3, 6 or 7
 abbrev pub is_format : ℕ → Bool
-is_format format = nat_le format LAST_PLAIN || (format == 6 || format == 7)
+is_format format = nat_le format 3 || (format == 6 || format == 7)
 
 abbrev pub IsFormat : ℕ → Type 0
 IsFormat format = IsTrue (is_format format)
 
 -- 6 and 7 have fields of their own
 abbrev pub is_extended : ℕ → Bool
-is_extended format = nat_le FIRST_EXTENDED format
+is_extended format = nat_le 6 format
 
 -- how many bytes the fields of a record take
 unfoldable pub record_length : ℕ → ℕ

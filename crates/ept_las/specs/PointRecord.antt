@@ -2,38 +2,43 @@
 use Rattle.std.specs.Prelude.{ℕ, ℤ, ◌≡◌, ◌<◌, ◌+◌, ◌*◌, List, Option, Some, None, slice_index, take, drop, replicate, FitsSigned}
 use Rattle.std.specs.Int.{w32}
 use Rattle.ept_point.specs.declared.point.Point.{Point}
-use Rattle.ept_point.specs.declared.point.TheConstants.{GPS_WIDTH}
 use Rattle.ept_las.specs.declared.shift.Shift.{Shift}
-use Rattle.ept_las.specs.declared.point_record.TheConstants.{COORDINATE_WIDTH, INTENSITY_AT, USER_AT, COLOUR_WIDTH}
 use Rattle.ept_las.specs.Words.{u16_at, i32_at}
 use Rattle.ept_las.specs.Pulses.{return_number_of, number_of_returns_of, scan_direction_of, edge_of, class_of, class_flags_of, channel_of, angle_rank_of, angle_of, source_id_of}
 use Rattle.ept_las.specs.Shifts.{stored}
 use Rattle.ept_las.specs.Format.{is_extended, gps_place, colour_place}
 
--- the stored coordinate on an axis from 0 to 2
+-- the stored coordinate on an axis from 0 to 2: X, Y and Z come first in a record, four bytes each
 abbrev pub coordinate : Shift → List ℕ → ℕ → ℤ
-coordinate shift bytes axis = stored shift axis (i32_at bytes (COORDINATE_WIDTH * axis))
+coordinate shift bytes axis = stored shift axis (i32_at bytes (4 * axis))
 
 -- a stored coordinate is no number of 32 bits
 abbrev pub IsOutOfUnits : Shift → List ℕ → Type 0
 IsOutOfUnits shift bytes = (axis : ℕ) × (axis < 3) × ¬ FitsSigned w32 (coordinate shift bytes axis)
 
--- eight bytes where there is a place for them, and zeros where there is none
+-- GPS Time: eight bytes where there is a place for them, and zeros where there is none
 abbrev pub gps_of : Option ℕ → List ℕ → List ℕ
-gps_of None bytes = replicate GPS_WIDTH 0
-gps_of (Some at) bytes = take GPS_WIDTH (drop at bytes)
+gps_of None bytes = replicate 8 0
+gps_of (Some at) bytes = take 8 (drop at bytes)
 
--- one of three colours, from 0 to 2, or zero
+-- Red, Green or Blue, as 0 to 2: two bytes each, one after another, or zero
 abbrev pub colour_of : Option ℕ → ℕ → List ℕ → ℕ
 colour_of None which bytes = 0
-colour_of (Some at) which bytes = u16_at bytes (at + COLOUR_WIDTH * which)
+colour_of (Some at) which bytes = u16_at bytes (at + 2 * which)
+
+-- Intensity, and User Data
+abbrev pub intensity_of : List ℕ → ℕ
+intensity_of bytes = u16_at bytes 12
+
+abbrev pub user_of : List ℕ → ℕ
+user_of bytes = slice_index bytes 17
 
 -- the point that a record of this format holds, as record `number` of scan `source`
 pub record IsPointOf (format : ℕ) (shift : Shift) (source number : ℕ) (bytes : List ℕ) (p : Point) : Type 0 where
   pub x_is : p.x ≡ coordinate shift bytes 0
   pub y_is : p.y ≡ coordinate shift bytes 1
   pub z_is : p.z ≡ coordinate shift bytes 2
-  pub intensity_is : p.intensity ≡ u16_at bytes INTENSITY_AT
+  pub intensity_is : p.intensity ≡ intensity_of bytes
   pub return_number_is : p.return_number ≡ return_number_of (is_extended format) bytes
   pub number_of_returns_is : p.number_of_returns ≡ number_of_returns_of (is_extended format) bytes
   pub scan_direction_is : p.scan_direction ≡ scan_direction_of (is_extended format) bytes
@@ -43,7 +48,7 @@ pub record IsPointOf (format : ℕ) (shift : Shift) (source number : ℕ) (bytes
   pub channel_is : p.channel ≡ channel_of (is_extended format) bytes
   pub angle_rank_is : p.angle_rank ≡ angle_rank_of (is_extended format) bytes
   pub angle_is : p.angle ≡ angle_of (is_extended format) bytes
-  pub user_is : p.user ≡ slice_index bytes USER_AT
+  pub user_is : p.user ≡ user_of bytes
   pub source_id_is : p.source_id ≡ source_id_of (is_extended format) bytes
   pub gps_is : p.gps ≡ gps_of (gps_place format) bytes
   pub red_is : p.red ≡ colour_of (colour_place format) 0 bytes

@@ -1,58 +1,68 @@
--- The fields of a record that stand elsewhere in formats 6 and 7, the extended ones.
+-- The fields of a record that stand elsewhere in formats 6 and 7, the extended ones (LAS 1.4 R15, section 2.6): at byte 14 and on, bits
+-- from the lowest up.
 use Rattle.std.specs.Prelude.{ℕ, ℤ, Bool, pos, ◌≡◌, List, if◌then◌else◌, slice_index}
-use Rattle.ept_las.specs.declared.pulse.TheConstants.{RETURNS_AT, FLAGS_AT, PLAIN_RANK_AT, PLAIN_SOURCE_AT, EXTENDED_CLASS_AT, EXTENDED_ANGLE_AT, EXTENDED_SOURCE_AT}
 use Rattle.ept_las.specs.declared.pulse.Pulse.{Pulse}
 use Rattle.ept_las.specs.Words.{u16_at, i8_at, i16_at, bits}
 
 -- what a format lacks is zero
 module _ (extended : Bool) (bytes : List ℕ) where
+  -- Return Number
   unfoldable pub return_number_of : ℕ
   return_number_of =
       if extended
-      then bits (slice_index bytes RETURNS_AT) 0 4
-      else bits (slice_index bytes RETURNS_AT) 0 3
+      then bits (slice_index bytes 14) 0 4
+      else bits (slice_index bytes 14) 0 3
 
+  -- Number of Returns
   unfoldable pub number_of_returns_of : ℕ
   number_of_returns_of =
       if extended
-      then bits (slice_index bytes RETURNS_AT) 4 4
-      else bits (slice_index bytes RETURNS_AT) 3 3
+      then bits (slice_index bytes 14) 4 4
+      else bits (slice_index bytes 14) 3 3
 
+  -- Scan Direction Flag
   unfoldable pub scan_direction_of : ℕ
   scan_direction_of =
       if extended
-      then bits (slice_index bytes FLAGS_AT) 6 1
-      else bits (slice_index bytes RETURNS_AT) 6 1
+      then bits (slice_index bytes 15) 6 1
+      else bits (slice_index bytes 14) 6 1
 
+  -- Edge of Flight Line
   unfoldable pub edge_of : ℕ
   edge_of =
       if extended
-      then bits (slice_index bytes FLAGS_AT) 7 1
-      else bits (slice_index bytes RETURNS_AT) 7 1
+      then bits (slice_index bytes 15) 7 1
+      else bits (slice_index bytes 14) 7 1
 
+  -- Classification
   unfoldable pub class_of : ℕ
   class_of =
       if extended
-      then slice_index bytes EXTENDED_CLASS_AT
-      else bits (slice_index bytes FLAGS_AT) 0 5
+      then slice_index bytes 16
+      else bits (slice_index bytes 15) 0 5
 
+  -- Synthetic, Key-Point and Withheld, in the formats 6 and 7 Overlap too
   unfoldable pub class_flags_of : ℕ
   class_flags_of =
       if extended
-      then bits (slice_index bytes FLAGS_AT) 0 4
-      else bits (slice_index bytes FLAGS_AT) 5 3
+      then bits (slice_index bytes 15) 0 4
+      else bits (slice_index bytes 15) 5 3
 
+  -- Scanner Channel
   unfoldable pub channel_of : ℕ
-  channel_of = if extended then bits (slice_index bytes FLAGS_AT) 4 2 else 0
+  channel_of = if extended then bits (slice_index bytes 15) 4 2 else 0
 
+  -- Scan Angle Rank
   unfoldable pub angle_rank_of : ℤ
-  angle_rank_of = if extended then pos 0 else i8_at bytes PLAIN_RANK_AT
+  angle_rank_of = if extended then pos 0 else i8_at bytes 16
 
+  -- Scan Angle
   unfoldable pub angle_of : ℤ
-  angle_of = if extended then i16_at bytes EXTENDED_ANGLE_AT else pos 0
+  angle_of = if extended then i16_at bytes 18 else pos 0
 
+  -- Point Source ID
   unfoldable pub source_id_of : ℕ
-  source_id_of = if extended then u16_at bytes EXTENDED_SOURCE_AT else u16_at bytes PLAIN_SOURCE_AT
+  source_id_of = if extended then u16_at bytes 20 else u16_at bytes 18
 
 -- all of them
 pub record IsPulseOf (extended : Bool) (bytes : List ℕ) (pulse : Pulse) : Type 0 where

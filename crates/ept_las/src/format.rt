@@ -3,8 +3,8 @@
 ghost use Rattle.std.specs.Prelude.{◌≡◌, ◌≤◌, ◌+◌, IfSome};
 ghost use Rattle.ept_las.specs.Format.{IsFormat, is_format, record_length, gps_place, colour_place};
 
-/// The last of the formats 0 to 3.
-pub const LAST_PLAIN: u8 = 3;
+// The last of the formats 0 to 3.
+const LAST_PLAIN: u8 = 3;
 
 /// The first of the formats 6 and 7, which have fields of their own.
 pub const FIRST_EXTENDED: u8 = 6;

@@ -11,46 +11,44 @@ use crate::words::{bits, u16_at, u32_at, u64_at};
 /// The greatest size of a header that is read: that of LAS 1.4.
 pub const HEAD_LENGTH: usize = 375;
 
-/// How a LAS file begins.
-pub const SIGNATURE: [u8; 4] = *b"LASF";
+// How a LAS file begins.
+const SIGNATURE: [u8; 4] = *b"LASF";
 
-// The least header sizes of LAS 1.2, 1.3 and 1.4.
-pub const LEAST_SIZE: usize = 227;
+// The least header size of LAS 1.2, which is the least of all, and that of LAS 1.3.
+const LEAST_SIZE: usize = 227;
 
-pub const LEAST_SIZE_3: usize = 235;
+const LEAST_SIZE_OF_1_3: usize = 235;
 
-pub const LEAST_SIZE_4: usize = HEAD_LENGTH;
+const MAJOR: u8 = 1;
 
-pub const MAJOR: u8 = 1;
+const FIRST_MINOR: u8 = 2;
 
-pub const FIRST_MINOR: u8 = 2;
-
-pub const LAST_MINOR: u8 = 4;
+const LAST_MINOR: u8 = 4;
 
 // Where the fields stand, in bytes.
-pub const MAJOR_AT: usize = 24;
+const MAJOR_AT: usize = 24;
 
-pub const MINOR_AT: usize = 25;
+const MINOR_AT: usize = 25;
 
-pub const SIZE_AT: usize = 94;
+const SIZE_AT: usize = 94;
 
-pub const OFFSET_AT: usize = 96;
+const OFFSET_AT: usize = 96;
 
-pub const FORMAT_AT: usize = 104;
+const FORMAT_AT: usize = 104;
 
-pub const LENGTH_AT: usize = 105;
+const LENGTH_AT: usize = 105;
 
-pub const OLD_POINTS_AT: usize = 107;
+const LEGACY_POINTS_AT: usize = 107;
 
-pub const SCALE_AT: usize = 131;
+const SCALE_AT: usize = 131;
 
-pub const POINTS_AT: usize = 247;
+const POINTS_AT: usize = 247;
 
 /// How many bytes the scales and offsets take.
 pub const SCALE_WIDTH: usize = 48;
 
 // A compressed file sets this bit of the format, or the one above it.
-pub const COMPRESSED_BIT: u8 = 6;
+const COMPRESSED_BIT: u8 = 6;
 
 /// What a header says of a file's points.
 #[derive(Clone, Copy, Debug, PartialEq, Eq)]
@@ -71,9 +69,9 @@ fn least_size(minor: u8) -> usize
     ensures { result ≡ least_size minor }
 {
     match minor {
-        LAST_MINOR => LEAST_SIZE_4,
+        LAST_MINOR => HEAD_LENGTH,
         FIRST_MINOR => LEAST_SIZE,
-        _ => LEAST_SIZE_3,
+        _ => LEAST_SIZE_OF_1_3,
     }
 }
 
@@ -155,7 +153,7 @@ fn points_of(head: &[u8]) -> u64
             return points;
         }
     }
-    u64::from(u32_at(head, OLD_POINTS_AT))
+    u64::from(u32_at(head, LEGACY_POINTS_AT))
 }
 
 /// Reads a header from the first `len` of these bytes: all bytes of the file, or its first 375. With

@@ -4,15 +4,15 @@ ghost use Rattle.ept_las.specs.Laws.{HeaderInOneWay, RecordInOneWay, IdentityIsI
 
 /// The first bytes of a file read as one header, or as one fault.
 pub fn header_once_law()
-    ensures { HeaderInOneWay }
+    ensures once { HeaderInOneWay }
 {}
 
 /// A record reads as one point, or as out of units.
 pub fn record_once_law()
-    ensures { RecordInOneWay }
+    ensures once { RecordInOneWay }
 {}
 
 /// A record whose coordinates are stored as they are is never out of units.
 pub fn identity_shift_law()
-    ensures { IdentityIsInUnits }
+    ensures fits { IdentityIsInUnits }
 {}

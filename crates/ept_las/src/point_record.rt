@@ -11,22 +11,20 @@ ghost use Rattle.ept_las.specs.PointRecord.{coordinate, IsOutOfUnits, gps_of, co
 use crate::format::{colour_place, gps_place};
 use crate::pulse::Pulse;
 use crate::shift::Shift;
-use crate::words::{i32_at, u16_at};
+use crate::words::{bytes_at, i32_at, u16_at};
 use ept_point::{GPS_WIDTH, Point, PointNumber};
-use thiserror::Error;
 
 // Where each field stands in a record, in bytes.
-pub const COORDINATE_WIDTH: usize = 4;
+const COORDINATE_WIDTH: usize = 4;
 
-pub const INTENSITY_AT: usize = 12;
+const INTENSITY_AT: usize = 12;
 
-pub const USER_AT: usize = 17;
+const USER_AT: usize = 17;
 
-pub const COLOUR_WIDTH: usize = 2;
+const COLOUR_WIDTH: usize = 2;
 
 /// A stored coordinate is no number of 32 bits.
-#[derive(Clone, Copy, Debug, PartialEq, Eq, Error)]
-#[error("a stored coordinate is out of range")]
+#[derive(Clone, Copy, Debug, PartialEq, Eq)]
 pub struct OutOfUnits;
 
 // A coordinate in stored units, if it is a number of 32 bits.
@@ -74,16 +72,7 @@ fn gps_of(place: Option<usize>, bytes: &[u8]) -> [u8; GPS_WIDTH]
 {
     match place {
         None => [0; GPS_WIDTH],
-        Some(at) => [
-            bytes[at],
-            bytes[at + 1],
-            bytes[at + 2],
-            bytes[at + 3],
-            bytes[at + 4],
-            bytes[at + 5],
-            bytes[at + 6],
-            bytes[at + 7],
-        ],
+        Some(at) => bytes_at(bytes, at),
     }
 }
 

@@ -1,25 +1,24 @@
 //! The fields of a record that stand elsewhere in formats 6 and 7.
 
-ghost use Rattle.std.specs.Prelude.{◌≤◌};
-ghost use Rattle.ept_point.specs.declared.point.TheConstants.{MAX_RETURNS, MAX_FLAG, MAX_CLASS_FLAGS, MAX_CHANNEL};
+ghost use Rattle.ept_point.specs.Dimensions.{IsWithin, ReturnNumber, NumberOfReturns, ScanDirectionFlag, EdgeOfFlightLine, ClassFlags, ScanChannel};
 
 use crate::format::FIRST_EXTENDED;
 use crate::words::{bits, i8_at, i16_at, u16_at};
 
 // Where they stand, in bytes.
-pub const RETURNS_AT: usize = 14;
+const RETURNS_AT: usize = 14;
 
-pub const FLAGS_AT: usize = 15;
+const FLAGS_AT: usize = 15;
 
-pub const PLAIN_RANK_AT: usize = 16;
+const PLAIN_RANK_AT: usize = 16;
 
-pub const PLAIN_SOURCE_AT: usize = 18;
+const PLAIN_SOURCE_AT: usize = 18;
 
-pub const EXTENDED_CLASS_AT: usize = 16;
+const EXTENDED_CLASS_AT: usize = 16;
 
-pub const EXTENDED_ANGLE_AT: usize = 18;
+const EXTENDED_ANGLE_AT: usize = 18;
 
-pub const EXTENDED_SOURCE_AT: usize = 20;
+const EXTENDED_SOURCE_AT: usize = 20;
 
 /// What the laser pulse of a point left: its return, its class and its angle.
 #[derive(Drop)]
@@ -34,12 +33,12 @@ pub struct Pulse {
     pub angle_rank: i8,
     pub angle: i16,
     pub source_id: u16,
-    ghost return_number_bound: { return_number ≤ MAX_RETURNS },
-    ghost number_of_returns_bound: { number_of_returns ≤ MAX_RETURNS },
-    ghost scan_direction_bound: { scan_direction ≤ MAX_FLAG },
-    ghost edge_bound: { edge ≤ MAX_FLAG },
-    ghost class_flags_bound: { class_flags ≤ MAX_CLASS_FLAGS },
-    ghost channel_bound: { channel ≤ MAX_CHANNEL },
+    ghost return_number_bound: { IsWithin ReturnNumber return_number },
+    ghost number_of_returns_bound: { IsWithin NumberOfReturns number_of_returns },
+    ghost scan_direction_bound: { IsWithin ScanDirectionFlag scan_direction },
+    ghost edge_bound: { IsWithin EdgeOfFlightLine edge },
+    ghost class_flags_bound: { IsWithin ClassFlags class_flags },
+    ghost channel_bound: { IsWithin ScanChannel channel },
 }
 
 impl Pulse {

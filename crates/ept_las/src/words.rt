@@ -1,9 +1,19 @@
 //! Numbers in bytes, the lowest byte first.
 
-ghost use Rattle.std.specs.Prelude.{◌≡◌, ◌+◌, ◌≤◌, ◌<◌, ◌^◌, length};
+ghost use Rattle.std.specs.Prelude.{◌≡◌, ◌+◌, ◌≤◌, ◌<◌, ◌^◌, ℕ, length, take, drop, slice_index};
 ghost use Rattle.ept_las.specs.Words.{u16_at, u32_at, u64_at, i8_at, i16_at, i32_at, bits};
 
 use byteorder::{ByteOrder, LittleEndian};
+
+/// The bytes at a place.
+pub fn bytes_at<const N: usize>(bytes: &[u8], at: usize) -> [u8; N]
+    requires { at + N ≤ length bytes.now }
+    ensures value { result ≡ take N (drop at bytes.now) }
+    ensures len { length result ≡ N }
+    ensures bytes { (i : ℕ) → slice_index result i < 2 ^ 8 }
+{
+    *bytes[at..].first_chunk().unwrap()
+}
 
 #[tactic(auto, unfolding(crate::specs::Words::u16_at))]
 pub fn u16_at(bytes: &[u8], at: usize) -> u16

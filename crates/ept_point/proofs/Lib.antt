@@ -1,5 +1,5 @@
 pub mod Pieces
-pub mod Unpacking
 pub mod PackedLaws
+pub mod Unpacking
 pub mod TileLaws
 pub mod OrderLaws

@@ -7,7 +7,7 @@ use Rattle.std.proofs.lemmas.List.Concat.{flat_map-append}
 use Rattle.std.proofs.lemmas.Bool.{false≢true, cases_lt}
 use Rattle.ept_point.specs.declared.point.Point.{Point}
 use Rattle.ept_point.specs.declared.id.PointId.{PointId}
-use Rattle.ept_point.specs.declared.packed.TheConstants.{PACKED_LENGTH}
+use Rattle.ept_point.specs.Dimensions.{packed_width}
 use Rattle.ept_point.specs.declared.tile.TileError.{TileError}
 use Rattle.ept_point.specs.declared.tile.TileError.TheVariants.{Length, Field, Order, Memory}
 use Rattle.ept_point.specs.Packed.{packed, tile, HasFieldAboveBound}
@@ -16,7 +16,7 @@ use Rattle.ept_point.specs.Tile.{HasFaultAt, ReadsAs, AppendsReading, IsPointFau
 use Rattle.ept_point.proofs.PackedLaws.{length-packed, append_same, packed_one, packed_within_bounds}
 
 -- a tile has its points' length for each point
-pub length-tile : (points : List Point) → length (tile points) ≡ PACKED_LENGTH * length points
+pub length-tile : (points : List Point) → length (tile points) ≡ packed_width * length points
 length-tile [] = refl
 length-tile (p ∷ points) = omega (arith, length-append (packed p) (tile points), length-packed p, length-tile points)
 
@@ -71,52 +71,52 @@ read_none bytes old = record {
   count = refl;
 }
 
-pub read_more : (bytes rest : List ℕ) (old new : List Point) (last : Option PointId) (at : ℕ) (p : Point) → IsReadTo bytes rest old new last at → packed p ≡ take PACKED_LENGTH rest → IfSome last (λ a. IsBefore a (id p)) → IsReadTo bytes (drop PACKED_LENGTH rest) old (new ++ p ∷ []) (Some (id p)) (at + 1)
+pub read_more : (bytes rest : List ℕ) (old new : List Point) (last : Option PointId) (at : ℕ) (p : Point) → IsReadTo bytes rest old new last at → packed p ≡ take packed_width rest → IfSome last (λ a. IsBefore a (id p)) → IsReadTo bytes (drop packed_width rest) old (new ++ p ∷ []) (Some (id p)) (at + 1)
 read_more bytes rest old new last at p r piece after = record {
   points = r.points ++ p ∷ [];
   appended = ap (λ (t : List Point). t ++ p ∷ []) r.appended ∙ append_assoc old r.points (p ∷ []);
   parts =
       r.parts
-      ∙ ap (λ (t : List ℕ). tile r.points ++ t) (sym (take-append-drop PACKED_LENGTH rest))
-      ∙ sym (append_assoc (tile r.points) (take PACKED_LENGTH rest) (drop PACKED_LENGTH rest))
-      ∙ ap (λ (t : List ℕ). (tile r.points ++ t) ++ drop PACKED_LENGTH rest) (sym piece)
-      ∙ ap (λ (t : List ℕ). t ++ drop PACKED_LENGTH rest) (sym (tile_more r.points p));
+      ∙ ap (λ (t : List ℕ). tile r.points ++ t) (sym (take-append-drop packed_width rest))
+      ∙ sym (append_assoc (tile r.points) (take packed_width rest) (drop packed_width rest))
+      ∙ ap (λ (t : List ℕ). (tile r.points ++ t) ++ drop packed_width rest) (sym piece)
+      ∙ ap (λ (t : List ℕ). t ++ drop packed_width rest) (sym (tile_more r.points p));
   ascends = ascends_more r.points p r.ascends (subst (λ (o : Option PointId). IfSome o (λ a. IsBefore a (id p))) r.is_last after);
   is_last = sym (last_id_more r.points p);
   count = omega (arith, length_push r.points p, r.count);
 }
 
 -- where too few bytes are left for a point none are
-pub read_all : (bytes rest : List ℕ) (old new : List Point) (last : Option PointId) (at : ℕ) → IsReadTo bytes rest old new last at → length bytes % PACKED_LENGTH ≡ 0 → length rest < PACKED_LENGTH → (points : List Point) × ReadsAs bytes (Ok points) × (new ≡ old ++ points)
+pub read_all : (bytes rest : List ℕ) (old new : List Point) (last : Option PointId) (at : ℕ) → IsReadTo bytes rest old new last at → length bytes % packed_width ≡ 0 → length rest < packed_width → (points : List Point) × ReadsAs bytes (Ok points) × (new ≡ old ++ points)
 read_all bytes rest old new last at r whole short =
     let len : length bytes ≡ length (tile r.points) + length rest = rw r.parts (length-append (tile r.points) rest) in
     let none : length rest ≡ 0 = omega (arith, length-tile r.points, len) in
     (r.points, (r.parts ∙ ap (λ (t : List ℕ). tile r.points ++ t) (nil_from_length rest none) ∙ append-nil (tile r.points), r.ascends), r.appended)
 
 -- a fault at the point after those that were read
-pub fault_after : (bytes rest : List ℕ) (old new : List Point) (last : Option PointId) (at : ℕ) (IsFaulty : List Point → List ℕ → Type 0) → (r : IsReadTo bytes rest old new last at) → length bytes % PACKED_LENGTH ≡ 0 → PACKED_LENGTH ≤ length rest → IsFaulty r.points (take PACKED_LENGTH rest) → HasFaultAt bytes at IsFaulty
+pub fault_after : (bytes rest : List ℕ) (old new : List Point) (last : Option PointId) (at : ℕ) (IsFaulty : List Point → List ℕ → Type 0) → (r : IsReadTo bytes rest old new last at) → length bytes % packed_width ≡ 0 → packed_width ≤ length rest → IsFaulty r.points (take packed_width rest) → HasFaultAt bytes at IsFaulty
 fault_after bytes rest old new last at IsFaulty r whole enough faulty = record {
   before = r.points;
-  piece = take PACKED_LENGTH rest;
-  rest = drop PACKED_LENGTH rest;
+  piece = take packed_width rest;
+  rest = drop packed_width rest;
   is_whole = whole;
-  parts = r.parts ∙ ap (λ (t : List ℕ). tile r.points ++ t) (sym (take-append-drop PACKED_LENGTH rest));
+  parts = r.parts ∙ ap (λ (t : List ℕ). tile r.points ++ t) (sym (take-append-drop packed_width rest));
   place = r.count;
   ascends = r.ascends;
-  piece_length = omega (arith, length-take PACKED_LENGTH rest);
+  piece_length = omega (arith, length-take packed_width rest);
   is_faulty = faulty;
 }
 
-pub field_fault : (bytes rest : List ℕ) (old new : List Point) (last : Option PointId) (at : ℕ) → IsReadTo bytes rest old new last at → length bytes % PACKED_LENGTH ≡ 0 → PACKED_LENGTH ≤ length rest → HasFieldAboveBound (take PACKED_LENGTH rest) → ReadsAs bytes (Err (Field at))
+pub field_fault : (bytes rest : List ℕ) (old new : List Point) (last : Option PointId) (at : ℕ) → IsReadTo bytes rest old new last at → length bytes % packed_width ≡ 0 → packed_width ≤ length rest → HasFieldAboveBound (take packed_width rest) → ReadsAs bytes (Err (Field at))
 field_fault bytes rest old new last at r whole enough above =
     fault_after bytes rest old new last at (λ before piece. HasFieldAboveBound piece) r whole enough above
 
-pub order_fault : (bytes rest : List ℕ) (old new : List Point) (last : Option PointId) (at : ℕ) (p : Point) → IsReadTo bytes rest old new last at → length bytes % PACKED_LENGTH ≡ 0 → PACKED_LENGTH ≤ length rest → packed p ≡ take PACKED_LENGTH rest → ¬ IfSome last (λ a. IsBefore a (id p)) → ReadsAs bytes (Err (Order at))
+pub order_fault : (bytes rest : List ℕ) (old new : List Point) (last : Option PointId) (at : ℕ) (p : Point) → IsReadTo bytes rest old new last at → length bytes % packed_width ≡ 0 → packed_width ≤ length rest → packed p ≡ take packed_width rest → ¬ IfSome last (λ a. IsBefore a (id p)) → ReadsAs bytes (Err (Order at))
 order_fault bytes rest old new last at p r whole enough piece not_after =
     fault_after bytes rest old new last at (λ before piece. (p : Point) × (piece ≡ packed p) × ¬ IsAscending (before ++ p ∷ [])) r whole enough
     (p, sym piece, λ ascends. not_after (subst (λ (o : Option PointId). IfSome o (λ a. IsBefore a (id p))) (sym r.is_last) (last_before r.points p ascends)))
 
-pub point_fault : (bytes rest : List ℕ) (old new : List Point) (last : Option PointId) (at : ℕ) (e : TileError) → IsReadTo bytes rest old new last at → length bytes % PACKED_LENGTH ≡ 0 → PACKED_LENGTH ≤ length rest → IsPointFault (take PACKED_LENGTH rest) last at e → ReadsAs bytes (Err e)
+pub point_fault : (bytes rest : List ℕ) (old new : List Point) (last : Option PointId) (at : ℕ) (e : TileError) → IsReadTo bytes rest old new last at → length bytes % packed_width ≡ 0 → packed_width ≤ length rest → IsPointFault (take packed_width rest) last at e → ReadsAs bytes (Err e)
 point_fault bytes rest old new last at Length r whole enough f = absurd f
 point_fault bytes rest old new last at Memory r whole enough f = absurd f
 point_fault bytes rest old new last at (Field k) r whole enough f =
@@ -132,7 +132,7 @@ not_after last a b p test e f failed holds h =
     false≢true (sym failed ∙ holds there)
 
 -- the number of the points that were read is below what a number of 64 bits holds
-pub count_fits : (bytes rest : List ℕ) (old new : List Point) (last : Option PointId) (at : ℕ) → IsReadTo bytes rest old new last at → at * PACKED_LENGTH + length rest ≡ length bytes
+pub count_fits : (bytes rest : List ℕ) (old new : List Point) (last : Option PointId) (at : ℕ) → IsReadTo bytes rest old new last at → at * packed_width + length rest ≡ length bytes
 count_fits bytes rest old new last at r =
     let len : length bytes ≡ length (tile r.points) + length rest = rw r.parts (length-append (tile r.points) rest) in
     omega (arith, length-tile r.points, len, r.count)
@@ -175,7 +175,7 @@ point_at_fault bytes at IsFaulty none f b y e ascends =
           let front = tile_front f.before b (f.piece ++ f.rest) y (sym f.parts ∙ e) (omega (arith, f.place)) in
           absurd (stands f.before front.0 f.piece f.rest y front.1 front.2 (omega (arith, f.place, ap length front.1, length-append f.before front.0)) f.piece_length f.is_faulty)
     ] where
-      stands : (before c : List Point) (piece rest z : List ℕ) → b ≡ before ++ c → piece ++ rest ≡ tile c ++ z → 0 < length c → length piece ≡ PACKED_LENGTH → IsFaulty before piece → ⊥
+      stands : (before c : List Point) (piece rest z : List ℕ) → b ≡ before ++ c → piece ++ rest ≡ tile c ++ z → 0 < length c → length piece ≡ packed_width → IsFaulty before piece → ⊥
       stands before [] piece rest z eb ep some len faulty = omega arith
       stands before (p ∷ c) piece rest z eb ep some len faulty =
           let parts = append_same piece (packed p) rest (tile c ++ z) (len ∙ sym (length-packed p)) (ep ∙ append_assoc (packed p) (tile c) z) in

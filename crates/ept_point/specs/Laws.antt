@@ -1,15 +1,23 @@
-use Rattle.std.specs.Prelude.{ℕ, ◌≡◌, ◌*◌, ◌⊎◌, List, length, Result}
+use Rattle.std.specs.Prelude.{ℕ, ◌≡◌, ◌*◌, ◌⊎◌, List, length, map, Result}
 use Rattle.ept_point.specs.declared.point.Point.{Point}
 use Rattle.ept_point.specs.declared.id.PointId.{PointId}
-use Rattle.ept_point.specs.declared.packed.TheConstants.{PACKED_LENGTH}
 use Rattle.ept_point.specs.declared.tile.TileError.{TileError}
-use Rattle.ept_point.specs.Packed.{packed, tile, HasFieldAboveBound}
+use Rattle.ept_point.specs.Dimensions.{dimensions, packed_width, pieces}
+use Rattle.ept_point.specs.Packed.{fields, bytes_of, read, packed, tile, HasFieldAboveBound}
 use Rattle.ept_point.specs.Order.{IsBefore}
 use Rattle.ept_point.specs.Tile.{ReadsAs}
 
--- a packed point has its length
+-- the pieces of a packed point, cut by the widths of the dimensions alone, are the bytes of its fields
+abbrev pub EachPieceIsItsField : Type 0
+EachPieceIsItsField = (p : Point) → pieces 0 dimensions (packed p) ≡ map (λ field. (field.0, bytes_of field.0 field.1)) (fields p)
+
+-- and each piece, read by the kind of its dimension alone, is what the point has of it
+abbrev pub EachPieceReadsAsItsField : Type 0
+EachPieceReadsAsItsField = (p : Point) → map read (pieces 0 dimensions (packed p)) ≡ fields p
+
+-- a packed point takes as many bytes as its dimensions
 abbrev pub EachHasPackedLength : Type 0
-EachHasPackedLength = (p : Point) → length (packed p) ≡ PACKED_LENGTH
+EachHasPackedLength = (p : Point) → length (packed p) ≡ packed_width
 
 -- a packed point has no field above its bound
 abbrev pub EachIsWithinBounds : Type 0
@@ -21,7 +29,7 @@ IsPackedFormOfOne = (p q : Point) → packed p ≡ packed q → p ≡ q
 
 -- a tile has the packed length for each point
 abbrev pub EachTileHasLength : Type 0
-EachTileHasLength = (points : List Point) → length (tile points) ≡ PACKED_LENGTH * length points
+EachTileHasLength = (points : List Point) → length (tile points) ≡ packed_width * length points
 
 -- bytes read in one way only
 abbrev pub ReadInOneWay : Type 0

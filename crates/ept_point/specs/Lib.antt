@@ -1,3 +1,4 @@
+pub mod Dimensions
 pub mod Widths
 pub mod Packed
 pub mod Order

@@ -1,39 +1,54 @@
-use Rattle.std.specs.Prelude.{ℕ, ◌≤◌, ◌<◌, List, [], ◌∷◌, ◌⊎◌, slice_index}
-use Rattle.std.specs.Int.{w8, w16, w32, cast_unsigned, bytes_low_first}
-use Rattle.std.specs.List.{concat, flat_map}
+use Rattle.std.specs.Prelude.{ℕ, ℤ, ◌+◌, ◌*◌, ◌<◌, List, [], ◌∷◌, map, IsSomeAnd}
+use Rattle.std.specs.Int.{Width, cast_unsigned, cast_signed, bytes_low_first}
+use Rattle.std.specs.List.{concat, flat_map, Any}
 use Rattle.ept_point.specs.declared.point.Point.{Point}
-use Rattle.ept_point.specs.declared.point.TheConstants.{MAX_RETURNS, MAX_FLAG, MAX_CLASS_FLAGS, MAX_CHANNEL, NUMBER_WIDTH}
-use Rattle.ept_point.specs.declared.packed.TheConstants.{RETURN_NUMBER_AT, NUMBER_OF_RETURNS_AT, SCAN_DIRECTION_AT, EDGE_AT, CLASS_FLAGS_AT, CHANNEL_AT}
+use Rattle.ept_point.specs.Dimensions.{Kind, Signed, Unsigned, Float, Dimension, dimensions, pieces, word, X, Y, Z, Intensity, ReturnNumber, NumberOfReturns, ScanDirectionFlag, EdgeOfFlightLine, Classification, ClassFlags, ScanChannel, ScanAngleRank, ScanAngle, UserData, PointSourceId, GpsTime, Red, Green, Blue, OriginId, PointId}
 
 -- a number in so many bytes, the lowest byte first
 unfoldable pub little_endian : ℕ → ℕ → List ℕ
 little_endian width n = bytes_low_first 0 width n
 
--- the bytes of each field, in the order of the fields; a signed number in two's complement
-unfoldable pub field_bytes : Point → List (List ℕ)
-field_bytes p =
-    little_endian 4 (cast_unsigned w32 p.x)
-    ∷ little_endian 4 (cast_unsigned w32 p.y)
-    ∷ little_endian 4 (cast_unsigned w32 p.z)
-    ∷ little_endian 2 p.intensity
-    ∷ (p.return_number ∷ [])
-    ∷ (p.number_of_returns ∷ [])
-    ∷ (p.scan_direction ∷ [])
-    ∷ (p.edge ∷ [])
-    ∷ (p.class ∷ [])
-    ∷ (p.class_flags ∷ [])
-    ∷ (p.channel ∷ [])
-    ∷ (cast_unsigned w8 p.angle_rank ∷ [])
-    ∷ little_endian 2 (cast_unsigned w16 p.angle)
-    ∷ (p.user ∷ [])
-    ∷ little_endian 2 p.source_id
-    ∷ p.gps
-    ∷ little_endian 2 p.red
-    ∷ little_endian 2 p.green
-    ∷ little_endian 2 p.blue
-    ∷ little_endian 4 p.origin
-    ∷ little_endian NUMBER_WIDTH p.number
+-- what a point has of a dimension: a number, a number from 0 on, or bytes that nothing here reads as a number
+pub data Value : Type 0 where
+  Whole : ℤ → Value
+  Natural : ℕ → Value
+  Bytes : List ℕ → Value
+
+-- the bytes of a value in a dimension: as wide as the dimension, a number in two's complement
+abbrev pub bytes_of : Dimension → Value → List ℕ
+bytes_of dimension (Whole z) = little_endian dimension.width (cast_unsigned (word dimension) z)
+bytes_of dimension (Natural n) = little_endian dimension.width n
+bytes_of dimension (Bytes bytes) = bytes
+
+-- what a point has of each dimension
+abbrev pub fields : Point → List (Dimension × Value)
+fields p =
+    (X, Whole p.x)
+    ∷ (Y, Whole p.y)
+    ∷ (Z, Whole p.z)
+    ∷ (Intensity, Natural p.intensity)
+    ∷ (ReturnNumber, Natural p.return_number)
+    ∷ (NumberOfReturns, Natural p.number_of_returns)
+    ∷ (ScanDirectionFlag, Natural p.scan_direction)
+    ∷ (EdgeOfFlightLine, Natural p.edge)
+    ∷ (Classification, Natural p.class)
+    ∷ (ClassFlags, Natural p.class_flags)
+    ∷ (ScanChannel, Natural p.channel)
+    ∷ (ScanAngleRank, Whole p.angle_rank)
+    ∷ (ScanAngle, Whole p.angle)
+    ∷ (UserData, Natural p.user)
+    ∷ (PointSourceId, Natural p.source_id)
+    ∷ (GpsTime, Bytes p.gps)
+    ∷ (Red, Natural p.red)
+    ∷ (Green, Natural p.green)
+    ∷ (Blue, Natural p.blue)
+    ∷ (OriginId, Natural p.origin)
+    ∷ (PointId, Natural p.number)
     ∷ []
+
+-- the bytes of each
+unfoldable pub field_bytes : Point → List (List ℕ)
+field_bytes p = map (λ field. bytes_of field.0 field.1) (fields p)
 
 -- the packed point: the bytes of its fields, one after another
 unfoldable pub packed : Point → List ℕ
@@ -43,21 +58,24 @@ packed p = concat (field_bytes p)
 abbrev pub tile : List Point → List ℕ
 tile points = flat_map packed points
 
--- one of the six bounded fields of a packed point has more than its greatest value
-unfoldable pub HasFieldAboveBound : List ℕ → Type 0
-HasFieldAboveBound bytes =
-    (MAX_RETURNS < slice_index bytes RETURN_NUMBER_AT)
-    ⊎ (MAX_RETURNS < slice_index bytes NUMBER_OF_RETURNS_AT)
-    ⊎ (MAX_FLAG < slice_index bytes SCAN_DIRECTION_AT)
-    ⊎ (MAX_FLAG < slice_index bytes EDGE_AT)
-    ⊎ (MAX_CLASS_FLAGS < slice_index bytes CLASS_FLAGS_AT)
-    ⊎ (MAX_CHANNEL < slice_index bytes CHANNEL_AT)
+-- the number in some bytes, the lowest byte first
+abbrev pub number_in : List ℕ → ℕ
+number_in [] = 0
+number_in (byte ∷ bytes) = byte + 256 * number_in bytes
 
--- none has
-pub record IsWithinBounds (bytes : List ℕ) : Type 0 where
-  pub return_number : slice_index bytes RETURN_NUMBER_AT ≤ MAX_RETURNS
-  pub number_of_returns : slice_index bytes NUMBER_OF_RETURNS_AT ≤ MAX_RETURNS
-  pub scan_direction : slice_index bytes SCAN_DIRECTION_AT ≤ MAX_FLAG
-  pub edge : slice_index bytes EDGE_AT ≤ MAX_FLAG
-  pub class_flags : slice_index bytes CLASS_FLAGS_AT ≤ MAX_CLASS_FLAGS
-  pub channel : slice_index bytes CHANNEL_AT ≤ MAX_CHANNEL
+-- what the piece of a dimension is read as, by the kind of the dimension
+abbrev pub value_in : Kind → Width → List ℕ → Value
+value_in Signed width bytes = Whole (cast_signed width (number_in bytes))
+value_in Unsigned width bytes = Natural (number_in bytes)
+value_in Float width bytes = Bytes bytes
+
+abbrev pub read : Dimension × List ℕ → Dimension × Value
+read piece = (piece.0, value_in piece.0.kind (word piece.0) piece.1)
+
+-- the dimension has a greatest value, and the number in its piece is above that
+abbrev pub IsAboveBound : Dimension × List ℕ → Type 0
+IsAboveBound piece = IsSomeAnd piece.0.greatest (λ greatest. greatest < number_in piece.1)
+
+-- some field of a packed point is above its greatest value
+unfoldable pub HasFieldAboveBound : List ℕ → Type 0
+HasFieldAboveBound bytes = Any IsAboveBound (pieces 0 dimensions bytes)

@@ -1,7 +1,7 @@
 use Rattle.std.specs.Prelude.{ℕ, ◌≡◌, ◌≢◌, ◌%◌, List, [], ◌∷◌, ◌++◌, length, Option, IfSome, Result, Ok, Err}
 use Rattle.ept_point.specs.declared.point.Point.{Point}
 use Rattle.ept_point.specs.declared.id.PointId.{PointId}
-use Rattle.ept_point.specs.declared.packed.TheConstants.{PACKED_LENGTH}
+use Rattle.ept_point.specs.Dimensions.{packed_width}
 use Rattle.ept_point.specs.declared.tile.TileError.{TileError}
 use Rattle.ept_point.specs.declared.tile.TileError.TheVariants.{Length, Field, Order, Memory}
 use Rattle.ept_point.specs.Packed.{packed, tile, HasFieldAboveBound}
@@ -12,17 +12,17 @@ pub record HasFaultAt (bytes : List ℕ) (at : ℕ) (IsFaulty : List Point → L
   pub before : List Point
   pub piece : List ℕ
   pub rest : List ℕ
-  pub is_whole : length bytes % PACKED_LENGTH ≡ 0
+  pub is_whole : length bytes % packed_width ≡ 0
   pub parts : bytes ≡ tile before ++ (piece ++ rest)
   pub place : length before ≡ at
   pub ascends : IsAscending before
-  pub piece_length : length piece ≡ PACKED_LENGTH
+  pub piece_length : length piece ≡ packed_width
   pub is_faulty : IsFaulty before piece
 
 -- Bytes read as the points of a tile, or as the first fault. They never read as want of memory.
 abbrev pub ReadsAs : List ℕ → Result (List Point) TileError → Type 0
 ReadsAs bytes (Ok points) = (bytes ≡ tile points) × IsAscending points
-ReadsAs bytes (Err Length) = length bytes % PACKED_LENGTH ≢ 0
+ReadsAs bytes (Err Length) = length bytes % packed_width ≢ 0
 ReadsAs bytes (Err (Field at)) = HasFaultAt bytes at (λ before piece. HasFieldAboveBound piece)
 ReadsAs bytes (Err (Order at)) = HasFaultAt bytes at (λ before piece. (p : Point) × (piece ≡ packed p) × ¬ IsAscending (before ++ p ∷ []))
 ReadsAs bytes (Err Memory) = ⊥

@@ -1,31 +1,43 @@
 //! What holds of every packed point, tile and id. Each law is the contract of a function that does
 //! nothing.
 
-ghost use Rattle.ept_point.specs.Laws.{EachHasPackedLength, EachIsWithinBounds, IsPackedFormOfOne, EachTileHasLength, ReadInOneWay, NoneIsBeforeItself, BeforeIsTransitive, EitherIsBefore};
+ghost use Rattle.std.specs.Prelude.{◌≡◌};
+ghost use Rattle.ept_point.specs.Dimensions.{packed_width};
+ghost use Rattle.ept_point.specs.Laws.{EachPieceIsItsField, EachPieceReadsAsItsField, EachHasPackedLength, EachIsWithinBounds, IsPackedFormOfOne, EachTileHasLength, ReadInOneWay, NoneIsBeforeItself, BeforeIsTransitive, EitherIsBefore};
+
+use crate::packed::PACKED_LENGTH;
+
+/// Who has the table of dimensions alone can read a packed point: each piece stands behind those of
+/// the dimensions before it, is as wide as its dimension, and reads as what the point has of it.
+pub fn layout_law()
+    ensures width { packed_width ≡ PACKED_LENGTH }
+    ensures pieces { EachPieceIsItsField }
+    ensures read { EachPieceReadsAsItsField }
+{}
 
 /// Every packed point has the packed length.
 pub fn packed_length_law()
-    ensures { EachHasPackedLength }
+    ensures length { EachHasPackedLength }
 {}
 
 /// No field of a packed point is above its greatest value.
 pub fn packed_bounds_law()
-    ensures { EachIsWithinBounds }
+    ensures within { EachIsWithinBounds }
 {}
 
 /// Two points with the same packed form are the same point.
 pub fn packed_once_law()
-    ensures { IsPackedFormOfOne }
+    ensures once { IsPackedFormOfOne }
 {}
 
 /// The length of a tile is the packed length for each of its points.
 pub fn tile_length_law()
-    ensures { EachTileHasLength }
+    ensures length { EachTileHasLength }
 {}
 
 /// Bytes read as one tile, or as one first fault.
 pub fn tile_once_law()
-    ensures { ReadInOneWay }
+    ensures once { ReadInOneWay }
 {}
 
 /// The order of ids is strict, and of two different ids one comes first.

@@ -14,8 +14,8 @@ mod tile;
 
 pub use id::PointId;
 pub use laws::{
-    id_order_law, packed_bounds_law, packed_length_law, packed_once_law, tile_length_law,
-    tile_once_law,
+    id_order_law, layout_law, packed_bounds_law, packed_length_law, packed_once_law,
+    tile_length_law, tile_once_law,
 };
 pub use list::List;
 pub use memory::Memory;

@@ -1,11 +1,10 @@
 //! Want of memory.
 
 use std::alloc::{AllocError, AllocFailed};
-use thiserror::Error;
 
-/// Memory ran out. Every crate above answers want of memory by this, and by nothing else.
-#[derive(Clone, Copy, Debug, PartialEq, Eq, Error)]
-#[error("out of memory")]
+/// Memory ran out. It is what a call answers that can fail in no other way; an enum of errors has a
+/// variant of this name.
+#[derive(Clone, Copy, Debug, PartialEq, Eq)]
 pub struct Memory;
 
 impl From<AllocError> for Memory {

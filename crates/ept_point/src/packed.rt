@@ -1,88 +1,56 @@
 //! The packed point: its fields as little-endian bytes, one after another.
 
-ghost use Rattle.std.specs.Prelude.{◌≡◌, ◌+◌, ◌≤◌, ◌<◌, ◌^◌, ℕ, length, slice_index, IsTrue, IsNone, IfSome, Some, ◌↔◌, take, drop};
+ghost use Rattle.std.specs.Prelude.{◌≡◌, ◌+◌, ◌≤◌, ◌<◌, ◌^◌, ℕ, length, slice_index, IsNone, IfSome, Some, ◌↔◌, take, drop};
 ghost use Rattle.std.specs.Int.{cast_unsigned, w8, w16, w32};
-ghost use Rattle.ept_point.specs.Packed.{little_endian, packed, HasFieldAboveBound, IsWithinBounds};
-ghost use Rattle.std.specs.Bool.{OnFalse};
+ghost use Rattle.ept_point.specs.Packed.{little_endian, number_in, packed, HasFieldAboveBound};
 ghost use Rattle.ept_point.specs.declared.point.Point.{Point};
 
-use crate::point::{
-    GPS_WIDTH, MAX_CHANNEL, MAX_CLASS_FLAGS, MAX_FLAG, MAX_RETURNS, NUMBER_WIDTH, Point,
-};
+use crate::point::{MAX_CHANNEL, MAX_CLASS_FLAGS, MAX_FLAG, MAX_RETURNS, NUMBER_WIDTH, Point};
 
 /// The length of a packed point, in bytes.
-pub const PACKED_LENGTH: usize = 49;
+pub const PACKED_LENGTH: usize = 45 + NUMBER_WIDTH;
 
-// Where each field begins in a packed point, in bytes.
-pub const X_AT: usize = 0;
-
-pub const Y_AT: usize = X_AT + 4;
-
-pub const Z_AT: usize = Y_AT + 4;
-
-pub const INTENSITY_AT: usize = Z_AT + 4;
-
-pub const RETURN_NUMBER_AT: usize = INTENSITY_AT + 2;
-
-pub const NUMBER_OF_RETURNS_AT: usize = RETURN_NUMBER_AT + 1;
-
-pub const SCAN_DIRECTION_AT: usize = NUMBER_OF_RETURNS_AT + 1;
-
-pub const EDGE_AT: usize = SCAN_DIRECTION_AT + 1;
-
-pub const CLASS_AT: usize = EDGE_AT + 1;
-
-pub const CLASS_FLAGS_AT: usize = CLASS_AT + 1;
-
-pub const CHANNEL_AT: usize = CLASS_FLAGS_AT + 1;
-
-pub const ANGLE_RANK_AT: usize = CHANNEL_AT + 1;
-
-pub const ANGLE_AT: usize = ANGLE_RANK_AT + 1;
-
-pub const USER_AT: usize = ANGLE_AT + 2;
-
-pub const SOURCE_ID_AT: usize = USER_AT + 1;
-
-pub const GPS_AT: usize = SOURCE_ID_AT + 2;
-
-pub const RED_AT: usize = GPS_AT + GPS_WIDTH;
-
-pub const GREEN_AT: usize = RED_AT + 2;
-
-pub const BLUE_AT: usize = GREEN_AT + 2;
-
-pub const ORIGIN_AT: usize = BLUE_AT + 2;
-
-pub const NUMBER_AT: usize = ORIGIN_AT + 4;
-
-const _: () = prove!(NUMBER_AT + NUMBER_WIDTH == PACKED_LENGTH);
-
-#[tactic(auto, unfolding(crate::specs::Packed::HasFieldAboveBound))]
-fn has_field_above_bound(bytes: &[u8; PACKED_LENGTH]) -> bool
-    ensures above { IsTrue result ↔ HasFieldAboveBound bytes.now }
-    ensures within { OnFalse result (IsWithinBounds bytes.now) }
+// The bytes at a place.
+fn chunk_at<const N: usize>(bytes: &[u8], at: usize) -> [u8; N]
+    requires { at + N ≤ length bytes.now }
+    ensures value { result ≡ take N (drop at bytes.now) }
+    ensures len { length result ≡ N }
+    ensures bytes { (i : ℕ) → slice_index result i < 2 ^ 8 }
 {
-    bytes[RETURN_NUMBER_AT] > MAX_RETURNS
-        || bytes[NUMBER_OF_RETURNS_AT] > MAX_RETURNS
-        || bytes[SCAN_DIRECTION_AT] > MAX_FLAG
-        || bytes[EDGE_AT] > MAX_FLAG
-        || bytes[CLASS_FLAGS_AT] > MAX_CLASS_FLAGS
-        || bytes[CHANNEL_AT] > MAX_CHANNEL
+    *bytes[at..].first_chunk().unwrap()
+}
+
+fn u8_at(bytes: &[u8], at: usize) -> u8
+    requires { at < length bytes.now }
+    ensures { little_endian 1 result ≡ take 1 (drop at bytes.now) }
+{
+    bytes[at]
+}
+
+// The byte at a place, or `None` where it is above its greatest value.
+fn bounded_at(bytes: &[u8], at: usize, greatest: u8) -> Option<u8>
+    requires { at < length bytes.now }
+    ensures value { IfSome result (λ n. little_endian 1 n ≡ take 1 (drop at bytes.now)) }
+    ensures number { IfSome result (λ n. number_in (take 1 (drop at bytes.now)) ≡ n) }
+    ensures within { IfSome result (λ n. n ≤ greatest) }
+    ensures above { IsNone result → greatest < number_in (take 1 (drop at bytes.now)) }
+{
+    let number = u8_at(bytes, at);
+    (number <= greatest).then_some(number)
 }
 
 fn i8_at(bytes: &[u8], at: usize) -> i8
     requires { at < length bytes.now }
-    ensures { cast_unsigned w8 result ≡ slice_index bytes.now at }
+    ensures { little_endian 1 (cast_unsigned w8 result) ≡ take 1 (drop at bytes.now) }
 {
-    bytes[at].cast_signed()
+    u8_at(bytes, at).cast_signed()
 }
 
 fn u16_at(bytes: &[u8], at: usize) -> u16
     requires { at + 2 ≤ length bytes.now }
     ensures { little_endian 2 result ≡ take 2 (drop at bytes.now) }
 {
-    u16::from_le_bytes([bytes[at], bytes[at + 1]])
+    u16::from_le_bytes(chunk_at(bytes, at))
 }
 
 fn i16_at(bytes: &[u8], at: usize) -> i16
@@ -96,7 +64,7 @@ fn u32_at(bytes: &[u8], at: usize) -> u32
     requires { at + 4 ≤ length bytes.now }
     ensures { little_endian 4 result ≡ take 4 (drop at bytes.now) }
 {
-    u32::from_le_bytes([bytes[at], bytes[at + 1], bytes[at + 2], bytes[at + 3]])
+    u32::from_le_bytes(chunk_at(bytes, at))
 }
 
 fn i32_at(bytes: &[u8], at: usize) -> i32
@@ -106,53 +74,6 @@ fn i32_at(bytes: &[u8], at: usize) -> i32
     u32_at(bytes, at).cast_signed()
 }
 
-// The point whose fields stand in the bytes.
-fn point_at(bytes: &[u8; PACKED_LENGTH]) -> Point
-    requires { IsWithinBounds bytes.now }
-    ensures { packed result ≡ bytes.now }
-{
-    Point {
-        x: i32_at(bytes, X_AT),
-        y: i32_at(bytes, Y_AT),
-        z: i32_at(bytes, Z_AT),
-        intensity: u16_at(bytes, INTENSITY_AT),
-        return_number: bytes[RETURN_NUMBER_AT],
-        number_of_returns: bytes[NUMBER_OF_RETURNS_AT],
-        scan_direction: bytes[SCAN_DIRECTION_AT],
-        edge: bytes[EDGE_AT],
-        class: bytes[CLASS_AT],
-        class_flags: bytes[CLASS_FLAGS_AT],
-        channel: bytes[CHANNEL_AT],
-        angle_rank: i8_at(bytes, ANGLE_RANK_AT),
-        angle: i16_at(bytes, ANGLE_AT),
-        user: bytes[USER_AT],
-        source_id: u16_at(bytes, SOURCE_ID_AT),
-        gps: gps_at(bytes),
-        red: u16_at(bytes, RED_AT),
-        green: u16_at(bytes, GREEN_AT),
-        blue: u16_at(bytes, BLUE_AT),
-        origin: u32_at(bytes, ORIGIN_AT),
-        number: u32_at(bytes, NUMBER_AT),
-    }
-}
-
-fn gps_at(bytes: &[u8; PACKED_LENGTH]) -> [u8; GPS_WIDTH]
-    ensures value { result ≡ take GPS_WIDTH (drop GPS_AT bytes.now) }
-    ensures len { length result ≡ GPS_WIDTH }
-    ensures bytes { (i : ℕ) → slice_index result i < 2 ^ 8 }
-{
-    [
-        bytes[GPS_AT],
-        bytes[GPS_AT + 1],
-        bytes[GPS_AT + 2],
-        bytes[GPS_AT + 3],
-        bytes[GPS_AT + 4],
-        bytes[GPS_AT + 5],
-        bytes[GPS_AT + 6],
-        bytes[GPS_AT + 7],
-    ]
-}
-
 /// The point that these bytes are the packed form of. `None` exactly where one of the six bounded
 /// fields has more than its greatest value. It takes no memory.
 pub fn unpack(bytes: &[u8; PACKED_LENGTH]) -> Option<Point>
@@ -160,15 +81,34 @@ pub fn unpack(bytes: &[u8; PACKED_LENGTH]) -> Option<Point>
     ensures none { IsNone result ↔ HasFieldAboveBound bytes.now }
     ensures inverse { (p : Point) → packed p ≡ bytes.now → result ≡ Some p }
 {
-    if has_field_above_bound(bytes) {
-        return None;
-    }
-    Some(point_at(bytes))
+    Some(Point {
+        x: i32_at(bytes, 0),
+        y: i32_at(bytes, 4),
+        z: i32_at(bytes, 8),
+        intensity: u16_at(bytes, 12),
+        return_number: bounded_at(bytes, 14, MAX_RETURNS)?,
+        number_of_returns: bounded_at(bytes, 15, MAX_RETURNS)?,
+        scan_direction: bounded_at(bytes, 16, MAX_FLAG)?,
+        edge: bounded_at(bytes, 17, MAX_FLAG)?,
+        class: u8_at(bytes, 18),
+        class_flags: bounded_at(bytes, 19, MAX_CLASS_FLAGS)?,
+        channel: bounded_at(bytes, 20, MAX_CHANNEL)?,
+        angle_rank: i8_at(bytes, 21),
+        angle: i16_at(bytes, 22),
+        user: u8_at(bytes, 24),
+        source_id: u16_at(bytes, 25),
+        gps: chunk_at(bytes, 27),
+        red: u16_at(bytes, 35),
+        green: u16_at(bytes, 37),
+        blue: u16_at(bytes, 39),
+        origin: u32_at(bytes, 41),
+        number: u32_at(bytes, 45),
+    })
 }
 
 /// The packed point. It takes no memory.
 pub fn pack(point: &Point) -> [u8; PACKED_LENGTH]
-    ensures { result ≡ packed point.now }
+    ensures bytes { result ≡ packed point.now }
 {
     let x = point.x.to_le_bytes();
     let y = point.y.to_le_bytes();

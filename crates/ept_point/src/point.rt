@@ -1,7 +1,6 @@
 //! A point of a scan.
 
-ghost use Rattle.std.specs.Prelude.{◌≤◌};
-ghost use Rattle.ept_point.specs.declared.point.TheConstants.{MAX_RETURNS, MAX_FLAG, MAX_CLASS_FLAGS, MAX_CHANNEL};
+ghost use Rattle.ept_point.specs.Dimensions.{IsWithin, ReturnNumber, NumberOfReturns, ScanDirectionFlag, EdgeOfFlightLine, ClassFlags, ScanChannel};
 ghost use Rattle.ept_point.specs.Widths.{FitWidths};
 
 use crate::id::PointId;
@@ -64,12 +63,12 @@ pub struct Point {
     pub origin: u32,
     /// The number of its record in that scan, from 0.
     pub number: PointNumber,
-    ghost return_number_bound: { return_number ≤ MAX_RETURNS },
-    ghost number_of_returns_bound: { number_of_returns ≤ MAX_RETURNS },
-    ghost scan_direction_bound: { scan_direction ≤ MAX_FLAG },
-    ghost edge_bound: { edge ≤ MAX_FLAG },
-    ghost class_flags_bound: { class_flags ≤ MAX_CLASS_FLAGS },
-    ghost channel_bound: { channel ≤ MAX_CHANNEL },
+    ghost return_number_bound: { IsWithin ReturnNumber return_number },
+    ghost number_of_returns_bound: { IsWithin NumberOfReturns number_of_returns },
+    ghost scan_direction_bound: { IsWithin ScanDirectionFlag scan_direction },
+    ghost edge_bound: { IsWithin EdgeOfFlightLine edge },
+    ghost class_flags_bound: { IsWithin ClassFlags class_flags },
+    ghost channel_bound: { IsWithin ScanChannel channel },
     // What the widths of the fields say, since a definition sees numbers without a width.
     ghost widths: { FitWidths x y z intensity class angle_rank angle user source_id gps red green blue origin number },
 }

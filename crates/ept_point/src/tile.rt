@@ -12,22 +12,17 @@ use crate::memory::Memory;
 use crate::packed::{PACKED_LENGTH, pack, unpack};
 use crate::point::Point;
 use std::alloc::{AllocError, AllocFailed};
-use thiserror::Error;
 
 /// Why bytes are no tile: the first cause in the order of the variants at the first faulty point.
-#[derive(Clone, Copy, Debug, PartialEq, Eq, Error)]
+#[derive(Clone, Copy, Debug, PartialEq, Eq)]
 pub enum TileError {
     /// The length is no multiple of a packed point's.
-    #[error("the length is no multiple of a packed point's")]
     Length,
     /// The point of this number in the tile, from 0, has a field above its greatest value.
-    #[error("point {at} has a field above its greatest value")]
     Field { at: u64 },
     /// The id of the point of this number in the tile, from 0, is not greater than the one before.
-    #[error("point {at} does not come after the one before it")]
     Order { at: u64 },
     /// Memory ran out.
-    #[error("out of memory")]
     Memory,
 }
 

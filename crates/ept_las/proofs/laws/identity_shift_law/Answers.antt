@@ -2,4 +2,4 @@ use Rattle.ept_las.proofs.RecordLaws.{identity_in_units}
 use Rattle.ept_las.proofs.laws.identity_shift_law.Goals as goal
 
 pub returns : goal.returns
-returns c = identity_in_units
+returns c = record { fits = identity_in_units }

@@ -2,4 +2,4 @@ use Rattle.ept_point.proofs.PackedLaws.{packed_within_bounds}
 use Rattle.ept_point.proofs.laws.packed_bounds_law.Goals as goal
 
 pub returns : goal.returns
-returns c = packed_within_bounds
+returns c = record { within = packed_within_bounds }

@@ -2,4 +2,4 @@ use Rattle.ept_point.proofs.PackedLaws.{length-packed}
 use Rattle.ept_point.proofs.laws.packed_length_law.Goals as goal
 
 pub returns : goal.returns
-returns c = length-packed
+returns c = record { length = length-packed }

@@ -2,4 +2,4 @@ use Rattle.ept_point.proofs.TileLaws.{length-tile}
 use Rattle.ept_point.proofs.laws.tile_length_law.Goals as goal
 
 pub returns : goal.returns
-returns c = length-tile
+returns c = record { length = length-tile }

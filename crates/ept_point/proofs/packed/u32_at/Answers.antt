@@ -1,7 +1,7 @@
-use Rattle.std.proofs.Common.{arith}
+use Rattle.std.proofs.Common.{sym, ◌∙◌}
 use Rattle.ept_point.proofs.Pieces.{word_4}
 use Rattle.ept_point.proofs.packed.u32_at.Goals as goal
 
 pub returns : goal.returns
 returns c =
-    word_4 c.args.bytes.now c.args.at _ c.requires (λ i. omega (arith, c.type_inv.bytes i)) c.from_le_bytes.ensures
+    word_4 c.chunk_at.result _ c.chunk_at.ensures.len c.chunk_at.ensures.bytes c.from_le_bytes.ensures ∙ c.chunk_at.ensures.value
