@@ -42,7 +42,7 @@ pub fn order_law()
 
 /// A key has one spelling.
 pub fn text_law()
-    ensures { OneSpelling }
+    ensures one_spelling { OneSpelling }
 {}
 
 /// Bounds lie within others by their places. They have one cube, in which their places lie; the function
