@@ -6,3 +6,4 @@ pub mod EachInput
 pub mod Documents
 pub mod Faults
 pub mod RefusalLaws
+pub mod FactsTell

@@ -30,7 +30,7 @@ pub use config_error::ConfigError;
 pub use config_key::ConfigKey;
 pub use input::Input;
 pub use kept::Kept;
-pub use laws::{object_law, required_law, text_law, threads_law};
+pub use laws::{facts_law, object_law, required_law, text_law, threads_law};
 pub use limits::{
     EXPECT_WIDTH, MAX_CACHE, MAX_CHECKPOINT, MAX_DEPTH, MAX_INPUTS, MAX_LENGTH, MAX_NODES,
     MAX_OFFSET, MAX_PATH, MAX_SCALE, MAX_SHIFT, MAX_SRS_TEXT, MAX_STEP, MAX_THREADS, MAX_THRESHOLD,

@@ -3,7 +3,6 @@ mod Levels
 mod Adding
 mod Steps
 mod AllNodes
-mod Ascending
 mod HierarchyLaws
 pub mod Documents
 mod Objects
