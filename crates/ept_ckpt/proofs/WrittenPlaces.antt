@@ -10,10 +10,9 @@ use Rattle.ept_space.specs.Place.{Place, coordinate}
 use Rattle.ept_space.specs.CubeOfBounds.{HasPlace, IsInside}
 use Rattle.ept_config.specs.InputRanges.{AreThreeWithin}
 use Rattle.ept_config.specs.Ranges.{AreCoordinates, BoundsInRange}
-use Rattle.ept_ckpt.specs.declared.limits.TheConstants.{WHOLE}
 use Rattle.ept_ckpt.specs.Body.{i32_bytes, i64_bytes, bounds_bytes}
 use Rattle.ept_ckpt.specs.Fields.{signed, three}
-use Rattle.ept_ckpt.specs.Forms.{near, between, corner, box_within}
+use Rattle.ept_ckpt.specs.Forms.{near, between, corner, box_within, whole}
 use Rattle.ept_ckpt.proofs.WrittenNumbers.{read_then, field_read, i32_written, i64_written}
 
 -- on each axis the one is at most the other
@@ -66,15 +65,15 @@ box_written total outer box rest min_fits max_fits above under ordered below =
     (read_then _ (corner_written total box.min outer.max box.max rest max_fits ordered below) refl))
 
 -- bounds of coordinates of 32 bits are within all places that there are
-whole_above : (xs : List ℤ) → AreCoordinates xs → AreOrdered WHOLE.min xs
+whole_above : (xs : List ℤ) → AreCoordinates xs → AreOrdered whole.min xs
 whole_above xs fit = record { x_ordered = omega (arith, ints, fit.x); y_ordered = omega (arith, ints, fit.y); z_ordered = omega (arith, ints, fit.z) }
 
-whole_below : (xs : List ℤ) → AreCoordinates xs → AreOrdered xs WHOLE.max
+whole_below : (xs : List ℤ) → AreCoordinates xs → AreOrdered xs whole.max
 whole_below xs fit = record { x_ordered = omega (arith, ints, fit.x); y_ordered = omega (arith, ints, fit.y); z_ordered = omega (arith, ints, fit.z) }
 
-pub bounds_written : (total : ℕ) (bounds : Bounds) (rest : List ℕ) → BoundsInRange bounds → box_within WHOLE total (bounds_bytes bounds ++ rest) ≡ Ok (bounds, rest)
+pub bounds_written : (total : ℕ) (bounds : Bounds) (rest : List ℕ) → BoundsInRange bounds → box_within whole total (bounds_bytes bounds ++ rest) ≡ Ok (bounds, rest)
 bounds_written total bounds rest are =
-    box_written total WHOLE bounds rest are.min_is are.max_is (whole_above bounds.min are.min_is) (whole_below bounds.min are.min_is) are.ordered (whole_below bounds.max are.max_is)
+    box_written total whole bounds rest are.min_is are.max_is (whole_above bounds.min are.min_is) (whole_below bounds.min are.min_is) are.ordered (whole_below bounds.max are.max_is)
 
 at-most-through : (a b c : ℤ) → a ≤ℤ b → b ≤ℤ c → a ≤ℤ c
 at-most-through a b c first second = omega (arith, ints)

@@ -88,7 +88,7 @@ fn deepest(settings: &Settings) -> u8
     ensures depth { result ≡ deepest settings.now.bounds settings.now.s settings.now.max_depth }
     ensures most { result ≤ 31 }
 {
-    let cube = Cube::of(&settings.bounds, settings.s, settings.max_depth).unwrap();
+    let cube = Cube::over(&settings.bounds, settings.s, settings.max_depth);
     cube.known();
     cube.depth
 }

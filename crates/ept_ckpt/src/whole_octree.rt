@@ -3,7 +3,7 @@
 ghost use Rattle.std.specs.Prelude.{◌≡◌, ◌<◌, ◌↔◌, IsTrue, All, AllPairs};
 ghost use Rattle.std.specs.declared.cmp.Ordering.TheVariants.{Less};
 ghost use Rattle.ept_space.specs.VoxelKey.{IsKey, key_cmp, parent, child};
-ghost use Rattle.ept_ckpt.specs.Octree.{keys_of, is_among, HasParent, TellsChildren, IsOctree, points_in, AreNodesOf};
+ghost use Rattle.ept_ckpt.specs.Octree.{keys_of, is_among, HasParent, TellsChildren, AreWholeOctree, points_in, AreNodesOf};
 
 use crate::bits::has_bit;
 use crate::node_line::NodeLine;
@@ -19,7 +19,7 @@ pub(crate) fn are_nodes_of(points: u64, nodes: &[NodeLine]) -> bool
 
 /// Whether the nodes are a whole octree.
 fn is_octree(nodes: &[NodeLine]) -> bool
-    ensures { IsTrue result ↔ IsOctree nodes.now }
+    ensures { IsTrue result ↔ AreWholeOctree nodes.now }
 {
     keys_ascend(nodes) && has_key(nodes, &Key::ROOT) && have_parents(nodes) && tell_children(nodes)
 }
@@ -28,12 +28,7 @@ fn is_octree(nodes: &[NodeLine]) -> bool
 fn keys_ascend(nodes: &[NodeLine]) -> bool
     ensures { IsTrue result ↔ AllPairs (λ a b. key_cmp a b ≡ Less) (keys_of nodes.now) }
 {
-    for i in 1..nodes.len() {
-        if !nodes[i - 1].key.is_before(&nodes[i].key) {
-            return false;
-        }
-    }
-    true
+    nodes.is_sorted_by(|a, b| a.key < b.key)
 }
 
 /// Whether the key is that of one of the nodes, whose keys ascend.

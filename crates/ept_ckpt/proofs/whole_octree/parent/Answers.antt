@@ -1,6 +1,6 @@
 use Rattle.std.proofs.Common.{ap}
 use Rattle.ept_space.specs.VoxelKey.{parent}
-use Rattle.ept_ckpt.proofs.octree.parent.Goals as goal
+use Rattle.ept_ckpt.proofs.whole_octree.parent.Goals as goal
 
 pub returns : goal.returns
 unfolding parent

@@ -4,7 +4,7 @@ use Rattle.ept_space.specs.VoxelKey.{IsKey}
 use Rattle.ept_ckpt.specs.Octree.{keys_of, is_among, HasParent}
 use Rattle.ept_ckpt.specs.declared.node_line.NodeLine.{NodeLine}
 use Rattle.ept_ckpt.proofs.KeySearch.{All-keys, key-at}
-use Rattle.ept_ckpt.proofs.octree.have_parents.Goals as goal
+use Rattle.ept_ckpt.proofs.whole_octree.have_parents.Goals as goal
 
 pub returns-then-not-has_key-clause-parents : goal.returns-then-not-has_key-clause-parents
 returns-then-not-has_key-clause-parents c = (

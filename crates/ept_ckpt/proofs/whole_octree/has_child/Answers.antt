@@ -2,7 +2,7 @@ use Rattle.std.proofs.Common.{◌≡◌, ◌∙◌, sym, ap, arith}
 use Rattle.ept_space.specs.VoxelKey.{VoxelKey}
 use Rattle.ept_ckpt.specs.Octree.{keys_of}
 use Rattle.ept_ckpt.proofs.KeySearch.{too-deep, not-below}
-use Rattle.ept_ckpt.proofs.octree.has_child.Goals as goal
+use Rattle.ept_ckpt.proofs.whole_octree.has_child.Goals as goal
 
 pub returns-else-key-lt-MAX_DEPTH : goal.returns-else-key-lt-MAX_DEPTH
 returns-else-key-lt-MAX_DEPTH c =

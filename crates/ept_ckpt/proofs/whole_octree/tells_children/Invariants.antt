@@ -3,7 +3,7 @@ use Rattle.std.specs.Prelude.{◌==◌}
 use Rattle.std.specs.Int.{bit_at}
 use Rattle.ept_space.specs.VoxelKey.{child}
 use Rattle.ept_ckpt.specs.Octree.{keys_of, is_among}
-use Rattle.ept_ckpt.proofs.octree.tells_children.Given as goal
+use Rattle.ept_ckpt.proofs.whole_octree.tells_children.Given as goal
 
 abbrev pub invariant-loop-octant : goal.invariant-loop-octant
 invariant-loop-octant l =

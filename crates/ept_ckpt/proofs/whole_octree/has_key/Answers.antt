@@ -2,7 +2,7 @@ use Rattle.std.proofs.Common.{rules, ◌∙◌}
 use Rattle.std.proofs.lemmas.List.Sorted.{answers_always}
 use Rattle.ept_ckpt.specs.declared.node_line.NodeLine.{NodeLine}
 use Rattle.ept_ckpt.proofs.KeySearch.{searched}
-use Rattle.ept_ckpt.proofs.octree.has_key.Goals as goal
+use Rattle.ept_ckpt.proofs.whole_octree.has_key.Goals as goal
 
 pub returns : goal.returns
 returns c =
