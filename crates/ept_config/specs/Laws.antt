@@ -4,7 +4,8 @@ use Rattle.serde_json.specs.Data.{Data}
 use Rattle.serde_json.specs.Find.{get, as_object}
 use Rattle.ept_config.specs.declared.config_key.ConfigKey.TheVariants as key
 use Rattle.ept_config.specs.declared.config_error.ConfigError.TheVariants as error
-use Rattle.ept_config.specs.Json.{document, has_only}
+use Rattle.ept_json.specs.Document.{document}
+use Rattle.ept_config.specs.Json.{has_only}
 use Rattle.ept_config.specs.declared.input.Input.{Input}
 use Rattle.ept_config.specs.declared.srs.Srs.{Srs}
 use Rattle.ept_config.specs.declared.config.Config.{Config}

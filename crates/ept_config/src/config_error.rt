@@ -1,6 +1,7 @@
 //! Why a text is no configuration.
 
 use crate::config_key::ConfigKey;
+use ept_json::JsonError;
 use std::alloc::{AllocError, AllocFailed};
 use thiserror::Error;
 
@@ -32,6 +33,20 @@ pub enum ConfigError {
     /// Memory ran out.
     #[error("out of memory")]
     Memory,
+}
+
+impl From<JsonError> for ConfigError {
+    ghost use Rattle.std.specs.Prelude.{◌≡◌};
+    ghost use Rattle.ept_config.specs.Refusals.{of_json};
+
+    ghost from_gives = { λ error e. e ≡ of_json error };
+
+    fn from(error: JsonError) -> ConfigError {
+        match error {
+            JsonError::NoText => ConfigError::Json,
+            JsonError::Memory => ConfigError::Memory,
+        }
+    }
 }
 
 impl From<AllocError> for ConfigError {

@@ -4,5 +4,4 @@ mod Adding
 mod Steps
 mod AllNodes
 mod HierarchyLaws
-pub mod Documents
 mod Objects
