@@ -77,7 +77,7 @@ impl ConfigError {
 
     /// The number of the cause, from 1.
     pub fn code(self) -> u8
-        ensures { result ≡ code_of self }
+        ensures number { result ≡ code_of self }
     {
         match self {
             ConfigError::Json => 1,
@@ -93,7 +93,7 @@ impl ConfigError {
 
     /// The key that the cause names, if it names one.
     pub fn key(self) -> Option<ConfigKey>
-        ensures { result ≡ key_of self }
+        ensures key { result ≡ key_of self }
     {
         match self {
             ConfigError::Missing { key } | ConfigError::Kind { key } | ConfigError::Range { key } =>
@@ -104,7 +104,7 @@ impl ConfigError {
 
     /// The name of that key, or `-` where there is none.
     pub fn key_text(self) -> &'static str
-        ensures { result.now ≡ key_text_of self }
+        ensures text { result.now ≡ key_text_of self }
     {
         match self.key() {
             Some(key) => key.name(),
