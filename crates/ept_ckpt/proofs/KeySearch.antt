@@ -15,7 +15,7 @@ use Rattle.ept_space.specs.VoxelKey.{VoxelKey, IsKey, key_cmp, same_key, child}
 use Rattle.ept_space.proofs.KeyOrder.{key_cmp_total}
 use Rattle.ept_ckpt.specs.declared.node_line.NodeLine.{NodeLine}
 use Rattle.ept_ckpt.specs.Octree.{keys_of, is_among}
-use Rattle.ept_ckpt.proofs.Ascending.{ascend-at}
+use Rattle.ept_space.proofs.Ascending.{ascend-at}
 
 -- a test of the values that are made from a list is a test of that list
 list_any-map : {X Y : Type 0} (p : Y → Bool) (f : X → Y) (xs : List X) → list_any p (map f xs) ≡ list_any (λ x. p (f x)) xs
@@ -39,7 +39,7 @@ same-deeper a b h = grind (arith, nat_tests)
 answers-rise : (nodes : List NodeLine) (key : VoxelKey) → AllPairs (λ a b. key_cmp a b ≡ Less) (keys_of nodes) → IsNonDecreasingBy (λ (line : NodeLine). ordering_index (key_cmp line.key key)) nodes
 answers-rise nodes key up =
     searchable_from_sorted key_cmp_total (λ (line : NodeLine). line.key) nodes key (λ k d low inside.
-    let before : key_cmp (get_or nodes k d).key (get_or nodes (k + 1) d).key ≡ Less = ascend-at nodes k (k + 1) d (omega arith) (omega (arith, inside)) up in
+    let before : key_cmp (get_or nodes k d).key (get_or nodes (k + 1) d).key ≡ Less = ascend-at (λ (line : NodeLine). line.key) nodes k (k + 1) d (omega arith) (omega (arith, inside)) up in
     ap is_lt (key_cmp_total.antisymm (get_or nodes (k + 1) d).key (get_or nodes k d).key ∙ ap ordering_reverse before))
 
 -- a search finds a key exactly where it is among the keys

@@ -1,24 +1,24 @@
-pub mod Appending
-pub mod Ascending
-pub mod BodyText
-pub mod BothWays
-pub mod Counted
-pub mod Encoded
-pub mod KeySearch
-pub mod Lengths
-pub mod NodeText
+mod Appending
+mod BodyText
+mod BothWays
+mod Counted
+mod Encoded
+mod KeySearch
+mod Lengths
+mod NodeText
 pub mod Paired
-pub mod ReadBodies
-pub mod ReadNodes
-pub mod ReadNumbers
-pub mod ReadSettings
-pub mod ReadSources
-pub mod SourceText
-pub mod WrittenBodies
-pub mod WrittenLists
-pub mod WrittenNodes
-pub mod WrittenNumbers
-pub mod WrittenPlaces
-pub mod WrittenSettings
-pub mod WrittenSources
-pub mod WrittenTexts
+mod ReadBodies
+mod ReadNodes
+mod ReadNumbers
+mod ReadSettings
+mod ReadSources
+mod SourceText
+mod WrittenBodies
+mod WrittenLists
+mod WrittenNodes
+mod WrittenNumbers
+mod WrittenPlaces
+mod WrittenSettings
+mod WrittenSources
+mod WrittenTexts
+mod FactsTell

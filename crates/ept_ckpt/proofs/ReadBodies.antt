@@ -5,7 +5,7 @@ use Rattle.std.specs.List.{flat_map, starts_with}
 use Rattle.std.proofs.lemmas.List.{take_all}
 use Rattle.std.proofs.lemmas.Slice.Eq.{bytes_eq-Decides}
 use Rattle.byteorder.specs.Endian.{little_bytes}
-use Rattle.ept_ckpt.specs.Facts.{Facts}
+use Rattle.ept_ckpt.specs.Facts.{CheckpointFacts}
 use Rattle.ept_ckpt.specs.Body.{mark_bytes, kept_bytes, source_bytes, node_bytes, body}
 use Rattle.ept_ckpt.specs.Fields.{bytes, number, within, times}
 use Rattle.ept_ckpt.specs.Forms.{mark, kept_form, source_form, node_form, points_of_sources, deepest_of, end, ripe, fields}
@@ -45,7 +45,7 @@ counted : (front sources inserted nodes : List ℕ) (inputs lines m n : ℕ) →
     → ((((((front ++ little_bytes 4 inputs) ++ sources) ++ inserted) ++ little_bytes 4 lines) ++ nodes) ++ []) ++ [] ≡ ((((front ++ little_bytes 4 m) ++ sources) ++ inserted) ++ little_bytes 4 n) ++ nodes
 counted front sources inserted nodes inputs lines m n inputs_are lines_are = rw (inputs_are, lines_are) (append-nil _ ∙ append-nil _)
 
-fields_cut : CutsOff Facts fields body
+fields_cut : CutsOff CheckpointFacts fields body
 unfolding fields body
 fields_cut = record {
   cut = λ total rest left f fit read.
@@ -69,5 +69,5 @@ fields_cut = record {
 }
 
 -- bytes whose fields are all read are the body of what is read
-pub read_back : (bytes : List ℕ) (f : Facts) → ((i : ℕ) → slice_index bytes i < 2 ^ 8) → fields (length bytes) bytes ≡ Ok (f, []) → bytes ≡ body f
+pub read_back : (bytes : List ℕ) (f : CheckpointFacts) → ((i : ℕ) → slice_index bytes i < 2 ^ 8) → fields (length bytes) bytes ≡ Ok (f, []) → bytes ≡ body f
 read_back bytes f fit read = fields_cut.cut (length bytes) bytes [] f fit read ∙ append-nil (body f)

@@ -9,12 +9,11 @@ use Rattle.byteorder.specs.Endian.{little_bytes}
 use Rattle.ept_space.specs.declared.bounds.Bounds.{Bounds}
 use Rattle.ept_config.specs.Facts.{SrsFacts}
 use Rattle.ept_config.specs.Texts.{is_srs_text}
-use Rattle.ept_ckpt.specs.declared.limits.TheConstants.{WHOLE}
 use Rattle.ept_ckpt.specs.Facts.{KeptFacts}
 use Rattle.ept_ckpt.specs.Body.{flag, i32_bytes, i64_bytes, bounds_bytes, text_bytes, srs_bytes, kept_bytes}
 use Rattle.ept_ckpt.specs.Body as body
 use Rattle.ept_ckpt.specs.Fields.{Reading, ◌>>=◌, give, bytes, number, within, three, optional}
-use Rattle.ept_ckpt.specs.Forms.{near, between, corner, box_within, text, srs_text, srs_form, kept_form}
+use Rattle.ept_ckpt.specs.Forms.{near, between, corner, box_within, text, srs_text, srs_form, kept_form, whole}
 use Rattle.ept_ckpt.proofs.ReadNumbers.{HasBytes, Cut, CutsOff, steps, same_read, uncut, cut_by, all_cut, field_cut, field_read, most_of, bytes_length, number_cut, byte_cut, bytes_cut, i32_cut, i64_cut}
 
 -- a whole number near 0, and a coordinate
@@ -125,8 +124,8 @@ kept_cut = record {
       steps (within 0 32 (number 1) total m3) _ read3 (λ step m4 r4 read4.
       steps (within 0 (2 ^ 31) (number 4) total m4) _ read4 (λ threshold m5 r5 read5.
       steps (three (near (10 ^ 9)) total m5) _ read5 (λ offset m6 r6 read6.
-      steps (box_within WHOLE total m6) _ read6 (λ bounds m7 r7 read7.
+      steps (box_within whole total m6) _ read6 (λ bounds m7 r7 read7.
       steps (srs_form total m7) _ read7 (λ srs m8 r8 last.
       let four = cut_by total (field_cut _ byte_cut) (cut_by total (field_cut _ byte_cut) (cut_by total (field_cut _ byte_cut) (cut_by total (field_cut _ byte_cut) (uncut rest fit) r1) r2) r3) r4 in
-      all_cut kept_bytes (cut_by total srs_cut (cut_by total (box_cut WHOLE) (cut_by total (three_cut _ _ (near_cut (10 ^ 9))) (cut_by total (field_cut _ (number_cut 4)) four r5) r6) r7) r8) refl last))))))));
+      all_cut kept_bytes (cut_by total srs_cut (cut_by total (box_cut whole) (cut_by total (three_cut _ _ (near_cut (10 ^ 9))) (cut_by total (field_cut _ (number_cut 4)) four r5) r6) r7) r8) refl last))))))));
 }

@@ -7,6 +7,7 @@ use Rattle.byteorder.specs.Endian.{little_bytes}
 use Rattle.ept_space.specs.declared.bounds.Bounds.{Bounds}
 use Rattle.ept_config.specs.declared.input.Input.{Input}
 use Rattle.ept_config.specs.declared.source_count.SourceCount.{SourceCount}
+use Rattle.ept_config.specs.Counts.{total, IsCount}
 use Rattle.ept_ckpt.specs.declared.checkpoint.Checkpoint.{Checkpoint}
 use Rattle.ept_ckpt.specs.declared.node_line.NodeLine.{NodeLine}
 use Rattle.ept_ckpt.specs.Body.{mark_bytes, kept_bytes, source_bytes, node_bytes, body}
@@ -14,7 +15,6 @@ use Rattle.ept_ckpt.specs.Facts.{Source, sources_of, kept_facts, facts}
 use Rattle.ept_ckpt.specs.Fields.{number}
 use Rattle.ept_ckpt.specs.Forms.{mark, ripe, node_form, source_form, deepest_of, points_of_sources, end, fields}
 use Rattle.ept_ckpt.specs.Octree.{points_in}
-use Rattle.ept_ckpt.specs.Valid.{IsCount, points_of}
 use Rattle.ept_ckpt.proofs.Paired.{points_of_pairs}
 use Rattle.ept_ckpt.proofs.SourceText.{length_sources}
 use Rattle.ept_ckpt.proofs.WrittenLists.{eight_then, ReadsBack, times_written}
@@ -33,7 +33,7 @@ ripe_written total generation most rest low high = rw (le-leb 1 generation low, 
 
 -- ---- how great the numbers are
 
-points_few : (bounds : Bounds) (counts : List SourceCount) → length counts ≤ 65535 → All (IsCount bounds) counts → points_of counts < 2 ^ 48
+points_few : (bounds : Bounds) (counts : List SourceCount) → length counts ≤ 65535 → All (IsCount bounds) counts → total counts < 2 ^ 48
 points_few bounds counts few is =
     let most = sum_by-le (λ (count : SourceCount). count.points) (2 ^ 32) counts (λ k d inside. let small = (is k d inside).few in omega (arith, small)) in
     omega (arith, most, few)
@@ -77,7 +77,7 @@ fields_written total c =
     (read_then _ (number_written total 8 c.generation settings (omega (arith, generation_few c)))
     (read_then _ (kept_written total c.kept inputs)
     (read_then _ (within_read 1 65535 (number 4) total inputs each (length sources) (number_written total 4 (length sources) each (omega (arith, number_is, c.kept.layout.inputs_most))) (omega (arith, number_is, c.kept.layout.inputs_some)) (omega (arith, number_is, c.kept.layout.inputs_most)))
-    (read_then _ (times_written (source_form kept.scale kept.bounds) source_bytes total sources inserted (sources_read total kept.scale kept.bounds c.kept.inputs c.counts c.kept.has_bounds is.each c.kept.layout.inputs_scale is.counted))
+    (read_then _ (times_written (source_form kept.scale kept.bounds) source_bytes total sources inserted (sources_read total kept.scale kept.bounds c.kept.inputs c.counts c.kept.has_bounds is.each c.kept.layout.inputs_scale is.counted is.extents))
     (read_then _ (within_read 0 (points_of_sources sources) (number 8) total inserted lines c.inserted (number_written total 8 c.inserted lines (omega (arith, few))) (omega arith) (omega (arith, points, is.inserted_most)))
     (read_then _ (number_written total 4 (length c.nodes) nodes (omega (arith, is.nodes_few)))
     (read_then _ (times_written (node_form (deepest_of kept)) node_bytes total c.nodes [] (nodes_read total c))

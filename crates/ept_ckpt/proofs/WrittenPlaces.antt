@@ -6,15 +6,18 @@ use Rattle.std.proofs.lemmas.Bool.{le-leb}
 use Rattle.std.proofs.lemmas.Int.{ints, fits_signed_from_abs}
 use Rattle.byteorder.specs.Endian.{little_bytes}
 use Rattle.ept_space.specs.declared.bounds.Bounds.{Bounds}
-use Rattle.ept_space.specs.Place.{coordinate}
+use Rattle.ept_space.specs.Place.{Place, coordinate}
+use Rattle.ept_space.specs.CubeOfBounds.{HasPlace, IsInside}
 use Rattle.ept_config.specs.InputRanges.{AreThreeWithin}
 use Rattle.ept_config.specs.Ranges.{AreCoordinates, BoundsInRange}
-use Rattle.ept_ckpt.specs.declared.limits.TheConstants.{WHOLE}
 use Rattle.ept_ckpt.specs.Body.{i32_bytes, i64_bytes, bounds_bytes}
 use Rattle.ept_ckpt.specs.Fields.{signed, three}
-use Rattle.ept_ckpt.specs.Forms.{near, between, corner, box_within}
-use Rattle.ept_ckpt.specs.Valid.{AreOrdered, IsExtent}
+use Rattle.ept_ckpt.specs.Forms.{near, between, corner, box_within, whole}
 use Rattle.ept_ckpt.proofs.WrittenNumbers.{read_then, field_read, i32_written, i64_written}
+
+-- on each axis the one is at most the other
+abbrev AreOrdered : Place → Place → Type 0
+AreOrdered low high = HasPlace (record { min = low; max = high })
 
 pub near_written : (total most : ℕ) (z : ℤ) (rest : List ℕ) → most < 2 ^ 63 → unsigned_abs z ≤ most → near most total (little_bytes 8 (cast_unsigned w64 z) ++ rest) ≡ Ok (z, rest)
 unfolding near
@@ -45,9 +48,9 @@ between_written total low high z rest fits above below =
 pub corner_written : (total : ℕ) (low high xs : List ℤ) (rest : List ℕ) → AreCoordinates xs → AreOrdered low xs → AreOrdered xs high → corner low high total (i32_bytes xs ++ rest) ≡ Ok (xs, rest)
 unfolding corner
 corner_written total low high (x ∷ y ∷ z ∷ []) rest fit above below =
-    read_then _ (between_written total (coordinate low 0) (coordinate high 0) x (i32_bytes (y ∷ z ∷ []) ++ rest) fit.x above.x below.x)
-    (read_then _ (between_written total (coordinate low 1) (coordinate high 1) y (i32_bytes (z ∷ []) ++ rest) fit.y above.y below.y)
-    (read_then _ (between_written total (coordinate low 2) (coordinate high 2) z rest fit.z above.z below.z) refl))
+    read_then _ (between_written total (coordinate low 0) (coordinate high 0) x (i32_bytes (y ∷ z ∷ []) ++ rest) fit.x above.x_ordered below.x_ordered)
+    (read_then _ (between_written total (coordinate low 1) (coordinate high 1) y (i32_bytes (z ∷ []) ++ rest) fit.y above.y_ordered below.y_ordered)
+    (read_then _ (between_written total (coordinate low 2) (coordinate high 2) z rest fit.z above.z_ordered below.z_ordered) refl))
 corner_written total low high [] rest fit above below = absurd (omega (arith, fit.three))
 corner_written total low high (x ∷ []) rest fit above below = absurd (omega (arith, fit.three))
 corner_written total low high (x ∷ y ∷ []) rest fit above below = absurd (omega (arith, fit.three))
@@ -62,38 +65,29 @@ box_written total outer box rest min_fits max_fits above under ordered below =
     (read_then _ (corner_written total box.min outer.max box.max rest max_fits ordered below) refl))
 
 -- bounds of coordinates of 32 bits are within all places that there are
-whole_above : (xs : List ℤ) → AreCoordinates xs → AreOrdered WHOLE.min xs
-whole_above xs fit = record { x = omega (arith, ints, fit.x); y = omega (arith, ints, fit.y); z = omega (arith, ints, fit.z) }
+whole_above : (xs : List ℤ) → AreCoordinates xs → AreOrdered whole.min xs
+whole_above xs fit = record { x_ordered = omega (arith, ints, fit.x); y_ordered = omega (arith, ints, fit.y); z_ordered = omega (arith, ints, fit.z) }
 
-whole_below : (xs : List ℤ) → AreCoordinates xs → AreOrdered xs WHOLE.max
-whole_below xs fit = record { x = omega (arith, ints, fit.x); y = omega (arith, ints, fit.y); z = omega (arith, ints, fit.z) }
+whole_below : (xs : List ℤ) → AreCoordinates xs → AreOrdered xs whole.max
+whole_below xs fit = record { x_ordered = omega (arith, ints, fit.x); y_ordered = omega (arith, ints, fit.y); z_ordered = omega (arith, ints, fit.z) }
 
-pub bounds_written : (total : ℕ) (bounds : Bounds) (rest : List ℕ) → BoundsInRange bounds → box_within WHOLE total (bounds_bytes bounds ++ rest) ≡ Ok (bounds, rest)
+pub bounds_written : (total : ℕ) (bounds : Bounds) (rest : List ℕ) → BoundsInRange bounds → box_within whole total (bounds_bytes bounds ++ rest) ≡ Ok (bounds, rest)
 bounds_written total bounds rest are =
-    box_written total WHOLE bounds rest are.min_is are.max_is (whole_above bounds.min are.min_is) (whole_below bounds.min are.min_is) (record { x = are.ordered.x_ordered; y = are.ordered.y_ordered; z = are.ordered.z_ordered }) (whole_below bounds.max are.max_is)
-
--- a place between two of coordinates of 32 bits has such coordinates
-between_fits : (low z high : ℤ) → FitsSigned w32 low → FitsSigned w32 high → low ≤ℤ z → z ≤ℤ high → FitsSigned w32 z
-between_fits low z high l h above below = omega (arith, ints)
+    box_written total whole bounds rest are.min_is are.max_is (whole_above bounds.min are.min_is) (whole_below bounds.min are.min_is) are.ordered (whole_below bounds.max are.max_is)
 
 at-most-through : (a b c : ℤ) → a ≤ℤ b → b ≤ℤ c → a ≤ℤ c
 at-most-through a b c first second = omega (arith, ints)
 
 ordered-through : (a b c : List ℤ) → AreOrdered a b → AreOrdered b c → AreOrdered a c
-ordered-through a b c first second = record { x = at-most-through _ _ _ first.x second.x; y = at-most-through _ _ _ first.y second.y; z = at-most-through _ _ _ first.z second.z }
-
-place_fits : (low xs high : List ℤ) → length xs ≡ 3 → AreCoordinates low → AreCoordinates high → AreOrdered low xs → AreOrdered xs high → AreCoordinates xs
-place_fits low xs high same low_fits high_fits above below = record {
-  three = same;
-  x = between_fits _ _ _ low_fits.x high_fits.x above.x below.x;
-  y = between_fits _ _ _ low_fits.y high_fits.y above.y below.y;
-  z = between_fits _ _ _ low_fits.z high_fits.z above.z below.z;
+ordered-through a b c first second = record {
+  x_ordered = at-most-through _ _ _ first.x_ordered second.x_ordered;
+  y_ordered = at-most-through _ _ _ first.y_ordered second.y_ordered;
+  z_ordered = at-most-through _ _ _ first.z_ordered second.z_ordered;
 }
 
 -- the extent of some points within the bounds
-pub extent_written : (total : ℕ) (bounds extent : Bounds) (rest : List ℕ) → BoundsInRange bounds → IsExtent bounds extent → box_within bounds total (bounds_bytes extent ++ rest) ≡ Ok (extent, rest)
-extent_written total bounds extent rest are is =
-    let ordered : AreOrdered extent.min extent.max = record { x = is.in_range.ordered.x_ordered; y = is.in_range.ordered.y_ordered; z = is.in_range.ordered.z_ordered } in
-    let under : AreOrdered extent.min bounds.max = ordered-through _ _ _ ordered is.below in
-    let over : AreOrdered bounds.min extent.max = ordered-through _ _ _ is.above ordered in
-    box_written total bounds extent rest (place_fits bounds.min extent.min bounds.max is.in_range.min_is.three are.min_is are.max_is is.above under) (place_fits bounds.min extent.max bounds.max is.in_range.max_is.three are.min_is are.max_is over is.below) is.above under ordered is.below
+pub extent_written : (total : ℕ) (bounds extent : Bounds) (rest : List ℕ) → BoundsInRange bounds → IsInside bounds extent → BoundsInRange extent → box_within bounds total (bounds_bytes extent ++ rest) ≡ Ok (extent, rest)
+extent_written total bounds extent rest are is in_range =
+    let above : AreOrdered bounds.min extent.min = record { x_ordered = is.x_min; y_ordered = is.y_min; z_ordered = is.z_min } in
+    let below : AreOrdered extent.max bounds.max = record { x_ordered = is.x_max; y_ordered = is.y_max; z_ordered = is.z_max } in
+    box_written total bounds extent rest in_range.min_is in_range.max_is above (ordered-through _ extent.max _ in_range.ordered below) in_range.ordered below

@@ -8,7 +8,7 @@ use Rattle.ept_config.specs.Facts.{SrsFacts}
 use Rattle.ept_ckpt.specs.declared.node_line.NodeLine.{NodeLine}
 use Rattle.ept_ckpt.specs.declared.letter.Letter.{Letter}
 use Rattle.ept_ckpt.specs.declared.letter.Letter.TheVariants.{A, B}
-use Rattle.ept_ckpt.specs.Facts.{KeptFacts, Source, Facts}
+use Rattle.ept_ckpt.specs.Facts.{KeptFacts, Source, CheckpointFacts}
 
 -- numbers of 32 bits, and of 64
 abbrev pub i32_bytes : List ℤ → List ℕ
@@ -84,7 +84,7 @@ node_bytes line =
 unfoldable pub mark_bytes : List ℕ
 mark_bytes = codes "EPTW" ++ little_bytes 4 1
 
-unfoldable pub body : Facts → List ℕ
+unfoldable pub body : CheckpointFacts → List ℕ
 body c =
     mark_bytes
     ++ little_bytes 8 c.generation

@@ -1,9 +1,10 @@
 -- What all fields of a body keep, before the nodes are judged together.
 use Rattle.std.specs.Prelude.{◌≡◌, ℕ, ◌+◌, ◌<◌, ◌≤◌, ◌^◌, List, length, All}
+use Rattle.ept_config.specs.Counts.{total, IsCount}
 use Rattle.ept_ckpt.specs.declared.node_line.NodeLine.{NodeLine}
 use Rattle.ept_ckpt.specs.declared.settings.Settings.{Settings}
 use Rattle.ept_ckpt.specs.declared.sources.Sources.{Sources}
-use Rattle.ept_ckpt.specs.Valid.{IsCount, IsNode, points_of, deepest}
+use Rattle.ept_ckpt.specs.Valid.{ExtentInRange, IsNode, deepest}
 
 pub record IsDraft (generation : ℕ) (settings : Settings) (sources : Sources) (inserted : ℕ) (nodes : List NodeLine) : Type 0 where
   pub some : 1 ≤ length sources.inputs
@@ -11,7 +12,8 @@ pub record IsDraft (generation : ℕ) (settings : Settings) (sources : Sources) 
   pub scales : All (λ input. input.scale ≤ settings.scale) sources.inputs
   pub each : length sources.counts ≡ length sources.inputs
   pub counted : All (IsCount settings.bounds) sources.counts
-  pub inserted_most : inserted ≤ points_of sources.counts
+  pub extents : All ExtentInRange sources.counts
+  pub inserted_most : inserted ≤ total sources.counts
   pub generation_least : 1 ≤ generation
   pub generation_most : generation ≤ inserted + length sources.inputs
   pub nodes_few : length nodes < 2 ^ 32

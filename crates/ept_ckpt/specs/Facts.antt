@@ -26,7 +26,7 @@ pub record KeptFacts : Type 0 where
 abbrev pub Source : Type 0
 Source = InputFacts × SourceCount
 
-pub record Facts : Type 0 where
+pub record CheckpointFacts : Type 0 where
   pub generation : ℕ
   pub kept : KeptFacts
   pub sources : List Source
@@ -61,7 +61,7 @@ settings_facts settings = record {
   srs = srs_facts settings.srs;
 }
 
-abbrev pub draft_facts : Draft → Facts
+abbrev pub draft_facts : Draft → CheckpointFacts
 draft_facts draft = record {
   generation = draft.generation;
   kept = settings_facts draft.settings;
@@ -70,7 +70,7 @@ draft_facts draft = record {
   nodes = draft.nodes;
 }
 
-abbrev pub facts : Checkpoint → Facts
+abbrev pub facts : Checkpoint → CheckpointFacts
 facts c = record {
   generation = c.generation;
   kept = kept_facts c.kept;

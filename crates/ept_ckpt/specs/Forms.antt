@@ -1,5 +1,5 @@
 -- The fields of a body, each with its range.
-use Rattle.std.specs.Prelude.{ℕ, ℤ, ◌+◌, ◌-◌, ◌^◌, Bool, ◌&&◌, ◌==◌, nat_le, nat_eq, ⊤, List, [], ◌∷◌, length, sum_by, Ok, Err, if◌then◌else◌, unsigned_abs, int_le}
+use Rattle.std.specs.Prelude.{ℕ, ℤ, pos, negsuc, ◌+◌, ◌-◌, ◌^◌, Bool, ◌&&◌, ◌==◌, nat_le, nat_eq, ⊤, List, [], ◌∷◌, length, sum_by, Ok, Err, if◌then◌else◌, unsigned_abs, int_le}
 use Rattle.std.specs.Int.{w32, w64, bit_at}
 use Rattle.std.specs.List.{starts_with}
 use Rattle.ept_space.specs.declared.bounds.Bounds.{Bounds}
@@ -12,8 +12,7 @@ use Rattle.ept_ckpt.specs.declared.field_error.FieldError.TheVariants.{Length, V
 use Rattle.ept_ckpt.specs.declared.node_line.NodeLine.{NodeLine}
 use Rattle.ept_ckpt.specs.declared.letter.Letter.{Letter}
 use Rattle.ept_ckpt.specs.declared.letter.Letter.TheVariants.{A, B}
-use Rattle.ept_ckpt.specs.declared.limits.TheConstants.{WHOLE, GENERATION_AT}
-use Rattle.ept_ckpt.specs.Facts.{KeptFacts, Source, Facts}
+use Rattle.ept_ckpt.specs.Facts.{KeptFacts, Source, CheckpointFacts}
 use Rattle.ept_ckpt.specs.Body.{mark_bytes}
 use Rattle.ept_ckpt.specs.Valid.{deepest}
 use Rattle.ept_ckpt.specs.Fields.{Reading, ◌>>=◌, give, unless, bytes, number, signed, field, within, three, optional, times}
@@ -33,6 +32,13 @@ corner low high = do
   y ← between (coordinate low 1) (coordinate high 1)
   z ← between (coordinate low 2) (coordinate high 2)
   give (x ∷ y ∷ z ∷ [])
+
+-- all places that there are: each coordinate is of 32 bits
+abbrev pub whole : Bounds
+whole = record {
+  min = negsuc (2 ^ 31 - 1) ∷ negsuc (2 ^ 31 - 1) ∷ negsuc (2 ^ 31 - 1) ∷ [];
+  max = pos (2 ^ 31 - 1) ∷ pos (2 ^ 31 - 1) ∷ pos (2 ^ 31 - 1) ∷ [];
+}
 
 -- bounds within others: the minimum, and then the maximum, on no axis below it
 unfoldable pub box_within : Bounds → Reading Bounds
@@ -69,7 +75,7 @@ kept_form = do
   step ← within 0 32 (number 1)
   threshold ← within 0 (2 ^ 31) (number 4)
   offset ← three (near (10 ^ 9))
-  bounds ← box_within WHOLE
+  bounds ← box_within whole
   srs ← srs_form
   give (record {
     scale = scale;
@@ -147,12 +153,13 @@ deepest_of kept = deepest kept.bounds kept.s kept.max_depth
 unfoldable pub end : Reading ⊤
 end total rest = if length rest == 0 then Ok (tt, rest) else Err Length
 
--- each commit has more points or more inputs than the one before it; the generation is judged at the end
+-- each commit has more points or more inputs than the one before it; the generation, which begins at byte 8, is
+-- judged at the end
 unfoldable pub ripe : ℕ → ℕ → Reading ⊤
-ripe generation most = unless (Field GENERATION_AT) (nat_le 1 generation && nat_le generation most)
+ripe generation most = unless (Field 8) (nat_le 1 generation && nat_le generation most)
 
 -- all fields, in order
-unfoldable pub fields : Reading Facts
+unfoldable pub fields : Reading CheckpointFacts
 fields = do
   marked ← mark
   generation ← number 8

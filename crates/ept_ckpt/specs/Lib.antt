@@ -8,3 +8,4 @@ pub mod Fields
 pub mod Forms
 pub mod Reads
 pub mod Refusals
+pub mod Laws

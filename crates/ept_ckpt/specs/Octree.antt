@@ -23,7 +23,7 @@ TellsChildren keys line =
     (octant : ℕ) → octant < 8 → (bit_at line.mask octant == 1) ≡ is_among keys (child line.key octant)
 
 -- The keys ascend, the root is one of them, and so is the parent of each other; the masks tell the children.
-pub record IsOctree (nodes : List NodeLine) : Type 0 where
+pub record AreWholeOctree (nodes : List NodeLine) : Type 0 where
   pub ascend : AllPairs (λ a b. key_cmp a b ≡ Less) (keys_of nodes)
   pub rooted : is_among (keys_of nodes) root ≡ true
   pub parents : All (HasParent (keys_of nodes)) (keys_of nodes)
@@ -35,5 +35,5 @@ points_in nodes = sum_by (λ line. line.count) nodes
 
 -- the nodes are a whole octree of so many points
 pub record AreNodesOf (points : ℕ) (nodes : List NodeLine) : Type 0 where
-  pub octree : IsOctree nodes
+  pub octree : AreWholeOctree nodes
   pub counted : points_in nodes ≡ points

@@ -4,7 +4,7 @@ use Rattle.ept_ckpt.specs.declared.field_error.FieldError.{FieldError}
 use Rattle.ept_ckpt.specs.declared.field_error.FieldError.TheVariants as field
 use Rattle.ept_ckpt.specs.declared.ckpt_error.CkptError.{CkptError}
 use Rattle.ept_ckpt.specs.declared.ckpt_error.CkptError.TheVariants.{Length, Version, Field, Tree, Memory}
-use Rattle.ept_ckpt.specs.Facts.{Facts}
+use Rattle.ept_ckpt.specs.Facts.{CheckpointFacts}
 use Rattle.ept_ckpt.specs.Octree.{AreNodesOf}
 use Rattle.ept_ckpt.specs.Forms.{fields}
 
@@ -17,7 +17,7 @@ of_field field.Memory = Memory
 
 -- each field is within its range, but the nodes are no whole octree of the points that are inserted
 pub record HasNoOctree (bytes : List ℕ) : Type 0 where
-  pub read : Facts
+  pub read : CheckpointFacts
   pub reads : fields (length bytes) bytes ≡ Ok (read, [])
   pub no_octree : ¬ AreNodesOf read.inserted read.nodes
 

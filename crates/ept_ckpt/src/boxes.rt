@@ -3,7 +3,8 @@
 ghost use Rattle.std.specs.Prelude.{IfOk};
 ghost use Rattle.ept_ckpt.specs.Forms.{corner, box_within};
 ghost use Rattle.ept_ckpt.specs.Reads.{Reads};
-ghost use Rattle.ept_ckpt.specs.Valid.{AreOrdered, IsExtent};
+ghost use Rattle.ept_config.specs.Ranges.{BoundsInRange};
+ghost use Rattle.ept_space.specs.CubeOfBounds.{HasPlace, IsInside};
 
 use crate::cursor::Cursor;
 use crate::field_error::FieldError;
@@ -15,8 +16,8 @@ impl<'a> Cursor<'a> {
     #[tactic(auto, unfolding(crate::specs::Forms::corner))]
     fn corner(&mut self, low: &[i32; 3], high: &[i32; 3]) -> Result<[i32; 3], FieldError>
         ensures reads { Reads (corner low.now high.now) self.old self.new result }
-        ensures above { IfOk result (AreOrdered low.now) }
-        ensures below { IfOk result (λ place. AreOrdered place high.now) }
+        ensures above { IfOk result (λ place. HasPlace (record { min = low.now; max = place })) }
+        ensures below { IfOk result (λ place. HasPlace (record { min = place; max = high.now })) }
     {
         let x = self.between(low[0], high[0])?;
         let y = self.between(low[1], high[1])?;
@@ -28,7 +29,8 @@ impl<'a> Cursor<'a> {
     #[tactic(auto, unfolding(crate::specs::Forms::box_within))]
     pub(crate) fn box_within(&mut self, outer: &Bounds) -> Result<Bounds, FieldError>
         ensures reads { Reads (box_within outer.now) self.old self.new result }
-        ensures inside { IfOk result (IsExtent outer.now) }
+        ensures inside { IfOk result (IsInside outer.now) }
+        ensures in_range { IfOk result BoundsInRange }
     {
         let min = self.corner(&outer.min, &outer.max)?;
         let max = self.corner(&min, &outer.max)?;

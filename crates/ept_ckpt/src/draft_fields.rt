@@ -2,10 +2,11 @@
 
 ghost use Rattle.std.specs.Prelude.{◌≡◌, ◌≤◌, ◌<◌, ◌*◌, ◌^◌, length, [], OnOk};
 ghost use Rattle.std.specs.List.{All};
+ghost use Rattle.ept_config.specs.Counts.{total};
 ghost use Rattle.ept_ckpt.specs.Facts.{sources_of, draft_facts};
 ghost use Rattle.ept_ckpt.specs.Forms.{mark, end, ripe, fields, points_of_sources};
 ghost use Rattle.ept_ckpt.specs.Reads.{ReadsAs};
-ghost use Rattle.ept_ckpt.specs.Valid.{points_of, deepest};
+ghost use Rattle.ept_ckpt.specs.Valid.{deepest};
 
 use crate::cursor::Cursor;
 use crate::draft::Draft;
@@ -13,7 +14,7 @@ use crate::field_error::FieldError;
 use crate::limits::{GENERATION_AT, MARK};
 use crate::settings::Settings;
 use crate::sources::Sources;
-use ept_config::{MAX_INPUTS, SourceCount};
+use ept_config::{MAX_INPUTS, total_of};
 use ept_space::Cube;
 use std::alloc::Global;
 
@@ -87,34 +88,20 @@ fn deepest(settings: &Settings) -> u8
     ensures depth { result ≡ deepest settings.now.bounds settings.now.s settings.now.max_depth }
     ensures most { result ≤ 31 }
 {
-    let cube = Cube::of(&settings.bounds, settings.s, settings.max_depth).unwrap();
+    let cube = Cube::over(&settings.bounds, settings.s, settings.max_depth);
     cube.known();
     cube.depth
 }
 
 // How many points the inputs have.
-#[tactic(auto, using(crate::proofs::Paired::points_of_pairs))]
+#[tactic(auto, using(crate::proofs::Paired::points_of_pairs, crate::proofs::Paired::total_few))]
 fn points_in(sources: &Sources) -> u64
     requires few { length sources.now.inputs ≤ MAX_INPUTS }
     requires each { length sources.now.counts ≡ length sources.now.inputs }
     requires counted { All (λ count. count.points < 2 ^ 32) sources.now.counts }
     ensures points { result ≡ points_of_sources (sources_of sources.now.inputs sources.now.counts) }
-    ensures counts { result ≡ points_of sources.now.counts }
+    ensures counts { result ≡ total sources.now.counts }
     ensures most { result ≤ 65535 * 4294967295 }
 {
-    points_of(sources.counts.as_slice())
-}
-
-// How many points there are of these counts.
-fn points_of(counts: &[SourceCount]) -> u64
-    requires few { length counts.now ≤ MAX_INPUTS }
-    requires counted { All (λ count. count.points < 2 ^ 32) counts.now }
-    ensures points { result ≡ points_of counts.now }
-    ensures most { result ≤ 65535 * 4294967295 }
-{
-    let mut sum: u64 = 0;
-    for count in counts {
-        sum += count.points;
-    }
-    sum
+    total_of(sources.counts.as_slice())
 }

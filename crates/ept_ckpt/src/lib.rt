@@ -11,11 +11,11 @@ mod draft;
 mod draft_fields;
 mod field_error;
 mod fields;
+mod laws;
 mod letter;
 mod limits;
 mod node_line;
 mod nodes;
-mod octree;
 mod reader;
 mod setting_fields;
 mod settings;
@@ -23,10 +23,12 @@ mod sources;
 #[cfg(test)]
 mod tests;
 mod texts;
+mod whole_octree;
 mod writer;
 
 pub use checkpoint::Checkpoint;
 pub use ckpt_error::CkptError;
+pub use laws::body_once_law;
 pub use letter::Letter;
 pub use node_line::NodeLine;
 pub use reader::read_ckpt;

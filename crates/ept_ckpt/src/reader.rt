@@ -14,9 +14,9 @@ use crate::ckpt_error::CkptError;
 use crate::cursor::Cursor;
 use crate::draft::Draft;
 use crate::field_error::FieldError;
-use crate::octree::are_nodes_of;
 use crate::settings::Settings;
 use crate::sources::Sources;
+use crate::whole_octree::are_nodes_of;
 use ept_config::{Input, Kept};
 use ept_point::List;
 use std::alloc::Global;
@@ -34,7 +34,7 @@ use std::alloc::Global;
 pub fn read_ckpt(alloc: Global, bytes: &[u8]) -> Result<Checkpoint, CkptError>
     ensures read { IfOk result (λ c. bytes.now ≡ body (facts c)) }
     ensures comes { (c : kept.Checkpoint) → bytes.now ≡ body (facts c)
-        → IfOk result (λ found. facts found ≡ facts c) × IfErr result (λ e. e ≡ CkptError.Memory) }
+        → IfOk result (λ found. found ≡ c) × IfErr result (λ e. e ≡ CkptError.Memory) }
     ensures refused { IfErr result (λ e. e ≢ CkptError.Memory → Refuses bytes.now e) }
 {
     read(alloc, bytes)

@@ -9,7 +9,10 @@ ghost use Rattle.ept_ckpt.specs.Facts.{source_facts, sources_of};
 ghost use Rattle.ept_ckpt.specs.Fields.{bytes, optional, times};
 ghost use Rattle.ept_ckpt.specs.Forms.{box_within, input_form, count_form, source_form};
 ghost use Rattle.ept_ckpt.specs.Reads.{Reads, ReadsAs};
-ghost use Rattle.ept_ckpt.specs.Valid.{IsCount, IsExtent};
+ghost use Rattle.ept_ckpt.specs.Valid.{ExtentInRange};
+ghost use Rattle.ept_config.specs.Counts.{IsCount};
+ghost use Rattle.ept_config.specs.Ranges.{BoundsInRange};
+ghost use Rattle.ept_space.specs.CubeOfBounds.{IsInside};
 
 use crate::cursor::Cursor;
 use crate::field_error::FieldError;
@@ -63,7 +66,8 @@ impl<'a> Cursor<'a> {
     fn extent_if(&mut self, there: bool, bounds: &Bounds) -> Result<Option<Bounds>, FieldError>
         ensures reads { Reads (optional there (box_within bounds.now)) self.old self.new result }
         ensures there { IfOk result (λ extent. is_some extent ≡ there) }
-        ensures extent { IfOk result (λ extent. ForSome extent (IsExtent bounds.now)) }
+        ensures inside { IfOk result (λ extent. ForSome extent (IsInside bounds.now)) }
+        ensures in_range { IfOk result (λ extent. ForSome extent BoundsInRange) }
     {
         if !there {
             return Ok(None);
@@ -77,6 +81,7 @@ impl<'a> Cursor<'a> {
     fn count(&mut self, bounds: &Bounds) -> Result<SourceCount, FieldError>
         ensures reads { Reads (count_form bounds.now) self.old self.new result }
         ensures count { IfOk result (IsCount bounds.now) }
+        ensures extent { IfOk result ExtentInRange }
     {
         let points = self.within(8, 0, u64::from(u32::MAX))?;
         let there = u64::from(points > 0);
@@ -100,6 +105,7 @@ impl<'a> Cursor<'a> {
         ensures reads { ReadsAs (source_form scale bounds.now) source_facts self.old self.new result }
         ensures scale { IfOk result (λ source. source.0.scale ≤ scale) }
         ensures count { IfOk result (λ source. IsCount bounds.now source.1) }
+        ensures extent { IfOk result (λ source. ExtentInRange source.1) }
     {
         let input = self.input(alloc, scale)?;
         let count = self.count(bounds)?;
@@ -121,6 +127,7 @@ impl<'a> Cursor<'a> {
         ensures each { IfOk result (λ s. length s.counts ≡ number) }
         ensures scales { IfOk result (λ s. All (λ input. input.scale ≤ scale) s.inputs) }
         ensures counts { IfOk result (λ s. All (IsCount bounds.now) s.counts) }
+        ensures extents { IfOk result (λ s. All ExtentInRange s.counts) }
     {
         let mut inputs = Vec::new(alloc);
         let mut counts = Vec::new(alloc);

@@ -3,6 +3,6 @@ pub mod Objects
 pub mod Signed
 pub mod Places
 pub mod EachInput
-pub mod Documents
 pub mod Faults
 pub mod RefusalLaws
+pub mod FactsTell

@@ -9,7 +9,8 @@ use Rattle.ept_config.specs.declared.config_key.ConfigKey.TheVariants as key
 use Rattle.ept_config.specs.declared.config_error.ConfigError.{ConfigError}
 use Rattle.ept_config.specs.declared.config_error.ConfigError.TheVariants as error
 use Rattle.ept_config.specs.Keys.{name_of}
-use Rattle.ept_config.specs.Json.{document, has_only}
+use Rattle.ept_json.specs.Document.{document}
+use Rattle.ept_config.specs.Json.{has_only}
 use Rattle.ept_config.specs.Steps.{◌>>=◌, unless_refused, required}
 use Rattle.ept_config.specs.Facts.{Facts}
 use Rattle.ept_config.specs.Configuration.{top_keys, values, settings, object_reading, value_reading, reading}

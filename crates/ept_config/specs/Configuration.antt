@@ -7,7 +7,8 @@ use Rattle.ept_config.specs.declared.config_key.ConfigKey.TheVariants as key
 use Rattle.ept_config.specs.declared.config_error.ConfigError.{ConfigError}
 use Rattle.ept_config.specs.declared.config_error.ConfigError.TheVariants as error
 use Rattle.ept_config.specs.Keys.{name_of}
-use Rattle.ept_config.specs.Json.{document, has_only}
+use Rattle.ept_json.specs.Document.{document}
+use Rattle.ept_config.specs.Json.{has_only}
 use Rattle.ept_config.specs.Values.{natural, natural_at, span_at, offset_at, bounds_at, inputs, srs_at}
 use Rattle.ept_config.specs.Facts.{Facts}
 use Rattle.ept_config.specs.Steps.{◌>>=◌, required, unless_refused}

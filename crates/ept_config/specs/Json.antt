@@ -1,14 +1,9 @@
--- What a JSON value is read as. `read` of `serde_json` is the value of a text: of a key that stands twice it keeps the last.
+-- What a JSON value is read as.
 use Rattle.std.specs.Prelude.{ℕ, ℤ, Bool, false, List, [], ◌∷◌, length, ◌==◌, if◌then◌else◌, Option, Some, None, option_map, option_and_then, unwrap_or}
 use Rattle.std.specs.List.{list_all, list_any}
-use Rattle.std.specs.Str.{is_utf8, bytes_eq}
+use Rattle.std.specs.Str.{bytes_eq}
 use Rattle.serde_json.specs.Data.{Data, Items, no_items, item, Members, no_members, member}
 use Rattle.serde_json.specs.Find.{as_number, as_integer, as_array, as_object}
-use Rattle.serde_json.specs.Read.{read}
-
--- the value that bytes are the text of
-unfoldable pub document : List ℕ → Option Data
-document bytes = if is_utf8 bytes then read bytes else None
 
 -- a whole number of 64 bits; a number with a fraction or an exponent is none, nor is `-0`
 unfoldable pub whole : Data → Option ℤ

@@ -4,8 +4,12 @@ use Rattle.serde_json.specs.Data.{Data}
 use Rattle.serde_json.specs.Find.{get, as_object}
 use Rattle.ept_config.specs.declared.config_key.ConfigKey.TheVariants as key
 use Rattle.ept_config.specs.declared.config_error.ConfigError.TheVariants as error
-use Rattle.ept_config.specs.Json.{document, has_only}
-use Rattle.ept_config.specs.Facts.{Facts}
+use Rattle.ept_json.specs.Document.{document}
+use Rattle.ept_config.specs.Json.{has_only}
+use Rattle.ept_config.specs.declared.input.Input.{Input}
+use Rattle.ept_config.specs.declared.srs.Srs.{Srs}
+use Rattle.ept_config.specs.declared.config.Config.{Config}
+use Rattle.ept_config.specs.Facts.{Facts, input_facts, srs_facts, facts}
 use Rattle.ept_config.specs.Configuration.{top_keys, settings, reading}
 
 -- a text that is not too long is this JSON value
@@ -44,8 +48,19 @@ MissesScaleWhereAbsent =
 abbrev pub ThreadsWhereFewerNodes : Type 0
 ThreadsWhereFewerNodes =
     (bytes : List ℕ)
-    → (reading bytes ≡ Err error.Threads) ↔ ((d : Data) × (facts : Facts) × HoldsKeys bytes d × (settings d ≡ Ok facts) × (facts.cache < facts.threads))
+    → (reading bytes ≡ Err error.Threads) ↔ ((d : Data) × (read : Facts) × HoldsKeys bytes d × (settings d ≡ Ok read) × (read.cache < read.threads))
 
 -- what is accepted keeps as many nodes in memory as there are threads
 abbrev pub AcceptedHasEnoughNodes : Type 0
-AcceptedHasEnoughNodes = (bytes : List ℕ) (facts : Facts) → reading bytes ≡ Ok facts → facts.threads ≤ facts.cache
+AcceptedHasEnoughNodes = (bytes : List ℕ) (read : Facts) → reading bytes ≡ Ok read → read.threads ≤ read.cache
+
+-- ---- the facts leave nothing out
+
+abbrev pub InputByFacts : Type 0
+InputByFacts = (a b : Input) → input_facts a ≡ input_facts b → a ≡ b
+
+abbrev pub ReferenceByFacts : Type 0
+ReferenceByFacts = (a b : Srs) → srs_facts a ≡ srs_facts b → a ≡ b
+
+abbrev pub ConfigByFacts : Type 0
+ConfigByFacts = (a b : Config) → facts a ≡ facts b → a ≡ b

@@ -3,7 +3,14 @@ use Rattle.std.specs.Prelude.{ℕ, List, Option, Some, None, codes}
 use Rattle.ept_config.specs.declared.config_key.ConfigKey.{ConfigKey}
 use Rattle.ept_config.specs.declared.config_error.ConfigError.{ConfigError}
 use Rattle.ept_config.specs.declared.config_error.ConfigError.TheVariants.{Json, Unknown, Missing, Kind, Range, Threads, Long, Memory}
+use Rattle.ept_json.specs.declared.json_error.JsonError.{JsonError}
+use Rattle.ept_json.specs.declared.json_error.JsonError.TheVariants as json
 use Rattle.ept_config.specs.Keys.{name_of}
+
+-- what is told where a text has no value
+abbrev pub of_json : JsonError → ConfigError
+of_json json.NoText = Json
+of_json json.Memory = Memory
 
 -- the number of the cause
 abbrev pub code_of : ConfigError → ℕ

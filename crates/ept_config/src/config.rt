@@ -64,7 +64,7 @@ impl Config {
     /// What the output of a build with these bounds depends on.
     pub fn kept(&self, alloc: Global, bounds: &Bounds) -> Result<Kept, Memory>
         requires { HasPlace bounds.now }
-        ensures { IfOk result (IsKeptOf self.now bounds.now) }
+        ensures kept { IfOk result (IsKeptOf self.now bounds.now) }
     {
         bounds_known(bounds);
         let srs = copy_of_srs(alloc, &self.srs)?;

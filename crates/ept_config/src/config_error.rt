@@ -1,6 +1,7 @@
 //! Why a text is no configuration.
 
 use crate::config_key::ConfigKey;
+use ept_json::JsonError;
 use std::alloc::{AllocError, AllocFailed};
 use thiserror::Error;
 
@@ -34,6 +35,20 @@ pub enum ConfigError {
     Memory,
 }
 
+impl From<JsonError> for ConfigError {
+    ghost use Rattle.std.specs.Prelude.{◌≡◌};
+    ghost use Rattle.ept_config.specs.Refusals.{of_json};
+
+    ghost from_gives = { λ error e. e ≡ of_json error };
+
+    fn from(error: JsonError) -> ConfigError {
+        match error {
+            JsonError::NoText => ConfigError::Json,
+            JsonError::Memory => ConfigError::Memory,
+        }
+    }
+}
+
 impl From<AllocError> for ConfigError {
     ghost use Rattle.std.specs.Prelude.{◌≡◌};
     ghost use Rattle.ept_config.specs.declared.config_error.ConfigError.TheVariants.{Memory};
@@ -62,7 +77,7 @@ impl ConfigError {
 
     /// The number of the cause, from 1.
     pub fn code(self) -> u8
-        ensures { result ≡ code_of self }
+        ensures number { result ≡ code_of self }
     {
         match self {
             ConfigError::Json => 1,
@@ -78,7 +93,7 @@ impl ConfigError {
 
     /// The key that the cause names, if it names one.
     pub fn key(self) -> Option<ConfigKey>
-        ensures { result ≡ key_of self }
+        ensures key { result ≡ key_of self }
     {
         match self {
             ConfigError::Missing { key } | ConfigError::Kind { key } | ConfigError::Range { key } =>
@@ -89,7 +104,7 @@ impl ConfigError {
 
     /// The name of that key, or `-` where there is none.
     pub fn key_text(self) -> &'static str
-        ensures { result.now ≡ key_text_of self }
+        ensures text { result.now ≡ key_text_of self }
     {
         match self.key() {
             Some(key) => key.name(),

@@ -26,7 +26,7 @@ impl ConfigKey {
 
     /// The key as a configuration spells it, and `top` for the whole.
     pub fn name(self) -> &'static str
-        ensures { result.now ≡ name_of self }
+        ensures name { result.now ≡ name_of self }
     {
         match self {
             ConfigKey::Top => "top",

@@ -49,7 +49,7 @@ impl Kept {
 
     /// The same again.
     pub fn copy(&self, alloc: Global) -> Result<Kept, Memory>
-        ensures { IfOk result (λ copy. copy ≡ self.now) }
+        ensures same { IfOk result (λ copy. copy ≡ self.now) }
     {
         let srs = copy_of_srs(alloc, &self.srs)?;
         let inputs = copy_of_inputs(alloc, &self.inputs)?;

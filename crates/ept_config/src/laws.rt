@@ -1,6 +1,7 @@
-//! When each refusal comes. Each law is the contract of a function that does nothing.
+//! When each refusal comes, and what the facts of a configuration tell. Each law is the contract of a
+//! function that does nothing.
 
-ghost use Rattle.ept_config.specs.Laws.{LongWhereLonger, JsonWhereNoValue, TopWhereNoObject, UnknownWhereAnotherKey, MissesInputWhereAbsent, MissesScaleWhereAbsent, ThreadsWhereFewerNodes, AcceptedHasEnoughNodes};
+ghost use Rattle.ept_config.specs.Laws.{LongWhereLonger, JsonWhereNoValue, TopWhereNoObject, UnknownWhereAnotherKey, MissesInputWhereAbsent, MissesScaleWhereAbsent, ThreadsWhereFewerNodes, AcceptedHasEnoughNodes, InputByFacts, ReferenceByFacts, ConfigByFacts};
 
 /// `Long` comes exactly where the text is longer than 16,777,216 bytes, and `Json` exactly where it is
 /// not and is the text of no JSON value.
@@ -27,4 +28,12 @@ pub fn required_law()
 pub fn threads_law()
     ensures refused { ThreadsWhereFewerNodes }
     ensures accepted { AcceptedHasEnoughNodes }
+{}
+
+/// What has the same facts is the same: an input, a spatial reference, and a whole configuration. So a
+/// text has one configuration.
+pub fn facts_law()
+    ensures input { InputByFacts }
+    ensures reference { ReferenceByFacts }
+    ensures config { ConfigByFacts }
 {}

@@ -1,10 +1,10 @@
 //! The text of a configuration.
 
 ghost use Rattle.std.specs.Prelude.{◌≡◌, ◌≢◌, ◌<◌, IfOk, IfErr, Some, None, Ok, Err};
-ghost use Rattle.serde_json.specs.Errors.{IsMemory};
 ghost use Rattle.serde_json.specs.View.{view};
 ghost use Rattle.ept_config.specs.Facts.{facts};
-ghost use Rattle.ept_config.specs.Json.{document, has_only};
+ghost use Rattle.ept_json.specs.Document.{document};
+ghost use Rattle.ept_config.specs.Json.{has_only};
 ghost use Rattle.ept_config.specs.Configuration.{reading, value_reading, object_reading, settings, top_keys};
 ghost use Rattle.serde_json.specs.Find.{get};
 ghost use Rattle.ept_config.specs.Keys.{name_of};
@@ -22,7 +22,8 @@ use crate::limits::{
 use crate::srs_texts::srs_at;
 use crate::values::{bounds_at, natural, natural_at, offset_at, span_at};
 use crate::work::work_at;
-use serde_json::{Error, Value};
+use ept_json::document;
+use serde_json::Value;
 use std::alloc::Global;
 
 /// The keys of a configuration.
@@ -66,31 +67,6 @@ pub fn read_config(alloc: Global, bytes: &[u8]) -> Result<Config, ConfigError>
     }
     let value = document(alloc, bytes)?;
     read_value(alloc, &value)
-}
-
-// The value of a JSON text.
-#[tactic(auto, using(crate::proofs::Documents::document_read, crate::proofs::Documents::document_refused))]
-fn document(alloc: Global, bytes: &[u8]) -> Result<Value, ConfigError>
-    ensures ok { IfOk result (λ value. document bytes.now ≡ Some (view value)) }
-    ensures err { IfErr result (λ e. e ≢ ConfigError.Memory
-        → (e ≡ ConfigError.Json) × (document bytes.now ≡ None)) }
-{
-    match Value::from_slice(alloc, bytes) {
-        Ok(value) => Ok(value),
-        Err(e) => Err(cause_of(&e)),
-    }
-}
-
-// Why a text has no value.
-fn cause_of(e: &Error) -> ConfigError
-    ensures json { result ≢ ConfigError.Memory → result ≡ ConfigError.Json }
-    ensures memory { result ≢ ConfigError.Memory → ¬ IsMemory e.now }
-{
-    if e.is_memory() {
-        ConfigError::Memory
-    } else {
-        ConfigError::Json
-    }
 }
 
 fn has_known_keys(top: &Value) -> bool

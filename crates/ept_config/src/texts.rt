@@ -12,7 +12,7 @@ use hex::FromHex;
 /// Whether a text may be the path of an input: 1 to `MAX_PATH` bytes, none of them below 32 or 127.
 #[tactic(auto, unfolding(crate::specs::Texts::is_path))]
 pub fn is_path(text: &str) -> bool
-    ensures { result ≡ is_path text.now }
+    ensures path { result ≡ is_path text.now }
 {
     is_plain(text) && 1 <= text.len() && text.len() <= MAX_PATH
 }
@@ -21,7 +21,7 @@ pub fn is_path(text: &str) -> bool
 /// or 127.
 #[tactic(auto, unfolding(crate::specs::Texts::is_srs_text))]
 pub fn is_srs_text(text: &str) -> bool
-    ensures { result ≡ is_srs_text text.now }
+    ensures text { result ≡ is_srs_text text.now }
 {
     is_plain(text) && text.len() <= MAX_SRS_TEXT
 }

@@ -3,7 +3,5 @@ mod Levels
 mod Adding
 mod Steps
 mod AllNodes
-mod Ascending
 mod HierarchyLaws
-pub mod Documents
 mod Objects

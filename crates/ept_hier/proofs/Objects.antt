@@ -8,9 +8,12 @@ use Rattle.serde_json.specs.Data.{Data}
 use Rattle.serde_json.specs.Find.{as_object}
 use Rattle.serde_json.specs.View.{view, members_view}
 use Rattle.serde_json.specs.declared.value.Value.{Value}
+use Rattle.ept_json.specs.Document.{document}
+use Rattle.ept_json.specs.declared.json_error.JsonError.{JsonError}
+use Rattle.ept_json.specs.declared.json_error.JsonError.TheVariants as json
 use Rattle.ept_hier.specs.Hierarchy.{Entry}
-use Rattle.ept_hier.specs.Reading.{Member, member_list, members_in, document, IsEntryOf, RefusesMember, Refuses}
-use Rattle.ept_hier.specs.Objects.{member_at, RefusesMembers}
+use Rattle.ept_hier.specs.Reading.{Member, member_list, members_in, IsEntryOf, RefusesMember, Refuses}
+use Rattle.ept_hier.specs.Objects.{of_json, member_at, RefusesMembers}
 use Rattle.ept_hier.specs.declared.hier_error.HierError.{HierError}
 use Rattle.ept_hier.specs.declared.hier_error.HierError.TheVariants.{Json, Key, Count, Memory}
 
@@ -71,11 +74,9 @@ refuses-memory bytes Key is = absurd (cc)
 refuses-memory bytes Count is = absurd (cc)
 
 -- a text that is no object's
-pub refuses-json : (bytes : List ℕ) (error : HierError) → ((error ≡ Memory → ⊥) → (error ≡ Json) × (document bytes ≡ None)) → Refuses bytes error
-refuses-json bytes Memory h = tt
-refuses-json bytes Json h = members-unread bytes (h (λ e. cc)).1
-refuses-json bytes Key h = let e = (h (λ f. cc)).0 in absurd (cc)
-refuses-json bytes Count h = let e = (h (λ f. cc)).0 in absurd (cc)
+pub refuses-json : (bytes : List ℕ) (error : JsonError) → (error ≡ json.NoText → document bytes ≡ None) → Refuses bytes (of_json error)
+refuses-json bytes json.Memory h = tt
+refuses-json bytes json.NoText h = members-unread bytes (h refl)
 
 -- one more member says its entry
 pub said-next : {A : Type 0} (shows : A → String Global × Value) (front : List A) (x : A) (name : List ℕ) (entries new : List Entry) (e : Entry) → name ≡ string_bytes (shows x).0 → AllZip IsEntryOf (map member_at (map shows front)) entries → IsEntryOf (name, view (shows x).1) e → new ≡ entries ++ e ∷ [] → AllZip IsEntryOf (map member_at (map shows (front ++ x ∷ []))) new

@@ -1,13 +1,11 @@
--- What a hierarchy file is read as. `read` of `serde_json` is the value of a text: of a name that stands twice it keeps
--- the last value.
+-- What a hierarchy file is read as.
 use Rattle.std.specs.Prelude.{◌≡◌, ℕ, ℤ, negsuc, ⊤, List, [], ◌∷◌, ◌++◌, All, IsPermutation, if◌then◌else◌, Option, Some, None, option_map, option_and_then}
 use Rattle.std.specs.List.{AllZip}
 use Rattle.std.specs.List.Sorted.{IsSortedByKey}
 use Rattle.std.specs.Int.Signed.{lt_z}
-use Rattle.std.specs.Str.{is_utf8}
 use Rattle.serde_json.specs.Data.{Data, Members, no_members, member}
 use Rattle.serde_json.specs.Find.{as_number, as_i64, as_object}
-use Rattle.serde_json.specs.Read.{read}
+use Rattle.ept_json.specs.Document.{document}
 use Rattle.ept_space.specs.VoxelKey.{VoxelKey, IsKey, key_cmp}
 use Rattle.ept_space.specs.KeyText.{key_text}
 use Rattle.ept_hier.specs.Hierarchy.{Entry}
@@ -21,10 +19,6 @@ Member = List ℕ × Data
 abbrev pub member_list : Members → List Member
 member_list no_members = []
 member_list (member name value members) = (name, value) ∷ member_list members
-
--- the value that bytes are the text of
-unfoldable pub document : List ℕ → Option Data
-document bytes = if is_utf8 bytes then read bytes else None
 
 -- the members of the object that they are the text of
 unfoldable pub members_in : List ℕ → Option (List Member)

@@ -2,6 +2,7 @@
 
 ghost use Rattle.std.specs.Prelude.{◌≡◌};
 
+use ept_json::JsonError;
 use ept_point::Memory;
 use thiserror::Error;
 
@@ -21,6 +22,19 @@ pub enum HierError {
     /// Memory ran out.
     #[error("out of memory")]
     Memory,
+}
+
+impl From<JsonError> for HierError {
+    ghost use Rattle.ept_hier.specs.Objects.{of_json};
+
+    ghost from_gives = { λ error e. e ≡ of_json error };
+
+    fn from(error: JsonError) -> HierError {
+        match error {
+            JsonError::NoText => HierError::Json,
+            JsonError::Memory => HierError::Memory,
+        }
+    }
 }
 
 impl From<Memory> for HierError {

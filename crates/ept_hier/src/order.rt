@@ -9,10 +9,5 @@ use ept_space::Key;
 pub fn keys_ascend(nodes: &[(Key, u64)]) -> bool
     ensures ascend { IsTrue result ↔ KeysAscend nodes.now }
 {
-    for i in 1..nodes.len() {
-        if !nodes[i - 1].0.is_before(&nodes[i].0) {
-            return false;
-        }
-    }
-    true
+    nodes.is_sorted_by(|a, b| a.0 < b.0)
 }

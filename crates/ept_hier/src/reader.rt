@@ -3,17 +3,17 @@
 ghost use Rattle.std.specs.Prelude.{◌≡◌, ◌≢◌, ◌++◌, ◌∷◌, [], List, Some, None, map, IsPermutation, OnOk, OnErr, IfOk, IfErr};
 ghost use Rattle.std.specs.List.{AllZip};
 ghost use Rattle.std.specs.List.Sorted.{IsSortedByKey};
-ghost use Rattle.serde_json.specs.Errors.{IsMemory};
 ghost use Rattle.serde_json.specs.View.{view};
 ghost use Rattle.ept_space.specs.VoxelKey.{key_cmp};
 ghost use Rattle.ept_hier.specs.Hierarchy.{Entry};
-ghost use Rattle.ept_hier.specs.Reading.{IsEntryOf, Appends, RefusesMember, Refuses, document, number_in};
+ghost use Rattle.ept_hier.specs.Reading.{IsEntryOf, Appends, RefusesMember, Refuses, number_in};
 ghost use Rattle.ept_hier.specs.Objects.{member_at, RefusesMembers};
 
 use crate::hier_error::HierError;
+use ept_json::document;
 use ept_point::Memory;
 use ept_space::{Key, read_key};
-use serde_json::{Error, Map, Value};
+use serde_json::{Map, Value};
 use std::alloc::Global;
 
 /// Reads a hierarchy file and appends its entries in key order: a key and the number of the points of
@@ -39,30 +39,6 @@ pub fn read_hierarchy_file(
     let entries = entries_of(alloc, members)?;
     append_in_order(entries, out)?;
     Ok(())
-}
-
-// The value of a JSON text.
-#[tactic(auto, using(crate::proofs::Documents::document_read, crate::proofs::Documents::document_refused))]
-fn document(alloc: Global, bytes: &[u8]) -> Result<Value, HierError>
-    ensures ok { IfOk result (λ value. document bytes.now ≡ Some (view value)) }
-    ensures err { IfErr result (λ e. e ≢ HierError.Memory → (e ≡ HierError.Json) × (document bytes.now ≡ None)) }
-{
-    match Value::from_slice(alloc, bytes) {
-        Ok(value) => Ok(value),
-        Err(e) => Err(cause_of(&e)),
-    }
-}
-
-// Why a text has no value.
-fn cause_of(e: &Error) -> HierError
-    ensures json { result ≢ HierError.Memory → result ≡ HierError.Json }
-    ensures memory { result ≢ HierError.Memory → ¬ IsMemory e.now }
-{
-    if e.is_memory() {
-        HierError::Memory
-    } else {
-        HierError::Json
-    }
 }
 
 // The entries that the members say.

@@ -29,7 +29,7 @@ unfolding child
 before-child key octant = inl (omega arith)
 
 -- what `<` answers
-less-is_lt : (o : Ordering) → is_lt o ≡ true → o ≡ Less
+pub less-is_lt : (o : Ordering) → is_lt o ≡ true → o ≡ Less
 less-is_lt Less h = refl
 less-is_lt Equal h = cc
 less-is_lt Greater h = cc

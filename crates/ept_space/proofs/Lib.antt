@@ -8,3 +8,4 @@ pub mod Intervals
 pub mod KeyTexts
 pub mod Extents
 pub mod KeyOrder
+pub mod Ascending

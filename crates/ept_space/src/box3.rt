@@ -20,7 +20,7 @@ pub struct Box3 {
 /// The closed box of the places in the box of a key.
 pub fn node_box(cube: &Cube, key: &Key) -> Box3
     requires { key.now.depth ≤ cube.now.depth }
-    ensures { (place : Place) → IsIn result place ↔ InBox cube.now key.now place }
+    ensures places { (place : Place) → IsIn result place ↔ InBox cube.now key.now place }
 {
     let shift = u32::from(cube.e - key.depth);
     let x = Interval::of(cube.corner[0], key.x, shift);
@@ -34,7 +34,7 @@ pub fn node_box(cube: &Cube, key: &Key) -> Box3
 
 /// Whether some place is in both boxes.
 pub fn meets(a: &Box3, b: &Box3) -> bool
-    ensures { IsTrue result ↔ Meet a.now b.now }
+    ensures meet { IsTrue result ↔ Meet a.now b.now }
 {
     let x = overlaps(a.min[0], a.max[0], b.min[0], b.max[0]);
     let y = overlaps(a.min[1], a.max[1], b.min[1], b.max[1]);
@@ -44,7 +44,7 @@ pub fn meets(a: &Box3, b: &Box3) -> bool
 
 /// Whether the place is in the box.
 pub fn contains(a: &Box3, place: [i32; 3]) -> bool
-    ensures { IsTrue result ↔ IsIn a.now place }
+    ensures inside { IsTrue result ↔ IsIn a.now place }
 {
     let x = is_between(a.min[0], a.max[0], place[0]);
     let y = is_between(a.min[1], a.max[1], place[1]);

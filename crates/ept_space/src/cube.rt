@@ -41,17 +41,13 @@ impl Cube {
 
     /// The cube of the bounds: its corner is their minimum, e is the least number that is at least `s` and
     /// has 2^e greater than max - min on every axis, and the depth is the lesser of `max_depth` and e - s.
-    /// None where `s` is not 1 to 10, `max_depth` is above 32, or the bounds have no place.
-    pub fn of(bounds: &Bounds, s: u8, max_depth: u8) -> Option<Cube>
-        ensures exists { IsSome result ↔ HasCube bounds.now s max_depth }
-        ensures cube { IfSome result (IsCubeOf bounds.now s max_depth) }
-        ensures value { IfSome result (λ cube. cube ≡ cube_of bounds.now s max_depth) }
+    pub fn over(bounds: &Bounds, s: u8, max_depth: u8) -> Cube
+        requires { HasCube bounds.now s max_depth }
+        ensures cube { IsCubeOf bounds.now s max_depth result }
+        ensures value { result ≡ cube_of bounds.now s max_depth }
     {
-        if s < 1 || s > Cube::MAX_SPAN || max_depth > Cube::MAX_DEPTH || !has_place(bounds) {
-            return None;
-        }
         let e = s.max(extent_bits(bounds));
-        Some(Cube {
+        Cube {
             corner: [
                 i64::from(bounds.min[0]),
                 i64::from(bounds.min[1]),
@@ -60,7 +56,20 @@ impl Cube {
             e,
             s,
             depth: max_depth.min(e - s),
-        })
+        }
+    }
+
+    /// The cube of the bounds, as [`over`](Cube::over) says it. None where `s` is not 1 to 10, `max_depth`
+    /// is above 32, or the bounds have no place.
+    pub fn of(bounds: &Bounds, s: u8, max_depth: u8) -> Option<Cube>
+        ensures exists { IsSome result ↔ HasCube bounds.now s max_depth }
+        ensures cube { IfSome result (IsCubeOf bounds.now s max_depth) }
+        ensures value { IfSome result (λ cube. cube ≡ cube_of bounds.now s max_depth) }
+    {
+        if s < 1 || s > Cube::MAX_SPAN || max_depth > Cube::MAX_DEPTH || !has_place(bounds) {
+            return None;
+        }
+        Some(Cube::over(bounds, s, max_depth))
     }
 
     /// Tells a proof what each cube keeps.

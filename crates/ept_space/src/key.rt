@@ -43,7 +43,7 @@ impl Key {
 
     /// Whether the key stands before another in the order of keys: by depth, then x, y and z.
     pub fn is_before(&self, other: &Key) -> bool
-        ensures { IsTrue result ↔ IsBefore self.now other.now }
+        ensures before { IsTrue result ↔ IsBefore self.now other.now }
     {
         self < other
     }
@@ -60,7 +60,7 @@ impl Key {
 pub fn child(key: &Key, octant: u8) -> Key
     requires shallow { key.now.depth < 31 }
     requires one_of_eight { octant < 8 }
-    ensures { result ≡ child key.now octant }
+    ensures key { result ≡ child key.now octant }
 {
     Key {
         depth: key.depth + 1,

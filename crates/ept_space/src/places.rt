@@ -1,6 +1,6 @@
 //! Where a place lies: in which octant of a box, in which cell, and how far from the cell's centre.
 //!
-//! A build asks these some twenty times for each point, so each is a few shifts and no loop.
+//! A build asks these at each node that a point comes to, so each is a few shifts and no loop.
 
 ghost use Rattle.std.specs.Prelude.{◌≡◌, ℕ, ◌+◌, ◌-◌, ◌*◌, ◌/◌, ◌%◌, ◌^◌, ◌<◌, ◌≤◌};
 ghost use Rattle.std.specs.Int.{abs_diff};
@@ -29,7 +29,7 @@ pub fn octant(cube: &Cube, key: &Key, place: [i32; 3]) -> u8
 pub fn cell(cube: &Cube, depth: u8, place: [i32; 3]) -> [u32; 3]
     requires low { depth ≤ cube.now.depth }
     requires in_cube { InCube cube.now place }
-    ensures { result ≡ cell_at cube.now depth place }
+    ensures cell { result ≡ cell_at cube.now depth place }
 {
     let shift = u32::from(cube.e - depth - cube.s);
     let above = from_corner(cube, place);
@@ -45,7 +45,7 @@ pub fn cell(cube: &Cube, depth: u8, place: [i32; 3]) -> [u32; 3]
 pub fn centre_distance(cube: &Cube, depth: u8, place: [i32; 3]) -> u64
     requires low { depth ≤ cube.now.depth }
     requires in_cube { InCube cube.now place }
-    ensures { result ≡ distance_at cube.now depth place }
+    ensures distance { result ≡ distance_at cube.now depth place }
 {
     let shift = u32::from(cube.e - depth - cube.s);
     let above = from_corner(cube, place);

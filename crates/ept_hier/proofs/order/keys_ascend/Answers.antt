@@ -1,14 +1,13 @@
-use Rattle.std.proofs.Common.{refl, arith}
-use Rattle.std.proofs.lemmas.Bool.{false≢true}
-use Rattle.ept_hier.proofs.Ascending.{ascends-all, ascends-at}
+use Rattle.std.proofs.Common.{rules}
+use Rattle.std.proofs.lemmas.List.Sorted.{answers_always}
+use Rattle.std.specs.Ordering.{is_lt}
+use Rattle.ept_space.specs.VoxelKey.{key_cmp}
+use Rattle.ept_space.proofs.Ascending.{ascend-tested}
+use Rattle.ept_hier.specs.Hierarchy.{Node, KeysAscend}
 use Rattle.ept_hier.proofs.order.keys_ascend.Goals as goal
 
-pub returns-then-not-is_before : goal.returns-then-not-is_before
-returns-then-not-is_before c = record {
-  ascend = (λ h. absurd (false≢true h), λ up. c.if-not-is_before.ensures.1 (ascends-at c.args.nodes.now c.loop-i.i c.index-nodes-i.result c.index-nodes-i-in-loop-i.result (omega arith) (omega arith) up));
-}
-
 pub returns : goal.returns
+unfolding KeysAscend
 returns c = record {
-  ascend = (λ h. ascends-all c.args.nodes.now c.loop-i.i (omega arith) c.loop-i.invariant, λ up. refl);
+  ascend = ascend-tested (λ (n : Node). n.0) c.args.nodes.now c.is_sorted_by.result (c.is_sorted_by.ensures.cases (λ (a b : Node). is_lt (key_cmp a.0 b.0)) (answers_always _ _ _ (λ f a r g called. search rules)));
 }

@@ -1,4 +1,4 @@
-use Rattle.std.proofs.Common.{map}
+use Rattle.std.proofs.Common.{map, ap, Err}
 use Rattle.std.proofs.lemmas.Result.{err_from_is_err_and}
 use Rattle.serde_json.specs.View.{view}
 use Rattle.ept_hier.specs.Objects.{member_at}
@@ -8,15 +8,15 @@ use Rattle.ept_hier.proofs.reader.read_hierarchy_file.Goals as goal
 pub returns-in_err-value-clause-refused : goal.returns-in_err-value-clause-refused
 returns-in_err-value-clause-refused c =
     let p = err_from_is_err_and c.from_residual.result c.from_residual.ensures.1 in
-    rw (p.1, p.2) (refuses-json c.args.bytes.now c.in_err-value.field-0.0 c.in_err-value.ensures.err)
+    rw (p.1, p.2) (refuses-json c.args.bytes.now c.in_err-value.field-0.0 (λ e. c.in_err-value.ensures.no_text (ap Err e)))
 
 pub returns-in-None-clause-refused : goal.returns-in-None-clause-refused
-returns-in-None-clause-refused c = members-none c.args.bytes.now (view c.in_ok-value.value) c.in_ok-value.ensures.ok c.in-None.ensures
+returns-in-None-clause-refused c = members-none c.args.bytes.now (view c.in_ok-value.value) c.in_ok-value.ensures.value c.in-None.ensures
 
 pub returns-in_err-entries-clause-refused : goal.returns-in_err-entries-clause-refused
 returns-in_err-entries-clause-refused c =
     let p = err_from_is_err_and c.from_residual-in_err-entries.result c.from_residual-in_err-entries.ensures.1 in
-    rw (p.1, p.2) (refuses c.args.bytes.now (map member_at c.in-Some.members.now.entries) c.in_err-entries.field-0.0 (members-in c.args.bytes.now (view c.in_ok-value.value) c.in-Some.members.now.entries c.in_ok-value.ensures.ok c.in-Some.ensures) c.in_err-entries.ensures.refused)
+    rw (p.1, p.2) (refuses c.args.bytes.now (map member_at c.in-Some.members.now.entries) c.in_err-entries.field-0.0 (members-in c.args.bytes.now (view c.in_ok-value.value) c.in-Some.members.now.entries c.in_ok-value.ensures.value c.in-Some.ensures) c.in_err-entries.ensures.refused)
 
 pub returns-clause-ok : goal.returns-clause-ok
 returns-clause-ok c =
@@ -24,7 +24,7 @@ returns-clause-ok c =
       r.0,
       record {
         members = map member_at c.in-Some.members.now.entries;
-        object = members-in c.args.bytes.now (view c.in_ok-value.value) c.in-Some.members.now.entries c.in_ok-value.ensures.ok c.in-Some.ensures;
+        object = members-in c.args.bytes.now (view c.in_ok-value.value) c.in-Some.members.now.entries c.in_ok-value.ensures.value c.in-Some.ensures;
         said = c.in_ok-entries.entries.items;
         each = c.in_ok-entries.ensures.ok;
         same = r.1;

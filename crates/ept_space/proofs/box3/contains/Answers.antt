@@ -4,4 +4,4 @@ use Rattle.ept_space.proofs.box3.contains.Goals as goal
 
 pub returns : goal.returns
 returns c =
-    contains-code c.args.a.now c.args.place _ _ _ (read-between _ _ _ _ (search rules) (search rules) (search rules) c.is_between-x.ensures) (read-between _ _ _ _ (search rules) (search rules) (search rules) c.is_between-y.ensures) (read-between _ _ _ _ (search rules) (search rules) (search rules) c.is_between-z.ensures)
+    record { inside = contains-code c.args.a.now c.args.place _ _ _ (read-between _ _ _ _ (search rules) (search rules) (search rules) c.is_between-x.ensures) (read-between _ _ _ _ (search rules) (search rules) (search rules) c.is_between-y.ensures) (read-between _ _ _ _ (search rules) (search rules) (search rules) c.is_between-z.ensures) }

@@ -22,4 +22,4 @@ of-z-requires-clause-near c =
 
 pub returns : goal.returns
 returns c =
-    node_box-code _ _ _ _ _ c.from-shift.result c.cube.view_is c.key.view_is c.from-shift.ensures (read-interval c.of-x.result.least c.of-x.result.greatest _ _ _ (search rules) (search rules) c.cube.invariant.corner_x c.of-x.ensures) (read-interval c.of-y.result.least c.of-y.result.greatest _ _ _ (search rules) (search rules) c.cube.invariant.corner_y c.of-y.ensures) (read-interval c.of-z.result.least c.of-z.result.greatest _ _ _ (search rules) (search rules) c.cube.invariant.corner_z c.of-z.ensures)
+    record { places = node_box-code _ _ _ _ _ c.from-shift.result c.cube.view_is c.key.view_is c.from-shift.ensures (read-interval c.of-x.result.least c.of-x.result.greatest _ _ _ (search rules) (search rules) c.cube.invariant.corner_x c.of-x.ensures) (read-interval c.of-y.result.least c.of-y.result.greatest _ _ _ (search rules) (search rules) c.cube.invariant.corner_y c.of-y.ensures) (read-interval c.of-z.result.least c.of-z.result.greatest _ _ _ (search rules) (search rules) c.cube.invariant.corner_z c.of-z.ensures) }

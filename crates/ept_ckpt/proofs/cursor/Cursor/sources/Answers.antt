@@ -4,7 +4,8 @@ use Rattle.ept_ckpt.specs.declared.sources.Sources.{Sources}
 use Rattle.ept_ckpt.specs.Facts.{Source, source_facts, sources_of}
 use Rattle.std.specs.List.{All}
 use Rattle.std.proofs.lemmas.List.Elements.{All-push}
-use Rattle.ept_ckpt.specs.Valid.{IsCount}
+use Rattle.ept_config.specs.Counts.{IsCount}
+use Rattle.ept_ckpt.specs.Valid.{ExtentInRange}
 use Rattle.ept_ckpt.specs.Fields.{times}
 use Rattle.ept_ckpt.specs.Forms.{source_form}
 use Rattle.ept_ckpt.proofs.Counted.{after, none_read, one_more, one_refused, refused_reads}
@@ -21,6 +22,7 @@ loop-init c =
       same = search rules;
       scales = search rules;
       counted = search rules;
+      extents = search rules;
       inputs_read = search rules;
       counts_read = search rules;
     }
@@ -48,6 +50,10 @@ loop-preserved c =
       same = search rules;
       scales = search rules;
       counted = subst (All (IsCount c.args.bounds.now)) (sym count_pushed) (All-push (IsCount c.args.bounds.now) c.loop.counts.items c.in_ok-input.count c.loop.invariant.counted c.in_ok-input.ensures.count);
+      extents = subst (All ExtentInRange) (sym count_pushed) (All-push ExtentInRange c.loop.counts.items c.in_ok-input.count c.loop.invariant.extents c.in_ok-input.ensures.extent);
       inputs_read = search rules;
       counts_read = search rules;
     }
+
+pub returns-clause-extents : goal.returns-clause-extents
+returns-clause-extents c = subst (All ExtentInRange) (sym c.of-2.ensures) c.loop.invariant.extents

@@ -3,7 +3,8 @@ use Rattle.std.specs.List.{All}
 use Rattle.ept_ckpt.specs.Facts.{sources_of}
 use Rattle.ept_ckpt.specs.Fields.{times}
 use Rattle.ept_ckpt.specs.Forms.{source_form}
-use Rattle.ept_ckpt.specs.Valid.{IsCount}
+use Rattle.ept_config.specs.Counts.{IsCount}
+use Rattle.ept_ckpt.specs.Valid.{ExtentInRange}
 use Rattle.ept_ckpt.proofs.Counted.{after}
 use Rattle.ept_ckpt.proofs.cursor.Cursor.sources.Given as goal
 
@@ -15,6 +16,7 @@ invariant-loop l = record {
   same : l.self.total ≡ l.fn.self.total;
   scales : All (λ input. input.scale ≤ l.fn.scale) l.inputs.items;
   counted : All (IsCount l.fn.bounds) l.counts.items;
+  extents : All ExtentInRange l.counts.items;
   inputs_read : length l.inputs.items ≡ l.counter;
   counts_read : length l.counts.items ≡ l.counter;
 }

@@ -1,34 +1,6 @@
-use Rattle.std.proofs.Common.{FitsSigned, w32, rules, arith, refl, ap, sym, subst, ◌∙◌, max}
-use Rattle.ept_space.specs.Place.{coordinate}
-use Rattle.ept_space.specs.OctreeCube.{IsCube}
-use Rattle.ept_space.specs.CubeOfBounds.{IsCubeOf}
-use Rattle.ept_space.proofs.Extents.{cube_of-code, IsCube-cube_of, IsCubeOf-cube_of}
+use Rattle.std.proofs.Common.{arith, refl}
 use Rattle.ept_space.proofs.cube.Cube.of.Goals as goal
-
-pub invariant_of-result : goal.invariant_of-result
-invariant_of-result c =
-    let x_min : FitsSigned w32 (coordinate c.args.bounds.now.min 0) = search rules in
-    let y_min : FitsSigned w32 (coordinate c.args.bounds.now.min 1) = search rules in
-    let z_min : FitsSigned w32 (coordinate c.args.bounds.now.min 2) = search rules in
-    let same = cube_of-code c.args.bounds.now c.args.s c.args.max_depth _ _ _ _ _ (search rules) x_min y_min z_min c.from.ensures c.from-2.ensures c.from-3.ensures (c.max-e.ensures ∙ ap (λ n. max c.args.s n) c.extent_bits.ensures.value) c.min.ensures in
-    subst IsCube (sym same) (IsCube-cube_of c.args.bounds.now c.args.s c.args.max_depth (omega arith) (omega arith) x_min y_min z_min)
 
 pub returns-clause-exists : goal.returns-clause-exists
 returns-clause-exists c =
     ((λ _. record { span_low = omega arith; span_high = omega arith; shallow = omega arith; ordered = c.if-not-has_place.ensures.0 refl }), (λ _. refl))
-
-pub returns-clause-cube : goal.returns-clause-cube
-returns-clause-cube c =
-    let x_min : FitsSigned w32 (coordinate c.args.bounds.now.min 0) = search rules in
-    let y_min : FitsSigned w32 (coordinate c.args.bounds.now.min 1) = search rules in
-    let z_min : FitsSigned w32 (coordinate c.args.bounds.now.min 2) = search rules in
-    let same = cube_of-code c.args.bounds.now c.args.s c.args.max_depth _ _ _ _ _ (search rules) x_min y_min z_min c.from.ensures c.from-2.ensures c.from-3.ensures (c.max-e.ensures ∙ ap (λ n. max c.args.s n) c.extent_bits.ensures.value) c.min.ensures in
-    subst (IsCubeOf c.args.bounds.now c.args.s c.args.max_depth) (sym same) (IsCubeOf-cube_of c.args.bounds.now c.args.s c.args.max_depth (c.if-not-has_place.ensures.0 refl) c.extent_bits.ensures.in_word)
-
-pub returns-clause-value : goal.returns-clause-value
-returns-clause-value c =
-    let x_min : FitsSigned w32 (coordinate c.args.bounds.now.min 0) = search rules in
-    let y_min : FitsSigned w32 (coordinate c.args.bounds.now.min 1) = search rules in
-    let z_min : FitsSigned w32 (coordinate c.args.bounds.now.min 2) = search rules in
-    let same = cube_of-code c.args.bounds.now c.args.s c.args.max_depth _ _ _ _ _ (search rules) x_min y_min z_min c.from.ensures c.from-2.ensures c.from-3.ensures (c.max-e.ensures ∙ ap (λ n. max c.args.s n) c.extent_bits.ensures.value) c.min.ensures in
-    same

@@ -7,4 +7,4 @@ use Rattle.ept_space.proofs.key.Key.is_before.Goals as goal
 pub returns : goal.returns
 returns c =
     let less : c.lt.result ≡ is_lt (key_cmp c.args.self.now c.args.other.now) = search rules in
-    before-code c.lt.result c.args.self.now c.args.other.now less
+    record { before = before-code c.lt.result c.args.self.now c.args.other.now less }

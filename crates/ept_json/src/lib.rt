@@ -1,0 +1,10 @@
+//! JSON texts (RFC 8259) and their values.
+#![tactic(auto)]
+
+mod json_error;
+#[cfg(test)]
+mod tests;
+mod text;
+
+pub use json_error::JsonError;
+pub use text::document;
