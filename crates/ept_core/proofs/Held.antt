@@ -1,6 +1,5 @@
 -- The points that are held.
 use Rattle.std.proofs.Common.{inl, inr, List, ◌++◌, refl, sym, subst, arith}
-use Rattle.std.specs.List.{flat_map}
 use Rattle.std.proofs.lemmas.List.Sorted.{IsPermutation-sym}
 use Rattle.ept_point.specs.declared.point.Point.{Point}
 use Rattle.ept_space.specs.VoxelKey.{VoxelKey}
@@ -13,13 +12,10 @@ use Rattle.ept_sample.proofs.KeyOrder.{key_before}
 use Rattle.ept_sample.proofs.IdLaws.{count_by-append, HasDistinctIds-IsPermutation, IsMember-IsPermutation}
 use Rattle.ept_core.specs.declared.flight.Flight.{Flight}
 use Rattle.ept_core.specs.declared.node.Node.{Node}
+pub use Rattle.ept_core.specs.State.{flown}
 use Rattle.ept_core.specs.State.{State, Entry, keys_of, held, IsHeld}
 use Rattle.ept_core.specs.Law.{KeepsLaw}
 use Rattle.ept_core.proofs.NodeMap.{points_of, node_at-entry, node_at-member, in_key_order-rising}
-
--- the points of flights
-abbrev pub flown : List Flight → List Point
-flown flights = flat_map (λ (f : Flight). f.points) flights
 
 -- the first points of a list have distinct ids where all have
 pub HasDistinctIds-left : (xs ys : List Point) → HasDistinctIds (xs ++ ys) → HasDistinctIds xs

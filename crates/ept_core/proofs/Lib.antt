@@ -11,3 +11,4 @@ pub mod EffectLaws
 pub mod Lookups
 pub mod Arriving
 pub mod Runs
+pub mod Regrouping

@@ -1,5 +1,5 @@
 -- What holds of each core. Each statement stands on the contract of a function of `laws`.
-use Rattle.std.specs.Prelude.{◌≡◌, Bool, true, List, [], ◌++◌, map}
+use Rattle.std.specs.Prelude.{◌≡◌, ◌↔◌, Bool, true, List, [], ◌++◌, map}
 use Rattle.ept_point.specs.declared.point.Point.{Point}
 use Rattle.ept_space.specs.declared.cube.Rules.{Rules}
 use Rattle.ept_space.specs.VoxelKey.{VoxelKey}
@@ -9,6 +9,7 @@ use Rattle.ept_sample.specs.Nodes.{sampled}
 use Rattle.ept_core.specs.declared.event.Event.{Event}
 use Rattle.ept_core.specs.State.{State, IsHeld, tile_of}
 use Rattle.ept_core.specs.Law.{KeepsLaw}
+use Rattle.ept_core.specs.Flying.{FliesReordered, FliesAlike}
 use Rattle.ept_core.specs.Steps.{Step, Run, resumed, begun}
 
 -- each step keeps the law
@@ -41,3 +42,13 @@ LandedIsSampled =
 abbrev pub HeldKeysAreNodes : Type 0
 HeldKeysAreNodes =
     (rules : Rules) (points first between rest : List Point) (old new : State) (events : List Event) (key : VoxelKey) (p : Point) → KeepsLaw rules points old → Run rules old events new → IsHeld new key p → points ≡ first ++ rest → new.left ≡ between ++ rest → is_node rules first key ≡ true
+
+-- of two states that are the same but for the order of the flights, and of the points in each, both keep the law or neither
+abbrev pub OrderIsFree : Type 0
+OrderIsFree =
+    (rules : Rules) (points : List Point) (one other : State) → FliesReordered one other → KeepsLaw rules points one ↔ KeepsLaw rules points other
+
+-- and so of two states that are the same but for the flights in which the same points fly to the same nodes
+abbrev pub FlightsAreFree : Type 0
+FlightsAreFree =
+    (rules : Rules) (points : List Point) (one other : State) → FliesAlike one other → KeepsLaw rules points one ↔ KeepsLaw rules points other

@@ -1,6 +1,6 @@
 //! The laws of the core, each on the contract of a function that does nothing.
 
-ghost use Rattle.ept_core.specs.CoreLaws.{StepsKeepLaw, RunsKeepLaw, BeginningKeepsLaw, ResumedKeepsLaw, LandedIsSampled, HeldKeysAreNodes};
+ghost use Rattle.ept_core.specs.CoreLaws.{StepsKeepLaw, RunsKeepLaw, BeginningKeepsLaw, ResumedKeepsLaw, LandedIsSampled, HeldKeysAreNodes, OrderIsFree, FlightsAreFree};
 
 /// Each step, and so each list of events in whatever order, keeps the law.
 pub fn step_law()
@@ -22,4 +22,11 @@ pub fn landed_law()
 /// Each key at which points are held is one of the sampling.
 pub fn key_law()
     ensures { HeldKeysAreNodes }
+{}
+
+/// The order of the flights, and of the points within a flight, is free; so is who carries which
+/// points to a node, and how many fly together.
+pub fn flight_law()
+    ensures order { OrderIsFree }
+    ensures flights { FlightsAreFree }
 {}

@@ -40,7 +40,8 @@ use Rattle.ept_tree.specs.declared.arrival.Arrival.{Arrival}
 use Rattle.ept_tree.specs.Sending.{arrivals_to, sending}
 use Rattle.ept_tree.specs.Tree.{Branch, node_of, entry_of, tile_of, flight_of, state_of, AreNodes, IsTree, AreAtDepth}
 use Rattle.ept_tree.proofs.Branches.{branch, entry-some, entry-none, lookup-member, entries-set, entries-insert, own-set, own-insert, tiles-of}
-use Rattle.ept_tree.proofs.Regrouping.{CarryTheSame, regrouped, behind-others, one-each, whole, split, split-same, flights-append}
+use Rattle.ept_core.proofs.Regrouping.{CarryTheSame, regrouped}
+use Rattle.ept_tree.proofs.Regrouping.{behind-others, one-each, whole, split, split-same, flights-append}
 
 -- ---- the eight octants
 

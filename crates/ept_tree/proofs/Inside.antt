@@ -1,8 +1,8 @@
 -- Points that leave a node lie in the boxes of its children, whatever the ids.
-use Rattle.std.proofs.Common.{◌≡◌, ◌∙◌, ℕ, zero, suc, ◌+◌, ◌*◌, ◌<◌, ◌≤◌, Bool, true, false, not, ◌&&◌, T, inl, inr, List, [], ◌∷◌, ◌++◌, refl, sym, ap, subst, arith, length, cond}
-use Rattle.std.specs.Prelude.{ℤ, pos, ◌+ℤ◌, ◌≤ℤ◌, ◌<ℤ◌}
-use Rattle.std.specs.List.{flat_map, count_by}
-use Rattle.std.specs.Prelude.{All, IsTrue}
+use Rattle.std.proofs.Common.{◌≡◌, ◌∙◌, ℕ, zero, suc, ◌+◌, ◌*◌, ◌<◌, Bool, true, false, not, ◌&&◌, T, inl, inr, List, [], ◌∷◌, ◌++◌, refl, sym, ap, subst, arith, length, cond}
+use Rattle.std.specs.Prelude.{ℤ, pos, ◌+ℤ◌}
+use Rattle.std.specs.List.{count_by}
+use Rattle.std.specs.Prelude.{All}
 use Rattle.std.specs.Int.Signed.{le_z, lt_z, le_z_yes, lt_z_yes}
 use Rattle.ept_point.specs.declared.point.Point.{Point}
 use Rattle.ept_space.specs.declared.cube.Rules.{Rules}
@@ -14,7 +14,7 @@ use Rattle.ept_space.proofs.Family.{depth-child}
 use Rattle.ept_sample.specs.Place.{place}
 use Rattle.ept_sample.specs.Arrivals.{octant, all_octants}
 use Rattle.ept_sample.specs.Members.{IsMember}
-use Rattle.ept_sample.proofs.Members.{IsMember-left, IsMember-right, IsMember-append, all-member, All-members, member-flat_map}
+use Rattle.ept_sample.proofs.Members.{IsMember-left, IsMember-right, all-member, All-members, member-flat_map}
 use Rattle.ept_sample.proofs.IdLaws.{count_by-cons, count_by-member}
 use Rattle.ept_grid.specs.Outgoing.{Leaving, points_at, all_points}
 use Rattle.ept_grid.specs.Node as grid
@@ -24,7 +24,7 @@ use Rattle.ept_tree.specs.declared.arrival.Arrival.{Arrival}
 use Rattle.ept_tree.specs.Sending.{arrival_at, arrivals_to, sending}
 use Rattle.std.specs.BTreeMap.{is_at}
 use Rattle.std.specs.Map.{lookup}
-use Rattle.std.specs.Prelude.{OnOk, Result, Ok, Err, Option, Some}
+use Rattle.std.specs.Prelude.{OnOk, Result, Ok, Err, Some}
 use Rattle.ept_space.specs.VoxelKey.{key_cmp}
 use Rattle.ept_tree.specs.Tree.{Branch, AreNodes, IsPlaced, ArePlaced, GoDown}
 use Rattle.ept_tree.proofs.Branches.{branch, lookup-member}

@@ -1,6 +1,5 @@
 use Rattle.std.proofs.Common.{◌∙◌, List, ◌∷◌, ◌++◌, sym, ap, subst}
 use Rattle.std.specs.BTreeMap.{insert_entry}
-use Rattle.ept_point.specs.declared.point.Point.{Point}
 use Rattle.ept_space.specs.declared.cube.Rules.{Rules}
 use Rattle.ept_space.specs.VoxelKey.{VoxelKey, key_cmp}
 use Rattle.ept_space.specs.OctreeCube.{InBox}
