@@ -6,6 +6,7 @@ ghost use Rattle.ept_sample.specs.Place.{AllInCube};
 ghost use Rattle.ept_sample.specs.Ids.{HasDistinctIds};
 ghost use Rattle.ept_sample.specs.Nodes.{sampled};
 ghost use Rattle.ept_core.specs.State.{tile_of};
+ghost use Rattle.ept_core.specs.Law.{KeepsLaw};
 ghost use Rattle.ept_core.specs.Steps.{Step, Run, begun};
 ghost use Rattle.ept_core.specs.Refusals.{HasActor, Refuses, StopsAt};
 ghost use Rattle.ept_core.specs.Shown.{shown, rules_of, points_of, actors_of};
@@ -52,6 +53,13 @@ impl Core {
             nodes,
         };
         Ok(Core { machine })
+    }
+
+    /// Tells a proof the law, which each core keeps for its points.
+    pub fn known(&self)
+        ensures law { ∥ KeepsLaw (rules_of self.now) (points_of self.now) (shown self.now) ∥₁ }
+    {
+        let _machine = &self.machine;
     }
 
     /// Lets one event happen. After a refusal the core is unchanged.
