@@ -89,12 +89,12 @@ le_or_less (suc a) zero = inr (omega arith)
 le_or_less (suc a) (suc b) =
     elim (le_or_less a b) [ inl le ↦ inl (omega (arith, le)) | inr less ↦ inr (omega (arith, less)) ]
 
-module _ (rules : Rules) (points qs rest : List Point) (resident : Bool) (can : CanBeSampled rules points) (first : points ≡ qs ++ rest) where
+module _ (rules : Rules) (points qs rest : List Point) (resident : VoxelKey → Bool) (can : CanBeSampled rules points) (first : points ≡ qs ++ rest) where
   abbrev s : State
   s = resumed rules qs rest resident
 
   abbrev entry : VoxelKey → Entry
-  entry key = (key, resumed_node rules qs resident key)
+  entry key = (key, resumed_node rules qs (resident key) key)
 
   first_point : (p : Point) → IsMember p qs → IsMember p points
   first_point p m = subst (λ (w : List Point). IsMember p w) (sym first) (IsMember-left p qs rest m)
@@ -120,7 +120,7 @@ module _ (rules : Rules) (points qs rest : List Point) (resident : Bool) (can : 
 
   -- ---- what stands at a key
 
-  there : (k : VoxelKey) → is_node rules qs k ≡ true → node_at s.nodes k ≡ resumed_node rules qs resident k
+  there : (k : VoxelKey) → is_node rules qs k ≡ true → node_at s.nodes k ≡ resumed_node rules qs (resident k) k
   there k e =
       node_at-member s.nodes (entry k) rising (IsMember-map entry k (node_keys rules qs) (node_keys-IsMember rules qs k can.cube all_inside e))
 
@@ -133,7 +133,7 @@ module _ (rules : Rules) (points qs rest : List Point) (resident : Bool) (can : 
   points_at : (k : VoxelKey) → (node_at s.nodes k).points ≡ sampling rules qs k
   points_at k =
       elim (either (is_node rules qs k)) [
-        | inl e ↦ ap (λ (n : Node). n.points) (there k e) ∙ resumed_points rules qs resident k
+        | inl e ↦ ap (λ (n : Node). n.points) (there k e) ∙ resumed_points rules qs (resident k) k
         | inr e ↦
             ap (λ (n : Node). n.points) (nowhere k e)
             ∙ sym (nothing (sampling rules qs k) (λ p m. not_both (is_node rules qs k) (is_node-given rules qs k p (IsMember-sampling rules qs k p m).0) e))
@@ -142,7 +142,7 @@ module _ (rules : Rules) (points qs rest : List Point) (resident : Bool) (can : 
   open_to : (k : VoxelKey) (o : ℕ) → o < 8 → has_open (node_at s.nodes k) o ≡ is_node rules qs (child k o)
   open_to k o low =
       elim (either (is_node rules qs k)) [
-        | inl e ↦ ap (λ (n : Node). has_open n o) (there k e) ∙ resumed_open rules qs resident k o low
+        | inl e ↦ ap (λ (n : Node). has_open n o) (there k e) ∙ resumed_open rules qs (resident k) k o low
         | inr e ↦ ap (λ (n : Node). has_open n o) (nowhere k e) ∙ (blank_open o ∙ sym (no_child e))
       ]
     where
@@ -214,8 +214,8 @@ module _ (rules : Rules) (points qs rest : List Point) (resident : Bool) (can : 
       each : (keys : List VoxelKey) → flat_map (sampling rules qs) keys ≡ points_of (map entry keys)
       each [] = refl
       each (k ∷ keys) =
-          ap (λ (w : List Point). w ++ flat_map (sampling rules qs) keys) (sym (resumed_points rules qs resident k))
-          ∙ ap (λ (w : List Point). (resumed_node rules qs resident k).points ++ w) (each keys)
+          ap (λ (w : List Point). w ++ flat_map (sampling rules qs) keys) (sym (resumed_points rules qs (resident k) k))
+          ∙ ap (λ (w : List Point). (resumed_node rules qs (resident k) k).points ++ w) (each keys)
 
       tiles_points : flat_map (λ (t : Tile). t.points) (sampled rules qs) ≡ points_of s.nodes
       tiles_points =
@@ -282,5 +282,5 @@ module _ (rules : Rules) (points qs rest : List Point) (resident : Bool) (can : 
           let r = member-map entry e (node_keys rules qs) m in
           subst (λ (w : Entry). (w.0 ≡ root) ⊎ HasPoint w.1.points) r.2 (elim (node-cases rules qs r.0 (IsMember-node_keys rules qs r.0 r.1)) [
             | inl top ↦ inl top
-            | inr g ↦ inr (subst (λ (w : List Point). HasPoint w) (sym (resumed_points rules qs resident r.0)) (sampling-some rules qs r.0 g.0 g.1))
+            | inr g ↦ inr (subst (λ (w : List Point). HasPoint w) (sym (resumed_points rules qs (resident r.0) r.0)) (sampling-some rules qs r.0 g.0 g.1))
           ])
