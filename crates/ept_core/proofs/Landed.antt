@@ -1,5 +1,5 @@
 -- Where nothing flies, the nodes are the sampling of the points that were drawn.
-use Rattle.std.proofs.Common.{◌≡◌, ◌∙◌, ℕ, zero, suc, ◌≤◌, ◌<◌, true, false, ◌⊎◌, inl, inr, List, [], ◌∷◌, ◌++◌, map, refl, sym, ap, subst, arith, length}
+use Rattle.std.proofs.Common.{◌≡◌, ◌∙◌, ℕ, zero, suc, ◌≤◌, ◌<◌, true, false, ◌⊎◌, inl, inr, List, [], ◌∷◌, map, refl, sym, ap, subst, arith, length}
 use Rattle.std.proofs.lemmas.Bool.{false≢true}
 use Rattle.ept_point.specs.declared.point.Point.{Point}
 use Rattle.ept_space.specs.declared.cube.Rules.{Rules}
@@ -17,7 +17,7 @@ use Rattle.ept_sample.specs.Nodes.{node_keys, tile_at, sampled}
 use Rattle.ept_sample.specs.Members.{IsMember}
 use Rattle.ept_sample.proofs.Members.{IsMember-map, member-map, all-member, All-members}
 use Rattle.ept_sample.proofs.Choices.{either, is_false, not_both}
-use Rattle.ept_sample.proofs.IdLaws.{HasDistinctIds-IsPermutation, HasDistinctIds-IsRising, in_id_order-members, in_id_order-IsRising}
+use Rattle.ept_sample.proofs.IdLaws.{HasDistinctIds-IsRising, IsRising-IsAscending, HasDistinctIds-IsAscending, in_id_order-members, in_id_order-IsRising}
 use Rattle.ept_sample.proofs.ArrivalLaws.{loses-beaten, best, leaves-loses, leaves-open, overflows-depth, overflows-more}
 use Rattle.ept_sample.proofs.SamplingLaws.{given-top, given-leaves, given-IsMember, given-key_at, depth-side, is_node-root, is_node-given, node-cases, IsMember-sampling, sampling-IsMember, sampling-some, below_or_at, IsRising-given, IsRising-sampling}
 use Rattle.ept_sample.proofs.NodeLaws.{node_keys-is}
@@ -25,8 +25,8 @@ use Rattle.ept_core.specs.declared.flight.Flight.{Flight}
 use Rattle.ept_core.specs.declared.node.Node.{Node}
 use Rattle.ept_core.specs.State.{State, Entry, node_at, has_open, keys_of, IsHeld, tile_of}
 use Rattle.ept_core.specs.Law.{KeepsLaw}
-use Rattle.ept_core.proofs.NodeMap.{points_of, without, points_of-split, node_at-entry, node_at-member, has_node-key}
-use Rattle.ept_core.proofs.Held.{flown, HasDistinctIds-left, drawn-point, keys-rise, drawn-held, distinct-drawn, distinct-held}
+use Rattle.ept_core.proofs.NodeMap.{node_at-entry, node_at-member, has_node-key}
+use Rattle.ept_core.proofs.Held.{drawn-point, keys-rise, drawn-held, distinct-drawn}
 use Rattle.ept_core.proofs.Leaving.{open-cases, loses-more, IsMember-losers, losers-IsMember, distinct-losers}
 use Rattle.ept_core.proofs.Sampled.{length-among, open_overflows, below_leaves, given-below, held-given}
 use Rattle.ept_core.proofs.Resumed.{child-is_node, is_node-child}
@@ -74,8 +74,7 @@ module _ (rules : Rules) (points : List Point) (s : State) (law : KeepsLaw rules
       ]
 
   distinct_node : (k : VoxelKey) → HasDistinctIds (node_at s.nodes k).points
-  distinct_node k =
-      HasDistinctIds-left (node_at s.nodes k).points (points_of (without s.nodes k)) (HasDistinctIds-IsPermutation (points_of s.nodes) ((node_at s.nodes k).points ++ points_of (without s.nodes k)) (points_of-split s.nodes k) (HasDistinctIds-left (points_of s.nodes) (flown s.flights) (distinct-held rules points s law)))
+  distinct_node k = HasDistinctIds-IsAscending (node_at s.nodes k).points (law.tidy.points_in_order k)
 
   -- a closed octant does not overflow
   closed_fits : (a : VoxelKey) (o : ℕ) → SinksBelow a → o < 8 → a.depth < rules.cube.depth → has_open (node_at s.nodes a) o ≡ false → length (losers rules a.depth (given rules sunk a) o) ≤ rules.threshold
@@ -164,7 +163,7 @@ module _ (rules : Rules) (points : List Point) (s : State) (law : KeepsLaw rules
   pub node-sampling : (k : VoxelKey) → (node_at s.nodes k).points ≡ sampling rules sunk k
   node-sampling k =
       let up = IsRising-sampling rules sunk k (distinct-drawn rules points s law) in
-      sym (law.tidy.points_in_order k)
+      sym (in_id_order-IsRising (node_at s.nodes k).points (IsRising-IsAscending (node_at s.nodes k).points (law.tidy.points_in_order k)))
       ∙ (in_id_order-members (node_at s.nodes k).points (sampling rules sunk k) (distinct_node k) (HasDistinctIds-IsRising (sampling rules sunk k) up) (node_sampled k) (sampled_node k)
       ∙ in_id_order-IsRising (sampling rules sunk k) up)
 

@@ -5,6 +5,7 @@ use Rattle.std.specs.List.Sorted.{IsPermutation}
 use Rattle.std.proofs.lemmas.Bool.{false≢true}
 use Rattle.std.proofs.lemmas.List.{append-nil}
 use Rattle.ept_point.specs.declared.point.Point.{Point}
+use Rattle.ept_point.specs.Order.{IsAscending}
 use Rattle.ept_space.specs.declared.cube.Rules.{Rules}
 use Rattle.ept_space.specs.VoxelKey.{VoxelKey, root, child, is_within, is_below}
 use Rattle.ept_space.specs.OctreeCube.{InCube, key_at}
@@ -13,7 +14,7 @@ use Rattle.ept_space.proofs.Within.{is_below-deeper, is_below-within}
 use Rattle.ept_space.proofs.PlaceKeys.{octant_at-below, is_within-key_at, key_at-unique}
 use Rattle.ept_sample.specs.declared.tiles.Tile.{Tile}
 use Rattle.ept_sample.specs.Place.{place, AllInCube}
-use Rattle.ept_sample.specs.Ids.{HasDistinctIds, in_id_order}
+use Rattle.ept_sample.specs.Ids.{HasDistinctIds}
 use Rattle.ept_sample.specs.Arrivals.{loses, octant, losers, overflows, leaves, kept, none_open}
 use Rattle.ept_sample.specs.Sampling.{given, sampling, is_node}
 use Rattle.ept_sample.specs.SamplingLaws.{CanBeSampled}
@@ -21,9 +22,9 @@ use Rattle.ept_sample.specs.Nodes.{node_keys, tile_at, sampled}
 use Rattle.ept_sample.specs.Members.{IsMember}
 use Rattle.ept_sample.proofs.Members.{IsMember-left, IsMember-map, member-map, all-member, All-members}
 use Rattle.ept_sample.proofs.Ascending.{IsRising}
-use Rattle.ept_sample.proofs.KeyOrder.{key_before}
+use Rattle.ept_sample.proofs.KeyOrder.{key_before, AllPairs-IsRising}
 use Rattle.ept_sample.proofs.Choices.{either, not_both}
-use Rattle.ept_sample.proofs.IdLaws.{in_id_order-IsRising, HasDistinctIds-IsRising}
+use Rattle.ept_sample.proofs.IdLaws.{IsAscending-IsRising, HasDistinctIds-IsRising}
 use Rattle.ept_sample.proofs.ArrivalLaws.{leaves-loses, leaves-open, leaves-from, loses-kept, overflows-depth, overflows-more, IsMember-sent}
 use Rattle.ept_sample.proofs.SamplingLaws.{given-child, leaves-given, given-IsMember, given-depth, depth-side, given-key_at, given-InBox, is_node-root, is_node-given, node-cases, node-given, is_node-parent, IsMember-sampling, sampling-some, stays-somewhere, leaves-above, IsRising-given, IsRising-sampling}
 use Rattle.ept_sample.proofs.NodeLaws.{IsMember-node_keys, node_keys-IsMember, IsRising-node_keys, points-of, IsPermutation-sampled}
@@ -31,7 +32,7 @@ use Rattle.ept_core.specs.declared.node.Node.{Node}
 use Rattle.ept_core.specs.State.{State, Entry, blank, node_at, has_open, keys_of, held, IsHeld, IsHeldWithin}
 use Rattle.ept_core.specs.Law.{HoldsMore, HasPoint, KeepsLaw}
 use Rattle.ept_core.specs.Steps.{resumed_node, resumed}
-use Rattle.ept_core.proofs.NodeMap.{points_of, same_key-apart, node_at-member, node_at-absent, key-has_node, rising-in_key_order}
+use Rattle.ept_core.proofs.NodeMap.{points_of, same_key-apart, node_at-member, node_at-absent, key-has_node}
 use Rattle.ept_core.proofs.Held.{HasDistinctIds-left}
 use Rattle.ept_core.proofs.Leaving.{open-at, open-cases, over-open, fits-few, losers-kept, IsMember-losers, distinct-losers}
 
@@ -246,8 +247,8 @@ module _ (rules : Rules) (points qs rest : List Point) (resident : VoxelKey → 
     };
     tidy = record {
       has_points = some;
-      in_order = rising-in_key_order (keys_of s.nodes) rising;
-      points_in_order = λ k. subst (λ (w : List Point). in_id_order w ≡ w) (sym (points_at k)) (in_id_order-IsRising (sampling rules qs k) (IsRising-sampling rules qs k distinct));
+      in_order = AllPairs-IsRising (keys_of s.nodes) rising;
+      points_in_order = λ k. subst (λ (w : List Point). IsAscending w) (sym (points_at k)) (IsAscending-IsRising (sampling rules qs k) (IsRising-sampling rules qs k distinct));
     };
   }
     where

@@ -13,7 +13,7 @@ use Rattle.ept_sample.specs.Ids.{same_id, comes_before, HasDistinctIds, placed_b
 use Rattle.ept_sample.specs.Members.{IsMember}
 use Rattle.ept_sample.proofs.Members.{IsMember-contains, contains-IsMember}
 use Rattle.ept_sample.proofs.Ascending.{IsOrder, IsBeforeAll, IsRising, same_rising}
-use Rattle.ept_sample.proofs.Choices.{either, not_both, and_both}
+use Rattle.ept_sample.proofs.Choices.{either, not_both, and_left, and_right, and_both}
 
 -- ---- the order of ids
 
@@ -55,6 +55,17 @@ IsBefore-comes_before p q e = before-fact p.origin p.number q.origin q.number e
 
 pub same_id-self : (p : Point) → same_id p p ≡ true
 same_id-self p = and_both _ _ (eq-eqb p.origin p.origin refl) (eq-eqb p.number p.number refl)
+
+-- points with one id, as `ept_point` says it
+pub same_id-id : (p q : Point) → same_id p q ≡ true → id p ≡ id q
+same_id-id p q e = λ i. record { origin = same p.origin q.origin (and_left (p.origin == q.origin) (p.number == q.number) e) i; number = same p.number q.number (and_right (p.origin == q.origin) (p.number == q.number) e) i }
+  where
+    same : (a b : ℕ) → (a == b) ≡ true → a ≡ b
+    same a b e = grind (arith, nat_tests)
+
+pub id-same_id : (p q : Point) → id p ≡ id q → same_id p q ≡ true
+id-same_id p q e =
+    and_both _ _ (eq-eqb p.origin q.origin (ap (λ (i : PointId). i.origin) e)) (eq-eqb p.number q.number (ap (λ (i : PointId). i.number) e))
 
 pub same_id-sym : (p q : Point) → same_id p q ≡ true → same_id q p ≡ true
 same_id-sym p q e = ids (p.origin) p.number q.origin q.number e
@@ -297,12 +308,12 @@ IsAscending-AscendTo (p ∷ []) up k d h = absurd (omega arith)
 IsAscending-AscendTo (p ∷ q ∷ ps) up zero d h = up.0
 IsAscending-AscendTo (p ∷ q ∷ ps) up (suc k) d h = IsAscending-AscendTo (q ∷ ps) up.1 k d (omega arith)
 
-before_test : (p q : Point) → IsBefore (id p) (id q) → comes_before p q ≡ true
-before_test p q (inl less) = numbers p.origin p.number q.origin q.number less
+pub comes_before-IsBefore : (p q : Point) → IsBefore (id p) (id q) → comes_before p q ≡ true
+comes_before-IsBefore p q (inl less) = numbers p.origin p.number q.origin q.number less
   where
     numbers : (a b x y : ℕ) → a < x → (nat_lt a x || ((a == x) && nat_lt b y)) ≡ true
     numbers a b x y less = grind (arith, nat_tests)
-before_test p q (inr both) = numbers p.origin p.number q.origin q.number both.0 both.1
+comes_before-IsBefore p q (inr both) = numbers p.origin p.number q.origin q.number both.0 both.1
   where
     numbers : (a b x y : ℕ) → a ≡ x → b < y → (nat_lt a x || ((a == x) && nat_lt b y)) ≡ true
     numbers a b x y same less = grind (arith, nat_tests)
@@ -313,7 +324,7 @@ IsRising-IsAscending [] up = tt
 IsRising-IsAscending (p ∷ []) up = (λ q m. absurd m, tt)
 IsRising-IsAscending (p ∷ q ∷ ps) up =
     let more : IsRising comes_before (q ∷ ps) = IsRising-IsAscending (q ∷ ps) up.1 in
-    (before_placed p q ps (before_test p q up.0) more, more)
+    (before_placed p q ps (comes_before-IsBefore p q up.0) more, more)
 
 -- so they have distinct ids
 pub HasDistinctIds-IsAscending : (ps : List Point) → IsAscending ps → HasDistinctIds ps
