@@ -67,7 +67,7 @@ impl Machine {
 
     // Sets where the points of a node are kept.
     pub(crate) fn set_residence(&mut self, key: &Key, resident: bool)
-        requires { has_node self.old.nodes.entries key.now ≡ true }
+        requires node { has_node self.old.nodes.entries key.now ≡ true }
         ensures state { state_of self.new ≡ moved key.now resident (state_of self.old) }
         ensures rules { self.new.rules ≡ self.old.rules }
         ensures points { self.new.points ≡ self.old.points }
@@ -104,7 +104,7 @@ impl Machine {
     fn effect_of(&self, index: usize) -> Result<Effect, Memory>
         requires index { index < length self.now.flights.items }
         requires law { ∥ KeepsLaw self.now.rules self.now.points (state_of self.now) ∥₁ }
-        ensures { IfOk result (λ e. (f : Flight) → slice_index_or self.now.flights.items index f ≡ f → IsEffect self.now.rules self.now.nodes.entries f e) }
+        ensures effect { IfOk result (λ e. (f : Flight) → slice_index_or self.now.flights.items index f ≡ f → IsEffect self.now.rules self.now.nodes.entries f e) }
     {
         let flight = &self.flights[index];
         let (standing, was) = self.standing(&flight.key);
