@@ -39,7 +39,7 @@ pub(crate) fn add_flight(
     points: &[Point],
 ) -> Result<(), Memory>
     ensures ok { OnOk result (flights.new.items ≡ flights.old.items ++ flight_of actor key points.now) }
-    ensures err { OnErr result (flights.new.items ≡ flights.old.items) }
+    ensures unchanged { OnErr result (flights.new.items ≡ flights.old.items) }
 {
     if points.is_empty() {
         return Ok(());

@@ -67,7 +67,7 @@ impl Core {
         ensures ok { OnOk result (Step (rules_of self.old) (shown self.old) event (shown self.new)) }
         ensures actor { OnOk result (HasActor (actors_of self.old) event) }
         ensures refused { IfErr result (Refuses (shown self.old) (actors_of self.old) event) }
-        ensures err { OnErr result (shown self.new ≡ shown self.old) }
+        ensures unchanged { OnErr result (shown self.new ≡ shown self.old) }
         ensures rules { rules_of self.new ≡ rules_of self.old }
         ensures points { points_of self.new ≡ points_of self.old }
         ensures actors { actors_of self.new ≡ actors_of self.old }

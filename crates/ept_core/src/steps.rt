@@ -36,7 +36,7 @@ impl Machine {
     // The actor takes up to `count` of the points that are left.
     pub(crate) fn draw(&mut self, actor: u32, count: u32) -> Result<(), Memory>
         ensures ok { OnOk result (state_of self.new ≡ drawn actor count (state_of self.old)) }
-        ensures err { OnErr result (state_of self.new ≡ state_of self.old) }
+        ensures unchanged { OnErr result (state_of self.new ≡ state_of self.old) }
         ensures rules { self.new.rules ≡ self.old.rules }
         ensures points { self.new.points ≡ self.old.points }
         ensures actors { self.new.actors ≡ self.old.actors }
@@ -125,7 +125,7 @@ impl Machine {
         requires law { ∥ KeepsLaw self.old.rules self.old.points (state_of self.old) ∥₁ }
         ensures ok { OnOk result ((f : Flight) → slice_index_or self.old.flights.items index f ≡ f
             → state_of self.new ≡ arrived self.old.rules f (remove self.old.flights.items index) (state_of self.old)) }
-        ensures err { OnErr result (state_of self.new ≡ state_of self.old) }
+        ensures unchanged { OnErr result (state_of self.new ≡ state_of self.old) }
         ensures rules { self.new.rules ≡ self.old.rules }
         ensures points { self.new.points ≡ self.old.points }
         ensures actors { self.new.actors ≡ self.old.actors }
