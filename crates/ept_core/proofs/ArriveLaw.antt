@@ -4,6 +4,7 @@ use Rattle.std.specs.List.Sorted.{IsPermutation}
 use Rattle.std.proofs.lemmas.List.Concat.{flat_map-append}
 use Rattle.std.proofs.lemmas.List.Sorted.{IsPermutation-sym, IsPermutation-trans, IsPermutation-append_comm, IsPermutation-append_left, IsPermutation-append_right}
 use Rattle.ept_point.specs.declared.point.Point.{Point}
+use Rattle.ept_point.specs.Order.{IsAscending}
 use Rattle.ept_space.specs.declared.cube.Rules.{Rules}
 use Rattle.ept_space.specs.VoxelKey.{VoxelKey, root, same_key, child, is_within, is_below}
 use Rattle.ept_space.specs.OctreeCube.{InBox}
@@ -11,13 +12,14 @@ use Rattle.ept_space.proofs.Family.{parent-child, depth-child}
 use Rattle.ept_space.proofs.Within.{same_key-true, is_within-self, is_within-trans, is_within-child, depth-within, is_within-level, is_below-from, is_within-above}
 use Rattle.ept_space.proofs.PlaceKeys.{octant_at-below, InBox-child}
 use Rattle.ept_sample.specs.Place.{place}
-use Rattle.ept_sample.specs.Ids.{comes_before, HasDistinctIds, in_id_order}
+use Rattle.ept_sample.specs.Ids.{comes_before, HasDistinctIds}
 use Rattle.ept_sample.specs.Arrivals.{loses, octant, losers, overflows, is_open, leaves, kept, all_sent}
 use Rattle.ept_sample.specs.Members.{IsMember}
 use Rattle.ept_sample.proofs.Members.{IsMember-left, IsMember-right, IsMember-append}
 use Rattle.ept_sample.proofs.Choices.{either, not_both}
 use Rattle.ept_sample.proofs.Ascending.{IsRising}
-use Rattle.ept_sample.proofs.IdLaws.{HasDistinctIds-IsPermutation, IsMember-in_id_order, in_id_order-IsMember, IsPermutation-in_id_order, IsRising-in_id_order, in_id_order-IsRising}
+use Rattle.ept_sample.proofs.KeyOrder.{AllPairs-IsRising}
+use Rattle.ept_sample.proofs.IdLaws.{HasDistinctIds-IsPermutation, IsMember-in_id_order, in_id_order-IsMember, IsPermutation-in_id_order, IsRising-in_id_order, IsAscending-IsRising}
 use Rattle.ept_sample.proofs.ArrivalLaws.{best, leaves-loses, leaves-open, leaves-from, IsMember-sent, IsMember-stays, stays-IsMember, loses-kept, overflows-depth, overflows-more, IsRising-kept}
 use Rattle.ept_sample.proofs.SamplingLaws.{depth-side, below_or_at}
 use Rattle.ept_sample.proofs.Parts.{IsPermutation-parts}
@@ -26,7 +28,7 @@ use Rattle.ept_core.specs.declared.node.Node.{Node}
 use Rattle.ept_core.specs.State.{State, Entry, node_at, has_open, keys_of, held, IsHeld, IsHeldWithin, IsFlying}
 use Rattle.ept_core.specs.Law.{IsPlaced, HasPassed, HoldsMore, IsSettled, HasBottom, HasPoint, IsRooted, IsTidy, KeepsLaw}
 use Rattle.ept_core.specs.Steps.{gathered, node_after, flights_after, arrived}
-use Rattle.ept_core.proofs.NodeMap.{points_of, without, IsPermutation-past, points_of-split, points_of-with, node_at-here, node_at-other, same_key-self, rising-with, rising-in_key_order, has_node-with, IsMember-with}
+use Rattle.ept_core.proofs.NodeMap.{points_of, without, IsPermutation-past, points_of-split, points_of-with, node_at-here, node_at-other, same_key-self, rising-with, has_node-with, IsMember-with}
 use Rattle.ept_core.proofs.Held.{flown, HasDistinctIds-left, distinct-held, keys-rise}
 use Rattle.ept_core.proofs.Leaving.{was-open, open-cases, closed-fits, fits-few, losers-kept, loses-more, IsMember-losers, distinct-losers, node_after-points, node_after-open, flights-flown, IsMember-flights, sent-flies}
 
@@ -424,14 +426,14 @@ module _ (rules : Rules) (points : List Point) (s : State) (front : List Flight)
   unfolding gathered
   rising_given = IsRising-in_id_order (f.points ++ here.points) distinct_gathered
 
-  ordered_here : in_id_order put.points ≡ put.points
+  ordered_here : IsAscending put.points
   ordered_here =
-      subst (λ (w : List Point). in_id_order w ≡ w) (sym put_points) (in_id_order-IsRising (kept rules f.key.depth was given) (IsRising-kept rules f.key.depth was given rising_given))
+      subst (λ (w : List Point). IsAscending w) (sym put_points) (IsAscending-IsRising (kept rules f.key.depth was given) (IsRising-kept rules f.key.depth was given rising_given))
 
   tidy_after : IsTidy after
   tidy_after = record {
     has_points = some;
-    in_order = rising-in_key_order (keys_of after.nodes) (rising-with s.nodes f.key put (keys-rise rules points s law));
+    in_order = AllPairs-IsRising (keys_of after.nodes) (rising-with s.nodes f.key put (keys-rise rules points s law));
     points_in_order = ordered;
   }
     where
@@ -442,11 +444,11 @@ module _ (rules : Rules) (points : List Point) (s : State) (front : List Flight)
             | inr old ↦ law.tidy.has_points e old
           ]
 
-      ordered : (key : VoxelKey) → in_id_order (node_at after.nodes key).points ≡ (node_at after.nodes key).points
+      ordered : (key : VoxelKey) → IsAscending (node_at after.nodes key).points
       ordered key =
           elim (either (same_key f.key key)) [
-            | inl same ↦ subst (λ (n : Node). in_id_order n.points ≡ n.points) (sym (at_key key same)) ordered_here
-            | inr apart ↦ subst (λ (n : Node). in_id_order n.points ≡ n.points) (sym (elsewhere key apart)) (law.tidy.points_in_order key)
+            | inl same ↦ subst (λ (n : Node). IsAscending n.points) (sym (at_key key same)) ordered_here
+            | inr apart ↦ subst (λ (n : Node). IsAscending n.points) (sym (elsewhere key apart)) (law.tidy.points_in_order key)
           ]
 
   flown_after : flown after.flights ≡ (flown front ++ flown back) ++ all_sent rules f.key.depth was given

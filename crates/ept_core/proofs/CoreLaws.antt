@@ -1,5 +1,5 @@
 -- The laws of the core.
-use Rattle.std.proofs.Common.{◌≡◌, ◌∙◌, ℕ, Bool, true, false, inl, inr, List, [], ◌∷◌, ◌++◌, map, refl, sym, ap, subst, arith, append_assoc, Result, Ok, Err, OnOk, OnErr}
+use Rattle.std.proofs.Common.{◌≡◌, ◌∙◌, ◌<◌, ℕ, Bool, true, false, inl, inr, List, [], ◌∷◌, ◌++◌, map, refl, sym, ap, subst, arith, append_assoc, Result, Ok, Err, OnOk, OnErr}
 use Rattle.std.proofs.lemmas.List.{append_cancel_right, append-nil}
 use Rattle.ept_point.specs.declared.point.Point.{Point}
 use Rattle.ept_space.specs.declared.cube.Rules.{Rules}
@@ -17,19 +17,20 @@ use Rattle.ept_sample.proofs.Members.{IsMember-left, All-members}
 use Rattle.ept_sample.proofs.Choices.{either}
 use Rattle.ept_sample.proofs.SamplingLaws.{given-IsMember, is_node-root, node-cases, node-given, IsMember-sampling}
 use Rattle.ept_sample.proofs.NodeLaws.{node_keys-is}
+use Rattle.ept_core.specs.declared.flight.Flight.{Flight}
 use Rattle.ept_core.specs.declared.event.Event.{Event}
 use Rattle.ept_core.specs.declared.event.Event.TheVariants.{Draw, Arrive, Evict, Reload}
 use Rattle.ept_core.specs.declared.node.Node.{Node}
 use Rattle.ept_core.specs.declared.error.StepError.{StepError}
-use Rattle.ept_core.specs.State.{State, Entry, IsHeld, tile_of}
+use Rattle.ept_core.specs.State.{State, Entry, node_at, has_open, IsHeld, tile_of}
 use Rattle.ept_core.specs.Law.{KeepsLaw}
 use Rattle.ept_core.specs.Steps.{Step, Run, resumed_node, resumed, begun}
-use Rattle.ept_core.proofs.ArriveLaw.{arrive-keeps}
+use Rattle.ept_core.proofs.ArriveLaw.{distinct_gathered, arrive-keeps}
 use Rattle.ept_core.proofs.OtherSteps.{draw-keeps, move-keeps}
 use Rattle.ept_core.proofs.Held.{HasDistinctIds-left}
-use Rattle.ept_core.proofs.Sampled.{held-is_node}
-use Rattle.ept_core.proofs.Landed.{nodes-sampled}
-use Rattle.ept_core.proofs.Resumed.{resumed-keeps}
+use Rattle.ept_core.proofs.Sampled.{open_overflows, given-below, held-is_node}
+use Rattle.ept_core.proofs.Landed.{nodes-sampled, opens-to-node}
+use Rattle.ept_core.proofs.Resumed.{child-is_node, resumed-keeps}
 
 -- each step keeps the law
 pub step-keeps : (rules : Rules) (points : List Point) (old : State) (event : Event) (new : State) → KeepsLaw rules points old → Step rules old event new → KeepsLaw rules points new
@@ -94,28 +95,56 @@ empty_root rules = λ i. record {
   is_resident = true;
 }
 
-begun-resumed : (rules : Rules) (points : List Point) → CanBeSampled rules points → begun points ≡ resumed rules [] points true
+begun-resumed : (rules : Rules) (points : List Point) → CanBeSampled rules points → begun points ≡ resumed rules [] points (λ key. true)
 begun-resumed rules points can =
     ap (λ (n : Node). let s : State = record { left = points; flights = []; nodes = (root, n) ∷ [] } in s) (empty_root rules)
     ∙ ap (λ (keys : List VoxelKey). let s : State = record { left = points; flights = []; nodes = map (λ key. (let e : Entry = (key, resumed_node rules [] true key) in e)) keys } in s) (root_alone rules points can)
 
 pub begun-keeps : (rules : Rules) (points : List Point) → CanBeSampled rules points → KeepsLaw rules points (begun points)
 begun-keeps rules points can =
-    subst (λ (w : State). KeepsLaw rules points w) (sym (begun-resumed rules points can)) (resumed-keeps rules points [] points true can refl)
+    subst (λ (w : State). KeepsLaw rules points w) (sym (begun-resumed rules points can)) (resumed-keeps rules points [] points (λ key. true) can refl)
 
 -- ---- where nothing flies, and which keys hold points
+
+-- a flight stands between others
+member-split : (f : Flight) (flights : List Flight) → IsMember f flights → (front : List Flight) × (back : List Flight) × (flights ≡ front ++ f ∷ back)
+member-split f [] m = absurd m
+member-split f (g ∷ flights) (inl is) = ([], flights, ap (λ (w : Flight). w ∷ flights) is)
+member-split f (g ∷ flights) (inr m) =
+    let r = member-split f flights m in (g ∷ r.0, r.1, ap (λ (w : List Flight). g ∷ w) r.2)
 
 pub landed-sampled : (rules : Rules) (points first : List Point) (s : State) → KeepsLaw rules points s → s.flights ≡ [] → points ≡ first ++ s.left → map tile_of s.nodes ≡ sampled rules first
 landed-sampled rules points first s law landed e =
     let same : law.same_points.0 ≡ first = append_cancel_right law.same_points.0 first s.left (sym law.same_points.1.suffix ∙ e) in
     subst (λ (w : List Point). map tile_of s.nodes ≡ sampled rules w) same (nodes-sampled rules points s law landed)
 
-pub held-node : (rules : Rules) (points first between rest : List Point) (s : State) (key : VoxelKey) (p : Point) → KeepsLaw rules points s → IsHeld s key p → points ≡ first ++ rest → s.left ≡ between ++ rest → is_node rules first key ≡ true
-held-node rules points first between rest s key p law h e f =
-    let all : (law.same_points.0 ++ between) ++ rest ≡ first ++ rest = append_assoc law.same_points.0 between rest ∙ (ap (λ (w : List Point). law.same_points.0 ++ w) (sym f) ∙ (sym law.same_points.1.suffix ∙ e)) in
-    let same : law.same_points.0 ++ between ≡ first = append_cancel_right (law.same_points.0 ++ between) first rest all in
-    let once : HasDistinctIds first = HasDistinctIds-left first rest (subst (λ (w : List Point). HasDistinctIds w) e law.points_law.distinct) in
-    held-is_node rules points s law first once (λ q m. subst (λ (w : List Point). IsMember q w) same (IsMember-left q law.same_points.0 between m)) key p h
+pub landed-opens : (rules : Rules) (points first : List Point) (s : State) (key : VoxelKey) (o : ℕ) → KeepsLaw rules points s → s.flights ≡ [] → points ≡ first ++ s.left → o < 8 → has_open (node_at s.nodes key) o ≡ is_node rules first (child key o)
+landed-opens rules points first s key o law landed e low =
+    let same : law.same_points.0 ≡ first = append_cancel_right law.same_points.0 first s.left (sym law.same_points.1.suffix ∙ e) in
+    subst (λ (w : List Point). has_open (node_at s.nodes key) o ≡ is_node rules w (child key o)) same (opens-to-node rules points s law landed key o low)
+
+module _ (rules : Rules) (points first between rest : List Point) (s : State) (law : KeepsLaw rules points s) (e : points ≡ first ++ rest) (f : s.left ≡ between ++ rest) where
+  all_drawn : law.same_points.0 ++ between ≡ first
+  all_drawn =
+      let all : (law.same_points.0 ++ between) ++ rest ≡ first ++ rest = append_assoc law.same_points.0 between rest ∙ (ap (λ (w : List Point). law.same_points.0 ++ w) (sym f) ∙ (sym law.same_points.1.suffix ∙ e)) in
+      append_cancel_right (law.same_points.0 ++ between) first rest all
+
+  first_once : HasDistinctIds first
+  first_once = HasDistinctIds-left first rest (subst (λ (w : List Point). HasDistinctIds w) e law.points_law.distinct)
+
+  drawn_among : (q : Point) → IsMember q law.same_points.0 → IsMember q first
+  drawn_among q m = subst (λ (w : List Point). IsMember q w) all_drawn (IsMember-left q law.same_points.0 between m)
+
+  pub held-node : (key : VoxelKey) (p : Point) → IsHeld s key p → is_node rules first key ≡ true
+  held-node key p h = held-is_node rules points s law first first_once drawn_among key p h
+
+  pub open-node : (key : VoxelKey) (o : ℕ) → o < 8 → has_open (node_at s.nodes key) o ≡ true → is_node rules first (child key o) ≡ true
+  open-node key o low opened =
+      child-is_node rules first key o low (open_overflows rules points s law first first_once drawn_among key o (given-below rules points s law first first_once drawn_among key) low opened)
+
+pub distinct-flight : (rules : Rules) (points : List Point) (s : State) (f : Flight) → KeepsLaw rules points s → IsMember f s.flights → HasDistinctIds (f.points ++ (node_at s.nodes f.key).points)
+distinct-flight rules points s f law m =
+    let at = member-split f s.flights m in distinct_gathered rules points s at.0 f at.1 law at.2
 
 -- ---- the law of a core
 

@@ -1,6 +1,5 @@
 -- The points that are held.
 use Rattle.std.proofs.Common.{inl, inr, List, ◌++◌, refl, sym, subst, arith}
-use Rattle.std.specs.List.{flat_map}
 use Rattle.std.proofs.lemmas.List.Sorted.{IsPermutation-sym}
 use Rattle.ept_point.specs.declared.point.Point.{Point}
 use Rattle.ept_space.specs.VoxelKey.{VoxelKey}
@@ -9,17 +8,14 @@ use Rattle.ept_sample.specs.Ids.{same_id, HasDistinctIds}
 use Rattle.ept_sample.specs.Members.{IsMember}
 use Rattle.ept_sample.proofs.Members.{IsMember-left, IsMember-right, IsMember-append, IsMember-flat_map, member-flat_map}
 use Rattle.ept_sample.proofs.Ascending.{IsRising}
-use Rattle.ept_sample.proofs.KeyOrder.{key_before}
+use Rattle.ept_sample.proofs.KeyOrder.{key_before, IsRising-AllPairs}
 use Rattle.ept_sample.proofs.IdLaws.{count_by-append, HasDistinctIds-IsPermutation, IsMember-IsPermutation}
 use Rattle.ept_core.specs.declared.flight.Flight.{Flight}
 use Rattle.ept_core.specs.declared.node.Node.{Node}
+pub use Rattle.ept_core.specs.State.{flown}
 use Rattle.ept_core.specs.State.{State, Entry, keys_of, held, IsHeld}
 use Rattle.ept_core.specs.Law.{KeepsLaw}
-use Rattle.ept_core.proofs.NodeMap.{points_of, node_at-entry, node_at-member, in_key_order-rising}
-
--- the points of flights
-abbrev pub flown : List Flight → List Point
-flown flights = flat_map (λ (f : Flight). f.points) flights
+use Rattle.ept_core.proofs.NodeMap.{points_of, node_at-entry, node_at-member}
 
 -- the first points of a list have distinct ids where all have
 pub HasDistinctIds-left : (xs ys : List Point) → HasDistinctIds (xs ++ ys) → HasDistinctIds xs
@@ -58,7 +54,7 @@ module _ (rules : Rules) (points : List Point) (s : State) (law : KeepsLaw rules
   held-point k p h = drawn-point p (held-drawn k p h)
 
   pub keys-rise : IsRising key_before (keys_of s.nodes)
-  keys-rise = in_key_order-rising (keys_of s.nodes) law.tidy.in_order
+  keys-rise = IsRising-AllPairs (keys_of s.nodes) law.tidy.in_order
 
   -- each drawn point is held
   pub drawn-held : (p : Point) → IsMember p law.same_points.0 → (k : VoxelKey) × IsHeld s k p

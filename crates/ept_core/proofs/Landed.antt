@@ -1,9 +1,9 @@
 -- Where nothing flies, the nodes are the sampling of the points that were drawn.
-use Rattle.std.proofs.Common.{◌≡◌, ◌∙◌, ℕ, zero, suc, ◌≤◌, ◌<◌, true, false, ◌⊎◌, inl, inr, List, [], ◌∷◌, ◌++◌, map, refl, sym, ap, subst, arith, length}
+use Rattle.std.proofs.Common.{◌≡◌, ◌∙◌, ℕ, zero, suc, ◌≤◌, ◌<◌, true, false, ◌⊎◌, inl, inr, List, [], ◌∷◌, map, refl, sym, ap, subst, arith, length}
 use Rattle.std.proofs.lemmas.Bool.{false≢true}
 use Rattle.ept_point.specs.declared.point.Point.{Point}
 use Rattle.ept_space.specs.declared.cube.Rules.{Rules}
-use Rattle.ept_space.specs.VoxelKey.{VoxelKey, root, parent, is_within, is_below}
+use Rattle.ept_space.specs.VoxelKey.{VoxelKey, root, child, parent, is_within, is_below}
 use Rattle.ept_space.specs.OctreeCube.{InCube, key_at}
 use Rattle.ept_space.proofs.Family.{depth-parent}
 use Rattle.ept_space.proofs.Within.{depth-within, is_within-level, is_below-from, is_below-deeper}
@@ -11,13 +11,13 @@ use Rattle.ept_space.proofs.PlaceKeys.{octant_at-below, key_at-box, key_at-root,
 use Rattle.ept_sample.specs.declared.tiles.Tile.{Tile}
 use Rattle.ept_sample.specs.Place.{place}
 use Rattle.ept_sample.specs.Ids.{HasDistinctIds}
-use Rattle.ept_sample.specs.Arrivals.{loses, octant, losers, leaves, none_open}
+use Rattle.ept_sample.specs.Arrivals.{loses, octant, losers, overflows, leaves, none_open}
 use Rattle.ept_sample.specs.Sampling.{given, sampling, is_node}
 use Rattle.ept_sample.specs.Nodes.{node_keys, tile_at, sampled}
 use Rattle.ept_sample.specs.Members.{IsMember}
 use Rattle.ept_sample.proofs.Members.{IsMember-map, member-map, all-member, All-members}
-use Rattle.ept_sample.proofs.Choices.{either, not_both}
-use Rattle.ept_sample.proofs.IdLaws.{HasDistinctIds-IsPermutation, HasDistinctIds-IsRising, in_id_order-members, in_id_order-IsRising}
+use Rattle.ept_sample.proofs.Choices.{either, is_false, not_both}
+use Rattle.ept_sample.proofs.IdLaws.{HasDistinctIds-IsRising, IsRising-IsAscending, HasDistinctIds-IsAscending, in_id_order-members, in_id_order-IsRising}
 use Rattle.ept_sample.proofs.ArrivalLaws.{loses-beaten, best, leaves-loses, leaves-open, overflows-depth, overflows-more}
 use Rattle.ept_sample.proofs.SamplingLaws.{given-top, given-leaves, given-IsMember, given-key_at, depth-side, is_node-root, is_node-given, node-cases, IsMember-sampling, sampling-IsMember, sampling-some, below_or_at, IsRising-given, IsRising-sampling}
 use Rattle.ept_sample.proofs.NodeLaws.{node_keys-is}
@@ -25,10 +25,11 @@ use Rattle.ept_core.specs.declared.flight.Flight.{Flight}
 use Rattle.ept_core.specs.declared.node.Node.{Node}
 use Rattle.ept_core.specs.State.{State, Entry, node_at, has_open, keys_of, IsHeld, tile_of}
 use Rattle.ept_core.specs.Law.{KeepsLaw}
-use Rattle.ept_core.proofs.NodeMap.{points_of, without, points_of-split, node_at-entry, node_at-member, has_node-key}
-use Rattle.ept_core.proofs.Held.{flown, HasDistinctIds-left, drawn-point, keys-rise, drawn-held, distinct-drawn, distinct-held}
+use Rattle.ept_core.proofs.NodeMap.{node_at-entry, node_at-member, has_node-key}
+use Rattle.ept_core.proofs.Held.{drawn-point, keys-rise, drawn-held, distinct-drawn}
 use Rattle.ept_core.proofs.Leaving.{open-cases, loses-more, IsMember-losers, losers-IsMember, distinct-losers}
-use Rattle.ept_core.proofs.Sampled.{length-among, below_leaves, given-below, held-given}
+use Rattle.ept_core.proofs.Sampled.{length-among, open_overflows, below_leaves, given-below, held-given}
+use Rattle.ept_core.proofs.Resumed.{child-is_node, is_node-child}
 
 module _ (rules : Rules) (points : List Point) (s : State) (law : KeepsLaw rules points s) (landed : s.flights ≡ []) where
   abbrev sunk : List Point
@@ -73,8 +74,7 @@ module _ (rules : Rules) (points : List Point) (s : State) (law : KeepsLaw rules
       ]
 
   distinct_node : (k : VoxelKey) → HasDistinctIds (node_at s.nodes k).points
-  distinct_node k =
-      HasDistinctIds-left (node_at s.nodes k).points (points_of (without s.nodes k)) (HasDistinctIds-IsPermutation (points_of s.nodes) ((node_at s.nodes k).points ++ points_of (without s.nodes k)) (points_of-split s.nodes k) (HasDistinctIds-left (points_of s.nodes) (flown s.flights) (distinct-held rules points s law)))
+  distinct_node k = HasDistinctIds-IsAscending (node_at s.nodes k).points (law.tidy.points_in_order k)
 
   -- a closed octant does not overflow
   closed_fits : (a : VoxelKey) (o : ℕ) → SinksBelow a → o < 8 → a.depth < rules.cube.depth → has_open (node_at s.nodes a) o ≡ false → length (losers rules a.depth (given rules sunk a) o) ≤ rules.threshold
@@ -163,7 +163,7 @@ module _ (rules : Rules) (points : List Point) (s : State) (law : KeepsLaw rules
   pub node-sampling : (k : VoxelKey) → (node_at s.nodes k).points ≡ sampling rules sunk k
   node-sampling k =
       let up = IsRising-sampling rules sunk k (distinct-drawn rules points s law) in
-      sym (law.tidy.points_in_order k)
+      sym (in_id_order-IsRising (node_at s.nodes k).points (IsRising-IsAscending (node_at s.nodes k).points (law.tidy.points_in_order k)))
       ∙ (in_id_order-members (node_at s.nodes k).points (sampling rules sunk k) (distinct_node k) (HasDistinctIds-IsRising (sampling rules sunk k) up) (node_sampled k) (sampled_node k)
       ∙ in_id_order-IsRising (sampling rules sunk k) up)
 
@@ -203,3 +203,19 @@ module _ (rules : Rules) (points : List Point) (s : State) (law : KeepsLaw rules
   unfolding sampled
   nodes-sampled =
       tiles_step s.nodes (λ e m. m) ∙ ap (λ (keys : List VoxelKey). map (tile_at rules sunk) keys) keys-sampled
+
+  -- an octant is open where its child is one of them
+  pub opens-to-node : (k : VoxelKey) (o : ℕ) → o < 8 → has_open (node_at s.nodes k) o ≡ is_node rules sunk (child k o)
+  opens-to-node k o low =
+      elim (either (has_open (node_at s.nodes k) o)) [
+        | inl opened ↦
+            opened ∙ sym (child-is_node rules sunk k o low (open_overflows rules points s law sunk (distinct-drawn rules points s law) (λ q n. n) k o (given-below rules points s law sunk (distinct-drawn rules points s law) (λ q n. n) k) low opened))
+        | inr closed ↦ closed ∙ sym (is_false (is_node rules sunk (child k o)) (no_child closed))
+      ]
+    where
+      no_child : has_open (node_at s.nodes k) o ≡ false → is_node rules sunk (child k o) ≡ true → ⊥
+      no_child closed node =
+          let over : overflows rules k.depth (given rules sunk k) o ≡ true = is_node-child rules sunk k o low node in
+          let few = closed_fits k o (sinks k) low (overflows-depth rules k.depth (given rules sunk k) o over) closed in
+          let many = overflows-more rules k.depth (given rules sunk k) o over in
+          omega (arith, few, many)

@@ -1,7 +1,7 @@
 -- What points that arrive at a node do to it, and the flights that leave it.
 use Rattle.std.proofs.Common.{◌≡◌, ◌∙◌, ℕ, zero, suc, ◌≤◌, ◌<◌, Bool, true, false, cond, not, ◌&&◌, ◌||◌, ◌==◌, nat_lt, ◌⊎◌, inl, inr, List, [], ◌∷◌, ◌++◌, map, refl, sym, ap, subst, arith, filter, length, get_or, eq-eqb}
 use Rattle.std.specs.List.{flat_map}
-use Rattle.std.proofs.lemmas.Bool.{false≢true, lt-ltb}
+use Rattle.std.proofs.lemmas.Bool.{lt-ltb}
 use Rattle.std.proofs.lemmas.Bool.Decides.{nat_tests}
 use Rattle.std.proofs.lemmas.List.{append-nil}
 use Rattle.std.proofs.lemmas.List.Concat.{flat_map-append}
@@ -15,7 +15,8 @@ use Rattle.ept_sample.specs.Ids.{HasDistinctIds}
 use Rattle.ept_sample.specs.Arrivals.{loses, octant, losers, overflows, is_open, leaves, kept, sent, all_octants, all_sent}
 use Rattle.ept_sample.specs.Members.{IsMember}
 use Rattle.ept_sample.proofs.Members.{IsMember-filter, IsMember-kept, IsMember-flat_map, member-flat_map}
-use Rattle.ept_sample.proofs.Choices.{and_left, and_right, and_both}
+use Rattle.ept_sample.proofs.Choices.{and_left, and_right, and_both, or_cases, or_false, or_right}
+use Rattle.ept_sample.proofs.Octants.{octant-IsMember}
 use Rattle.ept_sample.proofs.IdLaws.{HasDistinctIds-filter}
 use Rattle.ept_sample.proofs.ArrivalLaws.{loses-beaten, beaten-loses, sent-IsMember, loses-kept, same_number}
 use Rattle.ept_core.specs.declared.flight.Flight.{Flight}
@@ -24,18 +25,6 @@ use Rattle.ept_core.specs.State.{has_open, IsFlying}
 use Rattle.ept_core.specs.Law.{HasPoint}
 use Rattle.ept_core.specs.Steps.{flight_of, node_after, flights_after}
 use Rattle.ept_core.proofs.Held.{flown}
-
-or_cases : (b c : Bool) → (b || c) ≡ true → (b ≡ true) ⊎ (c ≡ true)
-or_cases true c e = inl refl
-or_cases false c e = inr e
-
-or_right : (b c : Bool) → c ≡ true → (b || c) ≡ true
-or_right true c e = refl
-or_right false c e = e
-
-right_false : (b c : Bool) → (b || c) ≡ false → c ≡ false
-right_false true c e = absurd (false≢true (sym e))
-right_false false c e = e
 
 -- ---- what opens
 
@@ -49,7 +38,7 @@ open-cases rules depth was given o e = or_cases (was o) (overflows rules depth g
 
 pub closed-fits : (rules : Rules) (depth : ℕ) (was : ℕ → Bool) (given : List Point) (o : ℕ) → is_open rules depth was given o ≡ false → overflows rules depth given o ≡ false
 unfolding is_open
-closed-fits rules depth was given o e = right_false (was o) (overflows rules depth given o) e
+closed-fits rules depth was given o e = (or_false (was o) (overflows rules depth given o) e).1
 
 -- an octant above the greatest depth that does not overflow has few losers
 pub fits-few : (rules : Rules) (depth : ℕ) (given : List Point) (o : ℕ) → depth < rules.cube.depth → overflows rules depth given o ≡ false → length (losers rules depth given o) ≤ rules.threshold
@@ -159,17 +148,6 @@ flown-flights actor key part (o ∷ os) =
     ∙ (ap (λ (w : List Point). w ++ flown (flights_to actor key part os)) (flown-flight actor (child key o) (part o))
     ∙ ap (λ (w : List Point). part o ++ w) (flown-flights actor key part os))
 
-an_octant : (o : ℕ) → o < 8 → IsMember o all_octants
-an_octant zero small = inl refl
-an_octant (suc zero) small = inr (inl refl)
-an_octant (suc (suc zero)) small = inr (inr (inl refl))
-an_octant (suc (suc (suc zero))) small = inr (inr (inr (inl refl)))
-an_octant (suc (suc (suc (suc zero)))) small = inr (inr (inr (inr (inl refl))))
-an_octant (suc (suc (suc (suc (suc zero))))) small = inr (inr (inr (inr (inr (inl refl)))))
-an_octant (suc (suc (suc (suc (suc (suc zero)))))) small = inr (inr (inr (inr (inr (inr (inl refl))))))
-an_octant (suc (suc (suc (suc (suc (suc (suc zero))))))) small = inr (inr (inr (inr (inr (inr (inr (inl refl)))))))
-an_octant (suc (suc (suc (suc (suc (suc (suc (suc o)))))))) small = absurd (omega (arith, small))
-
 -- the flights that leave carry what is sent, octant by octant
 pub flights-flown : (actor : ℕ) (rules : Rules) (key : VoxelKey) (n : Node) (given : List Point) → flown (flights_after actor rules key n given) ≡ all_sent rules key.depth (has_open n) given
 unfolding flights_after
@@ -190,4 +168,4 @@ sent-flies actor rules key n given p m e =
     let o : ℕ = octant rules key.depth p in
     let small : octant rules key.depth p < 8 = octant_at-below rules.cube key.depth (place p) in
     let h = flying-there actor (child key (octant rules key.depth p)) (sent rules key.depth (has_open n) given (octant rules key.depth p)) p (sent-IsMember rules key.depth (has_open n) given p m e) in
-    (h.0, IsMember-flat_map (λ (w : ℕ). flight_of actor (child key w) (sent rules key.depth (has_open n) given w)) (octant rules key.depth p) h.0 all_octants (an_octant (octant rules key.depth p) small) h.1, h.2, h.3)
+    (h.0, IsMember-flat_map (λ (w : ℕ). flight_of actor (child key w) (sent rules key.depth (has_open n) given w)) (octant rules key.depth p) h.0 all_octants (octant-IsMember (octant rules key.depth p) small) h.1, h.2, h.3)

@@ -3,11 +3,12 @@ pub mod Held
 pub mod Leaving
 pub mod ArriveLaw
 pub mod OtherSteps
-pub mod Sampled
-pub mod Landed
-pub mod Resumed
+mod Sampled
+mod Landed
+mod Resumed
 pub mod CoreLaws
-pub mod EffectLaws
+mod EffectLaws
 pub mod Lookups
 pub mod Arriving
-pub mod Runs
+mod Runs
+pub mod Regrouping

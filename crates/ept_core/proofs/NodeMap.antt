@@ -9,12 +9,12 @@ use Rattle.std.proofs.lemmas.List.Sorted.{IsPermutation-refl, IsPermutation-tran
 use Rattle.ept_point.specs.declared.point.Point.{Point}
 use Rattle.ept_space.specs.VoxelKey.{VoxelKey, same_key, key_cmp}
 use Rattle.ept_space.proofs.Within.{same_key-true, same_key-same}
-use Rattle.ept_sample.specs.Nodes.{with_key, in_key_order}
+use Rattle.ept_sample.specs.Nodes.{with_key}
 use Rattle.ept_sample.specs.Members.{IsMember}
 use Rattle.ept_sample.proofs.Members.{member-any, any-member, IsMember-map, member-map}
-use Rattle.ept_sample.proofs.Ascending.{IsRising, IsBeforeAll, same_rising}
+use Rattle.ept_sample.proofs.Ascending.{IsRising, IsBeforeAll}
 use Rattle.ept_sample.proofs.Choices.{either, not_both}
-use Rattle.ept_sample.proofs.KeyOrder.{key_before, key_order, key-self, key-equal, with_key-put, IsRising-in_key_order, IsMember-in_key_order, in_key_order-IsMember}
+use Rattle.ept_sample.proofs.KeyOrder.{key_before, key_order, key-self, key-equal, with_key-put}
 use Rattle.ept_core.specs.declared.node.Node.{Node}
 use Rattle.ept_core.specs.State.{Entry, blank, node_at, has_node, keys_of}
 use Rattle.ept_core.specs.Steps.{with_node}
@@ -128,14 +128,6 @@ keys_of-with k n [] = refl
 keys_of-with k n (e ∷ es) = keys_step k n e es (key_cmp k e.0) (keys_of-with k n es)
 
 -- keys in key order, each once, rise, and rising keys are in key order
-pub in_key_order-rising : (keys : List VoxelKey) → in_key_order keys ≡ keys → IsRising key_before keys
-in_key_order-rising keys e =
-    subst (λ (w : List VoxelKey). IsRising key_before w) e (IsRising-in_key_order keys)
-
-pub rising-in_key_order : (keys : List VoxelKey) → IsRising key_before keys → in_key_order keys ≡ keys
-rising-in_key_order keys up =
-    same_rising key_before key_order (in_key_order keys) keys (IsRising-in_key_order keys) up (λ k m. in_key_order-IsMember k keys m) (λ k m. IsMember-in_key_order k keys m)
-
 pub rising-with : (nodes : List Entry) (k : VoxelKey) (n : Node) → IsRising key_before (keys_of nodes) → IsRising key_before (keys_of (with_node nodes k n))
 rising-with nodes k n up =
     subst (λ (w : List VoxelKey). IsRising key_before w) (sym (keys_of-with k n nodes)) ((with_key-put k (keys_of nodes)).3 up)

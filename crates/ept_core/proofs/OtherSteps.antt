@@ -5,13 +5,14 @@ use Rattle.std.proofs.lemmas.List.Concat.{flat_map-append}
 use Rattle.std.proofs.lemmas.List.{take-append-drop}
 use Rattle.std.proofs.lemmas.List.Sorted.{IsPermutation-sym, IsPermutation-trans, IsPermutation-append_left}
 use Rattle.ept_point.specs.declared.point.Point.{Point}
+use Rattle.ept_point.specs.Order.{IsAscending}
+use Rattle.ept_sample.proofs.KeyOrder.{AllPairs-IsRising}
 use Rattle.ept_space.specs.declared.cube.Rules.{Rules}
 use Rattle.ept_space.specs.VoxelKey.{VoxelKey, root, same_key, child, is_below}
 use Rattle.ept_space.specs.OctreeCube.{InCube, InBox}
 use Rattle.ept_space.proofs.Within.{same_key-true, is_below-deeper}
 use Rattle.ept_space.proofs.PlaceKeys.{InBox-root}
 use Rattle.ept_sample.specs.Place.{place}
-use Rattle.ept_sample.specs.Ids.{in_id_order}
 use Rattle.ept_sample.specs.Arrivals.{loses, octant, losers}
 use Rattle.ept_sample.specs.Members.{IsMember}
 use Rattle.ept_sample.proofs.Members.{IsMember-left, IsMember-right, IsMember-append, member-map, all-member}
@@ -21,7 +22,7 @@ use Rattle.ept_core.specs.declared.node.Node.{Node}
 use Rattle.ept_core.specs.State.{State, Entry, node_at, has_node, has_open, keys_of, held, IsHeld}
 use Rattle.ept_core.specs.Law.{HoldsMore, HasPoint, KeepsLaw}
 use Rattle.ept_core.specs.Steps.{flight_of, drawn, moved}
-use Rattle.ept_core.proofs.NodeMap.{points_of, without, points_of-split, points_of-with, node_at-member, node_at-here, node_at-other, rising-with, rising-in_key_order, has_node-with, has_node-key, IsMember-with}
+use Rattle.ept_core.proofs.NodeMap.{points_of, without, points_of-split, points_of-with, node_at-member, node_at-here, node_at-other, rising-with, has_node-with, has_node-key, IsMember-with}
 use Rattle.ept_core.proofs.Held.{flown, keys-rise}
 use Rattle.ept_core.proofs.Leaving.{IsMember-flight, flown-flight}
 
@@ -202,7 +203,7 @@ module _ (rules : Rules) (points : List Point) (s : State) (key : VoxelKey) (res
     rooted = record { has_root = has_node-with s.nodes key kept_as root law.rooted.has_root; flying = law.rooted.flying };
     tidy = record {
       has_points = some_moved;
-      in_order = rising-in_key_order (keys_of to.nodes) (rising-with s.nodes key kept_as (keys-rise rules points s law));
-      points_in_order = λ k. subst (λ (w : List Point). in_id_order w ≡ w) (sym (same_node_points k)) (law.tidy.points_in_order k);
+      in_order = AllPairs-IsRising (keys_of to.nodes) (rising-with s.nodes key kept_as (keys-rise rules points s law));
+      points_in_order = λ k. subst (λ (w : List Point). IsAscending w) (sym (same_node_points k)) (law.tidy.points_in_order k);
     };
   }

@@ -5,6 +5,7 @@ use Rattle.std.specs.List.Sorted.{IsPermutation}
 use Rattle.std.proofs.lemmas.Bool.{false≢true}
 use Rattle.std.proofs.lemmas.List.{append-nil}
 use Rattle.ept_point.specs.declared.point.Point.{Point}
+use Rattle.ept_point.specs.Order.{IsAscending}
 use Rattle.ept_space.specs.declared.cube.Rules.{Rules}
 use Rattle.ept_space.specs.VoxelKey.{VoxelKey, root, child, is_within, is_below}
 use Rattle.ept_space.specs.OctreeCube.{InCube, key_at}
@@ -13,7 +14,7 @@ use Rattle.ept_space.proofs.Within.{is_below-deeper, is_below-within}
 use Rattle.ept_space.proofs.PlaceKeys.{octant_at-below, is_within-key_at, key_at-unique}
 use Rattle.ept_sample.specs.declared.tiles.Tile.{Tile}
 use Rattle.ept_sample.specs.Place.{place, AllInCube}
-use Rattle.ept_sample.specs.Ids.{HasDistinctIds, in_id_order}
+use Rattle.ept_sample.specs.Ids.{HasDistinctIds}
 use Rattle.ept_sample.specs.Arrivals.{loses, octant, losers, overflows, leaves, kept, none_open}
 use Rattle.ept_sample.specs.Sampling.{given, sampling, is_node}
 use Rattle.ept_sample.specs.SamplingLaws.{CanBeSampled}
@@ -21,9 +22,9 @@ use Rattle.ept_sample.specs.Nodes.{node_keys, tile_at, sampled}
 use Rattle.ept_sample.specs.Members.{IsMember}
 use Rattle.ept_sample.proofs.Members.{IsMember-left, IsMember-map, member-map, all-member, All-members}
 use Rattle.ept_sample.proofs.Ascending.{IsRising}
-use Rattle.ept_sample.proofs.KeyOrder.{key_before}
+use Rattle.ept_sample.proofs.KeyOrder.{key_before, AllPairs-IsRising}
 use Rattle.ept_sample.proofs.Choices.{either, not_both}
-use Rattle.ept_sample.proofs.IdLaws.{in_id_order-IsRising, HasDistinctIds-IsRising}
+use Rattle.ept_sample.proofs.IdLaws.{IsAscending-IsRising, HasDistinctIds-IsRising}
 use Rattle.ept_sample.proofs.ArrivalLaws.{leaves-loses, leaves-open, leaves-from, loses-kept, overflows-depth, overflows-more, IsMember-sent}
 use Rattle.ept_sample.proofs.SamplingLaws.{given-child, leaves-given, given-IsMember, given-depth, depth-side, given-key_at, given-InBox, is_node-root, is_node-given, node-cases, node-given, is_node-parent, IsMember-sampling, sampling-some, stays-somewhere, leaves-above, IsRising-given, IsRising-sampling}
 use Rattle.ept_sample.proofs.NodeLaws.{IsMember-node_keys, node_keys-IsMember, IsRising-node_keys, points-of, IsPermutation-sampled}
@@ -31,7 +32,7 @@ use Rattle.ept_core.specs.declared.node.Node.{Node}
 use Rattle.ept_core.specs.State.{State, Entry, blank, node_at, has_open, keys_of, held, IsHeld, IsHeldWithin}
 use Rattle.ept_core.specs.Law.{HoldsMore, HasPoint, KeepsLaw}
 use Rattle.ept_core.specs.Steps.{resumed_node, resumed}
-use Rattle.ept_core.proofs.NodeMap.{points_of, same_key-apart, node_at-member, node_at-absent, key-has_node, rising-in_key_order}
+use Rattle.ept_core.proofs.NodeMap.{points_of, same_key-apart, node_at-member, node_at-absent, key-has_node}
 use Rattle.ept_core.proofs.Held.{HasDistinctIds-left}
 use Rattle.ept_core.proofs.Leaving.{open-at, open-cases, over-open, fits-few, losers-kept, IsMember-losers, distinct-losers}
 
@@ -89,12 +90,12 @@ le_or_less (suc a) zero = inr (omega arith)
 le_or_less (suc a) (suc b) =
     elim (le_or_less a b) [ inl le ↦ inl (omega (arith, le)) | inr less ↦ inr (omega (arith, less)) ]
 
-module _ (rules : Rules) (points qs rest : List Point) (resident : Bool) (can : CanBeSampled rules points) (first : points ≡ qs ++ rest) where
+module _ (rules : Rules) (points qs rest : List Point) (resident : VoxelKey → Bool) (can : CanBeSampled rules points) (first : points ≡ qs ++ rest) where
   abbrev s : State
   s = resumed rules qs rest resident
 
   abbrev entry : VoxelKey → Entry
-  entry key = (key, resumed_node rules qs resident key)
+  entry key = (key, resumed_node rules qs (resident key) key)
 
   first_point : (p : Point) → IsMember p qs → IsMember p points
   first_point p m = subst (λ (w : List Point). IsMember p w) (sym first) (IsMember-left p qs rest m)
@@ -120,7 +121,7 @@ module _ (rules : Rules) (points qs rest : List Point) (resident : Bool) (can : 
 
   -- ---- what stands at a key
 
-  there : (k : VoxelKey) → is_node rules qs k ≡ true → node_at s.nodes k ≡ resumed_node rules qs resident k
+  there : (k : VoxelKey) → is_node rules qs k ≡ true → node_at s.nodes k ≡ resumed_node rules qs (resident k) k
   there k e =
       node_at-member s.nodes (entry k) rising (IsMember-map entry k (node_keys rules qs) (node_keys-IsMember rules qs k can.cube all_inside e))
 
@@ -133,7 +134,7 @@ module _ (rules : Rules) (points qs rest : List Point) (resident : Bool) (can : 
   points_at : (k : VoxelKey) → (node_at s.nodes k).points ≡ sampling rules qs k
   points_at k =
       elim (either (is_node rules qs k)) [
-        | inl e ↦ ap (λ (n : Node). n.points) (there k e) ∙ resumed_points rules qs resident k
+        | inl e ↦ ap (λ (n : Node). n.points) (there k e) ∙ resumed_points rules qs (resident k) k
         | inr e ↦
             ap (λ (n : Node). n.points) (nowhere k e)
             ∙ sym (nothing (sampling rules qs k) (λ p m. not_both (is_node rules qs k) (is_node-given rules qs k p (IsMember-sampling rules qs k p m).0) e))
@@ -142,7 +143,7 @@ module _ (rules : Rules) (points qs rest : List Point) (resident : Bool) (can : 
   open_to : (k : VoxelKey) (o : ℕ) → o < 8 → has_open (node_at s.nodes k) o ≡ is_node rules qs (child k o)
   open_to k o low =
       elim (either (is_node rules qs k)) [
-        | inl e ↦ ap (λ (n : Node). has_open n o) (there k e) ∙ resumed_open rules qs resident k o low
+        | inl e ↦ ap (λ (n : Node). has_open n o) (there k e) ∙ resumed_open rules qs (resident k) k o low
         | inr e ↦ ap (λ (n : Node). has_open n o) (nowhere k e) ∙ (blank_open o ∙ sym (no_child e))
       ]
     where
@@ -214,8 +215,8 @@ module _ (rules : Rules) (points qs rest : List Point) (resident : Bool) (can : 
       each : (keys : List VoxelKey) → flat_map (sampling rules qs) keys ≡ points_of (map entry keys)
       each [] = refl
       each (k ∷ keys) =
-          ap (λ (w : List Point). w ++ flat_map (sampling rules qs) keys) (sym (resumed_points rules qs resident k))
-          ∙ ap (λ (w : List Point). (resumed_node rules qs resident k).points ++ w) (each keys)
+          ap (λ (w : List Point). w ++ flat_map (sampling rules qs) keys) (sym (resumed_points rules qs (resident k) k))
+          ∙ ap (λ (w : List Point). (resumed_node rules qs (resident k) k).points ++ w) (each keys)
 
       tiles_points : flat_map (λ (t : Tile). t.points) (sampled rules qs) ≡ points_of s.nodes
       tiles_points =
@@ -246,8 +247,8 @@ module _ (rules : Rules) (points qs rest : List Point) (resident : Bool) (can : 
     };
     tidy = record {
       has_points = some;
-      in_order = rising-in_key_order (keys_of s.nodes) rising;
-      points_in_order = λ k. subst (λ (w : List Point). in_id_order w ≡ w) (sym (points_at k)) (in_id_order-IsRising (sampling rules qs k) (IsRising-sampling rules qs k distinct));
+      in_order = AllPairs-IsRising (keys_of s.nodes) rising;
+      points_in_order = λ k. subst (λ (w : List Point). IsAscending w) (sym (points_at k)) (IsAscending-IsRising (sampling rules qs k) (IsRising-sampling rules qs k distinct));
     };
   }
     where
@@ -282,5 +283,5 @@ module _ (rules : Rules) (points qs rest : List Point) (resident : Bool) (can : 
           let r = member-map entry e (node_keys rules qs) m in
           subst (λ (w : Entry). (w.0 ≡ root) ⊎ HasPoint w.1.points) r.2 (elim (node-cases rules qs r.0 (IsMember-node_keys rules qs r.0 r.1)) [
             | inl top ↦ inl top
-            | inr g ↦ inr (subst (λ (w : List Point). HasPoint w) (sym (resumed_points rules qs resident r.0)) (sampling-some rules qs r.0 g.0 g.1))
+            | inr g ↦ inr (subst (λ (w : List Point). HasPoint w) (sym (resumed_points rules qs (resident r.0) r.0)) (sampling-some rules qs r.0 g.0 g.1))
           ])

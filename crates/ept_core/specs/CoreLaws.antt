@@ -1,14 +1,18 @@
 -- What holds of each core. Each statement stands on the contract of a function of `laws`.
-use Rattle.std.specs.Prelude.{◌≡◌, Bool, true, List, [], ◌++◌, map}
+use Rattle.std.specs.Prelude.{◌≡◌, ◌<◌, ◌↔◌, ℕ, Bool, true, List, [], ◌++◌, map}
 use Rattle.ept_point.specs.declared.point.Point.{Point}
 use Rattle.ept_space.specs.declared.cube.Rules.{Rules}
-use Rattle.ept_space.specs.VoxelKey.{VoxelKey}
+use Rattle.ept_space.specs.VoxelKey.{VoxelKey, child}
 use Rattle.ept_sample.specs.Sampling.{is_node}
 use Rattle.ept_sample.specs.SamplingLaws.{CanBeSampled}
 use Rattle.ept_sample.specs.Nodes.{sampled}
+use Rattle.ept_sample.specs.Ids.{HasDistinctIds}
+use Rattle.ept_sample.specs.Members.{IsMember}
+use Rattle.ept_core.specs.declared.flight.Flight.{Flight}
 use Rattle.ept_core.specs.declared.event.Event.{Event}
-use Rattle.ept_core.specs.State.{State, IsHeld, tile_of}
+use Rattle.ept_core.specs.State.{State, node_at, has_open, IsHeld, tile_of}
 use Rattle.ept_core.specs.Law.{KeepsLaw}
+use Rattle.ept_core.specs.Flying.{FliesReordered, FliesAlike}
 use Rattle.ept_core.specs.Steps.{Step, Run, resumed, begun}
 
 -- each step keeps the law
@@ -26,18 +30,43 @@ abbrev pub BeginningKeepsLaw : Type 0
 BeginningKeepsLaw =
     (rules : Rules) (points : List Point) → CanBeSampled rules points → KeepsLaw rules points (begun points)
 
--- and so does the sampling of the first points, with the others left, wherever its nodes' points are kept
+-- and so does the sampling of the first points, with the others left, whichever of its nodes are resident
 abbrev pub ResumedKeepsLaw : Type 0
 ResumedKeepsLaw =
-    (rules : Rules) (points first rest : List Point) (resident : Bool) → CanBeSampled rules points → points ≡ first ++ rest → KeepsLaw rules points (resumed rules first rest resident)
+    (rules : Rules) (points first rest : List Point) (resident : VoxelKey → Bool) → CanBeSampled rules points → points ≡ first ++ rest → KeepsLaw rules points (resumed rules first rest resident)
 
 -- where nothing is in flight, the nodes are the sampling of the points that were drawn
 abbrev pub LandedIsSampled : Type 0
 LandedIsSampled =
     (rules : Rules) (points first : List Point) (s : State) → KeepsLaw rules points s → s.flights ≡ [] → points ≡ first ++ s.left → map tile_of s.nodes ≡ sampled rules first
 
+-- and an octant of a node is open where its child is one of these nodes, and not elsewhere
+abbrev pub LandedOpensToNodes : Type 0
+LandedOpensToNodes =
+    (rules : Rules) (points first : List Point) (s : State) (key : VoxelKey) (o : ℕ) → KeepsLaw rules points s → s.flights ≡ [] → points ≡ first ++ s.left → o < 8 → has_open (node_at s.nodes key) o ≡ is_node rules first (child key o)
+
 -- whatever events lead to a state, a key at which it holds a point is one of the sampling of any first points that
 -- have all the points drawn
 abbrev pub HeldKeysAreNodes : Type 0
 HeldKeysAreNodes =
     (rules : Rules) (points first between rest : List Point) (old new : State) (events : List Event) (key : VoxelKey) (p : Point) → KeepsLaw rules points old → Run rules old events new → IsHeld new key p → points ≡ first ++ rest → new.left ≡ between ++ rest → is_node rules first key ≡ true
+
+-- and so is the child of an open octant
+abbrev pub OpenChildrenAreNodes : Type 0
+OpenChildrenAreNodes =
+    (rules : Rules) (points first between rest : List Point) (s : State) (key : VoxelKey) (o : ℕ) → KeepsLaw rules points s → o < 8 → has_open (node_at s.nodes key) o ≡ true → points ≡ first ++ rest → s.left ≡ between ++ rest → is_node rules first (child key o) ≡ true
+
+-- the points of a flight and those of its node have different ids
+abbrev pub ArrivalsHaveDistinctIds : Type 0
+ArrivalsHaveDistinctIds =
+    (rules : Rules) (points : List Point) (s : State) (f : Flight) → KeepsLaw rules points s → IsMember f s.flights → HasDistinctIds (f.points ++ (node_at s.nodes f.key).points)
+
+-- of two states that are the same but for the order of the flights, and of the points in each, both keep the law or neither
+abbrev pub OrderIsFree : Type 0
+OrderIsFree =
+    (rules : Rules) (points : List Point) (one other : State) → FliesReordered one other → KeepsLaw rules points one ↔ KeepsLaw rules points other
+
+-- and so of two states that are the same but for the flights in which the same points fly to the same nodes
+abbrev pub FlightsAreFree : Type 0
+FlightsAreFree =
+    (rules : Rules) (points : List Point) (one other : State) → FliesAlike one other → KeepsLaw rules points one ↔ KeepsLaw rules points other

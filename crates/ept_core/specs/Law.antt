@@ -3,13 +3,14 @@ use Rattle.std.specs.Prelude.{◌≡◌, ◌≤◌, ◌<◌, ℕ, true, false, �
 use Rattle.std.specs.List.Sorted.{IsPermutation}
 use Rattle.std.specs.Prelude.{◌++◌}
 use Rattle.ept_point.specs.declared.point.Point.{Point}
+use Rattle.ept_point.specs.Order.{IsAscending}
 use Rattle.ept_space.specs.declared.cube.Rules.{Rules}
 use Rattle.ept_space.specs.VoxelKey.{VoxelKey, root, child, is_below}
 use Rattle.ept_space.specs.OctreeCube.{InBox}
 use Rattle.ept_sample.specs.Place.{place}
-use Rattle.ept_sample.specs.Ids.{HasDistinctIds, in_id_order}
+use Rattle.ept_sample.specs.Ids.{HasDistinctIds}
 use Rattle.ept_sample.specs.Arrivals.{loses, losers, octant}
-use Rattle.ept_sample.specs.Nodes.{in_key_order}
+use Rattle.ept_sample.specs.Nodes.{AreAscending}
 use Rattle.ept_sample.specs.SamplingLaws.{CanBeSampled}
 use Rattle.ept_sample.specs.Members.{IsMember}
 use Rattle.ept_core.specs.declared.flight.Flight.{Flight}
@@ -56,11 +57,11 @@ pub record IsRooted (s : State) : Type 0 where
   pub has_root : has_node s.nodes root ≡ true
   pub flying : (f : Flight) → IsMember f s.flights → HasPoint f.points
 
--- no node but the root is empty; the nodes stand in key order, each key once, and their points in id order
+-- no node but the root is empty; the keys of the nodes ascend, and so do the ids of the points of each
 pub record IsTidy (s : State) : Type 0 where
   pub has_points : (e : Entry) → IsMember e s.nodes → (e.0 ≡ root) ⊎ HasPoint e.1.points
-  pub in_order : in_key_order (keys_of s.nodes) ≡ keys_of s.nodes
-  pub points_in_order : (key : VoxelKey) → in_id_order (node_at s.nodes key).points ≡ (node_at s.nodes key).points
+  pub in_order : AreAscending (keys_of s.nodes)
+  pub points_in_order : (key : VoxelKey) → IsAscending (node_at s.nodes key).points
 
 -- the state keeps the law for the points
 pub record KeepsLaw (rules : Rules) (points : List Point) (s : State) : Type 0 where

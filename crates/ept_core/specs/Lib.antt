@@ -1,6 +1,7 @@
 pub mod State
 pub mod Law
 pub mod Steps
+pub mod Flying
 pub mod CoreLaws
 pub mod Effects
 pub mod Machine

@@ -51,9 +51,13 @@ IsHeld s key p = IsMember p (node_at s.nodes key).points ⊎ IsFlying s.flights 
 abbrev pub IsHeldWithin : State → VoxelKey → Point → Type 0
 IsHeldWithin s top p = (key : VoxelKey) × (is_within top key ≡ true) × IsHeld s key p
 
+-- the points on their way
+abbrev pub flown : List Flight → List Point
+flown flights = flat_map (λ (f : Flight). f.points) flights
+
 -- all points that are held
 abbrev pub held : State → List Point
-held s = flat_map (λ (e : Entry). e.1.points) s.nodes ++ flat_map (λ (f : Flight). f.points) s.flights
+held s = flat_map (λ (e : Entry). e.1.points) s.nodes ++ flown s.flights
 
 -- the node as a tile
 abbrev pub tile_of : Entry → Tile

@@ -106,12 +106,12 @@ resumed_node rules points resident key = record {
   is_resident = resident;
 }
 
--- the sampling of some points as nodes, the others left, and nothing in flight
-abbrev pub resumed : Rules → List Point → List Point → Bool → State
+-- the sampling of some points as nodes, each resident or spilled, the others left, and nothing in flight
+abbrev pub resumed : Rules → List Point → List Point → (VoxelKey → Bool) → State
 resumed rules points left resident = record {
   left = left;
   flights = [];
-  nodes = map (λ key. (key, resumed_node rules points resident key)) (node_keys rules points);
+  nodes = map (λ key. (key, resumed_node rules points (resident key) key)) (node_keys rules points);
 }
 
 -- no point drawn: the root is there, resident and empty

@@ -22,8 +22,8 @@ pub(crate) fn gather(
     arriving: &[Point],
     standing: &[Point],
 ) -> Result<Vec<Point>, Memory>
-    requires { HasDistinctIds (arriving.now ++ standing.now) }
-    ensures { IfOk result (λ v. v.items ≡ in_id_order (arriving.now ++ standing.now)) }
+    requires distinct { HasDistinctIds (arriving.now ++ standing.now) }
+    ensures gathered { IfOk result (λ v. v.items ≡ in_id_order (arriving.now ++ standing.now)) }
 {
     let mut given = Vec::from_slice(alloc, arriving)?;
     given.extend_from_slice(standing)?;
@@ -39,7 +39,7 @@ pub(crate) fn add_flight(
     points: &[Point],
 ) -> Result<(), Memory>
     ensures ok { OnOk result (flights.new.items ≡ flights.old.items ++ flight_of actor key points.now) }
-    ensures err { OnErr result (flights.new.items ≡ flights.old.items) }
+    ensures unchanged { OnErr result (flights.new.items ≡ flights.old.items) }
 {
     if points.is_empty() {
         return Ok(());
@@ -62,7 +62,7 @@ fn send(
     requires inside { AllInBox rules.now.cube key.now losers.now }
     requires bottom { is_open ≡ true → key.now.depth < rules.now.cube.depth }
     requires one_of_eight { which < OCTANTS }
-    ensures { IfOk result (λ v. v.items
+    ensures sent { IfOk result (λ v. v.items
         ≡ flight_of actor (child key.now which) (part_of rules.now key.now.depth losers.now is_open which)) }
 {
     let mut flights = Vec::new(alloc);
@@ -90,7 +90,7 @@ pub(crate) fn sending(
 ) -> Result<Vec<Flight>, Memory>
     requires inside { AllInBox rules.now.cube key.now losers.now }
     requires bottom { (o : ℕ) → o < OCTANTS → slice_index_or opened.now o false ≡ true → key.now.depth < rules.now.cube.depth }
-    ensures { IfOk result (λ v. v.items ≡ flights_below actor rules.now key.now losers.now opened.now OCTANTS) }
+    ensures sent { IfOk result (λ v. v.items ≡ flights_below actor rules.now key.now losers.now opened.now OCTANTS) }
 {
     let mut flights = Vec::new(alloc);
     for which in 0..OCTANTS {
@@ -120,7 +120,7 @@ pub(crate) fn effect_on(
     requires inside { AllInBox rules.now.cube key.now given.now }
     requires in_cube { AllInCube rules.now.cube given.now }
     requires bottom { (o : ℕ) → o < OCTANTS → slice_index_or was.now o false ≡ true → key.now.depth < rules.now.cube.depth }
-    ensures { IfOk result (λ e. (n : Node) → ((o : ℕ) → o < 8 → has_open n o ≡ slice_index_or was.now o false)
+    ensures effect { IfOk result (λ e. (n : Node) → ((o : ℕ) → o < 8 → has_open n o ≡ slice_index_or was.now o false)
         → (e.node ≡ node_after rules.now key.now n given.now) × (e.flights.items ≡ flights_after actor rules.now key.now n given.now)) }
 {
     let losers = losing(alloc, rules, key.depth, given)?;

@@ -3,28 +3,21 @@
 ghost use Rattle.std.specs.Prelude.{◌≡◌};
 
 use ept_point::Memory;
-use thiserror::Error;
 
 /// Why an event is refused: the first cause in the order of the variants.
-#[derive(Clone, Copy, Debug, PartialEq, Eq, Error)]
+#[derive(Clone, Copy, Debug, PartialEq, Eq)]
 pub enum StepError {
     /// There is no such actor.
-    #[error("there is no such actor")]
     NoActor,
     /// The actor has no flight of that number.
-    #[error("the actor has no flight of that number")]
     NoFlight,
     /// The key is that of no node.
-    #[error("the key is that of no node")]
     NoNode,
     /// The node is spilled.
-    #[error("the node is spilled")]
     NotResident,
     /// The node is resident.
-    #[error("the node is resident")]
     NotSpilled,
     /// Memory ran out.
-    #[error("out of memory")]
     Memory,
 }
 

@@ -23,6 +23,6 @@ pub use engine::Core;
 pub use error::StepError;
 pub use event::Event;
 pub use flight::Flight;
-pub use laws::{key_law, landed_law, start_law, step_law};
+pub use laws::{flight_law, key_law, landed_law, start_law, step_law};
 pub use node::Node;
 pub use play::run_events;

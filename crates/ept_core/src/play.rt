@@ -6,6 +6,7 @@ ghost use Rattle.ept_sample.specs.Place.{AllInCube};
 ghost use Rattle.ept_sample.specs.Ids.{HasDistinctIds};
 ghost use Rattle.ept_sample.specs.Nodes.{sampled};
 ghost use Rattle.ept_core.specs.State.{tile_of};
+ghost use Rattle.ept_core.specs.Law.{KeepsLaw};
 ghost use Rattle.ept_core.specs.Steps.{Step, Run, begun};
 ghost use Rattle.ept_core.specs.Refusals.{HasActor, Refuses, StopsAt};
 ghost use Rattle.ept_core.specs.Shown.{shown, rules_of, points_of, actors_of};
@@ -54,12 +55,19 @@ impl Core {
         Ok(Core { machine })
     }
 
+    /// Tells a proof the law, which each core keeps for its points.
+    pub fn known(&self)
+        ensures law { ∥ KeepsLaw (rules_of self.now) (points_of self.now) (shown self.now) ∥₁ }
+    {
+        let _machine = &self.machine;
+    }
+
     /// Lets one event happen. After a refusal the core is unchanged.
     pub fn step(&mut self, event: Event) -> Result<(), StepError>
         ensures ok { OnOk result (Step (rules_of self.old) (shown self.old) event (shown self.new)) }
         ensures actor { OnOk result (HasActor (actors_of self.old) event) }
         ensures refused { IfErr result (Refuses (shown self.old) (actors_of self.old) event) }
-        ensures err { OnErr result (shown self.new ≡ shown self.old) }
+        ensures unchanged { OnErr result (shown self.new ≡ shown self.old) }
         ensures rules { rules_of self.new ≡ rules_of self.old }
         ensures points { points_of self.new ≡ points_of self.old }
         ensures actors { actors_of self.new ≡ actors_of self.old }

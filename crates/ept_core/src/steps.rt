@@ -36,7 +36,7 @@ impl Machine {
     // The actor takes up to `count` of the points that are left.
     pub(crate) fn draw(&mut self, actor: u32, count: u32) -> Result<(), Memory>
         ensures ok { OnOk result (state_of self.new ≡ drawn actor count (state_of self.old)) }
-        ensures err { OnErr result (state_of self.new ≡ state_of self.old) }
+        ensures unchanged { OnErr result (state_of self.new ≡ state_of self.old) }
         ensures rules { self.new.rules ≡ self.old.rules }
         ensures points { self.new.points ≡ self.old.points }
         ensures actors { self.new.actors ≡ self.old.actors }
@@ -67,7 +67,7 @@ impl Machine {
 
     // Sets where the points of a node are kept.
     pub(crate) fn set_residence(&mut self, key: &Key, resident: bool)
-        requires { has_node self.old.nodes.entries key.now ≡ true }
+        requires node { has_node self.old.nodes.entries key.now ≡ true }
         ensures state { state_of self.new ≡ moved key.now resident (state_of self.old) }
         ensures rules { self.new.rules ≡ self.old.rules }
         ensures points { self.new.points ≡ self.old.points }
@@ -104,7 +104,7 @@ impl Machine {
     fn effect_of(&self, index: usize) -> Result<Effect, Memory>
         requires index { index < length self.now.flights.items }
         requires law { ∥ KeepsLaw self.now.rules self.now.points (state_of self.now) ∥₁ }
-        ensures { IfOk result (λ e. (f : Flight) → slice_index_or self.now.flights.items index f ≡ f → IsEffect self.now.rules self.now.nodes.entries f e) }
+        ensures effect { IfOk result (λ e. (f : Flight) → slice_index_or self.now.flights.items index f ≡ f → IsEffect self.now.rules self.now.nodes.entries f e) }
     {
         let flight = &self.flights[index];
         let (standing, was) = self.standing(&flight.key);
@@ -125,7 +125,7 @@ impl Machine {
         requires law { ∥ KeepsLaw self.old.rules self.old.points (state_of self.old) ∥₁ }
         ensures ok { OnOk result ((f : Flight) → slice_index_or self.old.flights.items index f ≡ f
             → state_of self.new ≡ arrived self.old.rules f (remove self.old.flights.items index) (state_of self.old)) }
-        ensures err { OnErr result (state_of self.new ≡ state_of self.old) }
+        ensures unchanged { OnErr result (state_of self.new ≡ state_of self.old) }
         ensures rules { self.new.rules ≡ self.old.rules }
         ensures points { self.new.points ≡ self.old.points }
         ensures actors { self.new.actors ≡ self.old.actors }

@@ -17,7 +17,7 @@ impl Machine {
     fn evict(&mut self, key: Key) -> Result<(), StepError>
         ensures ok { OnOk result (Step self.old.rules (state_of self.old) (Evict key) (state_of self.new)) }
         ensures refused { IfErr result (Refuses (state_of self.old) self.old.actors (Evict key)) }
-        ensures err { OnErr result (state_of self.new ≡ state_of self.old) }
+        ensures unchanged { OnErr result (state_of self.new ≡ state_of self.old) }
         ensures rules { self.new.rules ≡ self.old.rules }
         ensures points { self.new.points ≡ self.old.points }
         ensures actors { self.new.actors ≡ self.old.actors }
@@ -35,7 +35,7 @@ impl Machine {
     fn reload(&mut self, key: Key) -> Result<(), StepError>
         ensures ok { OnOk result (Step self.old.rules (state_of self.old) (Reload key) (state_of self.new)) }
         ensures refused { IfErr result (Refuses (state_of self.old) self.old.actors (Reload key)) }
-        ensures err { OnErr result (state_of self.new ≡ state_of self.old) }
+        ensures unchanged { OnErr result (state_of self.new ≡ state_of self.old) }
         ensures rules { self.new.rules ≡ self.old.rules }
         ensures points { self.new.points ≡ self.old.points }
         ensures actors { self.new.actors ≡ self.old.actors }
@@ -55,7 +55,7 @@ impl Machine {
         requires actor { actor < self.old.actors }
         ensures ok { OnOk result (Step self.old.rules (state_of self.old) (Arrive actor number) (state_of self.new)) }
         ensures refused { IfErr result (Refuses (state_of self.old) self.old.actors (Arrive actor number)) }
-        ensures err { OnErr result (state_of self.new ≡ state_of self.old) }
+        ensures unchanged { OnErr result (state_of self.new ≡ state_of self.old) }
         ensures rules { self.new.rules ≡ self.old.rules }
         ensures points { self.new.points ≡ self.old.points }
         ensures actors { self.new.actors ≡ self.old.actors }
@@ -77,7 +77,7 @@ impl Machine {
         ensures ok { OnOk result (Step self.old.rules (state_of self.old) event (state_of self.new)) }
         ensures actor { OnOk result (HasActor self.old.actors event) }
         ensures refused { IfErr result (Refuses (state_of self.old) self.old.actors event) }
-        ensures err { OnErr result (state_of self.new ≡ state_of self.old) }
+        ensures unchanged { OnErr result (state_of self.new ≡ state_of self.old) }
         ensures rules { self.new.rules ≡ self.old.rules }
         ensures points { self.new.points ≡ self.old.points }
         ensures actors { self.new.actors ≡ self.old.actors }

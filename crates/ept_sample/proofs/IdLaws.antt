@@ -1,10 +1,12 @@
 -- Points in id order.
-use Rattle.std.proofs.Common.{◌≡◌, ◌∙◌, ℕ, zero, suc, ◌+◌, ◌-◌, ◌≤◌, ◌<◌, Bool, true, false, cond, ◌&&◌, ◌||◌, ◌==◌, nat_lt, ◌⊎◌, inl, inr, List, [], ◌∷◌, ◌++◌, refl, sym, ap, subst, arith, eq-eqb, filter, count_by, length, get_or}
+use Rattle.std.proofs.Common.{◌≡◌, ◌∙◌, ◌↔◌, ℕ, zero, suc, ◌+◌, ◌-◌, ◌≤◌, ◌<◌, Bool, true, false, cond, ◌&&◌, ◌||◌, ◌==◌, nat_lt, ◌⊎◌, inl, inr, List, [], ◌∷◌, ◌++◌, refl, sym, ap, subst, arith, eq-eqb, filter, count_by, length, get_or}
 use Rattle.std.specs.Ordering.{is_lt, ordering_then, nat_cmp}
 use Rattle.std.proofs.lemmas.List.{get_or_read}
 use Rattle.std.proofs.lemmas.Bool.Decides.{nat_tests}
 use Rattle.std.proofs.lemmas.List.Sums.{sum_by-cons, sum_by-append}
 use Rattle.std.proofs.lemmas.List.Sorted.{IsPermutation-refl, IsPermutation-cons, IsPermutation-trans, IsPermutation-middle, IsPermutation-sym, sum_by-IsPermutation, Contains-permutation}
+use Rattle.std.specs.List.{IsAllAdjacentAnswer}
+use Rattle.std.proofs.lemmas.Bool.{false≢true}
 use Rattle.std.specs.List.Sorted.{IsPermutation}
 use Rattle.ept_point.specs.declared.point.Point.{Point}
 use Rattle.ept_point.specs.declared.id.PointId.{PointId}
@@ -13,7 +15,7 @@ use Rattle.ept_sample.specs.Ids.{same_id, comes_before, HasDistinctIds, placed_b
 use Rattle.ept_sample.specs.Members.{IsMember}
 use Rattle.ept_sample.proofs.Members.{IsMember-contains, contains-IsMember}
 use Rattle.ept_sample.proofs.Ascending.{IsOrder, IsBeforeAll, IsRising, same_rising}
-use Rattle.ept_sample.proofs.Choices.{either, not_both, and_both}
+use Rattle.ept_sample.proofs.Choices.{either, is_false, not_both, and_left, and_right, and_both}
 
 -- ---- the order of ids
 
@@ -55,6 +57,17 @@ IsBefore-comes_before p q e = before-fact p.origin p.number q.origin q.number e
 
 pub same_id-self : (p : Point) → same_id p p ≡ true
 same_id-self p = and_both _ _ (eq-eqb p.origin p.origin refl) (eq-eqb p.number p.number refl)
+
+-- points with one id, as `ept_point` says it
+pub same_id-id : (p q : Point) → same_id p q ≡ true → id p ≡ id q
+same_id-id p q e = λ i. record { origin = same p.origin q.origin (and_left (p.origin == q.origin) (p.number == q.number) e) i; number = same p.number q.number (and_right (p.origin == q.origin) (p.number == q.number) e) i }
+  where
+    same : (a b : ℕ) → (a == b) ≡ true → a ≡ b
+    same a b e = grind (arith, nat_tests)
+
+pub id-same_id : (p q : Point) → id p ≡ id q → same_id p q ≡ true
+id-same_id p q e =
+    and_both _ _ (eq-eqb p.origin q.origin (ap (λ (i : PointId). i.origin) e)) (eq-eqb p.number q.number (ap (λ (i : PointId). i.number) e))
 
 pub same_id-sym : (p q : Point) → same_id p q ≡ true → same_id q p ≡ true
 same_id-sym p q e = ids (p.origin) p.number q.origin q.number e
@@ -281,28 +294,12 @@ sorted-in_id_order ps qs once h up =
 
 -- ---- ascending points
 
--- each point in front of a place comes before the next one there
-abbrev pub AscendTo : List Point → ℕ → Type 0
-AscendTo ps n = (k : ℕ) (d : Point) → suc k < n → IsBefore (id (get_or ps k d)) (id (get_or ps (suc k) d))
-
-pub AscendTo-IsAscending : (ps : List Point) → AscendTo ps (length ps) → IsAscending ps
-AscendTo-IsAscending [] up = tt
-AscendTo-IsAscending (p ∷ []) up = (tt, tt)
-AscendTo-IsAscending (p ∷ q ∷ ps) up =
-    (up 0 p (omega arith), AscendTo-IsAscending (q ∷ ps) (λ k d h. up (suc k) d (omega arith)))
-
-pub IsAscending-AscendTo : (ps : List Point) → IsAscending ps → AscendTo ps (length ps)
-IsAscending-AscendTo [] up k d h = absurd (omega arith)
-IsAscending-AscendTo (p ∷ []) up k d h = absurd (omega arith)
-IsAscending-AscendTo (p ∷ q ∷ ps) up zero d h = up.0
-IsAscending-AscendTo (p ∷ q ∷ ps) up (suc k) d h = IsAscending-AscendTo (q ∷ ps) up.1 k d (omega arith)
-
-before_test : (p q : Point) → IsBefore (id p) (id q) → comes_before p q ≡ true
-before_test p q (inl less) = numbers p.origin p.number q.origin q.number less
+pub comes_before-IsBefore : (p q : Point) → IsBefore (id p) (id q) → comes_before p q ≡ true
+comes_before-IsBefore p q (inl less) = numbers p.origin p.number q.origin q.number less
   where
     numbers : (a b x y : ℕ) → a < x → (nat_lt a x || ((a == x) && nat_lt b y)) ≡ true
     numbers a b x y less = grind (arith, nat_tests)
-before_test p q (inr both) = numbers p.origin p.number q.origin q.number both.0 both.1
+comes_before-IsBefore p q (inr both) = numbers p.origin p.number q.origin q.number both.0 both.1
   where
     numbers : (a b x y : ℕ) → a ≡ x → b < y → (nat_lt a x || ((a == x) && nat_lt b y)) ≡ true
     numbers a b x y same less = grind (arith, nat_tests)
@@ -313,24 +310,32 @@ IsRising-IsAscending [] up = tt
 IsRising-IsAscending (p ∷ []) up = (λ q m. absurd m, tt)
 IsRising-IsAscending (p ∷ q ∷ ps) up =
     let more : IsRising comes_before (q ∷ ps) = IsRising-IsAscending (q ∷ ps) up.1 in
-    (before_placed p q ps (before_test p q up.0) more, more)
+    (before_placed p q ps (comes_before-IsBefore p q up.0) more, more)
 
 -- so they have distinct ids
 pub HasDistinctIds-IsAscending : (ps : List Point) → IsAscending ps → HasDistinctIds ps
 HasDistinctIds-IsAscending ps up = HasDistinctIds-IsRising ps (IsRising-IsAscending ps up)
 
-pub ascends-all : (ps : List Point) (n : ℕ) → length ps ≤ n → AscendTo ps n → IsAscending ps
-ascends-all ps n all up = AscendTo-IsAscending ps (λ k d h. up k d (omega arith))
+-- what the test of each two neighbours tells
 
--- two neighbours of ascending points
-pub ascends-pair : (ps : List Point) (i : ℕ) (p q : Point) → 1 ≤ i → i < length ps → p ≡ get_or ps (i - 1) p → q ≡ get_or ps i q → IsAscending ps → IsBefore (id p) (id q)
-ascends-pair ps i p q some inside is is' up =
-    let next : suc (i - 1) ≡ i = omega arith in
-    let pair : IsBefore (id (get_or ps (i - 1) p)) (id (get_or ps (suc (i - 1)) p)) = IsAscending-AscendTo ps up (i - 1) p (omega arith) in
-    let second : get_or ps (suc (i - 1)) p ≡ q = ap (λ (n : ℕ). get_or ps n p) next ∙ sym (get_or_read ps i q inside is' p) in
-    subst (λ (w : Point). IsBefore (id w) (id q)) (sym is) (subst (λ (w : Point). IsBefore (id (get_or ps (i - 1) p)) (id w)) second pair)
+pub tested : (told : Bool) (p q : Point) → (told ≡ true ↔ IsBefore (id p) (id q)) → told ≡ comes_before p q
+tested true p q is = sym (comes_before-IsBefore p q (is.0 refl))
+tested false p q is = sym (is_false (comes_before p q) (λ e. false≢true (is.1 (IsBefore-comes_before p q e))))
 
-pub ascends-ids : (ps : List Point) (i : ℕ) (p q : Point) (a b : PointId) → 1 ≤ i → i < length ps → p ≡ get_or ps (i - 1) p → q ≡ get_or ps i q → a ≡ id p → b ≡ id q → IsAscending ps → IsBefore a b
-ascends-ids ps i p q a b some inside is is' e f up =
-    let M : PointId → PointId → Type 0 = λ x y. IsBefore x y in
-    subst (λ (x : PointId). M x b) (sym e) (subst (λ (y : PointId). M (id p) y) (sym f) (ascends-pair ps i p q some inside is is' up))
+rise : (ps : List Point) → ((k : ℕ) (d : Point) → suc k < length ps → true ≡ comes_before (get_or ps k d) (get_or ps (suc k) d)) → IsAscending ps
+rise [] up = tt
+rise (p ∷ []) up = (tt, tt)
+rise (p ∷ q ∷ ps) up =
+    (IsBefore-comes_before p q (sym (up 0 p (omega arith))), rise (q ∷ ps) (λ k d low. up (suc k) d (omega arith)))
+
+fall : (ps : List Point) (k : ℕ) → suc k < length ps → ((d : Point) → false ≡ comes_before (get_or ps k d) (get_or ps (suc k) d)) → IsAscending ps → ⊥
+fall [] k low down up = omega (arith, low)
+fall (p ∷ []) k low down up = omega (arith, low)
+fall (p ∷ q ∷ ps) zero low down up = false≢true (down p ∙ comes_before-IsBefore p q up.0)
+fall (p ∷ q ∷ ps) (suc k) low down up = fall (q ∷ ps) k (omega (arith, low)) down up.1
+
+pub ascending-told : (ps : List Point) (told : Bool) → IsAllAdjacentAnswer (λ p q b. b ≡ comes_before p q) ps told → told ≡ true ↔ IsAscending ps
+ascending-told ps true all =
+    (λ e. rise ps (λ k d low. subst (λ (n : ℕ). true ≡ comes_before (get_or ps k d) (get_or ps n d)) (let e : k + 1 ≡ suc k = omega arith in e) (all k d (omega (arith, low)))), λ up. refl)
+ascending-told ps false (k, low, down) =
+    (λ e. absurd (false≢true e), λ up. absurd (fall ps k (omega (arith, low)) (λ d. subst (λ (n : ℕ). false ≡ comes_before (get_or ps k d) (get_or ps n d)) (let e : k + 1 ≡ suc k = omega arith in e) (down d)) up))

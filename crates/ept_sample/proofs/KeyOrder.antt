@@ -1,16 +1,15 @@
 -- The order of keys, and lists of keys in it.
-use Rattle.std.proofs.Common.{◌≡◌, ℕ, ◌<◌, Bool, true, Ordering, ◌⊎◌, inl, inr, List, [], ◌∷◌, refl, sym, ap, subst, arith}
+use Rattle.std.proofs.Common.{◌≡◌, ℕ, suc, ◌<◌, Bool, true, Ordering, ◌⊎◌, inl, inr, List, [], ◌∷◌, refl, sym, ap, subst, arith}
 use Rattle.std.specs.declared.cmp.Ordering.TheVariants.{Less, Equal, Greater}
 use Rattle.std.specs.Ordering.{nat_cmp, ordering_then, is_lt, match_ordering}
 use Rattle.std.proofs.lemmas.Bool.Decides.{nat_tests}
 use Rattle.ept_space.specs.VoxelKey.{VoxelKey, key_cmp}
 use Rattle.ept_space.proofs.Family.{same-parts}
 use Rattle.std.proofs.lemmas.Bool.{false≢true}
-use Rattle.ept_sample.specs.Nodes.{with_key, in_key_order}
-use Rattle.std.specs.List.{AllPairs}
+use Rattle.ept_sample.specs.Nodes.{AreAscending, with_key, in_key_order}
 use Rattle.std.proofs.lemmas.List.Kept.{AllPairs-cons}
 use Rattle.ept_sample.specs.Members.{IsMember}
-use Rattle.ept_sample.proofs.Members.{All-members}
+use Rattle.ept_sample.proofs.Members.{contains-IsMember, All-members}
 use Rattle.ept_sample.proofs.Ascending.{IsOrder, IsBeforeAll, IsRising}
 
 four_cmp : ℕ → ℕ → ℕ → ℕ → ℕ → ℕ → ℕ → ℕ → Ordering
@@ -131,7 +130,16 @@ IsRising-in_key_order [] = tt
 IsRising-in_key_order (key ∷ keys) = (with_key-put key (in_key_order keys)).3 (IsRising-in_key_order keys)
 
 -- each key is less than all later ones
-pub AllPairs-IsRising : (keys : List VoxelKey) → IsRising key_before keys → AllPairs (λ a b. key_cmp a b ≡ Less) keys
+pub AllPairs-IsRising : (keys : List VoxelKey) → IsRising key_before keys → AreAscending keys
 AllPairs-IsRising [] up = λ i j d less inside. absurd (let below : j < 0 = inside in omega arith)
 AllPairs-IsRising (key ∷ keys) up =
     AllPairs-cons (λ a b. key_cmp a b ≡ Less) key keys (All-members (λ b. key_cmp key b ≡ Less) keys (λ b m. less-before (key_cmp key b) (up.0 b m))) (AllPairs-IsRising keys up.1)
+
+pub IsRising-AllPairs : (keys : List VoxelKey) → AreAscending keys → IsRising key_before keys
+IsRising-AllPairs [] all = tt
+IsRising-AllPairs (key ∷ keys) all = (
+  λ k m. (
+      let c = contains-IsMember k keys m in
+      ap is_lt (subst (λ (w : VoxelKey). key_cmp key w ≡ Less) c.2 (all 0 (suc c.0) k (omega arith) (omega (arith, c.1))))),
+  IsRising-AllPairs keys (λ i j d less inside. all (suc i) (suc j) d (omega (arith, less)) (omega (arith, inside))),
+)

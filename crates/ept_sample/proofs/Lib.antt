@@ -1,7 +1,8 @@
 pub mod Choices
 pub mod Members
+pub mod Octants
 pub mod Ascending
-pub mod Best
+mod Best
 pub mod RankLaws
 pub mod IdLaws
 pub mod KeyOrder
@@ -10,7 +11,7 @@ pub mod SamplingLaws
 pub mod NodeLaws
 pub mod WalkLaws
 pub mod Openings
-pub mod WalkNodes
-pub mod Batches
+mod WalkNodes
+mod Batches
 pub mod Parts
 pub mod MorePoints

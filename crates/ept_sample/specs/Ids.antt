@@ -1,14 +1,18 @@
 -- The ids of points, and the order of points by them.
-use Rattle.std.specs.Prelude.{◌≤◌, Bool, ◌&&◌, ◌||◌, ◌==◌, nat_lt, List, [], ◌∷◌, if◌then◌else◌, count_by}
+use Rattle.std.specs.Prelude.{◌≤◌, ℕ, Bool, ◌&&◌, ◌||◌, ◌==◌, nat_lt, List, [], ◌∷◌, if◌then◌else◌, count_by}
 use Rattle.ept_point.specs.declared.point.Point.{Point}
 
 -- the two points have one id: one scan, and one number there
 abbrev pub same_id : Point → Point → Bool
 same_id p q = (p.origin == q.origin) && (p.number == q.number)
 
--- the id of the first point comes first: by the scan, then by the number
+-- the first scan and number come first: by the scan, then by the number
+abbrev pub is_first : ℕ → ℕ → ℕ → ℕ → Bool
+is_first origin number origin' number' = nat_lt origin origin' || ((origin == origin') && nat_lt number number')
+
+-- the id of the first point comes first
 abbrev pub comes_before : Point → Point → Bool
-comes_before p q = nat_lt p.origin q.origin || ((p.origin == q.origin) && nat_lt p.number q.number)
+comes_before p q = is_first p.origin p.number q.origin q.number
 
 -- no id stands twice
 unfoldable pub HasDistinctIds : List Point → Type 0

@@ -6,6 +6,7 @@ pub mod Arrivals
 pub mod Sampling
 pub mod Nodes
 pub mod Walk
+pub mod IdLaws
 pub mod BeatLaws
 pub mod ArrivalLaws
 pub mod SamplingLaws

@@ -5,6 +5,7 @@ use Rattle.ept_space.specs.declared.cube.Rules.{Rules}
 use Rattle.ept_space.specs.OctreeCube.{same_cell, distance_at}
 use Rattle.ept_sample.specs.declared.rank.Rank.{Rank}
 use Rattle.ept_sample.specs.Place.{place}
+use Rattle.ept_sample.specs.Ids.{is_first}
 
 -- the rank of a point at a depth: how far it is from the centre of its cell, then its scan, then its number there
 abbrev pub rank_at : Rules → ℕ → Point → Rank
@@ -14,10 +15,10 @@ rank_at rules depth p = record {
   number = p.number;
 }
 
--- the first rank is better: it is less in the first part in which the two differ
+-- the first rank is better: its distance is less, or the distances are the same and its id comes first
 abbrev pub is_better : Rank → Rank → Bool
 is_better a b =
-    nat_lt a.distance b.distance || ((a.distance == b.distance) && (nat_lt a.origin b.origin || ((a.origin == b.origin) && nat_lt a.number b.number)))
+    nat_lt a.distance b.distance || ((a.distance == b.distance) && is_first a.origin a.number b.origin b.number)
 
 -- the first point beats the second at a depth: it lies in the same cell and has the better rank
 unfoldable pub beats : Rules → ℕ → Point → Point → Bool

@@ -1,17 +1,16 @@
 -- What holds of each sampling. Each statement stands on the contract of a function of `laws`.
-use Rattle.std.specs.Prelude.{◌≡◌, ◌≢◌, ◌<◌, ◌≤◌, ◌↔◌, IsTrue, List, [], length, Contains, IsPermutation, AllPairs}
+use Rattle.std.specs.Prelude.{◌≡◌, ◌≢◌, ◌<◌, ◌≤◌, ◌↔◌, IsTrue, List, [], length, Contains, IsPermutation}
 use Rattle.std.specs.List.{flat_map}
-use Rattle.std.specs.declared.cmp.Ordering.TheVariants.{Less}
 use Rattle.ept_point.specs.declared.point.Point.{Point}
 use Rattle.ept_point.specs.Order.{IsAscending}
 use Rattle.ept_space.specs.declared.cube.Rules.{Rules}
-use Rattle.ept_space.specs.VoxelKey.{VoxelKey, IsKey, root, parent, key_cmp}
+use Rattle.ept_space.specs.VoxelKey.{VoxelKey, IsKey, root, parent}
 use Rattle.ept_space.specs.OctreeCube.{IsCube}
 use Rattle.ept_sample.specs.declared.tiles.Tile.{Tile}
 use Rattle.ept_sample.specs.Place.{AllInCube, AllInBox}
 use Rattle.ept_sample.specs.Ids.{HasDistinctIds}
 use Rattle.ept_sample.specs.Sampling.{sampling, is_node}
-use Rattle.ept_sample.specs.Nodes.{node_keys, sampled}
+use Rattle.ept_sample.specs.Nodes.{AreAscending, node_keys, sampled}
 
 -- points of a cube, with distinct ids
 pub record CanBeSampled (rules : Rules) (points : List Point) : Type 0 where
@@ -36,7 +35,7 @@ KeysAreTheNodes =
 
 abbrev pub KeysAscend : Type 0
 KeysAscend =
-    (rules : Rules) (points : List Point) → AllPairs (λ a b. key_cmp a b ≡ Less) (node_keys rules points)
+    (rules : Rules) (points : List Point) → AreAscending (node_keys rules points)
 
 -- the root is a node, and each other node's parent is one
 abbrev pub RootIsNode : Type 0

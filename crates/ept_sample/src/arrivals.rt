@@ -108,7 +108,7 @@ pub fn is_too_many(rules: &Rules, count: usize) -> bool
 fn opens(rules: &Rules, key: &Key, was_open: bool, losers: &[Point], which: u8) -> bool
     requires has_children { key.now.depth < rules.now.cube.depth }
     requires inside { AllInBox rules.now.cube key.now losers.now }
-    ensures { result ≡ (was_open || has_too_many rules.now key.now.depth losers.now which) }
+    ensures opened { result ≡ (was_open || has_too_many rules.now key.now.depth losers.now which) }
 {
     was_open || is_too_many(rules, count_in_octant(rules, key, losers, which))
 }

@@ -3,7 +3,7 @@
 ghost use Rattle.std.specs.Prelude.{◌≡◌, ◌↔◌, IsTrue, IfOk};
 ghost use Rattle.std.specs.Bool.{OnTrue};
 ghost use Rattle.ept_point.specs.Order.{IsAscending};
-ghost use Rattle.ept_sample.specs.Ids.{HasDistinctIds, in_id_order};
+ghost use Rattle.ept_sample.specs.Ids.{comes_before, HasDistinctIds, in_id_order};
 
 use ept_point::{Memory, Point};
 
@@ -12,12 +12,14 @@ pub fn ids_ascend(points: &[Point]) -> bool
     ensures ascend { IsTrue result ↔ IsAscending points.now }
     ensures distinct { OnTrue result (HasDistinctIds points.now) }
 {
-    for i in 1..points.len() {
-        if !points[i - 1].id().is_before(points[i].id()) {
-            return false;
-        }
-    }
-    true
+    points.is_sorted_by(|first, second| comes_before(first, second))
+}
+
+// Whether the id of the first point comes first.
+fn comes_before(first: &Point, second: &Point) -> bool
+    ensures { result ≡ comes_before first.now second.now }
+{
+    first.id().is_before(second.id())
 }
 
 /// Points with distinct ids, put in id order.

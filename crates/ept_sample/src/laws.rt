@@ -1,9 +1,18 @@
-//! The laws of beating, of arrivals and of samplings, each on the contract of a function that does
+//! The laws of ids, of beating, of arrivals and of samplings, each on the contract of a function that does
 //! nothing.
 
+ghost use Rattle.ept_sample.specs.IdLaws.{TestsAreOfIds, OrderKeepsPoints, OrderAscends, AscendingIsOrdered};
 ghost use Rattle.ept_sample.specs.BeatLaws.{NoneBeatsItself, BeatingGoesOn, OneOfTwoBeats, BeatingIsInOneCell};
 ghost use Rattle.ept_sample.specs.ArrivalLaws.{WinnersBeatLosers, SameOnesLose, OpenSendsItsLosers, EachStaysOrLeaves, ArrivalsHaveNoOrder, BatchesJoin};
 ghost use Rattle.ept_sample.specs.SamplingLaws.{EachPointIsInOneNode, PointsHaveNoOrder, KeysAreTheNodes, KeysAscend, RootIsNode, ParentsAreNodes, NodesHavePoints, NodesHaveKeys, NodesAreShallow, MorePointsKeepNodes, MorePointsHaveMoreNodes, PointsLieInBoxes, PointsAscend};
+
+/// Points in id order are the same points, and their ids ascend.
+pub fn id_law()
+    ensures tests { TestsAreOfIds }
+    ensures same_points { OrderKeepsPoints }
+    ensures ascend { OrderAscends }
+    ensures ordered { AscendingIsOrdered }
+{}
 
 /// Beating is a strict order of the points of each cell.
 pub fn beat_law()

@@ -48,7 +48,7 @@ pub fn beats(rules: &Rules, depth: u8, first: &Point, second: &Point) -> bool
     requires low { depth ≤ rules.now.cube.depth }
     requires first_inside { InCube rules.now.cube (place first.now) }
     requires second_inside { InCube rules.now.cube (place second.now) }
-    ensures { result ≡ beats rules.now depth first.now second.now }
+    ensures beats { result ≡ beats rules.now depth first.now second.now }
 {
     share_cell(rules, depth, first, second)
         && rank_of(rules, depth, first).is_better(rank_of(rules, depth, second))
@@ -58,7 +58,7 @@ fn share_cell(rules: &Rules, depth: u8, first: &Point, second: &Point) -> bool
     requires low { depth ≤ rules.now.cube.depth }
     requires first_inside { InCube rules.now.cube (place first.now) }
     requires second_inside { InCube rules.now.cube (place second.now) }
-    ensures { result ≡ same_cell rules.now.cube depth (place first.now) (place second.now) }
+    ensures one_cell { result ≡ same_cell rules.now.cube depth (place first.now) (place second.now) }
 {
     cell(&rules.cube, depth, place_of(first)) == cell(&rules.cube, depth, place_of(second))
 }

@@ -22,7 +22,7 @@ use std::collections::BTreeMap;
 pub fn sample(alloc: Global, points: &[Point], rules: &Rules) -> Result<Tiles, Memory>
     requires distinct { HasDistinctIds points.now }
     requires inside { AllInCube rules.now.cube points.now }
-    ensures { IfOk result (λ t. t.tiles ≡ sampled rules.now points.now) }
+    ensures sampled { IfOk result (λ t. t.tiles ≡ sampled rules.now points.now) }
 {
     // Each node has a key.
     prove!(rules.cube.depth <= Key::MAX_DEPTH);
@@ -34,8 +34,8 @@ pub fn sample(alloc: Global, points: &[Point], rules: &Rules) -> Result<Tiles, M
 
 // The points in id order.
 fn by_id(alloc: Global, points: &[Point]) -> Result<Vec<Point>, Memory>
-    requires { HasDistinctIds points.now }
-    ensures { IfOk result (λ v. v.items ≡ in_id_order points.now) }
+    requires distinct { HasDistinctIds points.now }
+    ensures ordered { IfOk result (λ v. v.items ≡ in_id_order points.now) }
 {
     in_id_order(Vec::from_slice(alloc, points)?)
 }
@@ -51,7 +51,7 @@ fn add_nodes(
     requires low { key.depth ≤ rules.now.cube.depth }
     requires inside { AllInBox rules.now.cube key given.now }
     requires in_cube { AllInCube rules.now.cube given.now }
-    ensures { OnOk result (nodes.new.entries
+    ensures nodes { OnOk result (nodes.new.entries
         ≡ with_nodes nodes.old.entries (nodes_below rules.now (rules.now.cube.depth - key.depth) key given.now)) }
 {
     rules.cube.known();
@@ -77,7 +77,7 @@ fn add_nodes(
 // Which octants overflow: above the greatest depth, those with more of these losers than the threshold.
 fn overflowing(rules: &Rules, key: &Key, losers: &[Point]) -> [bool; OCTANTS]
     requires inside { AllInBox rules.now.cube key.now losers.now }
-    ensures { (o : ℕ) → o < OCTANTS →
+    ensures overflow { (o : ℕ) → o < OCTANTS →
         slice_index_or result o false ≡ has_too_many rules.now key.now.depth losers.now o }
 {
     opening(rules, key, &[false; OCTANTS], losers)

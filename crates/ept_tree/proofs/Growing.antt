@@ -18,6 +18,7 @@ use Rattle.ept_sample.specs.Nodes.{node_keys, tile_at, sampled}
 use Rattle.ept_sample.specs.declared.tiles.Tile.{Tile}
 use Rattle.std.proofs.lemmas.List.{length-map}
 use Rattle.ept_sample.proofs.Members.{IsMember-left}
+use Rattle.ept_sample.proofs.Octants.{IsMember-octant}
 use Rattle.ept_sample.proofs.MorePoints.{length-node_keys-among}
 use Rattle.ept_sample.specs.Members.{IsMember}
 use Rattle.ept_grid.specs.Mask.{opened}
@@ -40,20 +41,10 @@ use Rattle.ept_tree.specs.declared.arrival.Arrival.{Arrival}
 use Rattle.ept_tree.specs.Sending.{arrivals_to, sending}
 use Rattle.ept_tree.specs.Tree.{Branch, node_of, entry_of, tile_of, flight_of, state_of, AreNodes, IsTree, AreAtDepth}
 use Rattle.ept_tree.proofs.Branches.{branch, entry-some, entry-none, lookup-member, entries-set, entries-insert, own-set, own-insert, tiles-of}
-use Rattle.ept_tree.proofs.Regrouping.{CarryTheSame, regrouped, behind-others, one-each, whole, split, split-same, flights-append}
+use Rattle.ept_core.proofs.Regrouping.{CarryTheSame, regrouped}
+use Rattle.ept_tree.proofs.Regrouping.{behind-others, one-each, whole, split, split-same, flights-append}
 
 -- ---- the eight octants
-
-below_eight : (o : ℕ) → IsMember o all_octants → o < 8
-below_eight o (inl is) = omega (arith, is)
-below_eight o (inr (inl is)) = omega (arith, is)
-below_eight o (inr (inr (inl is))) = omega (arith, is)
-below_eight o (inr (inr (inr (inl is)))) = omega (arith, is)
-below_eight o (inr (inr (inr (inr (inl is))))) = omega (arith, is)
-below_eight o (inr (inr (inr (inr (inr (inl is)))))) = omega (arith, is)
-below_eight o (inr (inr (inr (inr (inr (inr (inl is))))))) = omega (arith, is)
-below_eight o (inr (inr (inr (inr (inr (inr (inr (inl is)))))))) = omega (arith, is)
-below_eight o (inr (inr (inr (inr (inr (inr (inr (inr m)))))))) = absurd m
 
 map_alike : {X : Type 0} (f g : ℕ → X) (os : List ℕ) → ((o : ℕ) → IsMember o os → f o ≡ g o) → map f os ≡ map g os
 map_alike f g [] same = refl
@@ -92,7 +83,7 @@ node_then : (rules : Rules) (key : VoxelKey) (n : core.Node) (given : List Point
 unfolding node_after
 node_then rules key n given new points opens = λ i. record {
   points = points i;
-  opened = map_alike (opened new.mask) (is_open rules key.depth (has_open n) given) all_octants (λ o m. opens o (below_eight o m)) i;
+  opened = map_alike (opened new.mask) (is_open rules key.depth (has_open n) given) all_octants (λ o m. opens o (IsMember-octant o m)) i;
   is_resident = true;
 }
 
@@ -162,7 +153,7 @@ module _ (rules : Rules) (points left : List Point) (a : Arrival) (others : List
     on_the_way = sending a.key after
 
     sent_is : on_the_way ≡ split a.key (sent rules a.key.depth (has_open here) given) all_octants
-    sent_is = flat_alike (λ o. arrivals_to (child a.key o) (points_at after o)) (λ o. arrivals_to (child a.key o) (sent rules a.key.depth (has_open here) given o)) all_octants (λ o m. ap (λ (w : List Point). arrivals_to (child a.key o) w) (sends o (below_eight o m)))
+    sent_is = flat_alike (λ o. arrivals_to (child a.key o) (points_at after o)) (λ o. arrivals_to (child a.key o) (sent rules a.key.depth (has_open here) given o)) all_octants (λ o m. ap (λ (w : List Point). arrivals_to (child a.key o) w) (sends o (IsMember-octant o m)))
 
     flights_are : flights_after 0 rules a.key here (gathered (map entry_of nodes) (flight_of a)) ≡ whole a.key (sent rules a.key.depth (has_open here) given) all_octants
     flights_are =

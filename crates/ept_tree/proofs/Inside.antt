@@ -1,9 +1,10 @@
 -- Points that leave a node lie in the boxes of its children, whatever the ids.
-use Rattle.std.proofs.Common.{◌≡◌, ◌∙◌, ℕ, zero, suc, ◌+◌, ◌*◌, ◌<◌, ◌≤◌, Bool, true, false, not, ◌&&◌, T, inl, inr, List, [], ◌∷◌, ◌++◌, refl, sym, ap, subst, arith, length, cond}
-use Rattle.std.specs.Prelude.{ℤ, pos, ◌+ℤ◌, ◌≤ℤ◌, ◌<ℤ◌}
-use Rattle.std.specs.List.{flat_map, count_by}
-use Rattle.std.specs.Prelude.{All, IsTrue}
+use Rattle.std.proofs.Common.{◌≡◌, ◌∙◌, ℕ, zero, suc, ◌+◌, ◌*◌, ◌<◌, Bool, true, false, not, ◌&&◌, T, inl, inr, List, [], ◌∷◌, ◌++◌, refl, sym, ap, subst, arith, length, cond}
+use Rattle.std.specs.Prelude.{ℤ, pos, ◌+ℤ◌}
+use Rattle.std.specs.List.{count_by}
+use Rattle.std.specs.Prelude.{All}
 use Rattle.std.specs.Int.Signed.{le_z, lt_z, le_z_yes, lt_z_yes}
+use Rattle.std.proofs.lemmas.Bool.{and_parts, and_from, true_from_ne_false, not_from_true, not_from_false}
 use Rattle.ept_point.specs.declared.point.Point.{Point}
 use Rattle.ept_space.specs.declared.cube.Rules.{Rules}
 use Rattle.ept_space.specs.Place.{Place, coordinate}
@@ -14,7 +15,8 @@ use Rattle.ept_space.proofs.Family.{depth-child}
 use Rattle.ept_sample.specs.Place.{place}
 use Rattle.ept_sample.specs.Arrivals.{octant, all_octants}
 use Rattle.ept_sample.specs.Members.{IsMember}
-use Rattle.ept_sample.proofs.Members.{IsMember-left, IsMember-right, IsMember-append, all-member, All-members, member-flat_map}
+use Rattle.ept_sample.proofs.Members.{IsMember-left, IsMember-right, all-member, All-members, member-flat_map}
+use Rattle.ept_sample.proofs.Octants.{IsMember-octant}
 use Rattle.ept_sample.proofs.IdLaws.{count_by-cons, count_by-member}
 use Rattle.ept_grid.specs.Outgoing.{Leaving, points_at, all_points}
 use Rattle.ept_grid.specs.Node as grid
@@ -24,7 +26,7 @@ use Rattle.ept_tree.specs.declared.arrival.Arrival.{Arrival}
 use Rattle.ept_tree.specs.Sending.{arrival_at, arrivals_to, sending}
 use Rattle.std.specs.BTreeMap.{is_at}
 use Rattle.std.specs.Map.{lookup}
-use Rattle.std.specs.Prelude.{OnOk, Result, Ok, Err, Option, Some}
+use Rattle.std.specs.Prelude.{OnOk, Result, Ok, Err, Some}
 use Rattle.ept_space.specs.VoxelKey.{key_cmp}
 use Rattle.ept_tree.specs.Tree.{Branch, AreNodes, IsPlaced, ArePlaced, GoDown}
 use Rattle.ept_tree.proofs.Branches.{branch, lookup-member}
@@ -39,26 +41,19 @@ is_true : (b : Bool) → T b → b ≡ true
 is_true true is = refl
 is_true false is = absurd is
 
-both : (a b : Bool) → a && b ≡ true → (a ≡ true) × (b ≡ true)
-both true b is = (refl, is)
-both false b is = absurd (cc)
-
-of_both : (a b : Bool) → a ≡ true → b ≡ true → a && b ≡ true
-of_both a b is_a is_b = cc
-
 from_test : ℤ → ℕ → ℤ → Bool
 from_test least size at = le_z least at && lt_z at (least +ℤ pos size)
 
 from_yes : (least : ℤ) (size : ℕ) (at : ℤ) → from_test least size at ≡ true → IsFrom least size at
 unfolding from_test
 from_yes least size at is =
-    let parts = both (le_z least at) (lt_z at (least +ℤ pos size)) is in
+    let parts = and_parts (le_z least at) (lt_z at (least +ℤ pos size)) is in
     (le_z_yes (is_told (le_z least at) parts.0), lt_z_yes (is_told (lt_z at (least +ℤ pos size)) parts.1))
 
 yes_from : (least : ℤ) (size : ℕ) (at : ℤ) → IsFrom least size at → from_test least size at ≡ true
 unfolding from_test
 yes_from least size at is =
-    of_both (le_z least at) (lt_z at (least +ℤ pos size)) (is_true (le_z least at) is.0.le) (is_true (lt_z at (least +ℤ pos size)) is.1.lt)
+    and_from (le_z least at) (lt_z at (least +ℤ pos size)) (is_true (le_z least at) is.0.le) (is_true (lt_z at (least +ℤ pos size)) is.1.lt)
 
 box_test : OctreeCube → VoxelKey → Place → Bool
 box_test cube key at =
@@ -69,13 +64,13 @@ box_test cube key at =
 box_yes : (cube : OctreeCube) (key : VoxelKey) (at : Place) → box_test cube key at ≡ true → InBox cube key at
 unfolding InBox box_test
 box_yes cube key at is =
-    let first = both _ _ is in
-    let others = both _ _ first.1 in
+    let first = and_parts _ _ is in
+    let others = and_parts _ _ first.1 in
     record { x = from_yes _ _ _ first.0; y = from_yes _ _ _ others.0; z = from_yes _ _ _ others.1 }
 
 yes_box : (cube : OctreeCube) (key : VoxelKey) (at : Place) → InBox cube key at → box_test cube key at ≡ true
 unfolding InBox box_test
-yes_box cube key at is = of_both _ _ (yes_from _ _ _ is.x) (of_both _ _ (yes_from _ _ _ is.y) (yes_from _ _ _ is.z))
+yes_box cube key at is = and_from _ _ (yes_from _ _ _ is.x) (and_from _ _ (yes_from _ _ _ is.y) (yes_from _ _ _ is.z))
 
 -- ---- points that are counted
 
@@ -84,13 +79,6 @@ none_counted test [] none = refl
 none_counted test (p ∷ ps) none =
     let first : ◌≡◌ {A = ℕ} (cond (test p) 1 0) 0 = ap (λ (b : Bool). let n : ℕ = cond b 1 0 in n) (none p (inl refl)) in
     omega (arith, count_by-cons test p ps, first, none_counted test ps (λ q m. none q (inr m)))
-
-not_false : (b : Bool) → ((not b ≡ true) → ⊥) → b ≡ true
-not_false true denied = refl
-not_false false denied = absurd (denied refl)
-
-false_not : (b : Bool) → b ≡ true → not b ≡ false
-false_not b is = cc
 
 -- a point that leaves for an octant leaves
 leaves_at : (out : List Leaving) (o : ℕ) (q : Point) → IsMember q (points_at out o) → IsMember q (all_points out)
@@ -110,8 +98,8 @@ module _ (old new : grid.Node) (p : Point) (before after : List Leaving)
 
   given_inside : (q : Point) → IsMember q (p ∷ old.points) → outside q ≡ false
   unfolding outside
-  given_inside q (inl is) = false_not _ (subst (λ (r : Point). box_test old.rules.cube old.key (place r) ≡ true) is (yes_box old.rules.cube old.key (place p) arrives))
-  given_inside q (inr m) = false_not _ (yes_box old.rules.cube old.key (place q) (all-member (λ r. InBox old.rules.cube old.key (place r)) q old.points inside m))
+  given_inside q (inl is) = not_from_true _ (subst (λ (r : Point). box_test old.rules.cube old.key (place r) ≡ true) is (yes_box old.rules.cube old.key (place p) arrives))
+  given_inside q (inr m) = not_from_true _ (yes_box old.rules.cube old.key (place q) (all-member (λ r. InBox old.rules.cube old.key (place r)) q old.points inside m))
 
   none_outside : count_by outside (all_points after) ≡ 0
   none_outside =
@@ -122,7 +110,7 @@ module _ (old new : grid.Node) (p : Point) (before after : List Leaving)
   unfolding outside
   leaves_inside o q m =
       box_yes old.rules.cube old.key (place q)
-      (not_false _ (λ out. omega (arith, count_by-member outside q (all_points after) (leaves_at after o q m) out, none_outside)))
+      (true_from_ne_false _ (λ out. omega (arith, count_by-member outside q (all_points after) (leaves_at after o q m) (not_from_false _ out), none_outside)))
 
   module _ (cube : IsCube old.rules.cube) (sends : (o : ℕ) → o < 8 → SendsOn old new o (points_at before o) (points_at after o)) where
     some_of : (q : Point) (ps : List Point) → IsMember q ps → 0 < length ps
@@ -152,22 +140,11 @@ one_placed rules key o [] all a m = absurd m
 one_placed rules key o (q ∷ points) all a (inl is) = subst (λ (b : Arrival). IsPlaced rules b) is (all-member (λ r. IsPlaced rules (arrival_at (child key o) r)) q (q ∷ points) all (inl refl))
 one_placed rules key o (q ∷ points) all a (inr m) = one_placed rules key o points (λ i d low. all (suc i) d (omega (arith, low))) a m
 
-below_eight : (o : ℕ) → IsMember o all_octants → o < 8
-below_eight o (inl is) = omega (arith, is)
-below_eight o (inr (inl is)) = omega (arith, is)
-below_eight o (inr (inr (inl is))) = omega (arith, is)
-below_eight o (inr (inr (inr (inl is)))) = omega (arith, is)
-below_eight o (inr (inr (inr (inr (inl is))))) = omega (arith, is)
-below_eight o (inr (inr (inr (inr (inr (inl is)))))) = omega (arith, is)
-below_eight o (inr (inr (inr (inr (inr (inr (inl is))))))) = omega (arith, is)
-below_eight o (inr (inr (inr (inr (inr (inr (inr (inl is)))))))) = omega (arith, is)
-below_eight o (inr (inr (inr (inr (inr (inr (inr (inr m)))))))) = absurd m
-
 pub sending-placed : (rules : Rules) (key : VoxelKey) (leaving : List Leaving) → GoDown rules key leaving → ArePlaced rules (sending key leaving)
 sending-placed rules key leaving down =
     All-members (IsPlaced rules) (sending key leaving) (λ a m. (
     let from = member-flat_map (λ (o : ℕ). arrivals_to (child key o) (points_at leaving o)) a all_octants m in
-    one_placed rules key from.0 (points_at leaving from.0) (down from.0 (below_eight from.0 from.1)) a from.2))
+    one_placed rules key from.0 (points_at leaving from.0) (down from.0 (IsMember-octant from.0 from.1)) a from.2))
 
 -- a node that sends points is above the greatest depth
 pub sends-above : (rules : Rules) (key : VoxelKey) (leaving : List Leaving) → GoDown rules key leaving → (o : ℕ) → o < 8 → 0 < length (points_at leaving o) → key.depth < rules.cube.depth

@@ -1,5 +1,5 @@
-pub mod Branches
-pub mod Descending
+mod Branches
+mod Descending
 pub mod Growing
-pub mod Inside
-pub mod Regrouping
+mod Inside
+mod Regrouping

@@ -1,78 +1,23 @@
--- Flights that carry the same points to the same nodes are alike to the law: a flight may be split into its points.
+-- A flight split into its points.
 use Rattle.std.proofs.Common.{◌≡◌, ◌∙◌, ℕ, ◌⊎◌, inl, inr, List, [], ◌∷◌, ◌++◌, map, refl, sym, ap, subst}
 use Rattle.std.specs.List.{flat_map}
 use Rattle.std.specs.List.Sorted.{IsPermutation}
 use Rattle.std.proofs.lemmas.List.Concat.{flat_map-append}
+use Rattle.std.proofs.lemmas.List.Sorted.{IsPermutation-refl, IsPermutation-append_right}
 use Rattle.ept_point.specs.declared.point.Point.{Point}
-use Rattle.ept_space.specs.declared.cube.Rules.{Rules}
 use Rattle.ept_space.specs.VoxelKey.{VoxelKey, child}
 use Rattle.ept_sample.specs.Members.{IsMember}
 use Rattle.ept_sample.proofs.Members.{IsMember-left, IsMember-right, IsMember-append, IsMember-map, member-map, IsMember-flat_map, member-flat_map}
 use Rattle.ept_core.specs.declared.flight.Flight.{Flight}
-use Rattle.ept_core.specs.State.{State, Entry, IsFlying, IsHeld, IsHeldWithin}
-use Rattle.ept_core.specs.Law.{KeepsLaw, HoldsMore, HasPoint}
-use Rattle.ept_core.proofs.NodeMap.{points_of}
+use Rattle.ept_core.specs.State.{IsFlying}
+use Rattle.ept_core.specs.Law.{HasPoint}
 use Rattle.ept_core.proofs.Held.{flown}
+use Rattle.ept_core.proofs.Regrouping.{CarryTheSame}
 use Rattle.ept_core.specs.Steps as core
 use Rattle.ept_core.proofs.Leaving.{IsMember-flight, flying-there, flown-flight}
 use Rattle.ept_tree.specs.declared.arrival.Arrival.{Arrival}
 use Rattle.ept_tree.specs.Sending.{arrivals_to}
 use Rattle.ept_tree.specs.Tree.{flight_of}
-
--- two lists of flights carry the same points, in one order, to the same nodes, and none of the second is empty
-pub record CarryTheSame (xs ys : List Flight) : Type 0 where
-  pub there : (key : VoxelKey) (p : Point) → IsFlying xs key p → IsFlying ys key p
-  pub back : (key : VoxelKey) (p : Point) → IsFlying ys key p → IsFlying xs key p
-  pub carried : flown xs ≡ flown ys
-  pub flying : (f : Flight) → IsMember f ys → HasPoint f.points
-
--- ---- the law
-
-module _ (rules : Rules) (points left : List Point) (nodes : List Entry) (xs ys : List Flight) (same : CarryTheSame xs ys) where
-  abbrev state_with : List Flight → State
-  state_with flights = record { left = left; flights = flights; nodes = nodes }
-
-  held_there : (key : VoxelKey) (p : Point) → IsHeld (state_with xs) key p → IsHeld (state_with ys) key p
-  held_there key p (inl m) = inl m
-  held_there key p (inr f) = inr (same.there key p f)
-
-  held_back : (key : VoxelKey) (p : Point) → IsHeld (state_with ys) key p → IsHeld (state_with xs) key p
-  held_back key p (inl m) = inl m
-  held_back key p (inr f) = inr (same.back key p f)
-
-  within_there : (top : VoxelKey) (p : Point) → IsHeldWithin (state_with xs) top p → IsHeldWithin (state_with ys) top p
-  within_there top p (key, within, h) = (key, within, held_there key p h)
-
-  more_there : (top : VoxelKey) → HoldsMore rules (state_with xs) top → HoldsMore rules (state_with ys) top
-  more_there top (some, distinct, all, more) = (some, distinct, λ p m. within_there top p (all p m), more)
-
-  pub regrouped : KeepsLaw rules points (state_with xs) → KeepsLaw rules points (state_with ys)
-  regrouped law = record {
-    points_law = law.points_law;
-    same_points = (
-      law.same_points.0,
-      record {
-        suffix = law.same_points.1.suffix;
-        held_once = subst (λ (w : List Point). IsPermutation law.same_points.0 (points_of nodes ++ w)) same.carried law.same_points.1.held_once;
-      },
-    );
-    placed = record {
-      in_box = λ key p h. law.placed.in_box key p (held_back key p h);
-      shallow = λ key p h. law.placed.shallow key p (held_back key p h);
-    };
-    passed = record {
-      through_open = λ top key p h. law.passed.through_open top key p (held_back key p h);
-      lost_above = λ top key p h. law.passed.lost_above top key p (held_back key p h);
-    };
-    settled = record {
-      open_without_losers = law.settled.open_without_losers;
-      open_holds_more = λ key o low is. more_there (child key o) (law.settled.open_holds_more key o low is);
-      closed_has_few = law.settled.closed_has_few;
-    };
-    bottom = law.bottom;
-    rooted = record { has_root = law.rooted.has_root; flying = same.flying };
-    tidy = record { has_points = law.tidy.has_points; in_order = law.tidy.in_order; points_in_order = law.tidy.points_in_order };
-  }
 
 -- ---- flights of some points, and of one point each
 
@@ -97,8 +42,7 @@ behind-others others xs ys full same = record {
     | inl l ↦ flying-left others xs key p l
     | inr r ↦ flying-right others xs key p (same.back key p r)
   ];
-  carried = flat_map-append (λ (f : Flight). f.points) others xs
-      ∙ (ap (λ (w : List Point). flown others ++ w) same.carried ∙ sym (flat_map-append (λ (f : Flight). f.points) others ys));
+  carried = subst (λ (w : List Point). IsPermutation w (flown (others ++ ys))) (sym (flat_map-append (λ (f : Flight). f.points) others xs)) (subst (λ (w : List Point). IsPermutation (flown others ++ flown xs) w) (sym (flat_map-append (λ (f : Flight). f.points) others ys)) (IsPermutation-append_right (flown others) (flown xs) (flown ys) same.carried));
   flying = λ f m. elim (IsMember-append f others ys m) [ inl l ↦ full f l | inr r ↦ same.flying f r ];
 }
 
@@ -163,6 +107,6 @@ pub split-same : (key : VoxelKey) (part : ℕ → List Point) (os : List ℕ) �
 split-same key part os = record {
   there = split_there key part os;
   back = split_back key part os;
-  carried = flown-both key part os;
+  carried = subst (λ (w : List Point). IsPermutation (flown (whole key part os)) w) (flown-both key part os) (IsPermutation-refl (flown (whole key part os)));
   flying = one-each (split key part os);
 }

@@ -2,7 +2,7 @@
 use Rattle.std.specs.Prelude.{◌≡◌, ℕ, List, []}
 use Rattle.ept_point.specs.declared.point.Point.{Point}
 use Rattle.ept_space.specs.declared.cube.Rules.{Rules}
-use Rattle.ept_grid.specs.Outgoing.{points_at}
+use Rattle.ept_grid.specs.Outgoing.{Leaving, points_at}
 use Rattle.ept_tree.specs.declared.octree.Tree.{Tree}
 use Rattle.ept_tree.specs.Tree.{Branch, AreNodes, IsTree}
 
@@ -14,10 +14,14 @@ rules_of tree = tree.rules
 abbrev pub nodes_of : Tree → List Branch
 nodes_of tree = tree.nodes.entries
 
+-- the points that left a node and were not sent on
+abbrev pub leaving_of : Tree → List Leaving
+leaving_of tree = tree.leaving
+
 -- Each node has its key and the tree's rules, and no point is on its way.
 pub record IsAtRest (tree : Tree) : Type 0 where
   pub own : AreNodes (rules_of tree) (nodes_of tree)
-  pub none : (o : ℕ) → points_at tree.leaving o ≡ []
+  pub none : (o : ℕ) → points_at (leaving_of tree) o ≡ []
 
 -- of these points, all but those left were brought in
 abbrev pub HasTaken : List Point → List Point → Tree → Type 0

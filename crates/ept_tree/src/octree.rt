@@ -1,7 +1,10 @@
 //! The nodes of the octree, as points are brought into it.
 
-ghost use Rattle.std.specs.Prelude.{◌≡◌, ◌<◌, ◌≤◌, ◌+◌, ◌∷◌, ◌++◌, [], ℕ, List, Err, length, OnOk, IfOk};
+ghost use Rattle.std.specs.Prelude.{◌≡◌, ◌<◌, ◌≤◌, ◌+◌, ◌∷◌, ◌++◌, [], ℕ, List, Err, None, length, OnOk, IfOk};
+ghost use Rattle.std.specs.BTreeMap.{is_at};
+ghost use Rattle.std.specs.Map.{lookup};
 ghost use Rattle.ept_point.specs.declared.point.Point.{Point};
+ghost use Rattle.ept_space.specs.VoxelKey.{key_cmp};
 ghost use Rattle.ept_space.specs.OctreeCube.{InBox, InCube};
 ghost use Rattle.ept_sample.specs.Place.{place, AllInCube};
 ghost use Rattle.ept_sample.specs.Ids.{HasDistinctIds};
@@ -157,13 +160,27 @@ impl Tree {
     {
         match self.nodes.get_mut(&arrival.key) {
             Some(node) => take_in(node, arrival.point, &mut self.leaving),
-            None => {
-                let mut node = Grid::new(self.alloc, arrival.key, &self.rules);
-                take_in(&mut node, arrival.point, &mut self.leaving)?;
-                self.nodes.insert(arrival.key, node)?;
-                Ok(())
-            }
+            None => self.plant(arrival),
         }
+    }
+
+    // Makes the node of a point, which is not there, and lets the point arrive at it. A function apart, since
+    // room for a whole node would else be cleared at each arrival.
+    #[cold]
+    #[inline(never)]
+    fn plant(&mut self, arrival: &Arrival) -> Result<(), Memory>
+        requires rest { IsAtRest self.old }
+        requires placed { IsPlaced self.old.rules arrival.now }
+        requires absent { None ≡ lookup (is_at (key_cmp arrival.now.key)) self.old.nodes.entries }
+        ensures rules { self.new.rules ≡ self.old.rules }
+        ensures own { OnOk result (AreNodes self.old.rules self.new.nodes.entries) }
+        ensures landed { OnOk result (HasLanded self.old.rules arrival.now
+            self.old.nodes.entries self.new.nodes.entries self.new.leaving) }
+    {
+        let mut node = Grid::new(self.alloc, arrival.key, &self.rules);
+        take_in(&mut node, arrival.point, &mut self.leaving)?;
+        self.nodes.insert(arrival.key, node)?;
+        Ok(())
     }
 }
 

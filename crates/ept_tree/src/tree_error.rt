@@ -2,16 +2,13 @@
 
 use ept_point::Memory as NoMemory;
 use std::alloc::{AllocError, AllocFailed};
-use thiserror::Error;
 
 /// Why points are not brought into a tree.
-#[derive(Clone, Copy, Debug, PartialEq, Eq, Error)]
+#[derive(Clone, Copy, Debug, PartialEq, Eq)]
 pub enum TreeError {
     /// The tree has more nodes than it may have.
-    #[error("the octree has too many nodes")]
     TooManyNodes,
     /// Memory ran out.
-    #[error("out of memory")]
     Memory,
 }
 

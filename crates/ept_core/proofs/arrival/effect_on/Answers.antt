@@ -31,12 +31,14 @@ staying-requires c = record {
 }
 
 pub returns : goal.returns
-returns c = λ n agree. (
-    let lost : c.as_slice.result.now ≡ filter (loses c.args.rules.now c.args.key.now.depth c.args.given.now) c.args.given.now =
-    losing-at c.args.rules.now c.key.inside.depth c.args.key.now.depth c.args.given.now c.in_ok-losers.losers.items c.as_slice.result.now (ap (λ (k : VoxelKey). k.depth) c.key.view_is) c.as_slice.ensures.value c.in_ok-losers.ensures.losers in
-    let are : (o : ℕ) → o < 8 → get_or c.opening-opened.result o false ≡ (has_open n o || has_too_many c.args.rules.now c.args.key.now.depth c.as_slice.result.now o) =
-    λ o low. (c.opening-opened.ensures.opened o low ∙ ap (λ (b : Bool). b || has_too_many c.args.rules.now c.args.key.now.depth c.as_slice.result.now o) (sym (agree o low))) in
-    let same : c.as_slice-2.result.now ≡ c.as_slice.result.now = c.as_slice-2.ensures.value ∙ sym c.as_slice.ensures.value in (
-      node-is c.args.rules.now c.args.key.now n c.args.given.now c.as_slice.result.now c.opening-opened.result lost c.opening-opened.ensures.eight are c.of-points.result (c.of-points.ensures ∙ c.in_ok-staying.ensures.kept),
-      c.in_ok-flights.ensures ∙ (ap (λ (w : List Point). flights_below c.args.actor c.args.rules.now c.args.key.now w c.opening-opened.result 8) same ∙ flights-are c.args.rules.now c.args.key.now n c.args.given.now c.as_slice.result.now c.opening-opened.result lost c.opening-opened.ensures.eight are c.args.actor),
-    ))
+returns c = record {
+  effect = λ n agree. (
+      let lost : c.as_slice.result.now ≡ filter (loses c.args.rules.now c.args.key.now.depth c.args.given.now) c.args.given.now =
+      losing-at c.args.rules.now c.key.inside.depth c.args.key.now.depth c.args.given.now c.in_ok-losers.losers.items c.as_slice.result.now (ap (λ (k : VoxelKey). k.depth) c.key.view_is) c.as_slice.ensures.value c.in_ok-losers.ensures.losers in
+      let are : (o : ℕ) → o < 8 → get_or c.opening-opened.result o false ≡ (has_open n o || has_too_many c.args.rules.now c.args.key.now.depth c.as_slice.result.now o) =
+      λ o low. (c.opening-opened.ensures.opened o low ∙ ap (λ (b : Bool). b || has_too_many c.args.rules.now c.args.key.now.depth c.as_slice.result.now o) (sym (agree o low))) in
+      let same : c.as_slice-2.result.now ≡ c.as_slice.result.now = c.as_slice-2.ensures.value ∙ sym c.as_slice.ensures.value in (
+        node-is c.args.rules.now c.args.key.now n c.args.given.now c.as_slice.result.now c.opening-opened.result lost c.opening-opened.ensures.eight are c.of-points.result (c.of-points.ensures ∙ c.in_ok-staying.ensures.kept),
+        c.in_ok-flights.ensures.sent ∙ (ap (λ (w : List Point). flights_below c.args.actor c.args.rules.now c.args.key.now w c.opening-opened.result 8) same ∙ flights-are c.args.rules.now c.args.key.now n c.args.given.now c.as_slice.result.now c.opening-opened.result lost c.opening-opened.ensures.eight are c.args.actor),
+      ));
+}

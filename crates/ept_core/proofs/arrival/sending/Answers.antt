@@ -9,4 +9,4 @@ loop-which-init c =
 pub loop-which-preserved : goal.loop-which-preserved
 loop-which-preserved c =
     c.in_ok-append.ensures.items
-    ∙ (flights_below-more c.args.actor c.args.rules.now c.args.key.now c.args.losers.now c.args.opened.now c.loop-which.which c.loop-which.flights.items c.in_ok-more.more.items c.loop-which.invariant c.in_ok-more.ensures)
+    ∙ (flights_below-more c.args.actor c.args.rules.now c.args.key.now c.args.losers.now c.args.opened.now c.loop-which.which c.loop-which.flights.items c.in_ok-more.more.items c.loop-which.invariant c.in_ok-more.ensures.sent)

@@ -15,7 +15,7 @@ returns-in_err-step-clause-refused c =
     let at : event ≡ get_or c.args.events.now l.event-index event = search rules in
     let p = err_from_is_err_and c.from_residual.result c.from_residual.ensures.1 in
     let refuses : Refuses (shown l.core) (actors_of c.args.core.now) event c.in_err-step.field-0.0 = subst (λ (n : ℕ). Refuses (shown l.core) n event c.in_err-step.field-0.0) l.invariant.4 c.in_err-step.ensures.refused in
-    rw (p.1, p.2) (stops (rules_of c.args.core.now) (actors_of c.args.core.now) (shown c.args.core.now) (shown l.core) (shown c.step.new.self) c.args.events.now l.event-index event low at l.invariant.0 c.in_err-step.field-0.0 l.invariant.1 refuses c.in_err-step.ensures.err)
+    rw (p.1, p.2) (stops (rules_of c.args.core.now) (actors_of c.args.core.now) (shown c.args.core.now) (shown l.core) (shown c.step.new.self) c.args.events.now l.event-index event low at l.invariant.0 c.in_err-step.field-0.0 l.invariant.1 refuses c.in_err-step.ensures.unchanged)
 
 pub loop-event-preserved : goal.loop-event-preserved
 loop-event-preserved c =

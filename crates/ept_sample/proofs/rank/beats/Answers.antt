@@ -5,8 +5,8 @@ use Rattle.ept_sample.proofs.rank.beats.Goals as goal
 
 pub returns-then-share_cell : goal.returns-then-share_cell
 unfolding beats
-returns-then-share_cell c = grind (arith, common_steps)
+returns-then-share_cell c = record { beats = grind (arith, common_steps) }
 
 pub returns-else-share_cell : goal.returns-else-share_cell
 unfolding beats
-returns-else-share_cell c = grind (arith, common_steps)
+returns-else-share_cell c = record { beats = grind (arith, common_steps) }

@@ -14,7 +14,7 @@ returns-clause-ok c = λ f at. (
     let m : Machine = c.args.self.now in
     let g : Flight = c.index.result.now in
     let same : g ≡ f = get_or_read m.flights.items c.args.index g c.requires.index c.index.ensures f ∙ at in
-    let made = c.in_ok-node.ensures f at in
+    let made = c.in_ok-node.ensures.effect f at in
     let F : c.remove.new.self.items ≡ remove m.flights.items c.args.index ++ flights_after f.actor m.rules f.key (node_at m.nodes.entries f.key) (gathered m.nodes.entries f) =
     c.remove.ensures.items
     ∙ (ap (λ (w : List Flight). remove w c.args.index) c.in_ok-append.ensures.items

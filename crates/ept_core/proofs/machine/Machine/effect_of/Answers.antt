@@ -16,7 +16,7 @@ pub gather-requires : goal.gather-requires
 gather-requires c =
     let m : Machine = c.args.self.now in
     let f : Flight = c.index-flight.result.now in
-    subst (λ (w : List Point). HasDistinctIds (w ++ c.standing.result.0.now)) (sym c.as_slice.ensures) (subst (λ (w : List Point). HasDistinctIds (f.points ++ w)) (sym c.standing.ensures.points) (∥∥₁_elim c.requires.law (distinct-prop (f.points ++ (node_at m.nodes.entries f.key).points)) (λ law. distinct-arrival m.rules m.points (state_of m) c.args.index f c.requires.index c.index-flight.ensures law)))
+    record { distinct = subst (λ (w : List Point). HasDistinctIds (w ++ c.standing.result.0.now)) (sym c.as_slice.ensures) (subst (λ (w : List Point). HasDistinctIds (f.points ++ w)) (sym c.standing.ensures.points) (∥∥₁_elim c.requires.law (distinct-prop (f.points ++ (node_at m.nodes.entries f.key).points)) (λ law. distinct-arrival m.rules m.points (state_of m) c.args.index f c.requires.index c.index-flight.ensures law))) }
 
 pub effect_on-requires-clause-low : goal.effect_on-requires-clause-low
 effect_on-requires-clause-low c =
@@ -28,7 +28,7 @@ pub effect_on-requires-clause-inside : goal.effect_on-requires-clause-inside
 effect_on-requires-clause-inside c =
     let m : Machine = c.args.self.now in
     let f : Flight = c.index-flight.result.now in
-    let given : c.as_slice-2.result.now ≡ gathered m.nodes.entries f = c.as_slice-2.ensures.value ∙ (c.in_ok-given.ensures ∙ (ap (λ (w : List Point). in_id_order (w ++ c.standing.result.0.now)) c.as_slice.ensures ∙ (ap (λ (w : List Point). in_id_order (f.points ++ w)) c.standing.ensures.points ∙ gathered-is m.nodes.entries f))) in
+    let given : c.as_slice-2.result.now ≡ gathered m.nodes.entries f = c.as_slice-2.ensures.value ∙ (c.in_ok-given.ensures.gathered ∙ (ap (λ (w : List Point). in_id_order (w ++ c.standing.result.0.now)) c.as_slice.ensures ∙ (ap (λ (w : List Point). in_id_order (f.points ++ w)) c.standing.ensures.points ∙ gathered-is m.nodes.entries f))) in
     let M : List Point → Type 0 = λ w. AllInBox m.rules.cube f.key w in
     subst M (sym given) (∥∥₁_elim c.requires.law (box-prop m.rules.cube f.key (gathered m.nodes.entries f)) (λ law. box-arrival m.rules m.points (state_of m) c.args.index f c.requires.index c.index-flight.ensures law))
 
@@ -36,7 +36,7 @@ pub effect_on-requires-clause-in_cube : goal.effect_on-requires-clause-in_cube
 effect_on-requires-clause-in_cube c =
     let m : Machine = c.args.self.now in
     let f : Flight = c.index-flight.result.now in
-    let given : c.as_slice-2.result.now ≡ gathered m.nodes.entries f = c.as_slice-2.ensures.value ∙ (c.in_ok-given.ensures ∙ (ap (λ (w : List Point). in_id_order (w ++ c.standing.result.0.now)) c.as_slice.ensures ∙ (ap (λ (w : List Point). in_id_order (f.points ++ w)) c.standing.ensures.points ∙ gathered-is m.nodes.entries f))) in
+    let given : c.as_slice-2.result.now ≡ gathered m.nodes.entries f = c.as_slice-2.ensures.value ∙ (c.in_ok-given.ensures.gathered ∙ (ap (λ (w : List Point). in_id_order (w ++ c.standing.result.0.now)) c.as_slice.ensures ∙ (ap (λ (w : List Point). in_id_order (f.points ++ w)) c.standing.ensures.points ∙ gathered-is m.nodes.entries f))) in
     let M : List Point → Type 0 = λ w. AllInCube m.rules.cube w in
     subst M (sym given) (∥∥₁_elim c.requires.law (cube-prop m.rules.cube (gathered m.nodes.entries f)) (λ law. cube-arrival m.rules m.points (state_of m) c.args.index f c.requires.index c.index-flight.ensures law))
 
@@ -50,8 +50,10 @@ pub returns : goal.returns
 returns c =
     let m : Machine = c.args.self.now in
     let f : Flight = c.index-flight.result.now in
-    let given : c.as_slice-2.result.now ≡ gathered m.nodes.entries f = c.as_slice-2.ensures.value ∙ (c.in_ok-given.ensures ∙ (ap (λ (w : List Point). in_id_order (w ++ c.standing.result.0.now)) c.as_slice.ensures ∙ (ap (λ (w : List Point). in_id_order (f.points ++ w)) c.standing.ensures.points ∙ gathered-is m.nodes.entries f))) in
-    effect-ok c.effect_on.result _ (λ e. (g : Flight) → get_or m.flights.items c.args.index g ≡ g → IsEffect m.rules m.nodes.entries g e) (λ e h g at. (
-    let same : f ≡ g = get_or_read m.flights.items c.args.index f c.requires.index c.index-flight.ensures g ∙ at in
-    let made = h (node_at m.nodes.entries f.key) c.standing.ensures.opened in
-    subst (λ (w : Flight). IsEffect m.rules m.nodes.entries w e) same (made.0 ∙ ap (λ (w : List Point). node_after m.rules f.key (node_at m.nodes.entries f.key) w) given, made.1 ∙ ap (λ (w : List Point). flights_after f.actor m.rules f.key (node_at m.nodes.entries f.key) w) given))) c.effect_on.ensures
+    let given : c.as_slice-2.result.now ≡ gathered m.nodes.entries f = c.as_slice-2.ensures.value ∙ (c.in_ok-given.ensures.gathered ∙ (ap (λ (w : List Point). in_id_order (w ++ c.standing.result.0.now)) c.as_slice.ensures ∙ (ap (λ (w : List Point). in_id_order (f.points ++ w)) c.standing.ensures.points ∙ gathered-is m.nodes.entries f))) in
+    record {
+      effect = effect-ok c.effect_on.result _ (λ e. (g : Flight) → get_or m.flights.items c.args.index g ≡ g → IsEffect m.rules m.nodes.entries g e) (λ e h g at. (
+          let same : f ≡ g = get_or_read m.flights.items c.args.index f c.requires.index c.index-flight.ensures g ∙ at in
+          let made = h (node_at m.nodes.entries f.key) c.standing.ensures.opened in
+          subst (λ (w : Flight). IsEffect m.rules m.nodes.entries w e) same (made.0 ∙ ap (λ (w : List Point). node_after m.rules f.key (node_at m.nodes.entries f.key) w) given, made.1 ∙ ap (λ (w : List Point). flights_after f.actor m.rules f.key (node_at m.nodes.entries f.key) w) given))) c.effect_on.ensures.effect;
+    }

@@ -14,4 +14,4 @@ returns-in-Some-clause-state c =
 
 pub returns-in-None-clause-state : goal.returns-in-None-clause-state
 returns-in-None-clause-state c =
-    absurd (false≢true (sym (found-none c.args.self.now.nodes.entries c.args.key.now c.in-None.ensures.value).0 ∙ c.requires))
+    absurd (false≢true (sym (found-none c.args.self.now.nodes.entries c.args.key.now c.in-None.ensures.value).0 ∙ c.requires.node))
