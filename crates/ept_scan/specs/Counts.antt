@@ -7,9 +7,8 @@ use Rattle.ept_space.specs.Place.{coordinate}
 use Rattle.ept_las.specs.declared.header.Header.{Header}
 use Rattle.ept_config.specs.declared.source_count.SourceCount.{SourceCount}
 use Rattle.ept_scan.specs.declared.reading.Reading.{Reading}
-use Rattle.ept_scan.specs.declared.reading.TheConstants.{MAX_POINTS}
 use Rattle.ept_scan.specs.Extents.{IsAllowed, HasExtent}
-use Rattle.ept_scan.specs.LasFile.{AreFirstPoints}
+use Rattle.ept_scan.specs.LasFile.{most_points, AreFirstPoints}
 
 -- so many records were found to have an extent: that of their points, which lie where points may lie
 pub record FindsExtent (reading : Reading) (header : Header) (records : Option (List ℕ))
@@ -30,7 +29,7 @@ pub record FindsCount (limits : Option Bounds) (Are : List Point → Type 0)
     (count : SourceCount) : Type 0 where
   pub points : List Point
   pub is_count : IsCountOf points count
-  pub few : length points ≤ MAX_POINTS
+  pub few : length points ≤ most_points
   pub allowed : All (IsAllowed limits) points
   pub are : Are points
 
@@ -50,5 +49,5 @@ FitsBounds bounds points (Some extent) = (0 < points) × IsInside bounds extent
 
 -- a count as a reader takes it
 pub record IsSound (bounds : Bounds) (count : SourceCount) : Type 0 where
-  pub few : count.points ≤ MAX_POINTS
+  pub few : count.points ≤ most_points
   pub fits : FitsBounds bounds count.points count.extent

@@ -1,4 +1,4 @@
-use Rattle.std.proofs.Common.{refl, ap, ◌-◌, ℕ, sym, subst, arith}
+use Rattle.std.proofs.Common.{refl, ap, ◌-◌, ℕ, sym, subst, arith, length-take}
 use Rattle.ept_scan.specs.Opening.{StartsAt}
 use Rattle.ept_scan.proofs.Begun.{begun_queue, begun_near, begun_count, begun_files, begun_rest}
 use Rattle.ept_scan.proofs.reader.Reader.open.Goals as goal
@@ -13,6 +13,7 @@ pub returns-in-Ok-clause-reader : goal.returns-in-Ok-clause-reader
 returns-in-Ok-clause-reader g c = record {
   stands = λ free. begun_queue g.S.Source.whole g.S.Source.left g.S.Source.faults (g.H.Shelf.files c.args.shelf.now) c.args.kept.now c.args.counts.now c.args.drawn c.start_of-start.result.index (record { parts = c.open_parts.new.parts; at = 0; cursor = c.before-in-Ok.result; window = c.in_ok-window.window }) refl c.before-in-Ok.ensures.header (subst (StartsAt c.args.counts.now c.args.drawn c.start_of-start.result.index) (sym c.before-in-Ok.ensures.number) c.start_of-start.ensures) c.in-Ok.ensures.opened;
   counts = λ free. begun_count g.S.Source.whole g.S.Source.left g.S.Source.faults (g.H.Shelf.files c.args.shelf.now) c.args.kept.now c.args.counts.now c.args.drawn c.start_of-start.result.index (record { parts = c.open_parts.new.parts; at = 0; cursor = c.before-in-Ok.result; window = c.in_ok-window.window }) refl c.before-in-Ok.ensures.header (subst (StartsAt c.args.counts.now c.args.drawn c.start_of-start.result.index) (sym c.before-in-Ok.ensures.number) c.start_of-start.ensures) c.in-Ok.ensures.opened _ c.requires.drawn (ap (λ (n : ℕ). n - c.args.drawn) c.total_of.ensures);
+  rewound = λ k d lt. absurd (omega (arith, lt, length-take 0 c.open_parts.new.parts.items));
   fits = omega (arith, c.total_of.type_inv, c.total_of.ensures, c.requires.drawn);
   fault = λ wrong. cc;
   memory = λ wrong. cc;
