@@ -1,12 +1,19 @@
 -- What the calls of sources, sinks and spill files do to what they hold.
-use Rattle.std.specs.Prelude.{◌≡◌, ℕ, ◌+◌, ◌-◌, ◌^◌, ◌<◌, ◌≤◌, min, Bool, false, Option, Some, List, [], length, take, IsSome, if◌then◌else◌, None}
+use Rattle.std.specs.Prelude.{◌≡◌, ℕ, ◌+◌, ◌-◌, ◌^◌, ◌<◌, ◌≤◌, min, Bool, false, Option, Some, List, [], ◌∷◌, ◌++◌, length, take, IsSome, if◌then◌else◌, None, Result, Err}
 use Rattle.std.specs.Io.KnownBytes.{Consumes, Appends, IsAtEnd}
-use Rattle.ept_base.specs.Files.{Files, Tells}
+use Rattle.ept_base.specs.Files.{Files, Tells, StepsBy, NoChange}
+use Rattle.ept_base.specs.declared.errors.GetError.{GetError}
+use Rattle.ept_base.specs.declared.errors.GetError.TheVariants.{Memory}
 
 -- A source was opened on this path of the shelf: it stands before the first byte, and a shelf that tells has the path, with these bytes.
 pub record Opens (files : Option Files) (path : List ℕ) (whole left : Option (List ℕ)) : Type 0 where
   pub at_start : left ≡ whole
   pub content : Tells (λ all. IsSome whole × (whole ≡ all path)) files
+
+-- A shelf was asked for this path, which then stands behind those that it was asked for before, also where it can't be opened. Where there was no memory, it was not asked.
+abbrev pub Asks : {T : Type 0} → Option (List (List ℕ)) → Option (List (List ℕ)) → List ℕ → Result T GetError → Type 0
+Asks old new path (Err Memory) = StepsBy NoChange old new
+Asks old new path result = StepsBy (λ before now. now ≡ before ++ path ∷ []) old new
 
 -- n bytes were read into the front of the buffer; the buffer is full, or the end was reached
 pub record ReadsFull (old new : Option (List ℕ)) (n : ℕ) (buffer : List ℕ) : Type 0 where

@@ -3,32 +3,26 @@ ghost use Rattle.ept_base.specs.declared.errors.GetError.TheVariants as get;
 ghost use Rattle.ept_base.specs.declared.errors.PutError.TheVariants as put;
 
 use std::alloc::{AllocError, AllocFailed};
-use thiserror::Error;
 
 /// The fault of a device: its count of faults rose in the call that answers it.
-#[derive(Clone, Copy, Debug, PartialEq, Eq, Error)]
-#[error("the device failed")]
+#[derive(Clone, Copy, Debug, PartialEq, Eq)]
 pub struct Failed;
 
 /// Why a call that gives something out was refused.
-#[derive(Clone, Copy, Debug, PartialEq, Eq, Error)]
+#[derive(Clone, Copy, Debug, PartialEq, Eq)]
 pub enum GetError {
     /// The device failed: its count of faults rose.
-    #[error("the device failed")]
     Failed,
     /// There was no memory.
-    #[error("out of memory")]
     Memory,
 }
 
 /// Why a call that takes something in was refused.
-#[derive(Clone, Copy, Debug, PartialEq, Eq, Error)]
+#[derive(Clone, Copy, Debug, PartialEq, Eq)]
 pub enum PutError {
     /// The device failed: its count of faults rose.
-    #[error("the device failed")]
     Failed,
     /// There was no memory.
-    #[error("out of memory")]
     Memory,
 }
 

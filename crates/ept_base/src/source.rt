@@ -3,7 +3,7 @@ ghost use Rattle.std.specs.Io.{ReadsAtMost};
 ghost use Rattle.std.specs.Io.KnownBytes.{ReadConsumes};
 ghost use Rattle.ept_base.specs.Causes.{Rose, HasCause, HasCauseOf};
 ghost use Rattle.ept_base.specs.Files.{Files};
-ghost use Rattle.ept_base.specs.Devices.{Opens, counts_on};
+ghost use Rattle.ept_base.specs.Devices.{Opens, Asks, counts_on};
 
 use crate::{Failed, GetError};
 
@@ -57,6 +57,9 @@ pub trait Shelf {
     /// at its last value.
     ghost given: { Self → ℕ };
 
+    /// The paths that it was asked to open, in order, where it tells.
+    ghost asked: { Self → Option (List (List ℕ)) };
+
     /// A source with the bytes of this path, at their start, without a fault and unread. A path that is
     /// not in the map is `Failed`.
     fn open(&mut self, path: &str) -> Result<Self::Source, GetError>
@@ -65,6 +68,7 @@ pub trait Shelf {
         ensures fresh { IfOk result (λ source. Self.Source.faults source ≡ 0) }
         ensures unread { IfOk result (λ source. Self.Source.given source ≡ 0) }
         ensures given { given self.new ≡ given self.old }
+        ensures asked { Asks (asked self.old) (asked self.new) path.now result }
         ensures same { files self.new ≡ files self.old }
         ensures cause { HasCauseOf GetError.Failed (faults self.old) (faults self.new) result };
 
@@ -75,5 +79,6 @@ pub trait Shelf {
         ensures failed { Self.Source.faults source ≢ 0 → Rose (faults self.old) (faults self.new) }
         ensures sound { Self.Source.faults source ≡ 0 → faults self.new ≡ faults self.old }
         ensures given { given self.new ≡ counts_on (given self.old) (Self.Source.given source) }
+        ensures asked { asked self.new ≡ asked self.old }
         ensures same { files self.new ≡ files self.old };
 }

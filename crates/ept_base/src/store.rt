@@ -1,4 +1,4 @@
-ghost use Rattle.std.specs.Prelude.{◌≡◌, ◌≤◌, ℕ, List, Option, IfOk, OnOk, OnErr, IsErrOf};
+ghost use Rattle.std.specs.Prelude.{◌≡◌, ◌≤◌, ℕ, List, [], Option, false, IfOk, OnOk, OnErr, IsErrOf};
 ghost use Rattle.ept_base.specs.Causes.{HasCauseOf};
 ghost use Rattle.ept_base.specs.Files.{Files, SameFiles, SameBut, Puts, Removes, Tells, StepsBy};
 ghost use Rattle.ept_base.specs.Moves.{Follows, SameImages, NoMore, IsSettled, Elapses};
@@ -34,6 +34,7 @@ pub trait Store {
     /// name is absent. After a refusal `into` is as it was.
     fn get(&mut self, name: &str, into: &mut Vec<u8>) -> Result<bool, GetError>
         ensures ok { IfOk result (λ found. Tells (λ all. Gets all name.now found into.new.items) (files self.old)) }
+        ensures absent { IfOk result (λ found. found ≡ false → into.new.items ≡ []) }
         ensures refused { OnErr result (into.new.items ≡ into.old.items) }
         ensures reads { StepsBy SameFiles (files self.old) (files self.new) }
         ensures images { SameImages (may_leave self.old) (may_leave self.new) }

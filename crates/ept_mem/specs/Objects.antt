@@ -1,5 +1,5 @@
 -- What the objects in memory hold.
-use Rattle.std.specs.Prelude.{ℕ, List, length, drop}
+use Rattle.std.specs.Prelude.{◌≡◌, ℕ, List, length, map, drop, string_bytes}
 use Rattle.ept_base.specs.Files.{Files}
 use Rattle.ept_mem.specs.Named.{content_of}
 use Rattle.ept_mem.specs.Disk.{Disk, disk, IsImage, WasImageSince}
@@ -21,6 +21,10 @@ source_left source = drop source.place source.bytes.items
 -- the map from path to bytes of a shelf
 abbrev pub shelf_files : MemShelf → Files
 shelf_files shelf = content_of shelf.files.items
+
+-- the paths that a shelf was asked to open, in order
+abbrev pub shelf_asked : MemShelf → List (List ℕ)
+shelf_asked shelf = map string_bytes shelf.asked.items
 
 -- the bytes written to a sink
 abbrev pub sink_bytes : MemSink → List ℕ
@@ -80,6 +84,13 @@ source_given source = source.given
 
 abbrev pub shelf_given : MemShelf → ℕ
 shelf_given shelf = shelf.given
+
+-- a source as it is opened: at its start, without a fault and unread, and these calls of it are to fail
+pub record IsFresh (source : MemSource) (fails : List ℕ) : Type 0 where
+  pub at_start : source_left source ≡ source_bytes source
+  pub sound : source_faults source ≡ 0
+  pub unread : source_given source ≡ 0
+  pub listed : source_fails source ≡ fails
 
 -- the counts of calls of `keep`, and of `get`
 abbrev pub spill_keeps : MemSpill → ℕ

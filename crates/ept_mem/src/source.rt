@@ -4,7 +4,7 @@ ghost use Rattle.ept_mem.specs.Named.{content_of};
 use crate::named::find;
 use crate::plan::Plan;
 use ept_base::{Failed, GetError, Shelf, Source};
-use std::alloc::Global;
+use std::alloc::{AllocError, Global};
 
 /// A source in memory.
 #[derive(Debug, Drop)]
@@ -75,14 +75,15 @@ pub struct MemShelf {
     alloc: Global,
     files: Vec<(String, Vec<u8>)>,
     given: u64,
+    asked: Vec<String>,
     plan: Plan,
     source_fails: Vec<u64>,
 }
 
 impl MemShelf {
-    ghost use Rattle.std.specs.Prelude.{◌≡◌};
+    ghost use Rattle.std.specs.Prelude.{◌≡◌, [], ◌∷◌, ◌++◌, IfOk, IfSome, OnOk, OnErr, option_map};
     ghost use Rattle.ept_mem.specs.Named.{content_of};
-    ghost use Rattle.ept_mem.specs.Objects.{shelf_files, shelf_faults, shelf_given, shelf_fails, shelf_source_fails};
+    ghost use Rattle.ept_mem.specs.Objects.{IsFresh, source_bytes, shelf_files, shelf_faults, shelf_given, shelf_asked, shelf_fails, shelf_source_fails};
 
     /// A shelf of these files, of which the first of a path counts. Its own calls of the numbers
     /// `fails` fail, and so do those of the numbers `source_fails` of each source that it opens.
@@ -95,6 +96,7 @@ impl MemShelf {
         ensures files { shelf_files result ≡ content_of files.items }
         ensures sound { shelf_faults result ≡ 0 }
         ensures unread { shelf_given result ≡ 0 }
+        ensures not_asked { shelf_asked result ≡ [] }
         ensures fails { shelf_fails result ≡ fails.items }
         ensures source_fails { shelf_source_fails result ≡ source_fails.items }
     {
@@ -102,9 +104,35 @@ impl MemShelf {
             alloc,
             files,
             given: 0,
+            asked: Vec::new(alloc),
             plan: Plan::new(fails),
             source_fails,
         }
+    }
+
+    /// A source of the bytes of this path, where there is such a path.
+    fn source_of(&self, path: &str) -> Result<Option<MemSource>, AllocError>
+        ensures found { IfOk result (λ found. option_map source_bytes found ≡ shelf_files self.now path.now) }
+        ensures fresh { IfOk result (λ found. IfSome found (λ source. IsFresh source (shelf_source_fails self.now))) }
+    {
+        let Some(bytes) = find(&self.files, path) else {
+            return Ok(None);
+        };
+        let bytes = Vec::from_slice(self.alloc, bytes)?;
+        let fails = Vec::from_slice(self.alloc, &self.source_fails)?;
+        Ok(Some(MemSource::new(bytes, fails)))
+    }
+
+    /// Notes that this path was asked for.
+    fn note(&mut self, path: &str) -> Result<(), AllocError>
+        ensures noted { OnOk result (shelf_asked self.new ≡ shelf_asked self.old ++ path.now ∷ []) }
+        ensures refused { OnErr result (shelf_asked self.new ≡ shelf_asked self.old) }
+        ensures files { shelf_files self.new ≡ shelf_files self.old }
+        ensures given { shelf_given self.new ≡ shelf_given self.old }
+        ensures plan { self.new.plan ≡ self.old.plan }
+    {
+        self.asked.push(String::from_str(self.alloc, path)?)?;
+        Ok(())
     }
 }
 
@@ -112,7 +140,7 @@ impl Shelf for MemShelf {
     type Source = MemSource;
 
     ghost use Rattle.std.specs.Prelude.{Some};
-    ghost use Rattle.ept_mem.specs.Objects.{shelf_files, shelf_faults, shelf_given};
+    ghost use Rattle.ept_mem.specs.Objects.{shelf_files, shelf_faults, shelf_given, shelf_asked};
 
     ghost files = { λ shelf. Some (shelf_files shelf) };
 
@@ -120,17 +148,15 @@ impl Shelf for MemShelf {
 
     ghost given = { shelf_given };
 
+    ghost asked = { λ shelf. Some (shelf_asked shelf) };
+
     fn open(&mut self, path: &str) -> Result<MemSource, GetError> {
-        if self.plan.next() {
-            return Err(self.plan.fault().into());
-        }
-        match find(&self.files, path) {
-            Some(bytes) => {
-                let bytes = Vec::from_slice(self.alloc, bytes)?;
-                let fails = Vec::from_slice(self.alloc, &self.source_fails)?;
-                Ok(MemSource::new(bytes, fails))
-            }
-            None => Err(self.plan.fault().into()),
+        let is_to_fail = self.plan.next();
+        let opened = self.source_of(path)?;
+        self.note(path)?;
+        match opened {
+            Some(source) if !is_to_fail => Ok(source),
+            _ => Err(self.plan.fault().into()),
         }
     }
 

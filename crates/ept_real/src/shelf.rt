@@ -64,6 +64,8 @@ impl<'a, R: Files> Shelf for RealShelf<'a, R> {
 
     ghost given = { λ shelf. shelf_given shelf };
 
+    ghost asked = { λ _. None };
+
     fn open(&mut self, path: &str) -> Result<RealSource<'a, R>, GetError> {
         let path = String::from_str(self.alloc, path)?;
         match try_open(self.files, path.as_str()) {
