@@ -16,4 +16,5 @@ pub mod Values
 pub mod Configuration
 pub mod WorkFields
 pub mod KeptOf
+pub mod Counts
 pub mod Laws

@@ -33,10 +33,9 @@ pub use kept::Kept;
 pub use laws::{object_law, required_law, text_law, threads_law};
 pub use limits::{
     EXPECT_WIDTH, MAX_CACHE, MAX_CHECKPOINT, MAX_DEPTH, MAX_INPUTS, MAX_LENGTH, MAX_NODES,
-    MAX_OFFSET, MAX_PATH, MAX_SCALE, MAX_SHIFT, MAX_SPAN, MAX_SRS_TEXT, MAX_STEP, MAX_THREADS,
-    MAX_THRESHOLD, MIN_SPAN,
+    MAX_OFFSET, MAX_PATH, MAX_SCALE, MAX_SHIFT, MAX_SRS_TEXT, MAX_STEP, MAX_THREADS, MAX_THRESHOLD,
 };
 pub use reader::read_config;
-pub use source_count::SourceCount;
+pub use source_count::{SourceCount, total_of};
 pub use srs::Srs;
 pub use texts::{is_path, is_srs_text};

@@ -21,12 +21,6 @@ pub const MAX_SHIFT: u64 = 1_000_000_000_000_000;
 /// How many bytes of a LAS header an input may expect: its scales and offsets.
 pub const EXPECT_WIDTH: usize = 48;
 
-/// The least exponent of a span: 2 cells an axis.
-pub const MIN_SPAN: u8 = 1;
-
-/// The greatest exponent of a span: 1024 cells an axis.
-pub const MAX_SPAN: u8 = 10;
-
 /// The greatest number of points that an octant keeps in its node.
 pub const MAX_THRESHOLD: u64 = 2_147_483_648;
 

@@ -1,5 +1,9 @@
 //! What a scan's first reading finds.
 
+ghost use Rattle.std.specs.Prelude.{◌≡◌, ◌≤◌, ◌<◌, ◌^◌, length};
+ghost use Rattle.std.specs.List.{All};
+ghost use Rattle.ept_config.specs.Counts.{total};
+
 use ept_space::Bounds;
 
 /// What the first reading of an input finds: the number of its points, and their extent in stored
@@ -8,4 +12,17 @@ use ept_space::Bounds;
 pub struct SourceCount {
     pub points: u64,
     pub extent: Option<Bounds>,
+}
+
+/// The number of all points of some counts.
+pub fn total_of(counts: &[SourceCount]) -> u64
+    requires inputs { length counts.now ≤ 65535 }
+    requires few { All (λ count. count.points < 2 ^ 32) counts.now }
+    ensures { result ≡ total counts.now }
+{
+    let mut sum: u64 = 0;
+    for count in counts {
+        sum += count.points;
+    }
+    sum
 }

@@ -10,7 +10,7 @@ use Rattle.ept_space.specs.declared.bounds.Bounds.{Bounds}
 use Rattle.ept_space.specs.Place.{Place, coordinate}
 use Rattle.ept_space.specs.OctreeCube.{OctreeCube, IsCube, IsFrom, InCube}
 use Rattle.ept_space.specs.ClosedBox.{IsBetween}
-use Rattle.ept_space.specs.CubeOfBounds.{InBounds, HasPlace, Covers, IsCubeOf, cube_of, longest, bit_length}
+use Rattle.ept_space.specs.CubeOfBounds.{InBounds, HasPlace, IsInside, Covers, IsCubeOf, cube_of, longest, bit_length}
 use Rattle.ept_space.proofs.Intervals.{all-three}
 use Rattle.ept_space.proofs.Shifts.{ap3}
 
@@ -51,6 +51,30 @@ has_place-code bounds =
   where
     order : (a b : ℤ) → IsTrue (int_le a b) ↔ (a ≤ℤ b)
     order a b = ((λ h. grind (arith, ints)), (λ h. grind (arith, ints)))
+
+-- ---- bounds within others
+
+within_axis : (low high least greatest at : ℤ) → low ≤ℤ least → greatest ≤ℤ high → IsBetween least greatest at → IsBetween low high at
+within_axis low high least greatest at above below (from, to) = (omega (arith, ints), omega (arith, ints))
+
+least-between : (least greatest : ℤ) → least ≤ℤ greatest → IsBetween least greatest least
+least-between least greatest h = (omega (arith, ints), h)
+
+greatest-between : (least greatest : ℤ) → least ≤ℤ greatest → IsBetween least greatest greatest
+greatest-between least greatest h = (h, omega (arith, ints))
+
+pub inside-by_places : (outer inner : Bounds) → HasPlace inner → IsInside outer inner ↔ ((place : Place) → InBounds inner place → InBounds outer place)
+inside-by_places outer inner has = (
+  (λ inside place lies. record {
+    x = within_axis _ _ _ _ _ inside.x_min inside.x_max lies.x;
+    y = within_axis _ _ _ _ _ inside.y_min inside.y_max lies.y;
+    z = within_axis _ _ _ _ _ inside.z_min inside.z_max lies.z;
+  }),
+  (λ all.
+      let low = all inner.min (record { x = least-between _ _ has.x_ordered; y = least-between _ _ has.y_ordered; z = least-between _ _ has.z_ordered }) in
+      let high = all inner.max (record { x = greatest-between _ _ has.x_ordered; y = greatest-between _ _ has.y_ordered; z = greatest-between _ _ has.z_ordered }) in
+      record { x_min = low.x.0; y_min = low.y.0; z_min = low.z.0; x_max = high.x.1; y_max = high.y.1; z_max = high.z.1 }),
+)
 
 -- ---- sides that cover the bounds
 

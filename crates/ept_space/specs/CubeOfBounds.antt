@@ -1,5 +1,5 @@
--- The cube that a set of bounds, a span and a greatest depth give.
-use Rattle.std.specs.Prelude.{◌≡◌, ℕ, ◌-◌, ◌^◌, ◌≤◌, min, max, pos, ◌-ℤ◌, ◌≤ℤ◌, ◌<ℤ◌, unsigned_abs}
+-- Bounds, and the cube that they, a span and a greatest depth give.
+use Rattle.std.specs.Prelude.{◌≡◌, ℕ, ◌-◌, ◌^◌, ◌<◌, ◌≤◌, ◌↔◌, min, max, pos, ◌-ℤ◌, ◌≤ℤ◌, ◌<ℤ◌, unsigned_abs}
 use Rattle.std.specs.Int.{w32, leading_zeros}
 use Rattle.ept_space.specs.declared.bounds.Bounds.{Bounds}
 use Rattle.ept_space.specs.Place.{Place, coordinate}
@@ -17,6 +17,15 @@ pub record HasPlace (bounds : Bounds) : Type 0 where
   pub x_ordered : coordinate bounds.min 0 ≤ℤ coordinate bounds.max 0
   pub y_ordered : coordinate bounds.min 1 ≤ℤ coordinate bounds.max 1
   pub z_ordered : coordinate bounds.min 2 ≤ℤ coordinate bounds.max 2
+
+-- some bounds lie within others: on every axis from the minimum of the others to their maximum
+pub record IsInside (outer inner : Bounds) : Type 0 where
+  pub x_min : coordinate outer.min 0 ≤ℤ coordinate inner.min 0
+  pub y_min : coordinate outer.min 1 ≤ℤ coordinate inner.min 1
+  pub z_min : coordinate outer.min 2 ≤ℤ coordinate inner.min 2
+  pub x_max : coordinate inner.max 0 ≤ℤ coordinate outer.max 0
+  pub y_max : coordinate inner.max 1 ≤ℤ coordinate outer.max 1
+  pub z_max : coordinate inner.max 2 ≤ℤ coordinate outer.max 2
 
 -- the span is 2 to 1024 cells, the depth at most 32, and the bounds have a place
 pub record HasCube (bounds : Bounds) (s max_depth : ℕ) : Type 0 where
@@ -60,6 +69,16 @@ cube_of bounds s max_depth =
     record { corner = bounds.min; e = e; s = s; depth = min max_depth (e - s) }
 
 -- ---- what holds of all bounds. Each statement stands on the contract of a function of `laws`
+
+-- bounds that have a place lie within others exactly where the others have all their places
+abbrev pub InsideByPlaces : Type 0
+InsideByPlaces =
+    (outer inner : Bounds) → HasPlace inner → IsInside outer inner ↔ ((place : Place) → InBounds inner place → InBounds outer place)
+
+-- that function gives the cube of bounds that have a place and whose numbers are of 32 bits
+abbrev pub FunctionGivesCube : Type 0
+FunctionGivesCube =
+    (bounds : Bounds) (s max_depth : ℕ) → HasPlace bounds → longest bounds < 2 ^ 32 → IsCubeOf bounds s max_depth (cube_of bounds s max_depth)
 
 -- the places of the bounds lie in their cube
 abbrev pub BoundsAreInCube : Type 0

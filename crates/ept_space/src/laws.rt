@@ -1,7 +1,7 @@
 //! The laws of keys, boxes and cells, each on the contract of a function that does nothing.
 
 ghost use Rattle.ept_space.specs.KeyLaws.{ChildHasParent, ChildHasOctant, ParentHasChild, EightOctants, ChildIsDeeper, ChildIsKey, ParentIsKey, OneRoot, WithinByParents, BelowIsDeeper, WithinItself, WithinAndOn, WithinInOrder, OneOfEachDepth, RootHasAll, BelowIsInAChild, ChildrenAreApart, BelowByParent, SameKeyTells, KeysAreOrdered, LessIsBefore, EqualIsSame, ParentIsBefore, OneSpelling};
-ghost use Rattle.ept_space.specs.CubeOfBounds.{BoundsAreInCube, BoundsHaveOneCube};
+ghost use Rattle.ept_space.specs.CubeOfBounds.{InsideByPlaces, BoundsAreInCube, BoundsHaveOneCube, FunctionGivesCube};
 ghost use Rattle.ept_space.specs.BoxLaws.{PlaceHasKey, PlaceHasOneKey, PlaceHasRoot, NextKeyIsChild, NextKeyHasParent, NextKeyHasOctant, PlaceHasOctant, KeysOfPlaceNest, AboveIsKeyOfPlace, BelowIsInItsOctant, RootBoxIsCube, BoxIsInCube, BoxesNest, ChildBoxIsInParent, PlaceHasChild, PlaceHasOneChild, ChildBoxesAreApart};
 ghost use Rattle.ept_space.specs.CellLaws.{PlaceHasCell, PlaceHasOneCell, SameCellTells, CellsNest, CellIsInOneBox, CellIsInOneOctant, DistanceIsSmall};
 
@@ -45,10 +45,13 @@ pub fn text_law()
     ensures { OneSpelling }
 {}
 
-/// Bounds have one cube, and their places lie in it.
+/// Bounds lie within others by their places. They have one cube, in which their places lie; the function
+/// of the bounds gives it.
 pub fn bounds_law()
+    ensures inside { InsideByPlaces }
     ensures in_cube { BoundsAreInCube }
     ensures one_cube { BoundsHaveOneCube }
+    ensures cube_of { FunctionGivesCube }
 {}
 
 /// A place of the cube has one key at each depth, each the child of the one before.

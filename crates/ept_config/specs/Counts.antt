@@ -1,0 +1,18 @@
+-- What a count may be: the number of an input's points, and their extent.
+use Rattle.std.specs.Prelude.{ℕ, ◌<◌, ◌^◌, ◌↔◌, List, sum_by, IsSome}
+use Rattle.std.specs.Option.{ForSome}
+use Rattle.ept_space.specs.declared.bounds.Bounds.{Bounds}
+use Rattle.ept_space.specs.CubeOfBounds.{HasPlace, IsInside}
+use Rattle.ept_config.specs.declared.source_count.SourceCount.{SourceCount}
+
+-- the number of all points of some counts
+abbrev pub total : List SourceCount → ℕ
+total counts = sum_by (λ count. count.points) counts
+
+-- The points number fewer than 2 ^ 32. An extent is there exactly where there are points: its minimum is at most
+-- its maximum on every axis, and it lies within the bounds.
+pub record IsCount (bounds : Bounds) (count : SourceCount) : Type 0 where
+  pub few : count.points < 2 ^ 32
+  pub there : IsSome count.extent ↔ (0 < count.points)
+  pub ordered : ForSome count.extent HasPlace
+  pub inside : ForSome count.extent (IsInside bounds)
