@@ -1,17 +1,35 @@
 -- Records that are drawn one after the other are a batch.
-use Rattle.std.proofs.Common.{◌≡◌, ⊎_elim, ℕ, ◌+◌, ◌<◌, ◌≤◌, List, [], ◌∷◌, ◌++◌, Option, length, take, drop, get_or, refl, sym, ◌∙◌, ap, subst, arith, append_assoc, length-append, length-drop}
+use Rattle.std.proofs.Common.{◌≡◌, ⊎_elim, ℕ, ◌+◌, ◌-◌, ◌<◌, ◌≤◌, List, [], ◌∷◌, ◌++◌, Option, length, take, drop, get_or, refl, sym, ◌∙◌, ap, subst, arith, append_assoc, length-append, length-drop}
 use Rattle.std.specs.Prelude.{All, sum_by}
 use Rattle.std.proofs.lemmas.Bool.{cases_lt}
-use Rattle.std.proofs.lemmas.List.{append-nil, take_at, take_more, get_or-drop, drop-drop}
+use Rattle.std.proofs.lemmas.List.{append-nil, take_at, take_more, get_or-drop, drop-drop, get_or_append_left}
 use Rattle.std.proofs.lemmas.List.Elements.{All-nil, All-push}
+use Rattle.std.proofs.Math.Seq.{get_or-append_seam}
 use Rattle.ept_point.specs.declared.point.Point.{Point}
+use Rattle.ept_scan.specs.declared.read_error.ReadError.{ReadError}
+use Rattle.ept_scan.specs.declared.read_error.ReadError.TheVariants.{SourceFault, SourceChanged, Memory}
 use Rattle.ept_scan.specs.declared.queue.Queue.{Queue}
 use Rattle.ept_scan.specs.declared.part.Part.{Part}
-use Rattle.ept_scan.specs.Queue.{Held, LiesIn, held_of, RestOf, records_left, HasFault, IsQueue, AreNear}
+use Rattle.ept_scan.specs.Changes.{IfChanged}
+use Rattle.ept_scan.specs.Queue.{Held, LiesIn, IsDrawn, AreDrawn, HasChanged, IsFirstChanged, held_of, RestOf, records_left, HasFault, IsQueue, AreNear, AreRewound}
 
 empty_is : {X : Type 0} (xs : List X) → length xs ≡ 0 → xs ≡ []
 empty_is [] none = refl
 empty_is (x ∷ xs) none = absurd (omega (arith, none))
+
+-- one point more
+are_none : (files : List Held) (n : ℕ) → AreDrawn files n []
+are_none files n = λ k d lt. absurd (omega (arith, lt))
+
+are_more : (files : List Held) (n : ℕ) (points : List Point) (p : Point) → AreDrawn files n points → IsDrawn files (n - length points) p → AreDrawn files n (points ++ p ∷ [])
+are_more files n points p are is = λ k d lt.
+    ⊎_elim (λ (before : k < length points). subst (λ (q : Point). IsDrawn files (n - k) q) (sym (get_or_append_left points (p ∷ []) d k before)) (are k d before))
+    (λ (past : length points ≤ k). newest k d (omega (arith, lt, past, length-append points (p ∷ [])))) (cases_lt k (length points))
+  where
+    newest : (k : ℕ) (d : Point) → k ≡ length points → IsDrawn files (n - k) (get_or (points ++ p ∷ []) k d)
+    newest k d same =
+        let read : get_or (points ++ p ∷ []) k d ≡ p = ap (λ (i : ℕ). get_or (points ++ p ∷ []) i d) same ∙ get_or-append_seam points p [] d in
+        subst (λ (q : Point). IsDrawn files (n - k) q) (sym read) (subst (λ (i : ℕ). IsDrawn files (n - i) p) (sym same) is)
 
 module _ {S : Type 0} (queue : Queue S) where
   none_left : length queue.parts.items ≤ queue.at → records_left queue ≡ 0
@@ -34,9 +52,14 @@ module _ {S : Type 0} (whole left : S → Option (List ℕ)) (faults : S → ℕ
     pub out_is : out ≡ before ++ drawn
     pub size : length drawn ≡ k
     pub lie : All (LiesIn (held_of whole first)) drawn
+    pub are : AreDrawn (held_of whole first) (records_left first) drawn
     pub rest : (points : List Point) → RestOf whole first points → (out ≡ before ++ take k points) × RestOf whole queue (drop k points)
     pub near : AreNear whole left first → AreNear whole left queue
+    pub rewound : AreRewound whole left first → AreRewound whole left queue
     pub fault : HasFault faults first → HasFault faults queue
+
+  left_now : (queue : Queue S) (out : List Point) (k : ℕ) → (so_far : HasDrawn queue out k) → records_left queue ≡ records_left first - length so_far.drawn
+  left_now queue out k so_far = omega (arith, so_far.count, so_far.size)
 
   pub drawn_none : IsQueue whole left first → HasDrawn first before 0
   drawn_none is = record {
@@ -47,14 +70,17 @@ module _ {S : Type 0} (whole left : S → Option (List ℕ)) (faults : S → ℕ
     out_is = sym (append-nil before);
     size = refl;
     lie = All-nil (LiesIn (held_of whole first));
+    are = are_none (held_of whole first) (records_left first);
     rest = λ points rest. (sym (append-nil before), rest);
     near = λ near. near;
+    rewound = λ rewound. rewound;
     fault = λ any. any;
   }
 
   pub drawn_more : (queue next : Queue S) (out : List Point) (k : ℕ) (p : Point) → HasDrawn queue out k → IsQueue whole left next → held_of whole next ≡ held_of whole queue → records_left next + 1 ≡ records_left queue → LiesIn (held_of whole queue) p
-      → ((points : List Point) → RestOf whole queue points → (rest : List Point) × (points ≡ p ∷ rest) × RestOf whole next rest) → (AreNear whole left queue → AreNear whole left next) → (HasFault faults queue → HasFault faults next) → HasDrawn next (out ++ p ∷ []) (k + 1)
-  drawn_more queue next out k p so_far is same less lies rest near fault = record {
+      → IsDrawn (held_of whole queue) (records_left queue) p
+      → ((points : List Point) → RestOf whole queue points → (rest : List Point) × (points ≡ p ∷ rest) × RestOf whole next rest) → (AreNear whole left queue → AreNear whole left next) → (AreRewound whole left queue → AreRewound whole left next) → (HasFault faults queue → HasFault faults next) → HasDrawn next (out ++ p ∷ []) (k + 1)
+  drawn_more queue next out k p so_far is same less lies drawn rest near rewound fault = record {
     stands = is;
     files = same ∙ so_far.files;
     count = omega (arith, less, so_far.count);
@@ -62,8 +88,10 @@ module _ {S : Type 0} (whole left : S → Option (List ℕ)) (faults : S → ℕ
     out_is = ap (λ (l : List Point). l ++ p ∷ []) so_far.out_is ∙ append_assoc before so_far.drawn (p ∷ []);
     size = omega (arith, so_far.size, length-append so_far.drawn (p ∷ []));
     lie = All-push (LiesIn (held_of whole first)) so_far.drawn p so_far.lie (subst (λ (l : List Held). LiesIn l p) so_far.files lies);
+    are = are_more (held_of whole first) (records_left first) so_far.drawn p so_far.are (subst (λ (l : List Held). IsDrawn l (records_left first - length so_far.drawn) p) so_far.files (subst (λ (n : ℕ). IsDrawn (held_of whole queue) n p) (left_now queue out k so_far) drawn));
     rest = λ points all. further points (so_far.rest points all);
     near = λ all. near (so_far.near all);
+    rewound = λ all. rewound (so_far.rewound all);
     fault = λ any. fault (so_far.fault any);
   }
     where
@@ -80,6 +108,17 @@ module _ {S : Type 0} (whole left : S → Option (List ℕ)) (faults : S → ℕ
         where
           zero_more : (i : ℕ) → i ≡ i + 0
           zero_more i = omega arith
+
+  -- the next record has changed, behind those that were drawn
+  pub first_changed : (queue : Queue S) (out : List Point) (k most : ℕ) → HasDrawn queue out k → k < most → (e : ReadError) → IfChanged (HasChanged (held_of whole queue) (records_left queue)) e → IfChanged (IsFirstChanged (held_of whole first) (records_left first) most) e
+  first_changed queue out k most so_far within SourceFault changed = tt
+  first_changed queue out k most so_far within Memory changed = tt
+  first_changed queue out k most so_far within (SourceChanged source n) changed = record {
+    before = so_far.drawn;
+    few = omega (arith, so_far.size, within);
+    drawn = so_far.are;
+    changed = subst (λ (l : List Held). HasChanged l (records_left first - length so_far.drawn) source n) so_far.files (subst (λ (i : ℕ). HasChanged (held_of whole queue) i source n) (left_now queue out k so_far) changed);
+  }
 
   -- the list as it was
   pub cut_back : (queue : Queue S) (out : List Point) (k n : ℕ) → HasDrawn queue out k → n ≡ length before → take n out ≡ before

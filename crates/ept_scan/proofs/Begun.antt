@@ -21,8 +21,10 @@ use Rattle.ept_scan.specs.Places.{StandsAt}
 use Rattle.ept_scan.specs.Reach.{ReadsNoFurther}
 use Rattle.ept_scan.specs.Scans.{in_order, ArePointsFrom}
 use Rattle.ept_scan.specs.Queue.{HoldsPoints, held, RestOf, records_left, IsUnread, StandsBefore, IsQueue, AreNear}
-use Rattle.ept_scan.specs.Opening.{IsKeptScan, total, StartsAt, AreHeld, IsFileOf, HasOpened}
+use Rattle.ept_config.specs.Counts.{total}
+use Rattle.ept_scan.specs.Opening.{IsKeptScan, StartsAt, AreHeld, IsFileOf, HasOpened}
 use Rattle.ept_scan.proofs.Listing.{zip_length}
+use Rattle.ept_scan.proofs.Asked.{some_of}
 
 -- the lengths of the first lists are those that the counts state
 total_length : (lists : List (List Point)) (counts : List SourceCount) (n : ℕ) → AllZip IsCountOf lists counts → length (in_order (take n lists)) ≡ total (take n counts)
@@ -33,11 +35,6 @@ total_length (l ∷ lists) [] n zip = absurd zip
 total_length (l ∷ lists) (c ∷ counts) zero zip = refl
 total_length (l ∷ lists) (c ∷ counts) (suc n) zip =
     omega (arith, length-append l (in_order (take n lists)), sum_by-cons (λ (count : SourceCount). count.points) c (take n counts), total_length lists counts n zip.1, zip.0.number)
-
-some_of : {X : Type 0} (xs : List X) (i : ℕ) → i < length xs → (x : X) × (slice_get xs i ≡ Some x)
-some_of [] i lt = absurd (omega (arith, lt))
-some_of (x ∷ xs) zero lt = (x, refl)
-some_of (x ∷ xs) (suc i) lt = some_of xs i (omega (arith, lt))
 
 same_head : {X : Type 0} (x y : X) (xs ys : List X) → x ∷ xs ≡ y ∷ ys → x ≡ y
 same_head x y xs ys same = cc

@@ -21,42 +21,42 @@ use Rattle.ept_scan.specs.LasFile.{HasHeader, records_of}
 use Rattle.ept_scan.specs.Records.{ReadsNext}
 use Rattle.ept_scan.specs.Refusals.{HeaderIsRefused}
 use Rattle.ept_scan.specs.Reach.{HasLeftOf, Skips, ReadsNoFurther, end_of}
-use Rattle.ept_scan.specs.Changes.{Differs, IsChange, HasRecord, change_of}
+use Rattle.ept_scan.specs.Changes.{HeaderDiffers, RecordDiffers, IsChange, HasRecord, change_of}
 use Rattle.ept_scan.specs.Places.{IsWithinFile}
 use Rattle.ept_scan.proofs.SoFar.{IsAtRecord, point_is, outside_is, early_is}
 use Rattle.ept_scan.proofs.Reaching.{split_product}
 
 -- a refused header is told as a fault of the source, or as a change
-pub header_changed : (reading : Reading) (points : ℕ) (whole left : Option (List ℕ)) (e : ScanError) → left ≡ whole → points ≤ MAX_POINTS → e ≢ scan.Memory → Tells (λ file. HeaderIsRefused reading file e) left → IsChange reading points whole (change_of e reading.origin)
-header_changed reading points whole left scan.SourceFault start few enough refused = tt
-header_changed reading points whole left scan.Memory start few enough refused = absurd (enough refl)
-header_changed reading points whole left scan.NoBounds start few enough refused = (refl, subst (Tells (λ bytes. Differs reading points bytes 0)) start (told left refused))
+pub header_changed : (reading : Reading) (points next : ℕ) (whole left : Option (List ℕ)) (e : ScanError) → left ≡ whole → points ≤ MAX_POINTS → e ≢ scan.Memory → Tells (λ file. HeaderIsRefused reading file e) left → IsChange reading points next whole (change_of e reading.origin)
+header_changed reading points next whole left scan.SourceFault start few enough refused = tt
+header_changed reading points next whole left scan.Memory start few enough refused = absurd (enough refl)
+header_changed reading points next whole left scan.NoBounds start few enough refused = (refl, inl (refl, subst (Tells (HeaderDiffers reading points)) start (told left refused)))
   where
-    told : (left : Option (List ℕ)) → Tells (λ file. HeaderIsRefused reading file scan.NoBounds) left → Tells (λ bytes. Differs reading points bytes 0) left
+    told : (left : Option (List ℕ)) → Tells (λ file. HeaderIsRefused reading file scan.NoBounds) left → Tells (HeaderDiffers reading points) left
     told None refused = tt
     told (Some file) refused = absurd refused
-header_changed reading points whole left (scan.OutOfBounds source number) start few enough refused = (refl, subst (Tells (λ bytes. Differs reading points bytes 0)) start (told left refused))
+header_changed reading points next whole left (scan.OutOfBounds source number) start few enough refused = (refl, inl (refl, subst (Tells (HeaderDiffers reading points)) start (told left refused)))
   where
-    told : (left : Option (List ℕ)) → Tells (λ file. HeaderIsRefused reading file (scan.OutOfBounds source number)) left → Tells (λ bytes. Differs reading points bytes 0) left
+    told : (left : Option (List ℕ)) → Tells (λ file. HeaderIsRefused reading file (scan.OutOfBounds source number)) left → Tells (HeaderDiffers reading points) left
     told None refused = tt
     told (Some file) refused = absurd refused
-header_changed reading points whole left (scan.BadLas source fault) start few enough refused = (refl, subst (Tells (λ bytes. Differs reading points bytes 0)) start (told left refused))
+header_changed reading points next whole left (scan.BadLas source fault) start few enough refused = (refl, inl (refl, subst (Tells (HeaderDiffers reading points)) start (told left refused)))
   where
-    told : (left : Option (List ℕ)) → Tells (λ file. HeaderIsRefused reading file (scan.BadLas source fault)) left → Tells (λ bytes. Differs reading points bytes 0) left
+    told : (left : Option (List ℕ)) → Tells (λ file. HeaderIsRefused reading file (scan.BadLas source fault)) left → Tells (HeaderDiffers reading points) left
     told None refused = tt
-    told (Some file) refused = inl (refl, inl (fault, refused.1))
-header_changed reading points whole left (scan.TooManyPoints source) start few enough refused = (refl, subst (Tells (λ bytes. Differs reading points bytes 0)) start (told left refused))
+    told (Some file) refused = inl (fault, refused.1)
+header_changed reading points next whole left (scan.TooManyPoints source) start few enough refused = (refl, inl (refl, subst (Tells (HeaderDiffers reading points)) start (told left refused)))
   where
-    told : (left : Option (List ℕ)) → Tells (λ file. HeaderIsRefused reading file (scan.TooManyPoints source)) left → Tells (λ bytes. Differs reading points bytes 0) left
+    told : (left : Option (List ℕ)) → Tells (λ file. HeaderIsRefused reading file (scan.TooManyPoints source)) left → Tells (HeaderDiffers reading points) left
     told None refused = tt
-    told (Some file) refused = inl (refl, inr (refused.1.0, refused.1.1, λ same. omega (arith, same, few, refused.1.2)))
+    told (Some file) refused = inr (refused.1.0, refused.1.1, λ same. omega (arith, same, few, refused.1.2))
 
-pub count_changed : (reading : Reading) (points : ℕ) (whole left : Option (List ℕ)) (header : Header) → left ≡ whole → header.points ≢ points → Tells (λ file. HasHeader reading file header) left → Tells (λ bytes. Differs reading points bytes 0) whole
-count_changed reading points whole left header start other has = subst (Tells (λ bytes. Differs reading points bytes 0)) start (told left has)
+pub count_changed : (reading : Reading) (points : ℕ) (whole left : Option (List ℕ)) (header : Header) → left ≡ whole → header.points ≢ points → Tells (λ file. HasHeader reading file header) left → Tells (HeaderDiffers reading points) whole
+count_changed reading points whole left header start other has = subst (Tells (HeaderDiffers reading points)) start (told left has)
   where
-    told : (left : Option (List ℕ)) → Tells (λ file. HasHeader reading file header) left → Tells (λ bytes. Differs reading points bytes 0) left
+    told : (left : Option (List ℕ)) → Tells (λ file. HasHeader reading file header) left → Tells (HeaderDiffers reading points) left
     told None has = tt
-    told (Some file) has = inl (refl, inr (header, has, other))
+    told (Some file) has = inr (header, has, other)
 
 -- the first bytes were read, and then some were passed over
 pub skipped : (whole left front at : Option (List ℕ)) (n : ℕ) → left ≡ whole → Keeps left front → Skips front at n → Skips whole at n
@@ -155,10 +155,10 @@ module _ (reading : Reading) (points : ℕ) (held after : List ℕ) (mid new : O
           omega (arith, at.reach, split, reach)
 
   pub record_changed : (whole : Option (List ℕ)) (it : Found) → n < points → ((p : Point) → it ≢ found.At p) → IsWithinFile reading points whole mid held n header → ReadsNext reading header n (prepend_known held mid) (prepend_known after new) it
-      → Tells (λ file. Differs reading points file n) whole
+      → Tells (λ file. RecordDiffers reading points file n) whole
   record_changed None it stated other at next = tt
   record_changed (Some file) (found.At p) stated other at next = absurd (other p refl)
   record_changed (Some file) found.Outside stated other at next =
-      inr (stated, header, record { has_header = at.has_header; stated = at.stated }, inr (outside_is reading header (some_bytes at.format at.size) (Some (records_of header file)) (prepend_known held mid) (prepend_known after new) n (at_record file at.place) next))
+      (stated, header, record { has_header = at.has_header; stated = at.stated }, inr (outside_is reading header (some_bytes at.format at.size) (Some (records_of header file)) (prepend_known held mid) (prepend_known after new) n (at_record file at.place) next))
   record_changed (Some file) found.Early stated other at next =
-      inr (stated, header, record { has_header = at.has_header; stated = at.stated }, inl (early_is reading header (Some (records_of header file)) (prepend_known held mid) (prepend_known after new) n (at_record file at.place) next))
+      (stated, header, record { has_header = at.has_header; stated = at.stated }, inl (early_is reading header (Some (records_of header file)) (prepend_known held mid) (prepend_known after new) n (at_record file at.place) next))

@@ -14,6 +14,7 @@ pub mod Once
 pub mod Queues
 pub mod Batches
 pub mod Rereading
+pub mod Asked
 pub mod Opened
 pub mod Retiring
 pub mod Begun

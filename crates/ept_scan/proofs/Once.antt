@@ -1,5 +1,6 @@
 -- A file reads as points in one way, so it does not differ from what was found where it holds that.
-use Rattle.std.proofs.Common.{◌≡◌, ◌⊎◌, ⊎_elim, [], ◌∷◌, ℕ, ◌<◌, List, Ok, Err, Result, length, get_or, refl, sym, ◌∙◌, ap, subst, arith}
+use Rattle.std.proofs.Common.{◌≡◌, ◌⊎◌, ⊎_elim, [], ◌∷◌, ℕ, ◌<◌, List, Option, Some, Ok, Err, Result, length, get_or, refl, sym, ◌∙◌, ap, subst, arith}
+use Rattle.ept_base.specs.Files.{Tells}
 use Rattle.ept_point.specs.declared.point.Point.{Point}
 use Rattle.ept_las.specs.declared.header.Header.{Header}
 use Rattle.ept_las.specs.declared.las_error.LasError.{LasError}
@@ -51,8 +52,10 @@ module _ (reading : Reading) (points : ℕ) (file : List ℕ) (mine : List Point
       let bad : IsTruncated are.header (records_of are.header file) n ⊎ IsOutsideAt reading are.header (records_of are.header file) n = subst (λ (h : Header). IsTruncated h (records_of h file) n ⊎ IsOutsideAt reading h (records_of h file) n) header differs.3 in
       ⊎_elim (not_truncated reading are.header (records_of are.header file) n (get_or mine n d) (point_at n d differs.0)) (not_outside reading are.header (records_of are.header file) n (get_or mine n d) (point_at n d differs.0)) bad
 
-  pub not_changed : (n : ℕ) → Differs reading points file n → ⊥
-  not_changed n differs = ⊎_elim (λ (header : (n ≡ 0) × HeaderDiffers reading points file). header_same header.1) (record_same n) differs
+  pub not_changed : (told : Option (List ℕ)) (next n : ℕ) → told ≡ Some file → Differs reading points told next n → ⊥
+  not_changed told next n is differs =
+      ⊎_elim (λ (header : (n ≡ 0) × Tells (HeaderDiffers reading points) told). header_same (subst (Tells (HeaderDiffers reading points)) is header.1))
+      (λ (other : (n ≡ next) × Tells (λ bytes. RecordDiffers reading points bytes next) told). record_same next (subst (Tells (λ bytes. RecordDiffers reading points bytes next)) is other.1)) differs
 
   pub same_record : (n : ℕ) (p d : Point) → n < points → HasRecord reading points file n p → get_or mine n d ≡ p
   same_record n p d lt has =

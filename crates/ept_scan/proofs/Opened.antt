@@ -1,6 +1,6 @@
 -- Inputs that are opened one after the other.
 use Rattle.std.proofs.Common.{◌≡◌, ◌≢◌, ⊎_elim, ℕ, ◌+◌, ◌<◌, ◌≤◌, List, [], ◌∷◌, ◌++◌, Option, Some, None, length, take, drop, get_or, refl, sym, ◌∙◌, ap, subst, arith, length-take}
-use Rattle.std.specs.Prelude.{All, Any, map, slice_get}
+use Rattle.std.specs.Prelude.{true, false, All, Any, IsSome, is_some, map, slice_get}
 use Rattle.std.specs.List.{AllZip}
 use Rattle.std.proofs.lemmas.Bool.{cases_lt}
 use Rattle.std.proofs.lemmas.Option.{get_or_from_slice_get, slice_get-get_or}
@@ -15,10 +15,11 @@ use Rattle.ept_config.specs.declared.input.Input.{Input}
 use Rattle.ept_config.specs.declared.kept.Kept.{Kept}
 use Rattle.ept_config.specs.declared.source_count.SourceCount.{SourceCount}
 use Rattle.ept_scan.specs.declared.part.Part.{Part}
-use Rattle.ept_scan.specs.Counts.{IsCountOf, FitsBounds, IsSound}
+use Rattle.ept_scan.specs.Counts.{IsCountOf}
 use Rattle.ept_scan.specs.Scans.{in_order, IsReadingOf, HasPointsAt, ArePointsFrom}
 use Rattle.ept_scan.specs.Queue.{Held, HoldsPoints, held, IsUnread, IsLimited}
-use Rattle.ept_scan.specs.Opening.{total, AreHeld, IsFileOf, HasOpened, AddsInput}
+use Rattle.ept_config.specs.Counts.{total, IsCount}
+use Rattle.ept_scan.specs.Opening.{AreHeld, IsFileOf, HasOpened, AddsInput}
 use Rattle.ept_scan.proofs.Listing.{zip_push, zip_at, zip_length, in_order_push}
 use Rattle.ept_scan.proofs.Spans.{extent_none}
 use Rattle.ept_scan.proofs.Rereading.{part_holds}
@@ -145,15 +146,24 @@ module _ {S : Type 0} (whole left : S → Option (List ℕ)) (faults : S → ℕ
         holds = more_lists files opens so_far.holds;
       }
 
-    -- what an input adds
-    pub opened_next : (new : List (Part S)) → IsSound kept.bounds (get_or counts i d) → AddsInput whole left faults files kept i (get_or counts i d).points (get_or counts i d).extent parts new → HasOpened whole left faults files kept counts from (i + 1) new
-    opened_next new sound adds = at (get_or counts i d).extent refl sound.fits adds
+    no_points : (count : SourceCount) → count.extent ≡ None → IsCount kept.bounds count → count.points ≡ 0
+    no_points count none sound = ⊎_elim (λ (some : 0 < count.points). absurd (nothing (sym (subst IsSome none (sound.there.1 some))))) (λ (zero : count.points ≤ 0). omega (arith, zero)) (cases_lt 0 count.points)
       where
-        at : (e : Option Bounds) → (get_or counts i d).extent ≡ e → FitsBounds kept.bounds (get_or counts i d).points e → AddsInput whole left faults files kept i (get_or counts i d).points e parts new → HasOpened whole left faults files kept counts from (i + 1) new
-        at None none fits same = subst (λ (l : List (Part S)). HasOpened whole left faults files kept counts from (i + 1) l) (sym same) (opened_skip none fits)
-        at (Some extent) some fits added =
+        nothing : true ≡ false → ⊥
+        nothing e = cc
+
+    some_points : (count : SourceCount) (extent : Bounds) → count.extent ≡ Some extent → IsCount kept.bounds count → 0 < count.points
+    some_points count extent some sound = sound.there.0 (ap is_some some)
+
+    -- what an input adds
+    pub opened_next : (new : List (Part S)) → IsCount kept.bounds (get_or counts i d) → AddsInput whole left faults files kept i (get_or counts i d).points (get_or counts i d).extent parts new → HasOpened whole left faults files kept counts from (i + 1) new
+    opened_next new sound adds = at (get_or counts i d).extent refl adds
+      where
+        at : (e : Option Bounds) → (get_or counts i d).extent ≡ e → AddsInput whole left faults files kept i (get_or counts i d).points e parts new → HasOpened whole left faults files kept counts from (i + 1) new
+        at None none same = subst (λ (l : List (Part S)). HasOpened whole left faults files kept counts from (i + 1) l) (sym same) (opened_skip none (no_points (get_or counts i d) none sound))
+        at (Some extent) some added =
             let is = added.2 in
-            subst (λ (l : List (Part S)). HasOpened whole left faults files kept counts from (i + 1) l) (sym added.1) (opened_more extent added.0 is.input some fits.0 is.points_are is.is is.reads is.opens is.fresh)
+            subst (λ (l : List (Part S)). HasOpened whole left faults files kept counts from (i + 1) l) (sym added.1) (opened_more extent added.0 is.input some (some_points (get_or counts i d) extent some sound) is.points_are is.is is.reads is.opens is.fresh)
 
 -- no file of those that were opened has failed
 pub none_failed : {S : Type 0} (faults : S → ℕ) (parts : List (Part S)) → All (λ part. faults part.source ≡ 0) parts → Any (λ part. faults part.source ≢ 0) parts → ⊥

@@ -1,10 +1,12 @@
 -- The files of the second reading, of which one was read on.
-use Rattle.std.proofs.Common.{◌≡◌, ◌≢◌, ⊎_elim, ℕ, ◌+◌, ◌<◌, ◌≤◌, List, [], ◌∷◌, ◌++◌, Option, None, length, drop, get_or, set, refl, sym, ◌∙◌, ap, subst, arith, length-append}
-use Rattle.std.specs.Prelude.{All, Any, Contains, map}
+use Rattle.std.proofs.Common.{◌≡◌, ◌≢◌, ⊎_elim, ℕ, ◌+◌, ◌-◌, ◌<◌, ◌≤◌, List, [], ◌∷◌, ◌++◌, Option, Some, None, length, take, drop, get_or, set, refl, sym, ◌∙◌, ap, subst, arith, length-append}
+use Rattle.std.specs.Prelude.{All, Any, Contains, map, sum_by}
 use Rattle.std.specs.List.{AllZip}
 use Rattle.std.proofs.lemmas.Bool.{cases_lt}
-use Rattle.std.proofs.lemmas.List.{length-map, length-set, drop-set, drop-set-lt, drop_more, get_or-set_same, get_or-set_other, get_or_default, get_or-map, get_or_append_left}
-use Rattle.std.proofs.lemmas.List.Elements.{All-set, All-head, All-tail}
+use Rattle.std.proofs.lemmas.List.{length-map, length-set, drop-map, take-set, take_more_set, drop-set, drop-set-lt, drop_more, get_or-set_same, get_or-set_other, get_or_default, get_or-map, get_or_append_left}
+use Rattle.std.proofs.lemmas.List.Elements.{All-set, All-head, All-tail, All-push}
+use Rattle.std.proofs.lemmas.List.Sums.{sum_by-cons}
+use Rattle.std.proofs.lemmas.Option.{slice_get-get_or}
 use Rattle.std.proofs.Math.Seq.{map-set_same, drop-append_seam}
 use Rattle.ept_base.specs.Files.{Tells}
 use Rattle.ept_point.specs.declared.point.Point.{Point}
@@ -19,9 +21,14 @@ use Rattle.ept_scan.specs.Scans.{in_order}
 use Rattle.ept_base.specs.Causes.{Rose}
 use Rattle.ept_scan.specs.Reach.{ReadsNoFurther}
 use Rattle.ept_scan.specs.Places.{StandsAt}
-use Rattle.ept_scan.specs.Changes.{IsChange, Differs, HasRecord}
-use Rattle.ept_scan.specs.Queue.{Held, HoldsPoints, AreRest, LiesIn, HasChanged, held, IsUnread, IsCurrent, StandsBefore, IsLimited}
+use Rattle.ept_scan.specs.Changes.{IsChange, IfChanged, Differs, HasRecord}
+use Rattle.ept_scan.specs.Queue.{Held, HoldsPoints, AreRest, LiesIn, IsNext, IsDrawn, HasChanged, held, IsAtFront, IsUnread, IsCurrent, StandsBefore, IsLimited}
 use Rattle.ept_scan.proofs.Once.{not_changed, same_record}
+
+held_sum : {S : Type 0} (whole : S → Option (List ℕ)) (parts : List (Part S)) → sum_by (λ (h : Held). h.points) (map (held whole) parts) ≡ sum_by (λ (part : Part S). part.points) parts
+held_sum whole [] = refl
+held_sum {S} whole (p ∷ parts) =
+    omega (arith, sum_by-cons (λ (h : Held). h.points) (held whole p) (map (held whole) parts), sum_by-cons (λ (part : Part S). part.points) p parts, held_sum whole parts)
 
 -- one file of a list was exchanged for one that holds the same
 module _ {S : Type 0} (whole left : S → Option (List ℕ)) (parts : List (Part S)) (at : ℕ) (p y : Part S) (lt : at < length parts) (here : p ≡ get_or parts at p) where
@@ -61,13 +68,39 @@ module _ {S : Type 0} (whole left : S → Option (List ℕ)) (parts : List (Part
     pub current_new : (cursor : Cursor) (window : List ℕ) → cursor.number < p.points → StandsAt p.reading p.points (whole p.source) (left y.source) window cursor.number cursor.header → IsCurrent whole left y cursor window
     current_new cursor window more stands = record { more = omega (arith, more, points); at = rw (reading, points, same) stands }
 
-  changed_at : (e : ReadError) → IsChange p.reading p.points (whole p.source) e → HasChanged (map (held whole) parts) e
-  changed_at SourceFault change = tt
-  changed_at Memory change = tt
-  changed_at (SourceChanged source n) change = record { held = held whole p; among = among; origin = change.0; differs = change.1 }
+  -- files stand at their fronts behind their last records
+  pub rewound_same : All (IsAtFront whole left) (take at parts) → All (IsAtFront whole left) (take at (set parts at y))
+  rewound_same all = subst (All (IsAtFront whole left)) (sym (take-set parts at y)) all
 
-  pub changed_is : (e error : ReadError) → error ≡ e → IsChange p.reading p.points (whole p.source) e → HasChanged (map (held whole) parts) error
-  changed_is e error is change = subst (HasChanged (map (held whole) parts)) (sym is) (changed_at e change)
+  pub rewound_past : All (IsAtFront whole left) (take at parts) → left y.source ≡ whole y.source → All (IsAtFront whole left) (take (at + 1) (set parts at y))
+  rewound_past all front = subst (All (IsAtFront whole left)) (sym (take_more_set parts at y lt)) (All-push (IsAtFront whole left) (take at parts) y all front)
+
+  -- the record of this number of the file is the next one
+  module _ (n : ℕ) (more : n < p.points) where
+    pub next_is : IsNext (map (held whole) parts) (sum_by (λ (part : Part S). part.points) (drop at parts) - n) (held whole p) n
+    unfolding among
+    next_is = record {
+      index = at;
+      is = slice_get-get_or (map (held whole) parts) at (held whole p) among.1 ∙ ap (λ (h : Held). Some h) among.2;
+      more = more;
+      left_is = omega (arith, more, ap (λ (l : List Held). sum_by (λ (h : Held). h.points) l) (drop-map (held whole) at parts), held_sum whole (drop at parts), ap (λ (l : List (Part S)). sum_by (λ (q : Part S). q.points) l) ahead_old, sum_by-cons (λ (q : Part S). q.points) p (drop (at + 1) parts));
+    }
+
+    pub drawn_next : (q : Point) → q.number ≡ n → q.origin ≡ p.reading.origin → Tells (λ file. HasRecord p.reading p.points file n q) (whole p.source) → IsDrawn (map (held whole) parts) (sum_by (λ (part : Part S). part.points) (drop at parts) - n) q
+    drawn_next q number origin has = record {
+      held = held whole p;
+      next = subst (λ (k : ℕ). IsNext (map (held whole) parts) (sum_by (λ (part : Part S). part.points) (drop at parts) - n) (held whole p) k) (sym number) next_is;
+      origin = origin;
+      record_is = subst (λ (k : ℕ). Tells (λ file. HasRecord p.reading p.points file k q) (whole p.source)) (sym number) has;
+    }
+
+    changed_at : (e : ReadError) → IsChange p.reading p.points n (whole p.source) e → IfChanged (HasChanged (map (held whole) parts) (sum_by (λ (part : Part S). part.points) (drop at parts) - n)) e
+    changed_at SourceFault change = tt
+    changed_at Memory change = tt
+    changed_at (SourceChanged source m) change = record { held = held whole p; number = n; next = next_is; origin = change.0; differs = change.1 }
+
+    pub changed_is : (e error : ReadError) → error ≡ e → IsChange p.reading p.points n (whole p.source) e → IfChanged (HasChanged (map (held whole) parts) (sum_by (λ (part : Part S). part.points) (drop at parts) - n)) error
+    changed_is e error is change = subst (IfChanged (HasChanged (map (held whole) parts) (sum_by (λ (part : Part S). part.points) (drop at parts) - n))) (sym is) (changed_at e change)
 
   -- the faults of the sources
   module _ (faults : S → ℕ) where
@@ -115,14 +148,14 @@ module _ {S : Type 0} (whole left : S → Option (List ℕ)) (parts : List (Part
     split : AllZip HoldsPoints (held whole p ∷ map (held whole) (drop (at + 1) parts)) rest.lists
     split = subst (λ (l : List (Part S)). AllZip HoldsPoints (map (held whole) l) rest.lists) ahead_old rest.hold
 
-    pub never_changed : (source number : ℕ) (e : ReadError) → e ≡ SourceChanged source number → IsChange p.reading p.points (whole p.source) e → ⊥
-    never_changed source number e is change = differs rest.lists split (subst (IsChange p.reading p.points (whole p.source)) is change)
+    pub never_changed : (source number : ℕ) (e : ReadError) → e ≡ SourceChanged source number → IsChange p.reading p.points n (whole p.source) e → ⊥
+    never_changed source number e is change = differs rest.lists split (subst (IsChange p.reading p.points n (whole p.source)) is change)
       where
-        differs : (lists : List (List Point)) → AllZip HoldsPoints (held whole p ∷ map (held whole) (drop (at + 1) parts)) lists → IsChange p.reading p.points (whole p.source) (SourceChanged source number) → ⊥
+        differs : (lists : List (List Point)) → AllZip HoldsPoints (held whole p ∷ map (held whole) (drop (at + 1) parts)) lists → IsChange p.reading p.points n (whole p.source) (SourceChanged source number) → ⊥
         differs [] hold change = hold
         differs (mine ∷ lists) hold change =
             let holds = hold.0 in
-            not_changed p.reading p.points holds.file mine holds.are holds.count number (subst (Tells (λ bytes. Differs p.reading p.points bytes number)) holds.told change.1)
+            not_changed p.reading p.points holds.file mine holds.are holds.count (whole p.source) n number holds.told change.1
 
     -- the first of them is the point that was drawn
     module _ (q : Point) (more : n < p.points) (has : Tells (λ file. HasRecord p.reading p.points file n q) (whole p.source)) where

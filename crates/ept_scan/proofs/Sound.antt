@@ -1,6 +1,6 @@
 -- The counts of a scan are as a reader takes them.
 use Rattle.std.proofs.Common.{ℕ, zero, suc, ◌+◌, ◌<◌, ◌≤◌, List, [], ◌∷◌, ◌++◌, Option, Some, None, length, get_or, sym, ◌∙◌, ap, subst, arith, length-append, ◌≡◌, refl}
-use Rattle.std.specs.Prelude.{ℤ, ◌≤ℤ◌, All}
+use Rattle.std.specs.Prelude.{ℤ, ◌≤ℤ◌, ◌↔◌, true, false, All, IsSome}
 use Rattle.std.proofs.lemmas.List.{get_or_append_left, get_or-append-add}
 use Rattle.std.specs.List.{AllZip}
 use Rattle.ept_base.specs.Files.{Files, Tells}
@@ -9,15 +9,15 @@ use Rattle.ept_space.specs.declared.bounds.Bounds.{Bounds}
 use Rattle.ept_space.specs.ClosedBox.{IsBetween}
 use Rattle.ept_config.specs.declared.input.Input.{Input}
 use Rattle.ept_config.specs.declared.source_count.SourceCount.{SourceCount}
-use Rattle.ept_scan.specs.declared.reading.TheConstants.{MAX_POINTS}
 use Rattle.ept_scan.specs.Extents.{IsWithin, IsAllowed, IsSpanOf, IsExtentOf, HasExtent}
-use Rattle.ept_scan.specs.Counts.{IsCountOf, FitsBounds, IsSound}
+use Rattle.ept_scan.specs.Counts.{IsCountOf}
 use Rattle.ept_scan.specs.Scans.{in_order, AreBounds, ArePointsFrom, IsScan}
 use Rattle.std.specs.Prelude.{IfSome}
 use Rattle.std.specs.Option.{ForSome}
 use Rattle.std.proofs.lemmas.Int.{ints}
-use Rattle.ept_space.specs.CubeOfBounds.{HasPlace}
+use Rattle.ept_space.specs.CubeOfBounds.{HasPlace, IsInside}
 use Rattle.ept_config.specs.Ranges.{BoundsInRange}
+use Rattle.ept_config.specs.Counts.{IsCount}
 use Rattle.ept_scan.specs.Found.{limits_of, FindsLists}
 use Rattle.ept_scan.proofs.Listing.{zip_at, zip_length}
 
@@ -49,36 +49,6 @@ module _ (axis : Point → ℤ) (points : List Point) (low high least greatest :
       let any = is.greatest_is in
       subst (λ (v : ℤ). v ≤ℤ high) (ap axis any.3 ∙ any.4) (all any.0 any.1 any.2).1
 
-fits : (bounds : Bounds) (points : List Point) (extent : Option Bounds) → HasExtent points extent → All (IsWithin bounds) points → FitsBounds bounds (length points) extent
-fits bounds points None has all = ap length has
-fits bounds points (Some extent) has all = (
-  omega (arith, has.x.least_is.2),
-  record {
-    x_min = least_in (λ p. p.x) points _ _ _ _ has.x (λ k d lt. (all k d lt).x);
-    y_min = least_in (λ p. p.y) points _ _ _ _ has.y (λ k d lt. (all k d lt).y);
-    z_min = least_in (λ p. p.z) points _ _ _ _ has.z (λ k d lt. (all k d lt).z);
-    x_max = greatest_in (λ p. p.x) points _ _ _ _ has.x (λ k d lt. (all k d lt).x);
-    y_max = greatest_in (λ p. p.y) points _ _ _ _ has.y (λ k d lt. (all k d lt).y);
-    z_max = greatest_in (λ p. p.z) points _ _ _ _ has.z (λ k d lt. (all k d lt).z);
-  },
-)
-
-sound_one : (bounds : Bounds) (points : List Point) (count : SourceCount) → IsCountOf points count → length points ≤ MAX_POINTS → All (IsWithin bounds) points → IsSound bounds count
-sound_one bounds points count is few all = record {
-  few = omega (arith, is.number, few);
-  fits = subst (λ (n : ℕ). FitsBounds bounds n count.extent) (sym is.number) (fits bounds points count.extent is.has_extent all);
-}
-
-within_bounds : (limits : Option Bounds) (lists : List (List Point)) (bounds : Bounds) (k : ℕ) → k < length lists → AreBounds limits (in_order lists) bounds → All (All (IsAllowed limits)) lists → All (IsWithin bounds) (get_or lists k [])
-within_bounds None lists bounds k lt are all = all_of_list (IsWithin bounds) lists k [] lt (all_within (in_order lists) bounds are)
-within_bounds (Some limits) lists bounds k lt are all = subst (λ (b : Bounds). All (IsWithin b) (get_or lists k [])) (sym are) (all k [] lt)
-
-pub all_sound : (files : Option Files) (scale : ℕ) (limits : Option Bounds) (inputs : List Input) (from end : ℕ) (counts : List SourceCount) (bounds : Bounds) → (found : FindsLists files scale limits inputs from end counts)
-    → AreBounds limits (in_order found.lists) bounds → All (IsSound bounds) counts
-all_sound files scale limits inputs from end counts bounds found are = λ k d lt.
-    let within : k < length found.lists = omega (arith, lt, zip_length IsCountOf found.lists counts found.counts_are) in
-    sound_one bounds (get_or found.lists k []) (get_or counts k d) (zip_at IsCountOf found.lists counts k [] d found.counts_are lt) (found.few k [] within) (within_bounds limits found.lists bounds k within are found.allowed)
-
 -- the bounds have their minimum at most their maximum
 least_most : (axis : Point → ℤ) (points : List Point) (least greatest : ℤ) → IsSpanOf axis points least greatest → least ≤ℤ greatest
 least_most axis points least greatest is =
@@ -95,6 +65,44 @@ extent_ordered points extent is = record {
   y_ordered = least_most (λ p. p.y) points _ _ is.y;
   z_ordered = least_most (λ p. p.z) points _ _ is.z;
 }
+
+extent_inside : (bounds : Bounds) (points : List Point) (extent : Bounds) → IsExtentOf points extent → All (IsWithin bounds) points → IsInside bounds extent
+extent_inside bounds points extent has all = record {
+  x_min = least_in (λ p. p.x) points _ _ _ _ has.x (λ k d lt. (all k d lt).x);
+  y_min = least_in (λ p. p.y) points _ _ _ _ has.y (λ k d lt. (all k d lt).y);
+  z_min = least_in (λ p. p.z) points _ _ _ _ has.z (λ k d lt. (all k d lt).z);
+  x_max = greatest_in (λ p. p.x) points _ _ _ _ has.x (λ k d lt. (all k d lt).x);
+  y_max = greatest_in (λ p. p.y) points _ _ _ _ has.y (λ k d lt. (all k d lt).y);
+  z_max = greatest_in (λ p. p.z) points _ _ _ _ has.z (λ k d lt. (all k d lt).z);
+}
+
+extent_of_some : (points : List Point) (extent : Option Bounds) (given : Bounds) → HasExtent points extent → extent ≡ Some given → IsExtentOf points given
+extent_of_some points extent given has is = subst (HasExtent points) is has
+
+there : (points : List Point) (extent : Option Bounds) → HasExtent points extent → IsSome extent ↔ (0 < length points)
+there points None has = ((λ some. absurd (nothing (sym some))), (λ some. absurd (omega (arith, some, ap length has))))
+  where
+    nothing : true ≡ false → ⊥
+    nothing e = cc
+there points (Some extent) has = ((λ some. omega (arith, has.x.least_is.2)), (λ some. refl))
+
+sound_one : (bounds : Bounds) (points : List Point) (count : SourceCount) → IsCountOf points count → length points ≤ 4294967295 → All (IsWithin bounds) points → IsCount bounds count
+sound_one bounds points count is few all = record {
+  few = omega (arith, is.number, few);
+  there = subst (λ (n : ℕ). IsSome count.extent ↔ (0 < n)) (sym is.number) (there points count.extent is.has_extent);
+  ordered = λ extent some. extent_ordered points extent (extent_of_some points count.extent extent is.has_extent some);
+  inside = λ extent some. extent_inside bounds points extent (extent_of_some points count.extent extent is.has_extent some) all;
+}
+
+within_bounds : (limits : Option Bounds) (lists : List (List Point)) (bounds : Bounds) (k : ℕ) → k < length lists → AreBounds limits (in_order lists) bounds → All (All (IsAllowed limits)) lists → All (IsWithin bounds) (get_or lists k [])
+within_bounds None lists bounds k lt are all = all_of_list (IsWithin bounds) lists k [] lt (all_within (in_order lists) bounds are)
+within_bounds (Some limits) lists bounds k lt are all = subst (λ (b : Bounds). All (IsWithin b) (get_or lists k [])) (sym are) (all k [] lt)
+
+pub all_sound : (files : Option Files) (scale : ℕ) (limits : Option Bounds) (inputs : List Input) (from end : ℕ) (counts : List SourceCount) (bounds : Bounds) → (found : FindsLists files scale limits inputs from end counts)
+    → AreBounds limits (in_order found.lists) bounds → All (IsCount bounds) counts
+all_sound files scale limits inputs from end counts bounds found are = λ k d lt.
+    let within : k < length found.lists = omega (arith, lt, zip_length IsCountOf found.lists counts found.counts_are) in
+    sound_one bounds (get_or found.lists k []) (get_or counts k d) (zip_at IsCountOf found.lists counts k [] d found.counts_are lt) (found.few k [] within) (within_bounds limits found.lists bounds k within are found.allowed)
 
 pub bounds_ordered : (limits : Option Bounds) (points : List Point) (bounds : Bounds) → IfSome limits HasPlace → AreBounds limits points bounds → HasPlace bounds
 bounds_ordered None points bounds place are = extent_ordered points bounds are

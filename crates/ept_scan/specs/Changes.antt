@@ -32,17 +32,22 @@ RecordDiffers reading points file n =
     × (IsTruncated header (records_of header file) n
     ⊎ IsOutsideAt reading header (records_of header file) n)
 
--- the file differs in its header, which is told as the number 0, or in record n
-abbrev pub Differs : Reading → ℕ → List ℕ → ℕ → Type 0
-Differs reading points file n = ((n ≡ 0) × HeaderDiffers reading points file)
-    ⊎ RecordDiffers reading points file n
+-- where it is told: the file differs in its header, which is told by the number 0, or in the record that is next, which is told by its own number
+abbrev pub Differs : Reading → ℕ → Option (List ℕ) → ℕ → ℕ → Type 0
+Differs reading points file next n =
+    ((n ≡ 0) × Tells (HeaderDiffers reading points) file)
+    ⊎ ((n ≡ next) × Tells (λ bytes. RecordDiffers reading points bytes next) file)
 
--- why a file is refused as changed; a fault of the device and want of memory say nothing of it
-abbrev pub IsChange : Reading → ℕ → Option (List ℕ) → ReadError → Type 0
-IsChange reading points file SourceFault = ⊤
-IsChange reading points file Memory = ⊤
-IsChange reading points file (SourceChanged source n) = (source ≡ reading.origin)
-    × Tells (λ bytes. Differs reading points bytes n) file
+-- what a refusal says of a source and a number where it tells a change; a fault of the device and want of memory say nothing
+abbrev pub IfChanged : (ℕ → ℕ → Type 0) → ReadError → Type 0
+IfChanged Fact SourceFault = ⊤
+IfChanged Fact Memory = ⊤
+IfChanged Fact (SourceChanged source n) = Fact source n
+
+-- why a file of which this record is next is refused as changed
+abbrev pub IsChange : Reading → ℕ → ℕ → Option (List ℕ) → ReadError → Type 0
+IsChange reading points next file =
+    IfChanged (λ source n. (source ≡ reading.origin) × Differs reading points file next n)
 
 -- record n of a file that states so many points has this point
 abbrev pub HasRecord : Reading → ℕ → List ℕ → ℕ → Point → Type 0

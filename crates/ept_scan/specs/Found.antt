@@ -6,8 +6,8 @@ use Rattle.ept_point.specs.declared.point.Point.{Point}
 use Rattle.ept_space.specs.declared.bounds.Bounds.{Bounds}
 use Rattle.ept_config.specs.declared.input.Input.{Input}
 use Rattle.ept_config.specs.declared.source_count.SourceCount.{SourceCount}
-use Rattle.ept_scan.specs.declared.reading.TheConstants.{MAX_POINTS}
 use Rattle.ept_scan.specs.Extents.{IsAllowed}
+use Rattle.ept_scan.specs.LasFile.{most_points}
 use Rattle.ept_scan.specs.Counts.{IsCountOf}
 use Rattle.ept_scan.specs.Scans.{ArePointsFrom}
 
@@ -22,6 +22,6 @@ pub record FindsLists (files : Option Files) (scale : ℕ) (limits : Option Boun
   pub lists : List (List Point)
   pub size : from + length lists ≡ end
   pub counts_are : AllZip IsCountOf lists counts
-  pub few : All (λ points. length points ≤ MAX_POINTS) lists
+  pub few : All (λ points. length points ≤ most_points) lists
   pub allowed : All (All (IsAllowed limits)) lists
   pub are : Tells (λ all. ArePointsFrom all scale limits inputs from end lists) files

@@ -2,16 +2,22 @@
 use Rattle.std.specs.Prelude.{◌≡◌, ◌⊎◌, ℕ, ◌+◌, ◌*◌, ◌<◌, ◌≤◌, List, Ok, length, take, drop, slice_index_or}
 use Rattle.ept_point.specs.declared.point.Point.{Point}
 use Rattle.ept_las.specs.declared.header.Header.{Header}
-use Rattle.ept_las.specs.declared.header.TheConstants.{HEAD_LENGTH}
 use Rattle.ept_las.specs.LasHeader.{HeaderReadsAs}
 use Rattle.ept_las.specs.PointRecord.{IsPointOf, IsOutOfUnits}
 use Rattle.ept_scan.specs.declared.reading.Reading.{Reading}
-use Rattle.ept_scan.specs.declared.reading.TheConstants.{MAX_POINTS}
 use Rattle.ept_scan.specs.Extents.{IsAllowed}
+
+-- the longest header, in bytes: that of LAS 1.4
+abbrev pub longest_header : ℕ
+longest_header = 375
+
+-- the most points of a file: its records are numbered in 32 bits
+abbrev pub most_points : ℕ
+most_points = 4294967295
 
 -- the bytes that may belong to the header
 abbrev pub head_of : List ℕ → List ℕ
-head_of file = take HEAD_LENGTH file
+head_of file = take longest_header file
 
 -- the file has a header without a fault, and it says this
 abbrev pub HasHeader : Reading → List ℕ → Header → Type 0
@@ -62,5 +68,5 @@ pub record AreFirstPoints (reading : Reading) (header : Header) (records : List 
 pub record ArePointsOf (reading : Reading) (file : List ℕ) (points : List Point) : Type 0 where
   pub header : Header
   pub has_header : HasHeader reading file header
-  pub few : header.points ≤ MAX_POINTS
+  pub few : header.points ≤ most_points
   pub are : AreFirstPoints reading header (records_of header file) header.points points

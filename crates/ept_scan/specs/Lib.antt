@@ -10,5 +10,6 @@ pub mod Changes
 pub mod Places
 pub mod Queue
 pub mod Reader
+pub mod Asking
 pub mod Opening
 pub mod Laws

@@ -3,10 +3,9 @@ use Rattle.std.specs.Prelude.{◌≡◌, ℕ, ◌+◌, ◌*◌, ◌≤◌, max, 
 use Rattle.std.specs.Io.KnownBytes.{prepend_known}
 use Rattle.ept_base.specs.Files.{Tells}
 use Rattle.ept_las.specs.declared.header.Header.{Header}
-use Rattle.ept_las.specs.declared.header.TheConstants.{HEAD_LENGTH}
 use Rattle.ept_las.specs.Format.{IsFormat, record_length}
 use Rattle.ept_scan.specs.declared.reading.Reading.{Reading}
-use Rattle.ept_scan.specs.LasFile.{HasHeader}
+use Rattle.ept_scan.specs.LasFile.{longest_header, HasHeader}
 use Rattle.ept_scan.specs.Reach.{Skips, end_of}
 
 -- The header was read and states this number of points, and the bytes ahead are those from record n on; of them none past the last record was read.
@@ -17,7 +16,7 @@ pub record IsWithinFile (reading : Reading) (points : ℕ) (whole left : Option 
   pub stated : header.points ≡ points
   pub has_header : Tells (λ file. HasHeader reading file header) whole
   pub place : Skips whole (prepend_known window left) (header.offset + header.length * n)
-  pub reach : length window + (header.offset + header.length * n) ≤ max HEAD_LENGTH (end_of header)
+  pub reach : length window + (header.offset + header.length * n) ≤ max longest_header (end_of header)
 
 -- before record n of a file: at its front where the header was not read yet
 abbrev pub StandsAt : Reading → ℕ → Option (List ℕ) → Option (List ℕ) → List ℕ → ℕ → Option Header → Type 0

@@ -1,19 +1,17 @@
 -- The files of the second reading: what each holds, where it stands, and which points are left.
-use Rattle.std.specs.Prelude.{◌≡◌, ◌≢◌, ℕ, ◌-◌, ◌<◌, ◌≤◌, List, [], ◌∷◌, Option, Some, length, drop, map, sum_by, ⊤, All, Any, Contains}
+use Rattle.std.specs.Prelude.{◌≡◌, ◌≢◌, ℕ, ◌+◌, ◌-◌, ◌<◌, ◌≤◌, List, [], ◌∷◌, Option, Some, length, take, drop, map, sum_by, slice_get, slice_index_or, All, Any, Contains}
 use Rattle.std.specs.List.{AllZip}
 use Rattle.ept_base.specs.Files.{Tells}
 use Rattle.ept_point.specs.declared.point.Point.{Point}
 use Rattle.ept_space.specs.declared.bounds.Bounds.{Bounds}
 use Rattle.ept_scan.specs.declared.reading.Reading.{Reading}
-use Rattle.ept_scan.specs.declared.read_error.ReadError.{ReadError}
-use Rattle.ept_scan.specs.declared.read_error.ReadError.TheVariants.{SourceFault, SourceChanged, Memory}
 use Rattle.ept_scan.specs.declared.part.Part.{Part}
 use Rattle.ept_scan.specs.declared.part.Cursor.{Cursor}
 use Rattle.ept_scan.specs.declared.queue.Queue.{Queue}
 use Rattle.ept_scan.specs.Extents.{IsWithin}
 use Rattle.ept_scan.specs.LasFile.{ArePointsOf}
 use Rattle.ept_scan.specs.Scans.{in_order}
-use Rattle.ept_scan.specs.Changes.{Differs}
+use Rattle.ept_scan.specs.Changes.{Differs, HasRecord}
 use Rattle.ept_scan.specs.Places.{StandsAt}
 use Rattle.ept_scan.specs.Reach.{ReadsNoFurther}
 
@@ -45,18 +43,39 @@ pub record LiesIn (files : List Held) (p : Point) : Type 0 where
   pub kept : held.reading.limits ≡ Some extent
   pub within : IsWithin extent p
 
--- the file of this place in the list of inputs is one of these, and differs from what was found in its header or in record n
-pub record IsChanged (files : List Held) (source n : ℕ) : Type 0 where
-  pub held : Held
-  pub among : Contains files held
-  pub origin : source ≡ held.reading.origin
-  pub differs : Tells (λ bytes. Differs held.reading held.points bytes n) held.file
+-- Of these files so many records are left from this one on: the one of this number in this file.
+pub record IsNext (files : List Held) (left : ℕ) (file : Held) (number : ℕ) : Type 0 where
+  pub index : ℕ
+  pub is : slice_get files index ≡ Some file
+  pub more : number < file.points
+  pub left_is : number + left ≡ sum_by (λ held. held.points) (drop index files)
 
--- why one of these files is told to have changed; a fault of the device and want of memory say nothing of them
-abbrev pub HasChanged : List Held → ReadError → Type 0
-HasChanged files SourceFault = ⊤
-HasChanged files Memory = ⊤
-HasChanged files (SourceChanged source n) = IsChanged files source n
+-- the point carries the place and the number of the record from which on so many are left, and is its point
+pub record IsDrawn (files : List Held) (left : ℕ) (p : Point) : Type 0 where
+  pub held : Held
+  pub next : IsNext files left held p.number
+  pub origin : p.origin ≡ held.reading.origin
+  pub record_is : Tells (λ file. HasRecord held.reading held.points file p.number p) held.file
+
+-- these are the points of the next records, one after the other
+abbrev pub AreDrawn : List Held → ℕ → List Point → Type 0
+AreDrawn files left points = (k : ℕ) (d : Point) → k < length points
+    → IsDrawn files (left - k) (slice_index_or points k d)
+
+-- the file of the record from which on so many are left differs from what was found, in its header or in this record
+pub record HasChanged (files : List Held) (left source n : ℕ) : Type 0 where
+  pub held : Held
+  pub number : ℕ
+  pub next : IsNext files left held number
+  pub origin : source ≡ held.reading.origin
+  pub differs : Differs held.reading held.points held.file number n
+
+-- of the next records, at most so many, the first that differs: those before it have points
+pub record IsFirstChanged (files : List Held) (left most source n : ℕ) : Type 0 where
+  pub before : List Point
+  pub few : length before < most
+  pub drawn : AreDrawn files left before
+  pub changed : HasChanged files (left - length before) source n
 
 module _ {S : Type 0} (whole : S → Option (List ℕ)) where
   abbrev pub held : Part S → Held
@@ -82,10 +101,14 @@ abbrev pub IsLimited : {S : Type 0} → Part S → Type 0
 IsLimited part = (extent : Bounds) × (part.reading.limits ≡ Some extent)
 
 module _ {S : Type 0} (whole left : S → Option (List ℕ)) where
+  -- a file stands at its front
+  abbrev pub IsAtFront : Part S → Type 0
+  IsAtFront part = left part.source ≡ whole part.source
+
   -- a file that was not begun
   pub record IsUnread (part : Part S) : Type 0 where
     pub some : 0 < part.points
-    pub front : left part.source ≡ whole part.source
+    pub front : IsAtFront part
 
   -- the file that is read
   pub record IsCurrent (part : Part S) (cursor : Cursor) (window : List ℕ) : Type 0 where
@@ -102,6 +125,10 @@ module _ {S : Type 0} (whole left : S → Option (List ℕ)) where
     pub within : queue.at ≤ length queue.parts.items
     pub stands : StandsBefore (drop queue.at queue.parts.items) queue.cursor queue.window
     pub limited : All IsLimited queue.parts.items
+
+  -- each file before the place was rewound behind its last record
+  abbrev pub AreRewound : Queue S → Type 0
+  AreRewound queue = All IsAtFront (take queue.at queue.parts.items)
 
   -- no file was read further than its last record
   abbrev pub AreNear : Queue S → Type 0

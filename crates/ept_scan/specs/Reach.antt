@@ -5,9 +5,8 @@ use Rattle.ept_point.specs.declared.point.Point.{Point}
 use Rattle.ept_space.specs.declared.bounds.Bounds.{Bounds}
 use Rattle.ept_config.specs.declared.input.Input.{Input}
 use Rattle.ept_las.specs.declared.header.Header.{Header}
-use Rattle.ept_las.specs.declared.header.TheConstants.{HEAD_LENGTH}
 use Rattle.ept_scan.specs.declared.reading.Reading.{Reading}
-use Rattle.ept_scan.specs.LasFile.{HasHeader}
+use Rattle.ept_scan.specs.LasFile.{longest_header, HasHeader}
 use Rattle.ept_scan.specs.Scans.{IsInput, HasPointsAt}
 
 -- Of what was left at most so many bytes were read, where the source tells.
@@ -29,7 +28,7 @@ end_of header = header.offset + header.length * header.points
 -- No byte was read that lies both past those that may belong to a header and past the last record; where no header is accepted, or it states no record, none past the first.
 abbrev pub IsWithinRecords : Reading → List ℕ → List ℕ → Type 0
 IsWithinRecords reading file left =
-    (length file ≤ length left + HEAD_LENGTH)
+    (length file ≤ length left + longest_header)
     ⊎ ((header : Header) × HasHeader reading file header × (0 < header.points)
     × (length file ≤ length left + end_of header))
 
@@ -42,7 +41,7 @@ ReadsNoFurther reading (Some file) (Some left) = IsWithinRecords reading file le
 -- so many bytes may be read of a file: those that may belong to a header, or those up to the last record that an accepted header states
 abbrev pub IsReach : Reading → List ℕ → ℕ → Type 0
 IsReach reading file most =
-    (most ≤ HEAD_LENGTH)
+    (most ≤ longest_header)
     ⊎ ((header : Header) × HasHeader reading file header × (0 < header.points)
     × (most ≤ end_of header))
 

@@ -43,11 +43,16 @@ module _ {S : Type 0} (whole : S → Option (List ℕ)) where
 abbrev pub ReadsNoFurther : {S : Type 0} → (S → Option (List ℕ)) → (S → Option (List ℕ)) → Reader S → Type 0
 ReadsNoFurther whole left reader = queue.AreNear whole left reader.queue
 
+-- each source was rewound once its last record was drawn: it stands at its front again
+abbrev pub AreRewound : {S : Type 0} → (S → Option (List ℕ)) → (S → Option (List ℕ)) → Reader S → Type 0
+AreRewound whole left reader = queue.AreRewound whole left reader.queue
+
 -- A reader stands before the record that is next, or has a refusal: that it may be a fault of a source, one has failed.
 pub record IsReader {S : Type 0} (whole left : S → Option (List ℕ)) (faults : S → ℕ)
     (reader : Reader S) : Type 0 where
   pub stands : refusal_of reader ≡ None → queue.IsQueue whole left reader.queue
   pub counts : refusal_of reader ≡ None → queue.records_left reader.queue ≡ left_of reader
+  pub rewound : AreRewound whole left reader
   pub fits : drawn_of reader + left_of reader < 2 ^ 64
   pub fault : refusal_of reader ≡ Some SourceFault → HasFault faults reader
   pub memory : refusal_of reader ≢ Some Memory

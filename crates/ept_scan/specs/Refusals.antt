@@ -7,17 +7,16 @@ use Rattle.ept_las.specs.LasHeader.{HeaderReadsAs}
 use Rattle.ept_base.specs.declared.errors.GetError.{GetError}
 use Rattle.ept_base.specs.declared.errors.GetError.TheVariants as get
 use Rattle.ept_scan.specs.declared.reading.Reading.{Reading}
-use Rattle.ept_scan.specs.declared.reading.TheConstants.{MAX_POINTS}
 use Rattle.ept_scan.specs.declared.scan_error.ScanError.{ScanError}
 use Rattle.ept_scan.specs.declared.scan_error.ScanError.TheVariants.{SourceFault, BadLas, OutOfBounds, TooManyPoints, NoBounds, Memory}
-use Rattle.ept_scan.specs.LasFile.{head_of, HasHeader, records_of, IsTruncated, IsOutsideAt, AreFirstPoints}
+use Rattle.ept_scan.specs.LasFile.{most_points, head_of, HasHeader, records_of, IsTruncated, IsOutsideAt, AreFirstPoints}
 
 -- Why a header is refused. A fault of the device and want of memory say nothing of the file.
 abbrev pub HeaderIsRefused : Reading → List ℕ → ScanError → Type 0
 HeaderIsRefused reading file (BadLas source fault) = (source ≡ reading.origin)
     × HeaderReadsAs (head_of file) reading.expect (Err fault)
 HeaderIsRefused reading file (TooManyPoints source) = (source ≡ reading.origin)
-    × ((header : Header) × HasHeader reading file header × MAX_POINTS < header.points)
+    × ((header : Header) × HasHeader reading file header × most_points < header.points)
 HeaderIsRefused reading file (OutOfBounds source number) = ⊥
 HeaderIsRefused reading file NoBounds = ⊥
 HeaderIsRefused reading file SourceFault = ⊤
@@ -47,7 +46,7 @@ RecordsAreRefused reading header records Memory = ⊤
 abbrev pub FileIsRefused : Reading → List ℕ → ScanError → Type 0
 FileIsRefused reading file error =
     HeaderIsRefused reading file error
-    ⊎ ((header : Header) × HasHeader reading file header × (header.points ≤ MAX_POINTS)
+    ⊎ ((header : Header) × HasHeader reading file header × (header.points ≤ most_points)
     × RecordsAreRefused reading header (records_of header file) error)
 
 -- the code of a refusal

@@ -17,7 +17,7 @@ use crate::scan_error::ScanError;
 use crate::window::Window;
 use ept_base::Source;
 use ept_las::Header;
-use ept_point::Point;
+use ept_point::{Point, PointNumber};
 
 /// Reads the next record of a file, of which there is one, and moves on behind it.
 pub(crate) fn draw<S: Source>(
@@ -30,10 +30,12 @@ pub(crate) fn draw<S: Source>(
         (S.left part.old.source) window.old cursor.old.number cursor.old.header }
     ensures allowed { IfOk result (λ p. IsAllowed part.old.reading.limits p) }
     ensures origin { IfOk result (λ p. p.origin ≡ part.old.reading.origin) }
+    ensures number { IfOk result (λ p. p.number ≡ cursor.old.number) }
     ensures record { IfOk result (λ p. Tells
         (λ file. HasRecord part.old.reading part.old.points file cursor.old.number p)
         (S.whole part.old.source)) }
-    ensures changed { IfErr result (IsChange part.old.reading part.old.points (S.whole part.old.source)) }
+    ensures changed { IfErr result (IsChange part.old.reading part.old.points cursor.old.number
+        (S.whole part.old.source)) }
     ensures enough { result ≢ Err ReadError.Memory }
     ensures next { OnOk result (cursor.new.number ≡ cursor.old.number + 1) }
     ensures at { OnOk result (StandsAt part.old.reading part.old.points (S.whole part.old.source)
@@ -73,14 +75,14 @@ fn header_at<S: Source>(
     reading: &Reading,
     points: u32,
     header: Option<Header>,
-    number: u32,
+    number: PointNumber,
 ) -> Result<Header, ReadError>
     requires more { number < points }
     requires at { StandsAt reading.now points (S.whole source.old)
         (S.left source.old) window.old number header }
     ensures at { IfOk result (IsWithinFile reading.now points (S.whole source.old)
         (S.left source.new) window.new number) }
-    ensures changed { IfErr result (IsChange reading.now points (S.whole source.old)) }
+    ensures changed { IfErr result (IsChange reading.now points number (S.whole source.old)) }
     ensures enough { result ≢ Err ReadError.Memory }
     ensures far { OnErr result (ReadsNoFurther reading.now (S.whole source.old) (S.left source.new)) }
     ensures whole { S.whole source.new ≡ S.whole source.old }
@@ -98,13 +100,13 @@ fn start<S: Source>(
     source: &mut S,
     reading: &Reading,
     points: u32,
-    number: u32,
+    number: PointNumber,
 ) -> Result<Header, ReadError>
     requires more { number < points }
     requires front { S.left source.old ≡ S.whole source.old }
     ensures at { IfOk result (IsWithinFile reading.now points (S.whole source.old)
         (S.left source.new) window.new number) }
-    ensures changed { IfErr result (IsChange reading.now points (S.whole source.old)) }
+    ensures changed { IfErr result (IsChange reading.now points number (S.whole source.old)) }
     ensures enough { result ≢ Err ReadError.Memory }
     ensures far { OnErr result (ReadsNoFurther reading.now (S.whole source.old) (S.left source.new)) }
     ensures whole { S.whole source.new ≡ S.whole source.old }

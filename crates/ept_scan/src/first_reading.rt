@@ -1,16 +1,18 @@
 //! The first reading of the inputs.
 
-ghost use Rattle.std.specs.Prelude.{◌≡◌, ◌≤◌, ◌+◌, [], List, None, IfOk, IfErr, IfSome, MatchOption, length};
+ghost use Rattle.std.specs.Prelude.{◌≡◌, ◌≤◌, ◌+◌, [], ◌∷◌, List, None, IfOk, IfErr, IfSome, MatchOption, length};
 ghost use Rattle.std.specs.List.{AllZip, All};
 ghost use Rattle.ept_base.specs.Causes.{HasCauseOf};
 ghost use Rattle.ept_base.specs.Files.{Tells};
 ghost use Rattle.ept_point.specs.declared.point.Point as at;
 ghost use Rattle.ept_space.specs.CubeOfBounds.{HasPlace};
 ghost use Rattle.ept_scan.specs.Extents.{HasExtent};
-ghost use Rattle.ept_scan.specs.Counts.{IsCountOf, FindsCount, IsSound};
+ghost use Rattle.ept_config.specs.Counts.{IsCount};
+ghost use Rattle.ept_scan.specs.Counts.{IsCountOf, FindsCount};
 ghost use Rattle.ept_scan.specs.Scans.{in_order, Blames, HasPoints, IsRefused, AreBounds, IsScan, ScanIsRefused};
 ghost use Rattle.ept_scan.specs.Found.{limits_of, FindsLists};
 ghost use Rattle.ept_scan.specs.Reach.{TakesOfPath, ReadsWithin};
+ghost use Rattle.ept_scan.specs.Asking.{OpensThese, paths_from};
 
 use crate::extent::united;
 use crate::inputs::reading_of;
@@ -27,7 +29,7 @@ use std::alloc::Global;
 
 /// Reads the inputs from the place `from` on, each from its front to its last record, and answers how
 /// many points each has and where they lie. Points are to lie within the kept bounds, or where there
-/// are none within the given ones. In all no more bytes are read than of each file the first 375, or
+/// are none within the given ones. The inputs are opened in their order, each once, and none before `from`. In all no more bytes are read than of each file the first 375, or
 /// those up to the end of the last record where its header is accepted and states one.
 ///
 /// # Errors
@@ -51,12 +53,14 @@ pub fn scan<H: Shelf>(
         (λ all. ScanIsRefused all config.now.scale
         (limits_of kept config.now.bounds) config.now.inputs from e) (H.files shelf.old)) }
     ensures one_each { IfOk result (λ done. from + length done.counts ≡ length config.now.inputs) }
-    ensures sound { IfOk result (λ done. All (IsSound done.bounds) done.counts) }
+    ensures sound { IfOk result (λ done. All (IsCount done.bounds) done.counts) }
     ensures ordered { IfOk result (λ done. HasPlace done.bounds) }
     ensures far { Tells
         (λ all. ReadsWithin all config.now.scale
         (limits_of kept config.now.bounds) config.now.inputs from (H.given shelf.old) (H.given shelf.new))
         (H.files shelf.old) }
+    ensures opened { OpensThese (paths_from config.now.inputs from) result (H.asked shelf.old)
+        (H.asked shelf.new) }
     ensures files { H.files shelf.new ≡ H.files shelf.old }
     ensures cause { HasCauseOf ScanError.SourceFault (H.faults shelf.old) (H.faults shelf.new) result }
 {
@@ -98,6 +102,8 @@ fn scan_inputs<H: Shelf>(
     ensures far { Tells
         (λ all. ReadsWithin all config.now.scale limits config.now.inputs from (H.given shelf.old)
         (H.given shelf.new)) (H.files shelf.old) }
+    ensures opened { OpensThese (paths_from config.now.inputs from) result (H.asked shelf.old)
+        (H.asked shelf.new) }
     ensures files { H.files shelf.new ≡ H.files shelf.old }
     ensures cause { HasCauseOf ScanError.SourceFault (H.faults shelf.old) (H.faults shelf.new) result }
 {
@@ -126,6 +132,7 @@ fn scan_path<H: Shelf>(
     ensures far { Tells
         (λ all. TakesOfPath all path.now reading.now (H.given shelf.old) (H.given shelf.new))
         (H.files shelf.old) }
+    ensures opened { OpensThese (path.now ∷ []) result (H.asked shelf.old) (H.asked shelf.new) }
     ensures files { H.files shelf.new ≡ H.files shelf.old }
     ensures cause { HasCauseOf ScanError.SourceFault (H.faults shelf.old) (H.faults shelf.new) result }
 {

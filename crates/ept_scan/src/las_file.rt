@@ -1,4 +1,4 @@
-//! The first reading of one file.
+//! A file up to its first record, and its first reading.
 
 ghost use Rattle.std.specs.Prelude.{◌≡◌, ◌≢◌, ◌≤◌, ◌+◌, ◌-◌, ◌*◌, Err, IfOk, IfErr, OnOk, length};
 ghost use Rattle.std.specs.Io.KnownBytes.{prepend_known, Keeps};
@@ -19,6 +19,7 @@ use crate::window::{PIECE, Window};
 use ept_base::{Failed, Source};
 use ept_config::SourceCount;
 use ept_las::{HEAD_LENGTH, Header, LasError, SCALE_WIDTH, read_header};
+use ept_point::PointNumber;
 use ept_space::Bounds;
 
 /// Reads a file from its front to its last record.
@@ -148,7 +149,7 @@ fn scan_records<S: Source>(
     ensures cause { HasCauseOf ScanError.SourceFault (S.faults source.old) (S.faults source.new) result }
 {
     let mut extent = None;
-    for number in 0..header.points as u32 {
+    for number in 0..header.points as PointNumber {
         match next_point(window, source, reading, header, number)? {
             Found::At(point) => extent = Some(grown(extent, &point)),
             Found::Outside => {

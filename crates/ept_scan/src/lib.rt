@@ -25,7 +25,6 @@ pub use laws::{
     ascending_law, file_once_law, file_or_refusal_law, kept_law, one_cause_law, one_refusal_law,
     origin_law, placed_law, scan_once_law, scan_or_refusal_law,
 };
-pub use open::total_of;
 pub use read_error::ReadError;
 pub use reader::Reader;
 pub use reading::{MAX_POINTS, Reading};

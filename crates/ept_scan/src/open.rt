@@ -1,14 +1,14 @@
 //! Opening the second reading.
 
-ghost use Rattle.std.specs.Prelude.{◌≡◌, ◌≢◌, ◌<◌, ◌≤◌, ◌+◌, ℕ, List, [], Err, IfOk, OnOk, OnErr, length, drop, All, None, vec_len, vec_capacity};
+ghost use Rattle.std.specs.Prelude.{◌≡◌, ◌≢◌, ◌<◌, ◌≤◌, ◌+◌, ◌^◌, ℕ, List, [], Err, IfOk, OnOk, OnErr, length, drop, All, Some, None, slice_get, vec_len, vec_capacity};
 ghost use Rattle.ept_base.specs.Causes.{HasCauseOf, Rose};
 ghost use Rattle.ept_base.specs.Files.{Tells};
 ghost use Rattle.ept_point.specs.declared.point.Point as at;
-ghost use Rattle.ept_scan.specs.Counts.{IsSound};
-ghost use Rattle.ept_scan.specs.declared.reading.TheConstants.{MAX_POINTS};
-ghost use Rattle.ept_config.specs.declared.limits.TheConstants.{MAX_INPUTS};
-ghost use Rattle.ept_scan.specs.Opening.{IsKeptScan, total, StartsAt, HasFailed, AddsInput, IsFileOf, HasOpened};
+ghost use Rattle.ept_config.specs.Counts.{IsCount, total};
+ghost use Rattle.ept_config.specs.declared.input.Input as config;
+ghost use Rattle.ept_scan.specs.Opening.{IsKeptScan, StartsAt, HasFailed, AddsInput, IsFileOf, HasOpened};
 ghost use Rattle.ept_scan.specs.Reader.{drawn_of, allowed_of, left_of, refusal_of, files_of, HasFault, IsRest, ReadsNoFurther, IsReader};
+ghost use Rattle.ept_scan.specs.Asking.{OpensThese, path_left, paths_left};
 
 use crate::inputs::reading_of;
 use crate::part::{Cursor, Part};
@@ -17,7 +17,8 @@ use crate::read_error::ReadError;
 use crate::reader::Reader;
 use crate::window::Window;
 use ept_base::{Shelf, Source};
-use ept_config::{Kept, SourceCount};
+use ept_config::{Kept, SourceCount, total_of};
+use ept_point::PointNumber;
 use std::alloc::Global;
 
 impl<S: Source> Reader<S> {
@@ -35,7 +36,7 @@ impl<S: Source> Reader<S> {
         drawn: u64,
     ) -> Result<Reader<S>, ReadError>
         requires each { length counts.now ≡ length kept.now.inputs }
-        requires sound { All (IsSound kept.now.bounds) counts.now }
+        requires sound { All (IsCount kept.now.bounds) counts.now }
         requires drawn { drawn ≤ total counts.now }
         ensures drawn { IfOk result (λ r. drawn_of r ≡ drawn) }
         ensures left { IfOk result (λ r. left_of r + drawn ≡ total counts.now) }
@@ -49,6 +50,8 @@ impl<S: Source> Reader<S> {
         ensures faultless { IfOk result (λ r. HasFault S.faults r → ⊥) }
         ensures reader { IfOk result (IsReader S.whole S.left S.faults) }
         ensures unchanged { (source number : ℕ) → result ≢ Err (ReadError.SourceChanged source number) }
+        ensures opened { OpensThese (paths_left kept.now.inputs counts.now drawn) result
+            (H.asked shelf.old) (H.asked shelf.new) }
         ensures files { H.files shelf.new ≡ H.files shelf.old }
         ensures cause { HasCauseOf ReadError.SourceFault (H.faults shelf.old) (H.faults shelf.new) result }
     {
@@ -80,6 +83,7 @@ impl<S: Source> Reader<S> {
         ensures later { H.faults shelf.old ≤ H.faults shelf.new }
         ensures failed { HasFault S.faults self → Rose (H.faults shelf.old) (H.faults shelf.new) }
         ensures sound { (HasFault S.faults self → ⊥) → H.faults shelf.new ≡ H.faults shelf.old }
+        ensures opened { H.asked shelf.new ≡ H.asked shelf.old }
         ensures files { H.files shelf.new ≡ H.files shelf.old }
     {
         let Reader {
@@ -104,6 +108,7 @@ fn retire_parts<S: Source, H: Shelf<Source = S>>(mut parts: Vec<Part<S>>, shelf:
     ensures later { H.faults shelf.old ≤ H.faults shelf.new }
     ensures failed { HasFailed S.faults parts.items → Rose (H.faults shelf.old) (H.faults shelf.new) }
     ensures sound { (HasFailed S.faults parts.items → ⊥) → H.faults shelf.new ≡ H.faults shelf.old }
+    ensures opened { H.asked shelf.new ≡ H.asked shelf.old }
     ensures files { H.files shelf.new ≡ H.files shelf.old }
 {
     while let Some(part) = parts.pop() {
@@ -121,11 +126,11 @@ fn retire_parts<S: Source, H: Shelf<Source = S>>(mut parts: Vec<Part<S>>, shelf:
 #[derive(Clone, Copy, Debug)]
 struct Start {
     index: usize,
-    number: u32,
+    number: PointNumber,
 }
 
 fn start_of(counts: &[SourceCount], drawn: u64) -> Start
-    requires sound { All (λ count. count.points ≤ MAX_POINTS) counts.now }
+    requires few { All (λ count. count.points < 2 ^ 32) counts.now }
     requires drawn { drawn ≤ total counts.now }
     ensures { StartsAt counts.now drawn result.index result.number }
 {
@@ -135,7 +140,7 @@ fn start_of(counts: &[SourceCount], drawn: u64) -> Start
         if passed < points {
             return Start {
                 index,
-                number: passed as u32,
+                number: passed as PointNumber,
             };
         }
         passed -= points;
@@ -144,19 +149,6 @@ fn start_of(counts: &[SourceCount], drawn: u64) -> Start
         index: counts.len(),
         number: 0,
     }
-}
-
-/// The number of all points with these counts.
-pub fn total_of(counts: &[SourceCount]) -> u64
-    requires sound { All (λ count. count.points ≤ MAX_POINTS) counts.now }
-    requires few { length counts.now ≤ MAX_INPUTS }
-    ensures { result ≡ total counts.now }
-{
-    let mut sum: u64 = 0;
-    for count in counts {
-        sum += count.points;
-    }
-    sum
 }
 
 // Opens the inputs from one on that have points, onto a list that has room for them.
@@ -168,7 +160,7 @@ fn open_parts<S: Source, H: Shelf<Source = S>>(
     parts: &mut Vec<Part<S>>,
 ) -> Result<(), ReadError>
     requires each { length counts.now ≡ length kept.now.inputs }
-    requires sound { All (IsSound kept.now.bounds) counts.now }
+    requires sound { All (IsCount kept.now.bounds) counts.now }
     requires within { from ≤ length counts.now }
     requires none { parts.old.items ≡ [] }
     requires room { length counts.now ≤ vec_capacity parts.old }
@@ -176,6 +168,8 @@ fn open_parts<S: Source, H: Shelf<Source = S>>(
         (H.files shelf.old) kept.now counts.now from (length counts.now) parts.new.items) }
     ensures fresh { HasFailed S.faults parts.new.items → ⊥ }
     ensures unchanged { (source number : ℕ) → result ≢ Err (ReadError.SourceChanged source number) }
+    ensures asked { OpensThese (paths_left (drop from kept.now.inputs) (drop from counts.now) 0) result
+        (H.asked shelf.old) (H.asked shelf.new) }
     ensures files { H.files shelf.new ≡ H.files shelf.old }
     ensures cause { HasCauseOf ReadError.SourceFault (H.faults shelf.old) (H.faults shelf.new) result }
 {
@@ -194,7 +188,7 @@ fn open_input<S: Source, H: Shelf<Source = S>>(
     parts: &mut Vec<Part<S>>,
 ) -> Result<(), ReadError>
     requires within { index < length kept.now.inputs }
-    requires sound { IsSound kept.now.bounds count }
+    requires sound { IsCount kept.now.bounds count }
     requires room { vec_len parts.old < vec_capacity parts.old }
     ensures adds { OnOk result (AddsInput S.whole S.left S.faults
         (H.files shelf.old) kept.now index count.points count.extent parts.old.items parts.new.items) }
@@ -202,6 +196,8 @@ fn open_input<S: Source, H: Shelf<Source = S>>(
     ensures room { vec_capacity parts.new ≡ vec_capacity parts.old }
     ensures refused { OnErr result (parts.new.items ≡ parts.old.items) }
     ensures unchanged { (source number : ℕ) → result ≢ Err (ReadError.SourceChanged source number) }
+    ensures asked { (input : config.Input) → slice_get kept.now.inputs index ≡ Some input
+        → OpensThese (path_left input count 0) result (H.asked shelf.old) (H.asked shelf.new) }
     ensures files { H.files shelf.new ≡ H.files shelf.old }
     ensures cause { HasCauseOf ReadError.SourceFault (H.faults shelf.old) (H.faults shelf.new) result }
 {

@@ -5,10 +5,10 @@ ghost use Rattle.ept_base.specs.Causes.{HasCauseOf};
 ghost use Rattle.ept_base.specs.Files.{Tells};
 ghost use Rattle.ept_point.specs.declared.point.Point as at;
 ghost use Rattle.ept_scan.specs.Extents.{IsAllowed};
-ghost use Rattle.ept_scan.specs.Changes.{IsChange, HasRecord};
+ghost use Rattle.ept_scan.specs.Changes.{IsChange, IfChanged, HasRecord};
 ghost use Rattle.ept_scan.specs.Places.{StandsAt};
 ghost use Rattle.ept_scan.specs.Reach.{ReadsNoFurther};
-ghost use Rattle.ept_scan.specs.Queue.{held_of, records_left, RestOf, LiesIn, IsQueue, AreNear, HasFault, HasChanged};
+ghost use Rattle.ept_scan.specs.Queue.{held_of, records_left, RestOf, LiesIn, IsDrawn, AreDrawn, IsQueue, AreNear, AreRewound, HasFault, HasChanged, IsFirstChanged};
 
 use crate::draw::draw;
 use crate::part::{Cursor, Part};
@@ -45,14 +45,17 @@ impl<S: Source> Queue<S> {
         ensures held { held_of S.whole self.new ≡ held_of S.whole self.old }
         ensures left { OnOk result (records_left self.new + 1 ≡ records_left self.old) }
         ensures lies { IfOk result (LiesIn (held_of S.whole self.old)) }
+        ensures drawn { IfOk result (IsDrawn (held_of S.whole self.old) (records_left self.old)) }
         ensures rest { (points : List at.Point) → RestOf S.whole self.old points
             → IfOk result (λ p. (rest : List at.Point) × (points ≡ p ∷ rest)
             × RestOf S.whole self.new rest) }
         ensures unchanged { (points : List at.Point) → RestOf S.whole self.old points
             → (source number : ℕ) → result ≢ Err (ReadError.SourceChanged source number) }
-        ensures changed { IfErr result (HasChanged (held_of S.whole self.old)) }
+        ensures changed { IfErr result (IfChanged
+            (HasChanged (held_of S.whole self.old) (records_left self.old))) }
         ensures enough { result ≢ Err ReadError.Memory }
         ensures near { AreNear S.whole S.left self.old → AreNear S.whole S.left self.new }
+        ensures rewound { AreRewound S.whole S.left self.old → AreRewound S.whole S.left self.new }
         ensures fault { result ≡ Err ReadError.SourceFault → HasFault S.faults self.new }
         ensures faults { HasFault S.faults self.old → HasFault S.faults self.new }
     {
@@ -81,15 +84,20 @@ impl<S: Source> Queue<S> {
         ensures points { OnOk result
             ((drawn : List at.Point) × (out.new.items ≡ out.old.items ++ drawn)
             × (length drawn ≡ count) × All (LiesIn (held_of S.whole self.old)) drawn) }
+        ensures records { OnOk result
+            ((drawn : List at.Point) × (out.new.items ≡ out.old.items ++ drawn)
+            × AreDrawn (held_of S.whole self.old) (records_left self.old) drawn) }
         ensures rest { (points : List at.Point) → RestOf S.whole self.old points
             → OnOk result ((out.new.items ≡ out.old.items ++ take count points)
             × RestOf S.whole self.new (drop count points)) }
         ensures refused { OnErr result (out.new.items ≡ out.old.items) }
         ensures unchanged { (points : List at.Point) → RestOf S.whole self.old points
             → (source number : ℕ) → result ≢ Err (ReadError.SourceChanged source number) }
-        ensures changed { IfErr result (HasChanged (held_of S.whole self.old)) }
+        ensures changed { IfErr result (IfChanged
+            (IsFirstChanged (held_of S.whole self.old) (records_left self.old) count)) }
         ensures memory { result ≢ Err ReadError.Memory }
         ensures near { AreNear S.whole S.left self.old → AreNear S.whole S.left self.new }
+        ensures rewound { AreRewound S.whole S.left self.old → AreRewound S.whole S.left self.new }
         ensures fault { result ≡ Err ReadError.SourceFault → HasFault S.faults self.new }
         ensures faults { HasFault S.faults self.old → HasFault S.faults self.new }
     {
@@ -118,10 +126,12 @@ fn draw_on<S: Source>(
         (S.left part.old.source) window.old cursor.old.number cursor.old.header }
     ensures allowed { IfOk result (λ d. IsAllowed part.old.reading.limits d.point) }
     ensures origin { IfOk result (λ d. d.point.origin ≡ part.old.reading.origin) }
+    ensures number { IfOk result (λ d. d.point.number ≡ cursor.old.number) }
     ensures record { IfOk result (λ d. Tells
         (λ file. HasRecord part.old.reading part.old.points file cursor.old.number d.point)
         (S.whole part.old.source)) }
-    ensures changed { IfErr result (IsChange part.old.reading part.old.points (S.whole part.old.source)) }
+    ensures changed { IfErr result (IsChange part.old.reading part.old.points cursor.old.number
+        (S.whole part.old.source)) }
     ensures enough { result ≢ Err ReadError.Memory }
     ensures next { OnOk result (cursor.new.number ≡ cursor.old.number + 1) }
     ensures last { IfOk result (λ d. IsTrue d.last → (cursor.new.number ≡ part.old.points)

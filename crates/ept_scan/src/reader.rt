@@ -2,7 +2,8 @@
 
 ghost use Rattle.std.specs.Prelude.{◌≡◌, ◌≢◌, ◌+◌, ◌-◌, ◌++◌, ℕ, List, Err, Some, None, IfErr, OnOk, OnErr, is_ok, if◌then◌else◌, length, take, drop, All};
 ghost use Rattle.ept_point.specs.declared.point.Point as at;
-ghost use Rattle.ept_scan.specs.Queue.{LiesIn, HasChanged};
+ghost use Rattle.ept_scan.specs.Changes.{IfChanged};
+ghost use Rattle.ept_scan.specs.Queue.{LiesIn, AreDrawn, IsFirstChanged};
 ghost use Rattle.ept_scan.specs.Reader.{drawn_of, allowed_of, left_of, refusal_of, batch_of, HasFault, files_of, IsRest, ReadsNoFurther, IsReader};
 
 use crate::queue::Queue;
@@ -67,6 +68,11 @@ impl<S: Source> Reader<S> {
             ((points : List at.Point) × (out.new.items ≡ out.old.items ++ points)
             × (length points ≡ batch_of n self.old) × All (LiesIn (files_of S.whole self.old)) points) }
 
+        // They are the next records of the files, each with the point that its file has there.
+        ensures records { OnOk result
+            ((points : List at.Point) × (out.new.items ≡ out.old.items ++ points)
+            × AreDrawn (files_of S.whole self.old) (left_of self.old) points) }
+
         // Where the sources hold the bytes that were scanned, the batch is the next points.
         ensures rest { (points : List at.Point) → IsRest S.whole self.old points
             → OnOk result ((out.new.items ≡ out.old.items ++ take (batch_of n self.old) points)
@@ -77,7 +83,8 @@ impl<S: Source> Reader<S> {
 
         // The causes of a refusal, and what it leaves.
         ensures fault { result ≡ Err ReadError.SourceFault → HasFault S.faults self.new }
-        ensures changed { refusal_of self.old ≡ None → IfErr result (HasChanged (files_of S.whole self.old)) }
+        ensures changed { refusal_of self.old ≡ None → IfErr result (IfChanged
+            (IsFirstChanged (files_of S.whole self.old) (left_of self.old) (batch_of n self.old))) }
         ensures refused { OnErr result (out.new.items ≡ out.old.items) }
         ensures memory { result ≡ Err ReadError.Memory → self.new ≡ self.old }
         ensures refusal { IfErr result (λ e. e ≢ ReadError.Memory → refusal_of self.new ≡ Some e) }

@@ -12,7 +12,7 @@ use crate::reading::Reading;
 use crate::window::{PIECE, Window};
 use ept_base::{Failed, Source};
 use ept_las::{Header, read_record};
-use ept_point::Point;
+use ept_point::{Point, PointNumber};
 
 /// What the next record of a file was found to be.
 #[derive(Clone, Copy, Debug)]
@@ -32,7 +32,7 @@ pub(crate) fn next_point<S: Source>(
     source: &mut S,
     reading: &Reading,
     header: &Header,
-    number: u32,
+    number: PointNumber,
 ) -> Result<Found, Failed>
     requires format { IsFormat header.now.format }
     requires size { record_length header.now.format ≤ header.now.length }
@@ -63,7 +63,7 @@ pub(crate) fn next_point<S: Source>(
 }
 
 // How many bytes may be read ahead from record `number` on: those of the records, a piece at most.
-fn piece_of(header: &Header, number: u32) -> usize
+fn piece_of(header: &Header, number: PointNumber) -> usize
     requires { number < header.now.points }
     ensures piece { result ≤ PIECE }
     ensures one { header.now.length ≤ result }
@@ -74,7 +74,7 @@ fn piece_of(header: &Header, number: u32) -> usize
 }
 
 // The point of a record's bytes.
-fn point_of(reading: &Reading, format: u8, bytes: &[u8], number: u32) -> Found
+fn point_of(reading: &Reading, format: u8, bytes: &[u8], number: PointNumber) -> Found
     requires format { IsFormat format }
     requires size { record_length format ≤ length bytes.now }
     ensures bytes { BytesAre reading.now format number bytes.now result }

@@ -1,7 +1,7 @@
 //! Worked scans and readings, from outside the program.
 
 ghost use Rattle.std.specs.Prelude.{◌≡◌, IfOk, length, All};
-ghost use Rattle.ept_scan.specs.Counts.{IsSound};
+ghost use Rattle.ept_config.specs.Counts.{IsCount};
 
 use super::*;
 use ept_config::{Kept, SourceCount, read_config};
@@ -348,7 +348,7 @@ struct Scanned {
 
 fn found_in(alloc: Global, config: &str, shelf: &mut MemShelf) -> Result<Scanned, Fail>
     ensures each { IfOk result (λ s. length s.counts ≡ length s.kept.inputs) }
-    ensures sound { IfOk result (λ s. All (IsSound s.kept.bounds) s.counts) }
+    ensures sound { IfOk result (λ s. All (IsCount s.kept.bounds) s.counts) }
 {
     let config = read_config(alloc, config.as_bytes())?;
     let ScanDone { counts, bounds } = scan(alloc, shelf, &config, 0, None)?;
@@ -374,7 +374,7 @@ fn two_batches(
     allowed: u64,
 ) -> Result<Batches, Fail>
     requires each { length found.now.counts ≡ length found.now.kept.inputs }
-    requires sound { All (IsSound found.now.kept.bounds) found.now.counts }
+    requires sound { All (IsCount found.now.kept.bounds) found.now.counts }
 {
     let mut points = Vec::new(alloc);
     let mut reader = Reader::open(alloc, shelf, &found.kept, found.counts.as_slice(), 0)?;

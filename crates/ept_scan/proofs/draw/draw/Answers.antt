@@ -1,4 +1,4 @@
-use Rattle.std.proofs.Common.{refl, subst, arith}
+use Rattle.std.proofs.Common.{refl, inr, subst, arith}
 use Rattle.std.specs.Io.KnownBytes.{prepend_known}
 use Rattle.ept_scan.specs.declared.record.Found.{Found}
 use Rattle.ept_scan.specs.Records.{ReadsNext, FindsAllowed, IsWithinReach}
@@ -28,7 +28,7 @@ returns-clause-at g c =
 pub returns-in_default-clause-changed : goal.returns-in_default-clause-changed
 returns-in_default-clause-changed g c = (
   refl,
-  record_changed c.args.part.now.reading c.args.part.now.points c.header_at.new.window c.next_point.new.window (g.S.Source.left c.header_at.new.source) (g.S.Source.left c.next_point.new.source) c.args.cursor.now.number c.in_ok-header.header (g.S.Source.whole c.args.part.now.source) c.in_ok-found.found c.requires.more c.in_default.not-At c.in_ok-header.ensures.at c.in_ok-found.ensures.next,
+  inr (refl, record_changed c.args.part.now.reading c.args.part.now.points c.header_at.new.window c.next_point.new.window (g.S.Source.left c.header_at.new.source) (g.S.Source.left c.next_point.new.source) c.args.cursor.now.number c.in_ok-header.header (g.S.Source.whole c.args.part.now.source) c.in_ok-found.found c.requires.more c.in_default.not-At c.in_ok-header.ensures.at c.in_ok-found.ensures.next),
 )
 
 pub returns-in_default-clause-far : goal.returns-in_default-clause-far

@@ -12,8 +12,8 @@ same_place a b c x y z p q r = rw (p, q, r) refl
 
 pub returns-in-Err-clause-changed : goal.returns-in-Err-clause-changed
 returns-in-Err-clause-changed g c =
-    subst (IsChange c.args.reading.now c.args.points (g.S.Source.whole c.args.source.now)) (sym c.change_of.ensures)
-    (header_changed c.args.reading.now c.args.points (g.S.Source.whole c.args.source.now) (g.S.Source.left c.args.source.now) c.in-Err.refused c.requires.front (omega arith) (λ same. c.begin.ensures.enough (c.in-Err.is ∙ ap (λ (e : _). Err e) same)) c.in-Err.ensures.refused)
+    subst (IsChange c.args.reading.now c.args.points c.args.number (g.S.Source.whole c.args.source.now)) (sym c.change_of.ensures)
+    (header_changed c.args.reading.now c.args.points c.args.number (g.S.Source.whole c.args.source.now) (g.S.Source.left c.args.source.now) c.in-Err.refused c.requires.front (omega arith) (λ same. c.begin.ensures.enough (c.in-Err.is ∙ ap (λ (e : _). Err e) same)) c.in-Err.ensures.refused)
 
 pub returns-in_err-skip-clause-far : goal.returns-in_err-skip-clause-far
 returns-in_err-skip-clause-far g c =

@@ -1,11 +1,14 @@
-use Rattle.std.proofs.Common.{List, sym, subst, arith, length, ap}
+use Rattle.std.proofs.lemmas.List.{take_all}
+use Rattle.ept_scan.specs.Asking.{AsksFor, paths_from}
+use Rattle.std.proofs.Common.{ℕ, List, sym, subst, arith, length, ap}
 use Rattle.std.specs.Prelude.{All, Option, IfSome}
 use Rattle.std.specs.List.{AllZip}
 use Rattle.ept_config.specs.declared.source_count.SourceCount.{SourceCount}
 use Rattle.ept_space.specs.declared.bounds.Bounds.{Bounds}
 use Rattle.ept_space.specs.CubeOfBounds.{HasPlace}
 use Rattle.ept_scan.specs.Scans.{in_order}
-use Rattle.ept_scan.specs.Counts.{IsCountOf, IsSound}
+use Rattle.ept_scan.specs.Counts.{IsCountOf}
+use Rattle.ept_config.specs.Counts.{IsCount}
 use Rattle.ept_scan.proofs.Listing.{zip_length}
 use Rattle.ept_scan.proofs.Sound.{all_sound, scan_found, bounds_ordered, limits_ordered}
 use Rattle.ept_scan.proofs.first_reading.scan.Goals as goal
@@ -18,7 +21,7 @@ returns-in-Some-clause-one_each g c =
 pub returns-in-Some-clause-sound : goal.returns-in-Some-clause-sound
 returns-in-Some-clause-sound g c =
     let found = c.in_ok-counts.ensures.found in
-    subst (λ (l : List SourceCount). All (IsSound c.in-Some.bounds) l) (sym c.of.ensures)
+    subst (λ (l : List SourceCount). All (IsCount c.in-Some.bounds) l) (sym c.of.ensures)
     (all_sound _ _ _ _ _ _ c.in_ok-counts.counts.items c.in-Some.bounds found (c.in-Some.ensures found.lists (subst (λ (l : List SourceCount). AllZip IsCountOf found.lists l) (sym c.deref.ensures.value) found.counts_are)))
 
 pub returns-in-Some-clause-ordered : goal.returns-in-Some-clause-ordered
@@ -32,3 +35,8 @@ returns-in-Some-clause-scan g c =
     let found = c.in_ok-counts.ensures.found in
     scan_found (g.H.Shelf.files c.args.shelf.now) c.args.config.now.scale c.limits_of-limits.result _ c.args.config.now.inputs c.args.from c.in_ok-counts.counts.items c.of.result c.in-Some.bounds c.limits_of-limits.ensures c.of.ensures found
     (c.in-Some.ensures found.lists (subst (λ (l : List SourceCount). AllZip IsCountOf found.lists l) (sym c.deref.ensures.value) found.counts_are))
+
+pub returns-in-None-clause-opened : goal.returns-in-None-clause-opened
+returns-in-None-clause-opened g c =
+    let all : List (List ℕ) = paths_from c.args.config.now.inputs c.args.from in
+    (length all, subst (λ (l : List (List ℕ)). AsksFor l (g.H.Shelf.asked c.args.shelf.now) (g.H.Shelf.asked c.scan_inputs.new.shelf)) (sym (take_all (length all) all (omega arith))) c.in_ok-counts.ensures.opened)

@@ -1,5 +1,5 @@
 use Rattle.std.proofs.Common.{◌≡◌, ◌+◌, take}
-use Rattle.ept_scan.specs.Opening.{total}
+use Rattle.ept_config.specs.Counts.{total}
 use Rattle.ept_scan.proofs.open.start_of.Given as goal
 
 abbrev pub invariant-loop-index : goal.invariant-loop-index

@@ -4,8 +4,9 @@ use Rattle.std.proofs.lemmas.Result.{err_from_is_err_and}
 use Rattle.std.proofs.lemmas.List.{length-set}
 use Rattle.ept_point.specs.declared.point.Point.{Point}
 use Rattle.ept_scan.specs.declared.read_error.ReadError.{ReadError}
-use Rattle.ept_scan.specs.Queue.{held_of, HasChanged}
-use Rattle.ept_scan.proofs.Queues.{held_same, held_is, limited_same, near_same, changed_is, fault_new, faults_kept, stands_old, stands_on, stands_past, current_new, never_changed, rest_on, rest_past_at, lies_is}
+use Rattle.ept_scan.specs.Changes.{IfChanged}
+use Rattle.ept_scan.specs.Queue.{held_of, records_left, HasChanged}
+use Rattle.ept_scan.proofs.Queues.{held_same, held_is, limited_same, near_same, changed_is, rewound_same, rewound_past, drawn_next, fault_new, faults_kept, stands_old, stands_on, stands_past, current_new, never_changed, rest_on, rest_past_at, lies_is}
 use Rattle.ept_scan.proofs.queue.Queue.next.Goals as goal
 
 same_error : (r : Result Point ReadError) (a b : ReadError) → r ≡ Err a → r ≡ Err b → a ≡ b
@@ -30,7 +31,29 @@ returns-in_err-drawn-clause-unchanged g c points rest source number is =
 pub returns-in_err-drawn-clause-changed : goal.returns-in_err-drawn-clause-changed
 returns-in_err-drawn-clause-changed g c =
     let p = err_from_is_err_and c.from_residual.result c.from_residual.ensures.1 in
-    subst (λ (r : Result Point ReadError). IfErr r (HasChanged (held_of g.S.Source.whole c.args.self.now))) (sym p.1) (changed_is g.S.Source.whole g.S.Source.left c.args.self.now.parts.items c.args.self.now.at c.index_mut.result.now c.draw_on.new.part c.requires.more c.index_mut.ensures.value c.in_err-drawn.field-0.0 p.0 p.2 c.in_err-drawn.ensures.changed)
+    let stood = stands_old g.S.Source.whole g.S.Source.left c.args.self.now.parts.items c.args.self.now.at c.index_mut.result.now c.draw_on.new.part c.requires.more c.index_mut.ensures.value c.args.self.now.cursor c.args.self.now.window c.requires.queue.stands in
+    subst (λ (r : Result Point ReadError). IfErr r (IfChanged (HasChanged (held_of g.S.Source.whole c.args.self.now) (records_left c.args.self.now)))) (sym p.1) (changed_is g.S.Source.whole g.S.Source.left c.args.self.now.parts.items c.args.self.now.at c.index_mut.result.now c.draw_on.new.part c.requires.more c.index_mut.ensures.value c.args.self.now.cursor.number stood.0.more c.in_err-drawn.field-0.0 p.0 p.2 c.in_err-drawn.ensures.changed)
+
+pub returns-in_err-drawn-clause-rewound : goal.returns-in_err-drawn-clause-rewound
+returns-in_err-drawn-clause-rewound g c all = rewound_same g.S.Source.whole g.S.Source.left c.args.self.now.parts.items c.args.self.now.at c.index_mut.result.now c.draw_on.new.part c.requires.more c.index_mut.ensures.value all
+
+pub returns-then-not-drawn-clause-rewound : goal.returns-then-not-drawn-clause-rewound
+returns-then-not-drawn-clause-rewound g c all = rewound_same g.S.Source.whole g.S.Source.left c.args.self.now.parts.items c.args.self.now.at c.index_mut.result.now c.draw_on.new.part c.requires.more c.index_mut.ensures.value all
+
+pub returns-clause-rewound : goal.returns-clause-rewound
+returns-clause-rewound g c all =
+    let end = c.in_ok-drawn.ensures.last (true_from_not c.in_ok-drawn.drawn.last c.if-not-drawn.false) in
+    rewound_past g.S.Source.whole g.S.Source.left c.args.self.now.parts.items c.args.self.now.at c.index_mut.result.now c.draw_on.new.part c.requires.more c.index_mut.ensures.value all (end.1 ∙ sym c.draw_on.ensures.whole)
+
+pub returns-then-not-drawn-clause-drawn : goal.returns-then-not-drawn-clause-drawn
+returns-then-not-drawn-clause-drawn g c =
+    let stood = stands_old g.S.Source.whole g.S.Source.left c.args.self.now.parts.items c.args.self.now.at c.index_mut.result.now c.draw_on.new.part c.requires.more c.index_mut.ensures.value c.args.self.now.cursor c.args.self.now.window c.requires.queue.stands in
+    drawn_next g.S.Source.whole g.S.Source.left c.args.self.now.parts.items c.args.self.now.at c.index_mut.result.now c.draw_on.new.part c.requires.more c.index_mut.ensures.value c.args.self.now.cursor.number stood.0.more c.in_ok-drawn.drawn.point c.in_ok-drawn.ensures.number c.in_ok-drawn.ensures.origin c.in_ok-drawn.ensures.record
+
+pub returns-clause-drawn : goal.returns-clause-drawn
+returns-clause-drawn g c =
+    let stood = stands_old g.S.Source.whole g.S.Source.left c.args.self.now.parts.items c.args.self.now.at c.index_mut.result.now c.draw_on.new.part c.requires.more c.index_mut.ensures.value c.args.self.now.cursor c.args.self.now.window c.requires.queue.stands in
+    drawn_next g.S.Source.whole g.S.Source.left c.args.self.now.parts.items c.args.self.now.at c.index_mut.result.now c.draw_on.new.part c.requires.more c.index_mut.ensures.value c.args.self.now.cursor.number stood.0.more c.in_ok-drawn.drawn.point c.in_ok-drawn.ensures.number c.in_ok-drawn.ensures.origin c.in_ok-drawn.ensures.record
 
 pub returns-in_err-drawn-clause-fault : goal.returns-in_err-drawn-clause-fault
 returns-in_err-drawn-clause-fault g c is =

@@ -2,7 +2,7 @@ use Rattle.std.proofs.Common.{◌≡◌, refl, Result, List, ◌+◌, sym, subst
 use Rattle.ept_point.specs.declared.point.Point.{Point}
 use Rattle.ept_scan.specs.declared.read_error.ReadError.{ReadError}
 use Rattle.ept_scan.specs.declared.read_error.ReadError.TheVariants.{SourceChanged}
-use Rattle.ept_scan.proofs.Batches.{HasDrawn, at_file, drawn_none, drawn_more}
+use Rattle.ept_scan.proofs.Batches.{HasDrawn, at_file, drawn_none, drawn_more, first_changed}
 use Rattle.ept_scan.proofs.queue.Queue.next_points.Goals as goal
 
 same_refusal : (a b : ReadError) (x y : Result (Unit {0}) ReadError) → x ≡ Err a → y ≡ Err b → x ≡ y → a ≡ b
@@ -22,7 +22,7 @@ loop-init g c = record {
 pub loop-preserved : goal.loop-preserved
 loop-preserved g c = record {
   drawn = subst (λ (l : List Point). HasDrawn g.S.Source.whole g.S.Source.left g.S.Source.faults c.args.self.now c.args.out.now.items c.next.new.self l (c.loop.counter + 1)) (sym c.push_reserved.ensures.items)
-      (drawn_more g.S.Source.whole g.S.Source.left g.S.Source.faults c.args.self.now c.args.out.now.items c.loop.self c.next.new.self c.loop.out.items c.loop.counter c.in-Ok.point c.loop.invariant.drawn c.in-Ok.ensures.queue c.in-Ok.ensures.held c.in-Ok.ensures.left c.in-Ok.ensures.lies c.in-Ok.ensures.rest c.in-Ok.ensures.near c.in-Ok.ensures.faults);
+      (drawn_more g.S.Source.whole g.S.Source.left g.S.Source.faults c.args.self.now c.args.out.now.items c.loop.self c.next.new.self c.loop.out.items c.loop.counter c.in-Ok.point c.loop.invariant.drawn c.in-Ok.ensures.queue c.in-Ok.ensures.held c.in-Ok.ensures.left c.in-Ok.ensures.lies c.in-Ok.ensures.drawn c.in-Ok.ensures.rest c.in-Ok.ensures.near c.in-Ok.ensures.rewound c.in-Ok.ensures.faults);
   part = omega (arith, c.loop-test.true);
   size = omega (arith, c.push_reserved.ensures.len, c.loop.invariant.size);
   room = omega (arith, c.push_reserved.ensures.capacity, c.loop.invariant.room);
@@ -34,3 +34,7 @@ returns-in-Err-clause-unchanged g c points rest source number is =
 
 pub returns-in-Err-clause-faults : goal.returns-in-Err-clause-faults
 returns-in-Err-clause-faults g c any = c.in-Err.ensures.faults (c.loop.invariant.drawn.fault any)
+
+pub returns-in-Err-clause-changed : goal.returns-in-Err-clause-changed
+returns-in-Err-clause-changed g c =
+    first_changed g.S.Source.whole g.S.Source.left g.S.Source.faults c.args.self.now c.args.out.now.items c.loop.self c.loop.out.items c.loop.counter c.args.count c.loop.invariant.drawn c.loop-test.true c.in-Err.refused c.in-Err.ensures.changed

@@ -1,9 +1,0 @@
-use Rattle.std.proofs.Common.{◌≡◌, ◌*◌, ◌≤◌, take}
-use Rattle.ept_scan.specs.Opening.{total}
-use Rattle.ept_scan.proofs.open.total_of.Given as goal
-
-abbrev pub invariant-loop-count : goal.invariant-loop-count
-invariant-loop-count l = record {
-  sum : l.sum ≡ total (take l.count-index l.counts);
-  bound : l.sum ≤ 4294967295 * l.count-index;
-}
