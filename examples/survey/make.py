@@ -5,9 +5,11 @@ Usage: examples/survey/make.py        (writes beside itself)
 
 Two flights of format 3 (LAS 1.2, GPS time and colour) and two of format 7 (LAS 1.4) cover a field of 200 by
 200 metres, a quarter each with an overlap. The first two hold coordinates in centimetres from the corner of the
-field; the last two in decimetres from their own corner, so that the configuration scales and shifts them.
+field; the last two in decimetres from their own corner. Their headers say so, with offsets, scales, extents and
+the reference system, as any reader of LAS files takes them.
 """
 
+import json
 import math
 import struct
 from pathlib import Path
@@ -15,6 +17,7 @@ from pathlib import Path
 HERE = Path(__file__).parent
 POINTS = 2500
 SIDE = 110  # metres that a flight covers on each axis
+FIELD = (572000, 5930000, 0)  # the corner of the field in UTM zone 32
 CORNERS = {"north-west": (0, 90), "north-east": (90, 90), "south-west": (0, 0), "south-east": (90, 0)}
 
 
@@ -45,38 +48,64 @@ def returns(name, seed):
         yield (x, y, z), (5 if is_tree else 2), colour, int(20000 * next(by_lot)), 1000.0 + number / 500
 
 
-def header(minor, size, form, length, count):
-    """A public header block with the fields that are read, and scales of centimetres or decimetres."""
+def vlr(record, name, body):
+    """A variable length record on the reference system."""
+    return struct.pack("<H16sHH32s", 0, b"LASF_Projection", record, len(body), name) + body
+
+
+def geotiff_keys():
+    """The reference system as LAS 1.2 has it: projected, EPSG:25832, with heights EPSG:7837."""
+    keys = [(1024, 1), (3072, 25832), (4096, 7837)]
+    numbers_of = [1, 1, 0, len(keys)] + [n for key, code in keys for n in (key, 0, 1, code)]
+    return vlr(34735, b"GeoTiff keys", struct.pack(f"<{len(numbers_of)}H", *numbers_of))
+
+
+def well_known_text():
+    """The reference system as LAS 1.4 has it: the text that the configuration has too."""
+    text = json.loads((HERE / "survey.json").read_text())["srs"]["wkt"]
+    return vlr(2112, b"WKT", text.encode() + b"\0")
+
+
+def header(minor, size, form, length, unit, corner, places, reference):
+    """A public header block over these raw places, and the record on the reference system behind it."""
     block = bytearray(size)
     block[0:4] = b"LASF"
+    # Bit 4 says that the reference system is a text.
+    struct.pack_into("<H", block, 6, 16 if minor == 4 else 0)
     block[24:26] = bytes([1, minor])
-    struct.pack_into("<HI", block, 94, size, size)
+    struct.pack_into("<32s32sHH", block, 26, b"OTHER", b"make.py", 1, 2026)
+    struct.pack_into("<HII", block, 94, size, size + len(reference), 1)
     struct.pack_into("<BH", block, 104, form, length)
-    struct.pack_into("<I", block, 107, 0 if minor == 4 else count)
-    unit = 0.01 if minor == 2 else 0.1
-    struct.pack_into("<6d", block, 131, unit, unit, unit, 0, 0, 0)
+    # Each point is the first return of one.
     if minor == 4:
-        struct.pack_into("<Q", block, 247, count)
-    return block
+        struct.pack_into("<16Q", block, 247, POINTS, POINTS, *[0] * 14)
+    else:
+        struct.pack_into("<6I", block, 107, POINTS, POINTS, *[0] * 4)
+    struct.pack_into("<6d", block, 131, unit, unit, unit, *corner)
+    ends = [end(axis) for axis in zip(*places) for end in (max, min)]
+    extent = [raw * unit + corner[i // 2] for i, raw in enumerate(ends)]
+    struct.pack_into("<6d", block, 179, *extent)
+    return block + reference
 
 
 def flight_of_format_3(name, seed):
     """Centimetres from the corner of the field; LAS 1.2."""
-    body = bytearray()
+    body, places = bytearray(), []
     for (x, y, z), kind, (r, g, b), intensity, time in returns(name, seed):
-        place = [round(100 * c) for c in (x, y, z)]
-        body += struct.pack("<iiiHBBbBHdHHH", *place, intensity, 0x09, kind, -3, 1, seed, time, r, g, b)
-    return header(2, 227, 3, 34, POINTS) + body
+        places.append([round(100 * c) for c in (x, y, z)])
+        body += struct.pack("<iiiHBBbBHdHHH", *places[-1], intensity, 0x09, kind, -3, 1, seed, time, r, g, b)
+    return header(2, 227, 3, 34, 0.01, FIELD, places, geotiff_keys()) + body
 
 
 def flight_of_format_7(name, seed):
     """Decimetres from the flight's own corner; LAS 1.4."""
     left, low = CORNERS[name]
-    body = bytearray()
+    corner = (FIELD[0] + left, FIELD[1] + low, FIELD[2])
+    body, places = bytearray(), []
     for (x, y, z), kind, (r, g, b), intensity, time in returns(name, seed):
-        place = [round(10 * c) for c in (x - left, y - low, z)]
-        body += struct.pack("<iiiHBBBBhHdHHH", *place, intensity, 0x11, 0x10, kind, 1, -500, seed, time, r, g, b)
-    return header(4, 375, 7, 36, POINTS) + body
+        places.append([round(10 * c) for c in (x - left, y - low, z)])
+        body += struct.pack("<iiiHBBBBhHdHHH", *places[-1], intensity, 0x11, 0x10, kind, 1, -500, seed, time, r, g, b)
+    return header(4, 375, 7, 36, 0.1, corner, places, well_known_text()) + body
 
 
 def main():
