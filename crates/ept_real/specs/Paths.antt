@@ -1,6 +1,8 @@
--- Where a store's files are.
-use Rattle.std.specs.Prelude.{ℕ, List, [], ◌∷◌, ◌++◌, codes}
+-- The paths of files.
+use Rattle.std.specs.Prelude.{ℕ, List, [], ◌∷◌, ◌++◌, Option, Some, None, codes, option_map, string_bytes}
 use Rattle.std.specs.Path.{slash}
+use Rattle.ept_real.specs.declared.shelf.RealShelf.{RealShelf}
+use Rattle.ept_real.specs.declared.source.RealSource.{RealSource}
 use Rattle.ept_real.specs.declared.store.RealStore.{RealStore}
 
 -- the path of a name in a folder, with a slash between them
@@ -15,3 +17,16 @@ folder_path (byte ∷ bytes) = byte ∷ bytes
 -- the path of a store's folder
 abbrev pub store_folder : {R F D : Type 0} → RealStore R F D → List ℕ
 store_folder store = store.folder.now
+
+-- the path of a source's file
+abbrev pub source_path : {R F D : Type 0} → RealSource R F D → List ℕ
+source_path source = string_bytes source.path
+
+-- the path of the first file of a shelf that failed
+abbrev pub shelf_refused : {R F D : Type 0} → RealShelf R F D → Option (List ℕ)
+shelf_refused shelf = option_map string_bytes shelf.refused
+
+-- the first path, where there was none before
+abbrev pub first_of : Option (List ℕ) → List ℕ → Option (List ℕ)
+first_of None path = Some path
+first_of (Some first) path = Some first

@@ -30,7 +30,7 @@ enum Place<F: Read + Drop> {
 pub struct RealSource<'a, R: Files> {
     files: &'a R,
     alloc: Global,
-    path: String,
+    pub(crate) path: String,
     place: Place<R::File>,
     pub(crate) faults: u64,
     pub(crate) given: u64,
@@ -42,12 +42,15 @@ fn open_reader<R: Files>(files: &R, alloc: Global, path: &str) -> io::Result<Buf
 }
 
 impl<'a, R: Files> RealSource<'a, R> {
+    ghost use Rattle.std.specs.Prelude.{string_bytes};
     ghost use Rattle.ept_real.specs.Counts.{source_faults, source_given};
+    ghost use Rattle.ept_real.specs.Paths.{source_path};
 
     /// The file of this path, at its start, without a fault and unread.
     pub(crate) fn new(alloc: Global, files: &'a R, path: String) -> Self
         ensures fresh { source_faults result ≡ 0 }
         ensures unread { source_given result ≡ 0 }
+        ensures of_path { source_path result ≡ string_bytes path }
     {
         RealSource {
             files,

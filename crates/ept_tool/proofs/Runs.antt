@@ -6,7 +6,6 @@ use Rattle.std.specs.declared.alloc.Global.{Global}
 use Rattle.ept_base.specs.Files.{Files, Tells}
 use Rattle.ept_las.specs.declared.header.Header.{Header}
 use Rattle.ept_tool.specs.Words.{IsUsage}
-use Rattle.ept_tool.specs.declared.status.TheConstants.{OK, USAGE, DEVICE, MEMORY, NOT_BUILT}
 use Rattle.ept_tool.specs.declared.refusal.Refusal.{Refusal}
 use Rattle.ept_tool.specs.declared.refusal.Refusal.TheVariants.{Usage, BadConfiguration, BadLas, OutOfBounds, NoBounds, SourceChanged, TooManyPoints, TooManyNodes, SourceFault, StoreFault, Memory}
 use Rattle.ept_tool.specs.Lines.{status_of, line_of}
@@ -15,7 +14,7 @@ use Rattle.ept_tool.specs.Answers.{Yields, YieldsRefusal, AsksBuild, IsAnswer, I
 
 -- ---- statuses
 
-usage_only : (r : Refusal) → status_of r ≡ USAGE → r ≡ Usage
+usage_only : (r : Refusal) → status_of r ≡ 2 → r ≡ Usage
 usage_only Usage is = refl
 usage_only (BadConfiguration e) is = absurd (omega (arith, is))
 usage_only (BadLas source fault) is = absurd (omega (arith, is))
@@ -28,7 +27,7 @@ usage_only SourceFault is = absurd (omega (arith, is))
 usage_only StoreFault is = absurd (omega (arith, is))
 usage_only Memory is = absurd (omega (arith, is))
 
-device_only : (r : Refusal) → status_of r ≡ DEVICE → (r ≡ SourceFault) ⊎ (r ≡ StoreFault)
+device_only : (r : Refusal) → status_of r ≡ 7 → (r ≡ SourceFault) ⊎ (r ≡ StoreFault)
 device_only Usage is = absurd (omega (arith, is))
 device_only (BadConfiguration e) is = absurd (omega (arith, is))
 device_only (BadLas source fault) is = absurd (omega (arith, is))
@@ -42,7 +41,7 @@ device_only StoreFault is = inr refl
 device_only Memory is = absurd (omega (arith, is))
 
 -- a refusal is neither the work done nor a later command
-neither : (r : Refusal) → (status_of r ≢ OK) × (status_of r ≢ NOT_BUILT)
+neither : (r : Refusal) → (status_of r ≢ 0) × (status_of r ≢ 10)
 neither Usage = (omega arith, omega arith)
 neither (BadConfiguration e) = (omega arith, omega arith)
 neither (BadLas source fault) = (omega arith, omega arith)
@@ -84,24 +83,24 @@ pub record Carries (words : List (List ℕ)) (files old new : Option Files) (she
   pub comes : Tells (λ all. (r : Refusal) → IsDefinite r → IsRefused words all r → (answer ≡ Err r) ⊎ Fails answer) files
 
 module _ (status : ℕ) (said_old said_new : Option (List ℕ)) (failed : Type 0) where
-  pub never_usage : (answer : Result (Vec ℕ Global) Refusal) → IfErr answer (λ r. r ≢ Usage) → EndsWith answer status said_old said_new failed → status ≡ USAGE → ⊥
+  pub never_usage : (answer : Result (Vec ℕ Global) Refusal) → IfErr answer (λ r. r ≢ Usage) → EndsWith answer status said_old said_new failed → status ≡ 2 → ⊥
   never_usage (Ok line) named (inl ok) is = omega (arith, ok.0, is)
   never_usage (Ok line) named (inr device) is = omega (arith, device.0, is)
   never_usage (Err r) named ends is =
       ⊎_elim (λ same. named (sym same ∙ usage_only ends.told (ends.status_is ∙ is))) (λ same. omega (arith, ap status_of same, ends.status_is, is)) ends.told_is
 
-  pub never_later : (answer : Result (Vec ℕ Global) Refusal) → EndsWith answer status said_old said_new failed → status ≡ NOT_BUILT → ⊥
+  pub never_later : (answer : Result (Vec ℕ Global) Refusal) → EndsWith answer status said_old said_new failed → status ≡ 10 → ⊥
   never_later (Ok line) (inl ok) is = omega (arith, ok.0, is)
   never_later (Ok line) (inr device) is = omega (arith, device.0, is)
   never_later (Err r) ends is = (neither ends.told).1 (ends.status_is ∙ is)
 
-  told_status : (r : Refusal) → IsTold r status said_old said_new failed → (status ≡ status_of r) ⊎ (status ≡ MEMORY)
+  told_status : (r : Refusal) → IsTold r status said_old said_new failed → (status ≡ status_of r) ⊎ (status ≡ 9)
   told_status r ends = ⊎_elim (λ same. inl (sym ends.status_is ∙ ap status_of same)) (λ same. inr (sym ends.status_is ∙ ap status_of same)) ends.told_is
 
   told_with : (answer : Result (Vec ℕ Global) Refusal) (r : Refusal) → answer ≡ Err r → EndsWith answer status said_old said_new failed → IsTold r status said_old said_new failed
   told_with answer r is ends = subst (λ (a : Result (Vec ℕ Global) Refusal). EndsWith a status said_old said_new failed) is ends
 
-  fails_yields : (answer : Result (Vec ℕ Global) Refusal) → Fails answer → EndsWith answer status said_old said_new failed → (status ≡ DEVICE) ⊎ (status ≡ MEMORY)
+  fails_yields : (answer : Result (Vec ℕ Global) Refusal) → Fails answer → EndsWith answer status said_old said_new failed → (status ≡ 7) ⊎ (status ≡ 9)
   fails_yields answer (inl is) ends = told_status SourceFault (told_with answer SourceFault is ends)
   fails_yields answer (inr (inl is)) ends = told_status StoreFault (told_with answer StoreFault is ends)
   fails_yields answer (inr (inr is)) ends = ⊎_elim (λ memory. inr memory) (λ memory. inr memory) (told_status Memory (told_with answer Memory is ends))
@@ -113,30 +112,30 @@ module _ (status : ℕ) (said_old said_new : Option (List ℕ)) (failed : Type 0
       ⊎_elim (λ same. inl (sym told.status_is ∙ ap status_of same, subst (λ (x : Refusal). Says (line_of x) said_old said_new failed) same told.says))
       (λ same. inr (inr (sym told.status_is ∙ ap status_of same))) told.told_is
 
-  ok_yields : (answer : Result (Vec ℕ Global) Refusal) → IsOk answer → EndsWith answer status said_old said_new failed → Yields OK status
+  ok_yields : (answer : Result (Vec ℕ Global) Refusal) → IsOk answer → EndsWith answer status said_old said_new failed → Yields 0 status
   ok_yields (Ok line) is (inl ok) = inl ok.0
   ok_yields (Ok line) is (inr device) = inr (inl device.0)
   ok_yields (Err r) is ends = absurd cc
 
-  accepted_yields : (answer : Result (Vec ℕ Global) Refusal) → IsOk answer ⊎ Fails answer → EndsWith answer status said_old said_new failed → Yields OK status
+  accepted_yields : (answer : Result (Vec ℕ Global) Refusal) → IsOk answer ⊎ Fails answer → EndsWith answer status said_old said_new failed → Yields 0 status
   accepted_yields answer (inl is) ends = ok_yields answer is ends
   accepted_yields answer (inr fails) ends = inr (fails_yields answer fails ends)
 
   module _ (words : List (List ℕ)) (files old new : Option Files) (shelf store same : Type 0) where
-    pub is_done : (answer : Result (Vec ℕ Global) Refusal) → Carries words files old new shelf store same answer → EndsWith answer status said_old said_new failed → status ≡ OK
+    pub is_done : (answer : Result (Vec ℕ Global) Refusal) → Carries words files old new shelf store same answer → EndsWith answer status said_old said_new failed → status ≡ 0
         → Ends words files old new (Appends said_old said_new)
     is_done (Ok line) carries (inl ok) is = record { line = line.items; is_answer = carries.is_answer; done = carries.done; said = ok.1 }
     is_done (Ok line) carries (inr device) is = absurd (omega (arith, device.0, is))
     is_done (Err r) carries ends is = absurd ((neither ends.told).0 (ends.status_is ∙ is))
 
-    pub has_risen : (answer : Result (Vec ℕ Global) Refusal) → Carries words files old new shelf store same answer → EndsWith answer status said_old said_new failed → status ≡ DEVICE → shelf ⊎ store ⊎ failed
+    pub has_risen : (answer : Result (Vec ℕ Global) Refusal) → Carries words files old new shelf store same answer → EndsWith answer status said_old said_new failed → status ≡ 7 → shelf ⊎ store ⊎ failed
     has_risen (Ok line) carries (inl ok) is = absurd (omega (arith, ok.0, is))
     has_risen (Ok line) carries (inr device) is = inr (inr device.1)
     has_risen (Err r) carries ends is =
         ⊎_elim (λ this. ⊎_elim (λ source. inl (carries.sources (ap Err source))) (λ fault. inr (inl (carries.stores (ap Err fault)))) (device_only r (sym this ∙ is)))
         (λ memory. absurd (omega (arith, memory, is))) (told_status r ends)
 
-    pub is_refused : (answer : Result (Vec ℕ Global) Refusal) → Carries words files old new shelf store same answer → EndsWith answer status said_old said_new failed → status ≢ OK
+    pub is_refused : (answer : Result (Vec ℕ Global) Refusal) → Carries words files old new shelf store same answer → EndsWith answer status said_old said_new failed → status ≢ 0
         → Refuses words files status shelf store failed said_old said_new same ⊎ IsCut words files status old new failed said_old said_new
     is_refused (Ok line) carries (inl ok) not_ok = absurd (not_ok ok.0)
     is_refused (Ok line) carries (inr device) not_ok = inr (record { status_is = device.0; risen = device.1; ends = record { line = line.items; is_answer = carries.is_answer; done = carries.done; said = device.2 } })
@@ -159,22 +158,22 @@ module _ (status : ℕ) (said_old said_new : Option (List ℕ)) (failed : Type 0
   refusal_yields answer (Some all) Why ends comes = λ r definite why. comes_yields answer r (comes r definite why) ends
 
   pub done_yields : (answer : Result (Vec ℕ Global) Refusal) (files : Option Files) (Fact : Files → Type 0) → EndsWith answer status said_old said_new failed
-      → Tells (λ all. Fact all → IsOk answer ⊎ Fails answer) files → Tells (λ all. Fact all → Yields OK status) files
+      → Tells (λ all. Fact all → IsOk answer ⊎ Fails answer) files → Tells (λ all. Fact all → Yields 0 status) files
   done_yields answer None Fact ends accepted = tt
   done_yields answer (Some all) Fact ends accepted = λ fact. accepted_yields answer (accepted fact) ends
 
   pub info_yields : (answer : Result (Vec ℕ Global) Refusal) (files : Option Files) (Fact : Files → Header → Type 0) → EndsWith answer status said_old said_new failed
-      → Tells (λ all. (header : Header) → Fact all header → IsOk answer ⊎ Fails answer) files → Tells (λ all. (header : Header) → Fact all header → Yields OK status) files
+      → Tells (λ all. (header : Header) → Fact all header → IsOk answer ⊎ Fails answer) files → Tells (λ all. (header : Header) → Fact all header → Yields 0 status) files
   info_yields answer None Fact ends accepted = tt
   info_yields answer (Some all) Fact ends accepted = λ header fact. accepted_yields answer (accepted header fact) ends
 
 -- ---- words that are no command ask nothing of the files
 
-pub usage_comes : (files : Option Files) (words : List (List ℕ)) (Fact : Files → List ℕ → Type 0) (status : ℕ) → IsUsage words → Tells (λ all. AsksBuild words (Fact all) → Yields OK status) files
+pub usage_comes : (files : Option Files) (words : List (List ℕ)) (Fact : Files → List ℕ → Type 0) (status : ℕ) → IsUsage words → Tells (λ all. AsksBuild words (Fact all) → Yields 0 status) files
 usage_comes None words Fact status usage = tt
 usage_comes (Some all) words Fact status usage = λ asks. absurd (usage.not_build asks.path asks.out asks.words_are)
 
-pub usage_yields : (files : Option Files) (words : List (List ℕ)) (status : ℕ) (said_old said_new : Option (List ℕ)) (failed : Type 0) → IsUsage words → status ≡ USAGE → Says (line_of Usage) said_old said_new failed
+pub usage_yields : (files : Option Files) (words : List (List ℕ)) (status : ℕ) (said_old said_new : Option (List ℕ)) (failed : Type 0) → IsUsage words → status ≡ 2 → Says (line_of Usage) said_old said_new failed
     → Tells (λ all. (r : Refusal) → IsDefinite r → IsRefused words all r → YieldsRefusal r status said_old said_new failed) files
 usage_yields None words status said_old said_new failed usage is says = tt
 usage_yields (Some all) words status said_old said_new failed usage is says = λ r definite why. of r why

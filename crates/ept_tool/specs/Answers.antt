@@ -5,7 +5,6 @@ use Rattle.std.specs.declared.alloc.Global.{Global}
 use Rattle.ept_base.specs.Devices.{AppendsPrefix}
 use Rattle.ept_base.specs.Files.{Files, Tells}
 use Rattle.ept_las.specs.declared.header.Header.{Header}
-use Rattle.ept_tool.specs.declared.status.TheConstants.{OK, DEVICE, MEMORY}
 use Rattle.ept_tool.specs.declared.refusal.Refusal.{Refusal}
 use Rattle.ept_tool.specs.declared.refusal.Refusal.TheVariants.{Usage, BadConfiguration, BadLas, OutOfBounds, NoBounds, SourceChanged, TooManyPoints, TooManyNodes, SourceFault, StoreFault, Memory}
 use Rattle.ept_tool.specs.Words.{IsBuild, IsInfo, IsUsage}
@@ -14,7 +13,7 @@ use Rattle.ept_tool.specs.Requests.{HasBuilt, HasTold, BuildIsRefused, InfoIsRef
 
 -- this status, if no device failed and memory sufficed
 abbrev pub Yields : ℕ → ℕ → Type 0
-Yields wanted status = (status ≡ wanted) ⊎ (status ≡ DEVICE) ⊎ (status ≡ MEMORY)
+Yields wanted status = (status ≡ wanted) ⊎ (status ≡ 7) ⊎ (status ≡ 9)
 
 -- ---- what the words ask for
 
@@ -87,8 +86,8 @@ pub record IsTold (r : Refusal) (status : ℕ) (old new : Option (List ℕ)) (fa
 
 -- the line of a command that is carried out is said, or the sink failed at it
 abbrev pub IsSaid : List ℕ → ℕ → Option (List ℕ) → Option (List ℕ) → Type 0 → Type 0
-IsSaid line status old new failed = ((status ≡ OK) × Appends old new line)
-    ⊎ ((status ≡ DEVICE) × failed × AppendsPrefix old new line)
+IsSaid line status old new failed = ((status ≡ 0) × Appends old new line)
+    ⊎ ((status ≡ 7) × failed × AppendsPrefix old new line)
 
 -- how a command ends that has this line, or is refused
 abbrev pub EndsWith : Result (Vec ℕ Global) Refusal → ℕ → Option (List ℕ) → Option (List ℕ)
@@ -109,11 +108,11 @@ pub record Refuses (words : List (List ℕ)) (files : Option Files) (status : �
 -- A command is carried out, and its line is cut where the sink failed.
 pub record IsCut (words : List (List ℕ)) (files : Option Files) (status : ℕ) (old new : Option Files)
     (failed : Type 0) (said_old said_new : Option (List ℕ)) : Type 0 where
-  pub status_is : status ≡ DEVICE
+  pub status_is : status ≡ 7
   pub risen : failed
   pub ends : Ends words files old new (AppendsPrefix said_old said_new)
 
 -- this refusal is told, if no device failed and memory sufficed
 abbrev pub YieldsRefusal : Refusal → ℕ → Option (List ℕ) → Option (List ℕ) → Type 0 → Type 0
 YieldsRefusal r status old new failed =
-    ((status ≡ status_of r) × Says (line_of r) old new failed) ⊎ (status ≡ DEVICE) ⊎ (status ≡ MEMORY)
+    ((status ≡ status_of r) × Says (line_of r) old new failed) ⊎ (status ≡ 7) ⊎ (status ≡ 9)

@@ -7,7 +7,6 @@ use Rattle.ept_las.specs.declared.header.Header.{Header}
 use Rattle.ept_las.specs.declared.las_error.LasError.{LasError}
 use Rattle.ept_las.specs.declared.las_error.LasError.TheVariants.{Short, Signature, Version, HeaderSize, Compressed, Format, RecordLength, PointOffset, Expect, Truncated}
 use Rattle.ept_las.specs.LasHeader as las
-use Rattle.ept_tool.specs.declared.status.TheConstants.{USAGE, BAD_CONFIGURATION, BAD_SCAN, TOO_MANY, DEVICE, MEMORY}
 use Rattle.ept_tool.specs.declared.refusal.Refusal.{Refusal}
 use Rattle.ept_tool.specs.declared.refusal.Refusal.TheVariants as refusal
 
@@ -23,17 +22,17 @@ header_text h =
 
 -- the status that a refusal ends the program with
 abbrev pub status_of : Refusal → ℕ
-status_of refusal.Usage = USAGE
-status_of (refusal.BadConfiguration e) = BAD_CONFIGURATION
-status_of (refusal.BadLas source fault) = BAD_SCAN
-status_of (refusal.OutOfBounds source number) = BAD_SCAN
-status_of refusal.NoBounds = BAD_SCAN
-status_of (refusal.SourceChanged source number) = BAD_SCAN
-status_of (refusal.TooManyPoints source) = TOO_MANY
-status_of refusal.TooManyNodes = TOO_MANY
-status_of refusal.SourceFault = DEVICE
-status_of refusal.StoreFault = DEVICE
-status_of refusal.Memory = MEMORY
+status_of refusal.Usage = 2
+status_of (refusal.BadConfiguration e) = 3
+status_of (refusal.BadLas source fault) = 4
+status_of (refusal.OutOfBounds source number) = 4
+status_of refusal.NoBounds = 4
+status_of (refusal.SourceChanged source number) = 4
+status_of (refusal.TooManyPoints source) = 5
+status_of refusal.TooManyNodes = 5
+status_of refusal.SourceFault = 7
+status_of refusal.StoreFault = 7
+status_of refusal.Memory = 9
 
 -- the number of the record at which a file ends early
 abbrev pub number_text : LasError → List ℕ

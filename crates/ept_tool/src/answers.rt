@@ -57,7 +57,7 @@ pub(crate) fn refuse<O: Sink>(alloc: Global, out: &mut O, refusal: Refusal) -> u
 /// Writes the line of words that are no command, and answers its status. It takes no memory.
 #[tactic(auto, unfolding(crate::specs::Lines::refusal_text))]
 pub(crate) fn refuse_usage<O: Sink>(out: &mut O) -> u8
-    ensures status { result ≡ USAGE }
+    ensures status { result ≡ 2 }
     ensures says { Says (line_of refusal.Usage) (O.written out.old) (O.written out.new)
         (Rose (O.faults out.old) (O.faults out.new)) }
 {
@@ -68,7 +68,7 @@ pub(crate) fn refuse_usage<O: Sink>(out: &mut O) -> u8
 // Writes the line of want of memory, and answers its status. It takes no memory.
 #[tactic(auto, unfolding(crate::specs::Lines::refusal_text))]
 fn refuse_memory<O: Sink>(out: &mut O) -> u8
-    ensures status { result ≡ MEMORY }
+    ensures status { result ≡ 9 }
     ensures says { Says (line_of refusal.Memory) (O.written out.old) (O.written out.new)
         (Rose (O.faults out.old) (O.faults out.new)) }
 {

@@ -41,8 +41,8 @@ pub(crate) fn read_configuration<H: Shelf>(
     }
 }
 
-// Reads the first bytes of the file of this path: so many, or all.
-fn read_front<H: Shelf>(
+/// Reads the first bytes of the file of this path: so many, or all.
+pub(crate) fn read_front<H: Shelf>(
     alloc: Global,
     shelf: &mut H,
     path: &str,

@@ -43,7 +43,7 @@ pub(crate) fn summary_line(alloc: Global, summary: Summary) -> Result<Vec<u8>, A
 {
     let mut line = Vec::new(alloc);
     append_number(&mut line, b"points ", summary.points)?;
-    append_number(&mut line, b" nodes ", summary.nodes)?;
+    append_number(&mut line, b" nodes ", u64::from(summary.nodes))?;
     line.extend_from_slice(b"\n")?;
     Ok(line)
 }

@@ -3,23 +3,30 @@
 
 mod answers;
 #[cfg(test)]
-mod builds;
+mod build_tests;
 mod commands;
 mod files;
+mod heard;
 mod lines;
-mod refusal;
 #[cfg(test)]
-mod rows;
+mod message_tests;
+mod messages;
+mod refusal;
 mod run;
+mod sentences;
 mod status;
 #[cfg(test)]
 mod tests;
 mod words;
+#[cfg(test)]
+mod worked_tests;
 
 use crate::answers::refuse;
+use crate::heard::Heard;
+use crate::messages::{message, plain};
 use crate::refusal::Refusal;
 use crate::run::run;
-use crate::status::{BAD_CONFIGURATION, BAD_SCAN, DEVICE, MEMORY, NOT_BUILT, OK, TOO_MANY, USAGE};
+use crate::status::OK;
 use crate::words::{Command, command_of};
 use ept_base::{OpenGate, Sink};
 use ept_mem::{MemRoom, MemStore};
@@ -29,12 +36,19 @@ use std::io::{ErrorKind, writer};
 use std::process::ExitCode;
 
 fn main(rt: HostRuntime) -> ExitCode {
-    let mut out = RealSink::new(writer(&rt));
-    let status = match given_words(&rt) {
-        Ok(words) => start(&rt, &words, &mut out),
-        Err(refusal) => refuse(rt.alloc(), &mut out, refusal),
+    let alloc = rt.alloc();
+    let mut shelf = RealShelf::new(alloc, &rt);
+    let mut out = Heard::new(alloc, RealSink::new(writer(&rt)));
+    let (words, status) = match given_words(&rt) {
+        Ok(words) => {
+            let status = start(&rt, &words, &mut shelf, &mut out);
+            (words, status)
+        }
+        Err(refusal) => (Vec::new(alloc), refuse(alloc, &mut out, refusal)),
     };
-    tell(&rt, status);
+    if status != OK {
+        tell(&rt, &words, status, out.line(), shelf.refused());
+    }
     ExitCode::from(status)
 }
 
@@ -52,39 +66,33 @@ fn given_words(rt: &HostRuntime) -> Result<Vec<String>, Refusal> {
 
 // Runs the words over the machine's files, and over the folder that they name. A command that names none
 // has a store in memory.
-fn start<O: Sink>(rt: &HostRuntime, words: &[String], out: &mut O) -> u8 {
+fn start<O: Sink>(
+    rt: &HostRuntime,
+    words: &[String],
+    shelf: &mut RealShelf<'_, HostRuntime>,
+    out: &mut O,
+) -> u8 {
     let alloc = rt.alloc();
-    let mut shelf = RealShelf::new(alloc, rt);
     let mut room = MemRoom::new(alloc, Vec::new(alloc), Vec::new(alloc));
     match command_of(words) {
         Command::Build { out: folder, .. } => {
             let mut store = RealStore::new(alloc, rt, folder);
-            run(
-                alloc, words, &mut shelf, &mut store, &mut room, out, &OpenGate,
-            )
+            run(alloc, words, shelf, &mut store, &mut room, out, &OpenGate)
         }
         _ => {
             let mut store = MemStore::new(alloc, Vec::new(alloc), Vec::new(alloc));
-            run(
-                alloc, words, &mut shelf, &mut store, &mut room, out, &OpenGate,
-            )
+            run(alloc, words, shelf, &mut store, &mut room, out, &OpenGate)
         }
     }
 }
 
-// Says on standard error what was wrong.
-fn tell(rt: &HostRuntime, status: u8) {
-    let sentence = match status {
-        OK => return,
-        USAGE => "ept_tool: the words are neither `build CONFIG OUT` nor `info LAS`.",
-        BAD_CONFIGURATION => "ept_tool: the configuration is refused.",
-        BAD_SCAN => "ept_tool: a LAS file can't be read, or its points don't fit the bounds.",
-        TOO_MANY => "ept_tool: there are too many points, or too many nodes.",
-        DEVICE => "ept_tool: a file could not be read or written.",
-        MEMORY => "ept_tool: out of memory.",
-        NOT_BUILT => "ept_tool: this command is not carried out.",
-        _ => return,
-    };
+// Says on standard error what was wrong: what the line says, in words, or else what the status says.
+fn tell(rt: &HostRuntime, words: &[String], status: u8, line: &str, refused: Option<&str>) {
+    let alloc = rt.alloc();
+    let mut shelf = RealShelf::new(alloc, rt);
     // A message that can't be written changes no status.
-    let _ = rt.eprintln(sentence);
+    let _ = match message(alloc, words, line, refused, &mut shelf) {
+        Ok(Some(sentence)) => eprintln!(rt; "ept_tool: {sentence}"),
+        _ => eprintln!(rt; "ept_tool: {}", plain(status)),
+    };
 }

@@ -38,24 +38,27 @@ pub fn run<H: Shelf, T: Store, R: Room, O: Sink, G: Gate + Sync>(
 where
     H::Source: Send,
     R::File: Send,
+    // The statuses: 0 done, 2 no command, 3 the configuration, 4 a scan, 5 too many, 7 a device, 9 memory,
+    // 10 a later command.
+
     // Words that are no command, and nothing else, are faulty; a later command, and nothing else, is put off.
-    ensures usage { (result ≡ USAGE) ↔ IsUsage (bytes_of words.now) }
-    ensures later { (result ≡ NOT_BUILT) ↔ IsLater (bytes_of words.now) }
+    ensures usage { (result ≡ 2) ↔ IsUsage (bytes_of words.now) }
+    ensures later { (result ≡ 10) ↔ IsLater (bytes_of words.now) }
 
     // What is done.
-    ensures done { result ≡ OK
+    ensures done { result ≡ 0
         → Ends (bytes_of words.now) (H.files shelf.old) (T.files store.old) (T.files store.new)
         (Appends (O.written out.old) (O.written out.new)) }
     ensures settled { (config folder : List ℕ) → IsBuild (bytes_of words.now) config folder
-        → result ≡ OK → IsSettled (T.files store.new) (T.may_leave store.new) }
-    ensures build_comes { Tells (λ all. AsksBuild (bytes_of words.now) (IsAcceptedAt all) → Yields OK result)
+        → result ≡ 0 → IsSettled (T.files store.new) (T.may_leave store.new) }
+    ensures build_comes { Tells (λ all. AsksBuild (bytes_of words.now) (IsAcceptedAt all) → Yields 0 result)
         (H.files shelf.old) }
     ensures info_comes { Tells (λ all. (header : found.Header)
-        → AsksInfo (bytes_of words.now) (λ path. HasHeader all path header) → Yields OK result)
+        → AsksInfo (bytes_of words.now) (λ path. HasHeader all path header) → Yields 0 result)
         (H.files shelf.old) }
 
     // Each refusal has its cause and its line, but where the line of a command that is carried out is cut.
-    ensures refused { result ≢ OK → result ≢ NOT_BUILT
+    ensures refused { result ≢ 0 → result ≢ 10
         → Refuses (bytes_of words.now) (H.files shelf.old) result
         (Rose (H.faults shelf.old) (H.faults shelf.new)) (Rose (T.faults store.old) (T.faults store.new))
         (Rose (O.faults out.old) (O.faults out.new)) (O.written out.old) (O.written out.new)
@@ -66,11 +69,11 @@ where
         → IsRefused (bytes_of words.now) all r
         → YieldsRefusal r result (O.written out.old) (O.written out.new)
         (Rose (O.faults out.old) (O.faults out.new))) (H.files shelf.old) }
-    ensures fault { result ≡ DEVICE → Rose (H.faults shelf.old) (H.faults shelf.new)
+    ensures fault { result ≡ 7 → Rose (H.faults shelf.old) (H.faults shelf.new)
         ⊎ Rose (T.faults store.old) (T.faults store.new) ⊎ Rose (O.faults out.old) (O.faults out.new) }
 
     // What stays as it was.
-    ensures silent { result ≡ NOT_BUILT → (out.new ≡ out.old) × (store.new ≡ store.old) }
+    ensures silent { result ≡ 10 → (out.new ≡ out.old) × (store.new ≡ store.old) }
     ensures puts_accepted { (store.new ≡ store.old)
         ⊎ Tells (λ all. AsksBuild (bytes_of words.now) (IsAcceptedAt all)) (H.files shelf.old) }
     ensures info_puts_nothing { (las : List ℕ) → IsInfo (bytes_of words.now) las → store.new ≡ store.old }

@@ -225,6 +225,8 @@ impl Shelf for ChangingShelf {
 
     ghost given = { λ shelf. shelf.given };
 
+    ghost asked = { λ _. None };
+
     fn open(&mut self, path: &str) -> Result<SureSource, GetError> {
         let bytes = if path == "a.json" {
             Vec::from_slice(self.alloc, CONFIGURATION.as_bytes())?

@@ -1,0 +1,159 @@
+//! The message of a run that is refused: the sentence of its line, with the names that it takes.
+
+use crate::files::{MOST, read_configuration, read_front};
+use crate::refusal::Refusal;
+use crate::sentences::{MEMORY_SENTENCE, Names, Record, Told, USAGE_SENTENCE, read_line, sentence};
+use crate::status::{BAD_CONFIGURATION, BAD_SCAN, DEVICE, MEMORY, NOT_BUILT, TOO_MANY, USAGE};
+use crate::words::{Command, command_of};
+use ept_base::Shelf;
+use ept_config::{Config, ConfigKey};
+use serde_json::Value;
+use std::alloc::Global;
+
+/// The keys of a configuration.
+const KEYS: [ConfigKey; 13] = [
+    ConfigKey::Input,
+    ConfigKey::Scale,
+    ConfigKey::Offset,
+    ConfigKey::Bounds,
+    ConfigKey::Span,
+    ConfigKey::MinNodeSize,
+    ConfigKey::MaxDepth,
+    ConfigKey::HierarchyStep,
+    ConfigKey::Srs,
+    ConfigKey::Threads,
+    ConfigKey::CacheSize,
+    ConfigKey::MaxNodes,
+    ConfigKey::Checkpoint,
+];
+
+/// Why these words did not end with status 0, after this line was written, or was to be. `unread` is the
+/// file that could not be read, if there was one. The configuration is read again where an input or a key of
+/// it is to be named. Nothing is answered where there is nothing to say but what the status says.
+pub(crate) fn message<'x, H: Shelf>(
+    alloc: Global,
+    words: &'x [String],
+    line: &str,
+    unread: Option<&'x str>,
+    shelf: &mut H,
+) -> Result<Option<String>, Refusal> {
+    let Some(told) = read_line(line) else {
+        return unsaid(alloc, line);
+    };
+    match command_of(words) {
+        Command::Build { config, out } => {
+            let unread = unread.unwrap_or("a file");
+            let names = Names {
+                config,
+                out,
+                unread,
+                ..Names::default()
+            };
+            of_build(alloc, told, names, shelf)
+        }
+        Command::Info { las } => {
+            let names = Names {
+                input: las,
+                unread: las,
+                ..Names::default()
+            };
+            Ok(Some(sentence(alloc, told, &names)?))
+        }
+        _ => Ok(Some(sentence(alloc, told, &Names::default())?)),
+    }
+}
+
+// Of the line of a command that is carried out, which could not be written.
+fn unsaid(alloc: Global, line: &str) -> Result<Option<String>, Refusal> {
+    if line.is_empty() || line.starts_with("error") {
+        return Ok(None);
+    }
+    let text = format!(in alloc; "standard output could not be written: {line}")?;
+    Ok(Some(text))
+}
+
+// Of a build. The configuration is read again for what is not in the words.
+fn of_build<H: Shelf>(
+    alloc: Global,
+    told: Told<'_>,
+    names: Names<'_>,
+    shelf: &mut H,
+) -> Result<Option<String>, Refusal> {
+    match told {
+        Told::Las { at, .. } | Told::Bounds { at } | Told::Changed { at } | Told::Points { at } => {
+            let config = read_configuration(alloc, shelf, names.config)?;
+            of_input(alloc, told, at, names, &config)
+        }
+        Told::Configuration { cause: "2", .. } => {
+            let text = read_front(alloc, shelf, names.config, MOST)?;
+            of_unknown(alloc, told, names, &text)
+        }
+        _ => Ok(Some(sentence(alloc, told, &names)?)),
+    }
+}
+
+// With the path of the input.
+fn of_input(
+    alloc: Global,
+    told: Told<'_>,
+    at: Record<'_>,
+    names: Names<'_>,
+    config: &Config,
+) -> Result<Option<String>, Refusal> {
+    let Ok(source) = at.source.parse::<usize>() else {
+        return Ok(None);
+    };
+    let Some(input) = config.inputs.as_slice().get(source) else {
+        return Ok(None);
+    };
+    let names = Names {
+        input: input.path.as_str(),
+        has_bounds: config.bounds.is_some(),
+        ..names
+    };
+    Ok(Some(sentence(alloc, told, &names)?))
+}
+
+// With the first key that is none of a configuration's.
+fn of_unknown(
+    alloc: Global,
+    told: Told<'_>,
+    names: Names<'_>,
+    text: &[u8],
+) -> Result<Option<String>, Refusal> {
+    let value = match Value::from_slice(alloc, text) {
+        Ok(value) => value,
+        Err(error) if error.is_memory() => return Err(Refusal::Memory),
+        Err(_) => return Ok(None),
+    };
+    let unknown = unknown_key(&value).unwrap_or("");
+    let names = Names { unknown, ..names };
+    Ok(Some(sentence(alloc, told, &names)?))
+}
+
+fn unknown_key(value: &Value) -> Option<&str> {
+    for key in value.as_object()?.keys() {
+        if !is_known(key.as_str()) {
+            return Some(key.as_str());
+        }
+    }
+    None
+}
+
+fn is_known(key: &str) -> bool {
+    KEYS.iter().any(|known| known.name() == key)
+}
+
+/// What a status says by itself.
+pub(crate) fn plain(status: u8) -> &'static str {
+    match status {
+        USAGE => USAGE_SENTENCE,
+        BAD_CONFIGURATION => "the configuration is refused",
+        BAD_SCAN => "a LAS file can't be read, or its points don't fit the bounds",
+        TOO_MANY => "there are too many points, or too many nodes",
+        DEVICE => "a file could not be read or written",
+        MEMORY => MEMORY_SENTENCE,
+        NOT_BUILT => "this command is not carried out yet",
+        _ => "refused",
+    }
+}
