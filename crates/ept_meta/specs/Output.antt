@@ -13,7 +13,6 @@ use Rattle.ept_config.specs.declared.kept.Kept.{Kept}
 use Rattle.ept_config.specs.declared.source_count.SourceCount.{SourceCount}
 use Rattle.ept_hier.specs.declared.file.HierFile.{HierFile}
 use Rattle.ept_hier.specs.Hierarchy.{hierarchy}
-use Rattle.ept_meta.specs.declared.names.TheConstants.{METADATA, MANIFEST, BUILD_FILE}
 use Rattle.ept_meta.specs.EptText.{ept_text}
 use Rattle.ept_meta.specs.ManifestText.{manifest_text}
 use Rattle.ept_meta.specs.BuildText.{build_text}
@@ -28,11 +27,33 @@ tile_name key = codes "ept-data/" ++ key_text key ++ codes ".bin"
 unfoldable pub hierarchy_name : VoxelKey → List ℕ
 hierarchy_name key = codes "ept-hierarchy/" ++ key_text key ++ codes ".json"
 
+-- of the metadata, of the manifest of the scans, and of the file of what the output depends on
+abbrev pub metadata_name : List ℕ
+metadata_name = codes "ept.json"
+
+abbrev pub manifest_name : List ℕ
+manifest_name = codes "ept-sources/manifest.json"
+
+abbrev pub build_file_name : List ℕ
+build_file_name = codes "ept-build.json"
+
 -- the name is one of an output's files
 abbrev pub IsOutputName : List ℕ → Type 0
 IsOutputName name =
     ((key : VoxelKey) × (name ≡ tile_name key)) ⊎ ((key : VoxelKey) × (name ≡ hierarchy_name key))
-    ⊎ (name ≡ METADATA.now) ⊎ (name ≡ MANIFEST.now) ⊎ (name ≡ BUILD_FILE.now)
+    ⊎ (name ≡ metadata_name) ⊎ (name ≡ manifest_name) ⊎ (name ≡ build_file_name)
+
+-- a name in a folder
+abbrev pub IsIn : List ℕ → List ℕ → Type 0
+IsIn folder name = (rest : List ℕ) × (name ≡ folder ++ codes "/" ++ rest)
+
+-- the name is in none of the folders that a build has for itself
+abbrev pub IsOutsideWork : List ℕ → Type 0
+IsOutsideWork name = (¬ IsIn (codes "ept-work") name) × (¬ IsIn (codes "ept-spill") name)
+
+-- each file of an output is outside them
+abbrev pub EachIsOutsideWork : Type 0
+EachIsOutsideWork = (name : List ℕ) → IsOutputName name → IsOutsideWork name
 
 -- ---- files
 
@@ -58,7 +79,7 @@ rules_of kept = record { cube = cube_of kept.bounds kept.s kept.max_depth; thres
 abbrev pub files_of : Kept → List SourceCount → Option Bounds → ℕ → List Tile → List File
 files_of kept counts extent points tiles =
     map tile_file tiles ++ map hierarchy_file (hierarchy kept.step (map counted tiles))
-    ++ (METADATA.now, ept_text kept extent points) ∷ (MANIFEST.now, manifest_text kept counts) ∷ (BUILD_FILE.now, build_text kept) ∷ []
+    ++ (metadata_name, ept_text kept extent points) ∷ (manifest_name, manifest_text kept counts) ∷ (build_file_name, build_text kept) ∷ []
 
 -- the output of points: the files of their sampling
 abbrev pub output : Kept → List SourceCount → Option Bounds → List Point → List File

@@ -7,6 +7,7 @@
 
 mod build;
 mod json;
+mod laws;
 mod manifest;
 mod metadata;
 mod names;
@@ -17,6 +18,7 @@ mod tests;
 mod units;
 
 pub use build::build_json;
+pub use laws::output_names_law;
 pub use manifest::manifest_json;
 pub use metadata::ept_json;
 pub use names::{BUILD_FILE, MANIFEST, METADATA, hierarchy_name, tile_name};

@@ -7,7 +7,7 @@ ghost use Rattle.ept_meta.specs.Dimensions.{row_text, rows_text, transform_text,
 use crate::json::{append, append_comma, append_number_member, append_quoted, append_whole};
 use ept_config::Kept;
 use ept_num::decimal_text;
-use ept_point::Memory;
+use ept_point::{GPS_WIDTH, Memory, NUMBER_WIDTH};
 
 /// How the bytes of a dimension are read.
 #[derive(Clone, Copy)]
@@ -19,11 +19,11 @@ enum Kind {
 
 impl Kind {
     ghost use Rattle.std.specs.Prelude.{◌≡◌};
-    ghost use Rattle.ept_meta.specs.Dimensions.{kind_name};
+    ghost use Rattle.ept_meta.specs.Dimensions.{kind_name, kind_of};
 
     /// As the schema spells it.
     fn name(self) -> &'static str
-        ensures { result.now ≡ kind_name self }
+        ensures { result.now ≡ kind_name (kind_of self) }
     {
         match self {
             Kind::Signed => "signed",
@@ -58,34 +58,34 @@ impl Axis {
     }
 }
 
-/// A dimension: its name, how its bytes are read, how many there are, and the axis that it is the
-/// coordinate on.
+/// A row of the schema: the name of a dimension, how its bytes are read, how many there are, and the
+/// axis that it is the coordinate on.
 #[derive(Clone, Copy)]
-struct Dimension(&'static str, Kind, u8, Option<Axis>);
+struct Row(&'static str, Kind, usize, Option<Axis>);
 
 /// The dimensions of a packed point in the order of its bytes (Entwine Point Tile 1.1.0, "schema").
-const DIMENSIONS: [Dimension; 21] = [
-    Dimension("X", Kind::Signed, 4, Some(Axis::X)),
-    Dimension("Y", Kind::Signed, 4, Some(Axis::Y)),
-    Dimension("Z", Kind::Signed, 4, Some(Axis::Z)),
-    Dimension("Intensity", Kind::Unsigned, 2, None),
-    Dimension("ReturnNumber", Kind::Unsigned, 1, None),
-    Dimension("NumberOfReturns", Kind::Unsigned, 1, None),
-    Dimension("ScanDirectionFlag", Kind::Unsigned, 1, None),
-    Dimension("EdgeOfFlightLine", Kind::Unsigned, 1, None),
-    Dimension("Classification", Kind::Unsigned, 1, None),
-    Dimension("ClassFlags", Kind::Unsigned, 1, None),
-    Dimension("ScanChannel", Kind::Unsigned, 1, None),
-    Dimension("ScanAngleRank", Kind::Signed, 1, None),
-    Dimension("ScanAngle", Kind::Signed, 2, None),
-    Dimension("UserData", Kind::Unsigned, 1, None),
-    Dimension("PointSourceId", Kind::Unsigned, 2, None),
-    Dimension("GpsTime", Kind::Float, 8, None),
-    Dimension("Red", Kind::Unsigned, 2, None),
-    Dimension("Green", Kind::Unsigned, 2, None),
-    Dimension("Blue", Kind::Unsigned, 2, None),
-    Dimension("OriginId", Kind::Unsigned, 4, None),
-    Dimension("PointId", Kind::Unsigned, 4, None),
+const ROWS: [Row; 21] = [
+    Row("X", Kind::Signed, 4, Some(Axis::X)),
+    Row("Y", Kind::Signed, 4, Some(Axis::Y)),
+    Row("Z", Kind::Signed, 4, Some(Axis::Z)),
+    Row("Intensity", Kind::Unsigned, 2, None),
+    Row("ReturnNumber", Kind::Unsigned, 1, None),
+    Row("NumberOfReturns", Kind::Unsigned, 1, None),
+    Row("ScanDirectionFlag", Kind::Unsigned, 1, None),
+    Row("EdgeOfFlightLine", Kind::Unsigned, 1, None),
+    Row("Classification", Kind::Unsigned, 1, None),
+    Row("ClassFlags", Kind::Unsigned, 1, None),
+    Row("ScanChannel", Kind::Unsigned, 1, None),
+    Row("ScanAngleRank", Kind::Signed, 1, None),
+    Row("ScanAngle", Kind::Signed, 2, None),
+    Row("UserData", Kind::Unsigned, 1, None),
+    Row("PointSourceId", Kind::Unsigned, 2, None),
+    Row("GpsTime", Kind::Float, GPS_WIDTH, None),
+    Row("Red", Kind::Unsigned, 2, None),
+    Row("Green", Kind::Unsigned, 2, None),
+    Row("Blue", Kind::Unsigned, 2, None),
+    Row("OriginId", Kind::Unsigned, 4, None),
+    Row("PointId", Kind::Unsigned, NUMBER_WIDTH, None),
 ];
 
 /// Appends the schema of the points.
@@ -93,36 +93,32 @@ pub(crate) fn append_schema(text: &mut Vec<u8>, kept: &Kept) -> Result<(), Memor
     ensures { OnOk result (text.new.items ≡ text.old.items ++ schema_text kept.now) }
 {
     append(text, b"[")?;
-    append_dimensions(text, kept, &DIMENSIONS)?;
+    append_rows(text, kept, &ROWS)?;
     append(text, b"]")?;
     Ok(())
 }
 
 #[tactic(auto, unfolding(crate::specs::Dimensions::rows_text))]
-fn append_dimensions(
-    text: &mut Vec<u8>,
-    kept: &Kept,
-    dimensions: &[Dimension],
-) -> Result<(), Memory>
-    ensures { OnOk result (text.new.items ≡ text.old.items ++ rows_text kept.now dimensions.now) }
+fn append_rows(text: &mut Vec<u8>, kept: &Kept, rows: &[Row]) -> Result<(), Memory>
+    ensures { OnOk result (text.new.items ≡ text.old.items ++ rows_text kept.now rows.now) }
 {
-    for (at, dimension) in dimensions.iter().enumerate() {
+    for (at, row) in rows.iter().enumerate() {
         append_comma(text, at > 0)?;
-        append_dimension(text, kept, dimension)?;
+        append_row(text, kept, row)?;
     }
     Ok(())
 }
 
-#[tactic(auto, unfolding(crate::specs::Dimensions::row_text, crate::specs::Dimensions::field_text))]
-fn append_dimension(text: &mut Vec<u8>, kept: &Kept, dimension: &Dimension) -> Result<(), Memory>
-    ensures { OnOk result (text.new.items ≡ text.old.items ++ row_text kept.now dimension.now) }
+#[tactic(auto, unfolding(crate::specs::Dimensions::row_text, crate::specs::Dimensions::dimension_text))]
+fn append_row(text: &mut Vec<u8>, kept: &Kept, row: &Row) -> Result<(), Memory>
+    ensures { OnOk result (text.new.items ≡ text.old.items ++ row_text kept.now row.now) }
 {
-    let Dimension(name, kind, size, axis) = *dimension;
+    let Row(name, kind, size, axis) = *row;
     append(text, b"{\"name\":")?;
     append_quoted(text, name)?;
     append(text, b",\"type\":")?;
     append_quoted(text, kind.name())?;
-    append_number_member(text, b"size", u64::from(size))?;
+    append_number_member(text, b"size", size as u64)?;
     append_transform(text, kept, axis)?;
     append(text, b"}")?;
     Ok(())

@@ -4,5 +4,5 @@ use Rattle.ept_meta.proofs.schema.append_schema.Goals as goal
 
 pub returns : goal.returns
 returns c =
-    schema_written c.args.kept.now _ c.args.text.now.items c.append.new.text.items c.append_dimensions.new.text.items c.append-2.new.text.items
-    refl c.in_ok-append.ensures c.in_ok-append_dimensions.ensures c.in_ok-append-2.ensures
+    schema_written c.args.kept.now _ c.args.text.now.items c.append.new.text.items c.append_rows.new.text.items c.append-2.new.text.items
+    refl c.in_ok-append.ensures c.in_ok-append_rows.ensures c.in_ok-append-2.ensures
