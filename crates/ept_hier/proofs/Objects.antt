@@ -12,7 +12,7 @@ use Rattle.ept_json.specs.Document.{document}
 use Rattle.ept_json.specs.declared.json_error.JsonError.{JsonError}
 use Rattle.ept_json.specs.declared.json_error.JsonError.TheVariants as json
 use Rattle.ept_hier.specs.Hierarchy.{Entry}
-use Rattle.ept_hier.specs.Reading.{Member, member_list, members_in, IsEntryOf, RefusesMember, Refuses}
+use Rattle.ept_hier.specs.Reading.{Member, member_list, members_in, IsEntryOf, RefusesMember, RefusesFile}
 use Rattle.ept_hier.specs.Objects.{of_json, member_at, RefusesMembers}
 use Rattle.ept_hier.specs.declared.hier_error.HierError.{HierError}
 use Rattle.ept_hier.specs.declared.hier_error.HierError.TheVariants.{Json, Key, Count, Memory}
@@ -61,20 +61,20 @@ stops all front name x back entries Count is named said refused =
 stops all front name x back entries Memory is named said refused = absurd refused
 
 -- why the text is refused
-pub refuses : (bytes : List ℕ) (members : List Member) (error : HierError) → members_in bytes ≡ Some members → RefusesMembers members error → Refuses bytes error
+pub refuses : (bytes : List ℕ) (members : List Member) (error : HierError) → members_in bytes ≡ Some members → RefusesMembers members error → RefusesFile bytes error
 refuses bytes members Json is h = absurd h
 refuses bytes members Key is h = (members, is, h)
 refuses bytes members Count is h = (members, is, h)
 refuses bytes members Memory is h = tt
 
-pub refuses-memory : (bytes : List ℕ) (error : HierError) → error ≡ Memory → Refuses bytes error
+pub refuses-memory : (bytes : List ℕ) (error : HierError) → error ≡ Memory → RefusesFile bytes error
 refuses-memory bytes Memory is = tt
 refuses-memory bytes Json is = absurd (cc)
 refuses-memory bytes Key is = absurd (cc)
 refuses-memory bytes Count is = absurd (cc)
 
 -- a text that is no object's
-pub refuses-json : (bytes : List ℕ) (error : JsonError) → (error ≡ json.NoText → document bytes ≡ None) → Refuses bytes (of_json error)
+pub refuses-json : (bytes : List ℕ) (error : JsonError) → (error ≡ json.NoText → document bytes ≡ None) → RefusesFile bytes (of_json error)
 refuses-json bytes json.Memory h = tt
 refuses-json bytes json.NoText h = members-unread bytes (h refl)
 

@@ -68,8 +68,8 @@ StopsAt members error =
     (front : List Member) × (m : Member) × (back : List Member) × (members ≡ front ++ m ∷ back) × All (λ (x : Member). (e : Entry) × IsEntryOf x e) front × RefusesMember m error
 
 -- the bytes are refused by this cause
-abbrev pub Refuses : List ℕ → HierError → Type 0
-Refuses bytes Json = members_in bytes ≡ None
-Refuses bytes Key = (members : List Member) × (members_in bytes ≡ Some members) × StopsAt members Key
-Refuses bytes Count = (members : List Member) × (members_in bytes ≡ Some members) × StopsAt members Count
-Refuses bytes Memory = ⊤
+abbrev pub RefusesFile : List ℕ → HierError → Type 0
+RefusesFile bytes Json = members_in bytes ≡ None
+RefusesFile bytes Key = (members : List Member) × (members_in bytes ≡ Some members) × StopsAt members Key
+RefusesFile bytes Count = (members : List Member) × (members_in bytes ≡ Some members) × StopsAt members Count
+RefusesFile bytes Memory = ⊤

@@ -6,7 +6,7 @@ ghost use Rattle.std.specs.List.Sorted.{IsSortedByKey};
 ghost use Rattle.serde_json.specs.View.{view};
 ghost use Rattle.ept_space.specs.VoxelKey.{key_cmp};
 ghost use Rattle.ept_hier.specs.Hierarchy.{Entry};
-ghost use Rattle.ept_hier.specs.Reading.{IsEntryOf, Appends, RefusesMember, Refuses, number_in};
+ghost use Rattle.ept_hier.specs.Reading.{IsEntryOf, Appends, RefusesMember, RefusesFile, number_in};
 ghost use Rattle.ept_hier.specs.Objects.{member_at, RefusesMembers};
 
 use crate::hier_error::HierError;
@@ -28,8 +28,8 @@ pub fn read_hierarchy_file(
     out: &mut Vec<(Key, i64)>,
 ) -> Result<(), HierError>
     ensures ok { OnOk result (Appends bytes.now out.old.items out.new.items) }
-    ensures refused { IfErr result (Refuses bytes.now) }
-    ensures err { OnErr result (out.new.items ≡ out.old.items) }
+    ensures refused { IfErr result (RefusesFile bytes.now) }
+    ensures unchanged { OnErr result (out.new.items ≡ out.old.items) }
 {
     let value = document(alloc, bytes)?;
     let members = match value.as_object() {
@@ -89,7 +89,7 @@ fn number_in(value: &Value) -> Option<i64>
 fn append_in_order(mut entries: Vec<(Key, i64)>, out: &mut Vec<(Key, i64)>) -> Result<(), Memory>
     ensures ok { OnOk result ((found : List Entry) × IsPermutation entries.items found
         × IsSortedByKey (λ (e : Entry). e.0) key_cmp found × (out.new.items ≡ out.old.items ++ found)) }
-    ensures err { OnErr result (out.new.items ≡ out.old.items) }
+    ensures unchanged { OnErr result (out.new.items ≡ out.old.items) }
 {
     entries.sort_by_key(|entry| entry.0)?;
     out.append(&mut entries)?;

@@ -1,5 +1,5 @@
 -- Lists whose keys ascend.
-use Rattle.std.proofs.Common.{◌≡◌, ◌∙◌, ℕ, zero, suc, ◌+◌, ◌-◌, ◌<◌, ◌≤◌, List, [], ◌∷◌, map, Bool, true, false, refl, sym, ap, subst, arith, length, get_or, IsTrue, ◌↔◌}
+use Rattle.std.proofs.Common.{◌≡◌, ◌∙◌, ℕ, zero, suc, ◌+◌, ◌-◌, ◌<◌, List, [], ◌∷◌, map, Bool, true, false, refl, sym, ap, subst, arith, length, get_or, IsTrue, ◌↔◌}
 use Rattle.std.specs.Ordering.{is_lt}
 use Rattle.std.specs.declared.cmp.Ordering.TheVariants.{Less}
 use Rattle.std.specs.List.{AllPairs, AllAdjacentBelow, IsAllAdjacentAnswer}
@@ -52,6 +52,6 @@ ascend-tested key [] false answer = absurd (omega (arith, answer.1))
 ascend-tested {X} key (x ∷ xs) false answer = (
   (λ h. absurd (false≢true h)),
   (λ all.
-    let here : key_cmp (key (get_or (x ∷ xs) answer.0 x)) (key (get_or (x ∷ xs) (answer.0 + 1) x)) ≡ Less = ascend-at key (x ∷ xs) answer.0 (answer.0 + 1) x (omega arith) (omega (arith, answer.1)) all in
-    answer.2 x ∙ ap is_lt here),
+      let here : key_cmp (key (get_or (x ∷ xs) answer.0 x)) (key (get_or (x ∷ xs) (answer.0 + 1) x)) ≡ Less = ascend-at key (x ∷ xs) answer.0 (answer.0 + 1) x (omega arith) (omega (arith, answer.1)) all in
+      answer.2 x ∙ ap is_lt here),
 )

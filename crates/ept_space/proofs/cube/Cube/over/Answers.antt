@@ -1,4 +1,4 @@
-use Rattle.std.proofs.Common.{FitsSigned, w32, rules, arith, refl, ap, sym, subst, ◌∙◌, max}
+use Rattle.std.proofs.Common.{FitsSigned, w32, rules, arith, ap, sym, subst, ◌∙◌, max}
 use Rattle.ept_space.specs.Place.{coordinate}
 use Rattle.ept_space.specs.OctreeCube.{IsCube}
 use Rattle.ept_space.specs.CubeOfBounds.{IsCubeOf}
