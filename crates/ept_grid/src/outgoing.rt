@@ -114,7 +114,7 @@ impl Outgoing {
     }
 
     /// Tells a proof that there is a list for each octant.
-    pub(crate) fn known(&self)
+    pub fn known(&self)
         ensures { length self.now ≡ 8 }
     {
         let _lanes = &self.lanes;

@@ -294,10 +294,10 @@ all_below key part (o ∷ os) =
 pub sent-below : (key : VoxelKey) (leaving : List Leaving) → AreAtDepth (key.depth + 1) (sending key leaving)
 sent-below key leaving = all_below key (points_at leaving) all_octants
 
--- what follows of two facts at Ok holds at Ok
-pub both-ok : {E : Type 0} (r : Result (Unit {0}) E) (P Q R : Type 0) → OnOk r P → OnOk r Q → (P → Q → R) → OnOk r R
-both-ok (Ok u) P Q R p q more = more p q
-both-ok (Err e) P Q R p q more = tt
+-- what follows of facts at Ok holds at Ok
+pub three-ok : {E : Type 0} (r : Result (Unit {0}) E) (P Q R S : Type 0) → OnOk r P → OnOk r Q → OnOk r R → (P → Q → R → S) → OnOk r S
+three-ok (Ok u) P Q R S p q r' more = more p q r'
+three-ok (Err e) P Q R S p q r' more = tt
 
 pub one-ok : {E : Type 0} (r : Result (Unit {0}) E) (P R : Type 0) → OnOk r P → (P → R) → OnOk r R
 one-ok (Ok u) P R p more = more p

@@ -3,3 +3,4 @@ mod Descending
 pub mod Growing
 mod Inside
 mod Regrouping
+mod Together

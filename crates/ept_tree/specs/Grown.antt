@@ -4,7 +4,7 @@ use Rattle.ept_point.specs.declared.point.Point.{Point}
 use Rattle.ept_space.specs.declared.cube.Rules.{Rules}
 use Rattle.ept_grid.specs.Outgoing.{Leaving, points_at}
 use Rattle.ept_tree.specs.declared.octree.Tree.{Tree}
-use Rattle.ept_tree.specs.Tree.{Branch, AreNodes, IsTree}
+use Rattle.ept_tree.specs.Tree.{Branch, points_in, AreNodes, IsTree}
 
 -- the rules of its sampling
 abbrev pub rules_of : Tree → Rules
@@ -13,6 +13,10 @@ rules_of tree = tree.rules
 -- its nodes by their keys, in key order
 abbrev pub nodes_of : Tree → List Branch
 nodes_of tree = tree.nodes.entries
+
+-- the points of all its nodes
+abbrev pub points_of : Tree → List Point
+points_of tree = points_in (nodes_of tree)
 
 -- the points that left a node and were not sent on
 abbrev pub leaving_of : Tree → List Leaving

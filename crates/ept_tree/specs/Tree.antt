@@ -1,6 +1,6 @@
 -- The nodes of an octree, as points are brought into it one by one: a state of the core with one actor.
-use Rattle.std.specs.Prelude.{◌≡◌, ℕ, ◌+◌, ◌<◌, ◌≤◌, true, List, [], ◌∷◌, ◌++◌, map}
-use Rattle.std.specs.List.{All}
+use Rattle.std.specs.Prelude.{◌≡◌, ℕ, ◌+◌, ◌<◌, ◌≤◌, true, List, [], ◌∷◌, ◌++◌, map, Bool, count_by}
+use Rattle.std.specs.List.{All, flat_map}
 use Rattle.ept_point.specs.declared.point.Point.{Point}
 use Rattle.ept_space.specs.declared.cube.Rules.{Rules}
 use Rattle.ept_space.specs.VoxelKey.{VoxelKey, child}
@@ -10,7 +10,7 @@ use Rattle.ept_sample.specs.declared.tiles.Tile.{Tile}
 use Rattle.ept_sample.specs.Members.{IsMember}
 use Rattle.ept_sample.specs.Arrivals.{all_octants}
 use Rattle.ept_grid.specs.Mask.{opened}
-use Rattle.ept_grid.specs.Outgoing.{Leaving, points_at}
+use Rattle.ept_grid.specs.Outgoing.{Leaving, points_at, all_points}
 use Rattle.ept_grid.specs.Node as grid
 use Rattle.ept_core.specs.declared.node.Node as core
 use Rattle.ept_core.specs.declared.flight.Flight.{Flight}
@@ -41,6 +41,14 @@ flight_of a = record { actor = 0; key = a.key; points = a.point ∷ [] }
 -- the state of the core: these points left, these on their way, and these nodes
 abbrev pub state_of : List Point → List Arrival → List Branch → State
 state_of left arrivals nodes = record { left = left; flights = map flight_of arrivals; nodes = map entry_of nodes }
+
+-- all points of the nodes
+abbrev pub points_in : List Branch → List Point
+points_in nodes = flat_map (λ (b : Branch). b.1.points) nodes
+
+-- the points on their way
+abbrev pub on_the_way : List Arrival → List Point
+on_the_way arrivals = map (λ (a : Arrival). a.point) arrivals
 
 -- each node has the key under which it stands, and the rules of the octree
 abbrev pub AreNodes : Rules → List Branch → Type 0
@@ -75,6 +83,7 @@ AreAtDepth depth arrivals = All (λ (a : Arrival). a.key.depth ≡ depth) arriva
 -- A point has arrived at its node, and the points that leave it go on from there.
 pub record HasLanded (rules : Rules) (a : Arrival) (old new : List Branch) (leaving : List Leaving) : Type 0 where
   pub becomes : (others : List Arrival) → Becomes rules (a ∷ others) old (others ++ sending a.key leaving) new
+  pub together : (test : Point → Bool) → count_by test (points_in new) + count_by test (all_points leaving) ≡ count_by test (a.point ∷ points_in old)
   pub down : GoDown rules a.key leaving
 
 -- A point has arrived at its node, and those that left it are on their way, one depth below.
@@ -83,4 +92,5 @@ pub record HasArrived (rules : Rules) (a : Arrival) (old new : List Branch) (bef
   pub grows : after ≡ before ++ sent
   pub deeper : AreAtDepth (a.key.depth + 1) sent
   pub placed : ArePlaced rules sent
+  pub together : (test : Point → Bool) → count_by test (points_in new) + count_by test (on_the_way sent) ≡ count_by test (a.point ∷ points_in old)
   pub becomes : (others : List Arrival) → Becomes rules (a ∷ others) old (others ++ sent) new

@@ -1,6 +1,6 @@
 //! The nodes of the octree, as points are brought into it.
 
-ghost use Rattle.std.specs.Prelude.{◌≡◌, ◌<◌, ◌≤◌, ◌+◌, ◌∷◌, ◌++◌, [], ℕ, List, Err, None, length, OnOk, IfOk};
+ghost use Rattle.std.specs.Prelude.{◌≡◌, ◌<◌, ◌≤◌, ◌+◌, ◌∷◌, ◌++◌, [], ℕ, Bool, List, Err, None, length, count_by, OnOk, IfOk};
 ghost use Rattle.std.specs.BTreeMap.{is_at};
 ghost use Rattle.std.specs.Map.{lookup};
 ghost use Rattle.ept_point.specs.declared.point.Point.{Point};
@@ -11,9 +11,9 @@ ghost use Rattle.ept_sample.specs.Ids.{HasDistinctIds};
 ghost use Rattle.ept_sample.specs.SamplingLaws.{CanBeSampled};
 ghost use Rattle.ept_sample.specs.Nodes.{sampled};
 ghost use Rattle.ept_grid.specs.Node.{TakesIn};
-ghost use Rattle.ept_grid.specs.Outgoing.{points_at};
-ghost use Rattle.ept_tree.specs.Tree.{AreNodes, IsPlaced, ArePlaced, GoDown, Becomes, AreAtDepth, HasLanded, HasArrived};
-ghost use Rattle.ept_tree.specs.Grown.{rules_of, nodes_of, IsAtRest, HasTaken};
+ghost use Rattle.ept_grid.specs.Outgoing.{points_at, all_points};
+ghost use Rattle.ept_tree.specs.Tree.{on_the_way, AreNodes, IsPlaced, ArePlaced, GoDown, Becomes, AreAtDepth, HasLanded, HasArrived};
+ghost use Rattle.ept_tree.specs.Grown.{rules_of, nodes_of, points_of, IsAtRest, HasTaken};
 ghost use Rattle.ept_tree.specs.declared.arrival.Arrival.{Arrival};
 
 use crate::arrival::{Arrival, send_on};
@@ -75,6 +75,10 @@ impl Tree {
         ensures rest { OnOk result (IsAtRest self.new) }
         ensures few { OnOk result (length (nodes_of self.new) ≤ most) }
 
+        // Whatever the ids, the points of all nodes are together those before and these.
+        ensures together { OnOk result ((test : Point → Bool) → count_by test (points_of self.new)
+            ≡ count_by test given.now + count_by test (points_of self.old)) }
+
         // Where the points have different ids, the tree has taken these too, or they are too many for it.
         ensures taken { OnOk result ((points left : List Point) → HasTaken points (given.now ++ left) self.old
             → HasTaken points left self.new) }
@@ -97,6 +101,8 @@ impl Tree {
         requires inside { InCube self.old.rules.cube (place point) }
         ensures rules { self.new.rules ≡ self.old.rules }
         ensures rest { OnOk result (IsAtRest self.new) }
+        ensures together { OnOk result ((test : Point → Bool) → count_by test (points_of self.new)
+            ≡ count_by test (point ∷ points_of self.old)) }
         ensures taken { OnOk result ((points left : List Point) → HasTaken points (point ∷ left) self.old
             → HasTaken points left self.new) }
     {
@@ -124,6 +130,9 @@ impl Tree {
         ensures placed { IfOk result (λ next. ArePlaced self.old.rules next.items) }
         ensures deeper { IfOk result (λ next. (depth : ℕ) → AreAtDepth depth arrivals.now
             → AreAtDepth (depth + 1) next.items) }
+        ensures together { IfOk result (λ next. (test : Point → Bool)
+            → count_by test (points_of self.new) + count_by test (on_the_way next.items)
+            ≡ count_by test (on_the_way arrivals.now) + count_by test (points_of self.old)) }
         ensures becomes { IfOk result (λ next. Becomes
             self.old.rules arrivals.now self.old.nodes.entries next.items self.new.nodes.entries) }
     {
@@ -146,6 +155,7 @@ impl Tree {
         // Each node that has a point to send has children.
         self.rules.cube.known();
         self.land(arrival)?;
+        self.leaving.known();
         send_on(&arrival.key, &mut self.leaving, next)
     }
 
@@ -191,6 +201,8 @@ fn take_in(node: &mut Grid, point: Point, leaving: &mut Outgoing) -> Result<(), 
     ensures key { node.new.key ≡ node.old.key }
     ensures rules { node.new.rules ≡ node.old.rules }
     ensures down { OnOk result (GoDown node.old.rules node.old.key leaving.new) }
+    ensures together { OnOk result ((test : Point → Bool) → count_by test node.new.points
+        + count_by test (all_points leaving.new) ≡ count_by test (point ∷ node.old.points)) }
     ensures taken { OnOk result (HasDistinctIds (point ∷ node.old.points)
         → TakesIn node.old node.new point leaving.old leaving.new) }
 {

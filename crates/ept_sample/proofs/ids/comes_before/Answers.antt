@@ -1,4 +1,4 @@
-use Rattle.std.proofs.Common.{◌≡◌, ◌↔◌, true, sym, subst}
+use Rattle.std.proofs.Common.{◌≡◌, ◌↔◌, true, subst}
 use Rattle.ept_point.specs.declared.id.PointId.{PointId}
 use Rattle.ept_point.specs.Order.{id, IsBefore}
 use Rattle.ept_sample.proofs.IdLaws.{tested}

@@ -1,7 +1,6 @@
 use Rattle.std.proofs.Common.{◌≡◌, rules}
 use Rattle.std.proofs.lemmas.Bool.{OnTrue_from}
 use Rattle.std.proofs.lemmas.List.Sorted.{answers_always}
-use Rattle.ept_point.specs.Order.{IsAscending}
 use Rattle.ept_sample.specs.Ids.{comes_before, HasDistinctIds}
 use Rattle.ept_sample.proofs.IdLaws.{ascending-told, HasDistinctIds-IsAscending}
 use Rattle.ept_sample.proofs.ids.ids_ascend.Goals as goal

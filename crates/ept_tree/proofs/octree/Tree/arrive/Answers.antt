@@ -1,10 +1,11 @@
-use Rattle.std.proofs.Common.{◌≡◌, ℕ, [], ◌++◌, arith, sym, subst}
+use Rattle.std.proofs.Common.{◌≡◌, ℕ, [], ◌++◌, arith, sym, subst, ◌∷◌}
 use Rattle.ept_space.specs.declared.cube.Rules.{Rules}
 use Rattle.ept_grid.specs.Outgoing.{points_at}
 use Rattle.ept_tree.specs.Sending.{sending}
-use Rattle.ept_tree.specs.Tree.{AreNodes}
+use Rattle.ept_tree.specs.Tree.{AreNodes, points_in}
 use Rattle.ept_tree.proofs.Growing.{sent-below, one-ok}
 use Rattle.ept_tree.proofs.Inside.{sending-placed, sends-above}
+use Rattle.ept_tree.proofs.Together.{sent-together}
 use Rattle.ept_tree.proofs.octree.Tree.arrive.Goals as goal
 
 pub send_on-requires : goal.send_on-requires
@@ -29,5 +30,6 @@ returns-clause-arrived c =
       grows = sent;
       deeper = sent-below a.key leaving;
       placed = sending-placed c.args.self.now.rules a.key leaving c.in_ok-land.ensures.landed.down;
+      together = λ test. sent-together test (a.point ∷ points_in c.args.self.now.nodes.entries) c.land.new.self.nodes.entries a.key leaving c.known-2.ensures (c.in_ok-land.ensures.landed.together test);
       becomes = c.in_ok-land.ensures.landed.becomes;
     })

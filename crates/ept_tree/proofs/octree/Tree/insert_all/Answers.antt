@@ -1,13 +1,14 @@
-use Rattle.std.proofs.Common.{◌≡◌, ◌∙◌, ◌+◌, ◌≤◌, List, [], ◌++◌, drop, length, sym, subst, arith}
+use Rattle.std.proofs.Common.{◌≡◌, ◌∙◌, ◌+◌, ◌≤◌, List, [], ◌++◌, drop, length, sym, subst, arith, count_by, ap, ◌∷◌}
 use Rattle.std.proofs.lemmas.List.Elements.{All-get_or}
 use Rattle.ept_point.specs.declared.point.Point.{Point}
 use Rattle.ept_space.specs.declared.cube.Rules.{Rules}
 use Rattle.ept_space.specs.OctreeCube.{InCube}
 use Rattle.ept_sample.specs.Place.{place}
 use Rattle.ept_sample.specs.Nodes.{sampled}
-use Rattle.ept_tree.specs.Tree.{IsTree}
+use Rattle.ept_tree.specs.Tree.{IsTree, points_in}
 use Rattle.ept_tree.proofs.Descending.{front-of, none-left}
 use Rattle.ept_tree.proofs.Growing.{few-nodes}
+use Rattle.ept_sample.proofs.IdLaws.{count_by-append}
 use Rattle.ept_tree.proofs.octree.Tree.insert_all.Goals as goal
 
 pub insert-requires-clause-inside : goal.insert-requires-clause-inside
@@ -25,6 +26,9 @@ loop-point-preserved c =
       rules = c.in_ok-insert.ensures.rules ∙ i.invariant.rules;
       rest = c.in_ok-insert.ensures.rest;
       few = omega (arith, c.len.ensures.len, c.if-len-most.false);
+      together = λ test. (
+          let next : count_by test (drop i.point-index given) ≡ count_by test (c.point-item.result ∷ drop (i.point-index + 1) given) = ap (λ (w : List Point). count_by test w) front in
+          omega (arith, i.invariant.together test, c.in_ok-insert.ensures.together test, next, count_by-append test (c.point-item.result ∷ []) (points_in i.self.nodes.entries), count_by-append test (c.point-item.result ∷ []) (drop (i.point-index + 1) given)));
       taken = λ points left h. c.in_ok-insert.ensures.taken points (drop (i.point-index + 1) given ++ left) (subst (λ (w : List Point). IsTree i.self.rules points (w ++ left) [] i.self.nodes.entries) front (i.invariant.taken points left h));
     }
 
@@ -38,6 +42,13 @@ returns-then-len-most-clause-too_many c = λ is points left h. (
     let rules : new.rules ≡ c.args.self.now.rules = c.in_ok-insert.ensures.rules ∙ i.invariant.rules in
     let many : length new.nodes.entries ≤ length (sampled c.args.self.now.rules points) = subst (λ (r : Rules). length new.nodes.entries ≤ length (sampled r points)) rules (few-nodes new.rules points (drop (i.point-index + 1) given ++ left) new.nodes.entries tree) in
     omega (arith, many, c.len.ensures.len, c.if-len-most.true))
+
+pub returns-clause-together : goal.returns-clause-together
+returns-clause-together c = λ test. (
+    let i = c.loop-point in
+    let all : i.point-index ≡ length c.args.given.now = omega arith in
+    let none : count_by test (drop i.point-index c.args.given.now) ≡ 0 = ap (λ (w : List Point). count_by test w) (none-left c.args.given.now i.point-index all) in
+    omega (arith, i.invariant.together test, none))
 
 pub returns-clause-taken : goal.returns-clause-taken
 returns-clause-taken c = λ points left h. (
