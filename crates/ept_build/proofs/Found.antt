@@ -20,7 +20,8 @@ use Rattle.ept_scan.specs.declared.scan_done.ScanDone.{ScanDone}
 use Rattle.ept_scan.specs.Extents.{HasExtent}
 use Rattle.ept_scan.specs.Counts.{IsCountOf}
 use Rattle.ept_scan.specs.Scans.{in_order, IsScan}
-use Rattle.ept_scan.specs.Opening.{IsKeptScan, total}
+use Rattle.ept_config.specs.Counts.{total}
+use Rattle.ept_scan.specs.Opening.{IsKeptScan}
 use Rattle.ept_tree.specs.declared.octree.Tree.{Tree}
 use Rattle.ept_tree.specs.Tree.{tile_of}
 use Rattle.ept_tree.specs.Grown as tree

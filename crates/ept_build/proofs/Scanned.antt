@@ -12,7 +12,7 @@ use Rattle.ept_space.specs.declared.bounds.Bounds.{Bounds}
 use Rattle.ept_space.specs.Place.{coordinate}
 use Rattle.ept_space.specs.ClosedBox.{IsBetween}
 use Rattle.ept_space.specs.OctreeCube.{OctreeCube, IsCube, InCube}
-use Rattle.ept_space.specs.CubeOfBounds.{InBounds, IsCubeOf, cube_of}
+use Rattle.ept_space.specs.CubeOfBounds.{InBounds, IsInside, IsCubeOf, cube_of}
 use Rattle.ept_space.proofs.Extents.{InCube-bounds}
 use Rattle.ept_sample.specs.Place.{place}
 use Rattle.ept_sample.specs.SamplingLaws.{CanBeSampled}
@@ -24,9 +24,10 @@ use Rattle.ept_config.specs.declared.source_count.SourceCount.{SourceCount}
 use Rattle.ept_config.specs.Ranges.{BoundsInRange}
 use Rattle.ept_scan.specs.declared.scan_done.ScanDone.{ScanDone}
 use Rattle.ept_scan.specs.Extents.{IsWithin, IsSpanOf, IsExtentOf, HasExtent}
-use Rattle.ept_scan.specs.Counts.{IsCountOf, IsInside, FitsBounds, IsSound}
+use Rattle.ept_config.specs.Counts.{total, IsCount}
+use Rattle.ept_scan.specs.Counts.{IsCountOf}
 use Rattle.ept_scan.specs.Scans.{in_order, AreBounds, IsScan}
-use Rattle.ept_scan.specs.Opening.{IsKeptScan, total, IsFileOf}
+use Rattle.ept_scan.specs.Opening.{IsKeptScan, IsFileOf}
 use Rattle.ept_scan.specs.Queue.{Held, LiesIn}
 use Rattle.ept_scan.proofs.Scanned.{scan_kept, scan_placed}
 use Rattle.ept_scan.proofs.Ascending.{scan_ascends}
@@ -80,9 +81,6 @@ all_at P xs x every among = subst P among.2 (every among.0 x among.1)
 all_got : {X : Type 0} (P : X → Type 0) (xs : List X) (i : ℕ) (x : X) → All P xs → slice_get xs i ≡ Some x → P x
 all_got P xs i x every is = subst P (get_or_from_slice_get xs i x x is) (every i x (slice_get_within xs i x is))
 
-fits_some : (bounds : Bounds) (n : ℕ) (o : Option Bounds) (extent : Bounds) → o ≡ Some extent → FitsBounds bounds n o → IsInside bounds extent
-fits_some bounds n o extent is fits = (subst (λ (q : Option Bounds). FitsBounds bounds n q) is fits).1
-
 inside_within : (bounds extent : Bounds) (p : Point) → IsInside bounds extent → IsWithin extent p → InBounds bounds (place p)
 inside_within bounds extent p inside w = record {
   x = (omega (arith, ints, inside.x_min, w.x.0), omega (arith, ints, inside.x_max, w.x.1));
@@ -90,12 +88,12 @@ inside_within bounds extent p inside w = record {
   z = (omega (arith, ints, inside.z_min, w.z.0), omega (arith, ints, inside.z_max, w.z.1));
 }
 
-pub lies-in-cube : (kept : Kept) (counts : List SourceCount) (files : List Held) (cube : OctreeCube) → IsCubeOf kept.bounds kept.s kept.max_depth cube → All (IsSound kept.bounds) counts → All (IsFileOf kept counts) files → (p : Point) → LiesIn files p → InCube cube (place p)
+pub lies-in-cube : (kept : Kept) (counts : List SourceCount) (files : List Held) (cube : OctreeCube) → IsCubeOf kept.bounds kept.s kept.max_depth cube → All (IsCount kept.bounds) counts → All (IsFileOf kept counts) files → (p : Point) → LiesIn files p → InCube cube (place p)
 lies-in-cube kept counts files cube of_bounds sound known p lies =
     let file = all_at (IsFileOf kept counts) files lies.held known lies.among in
-    let fits = (all_got (IsSound kept.bounds) counts lies.held.reading.origin file.count sound file.is_count).fits in
+    let count = all_got (IsCount kept.bounds) counts lies.held.reading.origin file.count sound file.is_count in
     let extent : file.count.extent ≡ Some lies.extent = sym file.reads.limits_are ∙ lies.kept in
-    InCube-bounds kept.bounds kept.s kept.max_depth cube (place p) of_bounds (inside_within kept.bounds lies.extent p (fits_some kept.bounds file.count.points file.count.extent lies.extent extent fits) lies.within)
+    InCube-bounds kept.bounds kept.s kept.max_depth cube (place p) of_bounds (inside_within kept.bounds lies.extent p (count.inside lies.extent extent) lies.within)
 
 -- ---- one way to be found
 

@@ -9,8 +9,8 @@ ghost use Rattle.ept_space.specs.CubeOfBounds.{IsCubeOf};
 ghost use Rattle.ept_sample.specs.Place.{place};
 ghost use Rattle.ept_sample.specs.Nodes.{sampled};
 ghost use Rattle.ept_sample.specs.SamplingLaws.{CanBeSampled};
-ghost use Rattle.ept_scan.specs.Counts.{IsSound};
-ghost use Rattle.ept_scan.specs.Opening.{IsKeptScan, total};
+ghost use Rattle.ept_config.specs.Counts.{IsCount, total};
+ghost use Rattle.ept_scan.specs.Opening.{IsKeptScan};
 ghost use Rattle.ept_scan.specs.Queue.{LiesIn};
 ghost use Rattle.ept_scan.specs.Reader.{drawn_of, left_of, refusal_of, files_of, IsRest, HasFault, IsReader};
 ghost use Rattle.ept_tree.specs.Grown as tree;
@@ -20,7 +20,7 @@ ghost use Rattle.ept_build.specs.Building.{IsInsertion};
 use crate::error::BuildError;
 use ept_base::{Shelf, Source};
 use ept_config::{Kept, SourceCount};
-use ept_scan::Reader;
+use ept_scan::{Reader, reader};
 use ept_space::Rules;
 use ept_tree::Tree;
 use std::alloc::Global;
@@ -42,7 +42,7 @@ pub(crate) fn grown_tree<H: Shelf>(
     requires rules { rules.now ≡ rules_of kept.now }
     requires of_bounds { IsCubeOf kept.now.bounds kept.now.s kept.now.max_depth rules.now.cube }
     requires each { length counts.now ≡ length kept.now.inputs }
-    requires sound { All (IsSound kept.now.bounds) counts.now }
+    requires sound { All (IsCount kept.now.bounds) counts.now }
     requires points { points ≡ total counts.now }
     requires some { 1 ≤ most }
     ensures rules { IfOk result (λ grown. tree.rules_of grown ≡ rules_of kept.now) }
@@ -61,7 +61,7 @@ pub(crate) fn grown_tree<H: Shelf>(
     ensures files { H.files shelf.new ≡ H.files shelf.old }
     ensures cause { HasCauseOf BuildError.SourceFault (H.faults shelf.old) (H.faults shelf.new) result }
 {
-    let mut reader = Reader::open(alloc, shelf, kept, counts, 0)?;
+    let mut reader = reader(alloc, shelf, kept, counts, 0)?;
     let grown = grow(alloc, &mut reader, rules, points, most);
     reader.retire_all(shelf);
     grown

@@ -6,7 +6,7 @@ ghost use Rattle.ept_base.specs.Files.{Tells};
 ghost use Rattle.ept_point.specs.declared.point.Point.{Point};
 ghost use Rattle.ept_space.specs.OctreeCube.{IsCube};
 ghost use Rattle.ept_space.specs.CubeOfBounds.{IsCubeOf, HasPlace};
-ghost use Rattle.ept_scan.specs.Counts.{IsSound};
+ghost use Rattle.ept_config.specs.Counts.{IsCount};
 ghost use Rattle.ept_scan.specs.Scans.{IsScan};
 ghost use Rattle.ept_meta.specs.Output.{rules_of};
 ghost use Rattle.ept_tree.specs.Grown.{nodes_of};
@@ -69,7 +69,7 @@ fn inserted<H: Shelf>(
     requires scanned { Tells (λ all. (points : List Point)
         × IsScan all config.now.scale config.now.bounds config.now.inputs 0 points done) (H.files shelf.old) }
     requires each { length done.counts ≡ length config.now.inputs }
-    requires sound { All (IsSound done.bounds) done.counts }
+    requires sound { All (IsCount done.bounds) done.counts }
     requires ordered { HasPlace done.bounds }
     ensures octree { IfOk result (λ octree. Tells (λ all. IsOctree all config.now octree) (H.files shelf.old)) }
     ensures each { IfOk result (λ octree. length octree.counts ≡ length octree.kept.inputs) }

@@ -1,25 +1,25 @@
-pub mod Windows
-pub mod Spans
-pub mod NextRecord
-pub mod Headers
-pub mod Skipping
-pub mod SoFar
-pub mod Reaching
-pub mod Whole
-pub mod Powers
-pub mod Listing
-pub mod Sound
-pub mod Drawing
-pub mod Once
-pub mod Queues
-pub mod Batches
-pub mod Rereading
-pub mod Asked
-pub mod Opened
-pub mod Retiring
-pub mod Begun
+mod Windows
+mod Spans
+mod NextRecord
+mod Headers
+mod Skipping
+mod SoFar
+mod Reaching
+mod Whole
+mod Powers
+mod Listing
+mod Sound
+mod Drawing
+mod Once
+mod Queues
+mod Batches
+mod Rereading
+mod Asked
+mod Opened
+mod Retiring
+mod Begun
 pub mod OneScan
 pub mod OneRefusal
-pub mod Taking
+mod Taking
 pub mod Scanned
 pub mod Ascending

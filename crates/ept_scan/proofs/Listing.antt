@@ -18,7 +18,7 @@ use Rattle.ept_scan.specs.declared.scan_error.ScanError.{ScanError}
 use Rattle.ept_scan.specs.declared.scan_error.ScanError.TheVariants.{SourceFault, BadLas, OutOfBounds, TooManyPoints, NoBounds, Memory}
 use Rattle.ept_scan.specs.Extents.{IsAllowed, HasExtent}
 use Rattle.ept_scan.specs.Counts.{IsCountOf, FindsCount}
-use Rattle.ept_scan.specs.Scans.{in_order, IsReadingOf, Blames, HasPoints, IsRefused, HasPointsAt, ArePointsFrom, ScanIsRefused}
+use Rattle.ept_scan.specs.Scans.{in_order, IsReadingOf, Blames, HasPoints, PathIsRefused, HasPointsAt, ArePointsFrom, ScanIsRefused}
 use Rattle.ept_scan.specs.Found.{FindsLists}
 
 -- pairs of two lists
@@ -99,7 +99,7 @@ module _ (files : Option Files) (scale : ℕ) (limits : Option Bounds) (inputs :
       are = told_more files so_far.lists found.points so_far.are found.are;
     }
 
-    within : i < length inputs → (all : Files) (lists : List (List Point)) (e : ScanError) → ArePointsFrom all scale limits inputs from i lists → Blames e (IsRefused all input.path reading e) → ScanIsRefused all scale limits inputs from e
+    within : i < length inputs → (all : Files) (lists : List (List Point)) (e : ScanError) → ArePointsFrom all scale limits inputs from i lists → Blames e (PathIsRefused all input.path reading e) → ScanIsRefused all scale limits inputs from e
     within lt all lists SourceFault are refused = tt
     within lt all lists Memory are refused = tt
     within lt all lists NoBounds are refused = absurd (⊎_elim (λ (no : ⊥). no) (λ some. some.3) refused.refused)
@@ -107,12 +107,12 @@ module _ (files : Option Files) (scale : ℕ) (limits : Option Bounds) (inputs :
     within lt all lists (OutOfBounds source number) are refused = record { at = i; within = lt; before = lists; good = are; input = input; reading = reading; is_input = record { is = is; reading_is = reading_is }; refused = refused }
     within lt all lists (TooManyPoints source) are refused = record { at = i; within = lt; before = lists; good = are; input = input; reading = reading; is_input = record { is = is; reading_is = reading_is }; refused = refused }
 
-    told_refused : i < length inputs → (files : Option Files) (lists : List (List Point)) (e : ScanError) → Tells (λ all. ArePointsFrom all scale limits inputs from i lists) files → Tells (λ all. Blames e (IsRefused all input.path reading e)) files
+    told_refused : i < length inputs → (files : Option Files) (lists : List (List Point)) (e : ScanError) → Tells (λ all. ArePointsFrom all scale limits inputs from i lists) files → Tells (λ all. Blames e (PathIsRefused all input.path reading e)) files
         → Tells (λ all. ScanIsRefused all scale limits inputs from e) files
     told_refused lt None lists e are refused = tt
     told_refused lt (Some all) lists e are refused = within lt all lists e are refused
 
-    pub found_refused : (counts : List SourceCount) (e : ScanError) → i < length inputs → FindsLists files scale limits inputs from i counts → Tells (λ all. Blames e (IsRefused all input.path reading e)) files
+    pub found_refused : (counts : List SourceCount) (e : ScanError) → i < length inputs → FindsLists files scale limits inputs from i counts → Tells (λ all. Blames e (PathIsRefused all input.path reading e)) files
         → Tells (λ all. ScanIsRefused all scale limits inputs from e) files
     found_refused counts e lt so_far refused = told_refused lt files so_far.lists e so_far.are refused
 
@@ -123,7 +123,7 @@ found_at limits reading count there here path name same_files same_path found =
     subst (λ (l : List ℕ). FindsCount limits (λ points. Tells (λ all. HasPoints all l reading points) here) count) same_path
     (subst (λ (o : Option Files). FindsCount limits (λ points. Tells (λ all. HasPoints all path reading points) o) count) same_files found)
 
-pub refused_at : (reading : Reading) (e error : ScanError) (there here : Option Files) (path name : List ℕ) → there ≡ here → path ≡ name → error ≡ e → Tells (λ all. Blames e (IsRefused all path reading e)) there → Tells (λ all. Blames error (IsRefused all name reading error)) here
+pub refused_at : (reading : Reading) (e error : ScanError) (there here : Option Files) (path name : List ℕ) → there ≡ here → path ≡ name → error ≡ e → Tells (λ all. Blames e (PathIsRefused all path reading e)) there → Tells (λ all. Blames error (PathIsRefused all name reading error)) here
 refused_at reading e error there here path name same_files same_path same refused =
-    subst (λ (f : ScanError). Tells (λ all. Blames f (IsRefused all name reading f)) here) (sym same)
-    (subst (λ (l : List ℕ). Tells (λ all. Blames e (IsRefused all l reading e)) here) same_path (subst (λ (o : Option Files). Tells (λ all. Blames e (IsRefused all path reading e)) o) same_files refused))
+    subst (λ (f : ScanError). Tells (λ all. Blames f (PathIsRefused all name reading f)) here) (sym same)
+    (subst (λ (l : List ℕ). Tells (λ all. Blames e (PathIsRefused all l reading e)) here) same_path (subst (λ (o : Option Files). Tells (λ all. Blames e (PathIsRefused all path reading e)) o) same_files refused))

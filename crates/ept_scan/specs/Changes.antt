@@ -59,12 +59,6 @@ abbrev pub read_error_of : GetError → ReadError
 read_error_of get.Failed = SourceFault
 read_error_of get.Memory = Memory
 
--- the code of a refusal
-abbrev pub read_code_of : ReadError → ℕ
-read_code_of SourceFault = 1
-read_code_of (SourceChanged source number) = 2
-read_code_of Memory = 3
-
 -- how a refused header is told
 abbrev pub change_of : ScanError → ℕ → ReadError
 change_of scan.SourceFault origin = SourceFault

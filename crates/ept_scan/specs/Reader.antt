@@ -3,7 +3,7 @@ use Rattle.std.specs.Prelude.{◌≡◌, ◌≢◌, ℕ, ◌+◌, ◌^◌, ◌<�
 use Rattle.ept_point.specs.declared.point.Point.{Point}
 use Rattle.ept_scan.specs.declared.read_error.ReadError.{ReadError}
 use Rattle.ept_scan.specs.declared.read_error.ReadError.TheVariants.{SourceFault, Memory}
-use Rattle.ept_scan.specs.declared.reader.Reader.{Reader}
+use Rattle.ept_scan.specs.declared.second_reading.Reader.{Reader}
 use Rattle.ept_scan.specs.Queue as queue
 
 -- how many records were drawn, counted from the first record of the first input

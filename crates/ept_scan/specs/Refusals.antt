@@ -49,15 +49,6 @@ FileIsRefused reading file error =
     ⊎ ((header : Header) × HasHeader reading file header × (header.points ≤ most_points)
     × RecordsAreRefused reading header (records_of header file) error)
 
--- the code of a refusal
-abbrev pub code_of : ScanError → ℕ
-code_of SourceFault = 1
-code_of (BadLas source fault) = 2
-code_of (OutOfBounds source number) = 3
-code_of (TooManyPoints source) = 4
-code_of NoBounds = 5
-code_of Memory = 6
-
 -- what it answers where a source cannot be had
 abbrev pub scan_error_of : GetError → ScanError
 scan_error_of get.Failed = SourceFault

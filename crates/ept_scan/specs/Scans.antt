@@ -43,7 +43,7 @@ pub record HasPoints (all : Files) (path : List ℕ) (reading : Reading) (points
   pub are : ArePointsOf reading file points
 
 -- the file of this path is refused
-pub record IsRefused (all : Files) (path : List ℕ) (reading : Reading) (error : ScanError) : Type 0 where
+pub record PathIsRefused (all : Files) (path : List ℕ) (reading : Reading) (error : ScanError) : Type 0 where
   pub file : List ℕ
   pub content : all path ≡ Some file
   pub refused : FileIsRefused reading file error
@@ -80,7 +80,7 @@ module _ (all : Files) (scale : ℕ) (limits : Option Bounds) (inputs : List Inp
     pub input : Input
     pub reading : Reading
     pub is_input : IsInput at input reading
-    pub refused : IsRefused all input.path reading error
+    pub refused : PathIsRefused all input.path reading error
 
   -- there are no bounds, and no input has a point
   pub record LacksBounds (from : ℕ) : Type 0 where

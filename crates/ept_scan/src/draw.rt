@@ -41,7 +41,7 @@ pub(crate) fn draw<S: Source>(
     ensures at { OnOk result (StandsAt part.old.reading part.old.points (S.whole part.old.source)
         (S.left part.new.source) window.new cursor.new.number cursor.new.header) }
     ensures far { ReadsNoFurther part.old.reading (S.whole part.old.source) (S.left part.new.source) }
-    ensures whole { S.whole part.new.source ≡ S.whole part.old.source }
+    ensures same { S.whole part.new.source ≡ S.whole part.old.source }
     ensures reading { part.new.reading ≡ part.old.reading }
     ensures points { part.new.points ≡ part.old.points }
     ensures cause { HasCauseOf ReadError.SourceFault (S.faults part.old.source)
@@ -85,7 +85,7 @@ fn header_at<S: Source>(
     ensures changed { IfErr result (IsChange reading.now points number (S.whole source.old)) }
     ensures enough { result ≢ Err ReadError.Memory }
     ensures far { OnErr result (ReadsNoFurther reading.now (S.whole source.old) (S.left source.new)) }
-    ensures whole { S.whole source.new ≡ S.whole source.old }
+    ensures same { S.whole source.new ≡ S.whole source.old }
     ensures cause { HasCauseOf ReadError.SourceFault (S.faults source.old) (S.faults source.new) result }
 {
     match header {
@@ -109,7 +109,7 @@ fn start<S: Source>(
     ensures changed { IfErr result (IsChange reading.now points number (S.whole source.old)) }
     ensures enough { result ≢ Err ReadError.Memory }
     ensures far { OnErr result (ReadsNoFurther reading.now (S.whole source.old) (S.left source.new)) }
-    ensures whole { S.whole source.new ≡ S.whole source.old }
+    ensures same { S.whole source.new ≡ S.whole source.old }
     ensures cause { HasCauseOf ReadError.SourceFault (S.faults source.old) (S.faults source.new) result }
 {
     let origin = reading.origin;

@@ -9,7 +9,7 @@ ghost use Rattle.ept_space.specs.CubeOfBounds.{HasPlace};
 ghost use Rattle.ept_scan.specs.Extents.{HasExtent};
 ghost use Rattle.ept_config.specs.Counts.{IsCount};
 ghost use Rattle.ept_scan.specs.Counts.{IsCountOf, FindsCount};
-ghost use Rattle.ept_scan.specs.Scans.{in_order, Blames, HasPoints, IsRefused, AreBounds, IsScan, ScanIsRefused};
+ghost use Rattle.ept_scan.specs.Scans.{in_order, Blames, HasPoints, PathIsRefused, AreBounds, IsScan, ScanIsRefused};
 ghost use Rattle.ept_scan.specs.Found.{limits_of, FindsLists};
 ghost use Rattle.ept_scan.specs.Reach.{TakesOfPath, ReadsWithin};
 ghost use Rattle.ept_scan.specs.Asking.{OpensThese, paths_from};
@@ -59,7 +59,7 @@ pub fn scan<H: Shelf>(
         (λ all. ReadsWithin all config.now.scale
         (limits_of kept config.now.bounds) config.now.inputs from (H.given shelf.old) (H.given shelf.new))
         (H.files shelf.old) }
-    ensures opened { OpensThese (paths_from config.now.inputs from) result (H.asked shelf.old)
+    ensures asked { OpensThese (paths_from config.now.inputs from) result (H.asked shelf.old)
         (H.asked shelf.new) }
     ensures files { H.files shelf.new ≡ H.files shelf.old }
     ensures cause { HasCauseOf ScanError.SourceFault (H.faults shelf.old) (H.faults shelf.new) result }
@@ -102,7 +102,7 @@ fn scan_inputs<H: Shelf>(
     ensures far { Tells
         (λ all. ReadsWithin all config.now.scale limits config.now.inputs from (H.given shelf.old)
         (H.given shelf.new)) (H.files shelf.old) }
-    ensures opened { OpensThese (paths_from config.now.inputs from) result (H.asked shelf.old)
+    ensures asked { OpensThese (paths_from config.now.inputs from) result (H.asked shelf.old)
         (H.asked shelf.new) }
     ensures files { H.files shelf.new ≡ H.files shelf.old }
     ensures cause { HasCauseOf ScanError.SourceFault (H.faults shelf.old) (H.faults shelf.new) result }
@@ -128,11 +128,11 @@ fn scan_path<H: Shelf>(
     ensures count { IfOk result (FindsCount reading.now.limits
         (λ points. Tells (λ all. HasPoints all path.now reading.now points) (H.files shelf.old))) }
     ensures refused { IfErr result (λ e. Tells
-        (λ all. Blames e (IsRefused all path.now reading.now e)) (H.files shelf.old)) }
+        (λ all. Blames e (PathIsRefused all path.now reading.now e)) (H.files shelf.old)) }
     ensures far { Tells
         (λ all. TakesOfPath all path.now reading.now (H.given shelf.old) (H.given shelf.new))
         (H.files shelf.old) }
-    ensures opened { OpensThese (path.now ∷ []) result (H.asked shelf.old) (H.asked shelf.new) }
+    ensures asked { OpensThese (path.now ∷ []) result (H.asked shelf.old) (H.asked shelf.new) }
     ensures files { H.files shelf.new ≡ H.files shelf.old }
     ensures cause { HasCauseOf ScanError.SourceFault (H.faults shelf.old) (H.faults shelf.new) result }
 {

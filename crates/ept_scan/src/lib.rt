@@ -11,11 +11,11 @@ mod open;
 mod part;
 mod queue;
 mod read_error;
-mod reader;
 mod reading;
 mod record;
 mod scan_done;
 mod scan_error;
+mod second_reading;
 #[cfg(test)]
 mod tests;
 mod window;
@@ -25,9 +25,9 @@ pub use laws::{
     ascending_law, file_once_law, file_or_refusal_law, kept_law, one_cause_law, one_refusal_law,
     origin_law, placed_law, scan_once_law, scan_or_refusal_law,
 };
+pub use open::reader;
 pub use read_error::ReadError;
-pub use reader::Reader;
-pub use reading::{MAX_POINTS, Reading};
+pub use reading::MAX_POINTS;
 pub use scan_done::ScanDone;
 pub use scan_error::ScanError;
-pub use window::PIECE;
+pub use second_reading::Reader;

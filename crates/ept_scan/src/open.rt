@@ -14,76 +14,77 @@ use crate::inputs::reading_of;
 use crate::part::{Cursor, Part};
 use crate::queue::Queue;
 use crate::read_error::ReadError;
-use crate::reader::Reader;
+use crate::second_reading::Reader;
 use crate::window::Window;
 use ept_base::{Shelf, Source};
 use ept_config::{Kept, SourceCount, total_of};
 use ept_point::PointNumber;
 use std::alloc::Global;
 
-impl<S: Source> Reader<S> {
-    /// Opens the inputs of which records are left, where `drawn` records were drawn of all. What a first
-    /// reading has found of each input is given: the number of its points, and where they lie.
-    ///
-    /// # Errors
-    ///
-    /// `SourceFault` only where the shelf's count of faults rose, and `Memory`.
-    pub fn open<H: Shelf<Source = S>>(
-        alloc: Global,
-        shelf: &mut H,
-        kept: &Kept,
-        counts: &[SourceCount],
-        drawn: u64,
-    ) -> Result<Reader<S>, ReadError>
-        requires each { length counts.now ≡ length kept.now.inputs }
-        requires sound { All (IsCount kept.now.bounds) counts.now }
-        requires drawn { drawn ≤ total counts.now }
-        ensures drawn { IfOk result (λ r. drawn_of r ≡ drawn) }
-        ensures left { IfOk result (λ r. left_of r + drawn ≡ total counts.now) }
-        ensures allowed { IfOk result (λ r. allowed_of r ≡ 0) }
-        ensures refusal { IfOk result (λ r. refusal_of r ≡ None) }
-        ensures inputs { IfOk result (λ r. All (IsFileOf kept.now counts.now) (files_of S.whole r)) }
-        ensures rest { IfOk result (λ r. Tells
-            (λ all. (points : List at.Point) → IsKeptScan all kept.now counts.now points
-            → IsRest S.whole r (drop drawn points)) (H.files shelf.old)) }
-        ensures far { IfOk result (ReadsNoFurther S.whole S.left) }
-        ensures faultless { IfOk result (λ r. HasFault S.faults r → ⊥) }
-        ensures reader { IfOk result (IsReader S.whole S.left S.faults) }
-        ensures unchanged { (source number : ℕ) → result ≢ Err (ReadError.SourceChanged source number) }
-        ensures opened { OpensThese (paths_left kept.now.inputs counts.now drawn) result
-            (H.asked shelf.old) (H.asked shelf.new) }
-        ensures files { H.files shelf.new ≡ H.files shelf.old }
-        ensures cause { HasCauseOf ReadError.SourceFault (H.faults shelf.old) (H.faults shelf.new) result }
-    {
-        let window = Window::new(alloc)?;
-        let mut parts = Vec::with_capacity(alloc, counts.len())?;
-        let start = start_of(counts, drawn);
-        match open_parts(shelf, kept, counts, start.index, &mut parts) {
-            Ok(()) => Ok(Reader {
-                queue: Queue {
-                    parts,
-                    at: 0,
-                    cursor: Cursor::before(start.number),
-                    window,
-                },
-                drawn,
-                left: total_of(counts) - drawn,
-                allowed: 0,
-                refused: None,
-            }),
-            Err(refused) => {
-                retire_parts(parts, shelf);
-                Err(refused)
-            }
+/// Opens the inputs of which records are left, where `drawn` records were drawn of all, in their order
+/// and each once. An input whose records were all drawn, or that has no points, is not opened. What a
+/// first reading has found of each input is given: the number of its points, and where they lie.
+///
+/// # Errors
+///
+/// `SourceFault` only where the shelf's count of faults rose, and `Memory`.
+pub fn reader<S: Source, H: Shelf<Source = S>>(
+    alloc: Global,
+    shelf: &mut H,
+    kept: &Kept,
+    counts: &[SourceCount],
+    drawn: u64,
+) -> Result<Reader<S>, ReadError>
+    requires each { length counts.now ≡ length kept.now.inputs }
+    requires sound { All (IsCount kept.now.bounds) counts.now }
+    requires drawn { drawn ≤ total counts.now }
+    ensures drawn { IfOk result (λ r. drawn_of r ≡ drawn) }
+    ensures left { IfOk result (λ r. left_of r + drawn ≡ total counts.now) }
+    ensures allowed { IfOk result (λ r. allowed_of r ≡ 0) }
+    ensures refusal { IfOk result (λ r. refusal_of r ≡ None) }
+    ensures inputs { IfOk result (λ r. All (IsFileOf kept.now counts.now) (files_of S.whole r)) }
+    ensures rest { IfOk result (λ r. Tells
+        (λ all. (points : List at.Point) → IsKeptScan all kept.now counts.now points
+        → IsRest S.whole r (drop drawn points)) (H.files shelf.old)) }
+    ensures far { IfOk result (ReadsNoFurther S.whole S.left) }
+    ensures faultless { IfOk result (λ r. HasFault S.faults r → ⊥) }
+    ensures reader { IfOk result (IsReader S.whole S.left S.faults) }
+    ensures unchanged { (source number : ℕ) → result ≢ Err (ReadError.SourceChanged source number) }
+    ensures asked { OpensThese (paths_left kept.now.inputs counts.now drawn) result
+        (H.asked shelf.old) (H.asked shelf.new) }
+    ensures files { H.files shelf.new ≡ H.files shelf.old }
+    ensures cause { HasCauseOf ReadError.SourceFault (H.faults shelf.old) (H.faults shelf.new) result }
+{
+    let window = Window::new(alloc)?;
+    let mut parts = Vec::with_capacity(alloc, counts.len())?;
+    let start = start_of(counts, drawn);
+    match open_parts(shelf, kept, counts, start.index, &mut parts) {
+        Ok(()) => Ok(Reader {
+            queue: Queue {
+                parts,
+                at: 0,
+                cursor: Cursor::before(start.number),
+                window,
+            },
+            drawn,
+            left: total_of(counts) - drawn,
+            allowed: 0,
+            refused: None,
+        }),
+        Err(refused) => {
+            retire_parts(parts, shelf);
+            Err(refused)
         }
     }
+}
 
+impl<S: Source> Reader<S> {
     /// Gives all sources back to the shelf. It takes no memory.
     pub fn retire_all<H: Shelf<Source = S>>(self, shelf: &mut H)
         ensures later { H.faults shelf.old ≤ H.faults shelf.new }
         ensures failed { HasFault S.faults self → Rose (H.faults shelf.old) (H.faults shelf.new) }
         ensures sound { (HasFault S.faults self → ⊥) → H.faults shelf.new ≡ H.faults shelf.old }
-        ensures opened { H.asked shelf.new ≡ H.asked shelf.old }
+        ensures asked { H.asked shelf.new ≡ H.asked shelf.old }
         ensures files { H.files shelf.new ≡ H.files shelf.old }
     {
         let Reader {
@@ -108,7 +109,7 @@ fn retire_parts<S: Source, H: Shelf<Source = S>>(mut parts: Vec<Part<S>>, shelf:
     ensures later { H.faults shelf.old ≤ H.faults shelf.new }
     ensures failed { HasFailed S.faults parts.items → Rose (H.faults shelf.old) (H.faults shelf.new) }
     ensures sound { (HasFailed S.faults parts.items → ⊥) → H.faults shelf.new ≡ H.faults shelf.old }
-    ensures opened { H.asked shelf.new ≡ H.asked shelf.old }
+    ensures asked { H.asked shelf.new ≡ H.asked shelf.old }
     ensures files { H.files shelf.new ≡ H.files shelf.old }
 {
     while let Some(part) = parts.pop() {

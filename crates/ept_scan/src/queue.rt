@@ -140,7 +140,7 @@ fn draw_on<S: Source>(
         × StandsAt part.old.reading part.old.points (S.whole part.old.source)
         (S.left part.new.source) window.new cursor.new.number cursor.new.header) }
     ensures far { ReadsNoFurther part.old.reading (S.whole part.old.source) (S.left part.new.source) }
-    ensures whole { S.whole part.new.source ≡ S.whole part.old.source }
+    ensures same { S.whole part.new.source ≡ S.whole part.old.source }
     ensures reading { part.new.reading ≡ part.old.reading }
     ensures points { part.new.points ≡ part.old.points }
     ensures cause { HasCauseOf ReadError.SourceFault (S.faults part.old.source)

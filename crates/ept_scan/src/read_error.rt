@@ -3,21 +3,17 @@
 use ept_base::{Failed, GetError};
 use ept_point::PointNumber;
 use std::alloc::AllocError;
-use thiserror::Error;
 
 /// Why the second reading is refused.
-#[derive(Clone, Copy, Debug, PartialEq, Eq, Error)]
+#[derive(Clone, Copy, Debug, PartialEq, Eq)]
 pub enum ReadError {
     /// A source failed, or one could not be opened.
-    #[error("an input cannot be read")]
     SourceFault,
     /// The input of this place in the list differs from what the first reading found: with the number 0
     /// its header is refused or states another number of points; with any number this record ends
     /// early, or does not lie within the extent that was found.
-    #[error("input {source} changed at record {number} since it was first read")]
     SourceChanged { source: u32, number: PointNumber },
     /// Memory ran out.
-    #[error("out of memory")]
     Memory,
 }
 
@@ -53,22 +49,6 @@ impl From<GetError> for ReadError {
         match error {
             GetError::Failed => ReadError::SourceFault,
             GetError::Memory => ReadError::Memory,
-        }
-    }
-}
-
-impl ReadError {
-    ghost use Rattle.std.specs.Prelude.{◌≡◌};
-    ghost use Rattle.ept_scan.specs.Changes.{read_code_of};
-
-    /// The number of the cause, from 1.
-    pub fn code(self) -> u8
-        ensures { result ≡ read_code_of self }
-    {
-        match self {
-            ReadError::SourceFault => 1,
-            ReadError::SourceChanged { .. } => 2,
-            ReadError::Memory => 3,
         }
     }
 }

@@ -4,30 +4,23 @@ use ept_base::{Failed, GetError};
 use ept_las::LasError;
 use ept_point::PointNumber;
 use std::alloc::{AllocError, AllocFailed};
-use thiserror::Error;
 
 /// Why a scan is refused. The inputs are read in order, and the first cause is answered: of an input
 /// its header's faults in their order, then `TooManyPoints`, then of each record in turn that the file
 /// ends before its last byte, and that it is out of bounds. `NoBounds` comes after all.
-#[derive(Clone, Copy, Debug, PartialEq, Eq, Error)]
+#[derive(Clone, Copy, Debug, PartialEq, Eq)]
 pub enum ScanError {
     /// A source failed, or one could not be opened: the shelf's count of faults rose.
-    #[error("an input cannot be read")]
     SourceFault,
     /// The input of this place in the list is no LAS file that can be read.
-    #[error("input {source}: {fault}")]
     BadLas { source: u32, fault: LasError },
     /// The record of this number of this input is not in stored units, or not within the bounds.
-    #[error("input {source}: record {number} is out of bounds")]
     OutOfBounds { source: u32, number: PointNumber },
     /// This input states more than `MAX_POINTS` points.
-    #[error("input {source}: it has too many points")]
     TooManyPoints { source: u32 },
     /// No bounds are given, and no input has a point.
-    #[error("no bounds are given, and there are no points")]
     NoBounds,
     /// Memory ran out.
-    #[error("out of memory")]
     Memory,
 }
 
@@ -74,25 +67,6 @@ impl From<GetError> for ScanError {
         match error {
             GetError::Failed => ScanError::SourceFault,
             GetError::Memory => ScanError::Memory,
-        }
-    }
-}
-
-impl ScanError {
-    ghost use Rattle.std.specs.Prelude.{◌≡◌};
-    ghost use Rattle.ept_scan.specs.Refusals.{code_of};
-
-    /// The number of the cause, from 1.
-    pub fn code(self) -> u8
-        ensures { result ≡ code_of self }
-    {
-        match self {
-            ScanError::SourceFault => 1,
-            ScanError::BadLas { .. } => 2,
-            ScanError::OutOfBounds { .. } => 3,
-            ScanError::TooManyPoints { .. } => 4,
-            ScanError::NoBounds => 5,
-            ScanError::Memory => 6,
         }
     }
 }

@@ -2,9 +2,10 @@
 
 ghost use Rattle.std.specs.Prelude.{◌≡◌, IfOk, length, All};
 ghost use Rattle.ept_config.specs.Counts.{IsCount};
+ghost use Rattle.ept_space.specs.CubeOfBounds.{HasPlace};
 
 use super::*;
-use ept_config::{Kept, SourceCount, read_config};
+use ept_config::{Kept, SourceCount, read_config, total_of};
 use ept_las::LasError;
 use ept_mem::MemShelf;
 use ept_point::{List, PACKED_LENGTH, Point, pack};
@@ -349,6 +350,7 @@ struct Scanned {
 fn found_in(alloc: Global, config: &str, shelf: &mut MemShelf) -> Result<Scanned, Fail>
     ensures each { IfOk result (λ s. length s.counts ≡ length s.kept.inputs) }
     ensures sound { IfOk result (λ s. All (IsCount s.kept.bounds) s.counts) }
+    ensures ordered { IfOk result (λ s. HasPlace s.kept.bounds) }
 {
     let config = read_config(alloc, config.as_bytes())?;
     let ScanDone { counts, bounds } = scan(alloc, shelf, &config, 0, None)?;
@@ -377,7 +379,7 @@ fn two_batches(
     requires sound { All (IsCount found.now.kept.bounds) found.now.counts }
 {
     let mut points = Vec::new(alloc);
-    let mut reader = Reader::open(alloc, shelf, &found.kept, found.counts.as_slice(), 0)?;
+    let mut reader = reader(alloc, shelf, &found.kept, found.counts.as_slice(), 0)?;
     reader.allow(allowed);
     let ended = reader.next_batch(sizes[0], &mut points);
     let again = reader.next_batch(sizes[1], &mut points);
@@ -389,6 +391,81 @@ fn two_batches(
         ended,
         again,
     })
+}
+
+// The points that are left behind so many, or behind all.
+fn points_behind(
+    alloc: Global,
+    shelf: &mut MemShelf,
+    found: &Scanned,
+    drawn: u64,
+) -> Result<Vec<Point>, Fail>
+    requires each { length found.now.counts ≡ length found.now.kept.inputs }
+    requires sound { All (IsCount found.now.kept.bounds) found.now.counts }
+{
+    let counts = found.counts.as_slice();
+    let drawn = drawn.min(total_of(counts));
+    let mut points = Vec::new(alloc);
+    let mut reader = reader(alloc, shelf, &found.kept, counts, drawn)?;
+    reader.allow(u64::MAX);
+    let ended = reader.next_batch(usize::MAX, &mut points);
+    reader.retire_all(shelf);
+    ended?;
+    Ok(points)
+}
+
+// A shelf that has `b.las` alone.
+fn second_alone(alloc: Global, b: Vec<u8>) -> Result<MemShelf, AllocError> {
+    let mut files = Vec::with_capacity(alloc, 1)?;
+    files.push((String::from_str(alloc, "b.las")?, b))?;
+    Ok(MemShelf::new(alloc, files, Vec::new(alloc), Vec::new(alloc)))
+}
+
+#[test]
+fn a_reading_goes_on_behind_any_record(rt: HostRuntime) -> Result<(), Fail> {
+    let alloc = rt.alloc();
+    let first = plain(alloc, &[[1, 1, 1], [2, 2, 2], [3, 3, 3]])?;
+    let second = plain(alloc, &[[4, 4, 4], [5, 5, 5]])?;
+    let mut shelf = shelf_of(alloc, first, second, &[])?;
+    let found = found_in(alloc, SEVEN, &mut shelf)?;
+    for drawn in 0..6 {
+        let points = points_behind(alloc, &mut shelf, &found, drawn)?;
+        assert_eq!(rt; points.len() as u64 + drawn, 5);
+        for (k, point) in points.iter().enumerate() {
+            assert_eq!(rt; i64::from(point.x), k as i64 + drawn as i64 + 1);
+        }
+    }
+    Ok(())
+}
+
+#[test]
+fn an_input_that_was_inserted_may_be_absent(rt: HostRuntime) -> Result<(), Fail> {
+    let alloc = rt.alloc();
+    let places = [[4, 4, 4], [5, 5, 5]];
+    let first = plain(alloc, &[[1, 1, 1], [2, 2, 2], [3, 3, 3]])?;
+    let second = plain(alloc, &places)?;
+    let mut shelf = shelf_of(alloc, first, second, &[])?;
+    let found = found_in(alloc, SEVEN, &mut shelf)?;
+
+    let alone = plain(alloc, &places)?;
+    let mut shelf = second_alone(alloc, alone)?;
+    let config = read_config(alloc, SEVEN.as_bytes())?;
+    let last = config.inputs.as_slice().len().saturating_sub(1) as u32;
+    let done = scan(alloc, &mut shelf, &config, last, Some(found.kept.bounds))?;
+    let counts = [SourceCount {
+        points: 2,
+        extent: Some(Bounds {
+            min: [4, 4, 4],
+            max: [5, 5, 5],
+        }),
+    }];
+    assert_eq!(rt; done.counts.as_slice(), counts.as_slice());
+    assert_eq!(rt; done.bounds, found.kept.bounds);
+
+    let points = points_behind(alloc, &mut shelf, &found, 3)?;
+    assert_eq!(rt; points.len(), 2);
+    assert_eq!(rt; [points[0].x, points[1].x], [4, 5]);
+    Ok(())
 }
 
 const RECORD_7: [u8; 36] = [

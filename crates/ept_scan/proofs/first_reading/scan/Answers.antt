@@ -36,7 +36,7 @@ returns-in-Some-clause-scan g c =
     scan_found (g.H.Shelf.files c.args.shelf.now) c.args.config.now.scale c.limits_of-limits.result _ c.args.config.now.inputs c.args.from c.in_ok-counts.counts.items c.of.result c.in-Some.bounds c.limits_of-limits.ensures c.of.ensures found
     (c.in-Some.ensures found.lists (subst (λ (l : List SourceCount). AllZip IsCountOf found.lists l) (sym c.deref.ensures.value) found.counts_are))
 
-pub returns-in-None-clause-opened : goal.returns-in-None-clause-opened
-returns-in-None-clause-opened g c =
+pub returns-in-None-clause-asked : goal.returns-in-None-clause-asked
+returns-in-None-clause-asked g c =
     let all : List (List ℕ) = paths_from c.args.config.now.inputs c.args.from in
-    (length all, subst (λ (l : List (List ℕ)). AsksFor l (g.H.Shelf.asked c.args.shelf.now) (g.H.Shelf.asked c.scan_inputs.new.shelf)) (sym (take_all (length all) all (omega arith))) c.in_ok-counts.ensures.opened)
+    (length all, subst (λ (l : List (List ℕ)). AsksFor l (g.H.Shelf.asked c.args.shelf.now) (g.H.Shelf.asked c.scan_inputs.new.shelf)) (sym (take_all (length all) all (omega arith))) c.in_ok-counts.ensures.asked)

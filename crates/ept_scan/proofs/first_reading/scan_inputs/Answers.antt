@@ -44,7 +44,7 @@ loop-index-preserved g c = record {
       (path_at c.reading_of-reading.result (g.H.Shelf.files c.loop-index.shelf) (g.H.Shelf.files c.args.shelf.now) c.as_str.result.now c.input-input.result.now.path (g.H.Shelf.given c.loop-index.shelf) (g.H.Shelf.given c.scan_path.new.shelf) c.loop-index.invariant.files c.as_str.ensures c.scan_path.ensures.far);
   asked = asked_more (paths_from c.args.config.now.inputs c.args.from) (c.input-input.result.now.path ∷ []) (paths_from c.args.config.now.inputs (c.loop-index.index + 1)) (g.H.Shelf.asked c.args.shelf.now) (g.H.Shelf.asked c.loop-index.shelf) (g.H.Shelf.asked c.scan_path.new.shelf)
       (subst (λ (l : List (List ℕ)). HasAsked (paths_from c.args.config.now.inputs c.args.from) l (g.H.Shelf.asked c.args.shelf.now) (g.H.Shelf.asked c.loop-index.shelf)) (paths_more c.args.config.now.inputs c.loop-index.index c.input-input.result.now c.input-input.ensures.input) c.loop-index.invariant.asked)
-      (subst (λ (l : List ℕ). AsksFor (l ∷ []) (g.H.Shelf.asked c.loop-index.shelf) (g.H.Shelf.asked c.scan_path.new.shelf)) c.as_str.ensures c.in_ok-count.ensures.opened);
+      (subst (λ (l : List ℕ). AsksFor (l ∷ []) (g.H.Shelf.asked c.loop-index.shelf) (g.H.Shelf.asked c.scan_path.new.shelf)) c.as_str.ensures c.in_ok-count.ensures.asked);
   files = grind (arith, common_steps);
   later = grind (arith, common_steps);
 }
@@ -72,27 +72,27 @@ returns-clause-far g c =
     reads_end (g.H.Shelf.files c.args.shelf.now) c.args.config.now.scale c.args.limits c.args.config.now.inputs c.args.from c.loop-index.index (g.H.Shelf.given c.args.shelf.now) (g.H.Shelf.given c.loop-index.shelf) c.loop-index.counts.items (omega (arith, ap length c.as_slice.ensures)) c.loop-index.invariant.found c.loop-index.invariant.far
 
 -- what the shelf was asked for
-pub returns-in_err-count-clause-opened : goal.returns-in_err-count-clause-opened
-returns-in_err-count-clause-opened g c =
+pub returns-in_err-count-clause-asked : goal.returns-in_err-count-clause-asked
+returns-in_err-count-clause-asked g c =
     let p = err_from_is_err_and c.from_residual-in_err-count.result c.from_residual-in_err-count.ensures.1 in
     let all : List (List ℕ) = paths_from c.args.config.now.inputs c.args.from in
     subst (λ (r : Result (Vec SourceCount Global) ScanError). OpensThese all r (g.H.Shelf.asked c.args.shelf.now) (g.H.Shelf.asked c.scan_path.new.shelf)) (sym p.1)
     (asked_failed all (c.input-input.result.now.path ∷ []) (paths_from c.args.config.now.inputs (c.loop-index.index + 1)) (g.H.Shelf.asked c.args.shelf.now) (g.H.Shelf.asked c.loop-index.shelf) (g.H.Shelf.asked c.scan_path.new.shelf)
     (subst (λ (l : List (List ℕ)). HasAsked all l (g.H.Shelf.asked c.args.shelf.now) (g.H.Shelf.asked c.loop-index.shelf)) (paths_more c.args.config.now.inputs c.loop-index.index c.input-input.result.now c.input-input.ensures.input) c.loop-index.invariant.asked)
-    (subst (λ (l : List ℕ). (n : ℕ) × AsksFor (take n (l ∷ [])) (g.H.Shelf.asked c.loop-index.shelf) (g.H.Shelf.asked c.scan_path.new.shelf)) c.as_str.ensures c.in_err-count.ensures.opened))
+    (subst (λ (l : List ℕ). (n : ℕ) × AsksFor (take n (l ∷ [])) (g.H.Shelf.asked c.loop-index.shelf) (g.H.Shelf.asked c.scan_path.new.shelf)) c.as_str.ensures c.in_err-count.ensures.asked))
 
-pub returns-in_err-push-clause-opened : goal.returns-in_err-push-clause-opened
-returns-in_err-push-clause-opened g c =
+pub returns-in_err-push-clause-asked : goal.returns-in_err-push-clause-asked
+returns-in_err-push-clause-asked g c =
     let p = err_from_is_err_and c.from_residual-in_err-push.result c.from_residual-in_err-push.ensures.1 in
     let all : List (List ℕ) = paths_from c.args.config.now.inputs c.args.from in
     subst (λ (r : Result (Vec SourceCount Global) ScanError). OpensThese all r (g.H.Shelf.asked c.args.shelf.now) (g.H.Shelf.asked c.scan_path.new.shelf)) (sym p.1)
     (asked_front all (paths_from c.args.config.now.inputs (c.loop-index.index + 1)) (g.H.Shelf.asked c.args.shelf.now) (g.H.Shelf.asked c.scan_path.new.shelf)
     (asked_more all (c.input-input.result.now.path ∷ []) (paths_from c.args.config.now.inputs (c.loop-index.index + 1)) (g.H.Shelf.asked c.args.shelf.now) (g.H.Shelf.asked c.loop-index.shelf) (g.H.Shelf.asked c.scan_path.new.shelf)
     (subst (λ (l : List (List ℕ)). HasAsked all l (g.H.Shelf.asked c.args.shelf.now) (g.H.Shelf.asked c.loop-index.shelf)) (paths_more c.args.config.now.inputs c.loop-index.index c.input-input.result.now c.input-input.ensures.input) c.loop-index.invariant.asked)
-    (subst (λ (l : List ℕ). AsksFor (l ∷ []) (g.H.Shelf.asked c.loop-index.shelf) (g.H.Shelf.asked c.scan_path.new.shelf)) c.as_str.ensures c.in_ok-count.ensures.opened)))
+    (subst (λ (l : List ℕ). AsksFor (l ∷ []) (g.H.Shelf.asked c.loop-index.shelf) (g.H.Shelf.asked c.scan_path.new.shelf)) c.as_str.ensures c.in_ok-count.ensures.asked)))
 
-pub returns-clause-opened : goal.returns-clause-opened
-returns-clause-opened g c =
+pub returns-clause-asked : goal.returns-clause-asked
+returns-clause-asked g c =
     let all : List (List ℕ) = paths_from c.args.config.now.inputs c.args.from in
     asked_all all (g.H.Shelf.asked c.args.shelf.now) (g.H.Shelf.asked c.loop-index.shelf)
     (subst (λ (l : List (List ℕ)). HasAsked all l (g.H.Shelf.asked c.args.shelf.now) (g.H.Shelf.asked c.loop-index.shelf)) (paths_none c.args.config.now.inputs c.loop-index.index (omega (arith, ap length c.as_slice.ensures))) c.loop-index.invariant.asked)

@@ -10,7 +10,7 @@ loop-part-preserved g c = record {
       c.retire.ensures.failed (c.loop-part.invariant.failed any);
   sound = λ none. retired_sound g.S.Source.faults c.loop-part.parts.items c.pop.new.self.items c.in-Some.part c.in-Some.ensures.items (g.H.Shelf.faults c.args.shelf.now) (g.H.Shelf.faults c.loop-part.shelf) (g.H.Shelf.faults c.retire.new.self) c.loop-part.invariant.later c.retire.ensures.later
       c.retire.ensures.sound (c.loop-part.invariant.sound none);
-  opened = grind (arith, common_steps);
+  asked = grind (arith, common_steps);
   files = grind (arith, common_steps);
 }
 

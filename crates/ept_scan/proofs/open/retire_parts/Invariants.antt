@@ -8,7 +8,7 @@ invariant-loop-part g l = record {
   later : g.H.Shelf.faults l.initial.shelf ≤ g.H.Shelf.faults l.shelf;
   failed : HasFailed g.S.Source.faults l.initial.parts.items → HasFailed g.S.Source.faults l.parts.items ⊎ Rose (g.H.Shelf.faults l.initial.shelf) (g.H.Shelf.faults l.shelf);
   sound : (HasFailed g.S.Source.faults l.initial.parts.items → ⊥) → (HasFailed g.S.Source.faults l.parts.items → ⊥) × (g.H.Shelf.faults l.shelf ≡ g.H.Shelf.faults l.initial.shelf);
-  opened : g.H.Shelf.asked l.shelf ≡ g.H.Shelf.asked l.initial.shelf;
+  asked : g.H.Shelf.asked l.shelf ≡ g.H.Shelf.asked l.initial.shelf;
   files : g.H.Shelf.files l.shelf ≡ g.H.Shelf.files l.initial.shelf;
 }
 

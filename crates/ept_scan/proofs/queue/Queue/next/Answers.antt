@@ -21,7 +21,7 @@ true_from_not true e = refl
 true_from_not false e = sym e
 
 pub returns-in_err-drawn-clause-held : goal.returns-in_err-drawn-clause-held
-returns-in_err-drawn-clause-held g c = held_same g.S.Source.whole g.S.Source.left c.args.self.now.parts.items c.args.self.now.at c.index_mut.result.now c.draw_on.new.part c.requires.more c.index_mut.ensures.value c.draw_on.ensures.reading c.draw_on.ensures.points c.draw_on.ensures.whole
+returns-in_err-drawn-clause-held g c = held_same g.S.Source.whole g.S.Source.left c.args.self.now.parts.items c.args.self.now.at c.index_mut.result.now c.draw_on.new.part c.requires.more c.index_mut.ensures.value c.draw_on.ensures.reading c.draw_on.ensures.points c.draw_on.ensures.same
 
 pub returns-in_err-drawn-clause-unchanged : goal.returns-in_err-drawn-clause-unchanged
 returns-in_err-drawn-clause-unchanged g c points rest source number is =
@@ -43,7 +43,7 @@ returns-then-not-drawn-clause-rewound g c all = rewound_same g.S.Source.whole g.
 pub returns-clause-rewound : goal.returns-clause-rewound
 returns-clause-rewound g c all =
     let end = c.in_ok-drawn.ensures.last (true_from_not c.in_ok-drawn.drawn.last c.if-not-drawn.false) in
-    rewound_past g.S.Source.whole g.S.Source.left c.args.self.now.parts.items c.args.self.now.at c.index_mut.result.now c.draw_on.new.part c.requires.more c.index_mut.ensures.value all (end.1 ∙ sym c.draw_on.ensures.whole)
+    rewound_past g.S.Source.whole g.S.Source.left c.args.self.now.parts.items c.args.self.now.at c.index_mut.result.now c.draw_on.new.part c.requires.more c.index_mut.ensures.value all (end.1 ∙ sym c.draw_on.ensures.same)
 
 pub returns-then-not-drawn-clause-drawn : goal.returns-then-not-drawn-clause-drawn
 returns-then-not-drawn-clause-drawn g c =
@@ -70,12 +70,12 @@ returns-then-not-drawn-clause-queue g c =
     let stood = stands_old g.S.Source.whole g.S.Source.left c.args.self.now.parts.items c.args.self.now.at c.index_mut.result.now c.draw_on.new.part c.requires.more c.index_mut.ensures.value c.args.self.now.cursor c.args.self.now.window c.requires.queue.stands in
     record {
       within = simp length-set c.requires.queue.within;
-      stands = stands_on g.S.Source.whole g.S.Source.left c.args.self.now.parts.items c.args.self.now.at c.index_mut.result.now c.draw_on.new.part c.requires.more c.index_mut.ensures.value c.draw_on.new.cursor c.draw_on.new.window (current_new g.S.Source.whole g.S.Source.left c.args.self.now.parts.items c.args.self.now.at c.index_mut.result.now c.draw_on.new.part c.requires.more c.index_mut.ensures.value c.draw_on.ensures.reading c.draw_on.ensures.points c.draw_on.ensures.whole c.draw_on.new.cursor c.draw_on.new.window on.0 on.1) stood.1;
-      limited = limited_same g.S.Source.whole g.S.Source.left c.args.self.now.parts.items c.args.self.now.at c.index_mut.result.now c.draw_on.new.part c.requires.more c.index_mut.ensures.value c.draw_on.ensures.reading c.draw_on.ensures.points c.draw_on.ensures.whole c.requires.queue.limited;
+      stands = stands_on g.S.Source.whole g.S.Source.left c.args.self.now.parts.items c.args.self.now.at c.index_mut.result.now c.draw_on.new.part c.requires.more c.index_mut.ensures.value c.draw_on.new.cursor c.draw_on.new.window (current_new g.S.Source.whole g.S.Source.left c.args.self.now.parts.items c.args.self.now.at c.index_mut.result.now c.draw_on.new.part c.requires.more c.index_mut.ensures.value c.draw_on.ensures.reading c.draw_on.ensures.points c.draw_on.ensures.same c.draw_on.new.cursor c.draw_on.new.window on.0 on.1) stood.1;
+      limited = limited_same g.S.Source.whole g.S.Source.left c.args.self.now.parts.items c.args.self.now.at c.index_mut.result.now c.draw_on.new.part c.requires.more c.index_mut.ensures.value c.draw_on.ensures.reading c.draw_on.ensures.points c.draw_on.ensures.same c.requires.queue.limited;
     }
 
 pub returns-then-not-drawn-clause-held : goal.returns-then-not-drawn-clause-held
-returns-then-not-drawn-clause-held g c = held_same g.S.Source.whole g.S.Source.left c.args.self.now.parts.items c.args.self.now.at c.index_mut.result.now c.draw_on.new.part c.requires.more c.index_mut.ensures.value c.draw_on.ensures.reading c.draw_on.ensures.points c.draw_on.ensures.whole
+returns-then-not-drawn-clause-held g c = held_same g.S.Source.whole g.S.Source.left c.args.self.now.parts.items c.args.self.now.at c.index_mut.result.now c.draw_on.new.part c.requires.more c.index_mut.ensures.value c.draw_on.ensures.reading c.draw_on.ensures.points c.draw_on.ensures.same
 
 pub returns-then-not-drawn-clause-lies : goal.returns-then-not-drawn-clause-lies
 returns-then-not-drawn-clause-lies g c = lies_is g.S.Source.whole g.S.Source.left c.args.self.now.parts.items c.args.self.now.at c.index_mut.result.now c.draw_on.new.part c.requires.more c.index_mut.ensures.value c.in_ok-drawn.drawn.point c.requires.queue.limited c.in_ok-drawn.ensures.origin c.in_ok-drawn.ensures.allowed
@@ -83,10 +83,10 @@ returns-then-not-drawn-clause-lies g c = lies_is g.S.Source.whole g.S.Source.lef
 pub returns-then-not-drawn-clause-rest : goal.returns-then-not-drawn-clause-rest
 returns-then-not-drawn-clause-rest g c points rest =
     let stood = stands_old g.S.Source.whole g.S.Source.left c.args.self.now.parts.items c.args.self.now.at c.index_mut.result.now c.draw_on.new.part c.requires.more c.index_mut.ensures.value c.args.self.now.cursor c.args.self.now.window c.requires.queue.stands in
-    rest_on g.S.Source.whole g.S.Source.left c.args.self.now.parts.items c.args.self.now.at c.index_mut.result.now c.draw_on.new.part c.requires.more c.index_mut.ensures.value c.args.self.now.cursor.number points rest c.in_ok-drawn.drawn.point stood.0.more c.in_ok-drawn.ensures.record c.draw_on.new.cursor.number (held_is g.S.Source.whole g.S.Source.left c.args.self.now.parts.items c.args.self.now.at c.index_mut.result.now c.draw_on.new.part c.requires.more c.index_mut.ensures.value c.draw_on.ensures.reading c.draw_on.ensures.points c.draw_on.ensures.whole) (sym c.in_ok-drawn.ensures.next)
+    rest_on g.S.Source.whole g.S.Source.left c.args.self.now.parts.items c.args.self.now.at c.index_mut.result.now c.draw_on.new.part c.requires.more c.index_mut.ensures.value c.args.self.now.cursor.number points rest c.in_ok-drawn.drawn.point stood.0.more c.in_ok-drawn.ensures.record c.draw_on.new.cursor.number (held_is g.S.Source.whole g.S.Source.left c.args.self.now.parts.items c.args.self.now.at c.index_mut.result.now c.draw_on.new.part c.requires.more c.index_mut.ensures.value c.draw_on.ensures.reading c.draw_on.ensures.points c.draw_on.ensures.same) (sym c.in_ok-drawn.ensures.next)
 
 pub returns-then-not-drawn-clause-near : goal.returns-then-not-drawn-clause-near
-returns-then-not-drawn-clause-near g c near = near_same g.S.Source.whole g.S.Source.left c.args.self.now.parts.items c.args.self.now.at c.index_mut.result.now c.draw_on.new.part c.requires.more c.index_mut.ensures.value c.draw_on.ensures.reading c.draw_on.ensures.points c.draw_on.ensures.whole c.draw_on.ensures.far near
+returns-then-not-drawn-clause-near g c near = near_same g.S.Source.whole g.S.Source.left c.args.self.now.parts.items c.args.self.now.at c.index_mut.result.now c.draw_on.new.part c.requires.more c.index_mut.ensures.value c.draw_on.ensures.reading c.draw_on.ensures.points c.draw_on.ensures.same c.draw_on.ensures.far near
 
 pub returns-then-not-drawn-clause-faults : goal.returns-then-not-drawn-clause-faults
 returns-then-not-drawn-clause-faults g c any = faults_kept g.S.Source.whole g.S.Source.left c.args.self.now.parts.items c.args.self.now.at c.index_mut.result.now c.draw_on.new.part c.requires.more c.index_mut.ensures.value g.S.Source.faults c.draw_on.ensures.cause.later any
@@ -98,11 +98,11 @@ returns-clause-queue g c =
     record {
       within = simp length-set (omega (arith, c.requires.more));
       stands = stands_past g.S.Source.whole g.S.Source.left c.args.self.now.parts.items c.args.self.now.at c.index_mut.result.now c.draw_on.new.part c.requires.more c.index_mut.ensures.value c.before-self.result c.draw_on.new.window c.before-self.ensures.header c.before-self.ensures.number stood.1;
-      limited = limited_same g.S.Source.whole g.S.Source.left c.args.self.now.parts.items c.args.self.now.at c.index_mut.result.now c.draw_on.new.part c.requires.more c.index_mut.ensures.value c.draw_on.ensures.reading c.draw_on.ensures.points c.draw_on.ensures.whole c.requires.queue.limited;
+      limited = limited_same g.S.Source.whole g.S.Source.left c.args.self.now.parts.items c.args.self.now.at c.index_mut.result.now c.draw_on.new.part c.requires.more c.index_mut.ensures.value c.draw_on.ensures.reading c.draw_on.ensures.points c.draw_on.ensures.same c.requires.queue.limited;
     }
 
 pub returns-clause-held : goal.returns-clause-held
-returns-clause-held g c = held_same g.S.Source.whole g.S.Source.left c.args.self.now.parts.items c.args.self.now.at c.index_mut.result.now c.draw_on.new.part c.requires.more c.index_mut.ensures.value c.draw_on.ensures.reading c.draw_on.ensures.points c.draw_on.ensures.whole
+returns-clause-held g c = held_same g.S.Source.whole g.S.Source.left c.args.self.now.parts.items c.args.self.now.at c.index_mut.result.now c.draw_on.new.part c.requires.more c.index_mut.ensures.value c.draw_on.ensures.reading c.draw_on.ensures.points c.draw_on.ensures.same
 
 pub returns-clause-lies : goal.returns-clause-lies
 returns-clause-lies g c = lies_is g.S.Source.whole g.S.Source.left c.args.self.now.parts.items c.args.self.now.at c.index_mut.result.now c.draw_on.new.part c.requires.more c.index_mut.ensures.value c.in_ok-drawn.drawn.point c.requires.queue.limited c.in_ok-drawn.ensures.origin c.in_ok-drawn.ensures.allowed
@@ -114,7 +114,7 @@ returns-clause-rest g c points rest =
     rest_past_at g.S.Source.whole g.S.Source.left c.args.self.now.parts.items c.args.self.now.at c.index_mut.result.now c.draw_on.new.part c.requires.more c.index_mut.ensures.value c.args.self.now.cursor.number points rest c.in_ok-drawn.drawn.point stood.0.more c.in_ok-drawn.ensures.record c.before-self.result.number c.before-self.ensures.number (sym c.in_ok-drawn.ensures.next ∙ end.0)
 
 pub returns-clause-near : goal.returns-clause-near
-returns-clause-near g c near = near_same g.S.Source.whole g.S.Source.left c.args.self.now.parts.items c.args.self.now.at c.index_mut.result.now c.draw_on.new.part c.requires.more c.index_mut.ensures.value c.draw_on.ensures.reading c.draw_on.ensures.points c.draw_on.ensures.whole c.draw_on.ensures.far near
+returns-clause-near g c near = near_same g.S.Source.whole g.S.Source.left c.args.self.now.parts.items c.args.self.now.at c.index_mut.result.now c.draw_on.new.part c.requires.more c.index_mut.ensures.value c.draw_on.ensures.reading c.draw_on.ensures.points c.draw_on.ensures.same c.draw_on.ensures.far near
 
 pub returns-clause-faults : goal.returns-clause-faults
 returns-clause-faults g c any = faults_kept g.S.Source.whole g.S.Source.left c.args.self.now.parts.items c.args.self.now.at c.index_mut.result.now c.draw_on.new.part c.requires.more c.index_mut.ensures.value g.S.Source.faults c.draw_on.ensures.cause.later any

@@ -3,7 +3,7 @@ use Rattle.ept_point.specs.declared.point.Point.{Point}
 use Rattle.ept_scan.specs.declared.read_error.ReadError.{ReadError}
 use Rattle.ept_scan.specs.Queue.{AreDrawn}
 use Rattle.ept_scan.specs.Reader.{files_of}
-use Rattle.ept_scan.proofs.reader.Reader.next_batch.Goals as goal
+use Rattle.ept_scan.proofs.second_reading.Reader.next_batch.Goals as goal
 
 pub returns-in-Err-clause-unchanged : goal.returns-in-Err-clause-unchanged
 returns-in-Err-clause-unchanged g c points rest free source number is = c.in-Err.ensures.unchanged points rest source number is
