@@ -47,7 +47,8 @@ fn main(rt: HostRuntime) -> ExitCode {
         Err(refusal) => (Vec::new(alloc), refuse(alloc, &mut out, refusal)),
     };
     if status != OK {
-        tell(&rt, &words, status, out.line(), shelf.refused());
+        let unread = shelf.refused().unwrap_or("a file");
+        tell(&rt, &words, status, out.line(), unread);
     }
     ExitCode::from(status)
 }
@@ -87,11 +88,11 @@ fn start<O: Sink>(
 }
 
 // Says on standard error what was wrong: what the line says, in words, or else what the status says.
-fn tell(rt: &HostRuntime, words: &[String], status: u8, line: &str, refused: Option<&str>) {
+fn tell(rt: &HostRuntime, words: &[String], status: u8, line: &str, unread: &str) {
     let alloc = rt.alloc();
     let mut shelf = RealShelf::new(alloc, rt);
     // A message that can't be written changes no status.
-    let _ = match message(alloc, words, line, refused, &mut shelf) {
+    let _ = match message(alloc, words, line, unread, &mut shelf) {
         Ok(Some(sentence)) => eprintln!(rt; "ept_tool: {sentence}"),
         _ => eprintln!(rt; "ept_tool: {}", plain(status)),
     };

@@ -34,9 +34,8 @@ fn expect(
     let mut files = Vec::new(alloc);
     files.push(file(alloc, "survey.json", configuration.as_bytes())?)?;
     let mut shelf = MemShelf::new(alloc, files, Vec::new(alloc), Vec::new(alloc));
-    let refused = Some("flights/b.las");
     let (line, want) = row;
-    let Ok(found) = message(alloc, &words, line, refused, &mut shelf) else {
+    let Ok(found) = message(alloc, &words, line, "flights/b.las", &mut shelf) else {
         return Err(AllocError);
     };
     assert_eq!(rt; found.as_ref().map(|text| text.as_str()), want, "{line}");

@@ -28,13 +28,13 @@ const KEYS: [ConfigKey; 13] = [
 ];
 
 /// Why these words did not end with status 0, after this line was written, or was to be. `unread` is the
-/// file that could not be read, if there was one. The configuration is read again where an input or a key of
+/// file that could not be opened or read, or what stands for it. The configuration is read again where an input or a key of
 /// it is to be named. Nothing is answered where there is nothing to say but what the status says.
 pub(crate) fn message<'x, H: Shelf>(
     alloc: Global,
     words: &'x [String],
     line: &str,
-    unread: Option<&'x str>,
+    unread: &'x str,
     shelf: &mut H,
 ) -> Result<Option<String>, Refusal> {
     let Some(told) = read_line(line) else {
@@ -42,7 +42,6 @@ pub(crate) fn message<'x, H: Shelf>(
     };
     match command_of(words) {
         Command::Build { config, out } => {
-            let unread = unread.unwrap_or("a file");
             let names = Names {
                 config,
                 out,

@@ -14,7 +14,7 @@ ghost use Rattle.ept_tool.specs.Answers.{Yields, YieldsRefusal, AsksBuild, AsksI
 
 use crate::answers::{finish, refuse_usage};
 use crate::commands::{build_line, info_line};
-use crate::status::{DEVICE, NOT_BUILT, OK, USAGE};
+use crate::status::NOT_BUILT;
 use crate::words::{Command, command_of};
 use ept_base::{Gate, Room, Shelf, Sink, Store};
 use std::alloc::Global;
