@@ -9,7 +9,7 @@ use Rattle.ept_ckpt.specs.Facts.{CheckpointFacts, facts}
 use Rattle.ept_ckpt.specs.Body.{body}
 use Rattle.ept_ckpt.specs.Forms.{fields}
 use Rattle.ept_ckpt.specs.Octree.{AreNodesOf}
-use Rattle.ept_ckpt.specs.Refusals.{Refuses}
+use Rattle.ept_ckpt.specs.Refusals.{RefusesBody}
 use Rattle.ept_ckpt.proofs.WrittenBodies.{written}
 use Rattle.ept_ckpt.proofs.ReadBodies.{read_back}
 use Rattle.ept_ckpt.proofs.FactsTell.{checkpoint_same}
@@ -35,7 +35,7 @@ module _ (bytes : List ℕ) (c : Checkpoint) (is : bytes ≡ body (facts c)) whe
   reads = subst (λ (w : List ℕ). fields (length w) w ≡ Ok (facts c, [])) (sym is) (written c)
 
   -- a body is refused for want of memory alone
-  memory_only : (e : CkptError) → (e ≢ Memory → Refuses bytes e) → e ≡ Memory
+  memory_only : (e : CkptError) → (e ≢ Memory → RefusesBody bytes e) → e ≡ Memory
   memory_only Memory refused = refl
   memory_only Length refused = absurd (never_both (facts c) _ (sym reads ∙ refused (λ same. cc)))
   memory_only Version refused = absurd (never_both (facts c) _ (sym reads ∙ refused (λ same. cc)))
@@ -44,7 +44,7 @@ module _ (bytes : List ℕ) (c : Checkpoint) (is : bytes ≡ body (facts c)) whe
       let found = refused (λ same. cc) in
       absurd (found.no_octree (subst (λ (f : CheckpointFacts). AreNodesOf f.inserted f.nodes) (same_facts (facts c) found.read (sym reads ∙ found.reads)) c.is_checkpoint.nodes_are))
 
-  pub comes_back : (result : Result Checkpoint CkptError) → IfOk result (λ found. fields (length bytes) bytes ≡ Ok (facts found, [])) → IfErr result (λ e. e ≢ Memory → Refuses bytes e)
+  pub comes_back : (result : Result Checkpoint CkptError) → IfOk result (λ found. fields (length bytes) bytes ≡ Ok (facts found, [])) → IfErr result (λ e. e ≢ Memory → RefusesBody bytes e)
       → IfOk result (λ found. found ≡ c) × IfErr result (λ e. e ≡ Memory)
   comes_back (Ok found) found_reads refused = (checkpoint_same found c (same_facts (facts found) (facts c) (sym found_reads ∙ reads)), tt)
   comes_back (Err e) found_reads refused = (tt, memory_only e refused)

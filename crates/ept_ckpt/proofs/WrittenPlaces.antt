@@ -1,5 +1,5 @@
 -- Places, bounds and shifts that are written read back.
-use Rattle.std.proofs.Common.{◌≡◌, ℕ, ◌^◌, ◌<◌, ◌≤◌, ℤ, true, List, [], ◌∷◌, ◌++◌, length, Ok, refl, arith, append_assoc, FitsSigned, nat_le, ◌&&◌}
+use Rattle.std.proofs.Common.{◌≡◌, ℕ, ◌^◌, ◌<◌, ◌≤◌, ℤ, true, List, [], ◌∷◌, ◌++◌, Ok, refl, arith, append_assoc, FitsSigned, nat_le, ◌&&◌}
 use Rattle.std.specs.Prelude.{◌≤ℤ◌, int_le, unsigned_abs}
 use Rattle.std.specs.Int.{w32, w64, cast_unsigned}
 use Rattle.std.proofs.lemmas.Bool.{le-leb}

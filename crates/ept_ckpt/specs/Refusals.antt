@@ -22,9 +22,9 @@ pub record HasNoOctree (bytes : List ℕ) : Type 0 where
   pub no_octree : ¬ AreNodesOf read.inserted read.nodes
 
 -- the first fault in the order of the fields, and at last that of the octree
-abbrev pub Refuses : List ℕ → CkptError → Type 0
-Refuses bytes Length = fields (length bytes) bytes ≡ Err field.Length
-Refuses bytes Version = fields (length bytes) bytes ≡ Err field.Version
-Refuses bytes (Field at) = fields (length bytes) bytes ≡ Err (field.Field at)
-Refuses bytes Tree = HasNoOctree bytes
-Refuses bytes Memory = ⊥
+abbrev pub RefusesBody : List ℕ → CkptError → Type 0
+RefusesBody bytes Length = fields (length bytes) bytes ≡ Err field.Length
+RefusesBody bytes Version = fields (length bytes) bytes ≡ Err field.Version
+RefusesBody bytes (Field at) = fields (length bytes) bytes ≡ Err (field.Field at)
+RefusesBody bytes Tree = HasNoOctree bytes
+RefusesBody bytes Memory = ⊥

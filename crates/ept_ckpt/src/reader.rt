@@ -7,7 +7,7 @@ ghost use Rattle.ept_ckpt.specs.Body.{body};
 ghost use Rattle.ept_ckpt.specs.Facts.{facts, draft_facts, kept_facts, settings_facts};
 ghost use Rattle.ept_ckpt.specs.Forms.{fields};
 ghost use Rattle.ept_ckpt.specs.Octree.{AreNodesOf};
-ghost use Rattle.ept_ckpt.specs.Refusals.{Refuses};
+ghost use Rattle.ept_ckpt.specs.Refusals.{RefusesBody};
 
 use crate::checkpoint::Checkpoint;
 use crate::ckpt_error::CkptError;
@@ -35,7 +35,7 @@ pub fn read_ckpt(alloc: Global, bytes: &[u8]) -> Result<Checkpoint, CkptError>
     ensures read { IfOk result (λ c. bytes.now ≡ body (facts c)) }
     ensures comes { (c : kept.Checkpoint) → bytes.now ≡ body (facts c)
         → IfOk result (λ found. found ≡ c) × IfErr result (λ e. e ≡ CkptError.Memory) }
-    ensures refused { IfErr result (λ e. e ≢ CkptError.Memory → Refuses bytes.now e) }
+    ensures refused { IfErr result (λ e. e ≢ CkptError.Memory → RefusesBody bytes.now e) }
 {
     read(alloc, bytes)
 }
@@ -43,7 +43,7 @@ pub fn read_ckpt(alloc: Global, bytes: &[u8]) -> Result<Checkpoint, CkptError>
 // Reads a checkpoint, by its fields.
 fn read(alloc: Global, bytes: &[u8]) -> Result<Checkpoint, CkptError>
     ensures read { IfOk result (λ c. fields (length bytes.now) bytes.now ≡ Ok (facts c, [])) }
-    ensures refused { IfErr result (λ e. e ≢ CkptError.Memory → Refuses bytes.now e) }
+    ensures refused { IfErr result (λ e. e ≢ CkptError.Memory → RefusesBody bytes.now e) }
 {
     let draft = draft_of(alloc, bytes)?;
     if !are_nodes_of(draft.inserted, draft.nodes.as_slice()) {
