@@ -21,7 +21,7 @@ use Rattle.ept_scan.specs.Scans.{in_order}
 use Rattle.ept_base.specs.Causes.{Rose}
 use Rattle.ept_scan.specs.Reach.{ReadsNoFurther, TakesOfFile}
 use Rattle.ept_scan.specs.Places.{StandsAt, GivenAt}
-use Rattle.ept_scan.specs.Changes.{IsChange, IfChanged, Differs, HasRecord}
+use Rattle.ept_scan.specs.Changes.{IsChange, IfChanged, HasRecord}
 use Rattle.ept_scan.specs.Queue.{Held, HoldsPoints, AreRest, LiesIn, IsNext, IsDrawn, HasChanged, held, IsAtFront, IsUnread, IsCurrent, StandsBefore, IsLimited}
 use Rattle.ept_scan.proofs.Once.{not_changed, same_record}
 

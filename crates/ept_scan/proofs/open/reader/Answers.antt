@@ -1,5 +1,5 @@
 use Rattle.std.proofs.Common.{refl, ap, ◌-◌, ℕ, sym, subst, arith, length-take}
-use Rattle.std.proofs.Common.{◌≡◌, List, Option, Result, take, drop}
+use Rattle.std.proofs.Common.{List, Option, Result, take}
 use Rattle.std.proofs.lemmas.Result.{err_from_is_err_and}
 use Rattle.ept_scan.specs.declared.read_error.ReadError.{ReadError}
 use Rattle.ept_scan.specs.Asking.{AsksFor, OpensThese, paths_left}
