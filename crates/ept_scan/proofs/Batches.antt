@@ -11,7 +11,7 @@ use Rattle.ept_scan.specs.declared.read_error.ReadError.TheVariants.{SourceFault
 use Rattle.ept_scan.specs.declared.queue.Queue.{Queue}
 use Rattle.ept_scan.specs.declared.part.Part.{Part}
 use Rattle.ept_scan.specs.Changes.{IfChanged}
-use Rattle.ept_scan.specs.Queue.{Held, LiesIn, IsDrawn, AreDrawn, HasChanged, IsFirstChanged, held_of, RestOf, records_left, HasFault, IsQueue, AreNear, AreRewound}
+use Rattle.ept_scan.specs.Queue.{Held, LiesIn, IsDrawn, AreDrawn, HasChanged, IsFirstChanged, held_of, RestOf, records_left, HasFault, IsQueue, AreNear, AreRewound, GiveNoMore}
 
 empty_is : {X : Type 0} (xs : List X) → length xs ≡ 0 → xs ≡ []
 empty_is [] none = refl
@@ -42,10 +42,10 @@ module _ {S : Type 0} (queue : Queue S) where
   pub at_file : 0 < records_left queue → queue.at < length queue.parts.items
   at_file some = ⊎_elim (λ (lt : queue.at < length queue.parts.items). lt) (λ (past : length queue.parts.items ≤ queue.at). absurd (omega (arith, some, none_left past))) (cases_lt queue.at (length queue.parts.items))
 
-module _ {S : Type 0} (whole left : S → Option (List ℕ)) (faults : S → ℕ) (first : Queue S) (before : List Point) where
+module _ {S : Type 0} (whole left : S → Option (List ℕ)) (given : S → ℕ) (faults : S → ℕ) (first : Queue S) (before : List Point) where
   -- so many records were drawn so far
   pub record HasDrawn (queue : Queue S) (out : List Point) (k : ℕ) : Type 0 where
-    pub stands : IsQueue whole left queue
+    pub stands : IsQueue whole left given queue
     pub files : held_of whole queue ≡ held_of whole first
     pub count : records_left queue + k ≡ records_left first
     pub drawn : List Point
@@ -56,12 +56,13 @@ module _ {S : Type 0} (whole left : S → Option (List ℕ)) (faults : S → ℕ
     pub rest : (points : List Point) → RestOf whole first points → (out ≡ before ++ take k points) × RestOf whole queue (drop k points)
     pub near : AreNear whole left first → AreNear whole left queue
     pub rewound : AreRewound whole left first → AreRewound whole left queue
+    pub taken : GiveNoMore whole given first → GiveNoMore whole given queue
     pub fault : HasFault faults first → HasFault faults queue
 
   left_now : (queue : Queue S) (out : List Point) (k : ℕ) → (so_far : HasDrawn queue out k) → records_left queue ≡ records_left first - length so_far.drawn
   left_now queue out k so_far = omega (arith, so_far.count, so_far.size)
 
-  pub drawn_none : IsQueue whole left first → HasDrawn first before 0
+  pub drawn_none : IsQueue whole left given first → HasDrawn first before 0
   drawn_none is = record {
     stands = is;
     files = refl;
@@ -74,13 +75,14 @@ module _ {S : Type 0} (whole left : S → Option (List ℕ)) (faults : S → ℕ
     rest = λ points rest. (sym (append-nil before), rest);
     near = λ near. near;
     rewound = λ rewound. rewound;
+    taken = λ taken. taken;
     fault = λ any. any;
   }
 
-  pub drawn_more : (queue next : Queue S) (out : List Point) (k : ℕ) (p : Point) → HasDrawn queue out k → IsQueue whole left next → held_of whole next ≡ held_of whole queue → records_left next + 1 ≡ records_left queue → LiesIn (held_of whole queue) p
+  pub drawn_more : (queue next : Queue S) (out : List Point) (k : ℕ) (p : Point) → HasDrawn queue out k → IsQueue whole left given next → held_of whole next ≡ held_of whole queue → records_left next + 1 ≡ records_left queue → LiesIn (held_of whole queue) p
       → IsDrawn (held_of whole queue) (records_left queue) p
-      → ((points : List Point) → RestOf whole queue points → (rest : List Point) × (points ≡ p ∷ rest) × RestOf whole next rest) → (AreNear whole left queue → AreNear whole left next) → (AreRewound whole left queue → AreRewound whole left next) → (HasFault faults queue → HasFault faults next) → HasDrawn next (out ++ p ∷ []) (k + 1)
-  drawn_more queue next out k p so_far is same less lies drawn rest near rewound fault = record {
+      → ((points : List Point) → RestOf whole queue points → (rest : List Point) × (points ≡ p ∷ rest) × RestOf whole next rest) → (AreNear whole left queue → AreNear whole left next) → (AreRewound whole left queue → AreRewound whole left next) → (GiveNoMore whole given queue → GiveNoMore whole given next) → (HasFault faults queue → HasFault faults next) → HasDrawn next (out ++ p ∷ []) (k + 1)
+  drawn_more queue next out k p so_far is same less lies drawn rest near rewound taken fault = record {
     stands = is;
     files = same ∙ so_far.files;
     count = omega (arith, less, so_far.count);
@@ -92,6 +94,7 @@ module _ {S : Type 0} (whole left : S → Option (List ℕ)) (faults : S → ℕ
     rest = λ points all. further points (so_far.rest points all);
     near = λ all. near (so_far.near all);
     rewound = λ all. rewound (so_far.rewound all);
+    taken = λ all. taken (so_far.taken all);
     fault = λ any. fault (so_far.fault any);
   }
     where

@@ -1,6 +1,6 @@
 -- Where the second reading begins.
 use Rattle.std.proofs.Common.{◌≡◌, ⊎_elim, inl, ℕ, zero, suc, ◌+◌, ◌-◌, ◌<◌, ◌≤◌, List, [], ◌∷◌, ◌++◌, Option, Some, None, length, take, drop, refl, sym, ◌∙◌, ap, subst, arith, length-append}
-use Rattle.std.specs.Prelude.{All, map, sum_by, slice_get}
+use Rattle.std.specs.Prelude.{All, map, sum_by}
 use Rattle.std.specs.List.{AllZip}
 use Rattle.std.proofs.lemmas.Bool.{cases_lt}
 use Rattle.std.proofs.lemmas.Grind.{flat_map-append}
@@ -17,14 +17,15 @@ use Rattle.ept_scan.specs.declared.reading.Reading.{Reading}
 use Rattle.ept_scan.specs.declared.part.Part.{Part}
 use Rattle.ept_scan.specs.declared.queue.Queue.{Queue}
 use Rattle.ept_scan.specs.Counts.{IsCountOf}
-use Rattle.ept_scan.specs.Places.{StandsAt}
-use Rattle.ept_scan.specs.Reach.{ReadsNoFurther}
+use Rattle.ept_scan.specs.Places.{StandsAt, GivenAt}
+use Rattle.ept_scan.specs.Reach.{ReadsNoFurther, TakesOfFile}
 use Rattle.ept_scan.specs.Scans.{in_order, ArePointsFrom}
-use Rattle.ept_scan.specs.Queue.{HoldsPoints, held, RestOf, records_left, IsUnread, StandsBefore, IsQueue, AreNear}
+use Rattle.ept_scan.specs.Queue.{HoldsPoints, held, RestOf, records_left, IsUnread, StandsBefore, IsQueue, AreNear, GiveNoMore}
 use Rattle.ept_config.specs.Counts.{total}
 use Rattle.ept_scan.specs.Opening.{IsKeptScan, StartsAt, AreHeld, IsFileOf, HasOpened}
 use Rattle.ept_scan.proofs.Listing.{zip_length}
 use Rattle.ept_scan.proofs.Asked.{some_of}
+use Rattle.ept_scan.proofs.Taking.{taken_none}
 
 -- the lengths of the first lists are those that the counts state
 total_length : (lists : List (List Point)) (counts : List SourceCount) (n : ℕ) → AllZip IsCountOf lists counts → length (in_order (take n lists)) ≡ total (take n counts)
@@ -49,8 +50,8 @@ near_front reading whole left front = subst (λ (o : Option (List ℕ)). ReadsNo
     same None = tt
     same (Some file) = inl (omega arith)
 
-module _ {S : Type 0} (whole left : S → Option (List ℕ)) (faults : S → ℕ) (files : Option Files) (kept : Kept) (counts : List SourceCount) (drawn index : ℕ) (queue : Queue S) (at : queue.at ≡ 0) (header : queue.cursor.header ≡ None)
-    (starts : StartsAt counts drawn index queue.cursor.number) (opened : HasOpened whole left faults files kept counts index (length counts) queue.parts.items) where
+module _ {S : Type 0} (whole left : S → Option (List ℕ)) (given : S → ℕ) (faults : S → ℕ) (files : Option Files) (kept : Kept) (counts : List SourceCount) (drawn index : ℕ) (queue : Queue S) (at : queue.at ≡ 0) (header : queue.cursor.header ≡ None)
+    (starts : StartsAt counts drawn index queue.cursor.number) (opened : HasOpened whole left given faults files kept counts index (length counts) queue.parts.items) where
   number_none : queue.parts.items ≡ [] → queue.cursor.number ≡ 0
   number_none none =
       ⊎_elim (λ (lt : index < length counts). absurd (some lt)) (λ (end : length counts ≤ index). starts.end end) (cases_lt index (length counts))
@@ -72,27 +73,31 @@ module _ {S : Type 0} (whole left : S → Option (List ℕ)) (faults : S → ℕ
           let same : p ≡ first.0 = same_head p first.0 parts first.1 (sym is ∙ first.2) in
           omega (arith, starts.more count.0 count.1, first.3, ap (λ (q : Part S). q.points) same)
 
-  front : (parts : List (Part S)) → queue.parts.items ≡ parts → StandsBefore whole left parts queue.cursor queue.window
+  front : (parts : List (Part S)) → queue.parts.items ≡ parts → StandsBefore whole left given parts queue.cursor queue.window
   front [] is = number_none is
   front (p ∷ parts) is =
-      let unread : All (IsUnread whole left) (p ∷ parts) = subst (All (IsUnread whole left)) is opened.unread in
-      let mine : IsUnread whole left p = All-head (IsUnread whole left) p parts unread in (
+      let unread : All (IsUnread whole left given) (p ∷ parts) = subst (All (IsUnread whole left given)) is opened.unread in
+      let mine : IsUnread whole left given p = All-head (IsUnread whole left given) p parts unread in (
         record {
           more = first_more p parts is;
           at = subst (λ (h : Option Header). StandsAt p.reading p.points (whole p.source) (left p.source) queue.window queue.cursor.number h) (sym header) mine.front;
+          given_at = subst (λ (h : Option Header). GivenAt (given p.source) queue.window queue.cursor.number h) (sym header) mine.unread;
         },
-        All-tail (IsUnread whole left) p parts unread,
+        All-tail (IsUnread whole left given) p parts unread,
       )
 
-  pub begun_queue : IsQueue whole left queue
+  pub begun_queue : IsQueue whole left given queue
   begun_queue = record {
     within = omega (arith, at);
-    stands = subst (λ (n : ℕ). StandsBefore whole left (drop n queue.parts.items) queue.cursor queue.window) (sym at) (front queue.parts.items refl);
+    stands = subst (λ (n : ℕ). StandsBefore whole left given (drop n queue.parts.items) queue.cursor queue.window) (sym at) (front queue.parts.items refl);
     limited = opened.limited;
   }
 
   pub begun_near : AreNear whole left queue
-  begun_near = All-weaker (IsUnread whole left) (λ part. ReadsNoFurther part.reading (whole part.source) (left part.source)) (λ part unread. near_front part.reading (whole part.source) (left part.source) unread.front) queue.parts.items opened.unread
+  begun_near = All-weaker (IsUnread whole left given) (λ part. ReadsNoFurther part.reading (whole part.source) (left part.source)) (λ part unread. near_front part.reading (whole part.source) (left part.source) unread.front) queue.parts.items opened.unread
+
+  pub begun_given : GiveNoMore whole given queue
+  begun_given = All-weaker (IsUnread whole left given) (λ part. Tells (λ file. TakesOfFile part.reading file 0 (given part.source)) (whole part.source)) (λ part unread. taken_none part.reading (whole part.source) (given part.source) unread.unread) queue.parts.items opened.unread
 
   pub begun_count : (n : ℕ) → drawn ≤ total counts → n ≡ total counts - drawn → records_left queue ≡ n
   begun_count n within is =

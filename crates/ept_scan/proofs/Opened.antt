@@ -44,14 +44,14 @@ zero_plus i = omega arith
 one_count : (counts : List SourceCount) (i : ℕ) (a d : SourceCount) → slice_get counts i ≡ Some a → get_or counts i d ≡ a
 one_count counts i a d is = get_or_from_slice_get counts i a d is
 
-module _ {S : Type 0} (whole left : S → Option (List ℕ)) (faults : S → ℕ) (files : Option Files) (kept : Kept) (counts : List SourceCount) (each : length counts ≡ length kept.inputs) (from : ℕ) where
+module _ {S : Type 0} (whole left : S → Option (List ℕ)) (given : S → ℕ) (faults : S → ℕ) (files : Option Files) (kept : Kept) (counts : List SourceCount) (each : length counts ≡ length kept.inputs) (from : ℕ) where
   lists_none : (files : Option Files) → Tells (λ all. (lists : List (List Point)) → ArePointsFrom all kept.scale (Some kept.bounds) kept.inputs 0 (length kept.inputs) lists → AllZip IsCountOf lists counts → AreHeld whole [] (drop from (take from lists))) files
   lists_none None = tt
   lists_none (Some all) = λ lists are zip. record { mine = []; hold = tt; same = sym (part_none lists from) }
 
-  pub opened_none : HasOpened whole left faults files kept counts from from []
+  pub opened_none : HasOpened whole left given faults files kept counts from from []
   opened_none = record {
-    unread = All-nil (IsUnread whole left);
+    unread = All-nil (IsUnread whole left given);
     limited = All-nil IsLimited;
     known = All-nil (λ part. IsFileOf kept counts (held whole part));
     fresh = All-nil (λ part. faults part.source ≡ 0);
@@ -61,7 +61,7 @@ module _ {S : Type 0} (whole left : S → Option (List ℕ)) (faults : S → ℕ
     holds = lists_none files;
   }
 
-  module _ (i : ℕ) (d : SourceCount) (le : from ≤ i) (lt : i < length counts) (parts : List (Part S)) (so_far : HasOpened whole left faults files kept counts from i parts) where
+  module _ (i : ℕ) (d : SourceCount) (le : from ≤ i) (lt : i < length counts) (parts : List (Part S)) (so_far : HasOpened whole left given faults files kept counts from i parts) where
     -- an input without points is left out
     module _ (none : (get_or counts i d).extent ≡ None) (zero : (get_or counts i d).points ≡ 0) where
       skip_first : (count : SourceCount) → slice_get counts from ≡ Some count → 0 < count.points → from < i + 1 → (part : Part S) × (others : List (Part S)) × (parts ≡ part ∷ others) × (part.points ≡ count.points)
@@ -82,7 +82,7 @@ module _ {S : Type 0} (whole left : S → Option (List ℕ)) (faults : S → ℕ
           let empty : get_or lists i [] ≡ [] = extent_none (get_or counts i d).extent (get_or lists i []) none (zip_at IsCountOf lists counts i [] d zip lt).has_extent in
           record { mine = held.mine; hold = held.hold; same = held.same ∙ sym (part_more lists from i le size ∙ ap (λ (l : List Point). in_order (drop from (take i lists)) ++ l) empty ∙ append-nil (in_order (drop from (take i lists)))) }
 
-      pub opened_skip : HasOpened whole left faults files kept counts from (i + 1) parts
+      pub opened_skip : HasOpened whole left given faults files kept counts from (i + 1) parts
       opened_skip = record {
         unread = so_far.unread;
         limited = so_far.limited;
@@ -96,7 +96,7 @@ module _ {S : Type 0} (whole left : S → Option (List ℕ)) (faults : S → ℕ
 
     -- one with points is opened
     module _ (extent : Bounds) (p : Part S) (input : Input) (is_extent : (get_or counts i d).extent ≡ Some extent) (some : 0 < (get_or counts i d).points) (points : p.points ≡ (get_or counts i d).points) (is : slice_get kept.inputs i ≡ Some input)
-        (reads : IsReadingOf kept.scale (Some extent) i input p.reading) (opens : Opens files input.path (whole p.source) (left p.source)) (fresh : faults p.source ≡ 0) where
+        (reads : IsReadingOf kept.scale (Some extent) i input p.reading) (opens : Opens files input.path (whole p.source) (left p.source)) (fresh : faults p.source ≡ 0) (unread : given p.source ≡ 0) where
       more_first : (count : SourceCount) → slice_get counts from ≡ Some count → 0 < count.points → from < i + 1 → (part : Part S) × (others : List (Part S)) × (parts ++ p ∷ [] ≡ part ∷ others) × (part.points ≡ count.points)
       more_first count at_from positive within =
           ⊎_elim (λ (before : from < i). earlier (so_far.first count at_from positive before)) (λ (here : i ≤ from). newest (omega (arith, here, le))) (cases_lt from i)
@@ -134,9 +134,9 @@ module _ {S : Type 0} (whole left : S → Option (List ℕ)) (faults : S → ℕ
             points_are = points;
           }
 
-      pub opened_more : HasOpened whole left faults files kept counts from (i + 1) (parts ++ p ∷ [])
+      pub opened_more : HasOpened whole left given faults files kept counts from (i + 1) (parts ++ p ∷ [])
       opened_more = record {
-        unread = All-push (IsUnread whole left) parts p so_far.unread (record { some = omega (arith, some, points); front = opens.at_start });
+        unread = All-push (IsUnread whole left given) parts p so_far.unread (record { some = omega (arith, some, points); front = opens.at_start; unread = unread });
         limited = All-push IsLimited parts p so_far.limited (extent, reads.limits_are);
         known = All-push (λ part. IsFileOf kept counts (held whole part)) parts p so_far.known is_file;
         fresh = All-push (λ part. faults part.source ≡ 0) parts p so_far.fresh fresh;
@@ -156,14 +156,14 @@ module _ {S : Type 0} (whole left : S → Option (List ℕ)) (faults : S → ℕ
     some_points count extent some sound = sound.there.0 (ap is_some some)
 
     -- what an input adds
-    pub opened_next : (new : List (Part S)) → IsCount kept.bounds (get_or counts i d) → AddsInput whole left faults files kept i (get_or counts i d).points (get_or counts i d).extent parts new → HasOpened whole left faults files kept counts from (i + 1) new
+    pub opened_next : (new : List (Part S)) → IsCount kept.bounds (get_or counts i d) → AddsInput whole left given faults files kept i (get_or counts i d).points (get_or counts i d).extent parts new → HasOpened whole left given faults files kept counts from (i + 1) new
     opened_next new sound adds = at (get_or counts i d).extent refl adds
       where
-        at : (e : Option Bounds) → (get_or counts i d).extent ≡ e → AddsInput whole left faults files kept i (get_or counts i d).points e parts new → HasOpened whole left faults files kept counts from (i + 1) new
-        at None none same = subst (λ (l : List (Part S)). HasOpened whole left faults files kept counts from (i + 1) l) (sym same) (opened_skip none (no_points (get_or counts i d) none sound))
+        at : (e : Option Bounds) → (get_or counts i d).extent ≡ e → AddsInput whole left given faults files kept i (get_or counts i d).points e parts new → HasOpened whole left given faults files kept counts from (i + 1) new
+        at None none same = subst (λ (l : List (Part S)). HasOpened whole left given faults files kept counts from (i + 1) l) (sym same) (opened_skip none (no_points (get_or counts i d) none sound))
         at (Some extent) some added =
             let is = added.2 in
-            subst (λ (l : List (Part S)). HasOpened whole left faults files kept counts from (i + 1) l) (sym added.1) (opened_more extent added.0 is.input some (some_points (get_or counts i d) extent some sound) is.points_are is.is is.reads is.opens is.fresh)
+            subst (λ (l : List (Part S)). HasOpened whole left given faults files kept counts from (i + 1) l) (sym added.1) (opened_more extent added.0 is.input some (some_points (get_or counts i d) extent some sound) is.points_are is.is is.reads is.opens is.fresh is.unread)
 
 -- no file of those that were opened has failed
 pub none_failed : {S : Type 0} (faults : S → ℕ) (parts : List (Part S)) → All (λ part. faults part.source ≡ 0) parts → Any (λ part. faults part.source ≢ 0) parts → ⊥

@@ -19,9 +19,9 @@ use Rattle.ept_scan.specs.declared.part.Cursor.{Cursor}
 use Rattle.ept_scan.specs.Extents.{IsAllowed}
 use Rattle.ept_scan.specs.Scans.{in_order}
 use Rattle.ept_base.specs.Causes.{Rose}
-use Rattle.ept_scan.specs.Reach.{ReadsNoFurther}
-use Rattle.ept_scan.specs.Places.{StandsAt}
-use Rattle.ept_scan.specs.Changes.{IsChange, IfChanged, Differs, HasRecord}
+use Rattle.ept_scan.specs.Reach.{ReadsNoFurther, TakesOfFile}
+use Rattle.ept_scan.specs.Places.{StandsAt, GivenAt}
+use Rattle.ept_scan.specs.Changes.{IsChange, IfChanged, HasRecord}
 use Rattle.ept_scan.specs.Queue.{Held, HoldsPoints, AreRest, LiesIn, IsNext, IsDrawn, HasChanged, held, IsAtFront, IsUnread, IsCurrent, StandsBefore, IsLimited}
 use Rattle.ept_scan.proofs.Once.{not_changed, same_record}
 
@@ -31,7 +31,7 @@ held_sum {S} whole (p ∷ parts) =
     omega (arith, sum_by-cons (λ (h : Held). h.points) (held whole p) (map (held whole) parts), sum_by-cons (λ (part : Part S). part.points) p parts, held_sum whole parts)
 
 -- one file of a list was exchanged for one that holds the same
-module _ {S : Type 0} (whole left : S → Option (List ℕ)) (parts : List (Part S)) (at : ℕ) (p y : Part S) (lt : at < length parts) (here : p ≡ get_or parts at p) where
+module _ {S : Type 0} (whole left : S → Option (List ℕ)) (given : S → ℕ) (parts : List (Part S)) (at : ℕ) (p y : Part S) (lt : at < length parts) (here : p ≡ get_or parts at p) where
   pub ahead_old : drop at parts ≡ p ∷ drop (at + 1) parts
   ahead_old = drop_more parts at p lt ∙ ap (λ (q : Part S). q ∷ drop (at + 1) parts) (sym here)
 
@@ -65,8 +65,13 @@ module _ {S : Type 0} (whole left : S → Option (List ℕ)) (parts : List (Part
         All-set (λ part. ReadsNoFurther part.reading (whole part.source) (left part.source)) parts at y
         (subst (λ (r : Reading). ReadsNoFurther r (whole y.source) (left y.source)) (sym reading) (subst (λ (o : Option (List ℕ)). ReadsNoFurther p.reading o (left y.source)) (sym same) far)) all
 
-    pub current_new : (cursor : Cursor) (window : List ℕ) → cursor.number < p.points → StandsAt p.reading p.points (whole p.source) (left y.source) window cursor.number cursor.header → IsCurrent whole left y cursor window
-    current_new cursor window more stands = record { more = omega (arith, more, points); at = rw (reading, points, same) stands }
+    pub current_new : (cursor : Cursor) (window : List ℕ) → cursor.number < p.points → StandsAt p.reading p.points (whole p.source) (left y.source) window cursor.number cursor.header → GivenAt (given y.source) window cursor.number cursor.header → IsCurrent whole left given y cursor window
+    current_new cursor window more stands taken = record { more = omega (arith, more, points); at = rw (reading, points, same) stands; given_at = taken }
+
+    pub given_same : Tells (λ file. TakesOfFile p.reading file 0 (given y.source)) (whole p.source) → All (λ part. Tells (λ file. TakesOfFile part.reading file 0 (given part.source)) (whole part.source)) parts → All (λ part. Tells (λ file. TakesOfFile part.reading file 0 (given part.source)) (whole part.source)) (set parts at y)
+    given_same taken all =
+        All-set (λ part. Tells (λ file. TakesOfFile part.reading file 0 (given part.source)) (whole part.source)) parts at y
+        (subst (λ (r : Reading). Tells (λ file. TakesOfFile r file 0 (given y.source)) (whole y.source)) (sym reading) (subst (λ (o : Option (List ℕ)). Tells (λ file. TakesOfFile p.reading file 0 (given y.source)) o) (sym same) taken)) all
 
   -- files stand at their fronts behind their last records
   pub rewound_same : All (IsAtFront whole left) (take at parts) → All (IsAtFront whole left) (take at (set parts at y))
@@ -123,24 +128,25 @@ module _ {S : Type 0} (whole left : S → Option (List ℕ)) (parts : List (Part
             zero_below a b le none = omega arith
 
   -- where the reading stands
-  pub stands_old : (cursor : Cursor) (window : List ℕ) → StandsBefore whole left (drop at parts) cursor window → IsCurrent whole left p cursor window × All (IsUnread whole left) (drop (at + 1) parts)
-  stands_old cursor window stands = subst (λ (l : List (Part S)). StandsBefore whole left l cursor window) ahead_old stands
+  pub stands_old : (cursor : Cursor) (window : List ℕ) → StandsBefore whole left given (drop at parts) cursor window → IsCurrent whole left given p cursor window × All (IsUnread whole left given) (drop (at + 1) parts)
+  stands_old cursor window stands = subst (λ (l : List (Part S)). StandsBefore whole left given l cursor window) ahead_old stands
 
-  pub stands_on : (cursor : Cursor) (window : List ℕ) → IsCurrent whole left y cursor window → All (IsUnread whole left) (drop (at + 1) parts) → StandsBefore whole left (drop at (set parts at y)) cursor window
-  stands_on cursor window current unread = subst (λ (l : List (Part S)). StandsBefore whole left l cursor window) (sym ahead_new) (current, unread)
+  pub stands_on : (cursor : Cursor) (window : List ℕ) → IsCurrent whole left given y cursor window → All (IsUnread whole left given) (drop (at + 1) parts) → StandsBefore whole left given (drop at (set parts at y)) cursor window
+  stands_on cursor window current unread = subst (λ (l : List (Part S)). StandsBefore whole left given l cursor window) (sym ahead_new) (current, unread)
 
-  pub stands_past : (cursor : Cursor) (window : List ℕ) → cursor.header ≡ None → cursor.number ≡ 0 → All (IsUnread whole left) (drop (at + 1) parts) → StandsBefore whole left (drop (at + 1) (set parts at y)) cursor window
-  stands_past cursor window none start unread = subst (λ (l : List (Part S)). StandsBefore whole left l cursor window) (sym behind_new) (at_front (drop (at + 1) parts) unread)
+  pub stands_past : (cursor : Cursor) (window : List ℕ) → cursor.header ≡ None → cursor.number ≡ 0 → All (IsUnread whole left given) (drop (at + 1) parts) → StandsBefore whole left given (drop (at + 1) (set parts at y)) cursor window
+  stands_past cursor window none start unread = subst (λ (l : List (Part S)). StandsBefore whole left given l cursor window) (sym behind_new) (at_front (drop (at + 1) parts) unread)
     where
-      at_front : (l : List (Part S)) → All (IsUnread whole left) l → StandsBefore whole left l cursor window
+      at_front : (l : List (Part S)) → All (IsUnread whole left given) l → StandsBefore whole left given l cursor window
       at_front [] all = start
       at_front (q ∷ l) all =
-          let unread : IsUnread whole left q = All-head (IsUnread whole left) q l all in (
+          let unread : IsUnread whole left given q = All-head (IsUnread whole left given) q l all in (
             record {
               more = omega (arith, start, unread.some);
               at = subst (λ (h : Option _). StandsAt q.reading q.points (whole q.source) (left q.source) window cursor.number h) (sym none) unread.front;
+              given_at = subst (λ (h : Option _). GivenAt (given q.source) window cursor.number h) (sym none) unread.unread;
             },
-            All-tail (IsUnread whole left) q l all,
+            All-tail (IsUnread whole left given) q l all,
           )
 
   -- the points that are left

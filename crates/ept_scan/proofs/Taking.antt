@@ -1,5 +1,5 @@
 -- How many bytes of the files were given.
-use Rattle.std.proofs.Common.{◌≡◌, ⊎_elim, inl, inr, ℕ, ◌+◌, ◌-◌, max, ◌<◌, ◌≤◌, List, [], ◌∷◌, ◌++◌, Option, Some, None, length, get_or, sym, ◌∙◌, ap, subst, arith, length-append}
+use Rattle.std.proofs.Common.{◌≡◌, ⊎_elim, inl, inr, ℕ, ◌+◌, ◌*◌, ◌-◌, max, ◌<◌, ◌≤◌, List, [], ◌∷◌, ◌++◌, Option, Some, None, length, get_or, sym, ◌∙◌, ap, subst, arith, length-append}
 use Rattle.std.specs.Prelude.{sum, slice_get}
 use Rattle.std.proofs.lemmas.Bool.{cases_lt}
 use Rattle.std.proofs.lemmas.List.{get_or_append_left}
@@ -17,6 +17,7 @@ use Rattle.ept_scan.specs.Counts.{FindsCount}
 use Rattle.ept_scan.specs.Found.{FindsLists}
 use Rattle.ept_scan.specs.LasFile.{HasHeader}
 use Rattle.ept_scan.specs.Scans.{IsReadingOf, HasPoints, HasPointsAt, ArePointsFrom}
+use Rattle.ept_scan.proofs.Reaching.{split_product}
 use Rattle.ept_scan.specs.Reach.{end_of, IsReach, TakesOfFile, TakesOfPath, IsReachOf, ReadsUpTo, ReadsWithin}
 
 -- no more than the header
@@ -39,6 +40,26 @@ given_skipped head before first exit held offset more gained short given = omega
 
 pub given_scanned : (head before first second exit held rest offset more : ℕ) → first ≤ before + held → held ≤ head → second + held ≤ first + rest + offset → rest ≤ held - offset → exit ≤ second + (more - rest) → exit ≤ before + max head (offset + more)
 given_scanned head before first second exit held rest offset more gained short skipped less given = omega arith
+
+-- no byte
+pub taken_none : (reading : Reading) (whole : Option (List ℕ)) (now : ℕ) → now ≡ 0 → Tells (λ file. TakesOfFile reading file 0 now) whole
+taken_none reading whole now none = taken_head reading whole 0 now (omega (arith, none))
+
+-- before a record of a file, and behind it
+pub given_up : (header : Header) (n given held now : ℕ) → n < header.points → given ≤ held + (header.offset + header.length * n) → held + (header.offset + header.length * n) ≤ max HEAD_LENGTH (end_of header) → now ≤ given + (header.length * (header.points - n) - held) → now ≤ 0 + max HEAD_LENGTH (end_of header)
+given_up header n given held now within before reach more =
+    let split : header.length * (header.points - n) + header.length * n ≡ header.length * header.points = split_product header.length n header.points (omega (arith, within)) in
+    omega (arith, before, reach, more, split)
+
+pub given_next : (header : Header) (n given held now after : ℕ) → given ≤ held + (header.offset + header.length * n) → now + held ≤ given + after + header.length → now ≤ after + (header.offset + header.length * (n + 1))
+given_next header n given held now after before gained =
+    let sum : header.length * n + header.length ≡ header.length * (n + 1) = omega arith in
+    omega (arith, before, gained, sum)
+
+pub given_start : (header : Header) (n k before held mid now : ℕ) → n < header.points → k ≡ header.offset + header.length * n → before ≡ 0 → mid ≤ before + held → held ≤ HEAD_LENGTH → now ≤ mid + (k - held) → now ≤ 0 + max HEAD_LENGTH (end_of header)
+given_start header n k before held mid now within is none gained short more =
+    let split : header.length * (header.points - n) + header.length * n ≡ header.length * header.points = split_product header.length n header.points (omega (arith, within)) in
+    omega (arith, is, none, gained, short, more, split)
 
 -- what was given of a path of a shelf, of the same path and shelf under other names
 pub path_at : (reading : Reading) (there here : Option Files) (path name : List ℕ) (before now : ℕ) → there ≡ here → path ≡ name → Tells (λ all. TakesOfPath all path reading before now) there → Tells (λ all. TakesOfPath all name reading before now) here

@@ -38,7 +38,7 @@ pub record AreHeld {S : Type 0} (whole : S → Option (List ℕ)) (parts : List 
   pub same : in_order mine ≡ in_order lists
 
 -- input i was opened: it is at its front, and its points are to lie within this extent
-pub record IsOpened {S : Type 0} (whole left : S → Option (List ℕ)) (faults : S → ℕ)
+pub record IsOpened {S : Type 0} (whole left : S → Option (List ℕ)) (given : S → ℕ) (faults : S → ℕ)
     (files : Option Files) (kept : Kept) (i points : ℕ) (extent : Bounds) (part : Part S) : Type 0 where
   pub input : Input
   pub is : slice_get kept.inputs i ≡ Some input
@@ -46,13 +46,14 @@ pub record IsOpened {S : Type 0} (whole left : S → Option (List ℕ)) (faults 
   pub points_are : part.points ≡ points
   pub opens : Opens files input.path (whole part.source) (left part.source)
   pub fresh : faults part.source ≡ 0
+  pub unread : given part.source ≡ 0
 
 -- an input with an extent is opened, and one without has no points and is left out
-abbrev pub AddsInput : {S : Type 0} (whole left : S → Option (List ℕ)) (faults : S → ℕ)
+abbrev pub AddsInput : {S : Type 0} (whole left : S → Option (List ℕ)) (given : S → ℕ) (faults : S → ℕ)
     → Option Files → Kept → ℕ → ℕ → Option Bounds → List (Part S) → List (Part S) → Type 0
-AddsInput whole left faults files kept i points None old new = new ≡ old
-AddsInput {S} whole left faults files kept i points (Some extent) old new = (part : Part S)
-    × (new ≡ old ++ part ∷ []) × IsOpened whole left faults files kept i points extent part
+AddsInput whole left given faults files kept i points None old new = new ≡ old
+AddsInput {S} whole left given faults files kept i points (Some extent) old new = (part : Part S)
+    × (new ≡ old ++ part ∷ []) × IsOpened whole left given faults files kept i points extent part
 
 -- a file is an input of this place, read within the extent and with the number of points that were found of it
 pub record IsFileOf (kept : Kept) (counts : List SourceCount) (file : Held) : Type 0 where
@@ -64,10 +65,10 @@ pub record IsFileOf (kept : Kept) (counts : List SourceCount) (file : Held) : Ty
   pub points_are : file.points ≡ count.points
 
 -- the inputs from one on and up to another that have points were opened
-pub record HasOpened {S : Type 0} (whole left : S → Option (List ℕ)) (faults : S → ℕ)
+pub record HasOpened {S : Type 0} (whole left : S → Option (List ℕ)) (given : S → ℕ) (faults : S → ℕ)
     (files : Option Files) (kept : Kept) (counts : List SourceCount) (from end : ℕ)
     (parts : List (Part S)) : Type 0 where
-  pub unread : All (IsUnread whole left) parts
+  pub unread : All (IsUnread whole left given) parts
   pub limited : All IsLimited parts
   pub known : All (λ part. IsFileOf kept counts (held whole part)) parts
   pub fresh : All (λ part. faults part.source ≡ 0) parts

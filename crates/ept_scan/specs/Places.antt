@@ -18,6 +18,11 @@ pub record IsWithinFile (reading : Reading) (points : ℕ) (whole left : Option 
   pub place : Skips whole (prepend_known window left) (header.offset + header.length * n)
   pub reach : length window + (header.offset + header.length * n) ≤ max longest_header (end_of header)
 
+-- No more bytes were given than those of the file up to record n, and those that are ahead of it; none where the header was not read yet.
+abbrev pub GivenAt : ℕ → List ℕ → ℕ → Option Header → Type 0
+GivenAt given window n None = given ≡ 0
+GivenAt given window n (Some header) = given ≤ length window + (header.offset + header.length * n)
+
 -- before record n of a file: at its front where the header was not read yet
 abbrev pub StandsAt : Reading → ℕ → Option (List ℕ) → Option (List ℕ) → List ℕ → ℕ → Option Header → Type 0
 StandsAt reading points whole left window n None = left ≡ whole

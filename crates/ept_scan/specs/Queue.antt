@@ -12,8 +12,8 @@ use Rattle.ept_scan.specs.Extents.{IsWithin}
 use Rattle.ept_scan.specs.LasFile.{ArePointsOf}
 use Rattle.ept_scan.specs.Scans.{in_order}
 use Rattle.ept_scan.specs.Changes.{Differs, HasRecord}
-use Rattle.ept_scan.specs.Places.{StandsAt}
-use Rattle.ept_scan.specs.Reach.{ReadsNoFurther}
+use Rattle.ept_scan.specs.Places.{StandsAt, GivenAt}
+use Rattle.ept_scan.specs.Reach.{ReadsNoFurther, TakesOfFile}
 
 -- a file of which records were left: how it is read, how many points were found, and its bytes where they are told
 pub record Held : Type 0 where
@@ -105,16 +105,33 @@ module _ {S : Type 0} (whole left : S → Option (List ℕ)) where
   abbrev pub IsAtFront : Part S → Type 0
   IsAtFront part = left part.source ≡ whole part.source
 
+  -- each file before the place was rewound behind its last record
+  abbrev pub AreRewound : Queue S → Type 0
+  AreRewound queue = All IsAtFront (take queue.at queue.parts.items)
+
+  -- no file was read further than its last record
+  abbrev pub AreNear : Queue S → Type 0
+  AreNear queue = All (λ part. ReadsNoFurther part.reading (whole part.source)
+      (left part.source)) queue.parts.items
+
+-- each file for itself has given no more bytes than may be read of it
+abbrev pub GiveNoMore : {S : Type 0} → (S → Option (List ℕ)) → (S → ℕ) → Queue S → Type 0
+GiveNoMore whole given queue = All (λ part. Tells (λ file. TakesOfFile part.reading file 0
+    (given part.source)) (whole part.source)) queue.parts.items
+
+module _ {S : Type 0} (whole left : S → Option (List ℕ)) (given : S → ℕ) where
   -- a file that was not begun
   pub record IsUnread (part : Part S) : Type 0 where
     pub some : 0 < part.points
-    pub front : IsAtFront part
+    pub front : IsAtFront whole left part
+    pub unread : given part.source ≡ 0
 
   -- the file that is read
   pub record IsCurrent (part : Part S) (cursor : Cursor) (window : List ℕ) : Type 0 where
     pub more : cursor.number < part.points
     pub at : StandsAt part.reading part.points (whole part.source)
         (left part.source) window cursor.number cursor.header
+    pub given_at : GivenAt (given part.source) window cursor.number cursor.header
 
   abbrev pub StandsBefore : List (Part S) → Cursor → List ℕ → Type 0
   StandsBefore [] cursor window = cursor.number ≡ 0
@@ -125,12 +142,3 @@ module _ {S : Type 0} (whole left : S → Option (List ℕ)) where
     pub within : queue.at ≤ length queue.parts.items
     pub stands : StandsBefore (drop queue.at queue.parts.items) queue.cursor queue.window
     pub limited : All IsLimited queue.parts.items
-
-  -- each file before the place was rewound behind its last record
-  abbrev pub AreRewound : Queue S → Type 0
-  AreRewound queue = All IsAtFront (take queue.at queue.parts.items)
-
-  -- no file was read further than its last record
-  abbrev pub AreNear : Queue S → Type 0
-  AreNear queue = All (λ part. ReadsNoFurther part.reading (whole part.source)
-      (left part.source)) queue.parts.items

@@ -43,14 +43,18 @@ module _ {S : Type 0} (whole : S → Option (List ℕ)) where
 abbrev pub ReadsNoFurther : {S : Type 0} → (S → Option (List ℕ)) → (S → Option (List ℕ)) → Reader S → Type 0
 ReadsNoFurther whole left reader = queue.AreNear whole left reader.queue
 
+-- each source for itself has given no more bytes than those that may belong to a header, or those up to the last record that an accepted header states
+abbrev pub GivesNoMore : {S : Type 0} → (S → Option (List ℕ)) → (S → ℕ) → Reader S → Type 0
+GivesNoMore whole given reader = queue.GiveNoMore whole given reader.queue
+
 -- each source was rewound once its last record was drawn: it stands at its front again
 abbrev pub AreRewound : {S : Type 0} → (S → Option (List ℕ)) → (S → Option (List ℕ)) → Reader S → Type 0
 AreRewound whole left reader = queue.AreRewound whole left reader.queue
 
 -- A reader stands before the record that is next, or has a refusal: that it may be a fault of a source, one has failed.
-pub record IsReader {S : Type 0} (whole left : S → Option (List ℕ)) (faults : S → ℕ)
+pub record IsReader {S : Type 0} (whole left : S → Option (List ℕ)) (given : S → ℕ) (faults : S → ℕ)
     (reader : Reader S) : Type 0 where
-  pub stands : refusal_of reader ≡ None → queue.IsQueue whole left reader.queue
+  pub stands : refusal_of reader ≡ None → queue.IsQueue whole left given reader.queue
   pub counts : refusal_of reader ≡ None → queue.records_left reader.queue ≡ left_of reader
   pub rewound : AreRewound whole left reader
   pub fits : drawn_of reader + left_of reader < 2 ^ 64

@@ -1,12 +1,12 @@
 //! The next record of the second reading.
 
-ghost use Rattle.std.specs.Prelude.{◌≡◌, ◌≢◌, ◌<◌, ◌+◌, Err, IfOk, IfErr, OnOk, OnErr};
+ghost use Rattle.std.specs.Prelude.{◌≡◌, ◌≢◌, ◌<◌, ◌≤◌, ◌+◌, ◌*◌, Err, IfOk, IfErr, OnOk, OnErr, length};
 ghost use Rattle.ept_base.specs.Causes.{HasCauseOf};
 ghost use Rattle.ept_base.specs.Files.{Tells};
 ghost use Rattle.ept_scan.specs.Extents.{IsAllowed};
 ghost use Rattle.ept_scan.specs.Changes.{IsChange, HasRecord, change_of};
-ghost use Rattle.ept_scan.specs.Places.{IsWithinFile, StandsAt};
-ghost use Rattle.ept_scan.specs.Reach.{ReadsNoFurther};
+ghost use Rattle.ept_scan.specs.Places.{IsWithinFile, StandsAt, GivenAt};
+ghost use Rattle.ept_scan.specs.Reach.{ReadsNoFurther, TakesOfFile};
 
 use crate::las_file::{begin, skip};
 use crate::part::{Cursor, Part};
@@ -28,6 +28,7 @@ pub(crate) fn draw<S: Source>(
     requires more { cursor.old.number < part.old.points }
     requires at { StandsAt part.old.reading part.old.points (S.whole part.old.source)
         (S.left part.old.source) window.old cursor.old.number cursor.old.header }
+    requires given_at { GivenAt (S.given part.old.source) window.old cursor.old.number cursor.old.header }
     ensures allowed { IfOk result (λ p. IsAllowed part.old.reading.limits p) }
     ensures origin { IfOk result (λ p. p.origin ≡ part.old.reading.origin) }
     ensures number { IfOk result (λ p. p.number ≡ cursor.old.number) }
@@ -40,7 +41,11 @@ pub(crate) fn draw<S: Source>(
     ensures next { OnOk result (cursor.new.number ≡ cursor.old.number + 1) }
     ensures at { OnOk result (StandsAt part.old.reading part.old.points (S.whole part.old.source)
         (S.left part.new.source) window.new cursor.new.number cursor.new.header) }
+    ensures given_at { OnOk result (GivenAt (S.given part.new.source) window.new cursor.new.number
+        cursor.new.header) }
     ensures far { ReadsNoFurther part.old.reading (S.whole part.old.source) (S.left part.new.source) }
+    ensures given { Tells (λ file. TakesOfFile part.old.reading file 0 (S.given part.new.source))
+        (S.whole part.old.source) }
     ensures same { S.whole part.new.source ≡ S.whole part.old.source }
     ensures reading { part.new.reading ≡ part.old.reading }
     ensures points { part.new.points ≡ part.old.points }
@@ -80,11 +85,16 @@ fn header_at<S: Source>(
     requires more { number < points }
     requires at { StandsAt reading.now points (S.whole source.old)
         (S.left source.old) window.old number header }
+    requires given_at { GivenAt (S.given source.old) window.old number header }
     ensures at { IfOk result (IsWithinFile reading.now points (S.whole source.old)
         (S.left source.new) window.new number) }
+    ensures given_at { IfOk result (λ h. S.given source.new
+        ≤ length window.new + (h.offset + h.length * number)) }
     ensures changed { IfErr result (IsChange reading.now points number (S.whole source.old)) }
     ensures enough { result ≢ Err ReadError.Memory }
     ensures far { OnErr result (ReadsNoFurther reading.now (S.whole source.old) (S.left source.new)) }
+    ensures given { OnErr result (Tells (λ file. TakesOfFile reading.now file 0 (S.given source.new))
+        (S.whole source.old)) }
     ensures same { S.whole source.new ≡ S.whole source.old }
     ensures cause { HasCauseOf ReadError.SourceFault (S.faults source.old) (S.faults source.new) result }
 {
@@ -104,11 +114,16 @@ fn start<S: Source>(
 ) -> Result<Header, ReadError>
     requires more { number < points }
     requires front { S.left source.old ≡ S.whole source.old }
+    requires unread { S.given source.old ≡ 0 }
     ensures at { IfOk result (IsWithinFile reading.now points (S.whole source.old)
         (S.left source.new) window.new number) }
+    ensures given_at { IfOk result (λ h. S.given source.new
+        ≤ length window.new + (h.offset + h.length * number)) }
     ensures changed { IfErr result (IsChange reading.now points number (S.whole source.old)) }
     ensures enough { result ≢ Err ReadError.Memory }
     ensures far { OnErr result (ReadsNoFurther reading.now (S.whole source.old) (S.left source.new)) }
+    ensures given { OnErr result (Tells (λ file. TakesOfFile reading.now file 0 (S.given source.new))
+        (S.whole source.old)) }
     ensures same { S.whole source.new ≡ S.whole source.old }
     ensures cause { HasCauseOf ReadError.SourceFault (S.faults source.old) (S.faults source.new) result }
 {

@@ -7,7 +7,7 @@ ghost use Rattle.ept_point.specs.declared.point.Point as at;
 ghost use Rattle.ept_config.specs.Counts.{IsCount, total};
 ghost use Rattle.ept_config.specs.declared.input.Input as config;
 ghost use Rattle.ept_scan.specs.Opening.{IsKeptScan, StartsAt, HasFailed, AddsInput, IsFileOf, HasOpened};
-ghost use Rattle.ept_scan.specs.Reader.{drawn_of, allowed_of, left_of, refusal_of, files_of, HasFault, IsRest, ReadsNoFurther, IsReader};
+ghost use Rattle.ept_scan.specs.Reader.{drawn_of, allowed_of, left_of, refusal_of, files_of, HasFault, IsRest, ReadsNoFurther, GivesNoMore, IsReader};
 ghost use Rattle.ept_scan.specs.Asking.{OpensThese, path_left, paths_left};
 
 use crate::inputs::reading_of;
@@ -47,8 +47,9 @@ pub fn reader<S: Source, H: Shelf<Source = S>>(
         (λ all. (points : List at.Point) → IsKeptScan all kept.now counts.now points
         → IsRest S.whole r (drop drawn points)) (H.files shelf.old)) }
     ensures far { IfOk result (ReadsNoFurther S.whole S.left) }
+    ensures given { IfOk result (GivesNoMore S.whole S.given) }
     ensures faultless { IfOk result (λ r. HasFault S.faults r → ⊥) }
-    ensures reader { IfOk result (IsReader S.whole S.left S.faults) }
+    ensures reader { IfOk result (IsReader S.whole S.left S.given S.faults) }
     ensures unchanged { (source number : ℕ) → result ≢ Err (ReadError.SourceChanged source number) }
     ensures asked { OpensThese (paths_left kept.now.inputs counts.now drawn) result
         (H.asked shelf.old) (H.asked shelf.new) }
@@ -165,7 +166,7 @@ fn open_parts<S: Source, H: Shelf<Source = S>>(
     requires within { from ≤ length counts.now }
     requires none { parts.old.items ≡ [] }
     requires room { length counts.now ≤ vec_capacity parts.old }
-    ensures opened { OnOk result (HasOpened S.whole S.left S.faults
+    ensures opened { OnOk result (HasOpened S.whole S.left S.given S.faults
         (H.files shelf.old) kept.now counts.now from (length counts.now) parts.new.items) }
     ensures fresh { HasFailed S.faults parts.new.items → ⊥ }
     ensures unchanged { (source number : ℕ) → result ≢ Err (ReadError.SourceChanged source number) }
@@ -191,7 +192,7 @@ fn open_input<S: Source, H: Shelf<Source = S>>(
     requires within { index < length kept.now.inputs }
     requires sound { IsCount kept.now.bounds count }
     requires room { vec_len parts.old < vec_capacity parts.old }
-    ensures adds { OnOk result (AddsInput S.whole S.left S.faults
+    ensures adds { OnOk result (AddsInput S.whole S.left S.given S.faults
         (H.files shelf.old) kept.now index count.points count.extent parts.old.items parts.new.items) }
     ensures one { vec_len parts.new ≤ vec_len parts.old + 1 }
     ensures room { vec_capacity parts.new ≡ vec_capacity parts.old }

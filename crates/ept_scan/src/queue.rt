@@ -6,9 +6,9 @@ ghost use Rattle.ept_base.specs.Files.{Tells};
 ghost use Rattle.ept_point.specs.declared.point.Point as at;
 ghost use Rattle.ept_scan.specs.Extents.{IsAllowed};
 ghost use Rattle.ept_scan.specs.Changes.{IsChange, IfChanged, HasRecord};
-ghost use Rattle.ept_scan.specs.Places.{StandsAt};
-ghost use Rattle.ept_scan.specs.Reach.{ReadsNoFurther};
-ghost use Rattle.ept_scan.specs.Queue.{held_of, records_left, RestOf, LiesIn, IsDrawn, AreDrawn, IsQueue, AreNear, AreRewound, HasFault, HasChanged, IsFirstChanged};
+ghost use Rattle.ept_scan.specs.Places.{StandsAt, GivenAt};
+ghost use Rattle.ept_scan.specs.Reach.{ReadsNoFurther, TakesOfFile};
+ghost use Rattle.ept_scan.specs.Queue.{held_of, records_left, RestOf, LiesIn, IsDrawn, AreDrawn, IsQueue, AreNear, AreRewound, GiveNoMore, HasFault, HasChanged, IsFirstChanged};
 
 use crate::draw::draw;
 use crate::part::{Cursor, Part};
@@ -39,9 +39,9 @@ struct Drawn {
 impl<S: Source> Queue<S> {
     /// Reads the next record, of which there is one.
     pub(crate) fn next(&mut self) -> Result<Point, ReadError>
-        requires queue { IsQueue S.whole S.left self.old }
+        requires queue { IsQueue S.whole S.left S.given self.old }
         requires more { self.old.at < length self.old.parts.items }
-        ensures queue { OnOk result (IsQueue S.whole S.left self.new) }
+        ensures queue { OnOk result (IsQueue S.whole S.left S.given self.new) }
         ensures held { held_of S.whole self.new ≡ held_of S.whole self.old }
         ensures left { OnOk result (records_left self.new + 1 ≡ records_left self.old) }
         ensures lies { IfOk result (LiesIn (held_of S.whole self.old)) }
@@ -55,6 +55,7 @@ impl<S: Source> Queue<S> {
             (HasChanged (held_of S.whole self.old) (records_left self.old))) }
         ensures enough { result ≢ Err ReadError.Memory }
         ensures near { AreNear S.whole S.left self.old → AreNear S.whole S.left self.new }
+        ensures given { GiveNoMore S.whole S.given self.old → GiveNoMore S.whole S.given self.new }
         ensures rewound { AreRewound S.whole S.left self.old → AreRewound S.whole S.left self.new }
         ensures fault { result ≡ Err ReadError.SourceFault → HasFault S.faults self.new }
         ensures faults { HasFault S.faults self.old → HasFault S.faults self.new }
@@ -75,10 +76,10 @@ impl<S: Source> Queue<S> {
         count: usize,
         out: &mut Vec<Point>,
     ) -> Result<(), ReadError>
-        requires queue { IsQueue S.whole S.left self.old }
+        requires queue { IsQueue S.whole S.left S.given self.old }
         requires enough { count ≤ records_left self.old }
         requires room { vec_len out.old + count ≤ vec_capacity out.old }
-        ensures queue { OnOk result (IsQueue S.whole S.left self.new) }
+        ensures queue { OnOk result (IsQueue S.whole S.left S.given self.new) }
         ensures held { held_of S.whole self.new ≡ held_of S.whole self.old }
         ensures left { OnOk result (records_left self.new + count ≡ records_left self.old) }
         ensures points { OnOk result
@@ -97,6 +98,7 @@ impl<S: Source> Queue<S> {
             (IsFirstChanged (held_of S.whole self.old) (records_left self.old) count)) }
         ensures memory { result ≢ Err ReadError.Memory }
         ensures near { AreNear S.whole S.left self.old → AreNear S.whole S.left self.new }
+        ensures given { GiveNoMore S.whole S.given self.old → GiveNoMore S.whole S.given self.new }
         ensures rewound { AreRewound S.whole S.left self.old → AreRewound S.whole S.left self.new }
         ensures fault { result ≡ Err ReadError.SourceFault → HasFault S.faults self.new }
         ensures faults { HasFault S.faults self.old → HasFault S.faults self.new }
@@ -124,6 +126,7 @@ fn draw_on<S: Source>(
     requires more { cursor.old.number < part.old.points }
     requires at { StandsAt part.old.reading part.old.points (S.whole part.old.source)
         (S.left part.old.source) window.old cursor.old.number cursor.old.header }
+    requires given_at { GivenAt (S.given part.old.source) window.old cursor.old.number cursor.old.header }
     ensures allowed { IfOk result (λ d. IsAllowed part.old.reading.limits d.point) }
     ensures origin { IfOk result (λ d. d.point.origin ≡ part.old.reading.origin) }
     ensures number { IfOk result (λ d. d.point.number ≡ cursor.old.number) }
@@ -139,7 +142,11 @@ fn draw_on<S: Source>(
     ensures on { IfOk result (λ d. d.last ≡ false → (cursor.new.number < part.old.points)
         × StandsAt part.old.reading part.old.points (S.whole part.old.source)
         (S.left part.new.source) window.new cursor.new.number cursor.new.header) }
+    ensures given_at { OnOk result (GivenAt (S.given part.new.source) window.new cursor.new.number
+        cursor.new.header) }
     ensures far { ReadsNoFurther part.old.reading (S.whole part.old.source) (S.left part.new.source) }
+    ensures given { Tells (λ file. TakesOfFile part.old.reading file 0 (S.given part.new.source))
+        (S.whole part.old.source) }
     ensures same { S.whole part.new.source ≡ S.whole part.old.source }
     ensures reading { part.new.reading ≡ part.old.reading }
     ensures points { part.new.points ≡ part.old.points }

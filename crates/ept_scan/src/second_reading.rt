@@ -4,7 +4,7 @@ ghost use Rattle.std.specs.Prelude.{◌≡◌, ◌≢◌, ◌+◌, ◌-◌, ◌+
 ghost use Rattle.ept_point.specs.declared.point.Point as at;
 ghost use Rattle.ept_scan.specs.Changes.{IfChanged};
 ghost use Rattle.ept_scan.specs.Queue.{LiesIn, AreDrawn, IsFirstChanged};
-ghost use Rattle.ept_scan.specs.Reader.{drawn_of, allowed_of, left_of, refusal_of, batch_of, HasFault, files_of, IsRest, ReadsNoFurther, IsReader};
+ghost use Rattle.ept_scan.specs.Reader.{drawn_of, allowed_of, left_of, refusal_of, batch_of, HasFault, files_of, IsRest, ReadsNoFurther, GivesNoMore, IsReader};
 
 use crate::queue::Queue;
 use crate::read_error::ReadError;
@@ -26,7 +26,7 @@ pub struct Reader<S> {
 impl<S: Source> Reader<S> {
     /// Sets how many more records may be drawn. Before the first call it is 0. It takes no memory.
     pub fn allow(&mut self, n: u64)
-        requires reader { IsReader S.whole S.left S.faults self.old }
+        requires reader { IsReader S.whole S.left S.given S.faults self.old }
         ensures allowed { allowed_of self.new ≡ n }
         ensures drawn { drawn_of self.new ≡ drawn_of self.old }
         ensures left { left_of self.new ≡ left_of self.old }
@@ -35,8 +35,9 @@ impl<S: Source> Reader<S> {
         ensures rest { (points : List at.Point) → IsRest S.whole self.old points
             → IsRest S.whole self.new points }
         ensures far { ReadsNoFurther S.whole S.left self.old → ReadsNoFurther S.whole S.left self.new }
+        ensures given { GivesNoMore S.whole S.given self.old → GivesNoMore S.whole S.given self.new }
         ensures faults { HasFault S.faults self.old → HasFault S.faults self.new }
-        ensures reader { IsReader S.whole S.left S.faults self.new }
+        ensures reader { IsReader S.whole S.left S.given S.faults self.new }
     {
         self.allowed = n;
     }
@@ -55,7 +56,7 @@ impl<S: Source> Reader<S> {
     /// `Memory` leaves the reader and the list as they were. After `SourceFault` and `SourceChanged` the
     /// list is as it was, and the reader answers the same from then on.
     pub fn next_batch(&mut self, n: usize, out: &mut Vec<Point>) -> Result<(), ReadError>
-        requires reader { IsReader S.whole S.left S.faults self.old }
+        requires reader { IsReader S.whole S.left S.given S.faults self.old }
 
         // Whatever the sources tell, so many records are drawn, and each lies where the first reading
         // has found the points of its file.
@@ -93,8 +94,9 @@ impl<S: Source> Reader<S> {
 
         ensures files { files_of S.whole self.new ≡ files_of S.whole self.old }
         ensures far { ReadsNoFurther S.whole S.left self.old → ReadsNoFurther S.whole S.left self.new }
+        ensures given { GivesNoMore S.whole S.given self.old → GivesNoMore S.whole S.given self.new }
         ensures faults { HasFault S.faults self.old → HasFault S.faults self.new }
-        ensures reader { IsReader S.whole S.left S.faults self.new }
+        ensures reader { IsReader S.whole S.left S.given S.faults self.new }
     {
         if let Some(refused) = self.refused {
             return Err(refused);

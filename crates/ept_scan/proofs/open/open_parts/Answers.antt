@@ -14,7 +14,7 @@ use Rattle.ept_scan.proofs.open.open_parts.Goals as goal
 
 pub loop-index-init : goal.loop-index-init
 loop-index-init g c = record {
-  opened = subst (λ (l : List (Part g.row.S.Denot)). HasOpened g.S.Source.whole g.S.Source.left g.S.Source.faults (g.H.Shelf.files c.args.shelf.now) c.args.kept.now c.args.counts.now c.args.from c.args.from l) (sym c.requires.none) (opened_none g.S.Source.whole g.S.Source.left g.S.Source.faults (g.H.Shelf.files c.args.shelf.now) c.args.kept.now c.args.counts.now c.requires.each c.args.from);
+  opened = subst (λ (l : List (Part g.row.S.Denot)). HasOpened g.S.Source.whole g.S.Source.left g.S.Source.given g.S.Source.faults (g.H.Shelf.files c.args.shelf.now) c.args.kept.now c.args.counts.now c.args.from c.args.from l) (sym c.requires.none) (opened_none g.S.Source.whole g.S.Source.left g.S.Source.given g.S.Source.faults (g.H.Shelf.files c.args.shelf.now) c.args.kept.now c.args.counts.now c.requires.each c.args.from);
   asked = asked_none (paths_left (drop c.args.from c.args.kept.now.inputs) (drop c.args.from c.args.counts.now) 0) (g.H.Shelf.asked c.args.shelf.now);
   size = search rules;
   room = c.requires.room;
@@ -27,8 +27,8 @@ loop-index-preserved g c =
     let d : SourceCount = record { points = 0; extent = None } in
     let count : SourceCount = get_or c.args.counts.now c.loop-index.index d in
     record {
-      opened = opened_next g.S.Source.whole g.S.Source.left g.S.Source.faults (g.H.Shelf.files c.args.shelf.now) c.args.kept.now c.args.counts.now c.requires.each c.args.from c.loop-index.index d (omega arith) (omega arith) c.loop-index.parts.items c.loop-index.invariant.opened c.open_input.new.parts.items (c.requires.sound c.loop-index.index d (omega arith))
-          (subst (λ (o : Option Files). AddsInput g.S.Source.whole g.S.Source.left g.S.Source.faults o c.args.kept.now c.loop-index.index count.points count.extent c.loop-index.parts.items c.open_input.new.parts.items) c.loop-index.invariant.files c.in_ok-open_input.ensures.adds);
+      opened = opened_next g.S.Source.whole g.S.Source.left g.S.Source.given g.S.Source.faults (g.H.Shelf.files c.args.shelf.now) c.args.kept.now c.args.counts.now c.requires.each c.args.from c.loop-index.index d (omega arith) (omega arith) c.loop-index.parts.items c.loop-index.invariant.opened c.open_input.new.parts.items (c.requires.sound c.loop-index.index d (omega arith))
+          (subst (λ (o : Option Files). AddsInput g.S.Source.whole g.S.Source.left g.S.Source.given g.S.Source.faults o c.args.kept.now c.loop-index.index count.points count.extent c.loop-index.parts.items c.open_input.new.parts.items) c.loop-index.invariant.files c.in_ok-open_input.ensures.adds);
       asked = left_step c.args.kept.now.inputs c.args.counts.now c.loop-index.index d (omega arith) (omega arith) (paths_left (drop c.args.from c.args.kept.now.inputs) (drop c.args.from c.args.counts.now) 0) (g.H.Shelf.asked c.args.shelf.now) (g.H.Shelf.asked c.loop-index.shelf) (g.H.Shelf.asked c.open_input.new.shelf) c.loop-index.invariant.asked c.in_ok-open_input.ensures.asked;
       size = grind (arith, common_steps);
       room = grind (arith, common_steps);

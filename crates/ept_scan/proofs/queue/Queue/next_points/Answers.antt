@@ -13,7 +13,7 @@ next-requires-clause-more g c = at_file c.loop.self (omega (arith, c.loop.invari
 
 pub loop-init : goal.loop-init
 loop-init g c = record {
-  drawn = drawn_none g.S.Source.whole g.S.Source.left g.S.Source.faults c.args.self.now c.args.out.now.items c.requires.queue;
+  drawn = drawn_none g.S.Source.whole g.S.Source.left g.S.Source.given g.S.Source.faults c.args.self.now c.args.out.now.items c.requires.queue;
   part = omega arith;
   size = omega (arith, c.len-kept.ensures);
   room = omega (arith, c.len-kept.ensures, c.requires.room);
@@ -21,8 +21,8 @@ loop-init g c = record {
 
 pub loop-preserved : goal.loop-preserved
 loop-preserved g c = record {
-  drawn = subst (λ (l : List Point). HasDrawn g.S.Source.whole g.S.Source.left g.S.Source.faults c.args.self.now c.args.out.now.items c.next.new.self l (c.loop.counter + 1)) (sym c.push_reserved.ensures.items)
-      (drawn_more g.S.Source.whole g.S.Source.left g.S.Source.faults c.args.self.now c.args.out.now.items c.loop.self c.next.new.self c.loop.out.items c.loop.counter c.in-Ok.point c.loop.invariant.drawn c.in-Ok.ensures.queue c.in-Ok.ensures.held c.in-Ok.ensures.left c.in-Ok.ensures.lies c.in-Ok.ensures.drawn c.in-Ok.ensures.rest c.in-Ok.ensures.near c.in-Ok.ensures.rewound c.in-Ok.ensures.faults);
+  drawn = subst (λ (l : List Point). HasDrawn g.S.Source.whole g.S.Source.left g.S.Source.given g.S.Source.faults c.args.self.now c.args.out.now.items c.next.new.self l (c.loop.counter + 1)) (sym c.push_reserved.ensures.items)
+      (drawn_more g.S.Source.whole g.S.Source.left g.S.Source.given g.S.Source.faults c.args.self.now c.args.out.now.items c.loop.self c.next.new.self c.loop.out.items c.loop.counter c.in-Ok.point c.loop.invariant.drawn c.in-Ok.ensures.queue c.in-Ok.ensures.held c.in-Ok.ensures.left c.in-Ok.ensures.lies c.in-Ok.ensures.drawn c.in-Ok.ensures.rest c.in-Ok.ensures.near c.in-Ok.ensures.rewound c.in-Ok.ensures.given c.in-Ok.ensures.faults);
   part = omega (arith, c.loop-test.true);
   size = omega (arith, c.push_reserved.ensures.len, c.loop.invariant.size);
   room = omega (arith, c.push_reserved.ensures.capacity, c.loop.invariant.room);
@@ -37,4 +37,7 @@ returns-in-Err-clause-faults g c any = c.in-Err.ensures.faults (c.loop.invariant
 
 pub returns-in-Err-clause-changed : goal.returns-in-Err-clause-changed
 returns-in-Err-clause-changed g c =
-    first_changed g.S.Source.whole g.S.Source.left g.S.Source.faults c.args.self.now c.args.out.now.items c.loop.self c.loop.out.items c.loop.counter c.args.count c.loop.invariant.drawn c.loop-test.true c.in-Err.refused c.in-Err.ensures.changed
+    first_changed g.S.Source.whole g.S.Source.left g.S.Source.given g.S.Source.faults c.args.self.now c.args.out.now.items c.loop.self c.loop.out.items c.loop.counter c.args.count c.loop.invariant.drawn c.loop-test.true c.in-Err.refused c.in-Err.ensures.changed
+
+pub returns-in-Err-clause-near : goal.returns-in-Err-clause-near
+returns-in-Err-clause-near g c near = c.in-Err.ensures.near (c.loop.invariant.drawn.near near)
