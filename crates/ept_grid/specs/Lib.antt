@@ -3,3 +3,4 @@ pub mod Outgoing
 pub mod Node
 pub mod Slots
 pub mod Tile
+pub mod Settling

@@ -6,6 +6,7 @@ mod error;
 mod grid;
 mod octants;
 mod outgoing;
+mod pool;
 mod slot;
 mod slots;
 mod taking;
