@@ -1,3 +1,6 @@
+pub mod Lanes
+pub mod Settled
+pub mod Losing
 pub mod MaskLaws
 pub mod OctantLaws
 pub mod SlotLaws

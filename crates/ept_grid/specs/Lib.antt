@@ -1,3 +1,4 @@
+pub mod Contents
 pub mod Mask
 pub mod Outgoing
 pub mod Node
