@@ -1,6 +1,7 @@
 pub mod Lanes
 pub mod Settled
 pub mod Losing
+pub mod Sent
 pub mod MaskLaws
 pub mod OctantLaws
 pub mod SlotLaws
