@@ -2,6 +2,7 @@ pub mod Lanes
 pub mod Settled
 pub mod Losing
 pub mod Sent
+pub mod Taken
 pub mod MaskLaws
 pub mod OctantLaws
 pub mod SlotLaws
