@@ -4,3 +4,4 @@ pub mod Node
 pub mod Slots
 pub mod Tile
 pub mod Settling
+pub mod Columns
