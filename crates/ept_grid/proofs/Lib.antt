@@ -6,3 +6,4 @@ pub mod Room
 pub mod Leavings
 pub mod Arrived
 pub mod TileLaws
+pub mod Spots
