@@ -7,3 +7,4 @@ pub mod Leavings
 pub mod Arrived
 pub mod TileLaws
 pub mod Spots
+pub mod Chains
