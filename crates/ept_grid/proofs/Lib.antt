@@ -11,3 +11,5 @@ pub mod Room
 pub mod Leavings
 pub mod Arrived
 pub mod TileLaws
+pub mod Spots
+pub mod Chains

@@ -9,6 +9,7 @@ mod outgoing;
 mod pool;
 mod slot;
 mod slots;
+mod spot;
 mod taking;
 #[cfg(test)]
 mod tests;
