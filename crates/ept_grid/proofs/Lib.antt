@@ -1,6 +1,7 @@
 pub mod Lanes
 pub mod Settled
-pub mod Losing
+pub mod Contest
+pub mod Leaving
 pub mod Sent
 pub mod Taken
 pub mod MaskLaws
