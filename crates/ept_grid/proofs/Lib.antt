@@ -8,3 +8,4 @@ pub mod Arrived
 pub mod TileLaws
 pub mod Spots
 pub mod Chains
+pub mod Winners

@@ -7,6 +7,7 @@ mod grid;
 mod octants;
 mod outgoing;
 mod pool;
+mod settling;
 mod slot;
 mod slots;
 mod spot;
@@ -14,6 +15,7 @@ mod taking;
 #[cfg(test)]
 mod tests;
 mod tile;
+mod walk;
 
 pub use error::GridError;
 pub use grid::Grid;
