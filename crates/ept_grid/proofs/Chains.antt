@@ -6,7 +6,7 @@ use Rattle.std.proofs.Math.ListN.{get_or-append}
 use Rattle.std.proofs.Math.Seq.{get_or-append_seam}
 use Rattle.std.proofs.lemmas.List.{get_or-set_same, get_or-set_other, length-set}
 use Rattle.ept_grid.specs.declared.spot.Spot.{Spot}
-use Rattle.ept_grid.specs.Columns.{nowhere, column_at, level_at, LeadsTo, IsChained, after, IsOnWay, IsCut}
+use Rattle.ept_grid.specs.Columns.{nowhere, column_at, level_at, LeadsTo, IsChained, after, IsOnWay, IsCut, heads_with, nexts_with}
 
 -- ---- a step
 
@@ -318,3 +318,24 @@ chained-between heads nexts spots s j above chained cut alone = record {
         let each = chained.each in
         let more = leads-more spots s (column_at spots k) (level_at spots k + 1) (slice_index nexts k) (chained.next k old) (old_later k old other) in
         as-old spots s k (slice_index nexts k) (slice_index (slice_set (nexts ++ above ∷ []) j (length spots + 1)) k) old (get_or-set_other (nexts ++ above ∷ []) j k (length spots + 1) 0 other ∙ next-old nexts above k (omega arith)) more
+
+low-after : (spots : List Spot) (column level below above k : ℕ) → IsOnWay spots column level below above → level_at spots k ≡ level → after spots below ≤ level_at spots k
+low-after spots column level zero above k way is = omega arith
+low-after spots column level (suc j) above k way is =
+    let same : suc j - 1 ≡ j = omega arith in
+    let h : level_at spots j < level = subst (λ n. level_at spots n < level) same (way.is_below (omega arith)) in
+    omega arith
+
+-- one more cell, behind another or first
+pub chained-with : (heads nexts : List ℕ) (spots : List Spot) (s : Spot) (below above : ℕ) → IsChained heads nexts spots → s.column < length heads → IsCut spots s.column s.level below above → IsAlone spots s → IsChained (heads_with heads s.column below (length spots + 1)) (nexts_with nexts below above (length spots + 1)) (spots ++ s ∷ [])
+chained-with heads nexts spots s zero above chained low cut alone =
+    chained-first heads nexts spots s above chained low cut alone
+chained-with heads nexts spots s (suc j) above chained low cut alone =
+    chained-between heads nexts spots s j above chained cut alone
+
+-- where the cut leads to no cell of the level, none stands there
+pub alone-at-cut : (spots : List Spot) (s : Spot) (below above : ℕ) → IsCut spots s.column s.level below above → (0 < above → level_at spots (above - 1) ≢ s.level) → IsAlone spots s
+alone-at-cut spots s below above cut other k within in_column level =
+    let at = cut-above spots s.column s.level below above k cut within in_column (low-after spots s.column s.level below above k cut.way level) in
+    let up = cut.not_below at.0 in
+    other at.0 (omega (arith, at.1))

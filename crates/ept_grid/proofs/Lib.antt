@@ -14,3 +14,4 @@ pub mod Arrived
 pub mod TileLaws
 pub mod Spots
 pub mod Chains
+pub mod Winners

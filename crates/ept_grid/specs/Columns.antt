@@ -1,13 +1,14 @@
 -- The cells of a node by columns: those with the same indices on the axes x and y, from the lowest up.
 --
 -- Cells have numbers, from 0. A link names the cell of a number by the number and one, and 0 names none.
-use Rattle.std.specs.Prelude.{ℕ, zero, suc, ◌≡◌, ◌+◌, ◌-◌, ◌*◌, ◌%◌, ◌^◌, ◌<◌, ◌≤◌, List, length, map, slice_index, slice_index_or}
+use Rattle.std.specs.Prelude.{ℕ, zero, suc, ◌≡◌, ◌+◌, ◌-◌, ◌*◌, ◌%◌, ◌^◌, ◌<◌, ◌≤◌, List, [], ◌∷◌, ◌++◌, length, map, slice_index, slice_index_or, slice_set}
 use Rattle.ept_point.specs.declared.point.Point.{Point}
 use Rattle.ept_space.specs.declared.cube.Rules.{Rules}
 use Rattle.ept_space.specs.OctreeCube.{OctreeCube, cell_index}
 use Rattle.ept_sample.specs.Place.{place}
 use Rattle.ept_grid.specs.declared.pool.Cell.{Cell}
 use Rattle.ept_grid.specs.declared.spot.Spot.{Spot}
+use Rattle.ept_grid.specs.Settling.{winners}
 
 -- the number of a column in its box, from the indices of its cells on the axes x and y
 unfoldable pub column_of : OctreeCube → ℕ → ℕ → ℕ
@@ -22,7 +23,7 @@ spot rules depth p = record {
 
 -- where each of some cells stands, and the links of each to the next
 abbrev pub spots_of : Rules → ℕ → List Cell → List Spot
-spots_of rules depth cells = map (λ c. spot rules depth c.point) cells
+spots_of rules depth cells = map (spot rules depth) (winners cells)
 
 abbrev pub nexts_of : List Cell → List ℕ
 nexts_of cells = map (λ c. c.next) cells
@@ -68,3 +69,22 @@ pub record IsOnWay (spots : List Spot) (column level below above : ℕ) : Type 0
 pub record IsCut (spots : List Spot) (column level below above : ℕ) : Type 0 where
   pub way : IsOnWay spots column level below above
   pub not_below : 0 < above → level ≤ level_at spots (above - 1)
+
+-- a link names a cell below a level, or one of that level
+pub record NamesBelow (spots : List Spot) (level link : ℕ) : Type 0 where
+  pub some : 0 < link
+  pub below : level_at spots (link - 1) < level
+
+pub record NamesAt (spots : List Spot) (level link : ℕ) : Type 0 where
+  pub some : 0 < link
+  pub at : level_at spots (link - 1) ≡ level
+
+-- the heads and the links with one more cell, which a link names: it comes behind the cell that `below` names, or first
+-- in its column where that is none, and before the one that `above` names
+abbrev pub heads_with : List ℕ → ℕ → ℕ → ℕ → List ℕ
+heads_with heads column zero link = slice_set heads column link
+heads_with heads column (suc j) link = heads
+
+abbrev pub nexts_with : List ℕ → ℕ → ℕ → ℕ → List ℕ
+nexts_with nexts zero above link = nexts ++ above ∷ []
+nexts_with nexts (suc j) above link = slice_set (nexts ++ above ∷ []) j link

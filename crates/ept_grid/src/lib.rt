@@ -8,6 +8,7 @@ mod losing;
 mod octants;
 mod outgoing;
 mod pool;
+mod settling;
 mod slot;
 mod slots;
 mod spot;
@@ -15,6 +16,7 @@ mod taking;
 #[cfg(test)]
 mod tests;
 mod tile;
+mod walk;
 
 pub use error::GridError;
 pub use grid::Grid;
