@@ -1,6 +1,7 @@
 pub mod Lanes
 pub mod Settled
 pub mod Contest
+pub mod Keeping
 pub mod Leaving
 pub mod Sent
 pub mod Taken

@@ -1,13 +1,17 @@
 -- What a node has: the winners of its cells, and its losers by octant.
-use Rattle.std.specs.Prelude.{ℕ, zero, suc, ◌≡◌, ◌+◌, ◌-◌, ◌<◌, ◌≤◌, IsTrue, Bool, true, false, ◌&&◌, ◌||◌, nat_lt, List, [], ◌∷◌, ◌++◌, length, IsPermutation}
+use Rattle.std.specs.Prelude.{ℕ, zero, suc, ◌≡◌, ◌⊎◌, ◌+◌, ◌-◌, ◌*◌, ◌^◌, ◌<◌, ◌≤◌, min, IsTrue, Bool, true, false, ◌&&◌, ◌||◌, nat_lt, List, [], ◌∷◌, ◌++◌, length, IsPermutation}
 use Rattle.ept_point.specs.declared.point.Point.{Point}
 use Rattle.ept_space.specs.declared.cube.Rules.{Rules}
+use Rattle.ept_space.specs.VoxelKey.{VoxelKey}
 use Rattle.ept_sample.specs.Members.{IsMember}
+use Rattle.ept_sample.specs.Place.{AllInBox}
 use Rattle.ept_sample.specs.Ids.{HasDistinctIds, in_id_order}
 use Rattle.ept_sample.specs.Arrivals.{octant}
 use Rattle.ept_grid.specs.Mask.{opened}
 use Rattle.ept_grid.specs.Outgoing.{Leaving, leaving_at, points_at, all_points}
-use Rattle.ept_grid.specs.Settling.{share_cell, is_better_at, AreApart}
+use Rattle.ept_grid.specs.declared.pool.Cell.{Cell}
+use Rattle.ept_grid.specs.Settling.{winners, share_cell, is_better_at, AreApart}
+use Rattle.ept_grid.specs.Columns.{spots_of, nexts_of, IsChained}
 
 -- the winners, and the losers of all octants
 abbrev pub contents : List Point → List Leaving → List Point
@@ -70,3 +74,19 @@ pub record HasTaken (rules : Rules) (depth mask mask' : ℕ) (p : Point) (ws ws'
   pub together : IsPermutation (p ∷ contents ws losers) (contents ws' mid)
   pub room : (o : ℕ) → o < 8 → (leaving_at losers o).room ≤ (leaving_at mid o).room + 1
   pub sent : HasSent rules depth mask mask' mid losers' before after
+
+-- for how many more cells a pool has room: a link names the cells below 2 ^ 32 - 1
+abbrev pub cell_room : ℕ → ℕ → ℕ
+cell_room capacity count = min capacity 4294967295 - count
+
+-- What a node keeps: its cells by columns, with room in their pool, its losers, and its open octants.
+pub record IsNode (key : VoxelKey) (rules : Rules) (heads : List ℕ) (cells : List Cell) (capacity : ℕ) (losers : List Leaving) (mask : ℕ) : Type 0 where
+  pub low : key.depth ≤ rules.cube.depth
+  -- there is a head for each column, or none yet, and then no room for a cell
+  pub table : (length heads ≡ 0) ⊎ (length heads ≡ 2 ^ (2 * rules.cube.s))
+  pub some : 0 < capacity → 0 < length heads
+  pub chained : IsChained heads (nexts_of cells) (spots_of rules key.depth cells)
+  pub inside : AllInBox rules.cube key (contents (winners cells) losers)
+  pub settled : IsSettled rules key.depth (winners cells) losers
+  pub few : AreFew rules key.depth mask losers
+  pub deepest : key.depth ≡ rules.cube.depth → mask ≡ 0

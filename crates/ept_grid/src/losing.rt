@@ -29,6 +29,7 @@ pub(crate) fn lose(
     requires lists { (o : ℕ) → o < 8 → length (points_at losers.old o) + 1 ≤ (leaving_at out.old o).room }
     ensures sent { HasSent rules.now depth mask result
         (joined losers.old (octant rules.now depth point) point) losers.new out.old out.new }
+    ensures deepest { rules.now.cube.depth ≤ depth → result ≡ mask }
 {
     losers.known();
     out.known();
