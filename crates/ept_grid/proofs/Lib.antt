@@ -16,3 +16,5 @@ pub mod TileLaws
 pub mod Spots
 pub mod Chains
 pub mod Winners
+pub mod SpotLaws
+pub mod Contending

@@ -1,5 +1,5 @@
 -- The winners of cells.
-use Rattle.std.proofs.Common.{◌≡◌, ◌∙◌, ℕ, zero, suc, ◌+◌, ◌<◌, ◌≤◌, List, [], ◌∷◌, ◌++◌, length, get_or, refl, ap, sym, subst, arith}
+use Rattle.std.proofs.Common.{◌≡◌, ◌∙◌, ℕ, zero, suc, ◌+◌, ◌-◌, ◌<◌, ◌≤◌, true, false, List, [], ◌∷◌, ◌++◌, length, get_or, refl, ap, sym, subst, arith}
 use Rattle.std.specs.List.{All}
 use Rattle.std.proofs.lemmas.List.{length-map}
 use Rattle.std.proofs.lemmas.List.Elements.{All-head, All-tail}
@@ -7,10 +7,18 @@ use Rattle.ept_point.specs.declared.point.Point.{Point}
 use Rattle.ept_space.specs.OctreeCube.{OctreeCube, InCube}
 use Rattle.ept_sample.specs.Place.{place, AllInCube}
 use Rattle.ept_grid.specs.declared.pool.Cell.{Cell}
-use Rattle.std.specs.Prelude.{slice_index}
+use Rattle.std.specs.Prelude.{slice_index, nat_lt, nat_eq}
+use Rattle.std.specs.Bool.{OnTrue, OnFalse}
+use Rattle.std.proofs.lemmas.Bool.{OnTrue_from, OnFalse_from}
+use Rattle.std.proofs.lemmas.Bool.Decides.{nat_tests}
+use Rattle.std.proofs.lemmas.List.{map-set}
+use Rattle.std.proofs.Math.ListN.{set}
+use Rattle.std.proofs.Math.Seq.{map-set_same}
+use borrow.Author.Tests.{ltb-true, ltb-false}
+use Rattle.ept_grid.specs.declared.spot.Spot.{Spot}
 use Rattle.ept_space.specs.declared.cube.Rules.{Rules}
 use Rattle.ept_grid.specs.Settling.{winners}
-use Rattle.ept_grid.specs.Columns.{spot, spots_of, nexts_of, nowhere}
+use Rattle.ept_grid.specs.Columns.{spot, spots_of, nexts_of, nowhere, level_at, NamesBelow, NamesAt}
 
 -- what holds of each winner holds of the winner of a number
 pub winner-at : (P : Point → Type 0) (cells : List Cell) (k : ℕ) (d : Cell) → All P (winners cells) → k < length cells → P (get_or cells k d).point
@@ -36,3 +44,56 @@ spot-at rules depth (c ∷ cells) (suc k) d within = spot-at rules depth cells k
 
 pub length-spots : (rules : Rules) (depth : ℕ) (cells : List Cell) → length (spots_of rules depth cells) ≡ length cells
 length-spots rules depth cells = length-map (winners cells) (spot rules depth) ∙ length-map cells (λ c. c.point)
+
+-- ---- a look at the cell that a link names
+
+equal-true : (m n : ℕ) → nat_eq m n ≡ true → m ≡ n
+equal-true m n same = grind (arith, nat_tests)
+
+equal-false : (m n : ℕ) → nat_eq m n ≡ false → ¬ (m ≡ n)
+equal-false m n differ same = grind (arith, nat_tests)
+
+level-of : (rules : Rules) (depth : ℕ) (cells : List Cell) (link n : ℕ) (d : Cell) → 0 < link → link ≤ length cells → n ≡ (spot rules depth (get_or cells (link - 1) d).point).level → n ≡ level_at (spots_of rules depth cells) (link - 1)
+level-of rules depth cells link n d some there is =
+    is ∙ ap (λ (s : Spot). s.level) (sym (spot-at rules depth cells (link - 1) d (omega arith)))
+
+pub below-code : (rules : Rules) (depth : ℕ) (cells : List Cell) (level link n : ℕ) (d : Cell) → 0 < link → link ≤ length cells → n ≡ (spot rules depth (get_or cells (link - 1) d).point).level → OnTrue (nat_lt n level) (NamesBelow (spots_of rules depth cells) level link)
+below-code rules depth cells level link n d some there is =
+    let at = level-of rules depth cells link n d some there is in
+    OnTrue_from (nat_lt n level) (NamesBelow (spots_of rules depth cells) level link) (λ low. record { some = some; below = subst (λ m. m < level) at (ltb-true low) })
+
+pub not_below-code : (rules : Rules) (depth : ℕ) (cells : List Cell) (level link n : ℕ) (d : Cell) → 0 < link → link ≤ length cells → n ≡ (spot rules depth (get_or cells (link - 1) d).point).level → OnFalse (nat_lt n level) (0 < link → level ≤ level_at (spots_of rules depth cells) (link - 1))
+not_below-code rules depth cells level link n d some there is =
+    let at = level-of rules depth cells link n d some there is in
+    OnFalse_from (nat_lt n level) (0 < link → level ≤ level_at (spots_of rules depth cells) (link - 1)) (λ high _. subst (λ m. level ≤ m) at (ltb-false high))
+
+pub at-code : (rules : Rules) (depth : ℕ) (cells : List Cell) (level link n : ℕ) (d : Cell) → 0 < link → link ≤ length cells → n ≡ (spot rules depth (get_or cells (link - 1) d).point).level → OnTrue (nat_eq n level) (NamesAt (spots_of rules depth cells) level link)
+at-code rules depth cells level link n d some there is =
+    let at = level-of rules depth cells link n d some there is in
+    OnTrue_from (nat_eq n level) (NamesAt (spots_of rules depth cells) level link) (λ same. record { some = some; at = sym at ∙ equal-true n level same })
+
+pub not_at-code : (rules : Rules) (depth : ℕ) (cells : List Cell) (level link n : ℕ) (d : Cell) → 0 < link → link ≤ length cells → n ≡ (spot rules depth (get_or cells (link - 1) d).point).level → OnFalse (nat_eq n level) (0 < link → ¬ (level_at (spots_of rules depth cells) (link - 1) ≡ level))
+not_at-code rules depth cells level link n d some there is =
+    let at = level-of rules depth cells link n d some there is in
+    OnFalse_from (nat_eq n level) (0 < link → ¬ (level_at (spots_of rules depth cells) (link - 1) ≡ level)) (λ differ _ same. equal-false n level differ (at ∙ same))
+
+-- ---- a cell with another point, or with another link
+
+pub nexts-point : (cells : List Cell) (at next : ℕ) (d : Cell) (p : Point) → at < length cells → next ≡ (get_or cells at d).next → nexts_of (set cells at (record { point = p; next = next })) ≡ nexts_of cells
+nexts-point cells at next d p there is =
+    map-set_same (λ (c : Cell). c.next) cells at (record { point = p; next = next }) d is
+
+pub winners-point : (cells : List Cell) (at next : ℕ) (p : Point) → winners (set cells at (record { point = p; next = next })) ≡ set (winners cells) at p
+winners-point cells at next p = map-set (λ (c : Cell). c.point) cells at (record { point = p; next = next })
+
+pub winners-link : (cells : List Cell) (at next : ℕ) (d : Cell) (p : Point) → p ≡ (get_or cells at d).point → winners (set cells at (record { point = p; next = next })) ≡ winners cells
+winners-link cells at next d p is =
+    map-set_same (λ (c : Cell). c.point) cells at (record { point = p; next = next }) d is
+
+pub nexts-link : (cells : List Cell) (at next : ℕ) (p : Point) → nexts_of (set cells at (record { point = p; next = next })) ≡ set (nexts_of cells) at next
+nexts-link cells at next p = map-set (λ (c : Cell). c.next) cells at (record { point = p; next = next })
+
+pub winner-of : (cells : List Cell) (k : ℕ) (d : Cell) (p : Point) → k < length cells → get_or (winners cells) k p ≡ (get_or cells k d).point
+winner-of [] k d p within = absurd (omega arith)
+winner-of (c ∷ cells) zero d p within = refl
+winner-of (c ∷ cells) (suc k) d p within = winner-of cells k d p (omega arith)

@@ -1,6 +1,7 @@
 //! How a point settles in a node: it gets a cell of its own, or contends with the winner of its cell.
 
 ghost use Rattle.std.specs.Prelude.{◌≡◌, ◌<◌, ◌≤◌, ◌+◌, ◌*◌, ◌^◌, ◌++◌, ◌∷◌, [], IsTrue, MatchOption, length, slice_index_or, vec_len, vec_capacity};
+ghost use Rattle.std.specs.List.{All};
 ghost use Rattle.ept_space.specs.OctreeCube.{InBox, InCube};
 ghost use Rattle.ept_sample.specs.Place.{place, AllInBox, AllInCube};
 ghost use Rattle.ept_grid.specs.Settling.{winners, share_cell, AreApart, HasItsCell, HasContended};
@@ -15,7 +16,13 @@ use ept_space::{Key, Rules};
 
 /// Puts a point among the winners of a node, and answers the one that loses, where its cell had a point.
 /// There is room for a cell, so this takes no memory.
-pub(crate) fn settle(key: &Key, rules: &Rules, heads: &mut Vec<u32>, cells: &mut Vec<Cell>, point: Point) -> Option<Point>
+pub(crate) fn settle(
+    key: &Key,
+    rules: &Rules,
+    heads: &mut Vec<u32>,
+    cells: &mut Vec<Cell>,
+    point: Point,
+) -> Option<Point>
     requires low { key.now.depth ≤ rules.now.cube.depth }
     requires all_inside { AllInBox rules.now.cube key.now (winners cells.old.items) }
     requires inside { InBox rules.now.cube key.now (place point) }
@@ -33,7 +40,32 @@ pub(crate) fn settle(key: &Key, rules: &Rules, heads: &mut Vec<u32>, cells: &mut
 {
     key.known();
     rules.cube.known();
-    let depth = key.depth;
+    settle_at(rules, key.depth, heads, cells, point)
+}
+
+// The same at a depth, where cells in one place are one cell.
+fn settle_at(
+    rules: &Rules,
+    depth: u8,
+    heads: &mut Vec<u32>,
+    cells: &mut Vec<Cell>,
+    point: Point,
+) -> Option<Point>
+    requires low { depth ≤ rules.now.cube.depth }
+    requires all_inside { AllInCube rules.now.cube (winners cells.old.items) }
+    requires inside { InCube rules.now.cube (place point) }
+    requires meets { All (λ w. spot rules.now depth w ≡ spot rules.now depth point → IsTrue (share_cell rules.now depth w point)) (winners cells.old.items) }
+    requires table { length heads.old.items ≡ 2 ^ (2 * rules.now.cube.s) }
+    requires chained { IsChained heads.old.items (nexts_of cells.old.items) (spots_of rules.now depth cells.old.items) }
+    requires room { vec_len cells.old < vec_capacity cells.old }
+    requires few { length cells.old.items < 4294967295 }
+    ensures settled { MatchOption result
+        (HasItsCell rules.now depth point (winners cells.old.items) (winners cells.new.items))
+        (HasContended rules.now depth point (winners cells.old.items) (winners cells.new.items)) }
+    ensures chained { IsChained heads.new.items (nexts_of cells.new.items) (spots_of rules.now depth cells.new.items) }
+    ensures table { length heads.new.items ≡ length heads.old.items }
+    ensures room { vec_capacity cells.new ≡ vec_capacity cells.old }
+{
     let spot = spot_of(rules, depth, &point);
     let gap = gap_at(rules, depth, heads.as_slice(), cells.as_slice(), spot);
     if is_at(rules, depth, cells.as_slice(), gap.above, spot.level) {
