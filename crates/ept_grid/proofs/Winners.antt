@@ -11,14 +11,14 @@ use Rattle.std.specs.Prelude.{slice_index, nat_lt, nat_eq}
 use Rattle.std.specs.Bool.{OnTrue, OnFalse}
 use Rattle.std.proofs.lemmas.Bool.{OnTrue_from, OnFalse_from}
 use Rattle.std.proofs.lemmas.Bool.Decides.{nat_tests}
-use Rattle.std.proofs.lemmas.List.{map-set}
+use Rattle.std.proofs.lemmas.List.{map-set, map-append}
 use Rattle.std.proofs.Math.ListN.{set}
 use Rattle.std.proofs.Math.Seq.{map-set_same}
 use borrow.Author.Tests.{ltb-true, ltb-false}
 use Rattle.ept_grid.specs.declared.spot.Spot.{Spot}
 use Rattle.ept_space.specs.declared.cube.Rules.{Rules}
 use Rattle.ept_grid.specs.Settling.{winners}
-use Rattle.ept_grid.specs.Columns.{spot, spots_of, nexts_of, nowhere, level_at, NamesBelow, NamesAt}
+use Rattle.ept_grid.specs.Columns.{spot, spots_of, nexts_of, nowhere, level_at, NamesBelow, NamesAt, nexts_with}
 
 -- what holds of each winner holds of the winner of a number
 pub winner-at : (P : Point → Type 0) (cells : List Cell) (k : ℕ) (d : Cell) → All P (winners cells) → k < length cells → P (get_or cells k d).point
@@ -60,12 +60,12 @@ level-of rules depth cells link n d some there is =
 pub below-code : (rules : Rules) (depth : ℕ) (cells : List Cell) (level link n : ℕ) (d : Cell) → 0 < link → link ≤ length cells → n ≡ (spot rules depth (get_or cells (link - 1) d).point).level → OnTrue (nat_lt n level) (NamesBelow (spots_of rules depth cells) level link)
 below-code rules depth cells level link n d some there is =
     let at = level-of rules depth cells link n d some there is in
-    OnTrue_from (nat_lt n level) (NamesBelow (spots_of rules depth cells) level link) (λ low. record { some = some; below = subst (λ m. m < level) at (ltb-true low) })
+    OnTrue_from (nat_lt n level) (NamesBelow (spots_of rules depth cells) level link) (λ low. record { some = some; below = subst (λ m. m < level) at (ltb-true n level low) })
 
 pub not_below-code : (rules : Rules) (depth : ℕ) (cells : List Cell) (level link n : ℕ) (d : Cell) → 0 < link → link ≤ length cells → n ≡ (spot rules depth (get_or cells (link - 1) d).point).level → OnFalse (nat_lt n level) (0 < link → level ≤ level_at (spots_of rules depth cells) (link - 1))
 not_below-code rules depth cells level link n d some there is =
     let at = level-of rules depth cells link n d some there is in
-    OnFalse_from (nat_lt n level) (0 < link → level ≤ level_at (spots_of rules depth cells) (link - 1)) (λ high _. subst (λ m. level ≤ m) at (ltb-false high))
+    OnFalse_from (nat_lt n level) (0 < link → level ≤ level_at (spots_of rules depth cells) (link - 1)) (λ high _. subst (λ m. level ≤ m) at (ltb-false n level high))
 
 pub at-code : (rules : Rules) (depth : ℕ) (cells : List Cell) (level link n : ℕ) (d : Cell) → 0 < link → link ≤ length cells → n ≡ (spot rules depth (get_or cells (link - 1) d).point).level → OnTrue (nat_eq n level) (NamesAt (spots_of rules depth cells) level link)
 at-code rules depth cells level link n d some there is =
@@ -97,3 +97,16 @@ pub winner-of : (cells : List Cell) (k : ℕ) (d : Cell) (p : Point) → k < len
 winner-of [] k d p within = absurd (omega arith)
 winner-of (c ∷ cells) zero d p within = refl
 winner-of (c ∷ cells) (suc k) d p within = winner-of cells k d p (omega arith)
+
+pub winners-push : (pushed cells : List Cell) (c : Cell) → pushed ≡ cells ++ c ∷ [] → winners pushed ≡ winners cells ++ c.point ∷ []
+winners-push pushed cells c is =
+    ap (λ (v : List Cell). winners v) is ∙ map-append (λ (e : Cell). e.point) cells (c ∷ [])
+
+pub nexts-push : (pushed cells : List Cell) (c : Cell) → pushed ≡ cells ++ c ∷ [] → nexts_of pushed ≡ nexts_of cells ++ c.next ∷ []
+nexts-push pushed cells c is =
+    ap (λ (v : List Cell). nexts_of v) is ∙ map-append (λ (e : Cell). e.next) cells (c ∷ [])
+
+pub nexts-behind : (nexts : List ℕ) (below above link : ℕ) → 0 < below → set (nexts ++ above ∷ []) (below - 1) link ≡ nexts_with nexts below above link
+nexts-behind nexts zero above link some = absurd (omega arith)
+nexts-behind nexts (suc j) above link some =
+    let same : suc j - 1 ≡ j = omega arith in ap (λ k. set (nexts ++ above ∷ []) k link) same
