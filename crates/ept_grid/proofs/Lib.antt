@@ -7,12 +7,8 @@ pub mod Sent
 pub mod Taken
 pub mod MaskLaws
 pub mod OctantLaws
-pub mod SlotLaws
-pub mod Arriving
 pub mod Room
 pub mod Leavings
-pub mod Arrived
-pub mod TileLaws
 pub mod Spots
 pub mod Chains
 pub mod Winners

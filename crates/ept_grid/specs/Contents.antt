@@ -90,3 +90,10 @@ pub record IsNode (key : VoxelKey) (rules : Rules) (heads : List ℕ) (cells : L
   pub settled : IsSettled rules key.depth (winners cells) losers
   pub few : AreFew rules key.depth mask losers
   pub deepest : key.depth ≡ rules.cube.depth → mask ≡ 0
+
+-- the cells and losers of these points, where no octant is open
+pub record IsFilled (key : VoxelKey) (rules : Rules) (heads : List ℕ) (cells : List Cell) (losers : List Leaving) (points : List Point) : Type 0 where
+  pub table : length heads ≡ 2 ^ (2 * rules.cube.s)
+  pub chained : IsChained heads (nexts_of cells) (spots_of rules key.depth cells)
+  pub settled : IsSettled rules key.depth (winners cells) losers
+  pub all : IsPermutation points (contents (winners cells) losers)

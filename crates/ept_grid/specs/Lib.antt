@@ -2,7 +2,6 @@ pub mod Contents
 pub mod Mask
 pub mod Outgoing
 pub mod Node
-pub mod Slots
 pub mod Tile
 pub mod Settling
 pub mod Columns

@@ -2,15 +2,15 @@
 //! leave, by octant.
 #![tactic(auto)]
 
+mod by_id;
 mod error;
 mod grid;
 mod losing;
 mod octants;
 mod outgoing;
 mod pool;
+mod reserving;
 mod settling;
-mod slot;
-mod slots;
 mod spot;
 mod taking;
 #[cfg(test)]

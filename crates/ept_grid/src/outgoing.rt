@@ -59,10 +59,18 @@ impl Lane {
         self.points.push_reserved(point);
     }
 
-    fn count(&self) -> usize
-        ensures { result ≡ length self.now.points }
+    fn add(&mut self, point: Point) -> Result<(), Memory>
+        ensures { OnOk result (self.new.points ≡ self.old.points ++ point ∷ []) }
     {
-        self.points.len()
+        self.points.push(point)?;
+        Ok(())
+    }
+
+    fn count(&self) -> usize
+        ensures count { result ≡ length self.now.points }
+        ensures small { result < 288230376151711744 }
+    {
+        self.points.as_slice().len()
     }
 
     // Puts the points in id order, in place.
@@ -160,12 +168,44 @@ impl Outgoing {
         self.lanes[octant as usize].push(point);
     }
 
+    /// Adds a point to the list of an octant. After `Memory` the points are as they were.
+    pub(crate) fn add(&mut self, octant: u8, point: Point) -> Result<(), Memory>
+        requires one_of_eight { octant < OCTANTS }
+        ensures added { OnOk result (points_at self.new octant ≡ points_at self.old octant ++ point ∷ []) }
+        ensures others { (o : ℕ) → o ≢ octant → points_at self.new o ≡ points_at self.old o }
+        ensures eight { length self.new ≡ length self.old }
+    {
+        self.lanes[octant as usize].add(point)
+    }
+
     /// How many points leave for an octant.
     pub(crate) fn count(&self, octant: u8) -> usize
         requires { octant < OCTANTS }
         ensures { result ≡ length (points_at self.now octant) }
     {
         self.lanes[octant as usize].count()
+    }
+
+    /// How many points leave for any octant.
+    pub(crate) fn total(&self) -> usize
+        ensures total { result ≡ length (all_points self.now) }
+        ensures small { result < 2017612633061982208 }
+    {
+        let mut total = 0;
+        for lane in self.lanes.iter() {
+            total += lane.count();
+        }
+        total
+    }
+
+    /// Appends the points, octant by octant.
+    pub(crate) fn append_to(&self, out: &mut Vec<Point>) -> Result<(), Memory>
+        ensures { OnOk result (out.new.items ≡ out.old.items ++ all_points self.now) }
+    {
+        for lane in self.lanes.iter() {
+            out.extend_from_slice(lane.as_slice())?;
+        }
+        Ok(())
     }
 
     /// Puts the points of an octant in id order. It takes no memory.
