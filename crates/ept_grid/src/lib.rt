@@ -4,6 +4,7 @@
 
 mod error;
 mod grid;
+mod making;
 mod octants;
 mod outgoing;
 mod pool;
