@@ -6,6 +6,7 @@ mod by_id;
 mod error;
 mod grid;
 mod losing;
+mod making;
 mod octants;
 mod outgoing;
 mod pool;
