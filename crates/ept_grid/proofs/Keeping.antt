@@ -101,3 +101,15 @@ length-at (l ∷ losers) (suc o) = omega (arith, length-append l.points (all_poi
 
 pub one-list : (ws : List Point) (losers : List Leaving) (o n : ℕ) → length (contents ws losers) + 1 ≤ n → length (points_at losers o) + 1 ≤ n
 one-list ws losers o n h = omega (arith, h, length-append ws (all_points losers), length-at losers o)
+
+-- ---- how many winners there are
+
+pub contended-length : (rules : Rules) (depth : ℕ) (p : Point) (ws ws' : List Point) (loser : Point) → HasContended rules depth p ws ws' loser → length ws' ≡ length ws
+contended-length rules depth p ws ws' loser h =
+    elim h.outcome [
+      | inl r ↦ omega (arith, ap (λ (w : List Point). length w) h.stood, ap (λ (w : List Point). length w) r.1, length-append h.front (p ∷ h.back), length-append h.front (h.winner ∷ h.back))
+      | inr r ↦ ap (λ (w : List Point). length w) r.1
+    ]
+
+pub same-cells : (cells cells' : List Cell) → length (winners cells') ≡ length (winners cells) → length cells' ≡ length cells
+same-cells cells cells' e = omega (arith, e, length-map cells (λ (c : Cell). c.point), length-map cells' (λ (c : Cell). c.point))
