@@ -15,7 +15,7 @@ use std::alloc::Global;
 /// How many points a node has.
 pub(crate) fn count(cells: &[Cell], losers: &Outgoing) -> usize
     ensures count { result ≡ length (contents (winners cells.now) losers.now) }
-    ensures small { result < 2305843009213693952 }
+    ensures small { result < 4611686018427387904 }
 {
     cells.len() + losers.total()
 }
