@@ -6,7 +6,7 @@ use Rattle.std.specs.List.Sorted.{IsPermutation}
 use Rattle.std.proofs.lemmas.Bool.{false≢true}
 use Rattle.std.proofs.lemmas.Bool.Decides.{nat_tests}
 use Rattle.std.proofs.Math.Seq.{drop-cons}
-use Rattle.std.proofs.lemmas.List.Sorted.{IsPermutation-sym}
+use Rattle.std.proofs.lemmas.List.Sorted.{IsPermutation-sym, length_permutation}
 use Rattle.ept_point.specs.declared.point.Point.{Point}
 use Rattle.ept_point.specs.Order.{IsAscending}
 use Rattle.ept_space.specs.VoxelKey.{VoxelKey}
@@ -95,3 +95,11 @@ pub none-in_order : (cells : List Cell) (losers : List Leaving) → cells ≡ []
 unfolding in_id_order
 none-in_order cells losers e none =
     ap (λ (w : List Cell). in_id_order (contents (winners w) losers)) e ∙ ap (λ (w : List Point). in_id_order w) (all-none losers (λ o h. none o))
+
+pub length-in_order : (ps : List Point) → length (in_id_order ps) ≡ length ps
+length-in_order ps = length_permutation ps (in_id_order ps) (IsPermutation-in_id_order ps)
+
+-- how many points a node has, from its cells as they are read
+pub count-node : (cells seen : List Cell) (losers : List Leaving) (n : ℕ) → n ≡ length (contents (winners seen) losers) → seen ≡ cells → n ≡ length (in_id_order (contents (winners cells) losers))
+count-node cells seen losers n e is =
+    e ∙ ap (λ (w : List Cell). length (contents (winners w) losers)) is ∙ sym (length-in_order (contents (winners cells) losers))
