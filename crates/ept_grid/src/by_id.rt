@@ -95,9 +95,7 @@ fn first_after(points: &[Point], point: &Point) -> Option<usize>
     ensures place { result ≡ position (comes_before point.now) points.now }
     ensures inside { IfSome result (λ at. at ≤ length points.now) }
 {
-    points
-        .iter()
-        .position(|other| stands_before(point, other))
+    points.iter().position(|other| stands_before(point, other))
 }
 
 // Whether the id of the first point comes first.

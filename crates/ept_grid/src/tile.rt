@@ -115,7 +115,13 @@ fn settle_all(alloc: Global, key: &Key, rules: &Rules, points: &[Point]) -> Resu
 }
 
 // Settles the point of a number.
-fn fill(key: &Key, rules: &Rules, points: &[Point], at: usize, kept: &mut Kept) -> Result<(), Memory>
+fn fill(
+    key: &Key,
+    rules: &Rules,
+    points: &[Point],
+    at: usize,
+    kept: &mut Kept,
+) -> Result<(), Memory>
     requires low { key.now.depth ≤ rules.now.cube.depth }
     requires inside { AllInBox rules.now.cube key.now points.now }
     requires there { at < length points.now }
@@ -185,11 +191,11 @@ fn first_losing(rules: &Rules, depth: u8, mask: u8, points: &[Point]) -> Option<
 fn first_overfull(rules: &Rules, depth: u8, losers: &Outgoing, mask: u8) -> Option<u8>
     ensures { MatchOption result
         ((o : ℕ) → o < OCTANTS →
-            (not (opened mask o) && opens_with rules.now depth (length (points_at losers.now o))) ≡ false)
+        (not (opened mask o) && opens_with rules.now depth (length (points_at losers.now o))) ≡ false)
         (λ o. (o < OCTANTS)
         × ((not (opened mask o) && opens_with rules.now depth (length (points_at losers.now o))) ≡ true)
         × ((k : ℕ) → k < o →
-            (not (opened mask k) && opens_with rules.now depth (length (points_at losers.now k))) ≡ false)) }
+        (not (opened mask k) && opens_with rules.now depth (length (points_at losers.now k))) ≡ false)) }
 {
     for octant in 0..OCTANTS {
         if !is_open(mask, octant) && is_too_many(rules, depth, losers.count(octant)) {
