@@ -13,8 +13,8 @@ use Rattle.ept_sample.proofs.Members.{contains-IsMember}
 use Rattle.ept_grid.specs.declared.pool.Cell.{Cell}
 use Rattle.ept_grid.specs.declared.spot.Spot.{Spot}
 use Rattle.ept_grid.specs.Settling.{winners, share_cell, is_better_at, AreApart, HasItsCell, HasContended}
-use Rattle.ept_grid.specs.Columns.{spot, spots_of, nexts_of, nowhere, heads_with, nexts_with, IsChained, IsCut}
-use Rattle.ept_grid.proofs.Chains.{IsAlone, chained-with}
+use Rattle.ept_grid.specs.Columns.{spot, spots_of, nexts_of, nowhere, heads_with, nexts_with, IsChained, IsCut, IsAlone}
+use Rattle.ept_grid.proofs.Chains.{chained-with}
 use Rattle.ept_grid.proofs.Winners.{winner-of, winners-point, length-spots}
 use Rattle.ept_grid.proofs.SpotLaws.{spot-share_cell}
 

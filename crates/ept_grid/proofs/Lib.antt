@@ -11,3 +11,4 @@ pub mod Chains
 pub mod Winners
 pub mod SpotLaws
 pub mod Contending
+pub mod Seeks

@@ -8,10 +8,12 @@ mod making;
 mod octants;
 mod outgoing;
 mod pool;
+mod seeking;
 mod settling;
 mod slot;
 mod slots;
 mod spot;
+mod steps;
 mod taking;
 #[cfg(test)]
 mod tests;
