@@ -57,7 +57,7 @@ loses-there rules depth p w cells at d there is one worse =
       outcome = inr (worse, refl, refl);
     }
 
-spot-of : (rules : Rules) (depth : ℕ) (ws : List Point) (k : ℕ) (d : Point) → k < length ws → get_or (map (spot rules depth) ws) k nowhere ≡ spot rules depth (get_or ws k d)
+pub spot-of : (rules : Rules) (depth : ℕ) (ws : List Point) (k : ℕ) (d : Point) → k < length ws → get_or (map (spot rules depth) ws) k nowhere ≡ spot rules depth (get_or ws k d)
 spot-of rules depth [] k d within = absurd (omega arith)
 spot-of rules depth (w ∷ ws) zero d within = refl
 spot-of rules depth (w ∷ ws) (suc k) d within = spot-of rules depth ws k d (omega arith)
@@ -71,7 +71,7 @@ spots-point rules depth cells at next p meets there =
 
 -- ---- one more cell
 
-false_unless : (b : Bool) → (b ≡ true → ⊥) → b ≡ false
+pub false_unless : (b : Bool) → (b ≡ true → ⊥) → b ≡ false
 false_unless true not = absurd (not refl)
 false_unless false not = refl
 

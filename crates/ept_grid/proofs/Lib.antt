@@ -12,3 +12,4 @@ pub mod Winners
 pub mod SpotLaws
 pub mod Contending
 pub mod Seeks
+pub mod ColumnCells

@@ -5,16 +5,50 @@ ghost use Rattle.ept_space.specs.OctreeCube.{InBox};
 ghost use Rattle.ept_sample.specs.Place.{AllInBox, AllInCube};
 ghost use Rattle.ept_grid.specs.Settling.{winners};
 ghost use Rattle.ept_grid.specs.Columns.{spots_of, nexts_of, IsChained, IsAlone, StandsAt, in_column};
+ghost use Rattle.ept_grid.specs.Winner.{IsCellOf, NoneIn, WinsIn, column_cells};
 
 use crate::pool::Cell;
-use crate::spot::{Spot, level_of};
+use crate::spot::{Spot, column_of, level_of};
 use crate::steps::Steps;
 use ept_point::Point;
-use ept_space::Rules;
+use ept_space::{Key, Rules};
 use std::sync::ledger::Ledger;
 
-/// The winner of the cell that stands in a place of its column.
-pub(crate) fn seek<L: Ledger>(
+/// The winner of a cell of the node's box, where it has one. Each step is a cell of its column that is
+/// looked at.
+pub(crate) fn winner_of<L: Ledger>(
+    key: &Key,
+    rules: &Rules,
+    heads: &[u32],
+    cells: &[Cell],
+    cell: [u32; 3],
+    steps: &mut Steps<L>,
+) -> Option<Point>
+    requires low { key.now.depth ≤ rules.now.cube.depth }
+    requires inside { AllInBox rules.now.cube key.now (winners cells.now) }
+    requires of_box { IsCellOf rules.now key.now cell }
+    requires table { 0 < length cells.now → length heads.now ≡ 2 ^ (2 * rules.now.cube.s) }
+    requires chained { IsChained heads.now (nexts_of cells.now) (spots_of rules.now key.now.depth cells.now) }
+    ensures found { MatchOption result
+        (NoneIn rules.now key.now.depth cell (winners cells.now))
+        (WinsIn rules.now key.now.depth cell (winners cells.now)) }
+    ensures cost { steps.new ≤ steps.old
+        + column_cells rules.now key.now (winners cells.now) (slice_index cell 0) (slice_index cell 1) }
+{
+    if cells.is_empty() {
+        return None;
+    }
+    key.known();
+    rules.cube.known();
+    let spot = Spot {
+        column: column_of(&rules.cube, cell[0], cell[1]),
+        level: cell[2],
+    };
+    seek(rules, key.depth, heads, cells, spot, steps)
+}
+
+// The winner of the cell that stands in a place of its column.
+fn seek<L: Ledger>(
     rules: &Rules,
     depth: u8,
     heads: &[u32],
