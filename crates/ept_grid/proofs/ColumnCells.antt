@@ -1,6 +1,6 @@
 -- The cells of a column of a box, by their levels.
 use Rattle.std.proofs.Common.{◌≡◌, ◌≢◌, ◌∙◌, ◌⊎◌, inl, inr, ℕ, zero, suc, ◌+◌, ◌-◌, ◌*◌, ◌/◌, ◌%◌, ◌^◌, ◌<◌, ◌≤◌, Bool, true, false, cond, ◌&&◌, ◌==◌, List, [], ◌∷◌, ◌++◌, length, get_or, map, refl, ap, sym, subst, arith}
-use Rattle.std.specs.Prelude.{slice_index, nat_lt, count_by, IsTrue}
+use Rattle.std.specs.Prelude.{slice_index, nat_lt, count_by, IsTrue, Option, Some, None, MatchOption}
 use Rattle.std.specs.List.{All, list_any, range_with_len}
 use Rattle.std.proofs.lemmas.Bool.Decides.{nat_tests}
 use Rattle.std.proofs.lemmas.Bool.{cases_lt, false≢true}
@@ -16,7 +16,7 @@ use Rattle.ept_sample.specs.Place.{place, AllInBox}
 use Rattle.ept_sample.proofs.Members.{all-member}
 use Rattle.ept_grid.specs.declared.spot.Spot.{Spot}
 use Rattle.ept_grid.specs.Columns.{spot, column_of, nowhere, column_at, level_at, IsAlone, StandsAt, in_column, looked}
-use Rattle.ept_grid.specs.Winner.{IsCellOf, lies_in, NoneIn, column_cells}
+use Rattle.ept_grid.specs.Winner.{IsCellOf, lies_in, NoneIn, WinsIn, column_cells}
 use Rattle.ept_grid.proofs.SpotLaws.{HasKey, has-key, from-parts, column-parts}
 use Rattle.ept_grid.proofs.Contending.{spot-of, false_unless}
 use Rattle.ept_grid.proofs.Seeks.{count-cons, count-le}
@@ -66,6 +66,7 @@ at-most-one {X} test (x ∷ xs) d one =
   where
     others : test x ≡ true → count_by test xs ≡ 0
     others is = fails test xs d (λ k within. false_unless (test (get_or xs k d)) (λ also. let e : 0 ≡ suc k = one 0 (suc k) (omega arith) (omega arith) is also in absurd (omega arith)))
+
     step : (b : Bool) → test x ≡ b → count_by test xs ≤ 1 → cond b 1 0 + count_by test xs ≤ 1
     step true is rest = let none = others is in omega arith
     step false is rest = omega arith
@@ -79,6 +80,7 @@ count-parts {X} f g h (x ∷ xs) parts =
     neither : f x ≡ false → g x ≡ false → (f x ≡ true) ⊎ (g x ≡ true) → ⊥
     neither no_f no_g (inl passes) = false≢true (sym no_f ∙ passes)
     neither no_f no_g (inr passes) = false≢true (sym no_g ∙ passes)
+
     step : (a : Bool) → f x ≡ a → (b : Bool) → g x ≡ b → (c : Bool) → h x ≡ c → count_by h xs ≤ count_by f xs + count_by g xs → cond c 1 0 + count_by h xs ≤ cond a 1 0 + count_by f xs + (cond b 1 0 + count_by g xs)
     step true is_a true is_b true is_c rest = omega arith
     step true is_a true is_b false is_c rest = omega arith
@@ -115,6 +117,7 @@ looked-level spots column z some apart none =
   where
     one : count_by (at_level column z) spots ≤ 1
     one = at-most-one (at_level column z) spots nowhere (λ i j in_i in_j at_i at_j. let p = two _ _ _ _ at_i in let q = two _ _ _ _ at_j in apart i j in_i in_j (p.0 ∙ sym q.0) (p.1 ∙ sym q.1))
+
     few : (b : Bool) → (b ≡ false → (k : ℕ) → k < length spots → at_level column z (get_or spots k nowhere) ≡ false) → count_by (at_level column z) spots ≤ cond b 1 0
     few true nobody = one
     few false nobody = let e = fails (at_level column z) spots nowhere (nobody refl) in omega arith
@@ -212,3 +215,13 @@ column-cells rules key ws cell whole inside of_box apart =
     let below = none-below rules key ws (column_of rules.cube x y) whole inside in
     let all = all-below rules key ws (column_of rules.cube x y) whole inside in
     omega arith
+
+-- ---- what the search found
+
+pub found-in : (rules : Rules) (key : VoxelKey) (depth : ℕ) (ws : List Point) (cell : List ℕ) (s : Spot) (found : Option Point) → depth ≡ key.depth → s ≡ spot_at rules cell → key.depth + rules.cube.s ≤ rules.cube.e → AllInBox rules.cube key ws → IsCellOf rules key cell → MatchOption found (IsAlone (map (spot rules depth) ws) s) (StandsAt rules depth ws s) → MatchOption found (NoneIn rules key.depth cell ws) (WinsIn rules key.depth cell ws)
+found-in rules key depth ws cell s None is_depth is_spot whole inside of_box alone =
+    none-alone rules key.depth cell ws (subst (λ (t : Spot). IsAlone (map (spot rules key.depth) ws) t) is_spot (subst (λ d. IsAlone (map (spot rules d) ws) s) is_depth alone))
+found-in rules key depth ws cell s (Some p) is_depth is_spot whole inside of_box at = record {
+  one_of_them = at.one_of_them;
+  in_cell = lies-spot rules key cell p whole (all-member (λ q. InBox rules.cube key (place q)) p ws inside at.one_of_them) of_box (subst (λ d. spot rules d p ≡ s) is_depth at.stands ∙ is_spot);
+}
