@@ -27,10 +27,10 @@ use Rattle.ept_grid.proofs.Seeks.{count-cons, count-le}
 abbrev pub spot_at : Rules → List ℕ → Spot
 spot_at rules cell = record { column = column_of rules.cube (slice_index cell 0) (slice_index cell 1); level = slice_index cell 2 }
 
-three : (a b c p q r : ℕ) → ((a == p) && (b == q) && (c == r)) ≡ true → (a ≡ p) × (b ≡ q) × (c ≡ r)
+pub three : (a b c p q r : ℕ) → ((a == p) && (b == q) && (c == r)) ≡ true → (a ≡ p) × (b ≡ q) × (c ≡ r)
 three a b c p q r h = (grind (arith, nat_tests), grind (arith, nat_tests), grind (arith, nat_tests))
 
-three-from : (a b c p q r : ℕ) → a ≡ p → b ≡ q → c ≡ r → ((a == p) && (b == q) && (c == r)) ≡ true
+pub three-from : (a b c p q r : ℕ) → a ≡ p → b ≡ q → c ≡ r → ((a == p) && (b == q) && (c == r)) ≡ true
 three-from a b c p q r ha hb hc = grind (arith, nat_tests)
 
 pub spot-lies : (rules : Rules) (depth : ℕ) (cell : List ℕ) (p : Point) → lies_in rules depth cell p ≡ true → spot rules depth p ≡ spot_at rules cell

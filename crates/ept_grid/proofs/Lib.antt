@@ -1,11 +1,14 @@
+pub mod Lanes
+pub mod Settled
+pub mod Contest
+pub mod Keeping
+pub mod Leaving
+pub mod Sent
+pub mod Taken
 pub mod MaskLaws
 pub mod OctantLaws
-pub mod SlotLaws
-pub mod Arriving
 pub mod Room
 pub mod Leavings
-pub mod Arrived
-pub mod TileLaws
 pub mod Spots
 pub mod Chains
 pub mod Winners
@@ -13,3 +16,4 @@ pub mod SpotLaws
 pub mod Contending
 pub mod Seeks
 pub mod ColumnCells
+pub mod WinnerLaws

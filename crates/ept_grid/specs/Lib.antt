@@ -1,7 +1,7 @@
+pub mod Contents
 pub mod Mask
 pub mod Outgoing
 pub mod Node
-pub mod Slots
 pub mod Tile
 pub mod Settling
 pub mod Columns

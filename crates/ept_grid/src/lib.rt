@@ -2,16 +2,17 @@
 //! leave, by octant.
 #![tactic(auto)]
 
+mod by_id;
 mod error;
 mod grid;
+mod losing;
 mod making;
 mod octants;
 mod outgoing;
 mod pool;
+mod reserving;
 mod seeking;
 mod settling;
-mod slot;
-mod slots;
 mod spot;
 mod steps;
 mod taking;
@@ -24,3 +25,4 @@ pub use error::GridError;
 pub use grid::Grid;
 pub use octants::OCTANTS;
 pub use outgoing::Outgoing;
+pub use steps::Steps;
