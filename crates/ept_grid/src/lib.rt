@@ -20,6 +20,8 @@ mod taking;
 mod tests;
 mod tile;
 mod walk;
+#[cfg(test)]
+mod winner_tests;
 
 pub use error::GridError;
 pub use grid::Grid;
