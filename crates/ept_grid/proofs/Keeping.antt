@@ -1,5 +1,5 @@
 -- A node stays one when it takes in a point.
-use Rattle.std.proofs.Common.{◌≡◌, ◌∙◌, ℕ, zero, suc, ◌+◌, ◌-◌, ◌*◌, ◌^◌, ◌<◌, ◌≤◌, ◌⊎◌, inl, inr, true, false, List, [], ◌∷◌, ◌++◌, length, length-append, refl, ap, sym, subst, arith}
+use Rattle.std.proofs.Common.{◌≡◌, ◌∙◌, ℕ, zero, suc, ◌+◌, ◌-◌, ◌*◌, ◌^◌, ◌<◌, ◌≤◌, ◌⊎◌, inl, inr, Bool, true, false, ◌&&◌, nat_lt, List, [], ◌∷◌, ◌++◌, length, length-append, refl, ap, sym, subst, arith}
 use Rattle.std.specs.List.{All}
 use Rattle.std.specs.List.Sorted.{IsPermutation}
 use Rattle.std.proofs.lemmas.List.Sorted.{IsPermutation-sym}
@@ -19,11 +19,15 @@ use Rattle.ept_grid.specs.Mask.{opened}
 use Rattle.ept_grid.specs.Outgoing.{Leaving, leaving_at, points_at, all_points}
 use Rattle.ept_grid.specs.Settling.{winners, AreApart, HasItsCell, HasContended}
 use Rattle.ept_grid.specs.Columns.{spots_of, nexts_of, IsChained}
-use Rattle.ept_grid.specs.Contents.{contents, IsSettled, AreFew, HasSent, HasTaken, joined, IsNode}
+use Rattle.ept_grid.specs.Contents.{contents, IsSettled, AreFew, HasSent, HasTaken, joined, IsNode, IsBehind, cell_room, opens_with}
 use Rattle.ept_grid.proofs.Lanes.{member-at, at-member, joined-room}
 use Rattle.ept_grid.proofs.Contest.{HasSettled, own-cell, contended}
 use Rattle.ept_grid.proofs.Sent.{stayed, settled-sent, few-sent}
 use Rattle.ept_grid.proofs.Leaving.{none-lost}
+use Rattle.ept_grid.proofs.Leavings.{all-same}
+use Rattle.ept_grid.proofs.Room.{least-limit, least-room}
+use Rattle.ept_grid.specs.Node.{least_room}
+use Rattle.std.proofs.lemmas.Bool.Decides.{nat_tests}
 
 -- ---- what is taken
 
@@ -84,6 +88,7 @@ node-taken key rules mask mask' p heads heads' cells cells' capacity capacity' l
   chained = chained;
   inside = taken_inside key rules key.depth mask mask' p (winners cells) (winners cells') losers losers' before after t node.inside here;
   settled = settled-sent rules key.depth mask mask' (winners cells') t.mid losers' before after t.settled t.sent;
+  eight = t.sent.stay_eight;
   few = few-sent rules key.depth mask mask' t.mid losers' before after t.sent;
   deepest = λ h. deepest (omega (arith, h)) ∙ node.deepest h;
 }
@@ -113,3 +118,68 @@ contended-length rules depth p ws ws' loser h =
 
 pub same-cells : (cells cells' : List Cell) → length (winners cells') ≡ length (winners cells) → length cells' ≡ length cells
 same-cells cells cells' e = omega (arith, e, length-map cells (λ (c : Cell). c.point), length-map cells' (λ (c : Cell). c.point))
+
+-- ---- room
+
+pub room-cell : (capacity count : ℕ) (losers : List Leaving) → 0 < least_room (cell_room capacity count) losers → (count < capacity) × (count < 4294967295)
+room-cell capacity count losers h =
+    (omega (arith, h, least-limit (cell_room capacity count) losers), omega (arith, h, least-limit (cell_room capacity count) losers))
+
+pub room-loser : (limit : ℕ) (losers : List Leaving) (o : ℕ) → length losers ≡ 8 → o < 8 → 0 < least_room limit losers → 0 < (leaving_at losers o).room
+room-loser limit losers o e small h = omega (arith, h, least-room limit losers o (omega (arith, e, small)))
+
+-- a node without points
+pub node-none : (key : VoxelKey) (rules : Rules) (heads : List ℕ) (cells : List Cell) (capacity : ℕ) (losers : List Leaving) → key.depth ≤ rules.cube.depth → heads ≡ [] → cells ≡ [] → capacity ≡ 0 → length losers ≡ 8 → ((o : ℕ) → points_at losers o ≡ []) → IsNode key rules heads cells capacity losers 0
+node-none key rules heads cells capacity losers low e f g eight none = record {
+  low = low;
+  table = inl (ap (λ (w : List ℕ). length w) e);
+  some = λ h. absurd (omega (arith, g, h));
+  chained = subst (λ (w : List ℕ). IsChained w (nexts_of cells) (spots_of rules key.depth cells)) (sym e) (subst (λ (w : List Cell). IsChained [] (nexts_of w) (spots_of rules key.depth w)) (sym f) (record {
+    each = refl;
+    first = λ c h. absurd (omega (arith, h));
+    next = λ k h. absurd (omega (arith, h));
+    apart = λ i j h. absurd (omega (arith, h));
+  }));
+  inside = All-members (λ q. InBox rules.cube key (place q)) (contents (winners cells) losers) (λ q m. absurd (nobody q m));
+  settled = record {
+    apart = λ a b m. absurd (subst (λ (w : List Cell). IsMember a (winners w)) f m);
+    behind = λ o q m. absurd (subst (λ (w : List Point). IsMember q w) (none o) m);
+  };
+  eight = eight;
+  few = record {
+    shut = λ o h isn't. ap (λ (w : List Point). opens_with rules key.depth (length w)) (none o) ∙ never rules.threshold (nat_lt key.depth rules.cube.depth);
+    gone = λ o h is. none o;
+  };
+  deepest = λ _. refl;
+}
+  where
+    nobody : (q : Point) → IsMember q (contents (winners cells) losers) → ⊥
+    nobody q m =
+        elim (IsMember-append q (winners cells) (all_points losers) m) [
+          | inl w ↦ subst (λ (v : List Cell). IsMember q (winners v)) f w
+          | inr l ↦ let at = member-at losers q l in subst (λ (v : List Point). IsMember q v) (none at.0) at.2
+        ]
+
+    never : (n : ℕ) (b : Bool) → (b && nat_lt n 0) ≡ false
+    never n true = grind (arith, nat_tests)
+    never n false = refl
+
+-- nothing but the room is another
+pub node-made : (key : VoxelKey) (rules : Rules) (mask : ℕ) (heads heads' : List ℕ) (cells cells' : List Cell) (capacity capacity' : ℕ) (losers losers' : List Leaving) → IsNode key rules heads cells capacity losers mask → (length heads' ≡ 0) ⊎ (length heads' ≡ 2 ^ (2 * rules.cube.s)) → (0 < capacity' → 0 < length heads') → cells' ≡ cells → length losers' ≡ length losers → ((o : ℕ) → points_at losers' o ≡ points_at losers o) → (IsChained heads (nexts_of cells) (spots_of rules key.depth cells) → IsChained heads' (nexts_of cells') (spots_of rules key.depth cells')) → IsNode key rules heads' cells' capacity' losers' mask
+node-made key rules mask heads heads' cells cells' capacity capacity' losers losers' node table some same len each chained = record {
+  low = node.low;
+  table = table;
+  some = some;
+  chained = chained node.chained;
+  inside = subst (λ (w : List Cell). AllInBox rules.cube key (contents (winners w) losers')) (sym same) (subst (λ (w : List Point). AllInBox rules.cube key (winners cells ++ w)) (sym (all-same losers losers' len each)) node.inside);
+  settled = record {
+    apart = subst (λ (w : List Cell). AreApart rules key.depth (winners w)) (sym same) node.settled.apart;
+    behind = λ o q m. subst (λ (w : List Cell). IsBehind rules key.depth (winners w) o q) (sym same) (node.settled.behind o q (subst (λ (w : List Point). IsMember q w) (each o) m));
+  };
+  eight = len ∙ node.eight;
+  few = record {
+    shut = λ o h isn't. ap (λ (w : List Point). opens_with rules key.depth (length w)) (each o) ∙ node.few.shut o h isn't;
+    gone = λ o h is. each o ∙ node.few.gone o h is;
+  };
+  deepest = node.deepest;
+}

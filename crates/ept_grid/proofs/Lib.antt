@@ -1,6 +1,8 @@
 pub mod Lanes
 pub mod Settled
 pub mod Contest
+pub mod InOrder
+pub mod Boxes
 pub mod Keeping
 pub mod Leaving
 pub mod Sent

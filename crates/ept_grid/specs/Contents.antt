@@ -88,6 +88,7 @@ pub record IsNode (key : VoxelKey) (rules : Rules) (heads : List ℕ) (cells : L
   pub chained : IsChained heads (nexts_of cells) (spots_of rules key.depth cells)
   pub inside : AllInBox rules.cube key (contents (winners cells) losers)
   pub settled : IsSettled rules key.depth (winners cells) losers
+  pub eight : length losers ≡ 8
   pub few : AreFew rules key.depth mask losers
   pub deepest : key.depth ≡ rules.cube.depth → mask ≡ 0
 

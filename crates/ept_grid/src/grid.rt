@@ -73,12 +73,14 @@ impl Grid {
         ensures points { result.points ≡ [] }
         ensures mask { result.mask ≡ 0 }
     {
+        let losers = Outgoing::new(alloc);
+        losers.known();
         Grid {
             key,
             rules: *rules,
             heads: Vec::new(alloc),
             cells: Vec::new(alloc),
-            losers: Outgoing::new(alloc),
+            losers,
             mask: 0,
         }
     }

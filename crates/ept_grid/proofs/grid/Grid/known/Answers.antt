@@ -1,0 +1,19 @@
+use Rattle.std.proofs.Common.{subst}
+use Rattle.std.specs.List.{All}
+use Rattle.ept_point.specs.Order.{IsAscending}
+use Rattle.ept_space.specs.OctreeCube.{InBox}
+use Rattle.ept_sample.specs.Place.{place}
+use Rattle.ept_sample.specs.Ids.{HasDistinctIds, in_id_order}
+use Rattle.ept_grid.specs.Node.{Node}
+use Rattle.ept_grid.specs.Settling.{winners}
+use Rattle.ept_grid.specs.Contents.{contents}
+use Rattle.ept_grid.proofs.InOrder.{inside-in_order, ascend-in_order}
+use Rattle.ept_grid.proofs.grid.Grid.known.Goals as goal
+
+pub returns-clause-inside : goal.returns-clause-inside
+returns-clause-inside c =
+    subst (λ (n : Node). All (λ q. InBox n.rules.cube n.key (place q)) n.points) c.self.view_is (inside-in_order c.self.inside.rules.cube c.self.inside.key (contents (winners c.self.inside.cells.items) c.self.inside.losers) c.self.invariant.inside)
+
+pub returns-clause-ascend : goal.returns-clause-ascend
+returns-clause-ascend c =
+    subst (λ (n : Node). HasDistinctIds n.points → IsAscending n.points) c.self.view_is (ascend-in_order (contents (winners c.self.inside.cells.items) c.self.inside.losers))
