@@ -19,3 +19,4 @@ pub mod Contending
 pub mod Seeks
 pub mod ColumnCells
 pub mod WinnerLaws
+pub mod Lookups

@@ -1,11 +1,13 @@
 -- The cells of a node by columns: those with the same indices on the axes x and y, from the lowest up.
 --
 -- Cells have numbers, from 0. A link names the cell of a number by the number and one, and 0 names none.
-use Rattle.std.specs.Prelude.{ℕ, zero, suc, ◌≡◌, ◌≢◌, ◌==◌, ◌&&◌, nat_lt, count_by, ◌+◌, ◌-◌, ◌*◌, ◌%◌, ◌^◌, ◌<◌, ◌≤◌, List, [], ◌∷◌, ◌++◌, length, map, slice_index, slice_index_or, slice_set}
+use Rattle.std.specs.List.{All}
+use Rattle.std.specs.Prelude.{IsTrue, ℕ, zero, suc, ◌≡◌, ◌≢◌, ◌==◌, ◌&&◌, nat_lt, count_by, ◌+◌, ◌-◌, ◌*◌, ◌%◌, ◌^◌, ◌<◌, ◌≤◌, List, [], ◌∷◌, ◌++◌, length, map, slice_index, slice_index_or, slice_set}
 use Rattle.ept_point.specs.declared.point.Point.{Point}
 use Rattle.ept_space.specs.declared.cube.Rules.{Rules}
 use Rattle.ept_space.specs.OctreeCube.{OctreeCube, cell_index}
 use Rattle.ept_sample.specs.Members.{IsMember}
+use Rattle.ept_sample.specs.Ids.{same_id}
 use Rattle.ept_sample.specs.Place.{place}
 use Rattle.ept_grid.specs.declared.pool.Cell.{Cell}
 use Rattle.ept_grid.specs.declared.spot.Spot.{Spot}
@@ -106,3 +108,8 @@ in_column spots column = count_by (λ s. s.column == column) spots
 
 abbrev pub looked : List Spot → ℕ → ℕ → ℕ
 looked spots column low = count_by (λ s. (s.column == column) && nat_lt s.level low) spots
+
+-- a winner of the point's id would stand in its place
+abbrev pub StandInPlace : Rules → ℕ → List Point → Point → Type 0
+StandInPlace rules depth ws p =
+    All (λ w. IsTrue (same_id p w) → spot rules depth w ≡ spot rules depth p) ws

@@ -5,6 +5,7 @@
 mod by_id;
 mod error;
 mod grid;
+mod lookup;
 mod losing;
 mod making;
 mod octants;
