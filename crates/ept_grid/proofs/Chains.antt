@@ -6,7 +6,7 @@ use Rattle.std.proofs.Math.ListN.{get_or-append}
 use Rattle.std.proofs.Math.Seq.{get_or-append_seam}
 use Rattle.std.proofs.lemmas.List.{get_or-set_same, get_or-set_other, length-set}
 use Rattle.ept_grid.specs.declared.spot.Spot.{Spot}
-use Rattle.ept_grid.specs.Columns.{nowhere, column_at, level_at, LeadsTo, IsChained, after, IsOnWay, IsCut, heads_with, nexts_with}
+use Rattle.ept_grid.specs.Columns.{nowhere, column_at, level_at, LeadsTo, IsChained, after, IsOnWay, IsCut, heads_with, nexts_with, IsAlone}
 
 -- ---- a step
 
@@ -45,7 +45,7 @@ abbrev pub left : List Spot → ℕ → ℕ → ℕ
 left spots level zero = 0
 left spots level (suc link) = level - level_at spots link
 
-left-falls : (spots : List Spot) (column level link next : ℕ) → LeadsTo spots column (level_at spots link + 1) next → level_at spots link < level → left spots level next < level - level_at spots link
+pub left-falls : (spots : List Spot) (column level link next : ℕ) → LeadsTo spots column (level_at spots link + 1) next → level_at spots link < level → left spots level next < level - level_at spots link
 left-falls spots column level link zero leads is_below = omega arith
 left-falls spots column level link (suc next) leads is_below =
     let same : suc next - 1 ≡ next = omega arith in
@@ -163,11 +163,6 @@ leads-on spots s low above leads from higher =
         | inr new ↦ let e = new-level spots s k new in absurd (omega arith)
       ]);
     }
-
--- no cell stands where the new one does
-abbrev pub IsAlone : List Spot → Spot → Type 0
-IsAlone spots s =
-    (k : ℕ) → k < length spots → column_at spots k ≡ s.column → level_at spots k ≢ s.level
 
 -- so what the cut leads to is above it
 higher-alone : (spots : List Spot) (s : Spot) (below above : ℕ) → IsCut spots s.column s.level below above → IsAlone spots s → 0 < above → s.level < level_at spots (above - 1)

@@ -9,12 +9,13 @@ use Rattle.ept_point.specs.declared.point.Point.{Point}
 use Rattle.ept_space.specs.declared.cube.Rules.{Rules}
 use Rattle.ept_sample.specs.declared.rank.Rank.{Rank}
 use Rattle.ept_sample.specs.Rank.{rank_at, is_better}
+use Rattle.ept_sample.specs.Members.{IsMember}
 use Rattle.ept_sample.proofs.Members.{contains-IsMember}
 use Rattle.ept_grid.specs.declared.pool.Cell.{Cell}
 use Rattle.ept_grid.specs.declared.spot.Spot.{Spot}
 use Rattle.ept_grid.specs.Settling.{winners, share_cell, is_better_at, AreApart, HasItsCell, HasContended}
-use Rattle.ept_grid.specs.Columns.{spot, spots_of, nexts_of, nowhere, heads_with, nexts_with, IsChained, IsCut}
-use Rattle.ept_grid.proofs.Chains.{IsAlone, chained-with}
+use Rattle.ept_grid.specs.Columns.{spot, spots_of, nexts_of, nowhere, heads_with, nexts_with, IsChained, IsCut, IsAlone}
+use Rattle.ept_grid.proofs.Chains.{chained-with}
 use Rattle.ept_grid.proofs.Winners.{winner-of, winners-point, length-spots}
 use Rattle.ept_grid.proofs.SpotLaws.{spot-share_cell}
 
@@ -57,7 +58,7 @@ loses-there rules depth p w cells at d there is one worse =
       outcome = inr (worse, refl, refl);
     }
 
-spot-of : (rules : Rules) (depth : ℕ) (ws : List Point) (k : ℕ) (d : Point) → k < length ws → get_or (map (spot rules depth) ws) k nowhere ≡ spot rules depth (get_or ws k d)
+pub spot-of : (rules : Rules) (depth : ℕ) (ws : List Point) (k : ℕ) (d : Point) → k < length ws → get_or (map (spot rules depth) ws) k nowhere ≡ spot rules depth (get_or ws k d)
 spot-of rules depth [] k d within = absurd (omega arith)
 spot-of rules depth (w ∷ ws) zero d within = refl
 spot-of rules depth (w ∷ ws) (suc k) d within = spot-of rules depth ws k d (omega arith)
@@ -71,7 +72,7 @@ spots-point rules depth cells at next p meets there =
 
 -- ---- one more cell
 
-false_unless : (b : Bool) → (b ≡ true → ⊥) → b ≡ false
+pub false_unless : (b : Bool) → (b ≡ true → ⊥) → b ≡ false
 false_unless true not = absurd (not refl)
 false_unless false not = refl
 
@@ -100,14 +101,26 @@ same-read [] k a b within = absurd (omega arith)
 same-read (w ∷ ws) zero a b within = refl
 same-read (w ∷ ws) (suc k) a b within = same-read ws k a b (omega arith)
 
-pub apart-chained : (rules : Rules) (depth : ℕ) (heads : List ℕ) (cells : List Cell) → IsChained heads (nexts_of cells) (spots_of rules depth cells) → AreApart rules depth (winners cells)
-apart-chained rules depth heads cells chained a b in_a in_b shared =
+-- winners that stand in one place are one
+pub one-spot : (rules : Rules) (depth : ℕ) (heads : List ℕ) (cells : List Cell) → IsChained heads (nexts_of cells) (spots_of rules depth cells) → (a b : Point) → IsMember a (winners cells) → IsMember b (winners cells) → spot rules depth a ≡ spot rules depth b → a ≡ b
+one-spot rules depth heads cells chained a b in_a in_b stands =
     let ws = winners cells in
     let i = contains-IsMember a ws in_a in
     let j = contains-IsMember b ws in_b in
     let len = length-map ws (spot rules depth) in
     let spot_i = spot-of rules depth ws i.0 a i.1 ∙ ap (spot rules depth) i.2 in
     let spot_j = spot-of rules depth ws j.0 b j.1 ∙ ap (spot rules depth) j.2 in
-    let same = spot_i ∙ spot-share_cell rules depth a b shared ∙ sym spot_j in
+    let same = spot_i ∙ stands ∙ sym spot_j in
     let at : i.0 ≡ j.0 = chained.apart i.0 j.0 (subst (λ n. i.0 < n) (sym len) i.1) (subst (λ n. j.0 < n) (sym len) j.1) (ap (λ (s : Spot). s.column) same) (ap (λ (s : Spot). s.level) same) in
     sym i.2 ∙ same-read ws i.0 a b i.1 ∙ ap (λ k. get_or ws k b) at ∙ j.2
+
+pub apart-chained : (rules : Rules) (depth : ℕ) (heads : List ℕ) (cells : List Cell) → IsChained heads (nexts_of cells) (spots_of rules depth cells) → AreApart rules depth (winners cells)
+apart-chained rules depth heads cells chained a b in_a in_b shared =
+    one-spot rules depth heads cells chained a b in_a in_b (spot-share_cell rules depth a b shared)
+
+-- where no winner stands in a place, none has it
+pub none-stands : (rules : Rules) (depth : ℕ) (ws : List Point) (s : Spot) (w : Point) → IsAlone (map (spot rules depth) ws) s → IsMember w ws → spot rules depth w ≡ s → ⊥
+none-stands rules depth ws s w alone m stands =
+    let i = contains-IsMember w ws m in
+    let same = spot-of rules depth ws i.0 w i.1 ∙ ap (spot rules depth) i.2 ∙ stands in
+    alone i.0 (subst (λ n. i.0 < n) (sym (length-map ws (spot rules depth))) i.1) (ap (λ (t : Spot). t.column) same) (ap (λ (t : Spot). t.level) same)

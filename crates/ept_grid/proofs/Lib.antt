@@ -17,3 +17,7 @@ pub mod Chains
 pub mod Winners
 pub mod SpotLaws
 pub mod Contending
+pub mod Seeks
+pub mod ColumnCells
+pub mod WinnerLaws
+pub mod Lookups

@@ -15,11 +15,11 @@ use Rattle.ept_grid.specs.Settling.{share_cell}
 use Rattle.ept_grid.specs.Columns.{column_of, spot}
 
 -- a number by its quotient and its remainder
-from-parts : (m n side : ℕ) → m / side ≡ n / side → m % side ≡ n % side → m ≡ n
+pub from-parts : (m n side : ℕ) → m / side ≡ n / side → m % side ≡ n % side → m ≡ n
 from-parts m n side quotients rests =
     sym (div-add-mod' m side) ∙ ap (λ q. q * side + m % side) quotients ∙ ap (λ r. n / side * side + r) rests ∙ div-add-mod' n side
 
-column-parts : (cube : OctreeCube) (x y u v : ℕ) → column_of cube x y ≡ column_of cube u v → (x % 2 ^ cube.s ≡ u % 2 ^ cube.s) × (y % 2 ^ cube.s ≡ v % 2 ^ cube.s)
+pub column-parts : (cube : OctreeCube) (x y u v : ℕ) → column_of cube x y ≡ column_of cube u v → (x % 2 ^ cube.s ≡ u % 2 ^ cube.s) × (y % 2 ^ cube.s ≡ v % 2 ^ cube.s)
 unfolding column_of
 column-parts cube x y u v same =
     let positive = pow_pos cube.s in
@@ -33,17 +33,19 @@ box-of-cell cube depth n whole =
     let steps : cube.e - depth - (cube.e - depth - cube.s) ≡ cube.s = omega arith in
     ap (λ k. n / 2 ^ (cube.e - depth - cube.s) / 2 ^ k) (sym steps) ∙ sym (index-coarser n (cube.e - depth - cube.s) (cube.e - depth) (omega arith))
 
-record HasKey (cube : OctreeCube) (key : VoxelKey) (at : Place) : Type 0 where
-  x : cell_index cube key.depth at 0 / 2 ^ cube.s ≡ key.x
-  y : cell_index cube key.depth at 1 / 2 ^ cube.s ≡ key.y
+pub record HasKey (cube : OctreeCube) (key : VoxelKey) (at : Place) : Type 0 where
+  pub x : cell_index cube key.depth at 0 / 2 ^ cube.s ≡ key.x
+  pub y : cell_index cube key.depth at 1 / 2 ^ cube.s ≡ key.y
+  pub z : cell_index cube key.depth at 2 / 2 ^ cube.s ≡ key.z
 
-has-key : (cube : OctreeCube) (key : VoxelKey) (at : Place) → key.depth + cube.s ≤ cube.e → InBox cube key at → HasKey cube key at
+pub has-key : (cube : OctreeCube) (key : VoxelKey) (at : Place) → key.depth + cube.s ≤ cube.e → InBox cube key at → HasKey cube key at
 unfolding key_at
 has-key cube key at whole inside =
     let is = key_at-box cube key at inside in
     record {
       x = box-of-cell cube key.depth (offset cube at 0) whole ∙ ap (λ (k : VoxelKey). k.x) is;
       y = box-of-cell cube key.depth (offset cube at 1) whole ∙ ap (λ (k : VoxelKey). k.y) is;
+      z = box-of-cell cube key.depth (offset cube at 2) whole ∙ ap (λ (k : VoxelKey). k.z) is;
     }
 
 -- points of a box that stand in one place lie in one cell

@@ -1,10 +1,11 @@
 -- The winners of cells.
-use Rattle.std.proofs.Common.{◌≡◌, ◌∙◌, ℕ, zero, suc, ◌+◌, ◌-◌, ◌<◌, ◌≤◌, true, false, List, [], ◌∷◌, ◌++◌, length, get_or, refl, ap, sym, subst, arith}
+use Rattle.std.proofs.Common.{◌≡◌, ◌∙◌, ℕ, zero, suc, ◌+◌, ◌-◌, ◌<◌, ◌≤◌, true, false, inl, inr, List, [], ◌∷◌, ◌++◌, length, get_or, refl, ap, sym, subst, arith}
 use Rattle.std.specs.List.{All}
 use Rattle.std.proofs.lemmas.List.{length-map}
 use Rattle.std.proofs.lemmas.List.Elements.{All-head, All-tail}
 use Rattle.ept_point.specs.declared.point.Point.{Point}
 use Rattle.ept_space.specs.OctreeCube.{OctreeCube, InCube}
+use Rattle.ept_sample.specs.Members.{IsMember}
 use Rattle.ept_sample.specs.Place.{place, AllInCube}
 use Rattle.ept_grid.specs.declared.pool.Cell.{Cell}
 use Rattle.std.specs.Prelude.{slice_index, nat_lt, nat_eq}
@@ -18,7 +19,7 @@ use borrow.Author.Tests.{ltb-true, ltb-false}
 use Rattle.ept_grid.specs.declared.spot.Spot.{Spot}
 use Rattle.ept_space.specs.declared.cube.Rules.{Rules}
 use Rattle.ept_grid.specs.Settling.{winners}
-use Rattle.ept_grid.specs.Columns.{spot, spots_of, nexts_of, nowhere, level_at, NamesBelow, NamesAt, nexts_with}
+use Rattle.ept_grid.specs.Columns.{spot, spots_of, nexts_of, nowhere, column_at, level_at, StandsAt, NamesBelow, NamesAt, nexts_with}
 
 -- what holds of each winner holds of the winner of a number
 pub winner-at : (P : Point → Type 0) (cells : List Cell) (k : ℕ) (d : Cell) → All P (winners cells) → k < length cells → P (get_or cells k d).point
@@ -110,3 +111,29 @@ pub nexts-behind : (nexts : List ℕ) (below above link : ℕ) → 0 < below →
 nexts-behind nexts zero above link some = absurd (omega arith)
 nexts-behind nexts (suc j) above link some =
     let same : suc j - 1 ≡ j = omega arith in ap (λ k. set (nexts ++ above ∷ []) k link) same
+
+-- ---- the cell that a look shows
+
+pub shown-next : (cells : List Cell) (link : ℕ) (cell : Cell) → 0 < link → link ≤ length cells → cell ≡ get_or cells (link - 1) cell → slice_index (nexts_of cells) (link - 1) ≡ cell.next
+shown-next cells link cell some there is =
+    next-at cells (link - 1) cell (omega arith) ∙ ap (λ (c : Cell). c.next) (sym is)
+
+pub shown-spot : (rules : Rules) (depth : ℕ) (cells : List Cell) (link : ℕ) (cell : Cell) → 0 < link → link ≤ length cells → cell ≡ get_or cells (link - 1) cell → get_or (spots_of rules depth cells) (link - 1) nowhere ≡ spot rules depth cell.point
+shown-spot rules depth cells link cell some there is =
+    spot-at rules depth cells (link - 1) cell (omega arith) ∙ ap (λ (c : Cell). spot rules depth c.point) (sym is)
+
+member-at : (cells : List Cell) (k : ℕ) (d : Cell) → k < length cells → IsMember (get_or cells k d).point (winners cells)
+member-at [] k d within = absurd (omega arith)
+member-at (c ∷ cells) zero d within = inl refl
+member-at (c ∷ cells) (suc k) d within = inr (member-at cells k d (omega arith))
+
+spot-same : (s t : Spot) → s.column ≡ t.column → s.level ≡ t.level → s ≡ t
+spot-same s t columns levels =
+    let at : ℕ → ℕ → Spot = λ c l. record { column = c; level = l } in
+    ap (λ c. at c s.level) columns ∙ ap (λ l. at t.column l) levels
+
+pub shown-stands : (rules : Rules) (depth : ℕ) (cells : List Cell) (link : ℕ) (cell : Cell) (s : Spot) → 0 < link → link ≤ length cells → cell ≡ get_or cells (link - 1) cell → column_at (spots_of rules depth cells) (link - 1) ≡ s.column → (spot rules depth cell.point).level ≡ s.level → StandsAt rules depth (winners cells) s cell.point
+shown-stands rules depth cells link cell s some there is in_col at = record {
+  one_of_them = subst (λ (p : Point). IsMember p (winners cells)) (ap (λ (c : Cell). c.point) (sym is)) (member-at cells (link - 1) cell (omega arith));
+  stands = spot-same (spot rules depth cell.point) s (ap (λ (t : Spot). t.column) (sym (shown-spot rules depth cells link cell some there is)) ∙ in_col) at;
+}

@@ -1,10 +1,13 @@
 -- The cells of a node by columns: those with the same indices on the axes x and y, from the lowest up.
 --
 -- Cells have numbers, from 0. A link names the cell of a number by the number and one, and 0 names none.
-use Rattle.std.specs.Prelude.{ℕ, zero, suc, ◌≡◌, ◌+◌, ◌-◌, ◌*◌, ◌%◌, ◌^◌, ◌<◌, ◌≤◌, List, [], ◌∷◌, ◌++◌, length, map, slice_index, slice_index_or, slice_set}
+use Rattle.std.specs.List.{All}
+use Rattle.std.specs.Prelude.{IsTrue, ℕ, zero, suc, ◌≡◌, ◌≢◌, ◌==◌, ◌&&◌, nat_lt, count_by, ◌+◌, ◌-◌, ◌*◌, ◌%◌, ◌^◌, ◌<◌, ◌≤◌, List, [], ◌∷◌, ◌++◌, length, map, slice_index, slice_index_or, slice_set}
 use Rattle.ept_point.specs.declared.point.Point.{Point}
 use Rattle.ept_space.specs.declared.cube.Rules.{Rules}
 use Rattle.ept_space.specs.OctreeCube.{OctreeCube, cell_index}
+use Rattle.ept_sample.specs.Members.{IsMember}
+use Rattle.ept_sample.specs.Ids.{same_id}
 use Rattle.ept_sample.specs.Place.{place}
 use Rattle.ept_grid.specs.declared.pool.Cell.{Cell}
 use Rattle.ept_grid.specs.declared.spot.Spot.{Spot}
@@ -88,3 +91,25 @@ heads_with heads column (suc j) link = heads
 abbrev pub nexts_with : List ℕ → ℕ → ℕ → ℕ → List ℕ
 nexts_with nexts zero above link = nexts ++ above ∷ []
 nexts_with nexts (suc j) above link = slice_set (nexts ++ above ∷ []) j link
+
+-- no cell stands in this place
+abbrev pub IsAlone : List Spot → Spot → Type 0
+IsAlone spots s =
+    (k : ℕ) → k < length spots → column_at spots k ≡ s.column → level_at spots k ≢ s.level
+
+-- a winner stands in this place
+pub record StandsAt (rules : Rules) (depth : ℕ) (ws : List Point) (s : Spot) (p : Point) : Type 0 where
+  pub one_of_them : IsMember p ws
+  pub stands : spot rules depth p ≡ s
+
+-- how many cells of a column there are, and how many of them below a level
+abbrev pub in_column : List Spot → ℕ → ℕ
+in_column spots column = count_by (λ s. s.column == column) spots
+
+abbrev pub looked : List Spot → ℕ → ℕ → ℕ
+looked spots column low = count_by (λ s. (s.column == column) && nat_lt s.level low) spots
+
+-- a winner of the point's id would stand in its place
+abbrev pub StandInPlace : Rules → ℕ → List Point → Point → Type 0
+StandInPlace rules depth ws p =
+    All (λ w. IsTrue (same_id p w) → spot rules depth w ≡ spot rules depth p) ws

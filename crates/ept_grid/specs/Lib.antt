@@ -5,3 +5,4 @@ pub mod Node
 pub mod Tile
 pub mod Settling
 pub mod Columns
+pub mod Winner

@@ -1,11 +1,14 @@
 -- What becomes of a point among the winners of a node: the best point of each cell.
-use Rattle.std.specs.Prelude.{ℕ, ◌≡◌, ◌⊎◌, IsTrue, Bool, true, false, List, [], ◌∷◌, ◌++◌, map}
-use Rattle.std.specs.List.{All}
+use Rattle.std.specs.Prelude.{ℕ, ◌≡◌, ◌⊎◌, IsTrue, Bool, true, false, ◌&&◌, not, List, [], ◌∷◌, ◌++◌, map}
+use Rattle.std.specs.List.{All, list_any}
 use Rattle.ept_point.specs.declared.point.Point.{Point}
 use Rattle.ept_space.specs.declared.cube.Rules.{Rules}
 use Rattle.ept_space.specs.OctreeCube.{same_cell}
 use Rattle.ept_sample.specs.Members.{IsMember}
 use Rattle.ept_sample.specs.Place.{place}
+use Rattle.ept_sample.specs.Ids.{same_id}
+use Rattle.ept_sample.specs.Arrivals.{octant}
+use Rattle.ept_grid.specs.Mask.{opened}
 use Rattle.ept_sample.specs.Rank.{rank_at, is_better}
 use Rattle.ept_grid.specs.declared.pool.Cell.{Cell}
 
@@ -40,3 +43,8 @@ pub record HasContended (rules : Rules) (depth : ℕ) (p : Point) (old new : Lis
   pub one_cell : IsTrue (share_cell rules depth winner p)
   pub outcome : ((is_better_at rules depth p winner ≡ true) × (new ≡ front ++ p ∷ back) × (loser ≡ winner))
       ⊎ ((is_better_at rules depth p winner ≡ false) × (new ≡ old) × (loser ≡ p))
+
+-- the octant of a point is open, and no winner has its id
+abbrev pub is_open_stranger : Rules → ℕ → ℕ → List Point → Point → Bool
+is_open_stranger rules depth mask ws p =
+    opened mask (octant rules depth p) && not (list_any (same_id p) ws)

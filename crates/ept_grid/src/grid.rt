@@ -1,6 +1,6 @@
 //! A node of the octree with its points.
 
-ghost use Rattle.std.specs.Prelude.{◌≡◌, ◌≢◌, ◌<◌, ◌≤◌, ◌+◌, ◌∷◌, [], ◌++◌, ◌↔◌, ℕ, Bool, IsTrue, OnOk, OnErr, IfOk, IfErr, length, count_by};
+ghost use Rattle.std.specs.Prelude.{◌≡◌, ◌≢◌, ◌<◌, ◌≤◌, ◌+◌, ◌∷◌, [], ◌++◌, ◌↔◌, ℕ, Bool, IsTrue, OnOk, OnErr, IfOk, IfErr, length, count_by, MatchOption, slice_index};
 ghost use Rattle.ept_grid.specs.declared.octants.TheConstants.{OCTANTS};
 ghost use Rattle.ept_point.specs.declared.point.Point.{Point};
 ghost use Rattle.std.specs.List.{All};
@@ -10,6 +10,7 @@ ghost use Rattle.ept_sample.specs.Place.{place};
 ghost use Rattle.ept_sample.specs.Ids.{HasDistinctIds};
 ghost use Rattle.ept_grid.specs.Outgoing.{points_at, all_points};
 ghost use Rattle.ept_grid.specs.Tile.{IsTile, IsTileFault};
+ghost use Rattle.ept_grid.specs.Winner.{IsCellOf, NoneIn, IsBestIn, column_cells};
 ghost use Rattle.ept_grid.specs.Node.{IsNodeOf, SendsOn, TakesIn, spare};
 
 use crate::by_id::{append_by_id, count};
@@ -17,12 +18,15 @@ use crate::error::GridError;
 use crate::outgoing::Outgoing;
 use crate::pool::Cell;
 use crate::reserving::make_room;
+use crate::seeking::winner_of;
+use crate::steps::Steps;
 use crate::taking::take_in;
 use crate::tile::{is_inside, node_of_tile};
 use ept_point::{Memory, Point};
 use ept_space::{Key, Rules};
 use std::alloc::Global;
 use std::marker::Model;
+use std::sync::ledger::Ledger;
 
 /// A node of the octree: the points that it keeps, and which of its octants are open.
 ///
@@ -200,6 +204,27 @@ impl Grid {
         ensures ascend { HasDistinctIds self.now.points → IsAscending self.now.points }
     {
         append_by_id(self.cells.as_slice(), &self.losers, out)
+    }
+
+    /// The best of the node's points in a cell of its box, which is given by its index on each axis,
+    /// counted from the cube's corner. A step is one cell with a point that is looked at. It takes no
+    /// memory.
+    pub fn winner<L: Ledger>(&self, cell: [u32; 3], steps: &mut Steps<L>) -> Option<Point>
+        requires { IsCellOf self.now.rules self.now.key cell }
+        ensures best { MatchOption result
+            (NoneIn self.now.rules self.now.key.depth cell self.now.points)
+            (IsBestIn self.now.rules self.now.key.depth cell self.now.points) }
+        ensures cost { steps.new ≤ steps.old
+            + column_cells self.now.rules self.now.key self.now.points (slice_index cell 0) (slice_index cell 1) }
+    {
+        winner_of(
+            &self.key,
+            &self.rules,
+            self.heads.as_slice(),
+            self.cells.as_slice(),
+            cell,
+            steps,
+        )
     }
 
     /// Tells a proof what each node keeps.

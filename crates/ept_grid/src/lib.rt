@@ -5,21 +5,27 @@
 mod by_id;
 mod error;
 mod grid;
+mod lookup;
 mod losing;
 mod making;
 mod octants;
 mod outgoing;
 mod pool;
 mod reserving;
+mod seeking;
 mod settling;
 mod spot;
+mod steps;
 mod taking;
 #[cfg(test)]
 mod tests;
 mod tile;
 mod walk;
+#[cfg(test)]
+mod winner_tests;
 
 pub use error::GridError;
 pub use grid::Grid;
 pub use octants::OCTANTS;
 pub use outgoing::Outgoing;
+pub use steps::Steps;

@@ -1,6 +1,6 @@
 //! The points of a node from a tile.
 
-ghost use Rattle.std.specs.Prelude.{◌≡◌, ◌≢◌, ◌<◌, ◌≤◌, ◌+◌, ◌↔◌, IsTrue, ℕ, ◌&&◌, ◌==◌, not, true, false, IfOk, IfErr, OnOk, MatchOption, length, position, take, vec_len, vec_capacity, min};
+ghost use Rattle.std.specs.Prelude.{◌≡◌, ◌≢◌, ◌<◌, ◌≤◌, ◌+◌, ◌↔◌, IsTrue, ℕ, ◌&&◌, ◌==◌, not, true, false, IfOk, IfErr, OnOk, MatchOption, length, position, take, vec_len, vec_capacity, min, ◌*◌, ◌^◌};
 ghost use Rattle.std.specs.Bool.{OnFalse};
 ghost use Rattle.ept_point.specs.Order.{IsAscending};
 ghost use Rattle.ept_space.specs.OctreeCube.{InBox};
@@ -8,11 +8,14 @@ ghost use Rattle.ept_sample.specs.Place.{place, AllInBox, AllInCube};
 ghost use Rattle.ept_sample.specs.Ids.{in_id_order};
 ghost use Rattle.ept_grid.specs.Mask.{opened};
 ghost use Rattle.ept_grid.specs.Outgoing.{points_at};
-ghost use Rattle.ept_grid.specs.Settling.{winners};
+ghost use Rattle.ept_grid.specs.Settling.{winners, is_open_stranger};
+ghost use Rattle.ept_grid.specs.Columns.{spots_of, nexts_of, IsChained, StandInPlace};
+ghost use Rattle.std.specs.List.{All};
 ghost use Rattle.ept_grid.specs.Contents.{contents, opens_with, IsFilled, IsNode};
 ghost use Rattle.ept_grid.specs.Tile.{is_open_loser, IsFirstOutside, IsTile, IsTileFault};
 
 use crate::error::GridError;
+use crate::lookup::is_no_winner;
 use crate::losing::is_too_many;
 use crate::making::make_cells;
 use crate::octants::{OCTANTS, is_open, octant_of};
@@ -20,7 +23,7 @@ use crate::outgoing::Outgoing;
 use crate::pool::Cell;
 use crate::settling::settle;
 use ept_point::{Memory, Point};
-use ept_sample::{loses, place_of};
+use ept_sample::place_of;
 use ept_space::{Key, Rules, contains, node_box};
 use std::alloc::Global;
 
@@ -162,7 +165,8 @@ fn first_open_loser(
     }
     key.known();
     rules.cube.known();
-    first_losing(rules, key.depth, mask, points)
+    let heads = kept.heads.as_slice();
+    first_losing(rules, key.depth, mask, heads, kept.cells.as_slice(), points)
 }
 
 // Whether a list of losers of an open octant has points.
@@ -177,13 +181,26 @@ fn has_open_losers(mask: u8, losers: &Outgoing) -> bool
     false
 }
 
-fn first_losing(rules: &Rules, depth: u8, mask: u8, points: &[Point]) -> Option<usize>
+// The number of the first point in an open octant that is no winner.
+fn first_losing(
+    rules: &Rules,
+    depth: u8,
+    mask: u8,
+    heads: &[u32],
+    cells: &[Cell],
+    points: &[Point],
+) -> Option<usize>
     requires low { depth ≤ rules.now.cube.depth }
+    requires all_inside { AllInCube rules.now.cube (winners cells.now) }
     requires inside { AllInCube rules.now.cube points.now }
-    ensures { result ≡ position (is_open_loser rules.now depth mask points.now) points.now }
+    requires table { length heads.now ≡ 2 ^ (2 * rules.now.cube.s) }
+    requires chained { IsChained heads.now (nexts_of cells.now) (spots_of rules.now depth cells.now) }
+    requires in_place { All (StandInPlace rules.now depth (winners cells.now)) points.now }
+    ensures { result ≡ position (is_open_stranger rules.now depth mask (winners cells.now)) points.now }
 {
     points.iter().position(|point| {
-        is_open(mask, octant_of(rules, depth, point)) && loses(rules, depth, points, point)
+        is_open(mask, octant_of(rules, depth, point))
+            && is_no_winner(rules, depth, heads, cells, point)
     })
 }
 
