@@ -6,6 +6,8 @@ mod by_id;
 mod error;
 mod grid;
 mod lookup;
+#[cfg(test)]
+mod list_tests;
 mod losing;
 mod making;
 mod octants;
