@@ -1,19 +1,23 @@
 -- Whether a point is a winner, by a look into its cell.
-use Rattle.std.proofs.Common.{◌≡◌, ◌∙◌, ◌⊎◌, inl, inr, ℕ, ◌+◌, ◌<◌, Bool, true, false, cond, ◌&&◌, ◌==◌, not, List, [], ◌∷◌, ◌++◌, length, map, refl, ap, sym, subst, arith}
+use Rattle.std.proofs.Common.{◌≡◌, ◌∙◌, ◌⊎◌, inl, inr, ℕ, zero, suc, ◌+◌, ◌<◌, Bool, true, false, cond, ◌&&◌, ◌==◌, not, List, [], ◌∷◌, ◌++◌, length, get_or, map, refl, ap, sym, subst, arith}
 use Rattle.std.specs.Prelude.{IsTrue, IsPermutation, Option, Some, None, nat_lt, position}
 use Rattle.std.specs.List.{All, list_any, position_or_len}
 use Rattle.std.proofs.lemmas.Bool.{false≢true}
+use Rattle.std.proofs.lemmas.Bool.Decides.{nat_tests}
+use Rattle.std.proofs.lemmas.List.Sorted.{IsPermutation-sym}
 use Rattle.ept_point.specs.declared.point.Point.{Point}
 use Rattle.ept_space.specs.declared.cube.Rules.{Rules}
+use Rattle.ept_space.proofs.PlaceKeys.{octant_at-below}
+use Rattle.ept_sample.specs.Place.{place}
 use Rattle.ept_sample.specs.Members.{IsMember}
 use Rattle.ept_sample.specs.Ids.{same_id, HasDistinctIds}
 use Rattle.ept_sample.specs.Arrivals.{loses, octant}
-use Rattle.ept_sample.proofs.Members.{all-member, member-any, any-member, IsMember-append}
-use Rattle.ept_sample.proofs.IdLaws.{same_id-self, same_id-sym}
+use Rattle.ept_sample.proofs.Members.{all-member, member-any, any-member, IsMember-append, IsMember-left, contains-IsMember}
+use Rattle.ept_sample.proofs.IdLaws.{same_id-self, same_id-sym, same_member, IsMember-IsPermutation, HasDistinctIds-IsPermutation}
 use Rattle.ept_grid.specs.declared.pool.Cell.{Cell}
 use Rattle.ept_grid.specs.declared.spot.Spot.{Spot}
 use Rattle.ept_grid.specs.Mask.{opened}
-use Rattle.ept_grid.specs.Outgoing.{Leaving, all_points}
+use Rattle.ept_grid.specs.Outgoing.{Leaving, points_at, all_points}
 use Rattle.ept_grid.specs.Tile.{is_open_loser}
 use Rattle.ept_grid.specs.Settling.{winners, is_open_stranger}
 use Rattle.ept_grid.specs.Contents.{contents, IsSettled}
@@ -64,3 +68,83 @@ stranger-loses rules depth ws losers given settled once all p m =
     nobody : IsMember p (all_points losers) → list_any (same_id p) ws ≡ false
     nobody lost =
         false_unless (list_any (same_id p) ws) (λ any. let w = member-any (same_id p) ws any in false≢true (sym (ids-apart ws (all_points losers) once w.0 p w.1 lost) ∙ same_id-sym p w.0 w.2))
+
+-- ---- the first point that passes a test
+
+first-at : (test : Point → Bool) (points : List Point) (i : ℕ) (d : Point) → i < length points → test (get_or points i d) ≡ true → ((k : ℕ) → k < i → test (get_or points k d) ≡ false) → position_or_len test points ≡ i
+first-at test [] i d within passes before = absurd (omega arith)
+first-at test (p ∷ points) zero d within passes before =
+    ap (λ (b : Bool). cond (not b) (1 + position_or_len test points) 0) passes
+first-at test (p ∷ points) (suc i) d within passes before =
+    ap (λ (b : Bool). cond (not b) (1 + position_or_len test points) 0) (before 0 (omega arith)) ∙ one_more (position_or_len test points) (first-at test points i d (omega arith) passes (λ k low. before (suc k) (omega arith)))
+  where
+    one_more : (n : ℕ) → n ≡ i → 1 + n ≡ suc i
+    one_more n is = omega arith
+
+first-none : (test : Point → Bool) (points : List Point) → ((p : Point) → IsMember p points → test p ≡ false) → position_or_len test points ≡ length points
+first-none test [] none = refl
+first-none test (p ∷ points) none =
+    ap (λ (b : Bool). cond (not b) (1 + position_or_len test points) 0) (none p (inl refl)) ∙ one_more (position_or_len test points) (first-none test points (λ q m. none q (inr m)))
+  where
+    one_more : (n : ℕ) → n ≡ length points → 1 + n ≡ length (p ∷ points)
+    one_more n is = omega arith
+
+lt-yes : (m n : ℕ) → m < n → nat_lt m n ≡ true
+lt-yes m n low = grind (arith, nat_tests)
+
+lt-no : (n : ℕ) → nat_lt n n ≡ false
+lt-no n = grind (arith, nat_tests)
+
+pub position-at : (test : Point → Bool) (points : List Point) (i : ℕ) (d : Point) → i < length points → test (get_or points i d) ≡ true → ((k : ℕ) → k < i → test (get_or points k d) ≡ false) → Some i ≡ position test points
+position-at test points i d within passes before =
+    sym (ap (λ (n : ℕ). cond (nat_lt n (length points)) (Some n) None) (first-at test points i d within passes before) ∙ ap (λ (b : Bool). cond b (Some i) None) (lt-yes i (length points) within))
+
+pub position-none : (test : Point → Bool) (points : List Point) → ((p : Point) → IsMember p points → test p ≡ false) → ◌≡◌ {A = Option ℕ} None (position test points)
+position-none test points none =
+    sym (ap (λ (n : ℕ). cond (nat_lt n (length points)) (Some n) None) (first-none test points none) ∙ ap (λ (b : Bool). cond b (Some (length points)) None) (lt-no (length points)))
+
+-- what fails at each place fails for each point
+pub each-fails : (test : Point → Bool) (points : List Point) (p : Point) → ((k : ℕ) (d : Point) → k < length points → test (get_or points k d) ≡ false) → IsMember p points → test p ≡ false
+each-fails test points p none m =
+    let i = contains-IsMember p points m in
+    sym (ap test i.2) ∙ none i.0 p i.1
+
+pub both-true : (a b : Bool) → a ≡ true → b ≡ true → (a && b) ≡ true
+both-true a b is_a is_b = ap (λ (c : Bool). c && b) is_a ∙ is_b
+
+-- ---- the points of a node that was filled with them
+
+pub in-contents : (points given : List Point) (p : Point) → IsPermutation points given → IsMember p points → IsMember p given
+in-contents points given p all m = IsMember-IsPermutation p points given all m
+
+-- a winner with the id of a point is the point
+pub in-place : (rules : Rules) (depth : ℕ) (ws : List Point) (losers : List Leaving) (points : List Point) (p w : Point) → HasDistinctIds points → IsPermutation points (contents ws losers) → IsMember p points → IsMember w ws → same_id p w ≡ true → spot rules depth w ≡ spot rules depth p
+in-place rules depth ws losers points p w once all in_p in_w same =
+    let there = IsMember-IsPermutation w (contents ws losers) points (IsPermutation-sym points (contents ws losers) all) (IsMember-left w ws (all_points losers) in_w) in
+    ap (spot rules depth) (sym (same_member points once p w in_p there same))
+
+-- where the lists of open octants are empty, no point loses in one
+pub no-open-loser : (rules : Rules) (depth mask : ℕ) (ws : List Point) (losers : List Leaving) (points : List Point) → IsSettled rules depth ws losers → IsPermutation points (contents ws losers) → ((o : ℕ) → o < 8 → opened mask o ≡ true → length (points_at losers o) ≡ 0) → (p : Point) → IsMember p points → is_open_loser rules depth mask points p ≡ false
+no-open-loser rules depth mask ws losers points settled all empty p m =
+    elim (IsMember-append p ws (all_points losers) (IsMember-IsPermutation p points (contents ws losers) all m)) [
+      inl won ↦ ap (λ (b : Bool). b && opened mask (octant rules depth p)) (wins-given rules depth ws losers points settled (IsPermutation-sym points (contents ws losers) all) p won)
+    | inr lost ↦ false_unless (is_open_loser rules depth mask points p) (λ is. gone lost (and_right (loses rules depth points p) (opened mask (octant rules depth p)) is))
+    ]
+  where
+    and_right : (a b : Bool) → (a && b) ≡ true → b ≡ true
+    and_right true b is = is
+    and_right false b is = absurd (false≢true is)
+    none_in : (qs : List Point) → length qs ≡ 0 → IsMember p qs → ⊥
+    none_in [] is m = m
+    none_in (q ∷ qs) is m = absurd (let e : length qs + 1 ≡ 0 = omega (arith, is) in omega arith)
+    gone : IsMember p (all_points losers) → opened mask (octant rules depth p) ≡ true → ⊥
+    gone lost is_open =
+        let at = member-at losers p lost in
+        let in_octant = (settled.behind at.0 p at.2).in_octant in
+        let low : at.0 < 8 = subst (λ o. o < 8) in_octant (octant_at-below rules.cube depth (place p)) in
+        none_in (points_at losers at.0) (empty at.0 low (ap (opened mask) (sym in_octant) ∙ is_open)) at.2
+
+-- the first stranger in an open octant is the first loser there
+pub same-first : (rules : Rules) (depth mask : ℕ) (ws : List Point) (losers : List Leaving) (points : List Point) → IsSettled rules depth ws losers → HasDistinctIds points → IsPermutation points (contents ws losers) → position (is_open_stranger rules depth mask ws) points ≡ position (is_open_loser rules depth mask points) points
+same-first rules depth mask ws losers points settled once all =
+    position-same (is_open_stranger rules depth mask ws) (is_open_loser rules depth mask points) points (λ p m. ap (λ (b : Bool). opened mask (octant rules depth p) && b) (stranger-loses rules depth ws losers points settled (HasDistinctIds-IsPermutation points (contents ws losers) all once) (IsPermutation-sym points (contents ws losers) all) p (IsMember-IsPermutation p points (contents ws losers) all m)) ∙ and-swap (opened mask (octant rules depth p)) (loses rules depth points p))

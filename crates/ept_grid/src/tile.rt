@@ -188,10 +188,14 @@ fn first_losing(
     requires in_place { All (StandInPlace rules.now depth (winners cells.now)) points.now }
     ensures { result ≡ position (is_open_stranger rules.now depth mask (winners cells.now)) points.now }
 {
-    points.iter().position(|point| {
-        is_open(mask, octant_of(rules, depth, point))
+    for (at, point) in points.iter().enumerate() {
+        if is_open(mask, octant_of(rules, depth, point))
             && is_no_winner(rules, depth, heads, cells, point)
-    })
+        {
+            return Some(at);
+        }
+    }
+    None
 }
 
 // The first closed octant with more losers than the threshold.
