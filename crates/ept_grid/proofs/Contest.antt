@@ -66,12 +66,12 @@ still_behind rules depth p front back w o q cell first b =
     elim (replaced front back w p b.winner b.wins) [
       | inl m ↦ record { in_octant = b.in_octant; winner = b.winner; wins = m; one_cell = b.one_cell; no_better = b.no_better }
       | inr is ↦ record {
-          in_octant = b.in_octant;
-          winner = p;
-          wins = newcomer front back p;
-          one_cell = same_cell-trans rules.cube depth (place p) (place w) (place q) (same_cell-sym rules.cube depth (place w) (place p) cell) (subst (λ (x : Point). share_cell rules depth x q ≡ true) (sym is) b.one_cell);
-          no_better = better_yet rules depth p w q first (subst (λ (x : Point). is_better_at rules depth q x ≡ false) (sym is) b.no_better);
-        }
+        in_octant = b.in_octant;
+        winner = p;
+        wins = newcomer front back p;
+        one_cell = same_cell-trans rules.cube depth (place p) (place w) (place q) (same_cell-sym rules.cube depth (place w) (place p) cell) (subst (λ (x : Point). share_cell rules depth x q ≡ true) (sym is) b.one_cell);
+        no_better = better_yet rules depth p w q first (subst (λ (x : Point). is_better_at rules depth q x ≡ false) (sym is) b.no_better);
+      }
     ]
 
 displaced_order : (p w : Point) (front back all mid : List Point) → IsPermutation (w ∷ all) mid → IsPermutation (p ∷ ((front ++ w ∷ back) ++ all)) ((front ++ p ∷ back) ++ mid)
@@ -88,12 +88,12 @@ displaces rules depth p front back w losers o small here s apart cell first = re
     behind = λ k q m. elim (joined-member losers o k w q m) [
       | inl n ↦ still_behind rules depth p front back w k q cell first (s.behind k q n)
       | inr n ↦ record {
-          in_octant = ap (λ (x : Point). octant rules depth x) (sym n.0) ∙ here ∙ sym n.1;
-          winner = p;
-          wins = newcomer front back p;
-          one_cell = subst (λ (x : Point). share_cell rules depth p x ≡ true) n.0 (same_cell-sym rules.cube depth (place w) (place p) cell);
-          no_better = subst (λ (x : Point). is_better_at rules depth x p ≡ false) n.0 (no_worse rules depth p w first);
-        }
+        in_octant = ap (λ (x : Point). octant rules depth x) (sym n.0) ∙ here ∙ sym n.1;
+        winner = p;
+        wins = newcomer front back p;
+        one_cell = subst (λ (x : Point). share_cell rules depth p x ≡ true) n.0 (same_cell-sym rules.cube depth (place w) (place p) cell);
+        no_better = subst (λ (x : Point). is_better_at rules depth x p ≡ false) n.0 (no_worse rules depth p w first);
+      }
     ];
   };
   together = displaced_order p w front back (all_points losers) (all_points (joined losers o w)) (all-joined losers o w small);
@@ -106,12 +106,12 @@ stays_behind rules depth p ws w losers o small here s m cell behind = record {
     behind = λ k q n. elim (joined-member losers o k p q n) [
       | inl old ↦ s.behind k q old
       | inr new ↦ record {
-          in_octant = ap (λ (x : Point). octant rules depth x) (sym new.0) ∙ here ∙ sym new.1;
-          winner = w;
-          wins = m;
-          one_cell = subst (λ (x : Point). share_cell rules depth w x ≡ true) new.0 cell;
-          no_better = subst (λ (x : Point). is_better_at rules depth x w ≡ false) new.0 behind;
-        }
+        in_octant = ap (λ (x : Point). octant rules depth x) (sym new.0) ∙ here ∙ sym new.1;
+        winner = w;
+        wins = m;
+        one_cell = subst (λ (x : Point). share_cell rules depth w x ≡ true) new.0 cell;
+        no_better = subst (λ (x : Point). is_better_at rules depth x w ≡ false) new.0 behind;
+      }
     ];
   };
   together = between p ws (all_points losers) (all_points (joined losers o p)) (all-joined losers o p small);

@@ -6,7 +6,7 @@ use Rattle.std.specs.List.Sorted.{IsPermutation}
 use Rattle.std.proofs.lemmas.Bool.{false≢true}
 use Rattle.std.proofs.lemmas.Bool.Decides.{nat_tests}
 use Rattle.std.proofs.Math.Seq.{drop-cons}
-use Rattle.std.proofs.lemmas.List.Sorted.{IsPermutation-sym}
+use Rattle.std.proofs.lemmas.List.Sorted.{IsPermutation-sym, length_permutation}
 use Rattle.ept_point.specs.declared.point.Point.{Point}
 use Rattle.ept_point.specs.Order.{IsAscending}
 use Rattle.ept_space.specs.VoxelKey.{VoxelKey}
@@ -14,6 +14,11 @@ use Rattle.ept_space.specs.OctreeCube.{OctreeCube, InBox}
 use Rattle.ept_sample.specs.Place.{place, AllInBox}
 use Rattle.ept_sample.specs.Ids.{comes_before, HasDistinctIds, placed_by_id, in_id_order}
 use Rattle.ept_sample.proofs.Members.{all-member, All-members}
+use Rattle.ept_grid.specs.declared.pool.Cell.{Cell}
+use Rattle.ept_grid.specs.Outgoing.{Leaving, points_at}
+use Rattle.ept_grid.specs.Settling.{winners}
+use Rattle.ept_grid.specs.Contents.{contents}
+use Rattle.ept_grid.proofs.Leavings.{all-none}
 use Rattle.ept_sample.proofs.IdLaws.{in_id_order-IsMember, IsPermutation-in_id_order, IsRising-in_id_order, IsAscending-IsRising, IsRising-IsAscending, HasDistinctIds-IsPermutation, HasDistinctIds-IsAscending, in_id_order-IsRising, in_id_order-IsPermutation}
 
 pub inside-in_order : (cube : OctreeCube) (key : VoxelKey) (ps : List Point) → AllInBox cube key ps → All (λ q. InBox cube key (place q)) (in_id_order ps)
@@ -74,3 +79,27 @@ one-more ps placed p done at e is before =
     let next : length ps - done ≡ suc at = omega (arith, e) in
     let front : drop at ps ≡ p ∷ drop (suc at) ps = drop-cons ps at p (omega (arith, e)) ∙ ap (λ (q : Point). q ∷ drop (suc at) ps) (sym is) in
     ap (λ (w : List Point). placed_by_id p w) (before ∙ ap (λ (n : ℕ). in_id_order (drop n ps)) next) ∙ sym (ap (λ (w : List Point). in_id_order w) (ap (λ (n : ℕ). drop n ps) here ∙ front))
+
+pub none-placed : (ps : List Point) → [] ≡ in_id_order (drop (length ps - 0) ps)
+unfolding in_id_order
+none-placed ps =
+    let all : length ps - 0 ≡ length ps = omega arith in
+    sym (ap (λ (n : ℕ). in_id_order (drop n ps)) all ∙ ap (λ (w : List Point). in_id_order w) (drop-all ps))
+  where
+    drop-all : (qs : List Point) → drop (length qs) qs ≡ []
+    drop-all [] = refl
+    drop-all (q ∷ qs) = drop-all qs
+
+-- a node without points
+pub none-in_order : (cells : List Cell) (losers : List Leaving) → cells ≡ [] → ((o : ℕ) → points_at losers o ≡ []) → in_id_order (contents (winners cells) losers) ≡ []
+unfolding in_id_order
+none-in_order cells losers e none =
+    ap (λ (w : List Cell). in_id_order (contents (winners w) losers)) e ∙ ap (λ (w : List Point). in_id_order w) (all-none losers (λ o h. none o))
+
+pub length-in_order : (ps : List Point) → length (in_id_order ps) ≡ length ps
+length-in_order ps = length_permutation ps (in_id_order ps) (IsPermutation-in_id_order ps)
+
+-- how many points a node has, from its cells as they are read
+pub count-node : (cells seen : List Cell) (losers : List Leaving) (n : ℕ) → n ≡ length (contents (winners seen) losers) → seen ≡ cells → n ≡ length (in_id_order (contents (winners cells) losers))
+count-node cells seen losers n e is =
+    e ∙ ap (λ (w : List Cell). length (contents (winners w) losers)) is ∙ sym (length-in_order (contents (winners cells) losers))

@@ -1,5 +1,6 @@
 -- Lists of points by octant.
-use Rattle.std.proofs.Common.{◌≡◌, ◌≢◌, ◌∙◌, ℕ, zero, suc, ◌+◌, ◌-◌, ◌<◌, ◌≤◌, Bool, true, false, ◌⊎◌, inl, inr, List, [], ◌∷◌, ◌++◌, length, count_by, append_assoc, refl, ap, sym, subst, arith}
+use Rattle.std.proofs.Common.{◌≡◌, ◌≢◌, ◌∙◌, ℕ, zero, suc, ◌+◌, ◌-◌, ◌<◌, ◌≤◌, Bool, true, false, ◌⊎◌, inl, inr, List, [], ◌∷◌, ◌++◌, length, count_by, append_assoc, take, get_or, refl, ap, sym, subst, arith}
+use Rattle.std.proofs.lemmas.List.{take_more, append-nil}
 use Rattle.std.specs.List.Sorted.{IsPermutation}
 use Rattle.std.proofs.lemmas.List.Sorted.{IsPermutation-refl, IsPermutation-sym, IsPermutation-trans, IsPermutation-cons, IsPermutation-middle, IsPermutation-append_right, IsPermutation-append}
 use Rattle.ept_point.specs.declared.point.Point.{Point}
@@ -106,3 +107,13 @@ all-joined (l ∷ losers) zero q h =
     subst (λ (w : List Point). IsPermutation (q ∷ (l.points ++ all_points losers)) w) (sym (append_assoc l.points (q ∷ []) (all_points losers))) (between q l.points (all_points losers) (q ∷ all_points losers) (IsPermutation-refl (q ∷ all_points losers)))
 all-joined (l ∷ losers) (suc o) q h =
     between q l.points (all_points losers) (all_points (joined losers o q)) (all-joined losers o q (omega arith))
+
+-- ---- the lists one after the other
+
+all-append : (xs ys : List Leaving) → all_points (xs ++ ys) ≡ all_points xs ++ all_points ys
+all-append [] ys = refl
+all-append (x ∷ xs) ys = ap (λ (w : List Point). x.points ++ w) (all-append xs ys) ∙ sym (append_assoc x.points (all_points xs) (all_points ys))
+
+pub all-took : (items : List Leaving) (i : ℕ) (l : Leaving) → i < length items → l ≡ get_or items i l → all_points (take (i + 1) items) ≡ all_points (take i items) ++ l.points
+all-took items i l h is =
+    ap (λ (w : List Leaving). all_points w) (take_more items i l h ∙ ap (λ (k : Leaving). take i items ++ k ∷ []) (sym is)) ∙ all-append (take i items) (l ∷ []) ∙ ap (λ (w : List Point). all_points (take i items) ++ w) (append-nil l.points)

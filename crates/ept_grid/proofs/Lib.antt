@@ -1,6 +1,7 @@
 pub mod Lanes
 pub mod Settled
 pub mod Contest
+pub mod Filled
 pub mod InOrder
 pub mod Boxes
 pub mod Keeping

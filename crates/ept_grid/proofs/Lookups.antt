@@ -7,17 +7,15 @@ use Rattle.std.proofs.lemmas.Bool.Decides.{nat_tests}
 use Rattle.std.proofs.lemmas.List.Sorted.{IsPermutation-sym}
 use Rattle.ept_point.specs.declared.point.Point.{Point}
 use Rattle.ept_space.specs.declared.cube.Rules.{Rules}
-use Rattle.ept_space.proofs.PlaceKeys.{octant_at-below}
-use Rattle.ept_sample.specs.Place.{place}
 use Rattle.ept_sample.specs.Members.{IsMember}
 use Rattle.ept_sample.specs.Ids.{same_id, HasDistinctIds}
 use Rattle.ept_sample.specs.Arrivals.{loses, octant}
-use Rattle.ept_sample.proofs.Members.{all-member, member-any, any-member, IsMember-append, IsMember-left, contains-IsMember}
+use Rattle.ept_sample.proofs.Members.{all-member, All-members, member-any, any-member, IsMember-append, IsMember-left, contains-IsMember}
 use Rattle.ept_sample.proofs.IdLaws.{same_id-self, same_id-sym, same_member, IsMember-IsPermutation, HasDistinctIds-IsPermutation}
 use Rattle.ept_grid.specs.declared.pool.Cell.{Cell}
 use Rattle.ept_grid.specs.declared.spot.Spot.{Spot}
 use Rattle.ept_grid.specs.Mask.{opened}
-use Rattle.ept_grid.specs.Outgoing.{Leaving, points_at, all_points}
+use Rattle.ept_grid.specs.Outgoing.{Leaving, all_points}
 use Rattle.ept_grid.specs.Tile.{is_open_loser}
 use Rattle.ept_grid.specs.Settling.{winners, is_open_stranger}
 use Rattle.ept_grid.specs.Contents.{contents, IsSettled}
@@ -114,35 +112,25 @@ both-true a b is_a is_b = ap (λ (c : Bool). c && b) is_a ∙ is_b
 
 -- ---- the points of a node that was filled with them
 
-pub in-contents : (points given : List Point) (p : Point) → IsPermutation points given → IsMember p points → IsMember p given
-in-contents points given p all m = IsMember-IsPermutation p points given all m
-
 -- a winner with the id of a point is the point
 pub in-place : (rules : Rules) (depth : ℕ) (ws : List Point) (losers : List Leaving) (points : List Point) (p w : Point) → HasDistinctIds points → IsPermutation points (contents ws losers) → IsMember p points → IsMember w ws → same_id p w ≡ true → spot rules depth w ≡ spot rules depth p
 in-place rules depth ws losers points p w once all in_p in_w same =
     let there = IsMember-IsPermutation w (contents ws losers) points (IsPermutation-sym points (contents ws losers) all) (IsMember-left w ws (all_points losers) in_w) in
     ap (spot rules depth) (sym (same_member points once p w in_p there same))
 
--- where the lists of open octants are empty, no point loses in one
-pub no-open-loser : (rules : Rules) (depth mask : ℕ) (ws : List Point) (losers : List Leaving) (points : List Point) → IsSettled rules depth ws losers → IsPermutation points (contents ws losers) → ((o : ℕ) → o < 8 → opened mask o ≡ true → length (points_at losers o) ≡ 0) → (p : Point) → IsMember p points → is_open_loser rules depth mask points p ≡ false
-no-open-loser rules depth mask ws losers points settled all empty p m =
-    elim (IsMember-append p ws (all_points losers) (IsMember-IsPermutation p points (contents ws losers) all m)) [
-      inl won ↦ ap (λ (b : Bool). b && opened mask (octant rules depth p)) (wins-given rules depth ws losers points settled (IsPermutation-sym points (contents ws losers) all) p won)
-    | inr lost ↦ false_unless (is_open_loser rules depth mask points p) (λ is. gone lost (and_right (loses rules depth points p) (opened mask (octant rules depth p)) is))
-    ]
-  where
-    and_right : (a b : Bool) → (a && b) ≡ true → b ≡ true
-    and_right true b is = is
-    and_right false b is = absurd (false≢true is)
-    none_in : (qs : List Point) → length qs ≡ 0 → IsMember p qs → ⊥
-    none_in [] is m = m
-    none_in (q ∷ qs) is m = absurd (let e : length qs + 1 ≡ 0 = omega (arith, is) in omega arith)
-    gone : IsMember p (all_points losers) → opened mask (octant rules depth p) ≡ true → ⊥
-    gone lost is_open =
-        let at = member-at losers p lost in
-        let in_octant = (settled.behind at.0 p at.2).in_octant in
-        let low : at.0 < 8 = subst (λ o. o < 8) in_octant (octant_at-below rules.cube depth (place p)) in
-        none_in (points_at losers at.0) (empty at.0 low (ap (opened mask) (sym in_octant) ∙ is_open)) at.2
+at-member : (points : List Point) (k : ℕ) (d : Point) → k < length points → IsMember (get_or points k d) points
+at-member [] k d within = absurd (omega arith)
+at-member (p ∷ points) zero d within = inl refl
+at-member (p ∷ points) (suc k) d within = inr (at-member points k d (omega arith))
+
+pub all-in-place : (rules : Rules) (depth : ℕ) (ws : List Point) (losers : List Leaving) (points : List Point) → HasDistinctIds points → IsPermutation points (contents ws losers) → All (StandInPlace rules depth ws) points
+all-in-place rules depth ws losers points once all k d within i e low same =
+    in-place rules depth ws losers points (get_or points k d) (get_or ws i e) once all (at-member points k d within) (at-member ws i e low) same
+
+-- what holds of each point holds of each winner
+pub winners-hold : (P : Point → Type 0) (ws : List Point) (losers : List Leaving) (points : List Point) → IsPermutation points (contents ws losers) → All P points → All P ws
+winners-hold P ws losers points all holds =
+    All-members P ws (λ w m. all-member P w points holds (IsMember-IsPermutation w (contents ws losers) points (IsPermutation-sym points (contents ws losers) all) (IsMember-left w ws (all_points losers) m)))
 
 -- the first stranger in an open octant is the first loser there
 pub same-first : (rules : Rules) (depth mask : ℕ) (ws : List Point) (losers : List Leaving) (points : List Point) → IsSettled rules depth ws losers → HasDistinctIds points → IsPermutation points (contents ws losers) → position (is_open_stranger rules depth mask ws) points ≡ position (is_open_loser rules depth mask points) points

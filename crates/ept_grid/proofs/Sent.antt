@@ -40,7 +40,7 @@ settled-sent rules depth mask mask' ws mid stay before after s sent = record {
 pub few-sent : (rules : Rules) (depth mask mask' : ℕ) (mid stay before after : List Leaving) → HasSent rules depth mask mask' mid stay before after → AreFew rules depth mask' stay
 few-sent rules depth mask mask' mid stay before after sent = record {
   shut = λ o h isn't. let at = sent.each o h in
-    ap (λ (w : List Point). opens_with rules depth (length w)) (at.shut isn't).0 ∙ (or_false (opened mask o) (opens_with rules depth (length (points_at mid o))) (sym at.opens ∙ isn't)).1;
+      ap (λ (w : List Point). opens_with rules depth (length w)) (at.shut isn't).0 ∙ (or_false (opened mask o) (opens_with rules depth (length (points_at mid o))) (sym at.opens ∙ isn't)).1;
   gone = λ o h is. (sent.each o h).gone is;
 }
 
@@ -97,8 +97,3 @@ opens-above rules depth mask mask' o mid stay before after at isn't is =
 pub some-added : (rules : Rules) (depth mask mask' o : ℕ) (mid stay before after : Leaving) → (at : HasSentAt rules depth mask mask' o mid stay before after) → opened mask o ≡ false → opened mask' o ≡ true → 0 < length at.added
 some-added rules depth mask mask' o mid stay before after at isn't is =
     omega (arith, (opens-above rules depth mask mask' o mid stay before after at isn't is).1, length_permutation mid.points at.added (at.leave is))
-
-
-
-
-

@@ -93,8 +93,10 @@ pub record IsNode (key : VoxelKey) (rules : Rules) (heads : List ℕ) (cells : L
   pub deepest : key.depth ≡ rules.cube.depth → mask ≡ 0
 
 -- the cells and losers of these points, where no octant is open
-pub record IsFilled (key : VoxelKey) (rules : Rules) (heads : List ℕ) (cells : List Cell) (losers : List Leaving) (points : List Point) : Type 0 where
-  pub table : length heads ≡ 2 ^ (2 * rules.cube.s)
+pub record IsFilled (key : VoxelKey) (rules : Rules) (heads : List ℕ) (cells : List Cell) (capacity : ℕ) (losers : List Leaving) (points : List Point) : Type 0 where
+  pub table : (length heads ≡ 0) ⊎ (length heads ≡ 2 ^ (2 * rules.cube.s))
+  pub some : 0 < capacity → 0 < length heads
   pub chained : IsChained heads (nexts_of cells) (spots_of rules key.depth cells)
   pub settled : IsSettled rules key.depth (winners cells) losers
+  pub eight : length losers ≡ 8
   pub all : IsPermutation points (contents (winners cells) losers)

@@ -15,7 +15,7 @@ use std::alloc::Global;
 /// How many points a node has.
 pub(crate) fn count(cells: &[Cell], losers: &Outgoing) -> usize
     ensures count { result ≡ length (contents (winners cells.now) losers.now) }
-    ensures small { result < 2305843009213693952 }
+    ensures small { result < 4611686018427387904 }
 {
     cells.len() + losers.total()
 }
@@ -95,9 +95,7 @@ fn first_after(points: &[Point], point: &Point) -> Option<usize>
     ensures place { result ≡ position (comes_before point.now) points.now }
     ensures inside { IfSome result (λ at. at ≤ length points.now) }
 {
-    points
-        .iter()
-        .position(|other| stands_before(point, other))
+    points.iter().position(|other| stands_before(point, other))
 }
 
 // Whether the id of the first point comes first.

@@ -189,7 +189,7 @@ impl Outgoing {
     /// How many points leave for any octant.
     pub(crate) fn total(&self) -> usize
         ensures total { result ≡ length (all_points self.now) }
-        ensures small { result < 2017612633061982208 }
+        ensures small { result < 2305843009213693952 }
     {
         let mut total = 0;
         for lane in self.lanes.iter() {

@@ -101,12 +101,14 @@ fn settle_all(alloc: Global, key: &Key, rules: &Rules, points: &[Point]) -> Resu
     requires low { key.now.depth ≤ rules.now.cube.depth }
     requires inside { AllInBox rules.now.cube key.now points.now }
     ensures filled { IfOk result (λ kept.
-        IsFilled key.now rules.now kept.heads.items kept.cells.items kept.losers points.now) }
+        IsFilled key.now rules.now kept.heads.items kept.cells.items (vec_capacity kept.cells) kept.losers points.now) }
 {
+    let losers = Outgoing::new(alloc);
+    losers.known();
     let mut kept = Kept {
         heads: Vec::new(alloc),
         cells: Vec::new(alloc),
-        losers: Outgoing::new(alloc),
+        losers,
     };
     make_cells(rules, &mut kept.heads, &mut kept.cells, points.len())?;
     for at in 0..points.len() {
@@ -116,14 +118,21 @@ fn settle_all(alloc: Global, key: &Key, rules: &Rules, points: &[Point]) -> Resu
 }
 
 // Settles the point of a number.
-fn fill(key: &Key, rules: &Rules, points: &[Point], at: usize, kept: &mut Kept) -> Result<(), Memory>
+fn fill(
+    key: &Key,
+    rules: &Rules,
+    points: &[Point],
+    at: usize,
+    kept: &mut Kept,
+) -> Result<(), Memory>
     requires low { key.now.depth ≤ rules.now.cube.depth }
     requires inside { AllInBox rules.now.cube key.now points.now }
     requires there { at < length points.now }
     requires room { length points.now ≤ min (vec_capacity kept.old.cells) 4294967295 }
-    requires filled { IsFilled key.now rules.now kept.old.heads.items kept.old.cells.items kept.old.losers (take at points.now) }
-    ensures filled { OnOk result
-        (IsFilled key.now rules.now kept.new.heads.items kept.new.cells.items kept.new.losers (take (at + 1) points.now)) }
+    requires filled { IsFilled key.now rules.now kept.old.heads.items kept.old.cells.items
+        (vec_capacity kept.old.cells) kept.old.losers (take at points.now) }
+    ensures filled { OnOk result (IsFilled key.now rules.now kept.new.heads.items kept.new.cells.items
+        (vec_capacity kept.new.cells) kept.new.losers (take (at + 1) points.now)) }
     ensures room { vec_capacity kept.new.cells ≡ vec_capacity kept.old.cells }
 {
     key.known();
@@ -147,7 +156,8 @@ fn first_open_loser(
     requires low { key.now.depth ≤ rules.now.cube.depth }
     requires ascend { IsAscending points.now }
     requires inside { AllInBox rules.now.cube key.now points.now }
-    requires filled { IsFilled key.now rules.now kept.now.heads.items kept.now.cells.items kept.now.losers points.now }
+    requires filled { IsFilled key.now rules.now kept.now.heads.items kept.now.cells.items
+        (vec_capacity kept.now.cells) kept.now.losers points.now }
     ensures { result ≡ position (is_open_loser rules.now key.now.depth mask points.now) points.now }
 {
     if !has_open_losers(mask, &kept.losers) {
@@ -202,11 +212,11 @@ fn first_losing(
 fn first_overfull(rules: &Rules, depth: u8, losers: &Outgoing, mask: u8) -> Option<u8>
     ensures { MatchOption result
         ((o : ℕ) → o < OCTANTS →
-            (not (opened mask o) && opens_with rules.now depth (length (points_at losers.now o))) ≡ false)
+        (not (opened mask o) && opens_with rules.now depth (length (points_at losers.now o))) ≡ false)
         (λ o. (o < OCTANTS)
         × ((not (opened mask o) && opens_with rules.now depth (length (points_at losers.now o))) ≡ true)
         × ((k : ℕ) → k < o →
-            (not (opened mask k) && opens_with rules.now depth (length (points_at losers.now k))) ≡ false)) }
+        (not (opened mask k) && opens_with rules.now depth (length (points_at losers.now k))) ≡ false)) }
 {
     for octant in 0..OCTANTS {
         if !is_open(mask, octant) && is_too_many(rules, depth, losers.count(octant)) {

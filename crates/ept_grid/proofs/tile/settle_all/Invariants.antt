@@ -4,6 +4,6 @@ use Rattle.ept_grid.proofs.tile.settle_all.Given as goal
 
 abbrev pub invariant-loop-at : goal.invariant-loop-at
 invariant-loop-at l = record {
-  filled : IsFilled l.key l.rules l.kept.heads.items l.kept.cells.items l.kept.losers (take l.at l.points);
+  filled : IsFilled l.key l.rules l.kept.heads.items l.kept.cells.items (vec_capacity l.kept.cells) l.kept.losers (take l.at l.points);
   room : length l.points ≤ min (vec_capacity l.kept.cells) 4294967295;
 }
