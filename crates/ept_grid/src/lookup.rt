@@ -25,7 +25,7 @@ pub(crate) fn is_no_winner(
     requires low { depth ≤ rules.now.cube.depth }
     requires all_inside { AllInCube rules.now.cube (winners cells.now) }
     requires inside { InCube rules.now.cube (place point.now) }
-    requires table { length heads.now ≡ 2 ^ (2 * rules.now.cube.s) }
+    requires table { 0 < length cells.now → length heads.now ≡ 2 ^ (2 * rules.now.cube.s) }
     requires chained { IsChained heads.now (nexts_of cells.now) (spots_of rules.now depth cells.now) }
     requires in_place { StandInPlace rules.now depth (winners cells.now) point.now }
     ensures { result ≡ not (list_any (same_id point.now) (winners cells.now)) }
@@ -47,12 +47,15 @@ fn winner_at(
     requires low { depth ≤ rules.now.cube.depth }
     requires all_inside { AllInCube rules.now.cube (winners cells.now) }
     requires inside { InCube rules.now.cube (place point.now) }
-    requires table { length heads.now ≡ 2 ^ (2 * rules.now.cube.s) }
+    requires table { 0 < length cells.now → length heads.now ≡ 2 ^ (2 * rules.now.cube.s) }
     requires chained { IsChained heads.now (nexts_of cells.now) (spots_of rules.now depth cells.now) }
     ensures { MatchOption result
         (IsAlone (spots_of rules.now depth cells.now) (spot rules.now depth point.now))
         (StandsAt rules.now depth (winners cells.now) (spot rules.now depth point.now)) }
 {
+    if cells.is_empty() {
+        return None;
+    }
     let spot = spot_of(rules, depth, point);
     let gap = gap_at(rules, depth, heads, cells, spot);
     if is_at(rules, depth, cells, gap.above, spot.level) {

@@ -193,15 +193,19 @@ fn first_losing(
     requires low { depth ≤ rules.now.cube.depth }
     requires all_inside { AllInCube rules.now.cube (winners cells.now) }
     requires inside { AllInCube rules.now.cube points.now }
-    requires table { length heads.now ≡ 2 ^ (2 * rules.now.cube.s) }
+    requires table { 0 < length cells.now → length heads.now ≡ 2 ^ (2 * rules.now.cube.s) }
     requires chained { IsChained heads.now (nexts_of cells.now) (spots_of rules.now depth cells.now) }
     requires in_place { All (StandInPlace rules.now depth (winners cells.now)) points.now }
     ensures { result ≡ position (is_open_stranger rules.now depth mask (winners cells.now)) points.now }
 {
-    points.iter().position(|point| {
-        is_open(mask, octant_of(rules, depth, point))
+    for (at, point) in points.iter().enumerate() {
+        if is_open(mask, octant_of(rules, depth, point))
             && is_no_winner(rules, depth, heads, cells, point)
-    })
+        {
+            return Some(at);
+        }
+    }
+    None
 }
 
 // The first closed octant with more losers than the threshold.
