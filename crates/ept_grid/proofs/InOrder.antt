@@ -1,5 +1,5 @@
 -- Points in id order.
-use Rattle.std.proofs.Common.{◌≡◌, ◌∙◌, ℕ, zero, suc, ◌+◌, ◌-◌, ◌<◌, ◌≤◌, Bool, true, false, cond, not, nat_lt, inl, inr, List, [], ◌∷◌, ◌++◌, length, drop, get_or, insert, refl, ap, sym, subst, arith}
+use Rattle.std.proofs.Common.{◌≡◌, ◌∙◌, ℕ, zero, suc, ◌+◌, ◌-◌, ◌<◌, ◌≤◌, Bool, true, false, cond, not, nat_lt, ◌⊎◌, inl, inr, List, [], ◌∷◌, ◌++◌, length, drop, get_or, insert, refl, ap, sym, subst, arith}
 use Rattle.std.specs.Prelude.{Option, Some, None, IfSome, position, unwrap_or, Result, Ok, Err, IsOk, is_ok}
 use Rattle.std.specs.List.{All, position_or_len}
 use Rattle.std.specs.List.Sorted.{IsPermutation}
@@ -19,7 +19,10 @@ use Rattle.ept_grid.specs.Outgoing.{Leaving, points_at}
 use Rattle.ept_grid.specs.Settling.{winners}
 use Rattle.ept_grid.specs.Contents.{contents}
 use Rattle.ept_grid.proofs.Leavings.{all-none}
-use Rattle.ept_sample.proofs.IdLaws.{in_id_order-IsMember, IsPermutation-in_id_order, IsRising-in_id_order, IsAscending-IsRising, IsRising-IsAscending, HasDistinctIds-IsPermutation, HasDistinctIds-IsAscending, in_id_order-IsRising, in_id_order-IsPermutation}
+use Rattle.ept_sample.specs.Members.{IsMember}
+use Rattle.ept_sample.proofs.Choices.{either, not_both}
+use Rattle.ept_grid.specs.Node.{IsInIdOrder}
+use Rattle.ept_sample.proofs.IdLaws.{id_order, IsMember-IsPermutation, IsPermutation-placed, in_id_order-IsMember, IsPermutation-in_id_order, IsRising-in_id_order, IsAscending-IsRising, IsRising-IsAscending, HasDistinctIds-IsPermutation, HasDistinctIds-IsAscending, in_id_order-IsRising, in_id_order-IsPermutation}
 
 pub inside-in_order : (cube : OctreeCube) (key : VoxelKey) (ps : List Point) → AllInBox cube key ps → All (λ q. InBox cube key (place q)) (in_id_order ps)
 inside-in_order cube key ps all =
@@ -103,3 +106,49 @@ length-in_order ps = length_permutation ps (in_id_order ps) (IsPermutation-in_id
 pub count-node : (cells seen : List Cell) (losers : List Leaving) (n : ℕ) → n ≡ length (contents (winners seen) losers) → seen ≡ cells → n ≡ length (in_id_order (contents (winners cells) losers))
 count-node cells seen losers n e is =
     e ∙ ap (λ (w : List Cell). length (contents (winners w) losers)) is ∙ sym (length-in_order (contents (winners cells) losers))
+
+-- ---- whatever the ids, no point comes before one in front of it
+
+not_back : (p q : Point) → comes_before p q ≡ true → comes_before q p ≡ false
+not_back p q e =
+    elim (either (comes_before q p)) [
+      | inl back ↦ absurd (not_both (comes_before p p) (id_order.goes_on p q p e back) (id_order.none_itself p))
+      | inr fine ↦ fine
+    ]
+
+none_before : (p q r : Point) → comes_before p q ≡ true → comes_before r q ≡ false → comes_before r p ≡ false
+none_before p q r e later =
+    elim (either (comes_before r p)) [
+      | inl first ↦ absurd (not_both (comes_before r q) (id_order.goes_on r p q first e) later)
+      | inr fine ↦ fine
+    ]
+
+placed_member : (q p : Point) (points : List Point) → IsMember q (placed_by_id p points) → (p ≡ q) ⊎ IsMember q points
+placed_member q p points m =
+    IsMember-IsPermutation q (placed_by_id p points) (p ∷ points) (IsPermutation-sym (p ∷ points) (placed_by_id p points) (IsPermutation-placed p points)) m
+
+placed_order : (p r : Point) (points : List Point) (b : Bool) → comes_before p r ≡ b → All (λ q. comes_before q r ≡ false) points → IsInIdOrder points → IsInIdOrder (placed_by_id p points) → IsInIdOrder (cond b (p ∷ r ∷ points) (r ∷ placed_by_id p points))
+unfolding IsInIdOrder
+placed_order p r points true e first rest more =
+    (All-members (λ q. comes_before q p ≡ false) (r ∷ points) each, (first, rest))
+  where
+    each : (q : Point) → IsMember q (r ∷ points) → comes_before q p ≡ false
+    each q (inl is) = subst (λ (w : Point). comes_before w p ≡ false) is (not_back p r e)
+    each q (inr m) = none_before p r q e (all-member (λ s. comes_before s r ≡ false) q points first m)
+placed_order p r points false e first rest more =
+    (All-members (λ q. comes_before q r ≡ false) (placed_by_id p points) (λ q m. each q (placed_member q p points m)), more)
+  where
+    each : (q : Point) → (p ≡ q) ⊎ IsMember q points → comes_before q r ≡ false
+    each q (inl is) = subst (λ (w : Point). comes_before w r ≡ false) is e
+    each q (inr m) = all-member (λ s. comes_before s r ≡ false) q points first m
+
+order-placed : (p : Point) (points : List Point) → IsInIdOrder points → IsInIdOrder (placed_by_id p points)
+unfolding IsInIdOrder
+order-placed p [] up = (All-members (λ q. comes_before q p ≡ false) [] (λ q m. absurd m), tt)
+order-placed p (r ∷ points) up =
+    placed_order p r points (comes_before p r) refl up.0 up.1 (order-placed p points up.1)
+
+pub order-in_order : (points : List Point) → IsInIdOrder (in_id_order points)
+unfolding IsInIdOrder in_id_order
+order-in_order [] = tt
+order-in_order (p ∷ points) = order-placed p (in_id_order points) (order-in_order points)

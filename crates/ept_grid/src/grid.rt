@@ -11,7 +11,7 @@ ghost use Rattle.ept_sample.specs.Ids.{HasDistinctIds};
 ghost use Rattle.ept_grid.specs.Outgoing.{points_at, all_points};
 ghost use Rattle.ept_grid.specs.Tile.{IsTile, IsTileFault};
 ghost use Rattle.ept_grid.specs.Winner.{IsCellOf, NoneIn, IsBestIn, column_cells};
-ghost use Rattle.ept_grid.specs.Node.{IsNodeOf, SendsOn, TakesIn, spare};
+ghost use Rattle.ept_grid.specs.Node.{IsNodeOf, IsInIdOrder, SendsOn, TakesIn, spare};
 
 use crate::by_id::{append_by_id, count};
 use crate::error::GridError;
@@ -201,6 +201,7 @@ impl Grid {
     pub fn points_into(&self, out: &mut Vec<Point>) -> Result<(), Memory>
         ensures ok { OnOk result (out.new.items ≡ out.old.items ++ self.now.points) }
         ensures err { OnErr result (out.new.items ≡ out.old.items) }
+        ensures in_order { IsInIdOrder self.now.points }
         ensures ascend { HasDistinctIds self.now.points → IsAscending self.now.points }
     {
         append_by_id(self.cells.as_slice(), &self.losers, out)
