@@ -59,8 +59,8 @@ and-swap false false = refl
 pub stranger-loses : (rules : Rules) (depth : ℕ) (ws : List Point) (losers : List Leaving) (given : List Point) → IsSettled rules depth ws losers → HasDistinctIds (contents ws losers) → IsPermutation (contents ws losers) given → (p : Point) → IsMember p (contents ws losers) → not (list_any (same_id p) ws) ≡ loses rules depth given p
 stranger-loses rules depth ws losers given settled once all p m =
     elim (IsMember-append p ws (all_points losers) m) [
-      inl won ↦ ap not (any-member (same_id p) p ws won (same_id-self p)) ∙ sym (wins-given rules depth ws losers given settled all p won)
-    | inr lost ↦ ap not (nobody lost) ∙ sym (let at = member-at losers p lost in loses-lane rules depth ws losers given settled once all at.0 p at.2)
+      | inl won ↦ ap not (any-member (same_id p) p ws won (same_id-self p)) ∙ sym (wins-given rules depth ws losers given settled all p won)
+      | inr lost ↦ ap not (nobody lost) ∙ sym (let at = member-at losers p lost in loses-lane rules depth ws losers given settled once all at.0 p at.2)
     ]
   where
     nobody : IsMember p (all_points losers) → list_any (same_id p) ws ≡ false

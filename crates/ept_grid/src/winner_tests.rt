@@ -9,7 +9,8 @@ use std::marker::Brand;
 use std::sync::ledger::{Blank, Ledger};
 use std::test::Fail;
 
-const PLACES: [[i32; 3]; 3] = [[1, 1, 1], [1, 1, 5], [5, 5, 5]];
+// The number of each point, and its place.
+const POINTS: [(u32, [i32; 3]); 3] = [(0, [1, 1, 1]), (1, [1, 1, 5]), (2, [5, 5, 5])];
 
 // A point of which only the id and the place matter.
 fn point(number: u32, place: [i32; 3]) -> Point {
@@ -70,14 +71,12 @@ fn finds_the_winners_of_cells(rt: HostRuntime) -> Result<(), Fail> {
     let rules = Rules { cube, threshold: 0 };
     let mut grid = Grid::new(rt.alloc(), Key::ROOT, &rules);
     let mut out = Outgoing::new(rt.alloc());
-    let mut number = 0;
-    for place in PLACES {
+    for (number, place) in POINTS {
         grid.reserve(1, &mut out)?;
         let arriving = point(number, place);
         if grid.is_inside(&arriving) {
             grid.arrive(arriving, &mut out);
         }
-        number += 1;
     }
     assert_eq!(rt; number_in(&grid, [0, 0, 1]), Some(1));
     assert_eq!(rt; number_in(&grid, [0, 0, 0]), Some(0));
