@@ -1,7 +1,7 @@
 -- The cells of a column of a box, by their levels.
-use Rattle.std.proofs.Common.{◌≡◌, ◌≢◌, ◌∙◌, ◌⊎◌, inl, inr, ℕ, zero, suc, ◌+◌, ◌-◌, ◌*◌, ◌/◌, ◌%◌, ◌^◌, ◌<◌, ◌≤◌, Bool, true, false, cond, ◌&&◌, ◌==◌, List, [], ◌∷◌, ◌++◌, length, get_or, map, refl, ap, sym, subst, arith}
-use Rattle.std.specs.Prelude.{slice_index, nat_lt, count_by, IsTrue, Option, Some, None, MatchOption}
-use Rattle.std.specs.List.{All, list_any, range_with_len}
+use Rattle.std.proofs.Common.{◌≡◌, ◌∙◌, ◌⊎◌, inl, inr, ℕ, zero, suc, ◌+◌, ◌*◌, ◌/◌, ◌%◌, ◌^◌, ◌<◌, ◌≤◌, Bool, true, false, cond, ◌&&◌, ◌==◌, List, [], ◌∷◌, length, get_or, map, refl, ap, sym, subst, arith}
+use Rattle.std.specs.Prelude.{slice_index, nat_lt, count_by, Option, Some, None, MatchOption}
+use Rattle.std.specs.List.{list_any, range_with_len}
 use Rattle.std.proofs.lemmas.Bool.Decides.{nat_tests}
 use Rattle.std.proofs.lemmas.Bool.{cases_lt, false≢true}
 use Rattle.std.proofs.Math.Nat.{div-eq_of_lt-le}
@@ -17,9 +17,9 @@ use Rattle.ept_sample.proofs.Members.{all-member}
 use Rattle.ept_grid.specs.declared.spot.Spot.{Spot}
 use Rattle.ept_grid.specs.Columns.{spot, column_of, nowhere, column_at, level_at, IsAlone, StandsAt, in_column, looked}
 use Rattle.ept_grid.specs.Winner.{IsCellOf, lies_in, NoneIn, WinsIn, column_cells}
-use Rattle.ept_grid.proofs.SpotLaws.{HasKey, has-key, from-parts, column-parts}
+use Rattle.ept_grid.proofs.SpotLaws.{has-key, from-parts, column-parts}
 use Rattle.ept_grid.proofs.Contending.{spot-of, false_unless}
-use Rattle.ept_grid.proofs.Seeks.{count-cons, count-le}
+use Rattle.ept_grid.proofs.Seeks.{count-cons}
 
 -- ---- a point in a cell, by the place of the cell
 

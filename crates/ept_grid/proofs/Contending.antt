@@ -1,5 +1,5 @@
 -- What becomes of a point that meets a winner, or none.
-use Rattle.std.proofs.Common.{◌≡◌, ◌≢◌, ◌∙◌, ◌⊎◌, inl, inr, ℕ, zero, suc, ◌+◌, ◌-◌, ◌<◌, ◌≤◌, Bool, true, false, List, [], ◌∷◌, ◌++◌, take, drop, length, get_or, map, refl, ap, sym, subst, arith}
+use Rattle.std.proofs.Common.{◌≡◌, ◌∙◌, inl, inr, ℕ, zero, suc, ◌+◌, ◌<◌, Bool, true, false, List, [], ◌∷◌, ◌++◌, take, drop, length, get_or, map, refl, ap, sym, subst, arith}
 use Rattle.std.specs.Prelude.{IsTrue}
 use Rattle.std.specs.List.{All}
 use Rattle.std.proofs.lemmas.List.{length-map, map-append, set_split, take-append-drop}
@@ -13,7 +13,7 @@ use Rattle.ept_sample.specs.Members.{IsMember}
 use Rattle.ept_sample.proofs.Members.{contains-IsMember}
 use Rattle.ept_grid.specs.declared.pool.Cell.{Cell}
 use Rattle.ept_grid.specs.declared.spot.Spot.{Spot}
-use Rattle.ept_grid.specs.Settling.{winners, share_cell, is_better_at, AreApart, HasItsCell, HasContended}
+use Rattle.ept_grid.specs.Settling.{winners, share_cell, is_better_at, AreApart, HasContended}
 use Rattle.ept_grid.specs.Columns.{spot, spots_of, nexts_of, nowhere, heads_with, nexts_with, IsChained, IsCut, IsAlone}
 use Rattle.ept_grid.proofs.Chains.{chained-with}
 use Rattle.ept_grid.proofs.Winners.{winner-of, winners-point, length-spots}

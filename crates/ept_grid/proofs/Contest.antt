@@ -1,7 +1,7 @@
 -- A point that arrives: what it does to winners and losers, before any leaves.
-use Rattle.std.proofs.Common.{◌≡◌, ◌≢◌, ◌∙◌, ℕ, ◌+◌, ◌<◌, ◌≤◌, Bool, true, false, ◌⊎◌, inl, inr, List, [], ◌∷◌, ◌++◌, length, append_assoc, refl, ap, sym, subst, arith}
+use Rattle.std.proofs.Common.{◌≡◌, ◌∙◌, ℕ, ◌<◌, true, false, ◌⊎◌, inl, inr, List, [], ◌∷◌, ◌++◌, length, append_assoc, refl, ap, sym, subst}
 use Rattle.std.specs.List.Sorted.{IsPermutation}
-use Rattle.std.proofs.lemmas.List.Sorted.{IsPermutation-refl, IsPermutation-sym, IsPermutation-trans, IsPermutation-cons, IsPermutation-middle, IsPermutation-append_left, IsPermutation-append_right, IsPermutation-append}
+use Rattle.std.proofs.lemmas.List.Sorted.{IsPermutation-refl, IsPermutation-sym, IsPermutation-trans, IsPermutation-cons, IsPermutation-middle, IsPermutation-append_left}
 use Rattle.ept_point.specs.declared.point.Point.{Point}
 use Rattle.ept_space.specs.declared.cube.Rules.{Rules}
 use Rattle.ept_space.proofs.Cells.{same_cell-sym, same_cell-trans}
@@ -9,10 +9,10 @@ use Rattle.ept_sample.specs.Place.{place}
 use Rattle.ept_sample.specs.Rank.{rank_at}
 use Rattle.ept_sample.specs.Members.{IsMember}
 use Rattle.ept_sample.specs.Arrivals.{octant}
-use Rattle.ept_sample.proofs.Choices.{either, not_both, is_false}
+use Rattle.ept_sample.proofs.Choices.{not_both, is_false}
 use Rattle.ept_sample.proofs.Members.{IsMember-left, IsMember-right, IsMember-append}
 use Rattle.ept_sample.proofs.RankLaws.{is_better-self, is_better-trans}
-use Rattle.ept_grid.specs.Outgoing.{Leaving, points_at, all_points}
+use Rattle.ept_grid.specs.Outgoing.{Leaving, all_points}
 use Rattle.ept_grid.specs.Settling.{share_cell, is_better_at, AreApart, HasItsCell, HasContended}
 use Rattle.ept_grid.specs.Contents.{contents, IsBehind, IsSettled, joined}
 use Rattle.ept_grid.proofs.Lanes.{joined-member, all-joined, between}

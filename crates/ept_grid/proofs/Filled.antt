@@ -1,7 +1,7 @@
 -- The points of a tile, settled one by one.
-use Rattle.std.proofs.Common.{◌≡◌, ◌≢◌, ◌∙◌, ℕ, zero, suc, ◌+◌, ◌-◌, ◌*◌, ◌^◌, ◌<◌, ◌≤◌, ◌⊎◌, inl, inr, Bool, true, false, cond, ◌&&◌, ◌==◌, not, nat_lt, List, [], ◌∷◌, ◌++◌, length, length-append, take, drop, get_or, refl, ap, sym, subst, arith}
-use Rattle.std.specs.Prelude.{position, MatchOption, Option, Some, None, min}
-use Rattle.std.specs.List.{All, position_or_len}
+use Rattle.std.proofs.Common.{◌≡◌, ◌≢◌, ◌∙◌, ℕ, suc, ◌+◌, ◌*◌, ◌^◌, ◌<◌, ◌≤◌, ◌⊎◌, inl, inr, Bool, true, false, cond, ◌&&◌, ◌==◌, not, nat_lt, List, [], ◌∷◌, ◌++◌, length, length-append, take, drop, get_or, refl, ap, sym, subst, arith}
+use Rattle.std.specs.Prelude.{position, MatchOption, Option, Some, None}
+use Rattle.std.specs.List.{position_or_len}
 use Rattle.std.specs.List.Sorted.{IsPermutation}
 use Rattle.std.proofs.lemmas.Bool.Decides.{nat_tests}
 use Rattle.std.proofs.lemmas.List.{length-map, length-take, take_more, take-append-drop}
@@ -11,25 +11,25 @@ use Rattle.ept_point.specs.Order.{IsAscending}
 use Rattle.ept_space.specs.declared.cube.Rules.{Rules}
 use Rattle.ept_space.specs.VoxelKey.{VoxelKey, IsKey}
 use Rattle.ept_space.specs.OctreeCube.{InBox, InCube, IsCube}
-use Rattle.ept_space.proofs.PlaceKeys.{InCube-box, octant_at-below}
+use Rattle.ept_space.proofs.PlaceKeys.{InCube-box}
 use Rattle.ept_sample.specs.Place.{place, AllInBox, AllInCube}
 use Rattle.ept_sample.specs.Ids.{HasDistinctIds, in_id_order}
 use Rattle.ept_sample.specs.Members.{IsMember}
 use Rattle.ept_sample.specs.Arrivals.{octant, loses}
-use Rattle.ept_sample.proofs.Choices.{either, not_both, is_false, and_left, and_right, and_both, or_false}
+use Rattle.ept_sample.proofs.Choices.{either, not_both, is_false, and_left, and_right, and_both}
 use Rattle.ept_sample.proofs.Members.{all-member, All-members, IsMember-left, IsMember-right, IsMember-append}
 use Rattle.ept_sample.proofs.IdLaws.{IsMember-IsPermutation, HasDistinctIds-IsAscending, HasDistinctIds-IsPermutation}
 use Rattle.ept_grid.specs.declared.pool.Cell.{Cell}
 use Rattle.ept_grid.specs.Mask.{opened}
-use Rattle.ept_grid.specs.Outgoing.{Leaving, leaving_at, points_at, all_points}
+use Rattle.ept_grid.specs.Outgoing.{Leaving, points_at, all_points}
 use Rattle.ept_grid.specs.Settling.{winners, AreApart, HasItsCell, HasContended}
 use Rattle.ept_grid.specs.Columns.{spots_of, nexts_of, IsChained}
-use Rattle.ept_grid.specs.Contents.{contents, IsSettled, AreFew, joined, opens_with, IsFilled, IsNode}
+use Rattle.ept_grid.specs.Contents.{contents, joined, opens_with, IsFilled, IsNode}
 use Rattle.ept_grid.specs.Tile.{is_open_loser, is_overfull}
-use Rattle.ept_grid.proofs.Lanes.{member-at, at-member, in-range, joined-there, joined-other, length-joined}
+use Rattle.ept_grid.proofs.Lanes.{member-at, at-member, joined-there, joined-other, length-joined}
 use Rattle.ept_grid.proofs.Leavings.{all-same}
 use Rattle.ept_grid.proofs.Settled.{overflows-lane, loses-lane, wins-given}
-use Rattle.ept_grid.proofs.Contest.{HasSettled, own-cell, contended}
+use Rattle.ept_grid.proofs.Contest.{own-cell, contended}
 use Rattle.ept_grid.proofs.InOrder.{ascending-order}
 
 -- ---- one more point

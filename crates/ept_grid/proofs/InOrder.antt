@@ -1,6 +1,6 @@
 -- Points in id order.
-use Rattle.std.proofs.Common.{◌≡◌, ◌∙◌, ℕ, zero, suc, ◌+◌, ◌-◌, ◌<◌, ◌≤◌, Bool, true, false, cond, not, nat_lt, ◌⊎◌, inl, inr, List, [], ◌∷◌, ◌++◌, length, drop, get_or, insert, refl, ap, sym, subst, arith}
-use Rattle.std.specs.Prelude.{Option, Some, None, IfSome, position, unwrap_or, Result, Ok, Err, IsOk, is_ok}
+use Rattle.std.proofs.Common.{◌≡◌, ◌∙◌, ℕ, suc, ◌+◌, ◌-◌, ◌≤◌, Bool, true, false, cond, not, nat_lt, ◌⊎◌, inl, inr, List, [], ◌∷◌, length, drop, get_or, insert, refl, ap, sym, subst, arith}
+use Rattle.std.specs.Prelude.{Option, Some, None, position, unwrap_or, Result, Ok, Err, IsOk, is_ok}
 use Rattle.std.specs.List.{All, position_or_len}
 use Rattle.std.specs.List.Sorted.{IsPermutation}
 use Rattle.std.proofs.lemmas.Bool.{false≢true}

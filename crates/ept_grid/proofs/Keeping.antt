@@ -1,27 +1,24 @@
 -- A node stays one when it takes in a point.
-use Rattle.std.proofs.Common.{◌≡◌, ◌∙◌, ℕ, zero, suc, ◌+◌, ◌-◌, ◌*◌, ◌^◌, ◌<◌, ◌≤◌, ◌⊎◌, inl, inr, Bool, true, false, ◌&&◌, nat_lt, List, [], ◌∷◌, ◌++◌, length, length-append, refl, ap, sym, subst, arith}
-use Rattle.std.specs.List.{All}
-use Rattle.std.specs.List.Sorted.{IsPermutation}
+use Rattle.std.proofs.Common.{◌≡◌, ◌∙◌, ℕ, zero, suc, ◌+◌, ◌*◌, ◌^◌, ◌<◌, ◌≤◌, ◌⊎◌, inl, inr, Bool, true, false, ◌&&◌, nat_lt, List, [], ◌∷◌, ◌++◌, length, length-append, refl, ap, sym, subst, arith}
 use Rattle.std.proofs.lemmas.List.Sorted.{IsPermutation-sym}
 use Rattle.std.proofs.lemmas.List.{length-map}
 use Rattle.ept_point.specs.declared.point.Point.{Point}
 use Rattle.ept_space.specs.declared.cube.Rules.{Rules}
-use Rattle.ept_space.specs.VoxelKey.{VoxelKey, IsKey}
-use Rattle.ept_space.specs.OctreeCube.{InBox, InCube, IsCube, OctreeCube}
-use Rattle.ept_space.proofs.PlaceKeys.{InCube-box, octant_at-below}
+use Rattle.ept_space.specs.VoxelKey.{VoxelKey}
+use Rattle.ept_space.specs.OctreeCube.{InBox, OctreeCube}
+use Rattle.ept_space.proofs.PlaceKeys.{octant_at-below}
 use Rattle.ept_sample.specs.Place.{place, AllInBox}
 use Rattle.ept_sample.specs.Members.{IsMember}
 use Rattle.ept_sample.specs.Arrivals.{octant}
 use Rattle.ept_sample.proofs.Members.{all-member, All-members, IsMember-left, IsMember-right, IsMember-append}
 use Rattle.ept_sample.proofs.IdLaws.{IsMember-IsPermutation}
 use Rattle.ept_grid.specs.declared.pool.Cell.{Cell}
-use Rattle.ept_grid.specs.Mask.{opened}
 use Rattle.ept_grid.specs.Outgoing.{Leaving, leaving_at, points_at, all_points}
 use Rattle.ept_grid.specs.Settling.{winners, AreApart, HasItsCell, HasContended}
 use Rattle.ept_grid.specs.Columns.{spots_of, nexts_of, IsChained}
 use Rattle.ept_grid.specs.Contents.{contents, IsSettled, AreFew, HasSent, HasTaken, joined, IsNode, IsBehind, cell_room, opens_with}
 use Rattle.ept_grid.proofs.Lanes.{member-at, at-member, joined-room}
-use Rattle.ept_grid.proofs.Contest.{HasSettled, own-cell, contended}
+use Rattle.ept_grid.proofs.Contest.{own-cell, contended}
 use Rattle.ept_grid.proofs.Sent.{stayed, settled-sent, few-sent}
 use Rattle.ept_grid.proofs.Leaving.{none-lost}
 use Rattle.ept_grid.proofs.Leavings.{all-same}

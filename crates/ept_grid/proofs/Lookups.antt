@@ -1,5 +1,5 @@
 -- Whether a point is a winner, by a look into its cell.
-use Rattle.std.proofs.Common.{◌≡◌, ◌∙◌, ◌⊎◌, inl, inr, ℕ, zero, suc, ◌+◌, ◌<◌, Bool, true, false, cond, ◌&&◌, ◌==◌, not, List, [], ◌∷◌, ◌++◌, length, get_or, map, refl, ap, sym, subst, arith}
+use Rattle.std.proofs.Common.{◌≡◌, ◌∙◌, inl, inr, ℕ, zero, suc, ◌+◌, ◌<◌, Bool, true, false, cond, ◌&&◌, not, List, [], ◌∷◌, length, get_or, refl, ap, sym, arith}
 use Rattle.std.specs.Prelude.{IsTrue, IsPermutation, Option, Some, None, nat_lt, position}
 use Rattle.std.specs.List.{All, list_any, position_or_len}
 use Rattle.std.proofs.lemmas.Bool.{false≢true}
@@ -13,7 +13,6 @@ use Rattle.ept_sample.specs.Arrivals.{loses, octant}
 use Rattle.ept_sample.proofs.Members.{all-member, All-members, member-any, any-member, IsMember-append, IsMember-left, contains-IsMember}
 use Rattle.ept_sample.proofs.IdLaws.{same_id-self, same_id-sym, same_member, IsMember-IsPermutation, HasDistinctIds-IsPermutation}
 use Rattle.ept_grid.specs.declared.pool.Cell.{Cell}
-use Rattle.ept_grid.specs.declared.spot.Spot.{Spot}
 use Rattle.ept_grid.specs.Mask.{opened}
 use Rattle.ept_grid.specs.Outgoing.{Leaving, all_points}
 use Rattle.ept_grid.specs.Tile.{is_open_loser}

@@ -1,21 +1,19 @@
 -- Losers that leave a node.
-use Rattle.std.proofs.Common.{◌≡◌, ◌≢◌, ◌∙◌, ℕ, zero, suc, ◌+◌, ◌<◌, ◌≤◌, Bool, true, false, ◌&&◌, ◌||◌, nat_lt, inl, inr, List, [], ◌∷◌, ◌++◌, length, length-append, count_by, refl, ap, sym, subst, arith}
-use Rattle.std.proofs.lemmas.Bool.{false≢true}
+use Rattle.std.proofs.Common.{◌≡◌, ◌∙◌, ℕ, suc, ◌+◌, ◌<◌, Bool, true, false, ◌||◌, nat_lt, inl, inr, List, [], ◌∷◌, ◌++◌, length, length-append, count_by, refl, ap, sym, subst, arith}
 use borrow.Author.Tests.{ltb-true}
 use Rattle.std.specs.List.{All}
-use Rattle.std.specs.List.Sorted.{IsPermutation}
 use Rattle.std.proofs.lemmas.List.Sorted.{IsPermutation-sym, length_permutation}
 use Rattle.ept_point.specs.declared.point.Point.{Point}
 use Rattle.ept_space.specs.declared.cube.Rules.{Rules}
 use Rattle.ept_sample.specs.Members.{IsMember}
 use Rattle.ept_sample.specs.Arrivals.{octant}
-use Rattle.ept_sample.proofs.Choices.{either, not_both, or_false, or_left, first_of_two, and_left, and_right}
+use Rattle.ept_sample.proofs.Choices.{either, or_false, or_left, and_left, and_right}
 use Rattle.ept_sample.proofs.Members.{All-members}
 use Rattle.ept_sample.proofs.IdLaws.{count_by-append, count_by-IsPermutation, IsMember-IsPermutation}
 use Rattle.ept_grid.specs.Mask.{opened}
 use Rattle.ept_grid.specs.Outgoing.{Leaving, leaving_at, points_at, all_points}
-use Rattle.ept_grid.specs.Contents.{IsBehind, IsSettled, AreFew, HasSentAt, HasSent, opens_with}
-use Rattle.ept_grid.proofs.Lanes.{at-beyond, in-range}
+use Rattle.ept_grid.specs.Contents.{IsSettled, AreFew, HasSentAt, HasSent, opens_with}
+use Rattle.ept_grid.proofs.Lanes.{in-range}
 
 -- ---- what stays
 

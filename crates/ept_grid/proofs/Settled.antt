@@ -1,5 +1,5 @@
 -- Winners and losers of a node that is settled.
-use Rattle.std.proofs.Common.{◌≡◌, ◌∙◌, ℕ, ◌+◌, ◌<◌, ◌≤◌, Bool, true, false, ◌&&◌, ◌==◌, nat_lt, inl, inr, List, [], ◌∷◌, ◌++◌, length, refl, ap, sym, subst, arith, eq-eqb}
+use Rattle.std.proofs.Common.{◌≡◌, ◌∙◌, ℕ, true, false, ◌&&◌, ◌==◌, nat_lt, inl, inr, List, length, ap, sym, subst, eq-eqb}
 use Rattle.std.specs.List.Sorted.{IsPermutation}
 use Rattle.std.proofs.lemmas.List.Sorted.{IsPermutation-sym, length_permutation}
 use Rattle.ept_point.specs.declared.point.Point.{Point}
@@ -16,7 +16,7 @@ use Rattle.ept_sample.proofs.RankLaws.{beats-self, beats-cell, beats-rank, beats
 use Rattle.ept_sample.proofs.ArrivalLaws.{same_number, loses-beaten, beaten-loses, loses-IsPermutation}
 use Rattle.ept_sample.proofs.IdLaws.{HasDistinctIds-IsPermutation, HasDistinctIds-filter, IsMember-IsPermutation, IsPermutation-members}
 use Rattle.ept_grid.specs.Outgoing.{Leaving, points_at, all_points}
-use Rattle.ept_grid.specs.Settling.{share_cell, is_better_at}
+use Rattle.ept_grid.specs.Settling.{is_better_at}
 use Rattle.ept_grid.specs.Contents.{contents, IsBehind, IsSettled, opens_with}
 use Rattle.ept_grid.proofs.Lanes.{member-at, once-at, once-right, ids-apart, at-member}
 

@@ -1,14 +1,14 @@
 -- Points of one box that stand in one place lie in one cell.
-use Rattle.std.proofs.Common.{◌≡◌, ◌∙◌, ℕ, ◌+◌, ◌-◌, ◌*◌, ◌/◌, ◌%◌, ◌^◌, ◌<◌, ◌≤◌, true, refl, sym, ap, subst, arith}
+use Rattle.std.proofs.Common.{◌≡◌, ◌∙◌, ℕ, ◌+◌, ◌-◌, ◌*◌, ◌/◌, ◌%◌, ◌^◌, ◌≤◌, true, sym, ap, arith}
 use Rattle.std.proofs.lemmas.Nat.{mod_below, pow_pos, div-add-mod', same_from_place}
 use Rattle.ept_point.specs.declared.point.Point.{Point}
 use Rattle.ept_space.specs.declared.cube.Rules.{Rules}
 use Rattle.ept_space.specs.VoxelKey.{VoxelKey}
 use Rattle.ept_space.specs.Place.{Place}
-use Rattle.ept_space.specs.OctreeCube.{OctreeCube, IsCube, InBox, offset, key_at, cell_index, same_cell}
+use Rattle.ept_space.specs.OctreeCube.{OctreeCube, InBox, offset, key_at, cell_index}
 use Rattle.ept_space.proofs.Axis.{index-coarser}
 use Rattle.ept_space.proofs.PlaceKeys.{key_at-box}
-use Rattle.ept_space.proofs.Cells.{IsSameCell, IsSameCell-from, same_cell-from}
+use Rattle.ept_space.proofs.Cells.{IsSameCell-from, same_cell-from}
 use Rattle.ept_sample.specs.Place.{place}
 use Rattle.ept_grid.specs.declared.spot.Spot.{Spot}
 use Rattle.ept_grid.specs.Settling.{share_cell}

@@ -1,27 +1,24 @@
 -- What a node that took in a point keeps and sends.
-use Rattle.std.proofs.Common.{◌≡◌, ◌≢◌, ◌∙◌, ℕ, zero, suc, ◌+◌, ◌-◌, ◌<◌, ◌≤◌, Bool, true, false, cond, ◌&&◌, ◌||◌, nat_lt, inl, inr, List, [], ◌∷◌, ◌++◌, length, length-append, count_by, refl, ap, sym, subst, arith}
+use Rattle.std.proofs.Common.{◌≡◌, ◌∙◌, ℕ, zero, suc, ◌+◌, ◌-◌, ◌<◌, ◌≤◌, Bool, true, false, cond, ◌||◌, inl, inr, List, [], ◌∷◌, ◌++◌, length, length-append, count_by, refl, ap, sym, subst, arith}
 use Rattle.std.proofs.lemmas.Bool.{false≢true}
-use Rattle.std.specs.List.{All}
 use Rattle.std.specs.List.Sorted.{IsPermutation}
 use Rattle.std.proofs.lemmas.List.Sorted.{IsPermutation-sym, IsPermutation-trans, IsPermutation-cons, length_permutation}
 use Rattle.ept_point.specs.declared.point.Point.{Point}
 use Rattle.ept_space.specs.declared.cube.Rules.{Rules}
-use Rattle.ept_space.proofs.PlaceKeys.{octant_at-below}
-use Rattle.ept_sample.specs.Place.{place}
 use Rattle.ept_sample.specs.Members.{IsMember}
 use Rattle.ept_sample.specs.Ids.{same_id, comes_before, HasDistinctIds, in_id_order}
-use Rattle.ept_sample.specs.Arrivals.{octant, loses, losers, overflows, is_open, leaves, kept, sent}
+use Rattle.ept_sample.specs.Arrivals.{octant, loses, losers, is_open, leaves, kept, sent}
 use Rattle.ept_sample.proofs.Choices.{either, not_both, is_false}
 use Rattle.ept_sample.proofs.Members.{All-members, IsMember-left, IsMember-right, IsMember-append}
 use Rattle.ept_sample.proofs.Ascending.{IsRising, IsRising-filter}
 use Rattle.ept_sample.proofs.ArrivalLaws.{leaves-loses, leaves-open, leaves-from, IsMember-stays, stays-IsMember, sent-open, IsRising-kept}
 use Rattle.ept_sample.proofs.IdLaws.{count_by-cons, count_by-append, count_by-IsPermutation, HasDistinctIds-IsPermutation, HasDistinctIds-IsRising, IsPermutation-in_id_order, IsMember-IsPermutation, IsRising-in_id_order, in_id_order-IsRising, in_id_order-IsPermutation, in_id_order-members}
 use Rattle.ept_grid.specs.Mask.{opened}
-use Rattle.ept_grid.specs.Node.{Node, given_with, is_open_in, SendsOn, TakesIn, least_room, spare}
+use Rattle.ept_grid.specs.Node.{Node, given_with, SendsOn, TakesIn, least_room, spare}
 use Rattle.ept_grid.specs.Outgoing.{Leaving, leaving_at, points_at, all_points}
-use Rattle.ept_grid.specs.Contents.{contents, IsSettled, AreFew, HasSentAt, HasSent, HasTaken, opens_with}
+use Rattle.ept_grid.specs.Contents.{contents, IsSettled, HasSentAt, HasSent, HasTaken}
 use Rattle.ept_grid.proofs.MaskLaws.{opened-none}
-use Rattle.ept_grid.proofs.Lanes.{member-at, at-member, in-range, once-at, once-right}
+use Rattle.ept_grid.proofs.Lanes.{member-at, at-member, once-at, once-right}
 use Rattle.ept_grid.proofs.Settled.{losers-lane, overflows-lane, loses-lane, wins-given}
 use Rattle.ept_grid.proofs.Sent.{stayed, count-sent, added-octant, none-added, stays-open, opens-above, some-added}
 

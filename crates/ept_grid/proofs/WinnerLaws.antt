@@ -1,7 +1,7 @@
 -- The winner of a cell is its best point, and cells with a point have winners.
-use Rattle.std.proofs.Common.{◌≡◌, ◌∙◌, ◌⊎◌, inl, inr, ℕ, ◌+◌, ◌*◌, ◌^◌, ◌≤◌, Bool, true, false, ◌&&◌, ◌==◌, List, [], ◌∷◌, ◌++◌, refl, ap, sym, subst, arith}
-use Rattle.std.specs.Prelude.{IsTrue, slice_index, count_by, Option, Some, None, MatchOption}
-use Rattle.std.specs.List.{All, list_any, range_with_len}
+use Rattle.std.proofs.Common.{◌≡◌, ◌∙◌, inl, inr, ℕ, ◌*◌, ◌^◌, ◌≤◌, true, false, List, [], ◌∷◌, sym, subst}
+use Rattle.std.specs.Prelude.{IsTrue, Option, Some, None, MatchOption}
+use Rattle.std.specs.List.{list_any, range_with_len}
 use Rattle.std.proofs.lemmas.Bool.{false≢true}
 use Rattle.ept_point.specs.declared.point.Point.{Point}
 use Rattle.ept_space.specs.declared.cube.Rules.{Rules}
@@ -16,7 +16,7 @@ use Rattle.ept_sample.proofs.IdLaws.{IsMember-in_id_order, in_id_order-IsMember}
 use Rattle.ept_sample.proofs.RankLaws.{is_better-self}
 use Rattle.ept_grid.specs.Outgoing.{Leaving, all_points}
 use Rattle.ept_grid.specs.Settling.{share_cell, is_better_at}
-use Rattle.ept_grid.specs.Contents.{contents, IsSettled, IsBehind}
+use Rattle.ept_grid.specs.Contents.{contents, IsSettled}
 use Rattle.ept_grid.specs.Winner.{lies_in, NoneIn, IsBestIn, WinsIn, column_cells}
 use Rattle.ept_grid.proofs.Lanes.{member-at}
 use Rattle.ept_grid.proofs.Contending.{false_unless}

@@ -1,5 +1,5 @@
 -- The best point of a cell of a node, and how many cells of a column have a point.
-use Rattle.std.specs.Prelude.{ℕ, ◌≡◌, ◌*◌, ◌/◌, ◌^◌, ◌==◌, ◌&&◌, Bool, true, false, IsTrue, List, [], ◌∷◌, slice_index, count_by, Contains}
+use Rattle.std.specs.Prelude.{ℕ, ◌≡◌, ◌*◌, ◌/◌, ◌^◌, ◌==◌, ◌&&◌, Bool, false, IsTrue, List, [], ◌∷◌, slice_index, count_by, Contains}
 use Rattle.std.specs.List.{All, list_any, range_with_len}
 use Rattle.ept_point.specs.declared.point.Point.{Point}
 use Rattle.ept_space.specs.declared.cube.Rules.{Rules}

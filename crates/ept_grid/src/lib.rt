@@ -5,9 +5,9 @@
 mod by_id;
 mod error;
 mod grid;
-mod lookup;
 #[cfg(test)]
 mod list_tests;
+mod lookup;
 mod losing;
 mod making;
 mod octants;

@@ -246,8 +246,16 @@ fn loses_no_point_whose_id_stands_twice(rt: HostRuntime) -> Result<(), Fail> {
         let mut kept = Vec::new(rt.alloc());
         grid.points_into(&mut kept)?;
         assert_eq!(rt; grid.count(), kept.len() as u64);
-        assert_eq!(rt; kept.len().wrapping_add(points_out(&out)), ARRIVALS as usize);
-        assert!(rt; kept.as_slice().iter().zip(kept.as_slice().iter().skip(1)).all(|(point, next)| point.number <= next.number));
+        assert_eq!(rt;
+            kept.len().wrapping_add(points_out(&out)),
+            ARRIVALS as usize
+        );
+        assert!(rt;
+            kept.as_slice()
+                .iter()
+                .zip(kept.as_slice().iter().skip(1))
+                .all(|(point, next)| point.number <= next.number)
+        );
     }
     Ok(())
 }

@@ -1,8 +1,7 @@
-use Rattle.std.proofs.Common.{◌≡◌, ◌∙◌, ap, sym, subst, List}
+use Rattle.std.proofs.Common.{subst, List}
 use Rattle.std.specs.List.Sorted.{IsPermutation}
 use Rattle.ept_point.specs.declared.point.Point.{Point}
 use Rattle.ept_point.specs.Order.{IsAscending}
-use Rattle.ept_sample.specs.Ids.{in_id_order}
 use Rattle.ept_grid.specs.Settling.{winners}
 use Rattle.ept_grid.specs.Contents.{contents}
 use Rattle.ept_grid.proofs.InOrder.{ascending-order}

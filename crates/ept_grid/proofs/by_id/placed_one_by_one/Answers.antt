@@ -1,4 +1,4 @@
-use Rattle.std.proofs.Common.{◌≡◌, ◌∙◌, ◌-◌, length, ap, sym, arith}
+use Rattle.std.proofs.Common.{◌∙◌, ◌-◌, length, arith}
 use Rattle.ept_grid.proofs.InOrder.{none-placed, one-more}
 use Rattle.ept_grid.proofs.by_id.placed_one_by_one.Goals as goal
 

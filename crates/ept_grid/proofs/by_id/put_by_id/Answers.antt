@@ -1,4 +1,4 @@
-use Rattle.std.proofs.Common.{◌≡◌, ◌≤◌, ◌∙◌, ap, sym, arith, List, length}
+use Rattle.std.proofs.Common.{◌≡◌, ◌∙◌, ap, sym, List, length}
 use Rattle.std.specs.Prelude.{insert, position, vec_len}
 use Rattle.ept_point.specs.declared.point.Point.{Point}
 use Rattle.ept_sample.specs.Ids.{comes_before}

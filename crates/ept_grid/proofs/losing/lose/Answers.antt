@@ -1,7 +1,6 @@
 use Rattle.std.proofs.Common.{◌≡◌, ◌∙◌, ℕ, ◌<◌, Bool, true, false, ◌&&◌, nat_lt, length, refl, ap, sym, subst, arith}
 use borrow.Author.Tests.{ltb-true}
 use Rattle.ept_sample.proofs.Choices.{and_left}
-use Rattle.ept_sample.specs.Arrivals.{octant}
 use Rattle.ept_grid.specs.Outgoing.{points_at}
 use Rattle.ept_grid.specs.Contents.{HasSent, joined, opens_with}
 use Rattle.ept_grid.proofs.Leaving.{passes, stays, opens}

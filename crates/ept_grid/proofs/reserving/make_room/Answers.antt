@@ -1,4 +1,4 @@
-use Rattle.std.proofs.Common.{◌≡◌, ◌∙◌, ◌≤◌, ◌<◌, ℕ, length, sym, arith, vec_len, vec_capacity}
+use Rattle.std.proofs.Common.{◌≤◌, ◌<◌, ℕ, arith, vec_len, vec_capacity}
 use Rattle.ept_grid.specs.Outgoing.{leaving_at}
 use Rattle.ept_grid.specs.Node.{least_room}
 use Rattle.ept_grid.specs.Contents.{cell_room}

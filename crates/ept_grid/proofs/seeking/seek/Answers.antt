@@ -1,9 +1,9 @@
-use Rattle.std.proofs.Common.{◌≡◌, ◌∙◌, ◌+◌, ◌-◌, ◌<◌, ◌≤◌, ℕ, length, ap, subst, sym, arith}
+use Rattle.std.proofs.Common.{◌≡◌, ◌∙◌, ◌+◌, ◌-◌, ◌<◌, ◌≤◌, ℕ, ap, subst, sym, arith}
 use Rattle.ept_space.specs.OctreeCube.{InCube}
 use Rattle.ept_sample.specs.Place.{place}
 use Rattle.ept_grid.specs.declared.pool.Cell.{Cell}
 use Rattle.ept_grid.specs.declared.spot.Spot.{Spot}
-use Rattle.ept_grid.specs.Columns.{spot, spots_of, nexts_of, level_at, in_column}
+use Rattle.ept_grid.specs.Columns.{spots_of, nexts_of, level_at}
 use Rattle.ept_grid.proofs.Chains.{left}
 use Rattle.ept_grid.proofs.Winners.{winner-in-cube, length-spots, shown-next, shown-spot, shown-stands}
 use Rattle.ept_grid.proofs.Seeks.{IsSeeking, seek-step, seek-nearer, seek-cost, seek-end, seek-alone}

@@ -1,4 +1,3 @@
-use Rattle.std.proofs.Common.{◌≡◌, ◌≤◌, ◌<◌, length}
 use Rattle.ept_grid.specs.Columns.{spots_of}
 use Rattle.ept_grid.proofs.Chains.{left}
 use Rattle.ept_grid.proofs.Seeks.{IsSeeking}

@@ -1,4 +1,4 @@
-use Rattle.std.proofs.Common.{◌≡◌, ◌∙◌, ℕ, ◌+◌, ◌-◌, ◌++◌, ◌∷◌, [], List, length, ap, arith}
+use Rattle.std.proofs.Common.{◌≡◌, ◌∙◌, ℕ, ◌+◌, ◌-◌, List, length, ap, arith}
 use Rattle.std.proofs.Math.ListN.{set}
 use Rattle.ept_grid.specs.declared.pool.Cell.{Cell}
 use Rattle.ept_grid.specs.Columns.{nexts_of, nexts_with}

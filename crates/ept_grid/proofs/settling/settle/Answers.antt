@@ -1,4 +1,4 @@
-use Rattle.std.proofs.Common.{◌≡◌, ◌+◌, ◌≤◌, ap, subst, sym, arith, get_or}
+use Rattle.std.proofs.Common.{◌≡◌, ap, subst, sym, arith, get_or}
 use Rattle.std.specs.Prelude.{IsTrue}
 use Rattle.ept_space.proofs.PlaceKeys.{InCube-box}
 use Rattle.ept_sample.specs.Place.{place}

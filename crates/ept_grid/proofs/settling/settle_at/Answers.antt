@@ -1,8 +1,8 @@
-use Rattle.std.proofs.Common.{◌≡◌, ◌∙◌, ◌^◌, ◌*◌, ◌<◌, ◌-◌, List, length, ap, subst, sym, arith}
+use Rattle.std.proofs.Common.{◌≡◌, ◌<◌, ◌-◌, List, length, subst, arith}
 use Rattle.ept_grid.specs.declared.pool.Cell.{Cell}
 use Rattle.ept_grid.specs.declared.spot.Spot.{Spot}
 use Rattle.ept_grid.specs.Settling.{winners}
-use Rattle.ept_grid.specs.Columns.{spot, spots_of, level_at, IsCut, IsAlone}
+use Rattle.ept_grid.specs.Columns.{spots_of, level_at, IsCut, IsAlone}
 use Rattle.ept_grid.proofs.Chains.{alone-at-cut}
 use Rattle.ept_grid.proofs.Contending.{alone-cell, chained-added}
 use Rattle.ept_grid.proofs.settling.settle_at.Goals as goal

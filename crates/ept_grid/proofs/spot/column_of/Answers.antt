@@ -1,4 +1,4 @@
-use Rattle.std.proofs.Common.{◌≡◌, ◌∙◌, ◌<◌, ◌*◌, ◌^◌, ℕ, sym, ap, subst, arith}
+use Rattle.std.proofs.Common.{◌<◌, ◌*◌, ◌^◌, sym, ap, subst}
 use Rattle.ept_grid.proofs.Spots.{column-low, column-code}
 use Rattle.ept_grid.proofs.spot.column_of.Goals as goal
 

@@ -1,11 +1,11 @@
-use Rattle.std.proofs.Common.{◌≡◌, ◌∙◌, ◌≤◌, ◌+◌, ◌<◌, ℕ, length, refl, ap, sym, subst, arith, vec_len, vec_capacity}
+use Rattle.std.proofs.Common.{ℕ, refl, ap, subst, arith, vec_capacity}
 use Rattle.ept_space.specs.VoxelKey.{VoxelKey}
 use Rattle.ept_space.proofs.PlaceKeys.{InCube-box}
 use Rattle.ept_sample.specs.Place.{place}
 use Rattle.ept_sample.specs.Arrivals.{octant}
-use Rattle.ept_grid.specs.Outgoing.{leaving_at, points_at}
+use Rattle.ept_grid.specs.Outgoing.{leaving_at}
 use Rattle.ept_grid.specs.Settling.{winners}
-use Rattle.ept_grid.specs.Contents.{contents, HasSent, HasTaken, joined, IsNode}
+use Rattle.ept_grid.specs.Contents.{HasSent, HasTaken, joined}
 use Rattle.ept_grid.proofs.Keeping.{taken-own, taken-lost, loser-in-box, winners-inside, node-taken, one-list, contended-length, same-cells}
 use Rattle.ept_grid.proofs.taking.take_in.Goals as goal
 

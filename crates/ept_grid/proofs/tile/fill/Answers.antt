@@ -1,4 +1,4 @@
-use Rattle.std.proofs.Common.{◌≡◌, ◌∙◌, ◌≤◌, ◌<◌, ◌+◌, ℕ, ap, sym, subst, arith, vec_len, vec_capacity}
+use Rattle.std.proofs.Common.{◌∙◌, ap, sym, subst, arith, vec_capacity}
 use Rattle.ept_point.specs.declared.point.Point.{Point}
 use Rattle.ept_space.specs.VoxelKey.{VoxelKey}
 use Rattle.ept_space.specs.OctreeCube.{InBox}

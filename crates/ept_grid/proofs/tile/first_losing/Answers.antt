@@ -1,4 +1,4 @@
-use Rattle.std.proofs.Common.{◌≡◌, ◌∙◌, ◌<◌, true, false, not, get_or, length, ap, sym, subst, arith}
+use Rattle.std.proofs.Common.{◌≡◌, ◌∙◌, true, not, ap, sym, subst, arith}
 use Rattle.std.specs.List.{list_any}
 use Rattle.ept_point.specs.declared.point.Point.{Point}
 use Rattle.ept_sample.specs.Arrivals.{octant}

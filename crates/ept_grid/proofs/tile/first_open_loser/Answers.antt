@@ -1,7 +1,6 @@
 use Rattle.std.proofs.Common.{◌≡◌, ◌∙◌, List, ap, sym, subst, vec_capacity}
 use Rattle.std.specs.Prelude.{position}
 use Rattle.std.specs.List.{All}
-use Rattle.ept_point.specs.declared.point.Point.{Point}
 use Rattle.ept_space.specs.OctreeCube.{InCube}
 use Rattle.ept_sample.specs.Place.{place, AllInCube}
 use Rattle.ept_sample.proofs.IdLaws.{HasDistinctIds-IsAscending}

@@ -1,9 +1,6 @@
-use Rattle.std.proofs.Common.{◌≡◌, ◌∙◌, true, false, ap, sym, rules, vec_capacity}
-use Rattle.std.specs.Prelude.{None, position}
+use Rattle.std.proofs.Common.{◌∙◌, true, false, ap, sym, vec_capacity}
 use Rattle.ept_space.specs.VoxelKey.{VoxelKey}
-use Rattle.ept_sample.specs.Place.{AllInBox}
-use Rattle.ept_grid.specs.Tile.{is_open_loser}
-use Rattle.ept_grid.proofs.Filled.{overfull-lane, node-filled, order-filled, deep-told, shallow-told, none-left}
+use Rattle.ept_grid.proofs.Filled.{overfull-lane, node-filled, order-filled, deep-told, shallow-told}
 use Rattle.ept_grid.proofs.tile.node_of_tile.Goals as goal
 
 pub returns-in-Some-first_overfull-clause-refused : goal.returns-in-Some-first_overfull-clause-refused

@@ -1,6 +1,6 @@
-use Rattle.std.proofs.Common.{◌-◌, ◌<◌, length, subst, arith}
+use Rattle.std.proofs.Common.{◌-◌, subst, arith}
 use Rattle.ept_grid.specs.Columns.{spots_of, nexts_of, IsOnWay, NamesBelow}
-use Rattle.ept_grid.proofs.Chains.{way-step, way-nearer}
+use Rattle.ept_grid.proofs.Chains.{way-step}
 use Rattle.ept_grid.proofs.Winners.{next-at, length-spots}
 use Rattle.ept_grid.proofs.walk.gap_at.Goals as goal
 

@@ -1,4 +1,3 @@
-use Rattle.std.proofs.Common.{◌≡◌, ◌≤◌, ◌<◌, length}
 use Rattle.ept_grid.specs.Columns.{spots_of, IsOnWay}
 use Rattle.ept_grid.proofs.Chains.{left}
 use Rattle.ept_grid.proofs.walk.gap_at.Given as goal

@@ -3,7 +3,7 @@ use Rattle.std.specs.List.{All}
 use Rattle.ept_point.specs.Order.{IsAscending}
 use Rattle.ept_space.specs.OctreeCube.{InBox}
 use Rattle.ept_sample.specs.Place.{place}
-use Rattle.ept_sample.specs.Ids.{HasDistinctIds, in_id_order}
+use Rattle.ept_sample.specs.Ids.{HasDistinctIds}
 use Rattle.ept_grid.specs.Node.{Node}
 use Rattle.ept_grid.specs.Settling.{winners}
 use Rattle.ept_grid.specs.Contents.{contents}

@@ -1,5 +1,4 @@
-use Rattle.std.proofs.Common.{◌≡◌, ◌∙◌, ◌≤◌, ◌<◌, ◌+◌, ℕ, List, length, sym, ap, arith, vec_len, vec_capacity}
-use Rattle.ept_grid.specs.declared.pool.Cell.{Cell}
+use Rattle.std.proofs.Common.{◌≡◌, ◌≤◌, ◌<◌, ◌+◌, ℕ, length, arith, vec_len, vec_capacity}
 use Rattle.ept_sample.specs.Ids.{in_id_order}
 use Rattle.ept_grid.specs.Node.{Node, spare, least_room}
 use Rattle.ept_grid.specs.Outgoing.{leaving_at}

@@ -1,4 +1,4 @@
-use Rattle.std.proofs.Common.{◌≡◌, ◌+◌, ◌≤◌, List, subst, arith}
+use Rattle.std.proofs.Common.{◌+◌, ◌≤◌, List, subst, arith}
 use Rattle.std.specs.Prelude.{slice_index, MatchOption}
 use Rattle.ept_grid.specs.declared.pool.Cell.{Cell}
 use Rattle.ept_grid.specs.Node.{Node}

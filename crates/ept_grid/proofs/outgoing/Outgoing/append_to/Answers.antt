@@ -1,4 +1,4 @@
-use Rattle.std.proofs.Common.{◌≡◌, ◌∙◌, ◌++◌, List, append_assoc, ap, sym, subst, arith, take}
+use Rattle.std.proofs.Common.{◌∙◌, ◌++◌, List, append_assoc, ap, sym, arith, take}
 use Rattle.std.proofs.lemmas.List.{take_all}
 use Rattle.ept_point.specs.declared.point.Point.{Point}
 use Rattle.ept_grid.specs.Outgoing.{Leaving, all_points}

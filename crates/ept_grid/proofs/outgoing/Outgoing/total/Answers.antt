@@ -1,4 +1,4 @@
-use Rattle.std.proofs.Common.{◌≡◌, ◌∙◌, List, length, length-append, ap, sym, subst, arith, take}
+use Rattle.std.proofs.Common.{◌∙◌, List, length, length-append, ap, arith, take}
 use Rattle.std.proofs.lemmas.List.{take_all}
 use Rattle.ept_grid.specs.Outgoing.{Leaving, all_points}
 use Rattle.ept_grid.proofs.Lanes.{all-took}
