@@ -1,5 +1,8 @@
+pub mod Contents
 pub mod Mask
 pub mod Outgoing
 pub mod Node
-pub mod Slots
 pub mod Tile
+pub mod Settling
+pub mod Columns
+pub mod Winner

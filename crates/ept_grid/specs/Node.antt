@@ -4,7 +4,7 @@ use Rattle.std.specs.List.{All}
 use Rattle.ept_point.specs.declared.point.Point.{Point}
 use Rattle.ept_space.specs.declared.cube.Rules.{Rules}
 use Rattle.ept_space.specs.VoxelKey.{VoxelKey}
-use Rattle.ept_sample.specs.Ids.{in_id_order}
+use Rattle.ept_sample.specs.Ids.{comes_before, in_id_order}
 use Rattle.ept_sample.specs.Arrivals.{octant, kept, sent, is_open}
 use Rattle.ept_grid.specs.Mask.{opened}
 use Rattle.ept_grid.specs.Outgoing.{Leaving, points_at}
@@ -32,6 +32,11 @@ is_open_in node o = opened node.mask o
 -- the points of the node and one that arrives, in id order
 abbrev pub given_with : Node → Point → List Point
 given_with node p = in_id_order (p ∷ node.points)
+
+-- no point comes before one in front of it, by its id
+unfoldable pub IsInIdOrder : List Point → Type 0
+IsInIdOrder [] = Unit {0}
+IsInIdOrder (p ∷ points) = All (λ q. comes_before q p ≡ false) points × IsInIdOrder points
 
 -- What an arrival does to an octant and to the points that leave for it, whatever the ids.
 pub record SendsOn (old new : Node) (o : ℕ) (before after : List Point) : Type 0 where

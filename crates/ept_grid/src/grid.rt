@@ -1,6 +1,6 @@
 //! A node of the octree with its points.
 
-ghost use Rattle.std.specs.Prelude.{◌≡◌, ◌≢◌, ◌<◌, ◌≤◌, ◌+◌, ◌∷◌, [], ◌++◌, ◌↔◌, ℕ, Bool, IsTrue, OnOk, OnErr, IfOk, IfErr, length, count_by};
+ghost use Rattle.std.specs.Prelude.{◌≡◌, ◌≢◌, ◌<◌, ◌≤◌, ◌+◌, ◌∷◌, [], ◌++◌, ◌↔◌, ℕ, Bool, IsTrue, OnOk, OnErr, IfOk, IfErr, length, count_by, MatchOption, slice_index};
 ghost use Rattle.ept_grid.specs.declared.octants.TheConstants.{OCTANTS};
 ghost use Rattle.ept_point.specs.declared.point.Point.{Point};
 ghost use Rattle.std.specs.List.{All};
@@ -10,18 +10,23 @@ ghost use Rattle.ept_sample.specs.Place.{place};
 ghost use Rattle.ept_sample.specs.Ids.{HasDistinctIds};
 ghost use Rattle.ept_grid.specs.Outgoing.{points_at, all_points};
 ghost use Rattle.ept_grid.specs.Tile.{IsTile, IsTileFault};
-ghost use Rattle.ept_grid.specs.Node.{IsNodeOf, SendsOn, TakesIn, spare};
+ghost use Rattle.ept_grid.specs.Winner.{IsCellOf, NoneIn, IsBestIn, column_cells};
+ghost use Rattle.ept_grid.specs.Node.{IsNodeOf, IsInIdOrder, SendsOn, TakesIn, spare};
 
+use crate::by_id::{append_by_id, count};
 use crate::error::GridError;
 use crate::outgoing::Outgoing;
-use crate::slot::Slot;
-use crate::slots::append_points;
+use crate::pool::Cell;
+use crate::reserving::make_room;
+use crate::seeking::winner_of;
+use crate::steps::Steps;
 use crate::taking::take_in;
-use crate::tile::{is_inside, slots_of_tile};
+use crate::tile::{is_inside, node_of_tile};
 use ept_point::{Memory, Point};
 use ept_space::{Key, Rules};
 use std::alloc::Global;
 use std::marker::Model;
+use std::sync::ledger::Ledger;
 
 /// A node of the octree: the points that it keeps, and which of its octants are open.
 ///
@@ -31,26 +36,32 @@ use std::marker::Model;
 pub struct Grid {
     key: Key,
     rules: Rules,
-    slots: Vec<Slot>,
+    // For each column of cells, which cell is its lowest one: the number of it and one, or 0 for none.
+    heads: Vec<u32>,
+    // The cells that have a point.
+    cells: Vec<Cell>,
+    losers: Outgoing,
     mask: u8,
 }
 
 impl Model for Grid {
-    ghost use Rattle.std.specs.Prelude.{◌-◌, vec_len, vec_capacity};
-    ghost use Rattle.ept_grid.specs.Node.{Node};
-    ghost use Rattle.ept_grid.specs.Slots.{points_of, IsNode};
+    ghost use Rattle.std.specs.Prelude.{vec_len, vec_capacity};
+    ghost use Rattle.ept_sample.specs.Ids.{in_id_order};
+    ghost use Rattle.ept_grid.specs.Node.{Node, least_room};
+    ghost use Rattle.ept_grid.specs.Settling.{winners};
+    ghost use Rattle.ept_grid.specs.Contents.{contents, cell_room, IsNode};
 
     ghost Value = { Node };
 
     ghost view = { λ g. record {
       key = g.key;
       rules = g.rules;
-      points = points_of g.slots.items;
+      points = in_id_order (contents (winners g.cells.items) g.losers);
       mask = g.mask;
-      room = vec_capacity g.slots - vec_len g.slots;
+      room = least_room (cell_room (vec_capacity g.cells) (vec_len g.cells)) g.losers;
     } };
 
-    ghost invariant = { λ g. IsNode g.key g.rules g.slots.items g.mask };
+    ghost invariant = { λ g. IsNode g.key g.rules g.heads.items g.cells.items (vec_capacity g.cells) g.losers g.mask };
 }
 
 impl Grid {
@@ -62,10 +73,14 @@ impl Grid {
         ensures points { result.points ≡ [] }
         ensures mask { result.mask ≡ 0 }
     {
+        let losers = Outgoing::new(alloc);
+        losers.known();
         Grid {
             key,
             rules: *rules,
-            slots: Vec::new(alloc),
+            heads: Vec::new(alloc),
+            cells: Vec::new(alloc),
+            losers,
             mask: 0,
         }
     }
@@ -85,11 +100,13 @@ impl Grid {
         ensures tile { OnOk result (IsTile key rules.now mask points.now) }
         ensures refused { IfErr result (λ e. e ≢ GridError.Memory → IsTileFault key rules.now mask points.now e) }
     {
-        let slots = slots_of_tile(alloc, &key, rules, mask, points)?;
+        let node = node_of_tile(alloc, &key, rules, mask, points)?;
         Ok(Grid {
             key,
             rules: *rules,
-            slots,
+            heads: node.heads,
+            cells: node.cells,
+            losers: node.losers,
             mask,
         })
     }
@@ -117,7 +134,9 @@ impl Grid {
         self.mask = take_in(
             &self.key,
             &self.rules,
-            &mut self.slots,
+            &mut self.heads,
+            &mut self.cells,
+            &mut self.losers,
             self.mask,
             point,
             out,
@@ -135,7 +154,7 @@ impl Grid {
     pub fn count(&self) -> u64
         ensures { result ≡ length self.now.points }
     {
-        self.slots.len() as u64
+        count(self.cells.as_slice(), &self.losers) as u64
     }
 
     /// The key of the node.
@@ -168,17 +187,45 @@ impl Grid {
         ensures all { all_points out.new ≡ all_points out.old }
     {
         out.known();
-        self.slots.reserve(arrivals)?;
-        out.reserve(self.slots.len() + arrivals)
+        make_room(
+            &self.rules,
+            &mut self.heads,
+            &mut self.cells,
+            &mut self.losers,
+            arrivals,
+        )?;
+        out.reserve(count(self.cells.as_slice(), &self.losers) + arrivals)
     }
 
     /// Appends the points of the node, in id order. After `Memory` the list is as it was.
     pub fn points_into(&self, out: &mut Vec<Point>) -> Result<(), Memory>
         ensures ok { OnOk result (out.new.items ≡ out.old.items ++ self.now.points) }
         ensures err { OnErr result (out.new.items ≡ out.old.items) }
+        ensures in_order { IsInIdOrder self.now.points }
         ensures ascend { HasDistinctIds self.now.points → IsAscending self.now.points }
     {
-        append_points(self.slots.as_slice(), out)
+        append_by_id(self.cells.as_slice(), &self.losers, out)
+    }
+
+    /// The best of the node's points in a cell of its box, which is given by its index on each axis,
+    /// counted from the cube's corner. A step is one cell with a point that is looked at. It takes no
+    /// memory.
+    pub fn winner<L: Ledger>(&self, cell: [u32; 3], steps: &mut Steps<L>) -> Option<Point>
+        requires { IsCellOf self.now.rules self.now.key cell }
+        ensures best { MatchOption result
+            (NoneIn self.now.rules self.now.key.depth cell self.now.points)
+            (IsBestIn self.now.rules self.now.key.depth cell self.now.points) }
+        ensures cost { steps.new ≤ steps.old
+            + column_cells self.now.rules self.now.key self.now.points (slice_index cell 0) (slice_index cell 1) }
+    {
+        winner_of(
+            &self.key,
+            &self.rules,
+            self.heads.as_slice(),
+            self.cells.as_slice(),
+            cell,
+            steps,
+        )
     }
 
     /// Tells a proof what each node keeps.

@@ -2,18 +2,32 @@
 //! leave, by octant.
 #![tactic(auto)]
 
+mod by_id;
 mod error;
 mod grid;
+#[cfg(test)]
+mod list_tests;
+mod lookup;
+mod losing;
+mod making;
 mod octants;
 mod outgoing;
-mod slot;
-mod slots;
+mod pool;
+mod reserving;
+mod seeking;
+mod settling;
+mod spot;
+mod steps;
 mod taking;
 #[cfg(test)]
 mod tests;
 mod tile;
+mod walk;
+#[cfg(test)]
+mod winner_tests;
 
 pub use error::GridError;
 pub use grid::Grid;
 pub use octants::OCTANTS;
 pub use outgoing::Outgoing;
+pub use steps::Steps;

@@ -1,6 +1,7 @@
 //! The points that leave a node, by octant.
 
-ghost use Rattle.std.specs.Prelude.{◌≡◌, ◌≢◌, ◌<◌, ◌≤◌, ◌+◌, ◌∷◌, [], ◌++◌, ℕ, length, OnOk};
+ghost use Rattle.std.specs.Prelude.{◌≡◌, ◌≢◌, ◌<◌, ◌≤◌, ◌+◌, ◌∷◌, [], ◌++◌, ℕ, length, OnOk, IsPermutation};
+ghost use Rattle.ept_sample.specs.Ids.{HasDistinctIds, in_id_order};
 ghost use Rattle.ept_grid.specs.declared.octants.TheConstants.{OCTANTS};
 
 use ept_point::{Memory, Point};
@@ -56,6 +57,41 @@ impl Lane {
         ensures room { self.old.room ≡ self.new.room + 1 }
     {
         self.points.push_reserved(point);
+    }
+
+    fn add(&mut self, point: Point) -> Result<(), Memory>
+        ensures { OnOk result (self.new.points ≡ self.old.points ++ point ∷ []) }
+    {
+        self.points.push(point)?;
+        Ok(())
+    }
+
+    fn count(&self) -> usize
+        ensures count { result ≡ length self.now.points }
+        ensures small { result < 288230376151711744 }
+    {
+        self.points.as_slice().len()
+    }
+
+    // Puts the points in id order, in place.
+    fn sort(&mut self)
+        ensures moved { IsPermutation self.old.points self.new.points }
+        ensures sorted { HasDistinctIds self.old.points → self.new.points ≡ in_id_order self.old.points }
+        ensures len { length self.new.points ≡ length self.old.points }
+        ensures room { self.new.room ≡ self.old.room }
+    {
+        self.points.sort_unstable_by_key(|point| point.id());
+    }
+
+    // Gives its points to another list, which has room for them: so this takes no memory.
+    fn give(&mut self, to: &mut Lane)
+        requires { length self.old.points ≤ to.old.room }
+        ensures none { self.new.points ≡ [] }
+        ensures room { self.old.room ≤ self.new.room }
+        ensures added { to.new.points ≡ to.old.points ++ self.old.points }
+        ensures left { to.old.room ≤ to.new.room + length self.old.points }
+    {
+        let _ = to.points.append(&mut self.points);
     }
 
     fn clear(&mut self)
@@ -130,6 +166,78 @@ impl Outgoing {
         ensures eight { length self.new ≡ length self.old }
     {
         self.lanes[octant as usize].push(point);
+    }
+
+    /// Adds a point to the list of an octant. After `Memory` the points are as they were.
+    pub(crate) fn add(&mut self, octant: u8, point: Point) -> Result<(), Memory>
+        requires one_of_eight { octant < OCTANTS }
+        ensures added { OnOk result (points_at self.new octant ≡ points_at self.old octant ++ point ∷ []) }
+        ensures others { (o : ℕ) → o ≢ octant → points_at self.new o ≡ points_at self.old o }
+        ensures eight { length self.new ≡ length self.old }
+    {
+        self.lanes[octant as usize].add(point)
+    }
+
+    /// How many points leave for an octant.
+    pub(crate) fn count(&self, octant: u8) -> usize
+        requires { octant < OCTANTS }
+        ensures { result ≡ length (points_at self.now octant) }
+    {
+        self.lanes[octant as usize].count()
+    }
+
+    /// How many points leave for any octant.
+    pub(crate) fn total(&self) -> usize
+        ensures total { result ≡ length (all_points self.now) }
+        ensures small { result < 2305843009213693952 }
+    {
+        let mut total = 0;
+        for lane in self.lanes.iter() {
+            total += lane.count();
+        }
+        total
+    }
+
+    /// Appends the points, octant by octant.
+    pub(crate) fn append_to(&self, out: &mut Vec<Point>) -> Result<(), Memory>
+        ensures { OnOk result (out.new.items ≡ out.old.items ++ all_points self.now) }
+    {
+        for lane in self.lanes.iter() {
+            out.extend_from_slice(lane.as_slice())?;
+        }
+        Ok(())
+    }
+
+    /// Puts the points of an octant in id order. It takes no memory.
+    pub(crate) fn sort(&mut self, octant: u8)
+        requires one_of_eight { octant < OCTANTS }
+        ensures moved { IsPermutation (points_at self.old octant) (points_at self.new octant) }
+        ensures sorted { HasDistinctIds (points_at self.old octant) →
+            points_at self.new octant ≡ in_id_order (points_at self.old octant) }
+        ensures len { length (points_at self.new octant) ≡ length (points_at self.old octant) }
+        ensures room { (leaving_at self.new octant).room ≡ (leaving_at self.old octant).room }
+        ensures others { (o : ℕ) → o ≢ octant → leaving_at self.new o ≡ leaving_at self.old o }
+        ensures eight { length self.new ≡ length self.old }
+    {
+        self.lanes[octant as usize].sort();
+    }
+
+    /// Gives the points of an octant to the list of that octant in `out`, which has room for them. It
+    /// takes no memory.
+    pub(crate) fn give(&mut self, octant: u8, out: &mut Outgoing)
+        requires one_of_eight { octant < OCTANTS }
+        requires room { length (points_at self.old octant) ≤ (leaving_at out.old octant).room }
+        ensures none { points_at self.new octant ≡ [] }
+        ensures room { (leaving_at self.old octant).room ≤ (leaving_at self.new octant).room }
+        ensures others { (o : ℕ) → o ≢ octant → leaving_at self.new o ≡ leaving_at self.old o }
+        ensures eight { length self.new ≡ length self.old }
+        ensures added { points_at out.new octant ≡ points_at out.old octant ++ points_at self.old octant }
+        ensures left { (leaving_at out.old octant).room
+            ≤ (leaving_at out.new octant).room + length (points_at self.old octant) }
+        ensures out_others { (o : ℕ) → o ≢ octant → leaving_at out.new o ≡ leaving_at out.old o }
+        ensures out_eight { length out.new ≡ length out.old }
+    {
+        self.lanes[octant as usize].give(&mut out.lanes[octant as usize]);
     }
 
     /// Makes room in each list for so many more points. The points stay, whatever the answer.

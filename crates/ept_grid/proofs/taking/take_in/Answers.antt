@@ -1,56 +1,44 @@
-use Rattle.std.proofs.Common.{◌≡◌, ◌∙◌, ◌+◌, ap, sym, subst, refl, arith, ℕ, List, ◌++◌, length, filter, count_by}
-use Rattle.std.proofs.lemmas.List.{length-map}
-use Rattle.ept_point.specs.declared.point.Point.{Point}
+use Rattle.std.proofs.Common.{ℕ, refl, ap, subst, arith, vec_capacity}
 use Rattle.ept_space.specs.VoxelKey.{VoxelKey}
 use Rattle.ept_space.proofs.PlaceKeys.{InCube-box}
 use Rattle.ept_sample.specs.Place.{place}
-use Rattle.ept_sample.specs.Ids.{placed_by_id}
-use Rattle.ept_grid.specs.declared.slot.Slot.{Slot}
-use Rattle.ept_grid.specs.Mask.{opened}
-use Rattle.ept_grid.specs.Slots.{points_of, AreInCube, goes, goes_to, IsNode}
-use Rattle.ept_grid.specs.Outgoing.{leaving_at, points_at, all_points}
-use Rattle.ept_grid.proofs.Arriving.{taken, slots-in-cube, IsTaken, IsNode-kept, points-kept, points-sent, points-leave, length-joined}
+use Rattle.ept_sample.specs.Arrivals.{octant}
+use Rattle.ept_grid.specs.Outgoing.{leaving_at}
+use Rattle.ept_grid.specs.Settling.{winners}
+use Rattle.ept_grid.specs.Contents.{HasSent, HasTaken, joined}
+use Rattle.ept_grid.proofs.Keeping.{taken-own, taken-lost, loser-in-box, winners-inside, node-taken, one-list, contended-length, same-cells}
 use Rattle.ept_grid.proofs.taking.take_in.Goals as goal
 
-pub octant_of-octant-requires-clause-inside : goal.octant_of-octant-requires-clause-inside
-octant_of-octant-requires-clause-inside c =
-    InCube-box c.args.rules.now.cube c.args.key.now (place c.args.point) c.known.ensures (omega (arith, c.requires.node.low, c.known-2.ensures.cells_whole)) c.requires.inside
+pub lose-requires-clause-inside : goal.lose-requires-clause-inside
+lose-requires-clause-inside c =
+    InCube-box c.args.rules.now.cube c.args.key.now (place c.in-Some.loser) c.known.ensures (omega (arith, c.requires.node.low, c.known-2.ensures.cells_whole)) (loser-in-box c.args.rules.now c.args.key.now.depth c.args.key.now c.args.point (winners c.args.cells.now.items) (winners c.settle.new.cells.items) c.in-Some.loser (winners-inside c.args.rules.now.cube c.args.key.now (winners c.args.cells.now.items) c.args.losers.now c.requires.node.inside) c.requires.inside c.in-Some.ensures.settled)
 
-pub is_beaten-loses-requires-clause-inside : goal.is_beaten-loses-requires-clause-inside
-is_beaten-loses-requires-clause-inside c =
-    InCube-box c.args.rules.now.cube c.args.key.now (place c.args.point) c.known.ensures (omega (arith, c.requires.node.low, c.known-2.ensures.cells_whole)) c.requires.inside
+pub lose-requires-clause-lists : goal.lose-requires-clause-lists
+lose-requires-clause-lists c = λ o h. one-list (winners c.args.cells.now.items) c.args.losers.now o (leaving_at c.args.out.now o).room (c.requires.lists o h)
 
-pub mark_beaten-requires-clause-inside : goal.mark_beaten-requires-clause-inside
-mark_beaten-requires-clause-inside c =
-    InCube-box c.args.rules.now.cube c.args.key.now (place c.args.point) c.known.ensures (omega (arith, c.requires.node.low, c.known-2.ensures.cells_whole)) c.requires.inside
+own : (c : goal.In-None) → HasTaken c.args.rules.now c.args.key.now.depth c.args.mask c.args.mask c.args.point (winners c.args.cells.now.items) (winners c.settle.new.cells.items) c.args.losers.now c.args.losers.now c.args.out.now c.args.out.now
+own c =
+    taken-own c.args.rules.now c.args.key.now.depth c.args.mask c.args.point (winners c.args.cells.now.items) (winners c.settle.new.cells.items) c.args.losers.now c.args.out.now c.known-3.ensures c.known-4.ensures c.requires.node.settled c.requires.node.few c.in-None.ensures.apart c.in-None.ensures.settled
 
-pub is_beaten-loses-requires-clause-slots_inside : goal.is_beaten-loses-requires-clause-slots_inside
-is_beaten-loses-requires-clause-slots_inside c =
-    subst (λ (w : List Slot). AreInCube c.args.rules.now.cube w) (sym c.as_slice.ensures.value) (slots-in-cube c.args.key.now c.args.rules.now c.args.slots.now.items c.args.mask c.known.ensures c.known-2.ensures c.requires.node)
+pub returns-in-None-clause-taken : goal.returns-in-None-clause-taken
+returns-in-None-clause-taken c = own c
 
-pub mark_beaten-requires-clause-slots_inside : goal.mark_beaten-requires-clause-slots_inside
-mark_beaten-requires-clause-slots_inside c =
-    slots-in-cube c.args.key.now c.args.rules.now c.args.slots.now.items c.args.mask c.known.ensures c.known-2.ensures c.requires.node
+pub returns-in-None-clause-node : goal.returns-in-None-clause-node
+returns-in-None-clause-node c =
+    node-taken c.args.key.now c.args.rules.now c.args.mask c.args.mask c.args.point c.args.heads.now.items c.settle.new.heads.items c.args.cells.now.items c.settle.new.cells.items (vec_capacity c.args.cells.now) (vec_capacity c.settle.new.cells) c.args.losers.now c.args.losers.now c.args.out.now c.args.out.now c.requires.node c.requires.inside c.in-None.ensures.table c.in-None.ensures.room c.in-None.ensures.chained (own c) (λ _. refl)
 
-pub send-requires : goal.send-requires
-send-requires c =
-    let t : IsTaken c.args.key.now c.args.rules.now c.args.mask c.with_overflowing-open.result c.args.point c.args.slots.now.items c.put_by_id.new.slots.items =
-    taken c.args.key.now c.args.rules.now c.args.mask c.with_overflowing-open.result c.key.inside.depth c.args.point c.args.slots.now.items c.as_slice.result.now c.mark_beaten.new.slots.items c.put_by_id.new.slots.items c.as_slice-2.result.now _ c.requires.node c.requires.inside (ap (λ (k : VoxelKey). k.depth) c.key.view_is) c.as_slice.ensures.value refl c.octant_of-octant.ensures.value c.is_beaten-loses.ensures c.mark_beaten.ensures.items c.put_by_id.ensures.items c.as_slice-2.ensures.value c.with_overflowing-open.ensures.opens c.with_overflowing-open.ensures.deepest in
-    let long : length c.as_slice-3.result.now ≡ length (points_of c.args.slots.now.items) + 1 = ap (λ (w : List Slot). length w) c.as_slice-3.ensures.value ∙ length-joined c.args.rules.now c.args.key.now.depth c.args.point c.args.slots.now.items c.put_by_id.new.slots.items t.join in
-    λ o h. omega (arith, long, c.requires.lists o h)
+lost : (c : goal.After-lose) → HasTaken c.args.rules.now c.args.key.now.depth c.args.mask c.lose.result c.args.point (winners c.args.cells.now.items) (winners c.settle.new.cells.items) c.args.losers.now c.lose.new.losers c.args.out.now c.lose.new.out
+lost c =
+    let sent : HasSent c.args.rules.now c.args.key.now.depth c.args.mask c.lose.result (joined c.args.losers.now (octant c.args.rules.now c.args.key.now.depth c.in-Some.loser) c.in-Some.loser) c.lose.new.losers c.args.out.now c.lose.new.out = subst (λ (d : ℕ). HasSent c.args.rules.now d c.args.mask c.lose.result (joined c.args.losers.now (octant c.args.rules.now d c.in-Some.loser) c.in-Some.loser) c.lose.new.losers c.args.out.now c.lose.new.out) (ap (λ (k : VoxelKey). k.depth) c.key.view_is) c.lose.ensures.sent in
+    taken-lost c.args.rules.now c.args.key.now.depth c.args.mask c.lose.result c.args.point (winners c.args.cells.now.items) (winners c.settle.new.cells.items) c.args.losers.now c.lose.new.losers c.args.out.now c.lose.new.out c.in-Some.loser c.known-3.ensures c.requires.node.settled c.in-Some.ensures.apart c.in-Some.ensures.settled sent
 
-pub returns : goal.returns
-returns c =
-    let t : IsTaken c.args.key.now c.args.rules.now c.args.mask c.with_overflowing-open.result c.args.point c.args.slots.now.items c.put_by_id.new.slots.items =
-    taken c.args.key.now c.args.rules.now c.args.mask c.with_overflowing-open.result c.key.inside.depth c.args.point c.args.slots.now.items c.as_slice.result.now c.mark_beaten.new.slots.items c.put_by_id.new.slots.items c.as_slice-2.result.now _ c.requires.node c.requires.inside (ap (λ (k : VoxelKey). k.depth) c.key.view_is) c.as_slice.ensures.value refl c.octant_of-octant.ensures.value c.is_beaten-loses.ensures c.mark_beaten.ensures.items c.put_by_id.ensures.items c.as_slice-2.ensures.value c.with_overflowing-open.ensures.opens c.with_overflowing-open.ensures.deepest in
-    let sends = c.as_slice-3.ensures.value in
-    record {
-      node = subst (λ (w : List Slot). IsNode c.args.key.now c.args.rules.now w c.with_overflowing-open.result) (sym c.drop_leaving.ensures.items) (IsNode-kept c.args.key.now c.args.rules.now c.args.mask c.with_overflowing-open.result c.args.slots.now.items c.put_by_id.new.slots.items c.args.point c.requires.node t.join t.inside t.opens t.deepest);
-      points = ap (λ (w : List Slot). points_of w) c.drop_leaving.ensures.items ∙ points-kept c.args.rules.now c.args.key.now.depth c.with_overflowing-open.result (opened c.args.mask) (placed_by_id c.args.point (points_of c.args.slots.now.items)) c.put_by_id.new.slots.items t.join.points t.join.told t.opens;
-      opens = t.opens;
-      leave = λ o h. c.send.ensures.points o h ∙ ap (λ (w : List Slot). points_at c.args.out.now o ++ points_of (filter (goes_to c.with_overflowing-open.result o) w)) sends ∙ ap (λ (w : List Point). points_at c.args.out.now o ++ w) (points-sent c.args.rules.now c.args.key.now.depth c.with_overflowing-open.result o (opened c.args.mask) (placed_by_id c.args.point (points_of c.args.slots.now.items)) c.put_by_id.new.slots.items t.join.points t.join.told t.opens);
-      lists = λ o h. c.send.ensures.room o h ∙ ap (λ (w : List Slot). (leaving_at c.send.new.out o).room + length (filter (goes_to c.with_overflowing-open.result o) w)) sends ∙ ap (λ (n : ℕ). (leaving_at c.send.new.out o).room + n) (sym (length-map (filter (goes_to c.with_overflowing-open.result o) c.put_by_id.new.slots.items) (λ s. s.point)) ∙ ap (λ (w : List Point). length w) (points-sent c.args.rules.now c.args.key.now.depth c.with_overflowing-open.result o (opened c.args.mask) (placed_by_id c.args.point (points_of c.args.slots.now.items)) c.put_by_id.new.slots.items t.join.points t.join.told t.opens));
-      together = λ test. c.send.ensures.together test ∙ ap (λ (w : List Slot). count_by test (all_points c.args.out.now) + count_by test (points_of (filter (goes c.with_overflowing-open.result) w))) sends ∙ ap (λ (w : List Point). count_by test (all_points c.args.out.now) + count_by test w) (points-leave c.args.rules.now c.args.key.now.depth c.with_overflowing-open.result (opened c.args.mask) (placed_by_id c.args.point (points_of c.args.slots.now.items)) c.put_by_id.new.slots.items t.join.points t.join.told t.opens);
-      still_eight = c.send.ensures.still_eight;
-      room = c.drop_leaving.ensures.room ∙ c.put_by_id.ensures.room ∙ c.mark_beaten.ensures.room;
-    }
+pub returns-in-Some-clause-taken : goal.returns-in-Some-clause-taken
+returns-in-Some-clause-taken c = lost c
+
+pub returns-in-Some-clause-node : goal.returns-in-Some-clause-node
+returns-in-Some-clause-node c =
+    node-taken c.args.key.now c.args.rules.now c.args.mask c.lose.result c.args.point c.args.heads.now.items c.settle.new.heads.items c.args.cells.now.items c.settle.new.cells.items (vec_capacity c.args.cells.now) (vec_capacity c.settle.new.cells) c.args.losers.now c.lose.new.losers c.args.out.now c.lose.new.out c.requires.node c.requires.inside c.in-Some.ensures.table c.in-Some.ensures.room c.in-Some.ensures.chained (lost c) (λ low. c.lose.ensures.deepest (omega (arith, low, ap (λ (k : VoxelKey). k.depth) c.key.view_is)))
+
+pub returns-in-Some-clause-grows : goal.returns-in-Some-clause-grows
+returns-in-Some-clause-grows c =
+    omega (arith, same-cells c.args.cells.now.items c.settle.new.cells.items (contended-length c.args.rules.now c.args.key.now.depth c.args.point (winners c.args.cells.now.items) (winners c.settle.new.cells.items) c.in-Some.loser c.in-Some.ensures.settled), c.args.cells.now.ok.0, c.settle.new.cells.ok.0)

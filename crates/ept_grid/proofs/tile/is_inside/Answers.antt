@@ -1,6 +1,6 @@
 use Rattle.ept_space.specs.ClosedBox.{IsIn}
 use Rattle.ept_sample.specs.Place.{place}
-use Rattle.ept_grid.proofs.TileLaws.{in-box-test}
+use Rattle.ept_grid.proofs.Boxes.{in-box-test}
 use Rattle.ept_grid.proofs.tile.is_inside.Goals as goal
 
 pub returns : goal.returns

@@ -5,14 +5,15 @@ use Rattle.ept_space.specs.OctreeCube.{InBox}
 use Rattle.ept_sample.specs.Place.{place}
 use Rattle.ept_sample.specs.Ids.{HasDistinctIds}
 use Rattle.ept_grid.specs.Node.{Node}
-use Rattle.ept_grid.specs.Slots.{points_of}
-use Rattle.ept_grid.proofs.Arriving.{inside-points, ascending-points}
+use Rattle.ept_grid.specs.Settling.{winners}
+use Rattle.ept_grid.specs.Contents.{contents}
+use Rattle.ept_grid.proofs.InOrder.{inside-in_order, ascend-in_order}
 use Rattle.ept_grid.proofs.grid.Grid.known.Goals as goal
 
 pub returns-clause-inside : goal.returns-clause-inside
 returns-clause-inside c =
-    subst (λ (n : Node). All (λ q. InBox n.rules.cube n.key (place q)) n.points) c.self.view_is (inside-points c.self.inside.key c.self.inside.rules c.self.inside.slots.items c.self.invariant.inside)
+    subst (λ (n : Node). All (λ q. InBox n.rules.cube n.key (place q)) n.points) c.self.view_is (inside-in_order c.self.inside.rules.cube c.self.inside.key (contents (winners c.self.inside.cells.items) c.self.inside.losers) c.self.invariant.inside)
 
 pub returns-clause-ascend : goal.returns-clause-ascend
 returns-clause-ascend c =
-    subst (λ (n : Node). HasDistinctIds n.points → IsAscending n.points) c.self.view_is (λ once. ascending-points (points_of c.self.inside.slots.items) once c.self.invariant.in_order)
+    subst (λ (n : Node). HasDistinctIds n.points → IsAscending n.points) c.self.view_is (ascend-in_order (contents (winners c.self.inside.cells.items) c.self.inside.losers))
