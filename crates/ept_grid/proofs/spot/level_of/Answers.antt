@@ -6,4 +6,4 @@ use Rattle.ept_grid.proofs.spot.level_of.Goals as goal
 
 pub returns : goal.returns
 returns c =
-    level-code c.args.rules.now c.args.depth c.args.point.now c.cell.result (c.cell.ensures ∙ ap (λ (p : Place). cell_at c.args.rules.now.cube c.args.depth p) c.place_of.ensures)
+    level-code c.args.rules.now c.args.depth c.args.point.now c.cell.result (c.cell.ensures.cell ∙ ap (λ (p : Place). cell_at c.args.rules.now.cube c.args.depth p) c.place_of.ensures)
