@@ -1,5 +1,5 @@
 -- What holds of a packed point: its length, its bounds, and that it is the packed form of one point only.
-use Rattle.std.proofs.Common.{◌+◌, append_assoc, ◌%◌, take, drop, subst, zero, suc, ◌≡◌, ℕ, ℤ, ◌<◌, ◌^◌, List, [], ◌∷◌, ◌++◌, length, get_or, map, refl, sym, ap, ◌∙◌, arith, length-append, FitsSigned, inl, inr}
+use Rattle.std.proofs.Common.{◌+◌, append_assoc, ◌%◌, take, drop, subst, zero, suc, ◌≡◌, ℕ, ℤ, ◌<◌, ◌^◌, List, [], ◌∷◌, ◌++◌, length, get_or, map, refl, sym, ap, ◌∙◌, arith, length-append, FitsSigned}
 use Rattle.std.specs.Int.{Width, w8, w16, w32, cast_unsigned, cast_signed, from_le_bytes}
 use Rattle.std.specs.List.{concat, AllByRecursion, Any}
 use Rattle.std.proofs.lemmas.Int.{to_z-of_z, ints}

@@ -1,12 +1,11 @@
 -- Lists of bytes, cut into pieces.
-use Rattle.std.proofs.Common.{subst, Bool, Option, leb, true, false, ◌^◌, ◌%◌, ◌≡◌, ℕ, ◌+◌, ◌<◌, ◌≤◌, List, [], ◌∷◌, ◌++◌, length, get_or, take, drop, refl, sym, ap, ◌∙◌, arith, take-append-drop, drop-drop, length-take, length-drop, get_or-take, get_or-drop, add_assoc, ℤ, FitsSigned, inl, inr}
+use Rattle.std.proofs.Common.{subst, Bool, Option, leb, true, false, ◌^◌, ◌%◌, ◌≡◌, ℕ, ◌+◌, ◌<◌, List, [], ◌∷◌, ◌++◌, length, get_or, take, drop, refl, ap, ◌∙◌, arith, take-append-drop, drop-drop, ℤ, FitsSigned}
 use Rattle.std.specs.Bool.{then_some}
 use Rattle.std.specs.Option.{IfSome, IsNone}
 use Rattle.std.specs.Int.{Width, w8, w16, w32, to_le_bytes, from_le_bytes, cast_signed, cast_unsigned}
-use Rattle.std.proofs.lemmas.List.{drop_more, get_or_past}
+use Rattle.std.proofs.lemmas.List.{drop_more}
 use Rattle.std.proofs.lemmas.Nat.{le_bytes_2, le_bytes_4}
 use Rattle.std.proofs.lemmas.Int.{to_z-of_z}
-use Rattle.std.proofs.lemmas.Bool.{cases_lt}
 use Rattle.std.proofs.lemmas.Bool.Decides.{nat_tests}
 use Rattle.ept_point.specs.Packed.{little_endian, number_in}
 

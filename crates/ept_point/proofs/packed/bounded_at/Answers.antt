@@ -1,4 +1,3 @@
-use Rattle.std.proofs.Common.{rules}
 use Rattle.ept_point.proofs.Pieces.{number_of_one, some_is_number, none_is_more}
 use Rattle.ept_point.proofs.packed.bounded_at.Goals as goal
 

@@ -1,4 +1,4 @@
-use Rattle.std.proofs.Common.{sym, ◌∙◌}
+use Rattle.std.proofs.Common.{◌∙◌}
 use Rattle.ept_point.proofs.Pieces.{word_4}
 use Rattle.ept_point.proofs.packed.u32_at.Goals as goal
 

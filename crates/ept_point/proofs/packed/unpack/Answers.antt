@@ -3,7 +3,7 @@ use Rattle.std.specs.Int.{w8, w16, w32}
 use Rattle.ept_point.specs.declared.point.Point.{Point}
 use Rattle.ept_point.proofs.Pieces.{signed_piece}
 use Rattle.ept_point.proofs.PackedLaws.{packed_one}
-use Rattle.ept_point.proofs.Unpacking.{IsReadFrom, packed_of_read, none_is_above, no_point, none_exactly, above_return_number, above_number_of_returns, above_scan_direction, above_edge, above_class_flags, above_channel}
+use Rattle.ept_point.proofs.Unpacking.{packed_of_read, none_is_above, no_point, none_exactly, above_return_number, above_number_of_returns, above_scan_direction, above_edge, above_class_flags, above_channel}
 use Rattle.ept_point.proofs.packed.unpack.Goals as goal
 
 pub returns-in_err-bounded_at-clause-none : goal.returns-in_err-bounded_at-clause-none
