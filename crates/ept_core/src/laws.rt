@@ -27,8 +27,8 @@ pub fn key_law()
     ensures opened { OpenChildrenAreNodes }
 {}
 
-/// A flight brings to its node no id that stands there. The order of the flights, and of the points within a flight, is free; so is who carries which
-/// points to a node, and how many fly together.
+/// A flight brings to its node no id that stands there. The order of the flights, and of the points
+/// within a flight, is free; so is who carries which points to a node, and how many fly together.
 pub fn flight_law()
     ensures distinct { ArrivalsHaveDistinctIds }
     ensures order { OrderIsFree }
