@@ -30,6 +30,11 @@ pub(crate) fn append_by_id(
     ensures err { OnErr result (out.new.items ≡ out.old.items) }
 {
     let mut points = by_id(*out.allocator(), cells, losers)?;
+    if out.is_empty() {
+        // A list without points takes them as they are, without a copy.
+        *out = points;
+        return Ok(());
+    }
     out.append(&mut points)?;
     Ok(())
 }
