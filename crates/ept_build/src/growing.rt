@@ -75,7 +75,7 @@ fn grow<S: Source>(
     points: u64,
     most: u64,
 ) -> Result<Tree, BuildError>
-    requires reader { IsReader S.whole S.left S.faults reader.old }
+    requires reader { IsReader S.whole S.left S.given S.faults reader.old }
     requires fresh { refusal_of reader.old ≡ None }
     requires none { drawn_of reader.old ≡ 0 }
     requires all { left_of reader.old ≡ points }

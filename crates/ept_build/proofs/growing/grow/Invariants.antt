@@ -11,7 +11,7 @@ invariant-loop-batch g l = record {
   rules : rules_of l.grown ≡ l.rules;
   rest : IsAtRest l.grown;
   few : length (nodes_of l.grown) ≤ l.most;
-  reader : IsReader g.S.Source.whole g.S.Source.left g.S.Source.faults l.reader;
+  reader : IsReader g.S.Source.whole g.S.Source.left g.S.Source.given g.S.Source.faults l.reader;
   fresh : refusal_of l.reader ≡ None;
   allowed : allowed_of l.reader ≡ left_of l.reader;
   counts : drawn_of l.reader + left_of l.reader ≡ l.points;
