@@ -1,8 +1,8 @@
-pub mod Putting
-pub mod Apart
-pub mod Scanned
-pub mod Drawn
-pub mod Causes
-pub mod Judged
-pub mod Found
-pub mod Built
+mod Putting
+mod Apart
+mod Scanned
+mod Drawn
+mod Causes
+mod Judged
+mod Found
+mod Built

@@ -1,8 +1,8 @@
 pub mod Wholes
 pub mod Objects
 pub mod Signed
-pub mod Places
-pub mod EachInput
-pub mod Faults
-pub mod RefusalLaws
+mod Places
+mod EachInput
+mod Faults
+mod RefusalLaws
 pub mod FactsTell

@@ -1,4 +1,4 @@
-pub mod NodeMap
+mod NodeMap
 pub mod Held
 pub mod Leaving
 pub mod ArriveLaw

@@ -1,23 +1,23 @@
-pub mod Lanes
-pub mod Settled
-pub mod Contest
-pub mod Filled
-pub mod InOrder
-pub mod Boxes
-pub mod Keeping
-pub mod Leaving
-pub mod Sent
-pub mod Taken
-pub mod MaskLaws
-pub mod OctantLaws
-pub mod Room
+mod Lanes
+mod Settled
+mod Contest
+mod Filled
+mod InOrder
+mod Boxes
+mod Keeping
+mod Leaving
+mod Sent
+mod Taken
+mod MaskLaws
+mod OctantLaws
+mod Room
 pub mod Leavings
-pub mod Spots
-pub mod Chains
-pub mod Winners
-pub mod SpotLaws
-pub mod Contending
-pub mod Seeks
-pub mod ColumnCells
-pub mod WinnerLaws
-pub mod Lookups
+mod Spots
+mod Chains
+mod Winners
+mod SpotLaws
+mod Contending
+mod Seeks
+mod ColumnCells
+mod WinnerLaws
+mod Lookups

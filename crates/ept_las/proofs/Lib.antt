@@ -1,5 +1,5 @@
 pub mod Formats
-pub mod Stored
+mod Stored
 pub mod RecordLaws
-pub mod Faults
+mod Faults
 pub mod HeaderLaws

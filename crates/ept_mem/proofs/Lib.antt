@@ -1,2 +1,2 @@
-pub mod Calls
-pub mod Pieces
+mod Calls
+mod Pieces

@@ -1,7 +1,7 @@
 pub mod Passed
-pub mod Near
-pub mod Joining
-pub mod Members
-pub mod Sources
-pub mod SchemaRows
+mod Near
+mod Joining
+mod Members
+mod Sources
+mod SchemaRows
 pub mod NamesDiffer

@@ -1,2 +1,2 @@
-pub mod DecimalLemmas
-pub mod WholeLemmas
+mod DecimalLemmas
+mod WholeLemmas

@@ -1,5 +1,5 @@
-pub mod Pieces
+mod Pieces
 pub mod PackedLaws
-pub mod Unpacking
-pub mod TileLaws
+mod Unpacking
+mod TileLaws
 pub mod OrderLaws

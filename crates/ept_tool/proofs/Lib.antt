@@ -1,6 +1,6 @@
-pub mod Asked
-pub mod Configs
-pub mod Fronts
-pub mod Refused
-pub mod Runs
-pub mod Texts
+mod Asked
+mod Configs
+mod Fronts
+mod Refused
+mod Runs
+mod Texts
