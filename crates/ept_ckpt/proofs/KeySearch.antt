@@ -36,7 +36,7 @@ same-deeper : (a b : VoxelKey) → b.depth < a.depth → same_key a b ≡ false
 same-deeper a b h = grind (arith, nat_tests)
 
 -- against any key, the answers of `cmp` rise
-answers-rise : (nodes : List NodeLine) (key : VoxelKey) → AllPairs (λ a b. key_cmp a b ≡ Less) (keys_of nodes) → IsNonDecreasingBy (λ (line : NodeLine). ordering_index (key_cmp line.key key)) nodes
+pub answers-rise : (nodes : List NodeLine) (key : VoxelKey) → AllPairs (λ a b. key_cmp a b ≡ Less) (keys_of nodes) → IsNonDecreasingBy (λ (line : NodeLine). ordering_index (key_cmp line.key key)) nodes
 answers-rise nodes key up =
     searchable_from_sorted key_cmp_total (λ (line : NodeLine). line.key) nodes key (λ k d low inside.
     let before : key_cmp (get_or nodes k d).key (get_or nodes (k + 1) d).key ≡ Less = ascend-at (λ (line : NodeLine). line.key) nodes k (k + 1) d (omega arith) (omega (arith, inside)) up in

@@ -1,6 +1,6 @@
 mod Appending
 mod BodyText
-mod BothWays
+pub mod BothWays
 mod Counted
 mod Encoded
 mod KeySearch
@@ -21,4 +21,5 @@ mod WrittenPlaces
 mod WrittenSettings
 mod WrittenSources
 mod WrittenTexts
-mod FactsTell
+pub mod FactsTell
+pub mod Finding

@@ -8,4 +8,5 @@ pub mod Fields
 pub mod Forms
 pub mod Reads
 pub mod Refusals
+pub mod Lookup
 pub mod Laws

@@ -14,6 +14,7 @@ mod fields;
 mod laws;
 mod letter;
 mod limits;
+mod lookup;
 mod node_line;
 mod nodes;
 mod reader;

@@ -1,0 +1,9 @@
+pub mod Names
+pub mod Gates
+pub mod Current
+pub mod View
+pub mod Errors
+pub mod Lines
+pub mod Stored
+pub mod Opening
+pub mod Done

@@ -1,0 +1,61 @@
+//! Gates: files that are open where they hold exactly the one byte 1.
+
+ghost use Rattle.std.specs.Prelude.{◌≡◌, ◌↔◌, ℕ, Some, IfOk, IfErr, OnOk, IsTrue};
+ghost use Rattle.ept_base.specs.Causes.{HasCauseOf};
+ghost use Rattle.ept_base.specs.Files.{Files, SameFiles, SameBut, Puts, Tells, StepsBy};
+ghost use Rattle.ept_base.specs.Moves.{Elapses, Moves, SameImages, IsSettled};
+ghost use Rattle.ept_save.specs.Gates.{IsOpen};
+ghost use Rattle.ept_save.specs.Errors.{IsStores};
+
+use crate::error::SaveError;
+use ept_base::Store;
+use std::alloc::Global;
+
+/// Whether the gate of this name is open.
+pub(crate) fn is_open<T: Store>(alloc: Global, store: &mut T, name: &str) -> Result<bool, SaveError>
+    ensures found { IfOk result (λ found. Tells (λ all. IsTrue found ↔ IsOpen all name.now) (T.files store.old)) }
+    ensures reads { StepsBy SameFiles (T.files store.old) (T.files store.new) }
+    ensures images { SameImages (T.may_leave store.old) (T.may_leave store.new) }
+    ensures time { Elapses (T.moment store.old) (T.moment store.new) (T.image_since store.old) (T.image_since store.new) (T.may_leave store.new) }
+    ensures only { IfErr result IsStores }
+    ensures cause { HasCauseOf SaveError.StoreFault (T.faults store.old) (T.faults store.new) result }
+{
+    let mut bytes = Vec::new(alloc);
+    let is_there = store.get(name, &mut bytes)?;
+    Ok(is_there && matches!(bytes.as_slice(), [1]))
+}
+
+/// Closes a gate: the byte 0 is put where it is open, and nothing where it is not; then what is read is
+/// made stable.
+pub(crate) fn close_gate<T: Store>(
+    alloc: Global,
+    store: &mut T,
+    name: &str,
+) -> Result<(), SaveError>
+    ensures any_moment { Moves T.files T.may_leave T.moment T.image_since (SameBut name.now) store.old store.new }
+    ensures stood_shut { (all : Files) → T.files store.old ≡ Some all → ¬ IsOpen all name.now
+        → Moves T.files T.may_leave T.moment T.image_since SameFiles store.old store.new }
+    ensures shut { OnOk result (Tells (λ all. ¬ IsOpen all name.now) (T.files store.new)) }
+    ensures settled { OnOk result (IsSettled (T.files store.new) (T.may_leave store.new)) }
+    ensures only { IfErr result IsStores }
+    ensures cause { HasCauseOf SaveError.StoreFault (T.faults store.old) (T.faults store.new) result }
+{
+    if is_open(alloc, store, name)? {
+        store.put(name, &[0])?;
+    }
+    store.sync()?;
+    Ok(())
+}
+
+/// Puts a file, and makes what is read stable.
+pub(crate) fn put_kept<T: Store>(store: &mut T, name: &str, bytes: &[u8]) -> Result<(), SaveError>
+    ensures any_moment { Moves T.files T.may_leave T.moment T.image_since (SameBut name.now) store.old store.new }
+    ensures ok { OnOk result (StepsBy (Puts name.now bytes.now) (T.files store.old) (T.files store.new)) }
+    ensures settled { OnOk result (IsSettled (T.files store.new) (T.may_leave store.new)) }
+    ensures only { IfErr result IsStores }
+    ensures cause { HasCauseOf SaveError.StoreFault (T.faults store.old) (T.faults store.new) result }
+{
+    store.put(name, bytes)?;
+    store.sync()?;
+    Ok(())
+}

@@ -1,0 +1,20 @@
+//! Checkpoints in a store: which one is current, how the next one is made, and what a crash may leave.
+#![tactic(auto)]
+
+mod committing;
+mod done;
+mod error;
+mod gates;
+mod names;
+mod opening;
+mod saved;
+mod saving;
+#[cfg(test)]
+mod tests;
+
+pub use committing::commit;
+pub use done::{close_done, is_done, open_done};
+pub use error::SaveError;
+pub use opening::open;
+pub use saved::Saved;
+pub use saving::{begin, save_tile};
