@@ -1,5 +1,4 @@
 mod Asked
-mod Configs
 mod Fronts
 mod Refused
 mod Runs

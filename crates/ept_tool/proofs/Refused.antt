@@ -14,7 +14,7 @@ use Rattle.ept_tool.specs.declared.refusal.Refusal.{Refusal}
 use Rattle.ept_tool.specs.declared.refusal.Refusal.TheVariants.{Usage, BadConfiguration, BadLas, OutOfBounds, NoBounds, SourceChanged, TooManyPoints, TooManyNodes, SourceFault, StoreFault, Memory}
 use Rattle.ept_tool.specs.Errors.{of_build}
 use Rattle.ept_tool.specs.Requests.{HasConfiguration, HasBadConfiguration, IsAcceptedAt, IsBuiltAt, BuildIsRefused, IsOfConfiguration, IsDefinite, Fails}
-use Rattle.ept_tool.proofs.Configs.{config_same}
+use Rattle.ept_config.proofs.FactsTell.{config_same}
 
 -- three facts of one told thing
 pub both_tell : {X : Type 0} (P Q R : X → Type 0) (f g : Option X) → g ≡ f → ((x : X) → P x → Q x → R x) → Tells P f → Tells Q g → Tells R f
