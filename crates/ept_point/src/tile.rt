@@ -83,21 +83,23 @@ fn next_point(
     Ok(point)
 }
 
-// Reads whole points up to the first fault, and leaves behind an error what it has read.
+// Reads whole points up to the first fault, and leaves behind an error what it has read. Room for all
+// of them is made once, before the first.
 fn read_points(bytes: &[u8], out: &mut Vec<Point>) -> Result<(), TileError>
     requires { length bytes.now % PACKED_LENGTH ≡ 0 }
     ensures ok { OnOk result ((points : List Point) × ReadsAs bytes.now (Ok points) × (out.new.items ≡ out.old.items ++ points)) }
     ensures fault { IfErr result (λ e. e ≢ TileError.Memory → ReadsAs bytes.now (Err e)) }
     ensures kept { (points : List Point) × (out.new.items ≡ out.old.items ++ points) }
 {
+    out.reserve(bytes.len() / PACKED_LENGTH)?;
     let mut rest = bytes;
     let mut last = None;
     let mut at = 0;
     while let Some((packed, after)) = rest.split_first_chunk::<PACKED_LENGTH>() {
         let point = next_point(packed, last, at)?;
-        out.push(point)?;
         rest = after;
         last = Some(point.id());
+        out.push_reserved(point);
         at += 1;
     }
     Ok(())
