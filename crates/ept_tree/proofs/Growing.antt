@@ -46,7 +46,7 @@ use Rattle.ept_tree.proofs.Regrouping.{behind-others, one-each, whole, split, sp
 
 -- ---- the eight octants
 
-map_alike : {X : Type 0} (f g : ℕ → X) (os : List ℕ) → ((o : ℕ) → IsMember o os → f o ≡ g o) → map f os ≡ map g os
+pub map_alike : {X : Type 0} (f g : ℕ → X) (os : List ℕ) → ((o : ℕ) → IsMember o os → f o ≡ g o) → map f os ≡ map g os
 map_alike f g [] same = refl
 map_alike {X} f g (o ∷ os) same =
     ap (λ (x : X). x ∷ map f os) (same o (inl refl)) ∙ ap (λ (w : List X). g o ∷ w) (map_alike f g os (λ k m. same k (inr m)))
@@ -180,7 +180,7 @@ module _ (rules : Rules) (points left : List Point) (a : Arrival) (others : List
 
 -- ---- a node that is found, and one that is new
 
-has_open_then : (g : grid.Node) (o : ℕ) → o < 8 → has_open (node_of g) o ≡ is_open_in g o
+pub has_open_then : (g : grid.Node) (o : ℕ) → o < 8 → has_open (node_of g) o ≡ is_open_in g o
 unfolding has_open
 has_open_then g o low = open-at (opened g.mask) o low
 

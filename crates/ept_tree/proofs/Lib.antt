@@ -3,4 +3,5 @@ mod Descending
 pub mod Growing
 mod Inside
 mod Regrouping
+pub mod Resuming
 mod Together

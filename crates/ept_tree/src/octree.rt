@@ -54,6 +54,21 @@ impl Tree {
         })
     }
 
+    /// The octree of these nodes, each of which stands under its key. It takes no memory.
+    pub fn of(alloc: Global, rules: &Rules, nodes: BTreeMap<Key, Grid>) -> Tree
+        requires own { AreNodes rules.now nodes.entries }
+        ensures rules { rules_of result ≡ rules.now }
+        ensures nodes { nodes_of result ≡ nodes.entries }
+        ensures rest { IsAtRest result }
+    {
+        Tree {
+            alloc,
+            rules: *rules,
+            nodes,
+            leaving: Outgoing::new(alloc),
+        }
+    }
+
     /// The nodes by their keys.
     pub fn nodes(&self) -> &BTreeMap<Key, Grid>
         ensures nodes { result.now.entries ≡ nodes_of self.now }
