@@ -5,3 +5,4 @@ mod Inside
 mod Regrouping
 pub mod Resuming
 mod Together
+pub mod Wholeness

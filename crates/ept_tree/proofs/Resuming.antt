@@ -53,9 +53,9 @@ entry-at : (rules : Rules) (first : List Point) (b : Branch) (k : VoxelKey) → 
 unfolding resumed_node
 entry-at rules first b k key points opens =
     let at : (o : ℕ) → IsMember o all_octants → opened b.1.mask o ≡ is_node rules first (child k o) =
-        λ o m. opens o (IsMember-octant o m) ∙ ap (λ (j : VoxelKey). is_node rules first (child j o)) key in
+    λ o m. opens o (IsMember-octant o m) ∙ ap (λ (j : VoxelKey). is_node rules first (child j o)) key in
     let all : map (opened b.1.mask) all_octants ≡ map (λ o. is_node rules first (child k o)) all_octants =
-        map_alike (opened b.1.mask) (λ o. is_node rules first (child k o)) all_octants at in
+    map_alike (opened b.1.mask) (λ o. is_node rules first (child k o)) all_octants at in
     λ i. (key i, record { points = points i; opened = all i; is_resident = true })
 
 head_of : Tile → List Tile → Tile
