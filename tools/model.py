@@ -18,6 +18,7 @@ PROGRAM = Path(os.environ.get("EPT_TOOL", TOP / "crates/ept_tool/out/ept_tool"))
 KEYS = ["input", "scale", "offset", "bounds", "span", "minNodeSize", "maxDepth", "hierarchyStep", "srs",
         "threads", "cacheSize", "maxNodes", "checkpoint"]
 SRS_KEYS = ["authority", "horizontal", "vertical", "wkt"]
+BOUNDED = [(14, 15), (15, 15), (16, 1), (17, 1), (19, 15), (20, 3)]  # places in a packed point, and their greatest values
 LEAST_HEADER = {2: 227, 3: 235, 4: 375}
 RECORD = {0: 20, 1: 28, 2: 26, 3: 34, 6: 30, 7: 36}
 DIMENSIONS = [("Intensity", "unsigned", 2), ("ReturnNumber", "unsigned", 1), ("NumberOfReturns", "unsigned", 1),
@@ -220,11 +221,29 @@ def read_record(kind_of, record, factor, shift, source, at):
 
 
 def packed(point):
+    if "packed" in point:
+        return point["packed"]
     f = point["fields"]
     return struct.pack("<iiiHBBBBBBBbhBH", *point["place"], point["intensity"], *f["returns"], f["direction"],
                        f["edge"], f["class_of"], f["class_flags"], f["channel"], f["angle_rank"], f["angle"],
                        point["user"], f["source_id"]) \
         + f["gps"] + struct.pack("<HHHII", *f["colour"], *point["id"])
+
+
+def read_tile(data):
+    """The points of a tile, each with its packed form; None where the bytes are no tile."""
+    if len(data) % 49:
+        return None
+    points = []
+    for at in range(0, len(data), 49):
+        piece = data[at:at + 49]
+        if any(piece[place] > most for place, most in BOUNDED):
+            return None
+        point = {"place": list(struct.unpack("<iii", piece[:12])), "id": struct.unpack("<II", piece[41:]), "packed": piece}
+        if points and point["id"] <= points[-1]["id"]:
+            return None
+        points.append(point)
+    return points
 
 
 def scan_input(one, source, files, bounds, scale):
@@ -259,13 +278,29 @@ def extent_of(points):
     return [min(p[i] for p in places) for i in range(3)] + [max(p[i] for p in places) for i in range(3)]
 
 
-def sample(points, bounds, span, threshold, max_depth):
-    """The nodes: from key to points, in order of their ids."""
-    corner, s = bounds[:3], span.bit_length() - 1
+def extent_of_boxes(boxes):
+    """The least box over these, or None where there are none."""
+    return [min(box[i] for box in boxes) for i in range(3)] + [max(box[i + 3] for box in boxes) for i in range(3)] if boxes else None
+
+
+def count_of(points):
+    """The number of points and their extent."""
+    return len(points), extent_of(points) if points else None
+
+
+def cube_of(bounds, span, max_depth):
+    """The cube over bounds: its corner, the exponent of its side, and the greatest depth."""
+    s = span.bit_length() - 1
     e = s
     while any(2 ** e <= bounds[i + 3] - bounds[i] for i in range(3)):
         e += 1
-    deepest = min(max_depth, e - s)
+    return bounds[:3], e, min(max_depth, e - s)
+
+
+def sample(points, bounds, span, threshold, max_depth):
+    """The nodes: from key to points, in order of their ids."""
+    corner, e, deepest = cube_of(bounds, span, max_depth)
+    s = span.bit_length() - 1
     nodes = {}
     todo = [((0, 0, 0, 0), points)]
     while todo:
@@ -327,12 +362,39 @@ def hierarchy_files(counts, step):
     return files
 
 
-def output(kept, sources, bounds, nodes, cube):
+def srs_text(srs):
+    return "{" + ",".join("%s:%s" % (quoted(key), quoted(text)) for key, text in srs.items()) + "}"
+
+
+def row_text(values):
+    return "[" + ",".join(map(str, values)) + "]"
+
+
+def input_text(one):
+    """An input as `ept-build.json` has it."""
+    expect = ',"expect":"%s"' % one["expect"] if "expect" in one else ""
+    return '{"path":%s,"scale":%d,"shift":%s%s}' % (quoted(one["path"]), one["scale"], row_text(one["shift"]), expect)
+
+
+def field_texts(kept, bounds):
+    """The members of `ept-build.json` but the inputs, in order."""
+    return {"scale": str(kept["scale"]), "offset": row_text(kept["offset"]), "bounds": row_text(bounds),
+            "span": str(kept["span"]), "minNodeSize": str(kept["minNodeSize"]), "maxDepth": str(kept["maxDepth"]),
+            "hierarchyStep": str(kept["hierarchyStep"]), "srs": srs_text(kept["srs"])}
+
+
+def build_text(kept, bounds):
+    """The text of `ept-build.json`."""
+    members = field_texts(kept, bounds) | {"input": "[" + ",".join(map(input_text, kept["input"])) + "]"}
+    return "{" + ",".join('"%s":%s' % member for member in members.items()) + "}"
+
+
+def output(kept, counts, bounds, nodes, cube):
+    """The files of the output: `counts` has the number of points of each input and their extent, or None."""
     scale = kept["scale"]
     corners = lambda box: "[" + ",".join(decimal_text(n + kept["offset"][i % 3] * 10 ** scale, scale)
                                          for i, n in enumerate(box)) + "]"
-    points = [point for those in sources for point in those]
-    srs = "{" + ",".join("%s:%s" % (quoted(key), quoted(text)) for key, text in kept["srs"].items()) + "}"
+    extent = extent_of_boxes([box for _, box in counts if box])
     schema = ['{"name":"%s","type":"signed","size":4,"scale":%s,"offset":%d}' % (name, decimal_text(1, scale), by)
               for name, by in zip("XYZ", kept["offset"])]
     schema += ['{"name":"%s","type":"%s","size":%d}' % row for row in DIMENSIONS]
@@ -340,21 +402,14 @@ def output(kept, sources, bounds, nodes, cube):
     texts = hierarchy_files({key: len(those) for key, those in nodes.items()}, kept["hierarchyStep"])
     texts["ept.json"] = ('{"bounds":%s,"boundsConforming":%s,"dataType":"binary","hierarchyType":"json","points":%d,'
                          '"schema":[%s],"span":%d,"srs":%s,"version":"1.1.0"}') % (
-        corners(cube), corners(extent_of(points) if points else bounds), len(points), ",".join(schema), kept["span"],
-        srs)
+        corners(cube), corners(extent or bounds), sum(count for count, _ in counts), ",".join(schema), kept["span"],
+        srs_text(kept["srs"]))
     rows = []
-    for one, those in zip(kept["input"], sources):
-        box = ',"bounds":' + corners(extent_of(those)) if those else ""
-        rows.append('{"path":%s,"points":%d%s,"inserted":true}' % (quoted(one["path"]), len(those), box))
+    for one, (count, box) in zip(kept["input"], counts):
+        text = ',"bounds":' + corners(box) if box else ""
+        rows.append('{"path":%s,"points":%d%s,"inserted":true}' % (quoted(one["path"]), count, text))
     texts["ept-sources/manifest.json"] = "[" + ",".join(rows) + "]"
-    row = lambda values: "[" + ",".join(map(str, values)) + "]"
-    inputs = ",".join('{"path":%s,"scale":%d,"shift":%s%s}' % (
-        quoted(one["path"]), one["scale"], row(one["shift"]),
-        ',"expect":"%s"' % one["expect"] if "expect" in one else "") for one in kept["input"])
-    texts["ept-build.json"] = ('{"scale":%d,"offset":%s,"bounds":%s,"span":%d,"minNodeSize":%d,"maxDepth":%d,'
-                               '"hierarchyStep":%d,"srs":%s,"input":[%s]}') % (
-        scale, row(kept["offset"]), row(bounds), kept["span"], kept["minNodeSize"], kept["maxDepth"],
-        kept["hierarchyStep"], srs, inputs)
+    texts["ept-build.json"] = build_text(kept, bounds)
     files.update((name, text.encode()) for name, text in texts.items())
     return files
 
@@ -371,6 +426,6 @@ def model(config, files):
         nodes, cube = sample(points, bounds, kept["span"], kept["minNodeSize"], kept["maxDepth"])
         if len(nodes) > kept["maxNodes"]:
             raise Refused("error 5 nodes")
-        return "points %d nodes %d" % (len(points), len(nodes)), 0, output(kept, sources, bounds, nodes, cube)
+        return "points %d nodes %d" % (len(points), len(nodes)), 0, output(kept, list(map(count_of, sources)), bounds, nodes, cube)
     except Refused as refused:
         return refused.line, refused.status, {}
