@@ -10,7 +10,8 @@ use Rattle.ept_space.specs.declared.bounds.Bounds.{Bounds}
 use Rattle.ept_config.specs.declared.input.Input.{Input}
 use Rattle.ept_scan.specs.declared.reading.Reading.{Reading}
 use Rattle.ept_scan.specs.declared.scan_done.ScanDone.{ScanDone}
-use Rattle.ept_scan.specs.Extents.{IsWithin, IsAllowed}
+use Rattle.ept_config.specs.Extents.{IsWithin}
+use Rattle.ept_scan.specs.Extents.{IsAllowed}
 use Rattle.ept_scan.specs.Scans.{in_order, HasPointsAt, IsScan}
 use Rattle.ept_scan.proofs.Rereading.{reread}
 use Rattle.ept_scan.proofs.Sound.{all_within}

@@ -14,7 +14,8 @@ use Rattle.ept_scan.specs.declared.reading.Reading.{Reading}
 use Rattle.ept_scan.specs.declared.scan_error.ScanError.TheVariants.{BadLas, OutOfBounds}
 use Rattle.ept_scan.specs.declared.record.Found.{Found}
 use Rattle.ept_scan.specs.declared.record.Found.TheVariants as found
-use Rattle.ept_scan.specs.Extents.{IsAllowed, HasExtent, IsExtentOf}
+use Rattle.ept_config.specs.Extents.{HasExtent, IsExtentOf}
+use Rattle.ept_scan.specs.Extents.{IsAllowed}
 use Rattle.ept_scan.specs.LasFile.{IsWhole, IsTruncated, IsPointAt, IsOutsideAt, AreFirstPoints}
 use Rattle.ept_scan.specs.Records.{Takes, ReadsNext}
 use Rattle.ept_scan.specs.Refusals.{RecordsAreRefused}

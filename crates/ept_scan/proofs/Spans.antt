@@ -12,7 +12,8 @@ use Rattle.ept_space.specs.declared.bounds.Bounds.{Bounds}
 use Rattle.ept_space.specs.Place.{coordinate}
 use Rattle.ept_space.specs.ClosedBox.{IsBetween}
 use Rattle.ept_space.proofs.Intervals.{all-three}
-use Rattle.ept_scan.specs.Extents.{IsWithin, IsSpanOf, IsExtentOf, HasExtent, IsLeast, IsGreatest}
+use Rattle.ept_config.specs.Extents.{IsWithin, IsSpanOf, IsExtentOf, HasExtent}
+use Rattle.ept_scan.specs.Extents.{IsLeast, IsGreatest}
 
 -- what a test of an axis says of the numbers that were read
 pub plain_between : (test : Bool) (least greatest at : ℤ) → FitsSigned w32 least → FitsSigned w32 greatest → FitsSigned w32 at → IsTrue test ↔ IsBetween (to_z w32 (of_z w32 least)) (to_z w32 (of_z w32 greatest)) (to_z w32 (of_z w32 at)) → IsTrue test ↔ IsBetween least greatest at

@@ -3,7 +3,8 @@
 ghost use Rattle.std.specs.Prelude.{◌↔◌, List, [], ◌∷◌, ◌++◌, IsTrue};
 ghost use Rattle.ept_point.specs.declared.point.Point as at;
 ghost use Rattle.ept_space.specs.ClosedBox.{IsBetween};
-ghost use Rattle.ept_scan.specs.Extents.{IsWithin, IsAllowed, IsExtentOf, HasExtent, IsLeast, IsGreatest};
+ghost use Rattle.ept_config.specs.Extents.{IsWithin, IsExtentOf, HasExtent};
+ghost use Rattle.ept_scan.specs.Extents.{IsAllowed, IsLeast, IsGreatest};
 
 use ept_point::Point;
 use ept_space::Bounds;
