@@ -25,10 +25,13 @@ IsHierarchyName name =
 abbrev pub IsServedName : List ℕ → Type 0
 IsServedName name = IsTextName name ⊎ (IsTileName name ⊎ IsHierarchyName name)
 
--- the target of a query: its box and its depths
-abbrev pub IsQueryTarget : List ℕ → Box3 → ℕ → ℕ → Type 0
-IsQueryTarget target area first last =
-    (box depths : List ℕ) × (target ≡ codes "/query?box=" ++ (box ++ (codes "&depths=" ++ depths))) × IsBoxText box area × IsDepthsText depths first last
+-- the target of a query: the texts of its box and of its depths
+pub record IsQueryTarget (target : List ℕ) (area : Box3) (first last : ℕ) : Type 0 where
+  pub box : List ℕ
+  pub depths : List ℕ
+  pub spelled : target ≡ codes "/query?box=" ++ (box ++ (codes "&depths=" ++ depths))
+  pub is_box : IsBoxText box area
+  pub are_depths : IsDepthsText depths first last
 
 -- a target names a file by a slash and the file's name, or a query
 abbrev pub Names : List ℕ → Asked → Type 0

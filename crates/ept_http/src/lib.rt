@@ -9,7 +9,11 @@ mod answer;
 mod asked;
 mod fields;
 mod query;
+mod request;
+mod target;
 
 pub use answer::{HeadKind, response_head};
 pub use asked::Asked;
 pub use query::{read_box, read_depths};
+pub use request::read_request;
+
