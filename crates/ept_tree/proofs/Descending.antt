@@ -32,7 +32,7 @@ descent-begins rules arrivals next nodes none = λ points left tree. (
 
 pub whole-begins : (arrivals next : List Arrival) (nodes : List Branch) → next ≡ [] → StaysWhole arrivals nodes (arrivals ++ next) nodes
 whole-begins arrivals next nodes none whole =
-    subst (λ (w : List Arrival). AreWhole w (map entry_of nodes)) (sym (ap (λ (w : List Arrival). arrivals ++ w) none ∙ append-nil arrivals)) whole
+    (subst (λ (w : List Arrival). AreWhole w (map entry_of nodes)) (sym (ap (λ (w : List Arrival). arrivals ++ w) none ∙ append-nil arrivals)) whole, λ key is. is)
 
 module _ (rules rules' : Rules) (same_rules : rules' ≡ rules) (arrivals next : List Arrival) (i : ℕ) (a : Arrival) (low : i < length arrivals) (a_is : a ≡ get_or arrivals i a) (old now : List Branch) (so_far : Becomes rules arrivals old (drop i arrivals ++ next) now) where
   at_front : drop i arrivals ≡ a ∷ drop (i + 1) arrivals
@@ -57,9 +57,9 @@ module _ (rules rules' : Rules) (same_rules : rules' ≡ rules) (arrivals next :
     -- and the nodes are whole with them
     pub whole-goes-on : StaysWhole arrivals old (drop i arrivals ++ next) now → StaysWhole arrivals old (drop (i + 1) arrivals ++ next') new
     whole-goes-on before whole =
-        let t = arrived.whole others (subst (λ (w : List Arrival). AreWhole (w ++ next) (map entry_of now)) at_front (before whole)) in
+        let t = arrived.whole others (subst (λ (w : List Arrival). AreWhole (w ++ next) (map entry_of now)) at_front (before whole).0) in
         let same : others ++ arrived.sent ≡ drop (i + 1) arrivals ++ next' = append_assoc (drop (i + 1) arrivals) next arrived.sent ∙ ap (λ (w : List Arrival). drop (i + 1) arrivals ++ w) (sym arrived.grows) in
-        subst (λ (w : List Arrival). AreWhole w (map entry_of new)) same t
+        (subst (λ (w : List Arrival). AreWhole w (map entry_of new)) same t.0, λ key is. t.1 key ((before whole).1 key is))
 
     -- one depth below
     pub descent-deepens : ((depth : ℕ) → AreAtDepth depth arrivals → AreAtDepth (depth + 1) next) → (depth : ℕ) → AreAtDepth depth arrivals → AreAtDepth (depth + 1) next'
@@ -85,4 +85,4 @@ descent-ends rules arrivals next i old now end so_far = λ points left tree. (
 
 pub whole-ends : (arrivals next : List Arrival) (i : ℕ) (old now : List Branch) → i ≡ length arrivals → StaysWhole arrivals old (drop i arrivals ++ next) now → StaysWhole arrivals old next now
 whole-ends arrivals next i old now end so_far whole =
-    subst (λ (w : List Arrival). AreWhole (w ++ next) (map entry_of now)) (none-left arrivals i end) (so_far whole)
+    (subst (λ (w : List Arrival). AreWhole (w ++ next) (map entry_of now)) (none-left arrivals i end) (so_far whole).0, (so_far whole).1)

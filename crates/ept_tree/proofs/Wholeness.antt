@@ -23,7 +23,7 @@ use Rattle.ept_core.proofs.NodeMap.{node_at-here, node_at-other, has_node-with, 
 use Rattle.ept_tree.specs.declared.arrival.Arrival.{Arrival}
 use Rattle.ept_tree.specs.Sending.{arrival_at, arrivals_to, sending}
 use Rattle.ept_tree.specs.Tree.{Branch, node_of, entry_of}
-use Rattle.ept_tree.specs.Whole.{IsKnown, IsBelowOpen, AreWhole, StaysWhole, HasOpened}
+use Rattle.ept_tree.specs.Whole.{IsKnown, IsBelowOpen, AreWhole, KeepsNodes, StaysWhole, HasOpened}
 use Rattle.ept_tree.proofs.Branches.{branch, entry-some, entry-none, entries-set, entries-insert}
 use Rattle.ept_tree.proofs.Growing.{has_open_then, blank_closed}
 
@@ -166,12 +166,12 @@ module _ (nodes : List Branch) (a : Arrival) (others : List Arrival) (old new : 
       let there = found-some es a.key (node_of old) (entry-some nodes a.key old found) in
       let are : map entry_of (set_value (is_at (key_cmp a.key)) nodes new) ≡ with_node es a.key (node_of new) =
       entries-set nodes a.key new ∙ set_value-with es a.key (node_of new) (IsRising-AllPairs (keys_of es) whole.ascend) there.0 in
-      subst (λ (w : List Entry). AreWhole (others ++ sending a.key leaving) w) (sym are) (landed-whole es a others new leaving old.mask (λ o low. ap (λ (n : core.Node). has_open n o) there.1 ∙ has_open_then old o low) opening whole)
+      subst (λ (w : List Entry). AreWhole (others ++ sending a.key leaving) w × KeepsNodes es w) (sym are) (landed-whole es a others new leaving old.mask (λ o low. ap (λ (n : core.Node). has_open n o) there.1 ∙ has_open_then old o low) opening whole, has_node-with es a.key (node_of new))
 
   pub new-whole : None ≡ lookup (is_at (key_cmp a.key)) nodes → old.mask ≡ 0 → StaysWhole (a ∷ others) nodes (others ++ sending a.key leaving) (insert_entry key_cmp nodes a.key new)
   new-whole absent none whole =
       let there = found-none es a.key (entry-none nodes a.key absent) in
-      subst (λ (w : List Entry). AreWhole (others ++ sending a.key leaving) w) (sym (entries-insert nodes a.key new)) (landed-whole es a others new leaving old.mask (λ o low. ap (λ (n : core.Node). has_open n o) there.1 ∙ (blank_closed o low ∙ ap (λ (m : ℕ). opened m o) (sym none))) opening whole)
+      subst (λ (w : List Entry). AreWhole (others ++ sending a.key leaving) w × KeepsNodes es w) (sym (entries-insert nodes a.key new)) (landed-whole es a others new leaving old.mask (λ o low. ap (λ (n : core.Node). has_open n o) there.1 ∙ (blank_closed o low ∙ ap (λ (m : ℕ). opened m o) (sym none))) opening whole, has_node-with es a.key (node_of new))
 
 -- ---- the root alone, and a point on its way to it
 

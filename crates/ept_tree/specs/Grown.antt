@@ -5,7 +5,7 @@ use Rattle.ept_space.specs.declared.cube.Rules.{Rules}
 use Rattle.ept_grid.specs.Outgoing.{Leaving, points_at}
 use Rattle.ept_tree.specs.declared.octree.Tree.{Tree}
 use Rattle.ept_tree.specs.Tree.{Branch, entry_of, points_in, AreNodes, IsTree}
-use Rattle.ept_tree.specs.Whole.{AreWhole}
+use Rattle.ept_tree.specs.Whole.{AreWhole, StaysWhole}
 
 -- the rules of its sampling
 abbrev pub rules_of : Tree → Rules
@@ -31,6 +31,10 @@ pub record IsAtRest (tree : Tree) : Type 0 where
 -- its nodes are a whole octree, whatever points they have
 abbrev pub IsWhole : Tree → Type 0
 IsWhole tree = AreWhole [] (map entry_of (nodes_of tree))
+
+-- a tree that was whole is whole, and no node is gone
+abbrev pub GrowsWhole : Tree → Tree → Type 0
+GrowsWhole old new = StaysWhole [] (nodes_of old) [] (nodes_of new)
 
 -- of these points, all but those left were brought in
 abbrev pub HasTaken : List Point → List Point → Tree → Type 0

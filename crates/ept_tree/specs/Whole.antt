@@ -29,10 +29,14 @@ pub record AreWhole (arrivals : List Arrival) (entries : List Entry) : Type 0 wh
   pub below_open : (key : VoxelKey) → IsKnown arrivals entries key → (key ≡ root) ⊎ IsBelowOpen entries key
   pub open_leads : (key : VoxelKey) (o : ℕ) → o < 8 → has_open (node_at entries key) o ≡ true → IsKnown arrivals entries (child key o)
 
--- nodes that were whole with those on their way are whole with these
+-- each node is still there
+abbrev pub KeepsNodes : List Entry → List Entry → Type 0
+KeepsNodes old new = (key : VoxelKey) → has_node old key ≡ true → has_node new key ≡ true
+
+-- nodes that were whole with those on their way are whole with these, and none is gone
 abbrev pub StaysWhole : List Arrival → List Branch → List Arrival → List Branch → Type 0
 StaysWhole arrivals nodes arrivals' nodes' =
-    AreWhole arrivals (map entry_of nodes) → AreWhole arrivals' (map entry_of nodes')
+    AreWhole arrivals (map entry_of nodes) → AreWhole arrivals' (map entry_of nodes') × KeepsNodes (map entry_of nodes) (map entry_of nodes')
 
 -- Open octants of a node stay open, a point leaves for each that opens, and none leaves for another.
 pub record HasOpened (mask mask' : ℕ) (leaving : List Leaving) : Type 0 where

@@ -15,7 +15,7 @@ ghost use Rattle.ept_grid.specs.Outgoing.{points_at, all_points};
 ghost use Rattle.ept_tree.specs.Tree.{on_the_way, AreNodes, IsPlaced, ArePlaced, GoDown, Becomes, AreAtDepth};
 ghost use Rattle.ept_tree.specs.Landing.{HasLanded, HasArrived};
 ghost use Rattle.ept_tree.specs.Whole.{StaysWhole, HasOpened};
-ghost use Rattle.ept_tree.specs.Grown.{rules_of, nodes_of, points_of, IsAtRest, IsWhole, HasTaken};
+ghost use Rattle.ept_tree.specs.Grown.{rules_of, nodes_of, points_of, IsAtRest, IsWhole, GrowsWhole, HasTaken};
 ghost use Rattle.ept_tree.specs.declared.arrival.Arrival.{Arrival};
 
 use crate::arrival::{Arrival, send_on};
@@ -97,7 +97,7 @@ impl Tree {
         // octree where they were one.
         ensures together { OnOk result ((test : Point → Bool) → count_by test (points_of self.new)
             ≡ count_by test given.now + count_by test (points_of self.old)) }
-        ensures whole { OnOk result (IsWhole self.old → IsWhole self.new) }
+        ensures whole { OnOk result (GrowsWhole self.old self.new) }
 
         // Where the points have different ids, the tree has taken these too, or they are too many for it.
         ensures taken { OnOk result ((points left : List Point) → HasTaken points (given.now ++ left) self.old
@@ -123,7 +123,7 @@ impl Tree {
         ensures rest { OnOk result (IsAtRest self.new) }
         ensures together { OnOk result ((test : Point → Bool) → count_by test (points_of self.new)
             ≡ count_by test (point ∷ points_of self.old)) }
-        ensures whole { OnOk result (IsWhole self.old → IsWhole self.new) }
+        ensures whole { OnOk result (GrowsWhole self.old self.new) }
         ensures taken { OnOk result ((points left : List Point) → HasTaken points (point ∷ left) self.old
             → HasTaken points left self.new) }
     {
