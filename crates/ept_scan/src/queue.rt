@@ -49,7 +49,7 @@ impl<S: Source> Queue<S> {
         ensures rest { (points : List at.Point) → RestOf S.whole self.old points
             → IfOk result (λ p. (rest : List at.Point) × (points ≡ p ∷ rest)
             × RestOf S.whole self.new rest) }
-        ensures unchanged { (points : List at.Point) → RestOf S.whole self.old points
+        ensures no_change { (points : List at.Point) → RestOf S.whole self.old points
             → (source number : ℕ) → result ≢ Err (ReadError.SourceChanged source number) }
         ensures changed { IfErr result (IfChanged
             (HasChanged (held_of S.whole self.old) (records_left self.old))) }
@@ -91,8 +91,8 @@ impl<S: Source> Queue<S> {
         ensures rest { (points : List at.Point) → RestOf S.whole self.old points
             → OnOk result ((out.new.items ≡ out.old.items ++ take count points)
             × RestOf S.whole self.new (drop count points)) }
-        ensures refused { OnErr result (out.new.items ≡ out.old.items) }
-        ensures unchanged { (points : List at.Point) → RestOf S.whole self.old points
+        ensures unchanged { OnErr result (out.new.items ≡ out.old.items) }
+        ensures no_change { (points : List at.Point) → RestOf S.whole self.old points
             → (source number : ℕ) → result ≢ Err (ReadError.SourceChanged source number) }
         ensures changed { IfErr result (IfChanged
             (IsFirstChanged (held_of S.whole self.old) (records_left self.old) count)) }
