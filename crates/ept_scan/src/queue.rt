@@ -38,6 +38,7 @@ struct Drawn {
 
 impl<S: Source> Queue<S> {
     /// Reads the next record, of which there is one.
+    #[inline(always)]
     pub(crate) fn next(&mut self) -> Result<Point, ReadError>
         requires queue { IsQueue S.whole S.left S.given self.old }
         requires more { self.old.at < length self.old.parts.items }
@@ -118,6 +119,7 @@ impl<S: Source> Queue<S> {
 }
 
 // Reads the next record of a file, and rewinds the file behind the last one.
+#[inline(always)]
 fn draw_on<S: Source>(
     window: &mut Window,
     part: &mut Part<S>,
