@@ -14,7 +14,7 @@ import struct
 from pathlib import Path
 
 TOP = Path(__file__).resolve().parent.parent
-PROGRAM = Path(os.environ.get("EPT_TOOL", TOP / "crates/ept_tool/out/ept_tool"))
+PROGRAM = Path(os.environ.get("EPT_TOOL", TOP / "crates/ept_tool/out/ept_tool")).absolute()
 KEYS = ["input", "scale", "offset", "bounds", "span", "minNodeSize", "maxDepth", "hierarchyStep", "srs",
         "threads", "cacheSize", "maxNodes", "checkpoint"]
 SRS_KEYS = ["authority", "horizontal", "vertical", "wkt"]
