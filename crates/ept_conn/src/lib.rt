@@ -6,7 +6,8 @@
 #![tactic(auto)]
 
 mod conn;
+mod head;
 mod turn;
 
-
+pub use conn::{Conn, ConnError};
 pub use turn::Turn;
