@@ -8,6 +8,7 @@
 
 mod errors;
 mod gate;
+mod kept;
 mod loops;
 mod sink;
 mod source;
@@ -16,6 +17,7 @@ mod store;
 
 pub use errors::{Failed, GetError, PutError};
 pub use gate::{Gate, OpenGate};
+pub use kept::put_kept;
 pub use loops::{read_full, write_full};
 pub use sink::Sink;
 pub use source::{Shelf, Source};

@@ -12,11 +12,10 @@ pub enum HierError {
     /// The bytes are not the text of a JSON object.
     #[error("the text is no JSON object")]
     Json,
-    /// A name is the text of no key, and each name before it, by its bytes, is a key's with a count.
+    /// The bytes are the text of an object, and a name is the text of no key.
     #[error("a name is no key")]
     Key,
-    /// The value of a key is no whole number of 64 bits from -1 up, and each name before it is a key's
-    /// with a count.
+    /// Each name is a key's, and a value is no whole number of 64 bits from -1 up.
     #[error("a value is no count")]
     Count,
     /// Memory ran out.

@@ -1,5 +1,6 @@
 pub mod Crash
 pub mod Disk
+pub mod Fuse
 pub mod Named
 pub mod Objects
 pub mod Plans

@@ -1,9 +1,10 @@
 -- What the objects in memory hold.
-use Rattle.std.specs.Prelude.{◌≡◌, ℕ, List, [], length, map, drop, string_bytes}
+use Rattle.std.specs.Prelude.{◌≡◌, ℕ, Option, List, [], length, map, drop, string_bytes}
 use Rattle.ept_base.specs.Files.{Files}
 use Rattle.ept_mem.specs.Named.{content_of}
 use Rattle.ept_mem.specs.Disk.{Disk, disk, IsImage, WasImageSince}
 use Rattle.ept_mem.specs.declared.plan.Plan.{Plan}
+use Rattle.ept_mem.specs.declared.plan.FusedPlan.{FusedPlan}
 use Rattle.ept_mem.specs.declared.source.MemSource.{MemSource}
 use Rattle.ept_mem.specs.declared.source.MemShelf.{MemShelf}
 use Rattle.ept_mem.specs.declared.sink.MemSink.{MemSink}
@@ -51,7 +52,7 @@ spill_plan spill = spill.plan
 abbrev pub room_plan : MemRoom → Plan
 room_plan room = room.plan
 
-abbrev pub store_plan : MemStore → Plan
+abbrev pub store_plan : MemStore → FusedPlan
 store_plan store = store.plan
 
 -- how many bytes a sink takes in a write, at most
@@ -75,7 +76,7 @@ abbrev pub room_calls : MemRoom → ℕ
 room_calls room = room.plan.calls
 
 abbrev pub store_calls : MemStore → ℕ
-store_calls store = store.plan.calls
+store_calls store = store.plan.plan.calls
 
 -- the numbers of the calls that are to fail, and of those of the sources and files that an object makes
 abbrev pub source_fails : MemSource → List ℕ
@@ -100,7 +101,11 @@ abbrev pub room_file_fails : MemRoom → List ℕ
 room_file_fails room = room.file_fails.items
 
 abbrev pub store_fails : MemStore → List ℕ
-store_fails store = store.plan.fails.items
+store_fails store = store.plan.plan.fails.items
+
+-- how many calls more a store's fuse passes, where it has one
+abbrev pub store_fuse : MemStore → Option ℕ
+store_fuse store = store.plan.fuse
 
 -- the counts of faults
 abbrev pub source_faults : MemSource → ℕ
@@ -119,7 +124,7 @@ abbrev pub room_faults : MemRoom → ℕ
 room_faults room = room.plan.faults
 
 abbrev pub store_faults : MemStore → ℕ
-store_faults store = store.plan.faults
+store_faults store = store.plan.plan.faults
 
 -- the counts of the bytes that a source gave, and that the sources of a shelf gave that it took back
 abbrev pub source_given : MemSource → ℕ

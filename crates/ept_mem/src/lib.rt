@@ -5,6 +5,7 @@
 //! images that a crash may leave follow.
 #![tactic(auto)]
 
+mod crash;
 mod named;
 mod plan;
 mod sink;
@@ -12,6 +13,7 @@ mod source;
 mod spill;
 mod store;
 
+pub use crash::Crash;
 pub use sink::MemSink;
 pub use source::{MemShelf, MemSource};
 pub use spill::{MemRoom, MemSpill};

@@ -27,7 +27,7 @@ use Rattle.ept_scan.proofs.Asked.{some_of}
 use Rattle.ept_scan.proofs.Taking.{taken_none}
 
 -- the lengths of the first lists are those that the counts state
-total_length : (lists : List (List Point)) (counts : List SourceCount) (n : ℕ) → AllZip IsCountOf lists counts → length (in_order (take n lists)) ≡ total (take n counts)
+pub total_length : (lists : List (List Point)) (counts : List SourceCount) (n : ℕ) → AllZip IsCountOf lists counts → length (in_order (take n lists)) ≡ total (take n counts)
 total_length [] [] zero zip = refl
 total_length [] [] (suc n) zip = refl
 total_length [] (c ∷ counts) n zip = absurd zip

@@ -1,0 +1,4 @@
+mod Marks
+mod Numbers
+mod QueryLemmas
+mod TargetLemmas
