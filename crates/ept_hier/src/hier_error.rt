@@ -4,22 +4,17 @@ ghost use Rattle.std.specs.Prelude.{◌≡◌};
 
 use ept_json::JsonError;
 use ept_point::Memory;
-use thiserror::Error;
 
 /// Why bytes are no hierarchy file.
-#[derive(Clone, Copy, Debug, PartialEq, Eq, Error)]
+#[derive(Clone, Copy, Debug, PartialEq, Eq)]
 pub enum HierError {
     /// The bytes are not the text of a JSON object.
-    #[error("the text is no JSON object")]
     Json,
     /// The bytes are the text of an object, and a name is the text of no key.
-    #[error("a name is no key")]
     Key,
     /// Each name is a key's, and a value is no whole number of 64 bits from -1 up.
-    #[error("a value is no count")]
     Count,
     /// Memory ran out.
-    #[error("out of memory")]
     Memory,
 }
 

@@ -2,3 +2,4 @@ mod Marks
 mod Numbers
 mod QueryLemmas
 mod TargetLemmas
+mod OneAnswer

@@ -24,8 +24,7 @@ found-mark mark front rest text r clean spelled found =
 pub parts-mark : (mark : ℕ) (front rest text : List ℕ) (at : ℕ) → text ≡ front ++ mark ∷ rest → at ≡ length front → (take at text ≡ front) × (take (length text - (at + 1)) (drop (at + 1) text) ≡ rest)
 parts-mark mark front rest text at spelled here =
     let grouped : text ≡ (front ++ mark ∷ []) ++ rest = spelled ∙ sym (append_assoc front (mark ∷ []) rest) in
-    let behind : length (front ++ mark ∷ []) ≡ at + 1 = omega (arith, length_push front mark) in
-    (
+    let behind : length (front ++ mark ∷ []) ≡ at + 1 = omega (arith, length_push front mark) in (
       ap (take at) spelled ∙ take_at front (mark ∷ rest) at (sym here),
       take_rest text (at + 1) ∙ ap (drop (at + 1)) grouped ∙ drop_at (front ++ mark ∷ []) rest (at + 1) behind,
     )

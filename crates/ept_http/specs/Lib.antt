@@ -4,3 +4,4 @@ pub mod QueryWords
 pub mod Targets
 pub mod Answers
 pub mod AnswerHead
+pub mod Laws

@@ -8,12 +8,15 @@
 mod answer;
 mod asked;
 mod fields;
+mod laws;
 mod query;
 mod request;
 mod target;
+#[cfg(test)]
+mod tests;
 
 pub use answer::{HeadKind, response_head};
 pub use asked::Asked;
+pub use laws::{one_answer_law, query_words_law};
 pub use query::{read_box, read_depths};
 pub use request::read_request;
-

@@ -1,11 +1,12 @@
 //! The head of a request (RFC 9112, sections 2 and 3).
 
-ghost use Rattle.std.specs.Prelude.{◌≡◌, List, ℕ, IfSome, IfNone, IfOk, length};
+ghost use Rattle.std.specs.Prelude.{◌≡◌, List, ℕ, Bool, IfSome, IfNone, IfOk, length};
 ghost use Rattle.httparse.specs.Grammar.{RequestHead};
 ghost use Rattle.httparse.specs.Spans.{IsRequestWithin, IsRequestAt};
+ghost use Rattle.ept_http.specs.declared.asked.Asked.{Asked};
 ghost use Rattle.ept_http.specs.WholeHead.{IsHead, lines_of};
 ghost use Rattle.ept_http.specs.Fields.{has_close};
-ghost use Rattle.ept_http.specs.Answers.{refusal_of, closes, HeadAsks, is_last, IsAnswer};
+ghost use Rattle.ept_http.specs.Answers.{refusal_of, closes, HeadAsks, is_last, IsAnswer, IsJudge};
 
 use crate::asked::Asked;
 use crate::fields::{has_close, is_faulty};
@@ -26,6 +27,7 @@ const MAX_FIELDS: usize = 64;
 /// Want of memory for the name of a file.
 pub fn read_request(alloc: Global, head: &[u8]) -> Result<(Asked, bool), Memory>
     ensures answer { IfOk result (λ answer. IsAnswer head.now answer.0 answer.1) }
+    ensures judged { (judge : List ℕ → Asked × Bool) → IsJudge judge → IfOk result (λ answer. answer ≡ judge head.now) }
 {
     let mut lines = [EMPTY_HEADER_SPAN; MAX_FIELDS];
     let Some(found) = whole_head(head, &mut lines) else {

@@ -49,7 +49,7 @@ impl<T: Drop> From<AllocFailed<T>> for TileError {
 /// Appends the packed points.
 pub fn tile_bytes(points: &[Point], out: &mut Vec<u8>) -> Result<(), Memory>
     ensures ok { OnOk result (out.new.items ≡ out.old.items ++ tile points.now) }
-    ensures err { OnErr result (out.new.items ≡ out.old.items) }
+    ensures unchanged { OnErr result (out.new.items ≡ out.old.items) }
 {
     let kept = out.len();
     for point in points {
@@ -114,7 +114,7 @@ fn read_points(bytes: &[u8], out: &mut Vec<Point>) -> Result<(), TileError>
 pub fn read_tile(bytes: &[u8], out: &mut Vec<Point>) -> Result<(), TileError>
     ensures ok { OnOk result ((points : List Point) × ReadsAs bytes.now (Ok points) × (out.new.items ≡ out.old.items ++ points)) }
     ensures fault { IfErr result (λ e. e ≢ TileError.Memory → ReadsAs bytes.now (Err e)) }
-    ensures err { OnErr result (out.new.items ≡ out.old.items) }
+    ensures unchanged { OnErr result (out.new.items ≡ out.old.items) }
 
     // Bytes read in one way, so this says what comes exactly where, unless memory runs out.
     ensures exact { (reading : Result (List Point) TileError) → ReadsAs bytes.now reading

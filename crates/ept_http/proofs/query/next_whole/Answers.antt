@@ -15,8 +15,7 @@ returns-in_err-number-clause-found c = λ n rest fits spelled.
 pub returns-clause-found : goal.returns-clause-found
 returns-clause-found c = λ n rest fits spelled.
     let parts = c.in_ok-digits.ensures.found _ rest (number-lacks 44 n (lit< tt) fits) spelled in
-    let small : FitsSigned w64 c.in_ok-number.number = search rules in
-    (
+    let small : FitsSigned w64 c.in_ok-number.number = search rules in (
       to_z-of_z w64 c.in_ok-number.number small ∙ one-number _ n _ small fits c.in_ok-number.ensures.read parts.0,
       parts.1,
     )
