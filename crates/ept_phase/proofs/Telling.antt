@@ -1,14 +1,15 @@
 -- Lines and the nodes of which they tell: one is a whole octree where the other is.
-use Rattle.std.proofs.Common.{◌≡◌, ◌∙◌, ◌⊎◌, ℕ, zero, suc, ◌+◌, ◌<◌, ◌==◌, Bool, true, false, cond, inl, inr, List, [], ◌∷◌, ◌++◌, map, refl, sym, ap, subst, arith, length}
+use Rattle.std.proofs.Common.{◌≡◌, ◌∙◌, ◌⊎◌, ℕ, zero, suc, ◌+◌, ◌<◌, ◌^◌, ◌==◌, ◌||◌, Bool, true, false, cond, inl, inr, List, [], ◌∷◌, ◌++◌, map, refl, sym, ap, subst, arith, length}
 use Rattle.std.specs.Prelude.{All, AllPairs, sum_by}
 use Rattle.std.specs.Int.{bit_at}
 use Rattle.std.specs.List.{AllZip, flat_map}
 use Rattle.std.specs.declared.cmp.Ordering.TheVariants.{Less}
 use Rattle.std.proofs.lemmas.List.{length-append}
+use Rattle.std.proofs.lemmas.List.Sums.{sum_by-cons}
 use Rattle.ept_point.specs.declared.point.Point.{Point}
 use Rattle.ept_space.specs.VoxelKey.{VoxelKey, IsKey, root, child, parent, octant_of, same_key, key_cmp}
 use Rattle.ept_space.proofs.Within.{same_key-true, same_key-same}
-use Rattle.ept_space.proofs.Family.{parent-child, octant_of-child, child-parent, depth-child}
+use Rattle.ept_space.proofs.Family.{parent-child, octant_of-child, octant_of-below, child-parent, depth-child}
 use Rattle.ept_sample.specs.Members.{IsMember}
 use Rattle.ept_sample.specs.Nodes.{AreAscending}
 use Rattle.ept_sample.proofs.Members.{member-any, any-member, IsMember-map, member-map, all-member, All-members}
@@ -22,7 +23,6 @@ use Rattle.ept_core.proofs.NodeMap.{node_at-member, has_node-key, key-has_node}
 use Rattle.ept_ckpt.specs.declared.node_line.NodeLine.{NodeLine}
 use Rattle.ept_ckpt.specs.Octree as ckpt
 use Rattle.ept_ckpt.specs.Octree.{AreWholeOctree, AreNodesOf, TellsChildren, HasParent, is_among}
-use Rattle.ept_tree.specs.declared.arrival.Arrival.{Arrival}
 use Rattle.ept_tree.specs.Tree.{Branch, entry_of, node_of, points_in}
 use Rattle.ept_tree.specs.Whole.{IsKnown, IsBelowOpen, AreWhole}
 use Rattle.ept_tree.proofs.Growing.{has_open_then}
@@ -38,9 +38,6 @@ both_ways false false to from = refl
 either : (b : Bool) → (b ≡ true) ⊎ (b ≡ false)
 either true = inl refl
 either false = inr refl
-
-no_node : (b : Bool) → b ≡ false → b ≡ true → ⊥
-no_node b shut open = absurd (cc)
 
 -- ---- keys
 
@@ -84,19 +81,20 @@ counts-told [] [] told = refl
 counts-told [] (l ∷ lines) told = absurd told
 counts-told (b ∷ nodes) [] told = absurd told
 counts-told (b ∷ nodes) (l ∷ lines) told =
-    ap (λ (n : ℕ). n + ckpt.points_in lines) told.0.count ∙ (ap (λ (n : ℕ). length b.1.points + n) (counts-told nodes lines told.1) ∙ sym (length-append b.1.points (points_in nodes)))
+    omega (arith, sum_by-cons (λ (line : NodeLine). line.count) l lines, counts-told nodes lines told.1, told.0.count, length-append b.1.points (points_in nodes))
 
 -- ---- open octants of the entries
+
+open_step : (e : Entry) (es : List Entry) (key : VoxelKey) (o : ℕ) (b : Bool) → same_key e.0 key ≡ b → (has_open (node_at es key) o ≡ true → has_node es key ≡ true) → has_open (node_at (e ∷ es) key) o ≡ true → has_node (e ∷ es) key ≡ true
+unfolding node_at has_node
+open_step e es key o true same more is = ap (λ (c : Bool). c || has_node es key) same
+open_step e es key o false same more is =
+    ap (λ (c : Bool). c || has_node es key) same ∙ more (sym (ap (λ (c : Bool). has_open (cond c e.1 (node_at es key)) o) same) ∙ is)
 
 open_node : (es : List Entry) (key : VoxelKey) (o : ℕ) → has_open (node_at es key) o ≡ true → has_node es key ≡ true
 unfolding node_at has_node
 open_node [] key o is = absurd (blank_open o is)
-open_node (e ∷ es) key o is = at (same_key e.0 key) refl
-  where
-  at : (b : Bool) → same_key e.0 key ≡ b → has_node (e ∷ es) key ≡ true
-  at true same = ap (λ (c : Bool). cond c true (has_node es key)) same
-  at false same =
-      ap (λ (c : Bool). cond c true (has_node es key)) same ∙ open_node es key o (sym (ap (λ (c : Bool). has_open (cond c e.1 (node_at es key)) o) same) ∙ is)
+open_node (e ∷ es) key o is = open_step e es key o (same_key e.0 key) refl (open_node es key o) is
 
 module _ (nodes : List Branch) (ascend : AreAscending (state.keys_of (map entry_of nodes))) where
   abbrev es : List Entry
@@ -231,14 +229,10 @@ module _ (nodes : List Branch) (lines : List NodeLine) (told : TellNodes nodes l
       inr (record {
         above = parent key;
         octant = octant_of key;
-        low = octant-low key;
+        low = octant_of-below key;
         is_child = sym is_key;
-        is_open = ap (λ (k : VoxelKey). has_open (node_at now k) (octant_of key)) (sym p.2) ∙ opens_at p.0 (octant_of key) p.1 (octant-low key) (tells_open p.0 (octant_of key) p.1 (octant-low key) ∙ there);
+        is_open = ap (λ (k : VoxelKey). has_open (node_at now k) (octant_of key)) (sym p.2) ∙ opens_at p.0 (octant_of key) p.1 (octant_of-below key) (tells_open p.0 (octant_of key) p.1 (octant_of-below key) ∙ there);
       })
-    where
-    octant-low : (key : VoxelKey) → octant_of key < 8
-    unfolding octant_of
-    octant-low key = omega arith
 
   top_or_deep : (n : ℕ) → (n ≡ 0) ⊎ (0 < n)
   top_or_deep zero = inl refl
