@@ -14,7 +14,7 @@ import struct
 from pathlib import Path
 
 TOP = Path(__file__).resolve().parent.parent
-PROGRAM = Path(os.environ.get("EPT_TOOL", TOP / "crates/ept_tool/out/ept_tool"))
+PROGRAM = Path(os.environ.get("EPT_TOOL", TOP / "crates/ept_tool/out/ept_tool")).absolute()
 KEYS = ["input", "scale", "offset", "bounds", "span", "minNodeSize", "maxDepth", "hierarchyStep", "srs",
         "threads", "cacheSize", "maxNodes", "checkpoint"]
 SRS_KEYS = ["authority", "horizontal", "vertical", "wkt"]
@@ -302,9 +302,9 @@ def sample(points, bounds, span, threshold, max_depth):
     corner, e, deepest = cube_of(bounds, span, max_depth)
     s = span.bit_length() - 1
     nodes = {}
-    todo = [((0, 0, 0, 0), points)]
-    while todo:
-        key, given = todo.pop()
+    waiting = [((0, 0, 0, 0), points)]
+    while waiting:
+        key, given = waiting.pop()
         depth, side = key[0], 2 ** (e - key[0])
         cell = 2 ** (e - depth - s)
         best = {}
@@ -325,7 +325,7 @@ def sample(points, bounds, span, threshold, max_depth):
             for octant, those in losers.items():
                 if len(those) > threshold:
                     child = (depth + 1,) + tuple(2 * key[i + 1] + (octant >> i & 1) for i in range(3))
-                    todo.append((child, those))
+                    waiting.append((child, those))
                     gone |= {point["id"] for point in those}
         nodes[key] = sorted((point for point in given if point["id"] not in gone), key=lambda point: point["id"])
     return nodes, [*corner, *[n + 2 ** e for n in corner]]

@@ -93,9 +93,9 @@ def meet(one, other):
 
 def counts_of(files, kept, cube, area):
     """The count of each node that the hierarchy files name which a query of this area reads."""
-    counts, todo = {}, [ROOT] if meet(node_box(cube, ROOT), area) else []
-    while todo:
-        top = heapq.heappop(todo)
+    counts, waiting = {}, [ROOT] if meet(node_box(cube, ROOT), area) else []
+    while waiting:
+        top = heapq.heappop(waiting)
         name = "ept-hierarchy/%s.json" % model.key_text(top)
         entries = read_hierarchy(files.get(name))
         if entries is None or not is_file_of(entries, top, kept["hierarchyStep"], cube[2]):
@@ -104,7 +104,7 @@ def counts_of(files, kept, cube, area):
             if count != -1:
                 counts[key] = count
             elif meet(node_box(cube, key), area):
-                heapq.heappush(todo, key)
+                heapq.heappush(waiting, key)
     return counts
 
 

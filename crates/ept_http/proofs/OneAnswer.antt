@@ -1,18 +1,19 @@
 -- One text, one box; one target, one thing that it asks for; one head, one answer.
-use Rattle.std.proofs.Common.{◌≡◌, ◌≢◌, ℕ, ◌+◌, ◌^◌, ◌<◌, ◌≤◌, suc, List, [], ◌∷◌, ◌++◌, length, map, ℤ, pos, FitsSigned, w64, Bool, true, false, ◌||◌, Option, Some, None, refl, sym, ap, subst, ◌∙◌, arith, lit<, decimal, inl, inr, ◌⊎◌}
+use Rattle.std.proofs.Common.{◌≡◌, ◌≢◌, ℕ, ◌<◌, List, [], ◌∷◌, ◌++◌, length, ℤ, pos, FitsSigned, w64, Bool, Option, Some, None, refl, sym, ap, subst, ◌∙◌, arith, lit<, decimal, inl, inr, Result, Ok, Err, OnErr}
 use Rattle.std.specs.Prelude.{codes, MatchOption}
 use Rattle.std.specs.Fmt.{signed_decimal}
-use Rattle.std.specs.List.{AllByRecursion, join_with_byte}
+use Rattle.std.specs.List.{AllByRecursion}
 use Rattle.std.proofs.lemmas.List.{append_cancel_left}
 use Rattle.ept_space.specs.declared.box3.Box3.{Box3}
 use Rattle.ept_space.specs.Place.{coordinate}
 use Rattle.ept_http.specs.declared.asked.Asked.{Asked}
 use Rattle.ept_http.specs.declared.asked.Asked.TheVariants.{File, Query, Refuse}
 use Rattle.ept_http.specs.QueryWords.{IsBoxText, IsDepthsText}
-use Rattle.ept_http.specs.Targets.{IsServedName, IsQueryTarget, Names, AsksFor}
+use Rattle.ept_http.specs.Targets.{IsServedName, IsQueryTarget, AsksFor}
 use Rattle.httparse.specs.Grammar.{RequestHead}
 use Rattle.httparse.proofs.GrammarLemmas.{request_unique}
-use Rattle.ept_http.specs.WholeHead.{IsHead}
+use Rattle.ept_http.specs.WholeHead.{IsHead, lines_of}
+use Rattle.ept_http.specs.Fields.{has_close}
 use Rattle.ept_http.specs.Answers.{refusal_of, HeadAsks, IsAnswerTo, IsAnswer, IsJudge}
 use Rattle.ept_http.proofs.TargetLemmas.{box-lacks}
 use Rattle.ept_http.proofs.Numbers.{number-lacks, one-number}
@@ -128,3 +129,15 @@ pub judged-once : (bytes : List ℕ) (asked : Asked) (last : Bool) (judge : List
 judged-once bytes asked last judge is answer =
     let same = one-answer bytes asked (judge bytes).0 last (judge bytes).1 answer (is bytes) in
     λ i. (same.0 i, same.1 i)
+
+-- ---- want of memory
+
+pub on-err : {T E : Type 0} (r : Result T E) (P : Type 0) → P → OnErr r P
+on-err (Ok x) P h = tt
+on-err (Err e) P h = h
+
+-- a whole head whose target names a file has that answer
+pub named-answer : (bytes : List ℕ) (P : RequestHead → Type 0) → (whole : RequestHead) × (IsHead bytes whole × P whole) → (name : List ℕ) × ((whole : RequestHead) → P whole → HeadAsks whole (File name)) → (name : List ℕ) × (last : Bool) × IsAnswer bytes (File name) last
+named-answer bytes P (whole, (is, at)) (name, asks) =
+    let to : IsAnswerTo whole (File name) (has_close (lines_of whole)) = record { asks = asks whole at; ends = refl } in
+    (name, has_close (lines_of whole), inl (whole, is, to))

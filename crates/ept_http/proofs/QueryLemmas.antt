@@ -1,13 +1,13 @@
 -- The numbers of a box and of a range of depths, one behind the other.
 use mir.Val.{to_z, of_z}
-use Rattle.std.proofs.Common.{◌≡◌, ℕ, ◌+◌, Bool, true, false, ◌&&◌, ◌↔◌, IsTrue, ◌<◌, ◌≤◌, List, [], ◌∷◌, ◌++◌, length, map, ℤ, pos, ◌≤ℤ◌, FitsSigned, w64, refl, sym, ap, subst, ◌∙◌, arith, decimal, Option, Some, None, IfNone}
+use Rattle.std.proofs.Common.{◌≡◌, ℕ, Bool, ◌&&◌, ◌↔◌, IsTrue, ◌≤◌, List, [], ◌∷◌, ◌++◌, length, map, ℤ, pos, ◌≤ℤ◌, FitsSigned, w64, refl, sym, ap, subst, ◌∙◌, arith, Option, Some, None, IfNone}
 use Rattle.std.specs.Fmt.{signed_decimal}
 use Rattle.std.specs.List.{AllByRecursion, join_with_byte}
 use Rattle.ept_space.proofs.Intervals.{all-three}
 use Rattle.ept_space.specs.declared.box3.Box3.{Box3}
 use Rattle.ept_space.specs.Place.{coordinate}
 use Rattle.std.proofs.lemmas.Int.{to_z-of_z}
-use Rattle.ept_http.specs.QueryWords.{IsOrdered, IsBoxText, IsDepthsText}
+use Rattle.ept_http.specs.QueryWords.{IsOrdered, IsBoxText}
 
 -- ---- the order of a box
 

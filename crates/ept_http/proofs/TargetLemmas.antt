@@ -1,5 +1,5 @@
 -- Targets: that a served name is text, and what is not named.
-use Rattle.std.proofs.Common.{◌≡◌, ◌≢◌, ℕ, ◌+◌, ◌^◌, ◌<◌, ◌≤◌, zero, suc, List, [], ◌∷◌, ◌++◌, length, map, ℤ, FitsSigned, w64, Bool, true, false, ltb, refl, sym, ap, subst, ◌∙◌, arith, lit<, inl, inr, ◌⊎◌}
+use Rattle.std.proofs.Common.{◌≡◌, ◌≢◌, ℕ, ◌<◌, List, [], ◌∷◌, ◌++◌, map, ℤ, FitsSigned, w64, true, ltb, refl, sym, subst, arith, lit<, inl, inr}
 use Rattle.std.specs.Prelude.{codes}
 use Rattle.std.specs.Fmt.{signed_decimal}
 use Rattle.std.specs.List.{AllByRecursion, list_all, join_with_byte}
@@ -8,15 +8,13 @@ use Rattle.std.proofs.lemmas.Bool.Decides.{nat_tests}
 use Rattle.std.proofs.lemmas.Str.{IsUtf8-from_ascii, IsAscii-append}
 use Rattle.std.proofs.lemmas.Str.Ascii.{IsAscii-nil, IsAscii-cons}
 use Rattle.ept_space.specs.declared.box3.Box3.{Box3}
-use Rattle.ept_space.specs.VoxelKey.{VoxelKey, IsKey}
 use Rattle.ept_space.specs.KeyText.{key_text}
 use Rattle.ept_space.proofs.KeyTexts.{IsAscii-key_text}
 use Rattle.ept_http.specs.declared.asked.Asked.{Asked}
 use Rattle.ept_http.specs.declared.asked.Asked.TheVariants.{File, Query, Refuse}
 use Rattle.ept_http.specs.QueryWords.{IsBoxText}
-use Rattle.ept_http.specs.Targets.{IsTextName, IsTileName, IsHierarchyName, IsServedName, IsQueryTarget, Names, AsksFor}
+use Rattle.ept_http.specs.Targets.{IsTextName, IsServedName, IsQueryTarget, Names}
 use Rattle.ept_http.proofs.Numbers.{number-lacks}
-use Rattle.ept_http.proofs.QueryLemmas.{split-box}
 
 -- ---- names are text
 

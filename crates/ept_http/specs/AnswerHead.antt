@@ -1,5 +1,5 @@
 -- The head of an answer (RFC 9112, sections 4 to 6): a status line, its fields, and an empty line.
-use Rattle.std.specs.Prelude.{◌≡◌, ◌≢◌, ℕ, List, [], ◌∷◌, ◌++◌, Bool, true, false, ◌==◌, if◌then◌else◌, IsTrue, ⊤, codes, decimal}
+use Rattle.std.specs.Prelude.{ℕ, List, [], ◌∷◌, ◌++◌, Bool, ◌==◌, if◌then◌else◌, IsTrue, ⊤, codes, decimal}
 use Rattle.std.specs.List.{list_any}
 use Rattle.ept_http.specs.declared.answer.HeadKind.{HeadKind}
 use Rattle.ept_http.specs.declared.answer.HeadKind.TheVariants.{File, Query, Refusal}

@@ -1,6 +1,6 @@
 //! The head of a request (RFC 9112, sections 2 and 3).
 
-ghost use Rattle.std.specs.Prelude.{◌≡◌, List, ℕ, Bool, IfSome, IfNone, IfOk, length};
+ghost use Rattle.std.specs.Prelude.{◌≡◌, List, ℕ, Bool, IfSome, IfNone, IfOk, OnErr, length};
 ghost use Rattle.httparse.specs.Grammar.{RequestHead};
 ghost use Rattle.httparse.specs.Spans.{IsRequestWithin, IsRequestAt};
 ghost use Rattle.ept_http.specs.declared.asked.Asked.{Asked};
@@ -27,6 +27,7 @@ const MAX_FIELDS: usize = 64;
 /// Want of memory for the name of a file.
 pub fn read_request(alloc: Global, head: &[u8]) -> Result<(Asked, bool), Memory>
     ensures answer { IfOk result (λ answer. IsAnswer head.now answer.0 answer.1) }
+    ensures memory { OnErr result ((name : List ℕ) × (last : Bool) × IsAnswer head.now (Asked.File name) last) }
     ensures judged { (judge : List ℕ → Asked × Bool) → IsJudge judge → IfOk result (λ answer. answer ≡ judge head.now) }
 {
     let mut lines = [EMPTY_HEADER_SPAN; MAX_FIELDS];
@@ -60,7 +61,8 @@ fn asked_in(
 ) -> Result<Asked, Memory>
     requires within { IsRequestWithin head.now lines.now found.now }
     requires len { found.now.len ≡ length head.now }
-    ensures { IfOk result (λ asked. (whole : RequestHead) → IsRequestAt head.now lines.now found.now whole → HeadAsks whole asked) }
+    ensures ok { IfOk result (λ asked. (whole : RequestHead) → IsRequestAt head.now lines.now found.now whole → HeadAsks whole asked) }
+    ensures memory { OnErr result ((name : List ℕ) × ((whole : RequestHead) → IsRequestAt head.now lines.now found.now whole → HeadAsks whole (Asked.File name))) }
 {
     match refusal(head, lines, found) {
         Some(status) => Ok(Asked::Refuse(status)),

@@ -1,7 +1,7 @@
 //! The target of a request (RFC 9112, section 3.2): a file of the dataset, or a query. Nothing in it is
 //! percent-decoded.
 
-ghost use Rattle.std.specs.Prelude.{◌≡◌, ◌≢◌, ◌↔◌, ℕ, List, ◌++◌, IsTrue, IfOk, IfSome, IfNone, IsSomeAnd, MatchOption, codes};
+ghost use Rattle.std.specs.Prelude.{◌≡◌, ◌≢◌, ◌↔◌, ℕ, List, ◌++◌, IsTrue, IfOk, OnErr, IfSome, IfNone, IsSomeAnd, MatchOption, codes};
 ghost use Rattle.std.specs.List.{AllByRecursion};
 ghost use Rattle.ept_space.specs.declared.box3.Box3.{Box3};
 ghost use Rattle.ept_space.specs.VoxelKey.{VoxelKey, IsKey};
@@ -22,6 +22,7 @@ use std::str;
 /// Want of memory for the name of a file.
 pub fn asked_of(alloc: Global, target: &[u8]) -> Result<Asked, Memory>
     ensures ok { IfOk result (AsksFor target.now) }
+    ensures memory { OnErr result ((name : List ℕ) × AsksFor target.now (Asked.File name)) }
 {
     if let Some(name) = served_name(target) {
         let name = String::from_str(alloc, name)?;

@@ -3,7 +3,6 @@ use Rattle.std.proofs.Common.{◌≡◌, ◌≢◌, ℕ, suc, List, [], ◌∷�
 use Rattle.std.specs.Prelude.{◌||◌, Contains, bytes_eq}
 use Rattle.std.specs.List.{list_any}
 use Rattle.std.proofs.lemmas.Slice.Eq.{bytes_eq-Decides}
-use Rattle.ept_base.specs.Files.{Files}
 use Rattle.ept_mem.specs.declared.crash.Crash.{Crash}
 use Rattle.ept_mem.specs.Disk.{Disk, left_of, crashed}
 

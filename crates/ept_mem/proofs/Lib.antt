@@ -1,3 +1,4 @@
 mod Calls
 mod Crashing
+mod Cutting
 mod Pieces

@@ -3,7 +3,6 @@ use Rattle.std.specs.Prelude.{ℕ, ◌≤◌, List, [], ◌∷◌, length, fold,
 use Rattle.std.proofs.Common.{arith, subst, sym, ◌∙◌}
 use Rattle.std.proofs.lemmas.List.{take_all}
 use Rattle.ept_base.specs.Files.{Files}
-use Rattle.ept_mem.specs.declared.crash.Crash.{Crash}
 use Rattle.ept_mem.specs.declared.store.Call.{Call}
 use Rattle.ept_mem.specs.declared.store.Call.TheVariants.{Write, Sync, Crashed}
 use Rattle.std.specs.Prelude.{suc, String, Vec, Option}

@@ -1,4 +1,5 @@
 pub mod Crash
+pub mod Cut
 pub mod Disk
 pub mod Fuse
 pub mod Named

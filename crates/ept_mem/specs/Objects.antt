@@ -11,6 +11,9 @@ use Rattle.ept_mem.specs.declared.sink.MemSink.{MemSink}
 use Rattle.ept_mem.specs.declared.spill.MemSpill.{MemSpill}
 use Rattle.ept_mem.specs.declared.spill.MemRoom.{MemRoom}
 use Rattle.ept_mem.specs.declared.store.MemStore.{MemStore}
+use Rattle.ept_mem.specs.declared.link.MemLink.{MemLink}
+use Rattle.ept_mem.specs.Cut.{bytes_of_all, rest_of_piece}
+use Rattle.ept_base.specs.Links.{Wire}
 
 -- the bytes of a source
 abbrev pub source_bytes : MemSource → List ℕ
@@ -32,6 +35,19 @@ shelf_asked shelf = map string_bytes shelf.asked.items
 abbrev pub sink_bytes : MemSink → List ℕ
 sink_bytes sink = sink.bytes.items
 
+-- what comes and goes over a link
+abbrev pub link_wire : MemLink → Wire
+link_wire link = record {
+  taken = link.taken.items;
+  left = drop (length link.taken.items) (bytes_of_all link.pieces.items);
+  written = link.written.items;
+  reads = link.reads.items;
+}
+
+-- what a read of a link gives at most: the rest of the piece that it stands in
+abbrev pub link_piece : MemLink → List ℕ
+link_piece link = rest_of_piece link.pieces.items (length link.taken.items)
+
 -- the bytes that a spill file holds
 abbrev pub spill_bytes : MemSpill → List ℕ
 spill_bytes spill = spill.held.items
@@ -45,6 +61,9 @@ shelf_plan shelf = shelf.plan
 
 abbrev pub sink_plan : MemSink → Plan
 sink_plan sink = sink.plan
+
+abbrev pub link_plan : MemLink → Plan
+link_plan link = link.plan
 
 abbrev pub spill_plan : MemSpill → Plan
 spill_plan spill = spill.plan
@@ -69,6 +88,9 @@ shelf_calls shelf = shelf.plan.calls
 abbrev pub sink_calls : MemSink → ℕ
 sink_calls sink = sink.plan.calls
 
+abbrev pub link_calls : MemLink → ℕ
+link_calls link = link.plan.calls
+
 abbrev pub spill_calls : MemSpill → ℕ
 spill_calls spill = spill.plan.calls
 
@@ -90,6 +112,9 @@ shelf_source_fails shelf = shelf.source_fails.items
 
 abbrev pub sink_fails : MemSink → List ℕ
 sink_fails sink = sink.plan.fails.items
+
+abbrev pub link_fails : MemLink → List ℕ
+link_fails link = link.plan.fails.items
 
 abbrev pub spill_fails : MemSpill → List ℕ
 spill_fails spill = spill.plan.fails.items
@@ -116,6 +141,9 @@ shelf_faults shelf = shelf.plan.faults
 
 abbrev pub sink_faults : MemSink → ℕ
 sink_faults sink = sink.plan.faults
+
+abbrev pub link_faults : MemLink → ℕ
+link_faults link = link.plan.faults
 
 abbrev pub spill_faults : MemSpill → ℕ
 spill_faults spill = spill.plan.faults

@@ -213,7 +213,7 @@ impl MemStore {
     /// Notes that the name reads as this content from now on.
     fn write(&mut self, name: &str, content: Option<Vec<u8>>) -> Result<(), AllocError>
         ensures ok { OnOk result (SameFiles (changed (store_files self.old) name.now (bytes_of content)) (store_files self.new)) }
-        ensures refused { OnErr result (SameFiles (store_files self.old) (store_files self.new)
+        ensures unchanged { OnErr result (SameFiles (store_files self.old) (store_files self.new)
             × SameImages (store_images self.old) (store_images self.new)) }
         ensures reads { SameBut name.now (store_files self.old) (store_files self.new) }
         ensures images { Follows (SameBut name.now) (store_images self.old) (store_images self.new) }
@@ -230,7 +230,7 @@ impl MemStore {
     /// Notes that what is read is stable.
     fn settle(&mut self) -> Result<(), AllocError>
         ensures ok { OnOk result (IsSettled (Some (store_files self.new)) (store_images self.new)) }
-        ensures refused { OnErr result (SameImages (store_images self.old) (store_images self.new)) }
+        ensures unchanged { OnErr result (SameImages (store_images self.old) (store_images self.new)) }
         ensures reads { SameFiles (store_files self.old) (store_files self.new) }
         ensures images { NoMore (store_images self.old) (store_images self.new) }
         ensures time { Elapses (store_moment self.old) (store_moment self.new) (store_images_since self.old) (store_images_since self.new) (store_images self.new) }
@@ -275,7 +275,7 @@ impl Store for MemStore {
     fn get(&mut self, name: &str, into: &mut Vec<u8>) -> Result<bool, GetError>
         ensures ok { IfOk result (λ found. Gets (store_files self.old) name.now found into.new.items) }
         ensures absent { IfOk result (λ found. found ≡ false → into.new.items ≡ []) }
-        ensures refused { OnErr result (into.new.items ≡ into.old.items) }
+        ensures unchanged { OnErr result (into.new.items ≡ into.old.items) }
         ensures reads { SameFiles (store_files self.old) (store_files self.new) }
         ensures images { SameImages (store_images self.old) (store_images self.new) }
         ensures time { Elapses (store_moment self.old) (store_moment self.new) (store_images_since self.old) (store_images_since self.new) (store_images self.new) }
@@ -353,7 +353,7 @@ impl Store for MemStore {
 
     fn sync(&mut self) -> Result<(), PutError>
         ensures ok { OnOk result (IsSettled (Some (store_files self.new)) (store_images self.new)) }
-        ensures refused { OnErr result (SameImages (store_images self.old) (store_images self.new)) }
+        ensures unchanged { OnErr result (SameImages (store_images self.old) (store_images self.new)) }
         ensures reads { SameFiles (store_files self.old) (store_files self.new) }
         ensures images { NoMore (store_images self.old) (store_images self.new) }
         ensures time { Elapses (store_moment self.old) (store_moment self.new) (store_images_since self.old) (store_images_since self.new) (store_images self.new) }

@@ -1,7 +1,7 @@
-use crate::{Crash, MemRoom, MemShelf, MemSink, MemSource, MemSpill, MemStore};
+use crate::{Crash, MemLink, MemRoom, MemShelf, MemSink, MemSource, MemSpill, MemStore};
 use ept_base::{
-    Failed, GetError, PutError, Room, Shelf, Sink, Source, SpillFile, Store, put_kept, read_full,
-    write_full,
+    Failed, GetError, Link, PutError, Room, Shelf, Sink, Source, SpillFile, Store, put_kept,
+    read_full, write_full,
 };
 use std::alloc::{AllocError, Global};
 use std::test::Fail;
@@ -230,5 +230,29 @@ fn a_fuse_passes_so_many_calls(rt: HostRuntime) -> Result<(), Fail> {
         assert_eq!(rt; store.remove("a").is_ok(), 4 < passes, "{passes}");
         assert_eq!(rt; store.sync(), Err(PutError::Failed));
     }
+    Ok(())
+}
+
+#[test]
+fn a_link_gives_its_pieces_and_gathers_what_is_written(rt: HostRuntime) -> Result<(), Fail> {
+    let alloc = rt.alloc();
+    let mut pieces = Vec::new(alloc);
+    for piece in ["abcde", "", "fg"] {
+        pieces.push(Vec::from_slice(alloc, piece.as_bytes())?)?;
+    }
+    let mut link = MemLink::new(alloc, pieces, vec![in alloc; 1, 4]?);
+    let mut into = [0; 3];
+    assert_eq!(rt; link.read(&mut into), Ok(3));
+    assert_eq!(rt; link.read(&mut into), Err(Failed));
+    assert_eq!(rt; into, *b"abc");
+    assert_eq!(rt; link.write(b"xy"), Ok(2));
+    assert_eq!(rt; link.read(&mut into), Ok(2));
+    assert_eq!(rt; into, *b"dec");
+    assert_eq!(rt; link.write(b"z"), Err(Failed));
+    assert_eq!(rt; link.read(&mut into), Ok(2));
+    assert_eq!(rt; into, *b"fgc");
+    assert_eq!(rt; link.read(&mut into), Ok(0));
+    assert_eq!(rt; link.write(b""), Ok(0));
+    assert_eq!(rt; link.written(), b"xy".as_slice());
     Ok(())
 }

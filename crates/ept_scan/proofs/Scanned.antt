@@ -38,7 +38,7 @@ module _ (all : Files) (scale : ℕ) (inputs : List Input) where
   reread_at limits other i points has within =
       let old : Reading = has.reading in
       let was = has.is_input.reading_is in
-      let new : Reading = record { origin = old.origin; shift = old.shift; expect = old.expect; limits = other } in
+      let new : Reading = record { origin = old.origin; shift = old.shift; expect = old.expect; limits = other; origin_fits = old.origin_fits } in
       record {
         input = has.input;
         reading = new;

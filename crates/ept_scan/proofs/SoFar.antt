@@ -37,7 +37,7 @@ at_first header (Some records) =
     record { ahead = ap (λ (i : ℕ). Some (drop i records)) start }
 
 -- a record that was taken is the one of this number, and the next place is behind it
-module _ (reading : Reading) (header : Header) (records : List ℕ) (n : ℕ) (now new : Option (List ℕ)) (it : Found) (some : 0 < header.length) (place : IsPlace header records now n)
+module _ (reading : Reading) (header : Header) (records : List ℕ) (n : ℕ) (now new : Option (List ℕ)) (it : Found Point) (some : 0 < header.length) (place : IsPlace header records now n)
     (takes : Takes reading header n (drop (header.length * n) records) new it) where
   whole_is : IsWhole header records n
   whole_is = omega (arith, some, takes.whole, length-drop (header.length * n) records)

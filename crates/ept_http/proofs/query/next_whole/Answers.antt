@@ -1,4 +1,4 @@
-use Rattle.std.proofs.Common.{rules, FitsSigned, w64, sym, ◌∙◌, arith, lit<}
+use Rattle.std.proofs.Common.{rules, FitsSigned, w64, ◌∙◌, lit<}
 use Rattle.std.proofs.lemmas.Int.{to_z-of_z}
 use Rattle.ept_http.proofs.Numbers.{number-lacks, one-number}
 use Rattle.ept_http.proofs.query.next_whole.Goals as goal

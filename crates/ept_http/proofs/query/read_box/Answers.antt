@@ -1,4 +1,4 @@
-use Rattle.std.proofs.Common.{rules, FitsSigned, w64, subst, arith}
+use Rattle.std.proofs.Common.{rules, FitsSigned, w64, subst}
 use Rattle.ept_http.specs.QueryWords.{IsOrdered}
 use Rattle.ept_http.proofs.Numbers.{one-number}
 use Rattle.ept_http.proofs.QueryLemmas.{split-box, same-box, read-three, if-none, after_min_x, after_min_y, after_min_z, after_max_x}

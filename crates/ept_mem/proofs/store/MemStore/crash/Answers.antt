@@ -1,4 +1,4 @@
-use Rattle.std.proofs.Common.{sym, ◌∙◌}
+use Rattle.std.proofs.Common.{◌∙◌}
 use Rattle.ept_mem.specs.Named.{content_of}
 use Rattle.ept_mem.specs.Objects.{store_disk}
 use Rattle.ept_mem.proofs.Crashing.{crash_spares}

@@ -1,5 +1,5 @@
 use Rattle.ept_las.proofs.Stored.{stored_is, some_of_ok}
-use Rattle.ept_las.proofs.point_record.stored_of.Goals as goal
+use Rattle.ept_las.proofs.place.stored_of.Goals as goal
 
 pub returns : goal.returns
 returns c =
