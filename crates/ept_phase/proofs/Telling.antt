@@ -142,14 +142,14 @@ module _ (nodes : List Branch) (lines : List NodeLine) (told : TellNodes nodes l
   told_child : (l : NodeLine) (o : ℕ) → IsMember l lines → o < 8 → is_among keys (child l.key o) ≡ true → opened l.mask o ≡ true
   told_child l o m low is = by_below (whole.below_open (child l.key o) (inl (among_node (child l.key o) (among-member keys (child l.key o) is))))
     where
-    by_below : (child l.key o ≡ root) ⊎ IsBelowOpen here (child l.key o) → opened l.mask o ≡ true
-    by_below (inl at) = let deep = depth-child l.key o in absurd (omega (arith, deep, ap (λ (k : VoxelKey). k.depth) at))
-    by_below (inr below) =
-        let b = line-node nodes lines l told m in
-        let above : below.above ≡ b.0.0 = sym (parent-child below.above below.octant) ∙ (ap parent (sym below.is_child) ∙ (parent-child l.key o ∙ b.2.key)) in
-        let octant : below.octant ≡ o = sym (octant_of-child below.above below.octant below.low) ∙ (ap octant_of (sym below.is_child) ∙ octant_of-child l.key o low) in
-        let open_there : has_open (node_at here b.0.0) o ≡ true = subst (λ (k : VoxelKey). has_open (node_at here k) o ≡ true) above (subst (λ (n : ℕ). has_open (node_at here below.above) n ≡ true) octant below.is_open) in
-        ap (λ (w : ℕ). opened w o) b.2.mask ∙ (sym (open_of nodes whole.ascend b.0 o b.1 low) ∙ open_there)
+      by_below : (child l.key o ≡ root) ⊎ IsBelowOpen here (child l.key o) → opened l.mask o ≡ true
+      by_below (inl at) = let deep = depth-child l.key o in absurd (omega (arith, deep, ap (λ (k : VoxelKey). k.depth) at))
+      by_below (inr below) =
+          let b = line-node nodes lines l told m in
+          let above : below.above ≡ b.0.0 = sym (parent-child below.above below.octant) ∙ (ap parent (sym below.is_child) ∙ (parent-child l.key o ∙ b.2.key)) in
+          let octant : below.octant ≡ o = sym (octant_of-child below.above below.octant below.low) ∙ (ap octant_of (sym below.is_child) ∙ octant_of-child l.key o low) in
+          let open_there : has_open (node_at here b.0.0) o ≡ true = subst (λ (k : VoxelKey). has_open (node_at here k) o ≡ true) above (subst (λ (n : ℕ). has_open (node_at here below.above) n ≡ true) octant below.is_open) in
+          ap (λ (w : ℕ). opened w o) b.2.mask ∙ (sym (open_of nodes whole.ascend b.0 o b.1 low) ∙ open_there)
 
   children : (l : NodeLine) → IsMember l lines → TellsChildren keys l
   unfolding opened
@@ -159,11 +159,11 @@ module _ (nodes : List Branch) (lines : List NodeLine) (told : TellNodes nodes l
   parents : (key : VoxelKey) → IsMember key keys → HasParent keys key
   parents key m deep = by_below (whole.below_open key (inl (among_node key m)))
     where
-    by_below : (key ≡ root) ⊎ IsBelowOpen here key → is_among keys (parent key) ≡ true
-    by_below (inl at) = absurd (omega (arith, deep, ap (λ (k : VoxelKey). k.depth) at))
-    by_below (inr below) =
-        ap (λ (k : VoxelKey). is_among keys (parent k)) below.is_child
-        ∙ (ap (λ (k : VoxelKey). is_among keys k) (parent-child below.above below.octant) ∙ node_among below.above (open_node here below.above below.octant below.is_open))
+      by_below : (key ≡ root) ⊎ IsBelowOpen here key → is_among keys (parent key) ≡ true
+      by_below (inl at) = absurd (omega (arith, deep, ap (λ (k : VoxelKey). k.depth) at))
+      by_below (inr below) =
+          ap (λ (k : VoxelKey). is_among keys (parent k)) below.is_child
+          ∙ (ap (λ (k : VoxelKey). is_among keys k) (parent-child below.above below.octant) ∙ node_among below.above (open_node here below.above below.octant below.is_open))
 
   pub whole-told : AreNodesOf (length (points_in nodes)) lines
   whole-told = record {
