@@ -52,3 +52,8 @@ TurnsAreOne = (held : Held) (a b : List Turn) → AreDue held a → AreDue held 
 -- and a judge's are these
 abbrev pub JudgeGivesTurns : Type 0
 JudgeGivesTurns = (judge : List ℕ → Asked × Bool) (held : Held) → IsJudge judge → AreDue held (due_of judge held)
+
+-- so whatever comes behind, the turn that was given is the judge's first one
+abbrev pub NextIsGiven : Type 0
+NextIsGiven =
+    (judge : List ℕ → Asked × Bool) (old new : Held) (turn : Turn) → IsJudge judge → IsNext old turn new → Gives judge old turn new

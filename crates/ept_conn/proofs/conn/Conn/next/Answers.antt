@@ -16,8 +16,7 @@ pub refuse-requires-clause-long : goal.refuse-requires-clause-long
 refuse-requires-clause-long c = ap (λ (held : Held). front held.bytes) c.in-None.ensures.same ∙ front-long _ c.in-None.ensures.value (held-full 8192 _ _ c.in-None.ensures.same (c.if-is_full.ensures.0 refl))
 
 pub returns-in-None-2-clause-none : goal.returns-in-None-2-clause-none
-returns-in-None-2-clause-none c =
-    (
-      inr (front-short _ c.in-None.ensures.value (not-held-full 8192 _ _ c.in-None.ensures.same (λ full. absurd (false≢true (c.if-is_full.ensures.1 full))))),
-      c.in-None.ensures.same,
-    )
+returns-in-None-2-clause-none c = (
+  inr (front-short _ c.in-None.ensures.value (not-held-full 8192 _ _ c.in-None.ensures.same (λ full. absurd (false≢true (c.if-is_full.ensures.1 full))))),
+  c.in-None.ensures.same,
+)
