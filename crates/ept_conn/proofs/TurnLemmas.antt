@@ -1,13 +1,13 @@
 -- The turns of bytes do not depend on how they are cut, and are one list.
-use Rattle.std.proofs.Common.{◌≡◌, ◌≢◌, ℕ, zero, suc, ◌+◌, ◌-◌, ◌<◌, ◌≤◌, List, [], ◌∷◌, ◌++◌, length, take, drop, Option, Some, None, Bool, true, false, ◌||◌, ◌==◌, if◌then◌else◌, MatchBool, nat_le, refl, sym, ap, subst, ◌∙◌, arith, append_assoc, append-nil, length-append, inl, inr, ◌⊎◌}
+use Rattle.std.proofs.Common.{◌≡◌, ℕ, zero, suc, ◌+◌, ◌-◌, ◌<◌, List, [], ◌∷◌, ◌++◌, take, drop, Bool, true, false, ◌||◌, ◌==◌, if◌then◌else◌, MatchBool, refl, sym, ap, subst, ◌∙◌, arith, append_assoc, append-nil, inl, inr}
 use Rattle.std.proofs.lemmas.List.{take-append-le, drop-append-le}
 use Rattle.ept_http.specs.declared.asked.Asked.{Asked}
-use Rattle.ept_http.specs.Answers.{IsAnswer, IsJudge}
+use Rattle.ept_http.specs.Answers.{IsJudge}
 use Rattle.ept_http.proofs.OneAnswer.{one-answer}
 use Rattle.ept_conn.specs.declared.turn.Turn.{Turn}
 use Rattle.ept_conn.specs.HeadEnd.{Front, Whole, Long, Short, front}
 use Rattle.ept_conn.specs.Held.{Held, fresh, fed, turns_left}
-use Rattle.ept_conn.specs.Turns.{IsTurnOf, too_long, AreFrom, AreTurns, AreDue, IsFirst, behind_front, IsNext, IsIdle}
+use Rattle.ept_conn.specs.Turns.{IsTurnOf, AreFrom, AreTurns, AreDue, IsFirst, behind_front, IsNext, IsIdle}
 use Rattle.ept_conn.specs.Judged.{turn_of, turns_from, due, due_of, Gives}
 use Rattle.ept_conn.specs.Calls.{Call, Fed, Gave, Waited, Runs, all_fed, all_given}
 use Rattle.ept_conn.proofs.HeadEnds.{front-kept, front-within}

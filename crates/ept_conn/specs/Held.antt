@@ -1,5 +1,5 @@
 -- What is seen of a connection.
-use Rattle.std.specs.Prelude.{◌≡◌, ℕ, ◌+◌, ◌-◌, ◌<◌, ◌≤◌, List, [], ◌++◌, Bool, false, if◌then◌else◌, length, take, None}
+use Rattle.std.specs.Prelude.{◌≡◌, ℕ, ◌-◌, ◌<◌, ◌≤◌, List, [], ◌++◌, Bool, false, if◌then◌else◌, length, take, None}
 use Rattle.ept_conn.specs.HeadEnd.{head_end}
 
 -- the bytes held, how many turns were given, and whether the last was

@@ -1,6 +1,5 @@
 -- The turns of a connection: the heads in its bytes, one after the other, and what each is answered.
-use Rattle.std.specs.Prelude.{◌≡◌, ◌⊎◌, ℕ, ◌+◌, ◌-◌, ◌<◌, suc, zero, List, [], ◌∷◌, ◌++◌, Bool, true, false, ◌||◌, ◌==◌, MatchBool, if◌then◌else◌, take, drop}
-use Rattle.ept_http.specs.declared.asked.Asked.{Asked}
+use Rattle.std.specs.Prelude.{◌≡◌, ◌⊎◌, ℕ, ◌+◌, ◌-◌, ◌<◌, suc, zero, List, [], ◌∷◌, Bool, true, false, ◌||◌, ◌==◌, MatchBool, if◌then◌else◌, take, drop}
 use Rattle.ept_http.specs.declared.asked.Asked.TheVariants.{Refuse}
 use Rattle.ept_http.specs.Answers.{IsAnswer}
 use Rattle.ept_conn.specs.declared.turn.Turn.{Turn}

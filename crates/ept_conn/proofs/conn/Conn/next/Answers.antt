@@ -1,6 +1,5 @@
-use Rattle.std.proofs.Common.{◌∙◌, ap, sym, length, take, refl, inr, arith}
+use Rattle.std.proofs.Common.{◌∙◌, ap, sym, refl, inr}
 use Rattle.std.proofs.lemmas.Bool.{false≢true}
-use Rattle.std.proofs.lemmas.List.{length-take}
 use Rattle.ept_conn.specs.HeadEnd.{front}
 use Rattle.ept_conn.specs.Held.{Held}
 use Rattle.ept_conn.proofs.HeadEnds.{within-window, front-whole, front-long, front-short, held-full, not-held-full}
