@@ -2,8 +2,8 @@
 use Rattle.std.proofs.Common.{◌≡◌, ℕ, zero, suc, ◌+◌, ◌-◌, ◌<◌, List, [], ◌∷◌, ◌++◌, take, drop, Bool, true, false, ◌||◌, ◌==◌, if◌then◌else◌, MatchBool, refl, sym, ap, subst, ◌∙◌, arith, append_assoc, append-nil, inl, inr}
 use Rattle.std.proofs.lemmas.List.{take-append-le, drop-append-le}
 use Rattle.ept_http.specs.declared.asked.Asked.{Asked}
-use Rattle.ept_http.specs.Answers.{IsJudge}
-use Rattle.ept_http.proofs.OneAnswer.{one-answer}
+use Rattle.ept_http.specs.Answers.{IsJudge, MayBeAsked}
+use Rattle.ept_http.proofs.OneAnswer.{one-answer, may-be-asked}
 use Rattle.ept_conn.specs.declared.turn.Turn.{Turn}
 use Rattle.ept_conn.specs.HeadEnd.{Front, Whole, Long, Short, front}
 use Rattle.ept_conn.specs.Held.{Held, fresh, fed, turns_left}
@@ -154,3 +154,13 @@ judged-due judge held is = judged-turns judge is (turns_left held) held.bytes
 pub next-given : (judge : List ℕ → Asked × Bool) (old new : Held) (turn : Turn) → IsJudge judge → IsNext old turn new → Gives judge old turn new
 next-given judge old new turn is next = λ more.
     due-once (fed old more) _ _ (judged-due judge (fed old more) is) (next-due old new turn next more (due_of judge (fed new more)) (judged-due judge (fed new more) is))
+
+-- ---- what a turn asks for
+
+first-asked : (behind : ℕ) (bytes : List ℕ) (f : Front) (turn : Turn) → IsFirst behind bytes f turn → MayBeAsked turn.asked
+first-asked behind bytes Short turn first = absurd first
+first-asked behind bytes Long turn first = subst (λ (t : Turn). MayBeAsked t.asked) (sym first) refl
+first-asked behind bytes (Whole len) turn first = may-be-asked (take len bytes) turn.asked first.closes first.answer
+
+pub next-asked : (old new : Held) (turn : Turn) → IsNext old turn new → MayBeAsked turn.asked
+next-asked old new turn is = first-asked (65536 - old.given - 1) old.bytes (front old.bytes) turn is.first

@@ -2,7 +2,7 @@
 -- function of `laws`.
 use Rattle.std.specs.Prelude.{◌≡◌, ℕ, List, [], ◌∷◌, ◌++◌, Bool, false}
 use Rattle.ept_http.specs.declared.asked.Asked.{Asked}
-use Rattle.ept_http.specs.Answers.{IsJudge}
+use Rattle.ept_http.specs.Answers.{IsJudge, MayBeAsked}
 use Rattle.ept_conn.specs.declared.turn.Turn.{Turn}
 use Rattle.ept_conn.specs.Held.{Held, fresh, fed}
 use Rattle.ept_conn.specs.Turns.{AreDue, IsNext, IsIdle}
@@ -57,3 +57,7 @@ JudgeGivesTurns = (judge : List ℕ → Asked × Bool) (held : Held) → IsJudge
 abbrev pub NextIsGiven : Type 0
 NextIsGiven =
     (judge : List ℕ → Asked × Bool) (old new : Held) (turn : Turn) → IsJudge judge → IsNext old turn new → Gives judge old turn new
+
+-- what a turn asks for can be answered: a query's words are ordered, and a refusal has a status of a refusal
+abbrev pub TurnsMayBeAsked : Type 0
+TurnsMayBeAsked = (old new : Held) (turn : Turn) → IsNext old turn new → MayBeAsked turn.asked
