@@ -10,7 +10,7 @@ use Rattle.ept_space.specs.declared.bounds.Bounds.{Bounds}
 use Rattle.ept_config.specs.Facts.{SrsFacts}
 use Rattle.ept_config.specs.Texts.{is_srs_text}
 use Rattle.ept_ckpt.specs.Facts.{KeptFacts}
-use Rattle.ept_ckpt.specs.Body.{flag, i32_bytes, i64_bytes, bounds_bytes, text_bytes, srs_bytes, kept_bytes}
+use Rattle.ept_ckpt.specs.Body.{flag, i32_bytes, bounds_bytes, text_bytes, srs_bytes, kept_bytes}
 use Rattle.ept_ckpt.specs.Body as body
 use Rattle.ept_ckpt.specs.Fields.{Reading, ◌>>=◌, give, bytes, number, within, three, optional}
 use Rattle.ept_ckpt.specs.Forms.{near, between, corner, box_within, text, srs_text, srs_form, kept_form, whole}

@@ -1,6 +1,6 @@
 -- The text of entries is read back as these entries.
-use Rattle.std.proofs.Common.{◌≡◌, ◌≢◌, ◌∙◌, ℕ, zero, suc, ◌+◌, ◌^◌, ◌<◌, ◌≤◌, ℤ, pos, negsuc, Bool, true, false, cond, List, [], ◌∷◌, ◌++◌, map, length, get_or, refl, sym, ap, ap₂, subst, arith, append_assoc, append-nil, lt-ltb, codes, decimal, Option, Some, None, Ordering}
-use Rattle.std.specs.Prelude.{⊤, ◌≤ℤ◌, ◌<ℤ◌, AllPairs, IsPermutation, filter, if◌then◌else◌}
+use Rattle.std.proofs.Common.{◌≡◌, ◌≢◌, ◌∙◌, ℕ, zero, suc, ◌+◌, ◌^◌, ◌<◌, ◌≤◌, ℤ, pos, negsuc, Bool, true, false, List, [], ◌∷◌, ◌++◌, map, get_or, refl, sym, ap, ap₂, subst, arith, append_assoc, append-nil, lt-ltb, codes, decimal, Some, Ordering}
+use Rattle.std.specs.Prelude.{⊤, AllPairs, IsPermutation, filter, if◌then◌else◌}
 use Rattle.std.specs.declared.cmp.Ordering.TheVariants.{Less, Equal, Greater}
 use Rattle.std.specs.Ordering.{nat_cmp, match_ordering, is_eq, is_lt, ordering_reverse}
 use Rattle.std.specs.Option.{option_map, option_and_then}
@@ -8,9 +8,9 @@ use Rattle.std.specs.Cmp.Lexicographic.{slice_cmp}
 use Rattle.std.specs.Fmt.{signed_decimal}
 use Rattle.std.specs.List.Sorted.{IsSortedByKey}
 use Rattle.std.specs.List.{All, AllZip, flat_map, join_by}
-use Rattle.std.specs.Str.{IsUtf8, IsAscii}
+use Rattle.std.specs.Str.{IsUtf8}
 use Rattle.std.proofs.lemmas.Int.{ints}
-use Rattle.std.proofs.lemmas.Fmt.{decimal_is_IsNumeral, IsAscii-decimal}
+use Rattle.std.proofs.lemmas.Fmt.{decimal_is_IsNumeral}
 use Rattle.std.proofs.lemmas.Str.{IsUtf8-append, IsUtf8-from_ascii, IsUtf8-nil}
 use Rattle.std.proofs.lemmas.Str.Parse.{digit_at}
 use Rattle.std.proofs.lemmas.List.Sorted.{IsPermutation-refl, IsPermutation-trans, IsPermutation-sym, IsPermutation-cons, IsPermutation-swap, IsPermutation-middle, IsPermutation-append_right, All-permutation}
@@ -28,9 +28,9 @@ use Rattle.json.proofs.Printed.Trees.{value-json_tokens, ArePrintable-json_token
 use Rattle.json.proofs.Printed.Tokens.{tokens-print}
 use Rattle.json.proofs.Printed.Utf8.{IsUtf8-are_ascii}
 use Rattle.json.specs.Lex.{tokens}
-use Rattle.serde_json.specs.Data.{Data, Num, unsigned, negative, number, object, Members, no_members, member, put}
+use Rattle.serde_json.specs.Data.{Data, number, object, Members, no_members, member, put}
 use Rattle.serde_json.specs.Read.{read, max_depth, of_json, of_members}
-use Rattle.serde_json.specs.Find.{as_number, as_i64, as_object, of_integer}
+use Rattle.serde_json.specs.Find.{as_object, of_integer}
 use Rattle.serde_json.specs.Written.{outline, members_outline, number_text, compact_text, members_text}
 use Rattle.serde_json.proofs.Numbers.{number_of-decimal, number_of-negative}
 use Rattle.serde_json.proofs.Texts.{print-outline}

@@ -1,7 +1,7 @@
 -- What holds of the reading of hierarchy files. Each statement stands on the contract of a function of `laws`.
 use Rattle.std.specs.Prelude.{◌≡◌, ℕ, ◌<◌, ◌^◌, pos, negsuc, ◌≤ℤ◌, ◌<ℤ◌, List, All, AllPairs}
 use Rattle.std.specs.declared.cmp.Ordering.TheVariants.{Less}
-use Rattle.ept_space.specs.VoxelKey.{VoxelKey, IsKey, key_cmp}
+use Rattle.ept_space.specs.VoxelKey.{IsKey, key_cmp}
 use Rattle.ept_hier.specs.declared.file.HierFile.{HierFile}
 use Rattle.ept_hier.specs.Hierarchy.{Entry, Node, keys_of, KeysAscend, hierarchy_text, entries_of, hierarchy}
 use Rattle.ept_hier.specs.Reading.{IsReading}

@@ -1,20 +1,17 @@
 -- The bytes of a record with a place hold a point.
-use Rattle.std.proofs.Common.{◌≡◌, ⊎_elim, ℕ, ℤ, Bool, true, false, zero, suc, ◌+◌, ◌*◌, ◌<◌, ◌≤◌, ◌^◌, pos, List, Option, Some, None, FitsSigned, length, take, drop, get_or, get_or-drop, refl, sym, ap, subst, arith, rules, length-take, length-drop}
+use Rattle.std.proofs.Common.{◌≡◌, ⊎_elim, ℕ, Bool, true, false, zero, suc, ◌+◌, ◌*◌, ◌<◌, ◌≤◌, ◌^◌, List, Option, Some, None, FitsSigned, length, take, drop, get_or-drop, refl, sym, arith, rules, length-take, length-drop}
 use Rattle.std.specs.Prelude.{IfSome, slice_index, replicate}
-use Rattle.std.specs.Int.{w8, w16, w32, cast_signed}
+use Rattle.std.specs.Int.{w8, w16, cast_signed}
 use Rattle.std.proofs.lemmas.Bool.{cases_lt}
 use Rattle.std.proofs.lemmas.Bool.Decides.{nat_tests}
 use Rattle.std.proofs.lemmas.Int.{ints}
 use Rattle.std.proofs.lemmas.List.{length-take-le, get_or-take, length-replicate, get_or_past}
 use Rattle.byteorder.specs.Endian.{little_number}
 use Rattle.byteorder.specs.Numbers.{little_from-lt}
-use Rattle.ept_point.specs.declared.point.Point.{Point}
-use Rattle.ept_las.specs.declared.shift.Shift.{Shift}
-use Rattle.ept_las.specs.declared.place.Place.{Place}
 use Rattle.ept_las.specs.Format.{IsFormat, is_extended, record_length, gps_place, colour_place}
 use Rattle.ept_las.specs.Words.{u16_at, i8_at, i16_at, bits, AreBytes}
 use Rattle.ept_las.specs.Pulses.{return_number_of, number_of_returns_of, scan_direction_of, edge_of, class_of, class_flags_of, channel_of, angle_rank_of, angle_of, source_id_of}
-use Rattle.ept_las.specs.PointRecord.{coordinate, gps_of, colour_of, intensity_of, user_of, IsPointOf, IsPlaceOf, LiesAt}
+use Rattle.ept_las.specs.PointRecord.{coordinate, gps_of, colour_of, intensity_of, user_of}
 use Rattle.ept_las.specs.Laws.{PlaceHasPoint}
 
 -- some bits are a number below a power of two

@@ -1,6 +1,6 @@
 -- The piece that comes next stands in front of all that is left.
-use Rattle.std.proofs.Common.{◌≡◌, ◌⊎◌, ℕ, ◌+◌, ◌-◌, ◌<◌, ◌≤◌, List, [], ◌∷◌, ◌++◌, Bool, true, false, Vec, length, take, drop, refl, sym, ◌∙◌, ap, subst, arith, ⊎_elim, length-append, length-drop, length-take}
-use Rattle.std.specs.Prelude.{min, nat_lt, if◌then◌else◌}
+use Rattle.std.proofs.Common.{◌≡◌, ℕ, ◌+◌, ◌-◌, ◌<◌, ◌≤◌, List, [], ◌∷◌, ◌++◌, Bool, Vec, length, take, drop, refl, sym, ◌∙◌, ap, subst, arith, ⊎_elim, length-append, length-drop, length-take}
+use Rattle.std.specs.Prelude.{min, if◌then◌else◌}
 use Rattle.std.specs.declared.alloc.Global.{Global}
 use Rattle.std.proofs.lemmas.List.{take_at, take-append-le, drop-append-le, take-append-drop, drop-drop, drop_all}
 use Rattle.std.proofs.lemmas.Bool.{cases_lt, lt-ltb, le-ltb}

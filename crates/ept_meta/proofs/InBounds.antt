@@ -1,5 +1,5 @@
 -- Points within the bounds can be sampled.
-use Rattle.std.proofs.Common.{◌≡◌, ℕ, ◌<◌, ◌^◌, ℤ, List, arith, unsigned_abs, max}
+use Rattle.std.proofs.Common.{◌<◌, ◌^◌, ℤ, List, arith, unsigned_abs, max}
 use Rattle.std.specs.Prelude.{◌-ℤ◌, FitsSigned}
 use Rattle.std.specs.List.{All}
 use Rattle.std.specs.Int.{w32}
@@ -8,14 +8,14 @@ use Rattle.std.proofs.lemmas.List.Elements.{All-weaker}
 use Rattle.ept_point.specs.declared.point.Point.{Point}
 use Rattle.ept_space.specs.declared.bounds.Bounds.{Bounds}
 use Rattle.ept_space.specs.Place.{coordinate}
-use Rattle.ept_space.specs.OctreeCube.{OctreeCube, IsCube, InCube}
-use Rattle.ept_space.specs.CubeOfBounds.{IsCubeOf, cube_of, longest}
+use Rattle.ept_space.specs.OctreeCube.{IsCube, InCube}
+use Rattle.ept_space.specs.CubeOfBounds.{IsCubeOf, longest}
 use Rattle.ept_space.proofs.Extents.{IsCube-cube_of, IsCubeOf-cube_of, InCube-bounds}
 use Rattle.ept_sample.specs.Place.{place}
 use Rattle.ept_sample.specs.Ids.{HasDistinctIds}
 use Rattle.ept_sample.specs.SamplingLaws.{CanBeSampled}
 use Rattle.ept_config.specs.declared.kept.Kept.{Kept}
-use Rattle.ept_config.specs.Ranges.{AreCoordinates, BoundsInRange}
+use Rattle.ept_config.specs.Ranges.{BoundsInRange}
 use Rattle.ept_config.specs.Extents.{IsWithin}
 use Rattle.ept_meta.specs.Output.{rules_of}
 

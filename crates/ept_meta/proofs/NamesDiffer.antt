@@ -5,7 +5,7 @@ use Rattle.std.proofs.lemmas.List.{append_cancel_left, append_cancel_right}
 use Rattle.ept_space.specs.VoxelKey.{VoxelKey, IsKey}
 use Rattle.ept_space.specs.KeyText.{key_text}
 use Rattle.ept_space.proofs.KeyTexts.{key_text-injective}
-use Rattle.ept_meta.specs.Output.{tile_name, hierarchy_name, metadata_name, manifest_name, build_file_name, IsOutputName, IsIn, IsOutsideWork}
+use Rattle.ept_meta.specs.Output.{tile_name, hierarchy_name, metadata_name, manifest_name, build_file_name, IsOutputName, IsOutsideWork}
 
 -- the names, piece by piece
 pub tile-name-of : (key : VoxelKey) → codes "ept-data/" ++ (decimal key.depth ++ 45 ∷ (decimal key.x ++ 45 ∷ (decimal key.y ++ 45 ∷ (decimal key.z ++ codes ".bin")))) ≡ tile_name key

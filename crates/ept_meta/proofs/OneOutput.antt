@@ -1,6 +1,6 @@
 -- Points have one output.
-use Rattle.std.proofs.Common.{◌≡◌, ◌∙◌, ℕ, zero, suc, ◌<◌, List, [], ◌∷◌, ◌++◌, length, get_or, refl, sym, ap, subst, arith, codes, ℤ, Option, Some, None}
-use Rattle.std.specs.Prelude.{All, Any, unwrap_or}
+use Rattle.std.proofs.Common.{◌≡◌, ◌∙◌, ℕ, suc, ◌<◌, List, [], ◌∷◌, ◌++◌, length, get_or, refl, sym, ap, subst, arith, codes, ℤ, Option, Some, None}
+use Rattle.std.specs.Prelude.{Any, unwrap_or}
 use Rattle.std.proofs.lemmas.Int.{ints}
 use Rattle.std.specs.List.{flat_map, join_by, zip}
 use Rattle.ept_point.specs.declared.point.Point.{Point}
@@ -12,12 +12,10 @@ use Rattle.ept_config.specs.declared.kept.Kept.{Kept}
 use Rattle.ept_config.specs.declared.source_count.SourceCount.{SourceCount}
 use Rattle.ept_config.specs.Extents.{IsSpanOf, IsExtentOf, HasExtent}
 use Rattle.ept_config.specs.Counts.{IsCountOf}
-use Rattle.ept_meta.specs.Json.{number_member, quoted}
 use Rattle.ept_meta.specs.Units.{coordinate_text, corner_text, box_text, bounds_text}
-use Rattle.ept_meta.specs.EptText.{place_text, ept_text, points_text}
+use Rattle.ept_meta.specs.EptText.{place_text, ept_text}
 use Rattle.ept_meta.specs.ManifestText.{extent_text, source_text, manifest_text}
-use Rattle.ept_meta.specs.BuildText.{build_text}
-use Rattle.ept_meta.specs.Output.{File, files_of, output, points_from, AreCountsOf, IsOutput}
+use Rattle.ept_meta.specs.Output.{File, output, points_from, AreCountsOf, IsOutput}
 
 -- ---- points have one extent
 

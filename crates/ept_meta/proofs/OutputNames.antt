@@ -1,5 +1,5 @@
 -- The names of an output: each is one of the names of outputs, each stands once, and with more points they grow.
-use Rattle.std.proofs.Common.{◌≡◌, ◌≢◌, ◌∙◌, ◌⊎◌, inl, inr, ℕ, ◌<◌, Bool, true, false, cond, List, [], ◌∷◌, ◌++◌, map, filter, length, refl, sym, ap, subst, arith, append_assoc, Option}
+use Rattle.std.proofs.Common.{◌≡◌, ◌≢◌, ◌∙◌, inl, inr, ℕ, ◌<◌, Bool, true, false, cond, List, [], ◌∷◌, ◌++◌, map, filter, refl, sym, ap, subst, arith, append_assoc, Option}
 use Rattle.std.specs.Prelude.{⊤, AllPairs, Contains}
 use Rattle.std.specs.List.{All}
 use Rattle.std.proofs.lemmas.List.{map-append}
@@ -8,12 +8,12 @@ use Rattle.std.proofs.lemmas.List.Kept.{AllPairs-cons}
 use Rattle.ept_point.specs.declared.point.Point.{Point}
 use Rattle.ept_space.specs.declared.bounds.Bounds.{Bounds}
 use Rattle.ept_space.specs.declared.cube.Rules.{Rules}
-use Rattle.ept_space.specs.VoxelKey.{VoxelKey, IsKey, key_cmp}
+use Rattle.ept_space.specs.VoxelKey.{VoxelKey, IsKey}
 use Rattle.ept_sample.specs.Members.{IsMember}
 use Rattle.ept_sample.specs.Ids.{HasDistinctIds}
 use Rattle.ept_sample.specs.Nodes.{node_keys, sampled, tile_at}
 use Rattle.ept_sample.proofs.Members.{IsMember-left, IsMember-right, IsMember-append, IsMember-filter, IsMember-kept, IsMember-map, member-map, All-members, IsMember-contains, contains-IsMember}
-use Rattle.ept_sample.proofs.Ascending.{IsOrder, IsRising, IsRising-filter}
+use Rattle.ept_sample.proofs.Ascending.{IsRising, IsRising-filter}
 use Rattle.ept_sample.proofs.KeyOrder.{key_before, key_order}
 use Rattle.ept_sample.proofs.NodeLaws.{IsMember-node_keys, node_keys-IsMember, IsRising-node_keys}
 use Rattle.ept_sample.proofs.MorePoints.{is_node-among}
@@ -21,9 +21,8 @@ use Rattle.ept_sample.proofs.SamplingLaws.{node-IsKey}
 use Rattle.ept_config.specs.declared.kept.Kept.{Kept}
 use Rattle.ept_config.specs.declared.source_count.SourceCount.{SourceCount}
 use Rattle.ept_config.specs.Extents.{IsWithin}
-use Rattle.ept_hier.specs.declared.file.HierFile.{HierFile}
 use Rattle.ept_hier.specs.Hierarchy.{Node, has_file, file_of, hierarchy}
-use Rattle.ept_meta.specs.Output.{tile_name, hierarchy_name, metadata_name, manifest_name, build_file_name, IsOutputName, File, tile_file, hierarchy_file, counted, rules_of, files_of, output, IsOutput, names_of}
+use Rattle.ept_meta.specs.Output.{tile_name, hierarchy_name, metadata_name, manifest_name, build_file_name, IsOutputName, File, tile_file, hierarchy_file, counted, rules_of, output, IsOutput, names_of}
 use Rattle.ept_meta.proofs.NamesDiffer.{one-tile, one-hierarchy, tile-hierarchy, tile-metadata, tile-manifest, tile-build, hierarchy-metadata, hierarchy-manifest, hierarchy-build, metadata-manifest, metadata-build, manifest-build}
 use Rattle.ept_meta.proofs.InBounds.{cube-of-kept, all-in-cube}
 

@@ -1,12 +1,10 @@
 -- Lines and the nodes of which they tell: one is a whole octree where the other is.
-use Rattle.std.proofs.Common.{◌≡◌, ◌∙◌, ◌⊎◌, ℕ, zero, suc, ◌+◌, ◌<◌, ◌^◌, ◌==◌, ◌||◌, Bool, true, false, cond, inl, inr, List, [], ◌∷◌, ◌++◌, map, refl, sym, ap, subst, arith, length}
-use Rattle.std.specs.Prelude.{All, AllPairs, sum_by}
+use Rattle.std.proofs.Common.{◌≡◌, ◌∙◌, ◌⊎◌, ℕ, zero, suc, ◌<◌, ◌^◌, ◌==◌, ◌||◌, Bool, true, false, cond, inl, inr, List, [], ◌∷◌, map, refl, sym, ap, subst, arith, length}
+use Rattle.std.specs.Prelude.{AllPairs}
 use Rattle.std.specs.Int.{bit_at}
-use Rattle.std.specs.List.{AllZip, flat_map}
 use Rattle.std.specs.declared.cmp.Ordering.TheVariants.{Less}
 use Rattle.std.proofs.lemmas.List.{length-append}
 use Rattle.std.proofs.lemmas.List.Sums.{sum_by-cons}
-use Rattle.ept_point.specs.declared.point.Point.{Point}
 use Rattle.ept_space.specs.VoxelKey.{VoxelKey, IsKey, root, child, parent, octant_of, same_key, key_cmp}
 use Rattle.ept_space.proofs.Within.{same_key-true, same_key-same}
 use Rattle.ept_space.proofs.Family.{parent-child, octant_of-child, octant_of-below, child-parent, depth-child}
@@ -18,12 +16,12 @@ use Rattle.ept_grid.specs.Mask.{opened}
 use Rattle.ept_grid.specs.Node as grid
 use Rattle.ept_core.specs.declared.node.Node as core
 use Rattle.ept_core.specs.State as state
-use Rattle.ept_core.specs.State.{Entry, blank, node_at, has_node, has_open}
+use Rattle.ept_core.specs.State.{Entry, node_at, has_node, has_open}
 use Rattle.ept_core.proofs.NodeMap.{node_at-member, has_node-key, key-has_node}
 use Rattle.ept_ckpt.specs.declared.node_line.NodeLine.{NodeLine}
 use Rattle.ept_ckpt.specs.Octree as ckpt
 use Rattle.ept_ckpt.specs.Octree.{AreWholeOctree, AreNodesOf, TellsChildren, HasParent, is_among}
-use Rattle.ept_tree.specs.Tree.{Branch, entry_of, node_of, points_in}
+use Rattle.ept_tree.specs.Tree.{Branch, entry_of, points_in}
 use Rattle.ept_tree.specs.Whole.{IsKnown, IsBelowOpen, AreWhole}
 use Rattle.ept_tree.proofs.Growing.{has_open_then}
 use Rattle.ept_tree.proofs.Wholeness.{blank_open}

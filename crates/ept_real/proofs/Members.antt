@@ -1,5 +1,5 @@
 -- What a set of texts has, as a list of lists.
-use Rattle.std.proofs.Common.{◌≡◌, ◌≢◌, ℕ, List, [], ◌∷◌, Bool, true, false, cond, ◌∙◌, ap, sym, subst, refl, rules, inl, inr, ◌⊎◌, ◌++◌, ◌||◌}
+use Rattle.std.proofs.Common.{◌≡◌, ℕ, List, [], ◌∷◌, Bool, true, false, cond, ◌∙◌, ap, sym, subst, refl, rules, inl, inr, ◌⊎◌, ◌||◌}
 use Rattle.std.specs.Prelude.{Contains, map, string_bytes, ◌↔◌, IsTrue, bytes_eq}
 use Rattle.std.specs.Prelude.{String}
 use Rattle.std.specs.String.{string_cmp}
@@ -7,7 +7,6 @@ use Rattle.ept_real.specs.Ways.{Keeps, KeepsBut}
 use Rattle.std.specs.BTreeSet.{BTreeSet, MovesPrefix, UpdatesBy, contains_text}
 use Rattle.std.specs.List.{list_any}
 use Rattle.std.specs.Ordering.{nat_cmp, is_eq}
-use Rattle.std.specs.BTreeMap.{is_at}
 use Rattle.std.specs.Cmp.Lexicographic.{slice_cmp}
 use Rattle.std.proofs.lemmas.Cmp.{nat_list_eq_equiv}
 use Rattle.std.proofs.lemmas.Map.Text.{is_eq-slice_cmp, btree_set_updates_text}

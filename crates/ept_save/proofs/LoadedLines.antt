@@ -1,29 +1,26 @@
 -- The line of a key in the current checkpoint, and what its tile is loaded as.
-use Rattle.std.proofs.Common.{◌≡◌, ◌≢◌, ◌∙◌, ◌⊎◌, inl, inr, ℕ, zero, suc, ◌<◌, ◌≤◌, ◌+◌, Bool, true, false, cond, List, [], ◌∷◌, ◌++◌, length, get_or, take, drop, ◌-◌, Option, Some, None, refl, sym, ap, subst, arith}
+use Rattle.std.proofs.Common.{◌≡◌, ◌≢◌, ◌∙◌, ◌⊎◌, inl, inr, ℕ, suc, ◌<◌, ◌≤◌, Bool, true, false, cond, List, [], ◌∷◌, ◌++◌, length, get_or, take, drop, ◌-◌, Option, Some, None, refl, sym, ap, subst, arith}
 use Rattle.std.proofs.lemmas.List.{drop_at, take_rest}
-use Rattle.std.specs.Prelude.{find, All, Result, Ok, Err, IfOk, IfErr, OnOk, IsSomeAnd}
+use Rattle.std.specs.Prelude.{find, Result, Ok, Err, IfOk, IfErr, OnOk, IsSomeAnd}
 use Rattle.ept_base.specs.Files.{Files, Tells}
 use Rattle.ept_base.specs.Devices.{Gets}
 use Rattle.ept_point.specs.declared.point.Point.{Point}
-use Rattle.ept_point.specs.declared.tile.TileError.{TileError}
 use Rattle.ept_point.specs.Packed.{tile}
 use Rattle.ept_point.specs.Tile.{ReadsAs}
 use Rattle.ept_point.specs.Laws.{ReadInOneWay}
 use Rattle.ept_space.specs.VoxelKey.{VoxelKey, same_key}
 use Rattle.ept_space.specs.declared.cube.Rules.{Rules}
-use Rattle.ept_space.specs.OctreeCube.{InBox}
 use Rattle.ept_space.proofs.Within.{same_key-true}
-use Rattle.ept_sample.specs.Place.{place, AllInBox}
 use Rattle.ept_config.specs.declared.kept.Kept.{Kept}
 use Rattle.ept_grid.specs.declared.error.GridError.{GridError}
 use Rattle.ept_grid.specs.declared.error.GridError.TheVariants.{Outside, OpenLoser, TooMany, Deep, Memory}
 use Rattle.ept_grid.specs.Node.{Node, IsNodeOf}
-use Rattle.ept_grid.specs.Tile.{is_open_loser, IsTile, IsTileFault}
+use Rattle.ept_grid.specs.Tile.{IsTile, IsTileFault}
 use Rattle.ept_ckpt.specs.declared.letter.Letter.{Letter}
 use Rattle.ept_ckpt.specs.declared.node_line.NodeLine.{NodeLine}
 use Rattle.ept_ckpt.specs.declared.checkpoint.Checkpoint.{Checkpoint}
 use Rattle.ept_ckpt.specs.Lookup.{line_of_key}
-use Rattle.ept_ckpt.specs.Valid.{IsNode, deepest}
+use Rattle.ept_ckpt.specs.Valid.{deepest}
 use Rattle.ept_meta.specs.Output.{rules_of}
 use Rattle.ept_save.specs.declared.error.SaveError.{SaveError}
 use Rattle.ept_save.specs.declared.error.SaveError.TheVariants.{StoreFault, TileDamaged}

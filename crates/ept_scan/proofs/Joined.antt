@@ -1,5 +1,5 @@
 -- The scan of some inputs and of those behind them is the scan of all.
-use Rattle.std.proofs.Common.{◌≡◌, ⊎_elim, ℕ, zero, suc, ◌+◌, ◌-◌, ◌<◌, ◌≤◌, List, [], ◌∷◌, ◌++◌, Option, Some, None, length, take, drop, get_or, refl, sym, ◌∙◌, ap, subst, arith, length-append, length-drop}
+use Rattle.std.proofs.Common.{◌≡◌, ⊎_elim, ℕ, zero, suc, ◌+◌, ◌-◌, ◌<◌, ◌≤◌, List, [], ◌∷◌, ◌++◌, Some, None, length, take, drop, get_or, refl, sym, ◌∙◌, ap, subst, arith, length-append, length-drop}
 use Rattle.std.specs.Prelude.{slice_get}
 use Rattle.std.specs.List.{AllZip}
 use Rattle.std.proofs.lemmas.Bool.{cases_lt}
@@ -10,15 +10,12 @@ use Rattle.ept_base.specs.Files.{Files}
 use Rattle.ept_point.specs.declared.point.Point.{Point}
 use Rattle.ept_space.specs.declared.bounds.Bounds.{Bounds}
 use Rattle.ept_config.specs.declared.input.Input.{Input}
-use Rattle.ept_config.specs.declared.source_count.SourceCount.{SourceCount}
 use Rattle.ept_config.specs.Counts.{IsCountOf, total}
-use Rattle.ept_scan.specs.declared.scan_done.ScanDone.{ScanDone}
 use Rattle.ept_scan.specs.declared.scan_error.ScanError.{ScanError}
 use Rattle.ept_scan.specs.declared.scan_error.ScanError.TheVariants.{SourceFault, BadLas, OutOfBounds, TooManyPoints, NoBounds, Memory}
-use Rattle.ept_scan.specs.Scans.{in_order, HasPointsAt, ArePointsFrom, IsFirstRefused, ScanIsRefused, IsScan}
+use Rattle.ept_scan.specs.Scans.{in_order, HasPointsAt, ArePointsFrom, IsFirstRefused, ScanIsRefused}
 use Rattle.ept_scan.specs.Laws.{ScansJoin, ScanFront, ScanBack, RefusedBehind}
 use Rattle.ept_scan.proofs.Begun.{total_length}
-use Rattle.ept_scan.proofs.Listing.{zip_length}
 
 -- pairs of two lists: of lists that are joined, and of their first and last parts
 zip_append : {A B : Type 0} (R : A → B → Type 0) (xs more_xs : List A) (ys more_ys : List B) → AllZip R xs ys → AllZip R more_xs more_ys → AllZip R (xs ++ more_xs) (ys ++ more_ys)

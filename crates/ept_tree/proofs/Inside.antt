@@ -20,7 +20,7 @@ use Rattle.ept_sample.proofs.Octants.{IsMember-octant}
 use Rattle.ept_sample.proofs.IdLaws.{count_by-cons, count_by-member}
 use Rattle.ept_grid.specs.Outgoing.{Leaving, points_at, all_points}
 use Rattle.ept_grid.specs.Node as grid
-use Rattle.ept_grid.specs.Node.{SendsOn, is_open_in}
+use Rattle.ept_grid.specs.Node.{SendsOn}
 use Rattle.ept_grid.proofs.Leavings.{all-none}
 use Rattle.ept_tree.specs.declared.arrival.Arrival.{Arrival}
 use Rattle.ept_tree.specs.Sending.{arrival_at, arrivals_to, sending}

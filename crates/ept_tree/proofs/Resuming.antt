@@ -1,5 +1,5 @@
 -- A tree whose nodes are those of a sampling.
-use Rattle.std.proofs.Common.{◌≡◌, ◌∙◌, ℕ, ◌<◌, ◌++◌, Bool, true, inl, inr, List, [], ◌∷◌, map, refl, sym, ap, subst}
+use Rattle.std.proofs.Common.{◌≡◌, ◌∙◌, ℕ, ◌<◌, ◌++◌, true, inl, inr, List, [], ◌∷◌, map, refl, sym, ap, subst}
 use Rattle.ept_point.specs.declared.point.Point.{Point}
 use Rattle.ept_space.specs.declared.cube.Rules.{Rules}
 use Rattle.ept_space.specs.VoxelKey.{VoxelKey, child}
@@ -20,7 +20,7 @@ use Rattle.ept_core.proofs.CoreLaws.{landed-sampled, landed-opens}
 use Rattle.ept_core.proofs.Held.{keys-rise}
 use Rattle.ept_core.proofs.NodeMap.{node_at-member}
 use Rattle.ept_core.proofs.Resumed.{resumed-keeps}
-use Rattle.ept_tree.specs.Tree.{Branch, entry_of, node_of, tile_of, state_of, AreNodes, IsTree}
+use Rattle.ept_tree.specs.Tree.{Branch, entry_of, tile_of, state_of, AreNodes, IsTree}
 use Rattle.ept_tree.specs.TreeLaws.{AreSampled}
 use Rattle.ept_tree.proofs.Branches.{tiles-of}
 use Rattle.ept_tree.proofs.Growing.{map_alike, has_open_then}

@@ -1,5 +1,5 @@
 -- The nodes of an octree, as points are brought into it one by one: a state of the core with one actor.
-use Rattle.std.specs.Prelude.{◌≡◌, ℕ, ◌+◌, ◌<◌, ◌≤◌, true, List, [], ◌∷◌, ◌++◌, map, Bool, count_by}
+use Rattle.std.specs.Prelude.{◌≡◌, ℕ, ◌<◌, ◌≤◌, true, List, [], ◌∷◌, map}
 use Rattle.std.specs.List.{All, flat_map}
 use Rattle.ept_point.specs.declared.point.Point.{Point}
 use Rattle.ept_space.specs.declared.cube.Rules.{Rules}
@@ -10,14 +10,14 @@ use Rattle.ept_sample.specs.declared.tiles.Tile.{Tile}
 use Rattle.ept_sample.specs.Members.{IsMember}
 use Rattle.ept_sample.specs.Arrivals.{all_octants}
 use Rattle.ept_grid.specs.Mask.{opened}
-use Rattle.ept_grid.specs.Outgoing.{Leaving, points_at, all_points}
+use Rattle.ept_grid.specs.Outgoing.{Leaving, points_at}
 use Rattle.ept_grid.specs.Node as grid
 use Rattle.ept_core.specs.declared.node.Node as core
 use Rattle.ept_core.specs.declared.flight.Flight.{Flight}
 use Rattle.ept_core.specs.State.{State, Entry}
 use Rattle.ept_core.specs.Law.{KeepsLaw}
 use Rattle.ept_tree.specs.declared.arrival.Arrival.{Arrival}
-use Rattle.ept_tree.specs.Sending.{arrival_at, sending}
+use Rattle.ept_tree.specs.Sending.{arrival_at}
 
 -- a node and its key
 abbrev pub Branch : Type 0

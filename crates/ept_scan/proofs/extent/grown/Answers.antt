@@ -1,4 +1,4 @@
-use Rattle.std.proofs.Common.{List, [], ◌∷◌, ◌++◌, sym, ap, subst}
+use Rattle.std.proofs.Common.{List, [], ◌∷◌, ◌++◌, sym, subst}
 use Rattle.ept_point.specs.declared.point.Point.{Point}
 use Rattle.ept_config.specs.Extents.{IsExtentOf}
 use Rattle.ept_scan.proofs.Spans.{extent_at, extent_none}

@@ -1,4 +1,4 @@
-use Rattle.std.proofs.Common.{◌≡◌, ◌++◌, List, ℕ, take, length, refl, arith, rules}
+use Rattle.std.proofs.Common.{◌≡◌, ◌++◌, take, length, refl, arith, rules}
 use Rattle.std.proofs.lemmas.Grind.{common_steps}
 use Rattle.ept_mem.specs.Cut.{rest_of_piece}
 use Rattle.ept_mem.proofs.Cutting.{read_taken, read_left, read_end}

@@ -1,4 +1,4 @@
-use Rattle.std.proofs.Common.{subst, ◌⊎◌, ℕ, List}
+use Rattle.std.proofs.Common.{subst, ◌⊎◌}
 use Rattle.std.specs.Prelude.{Contains}
 use Rattle.ept_real.proofs.Members.{paths, text-merged}
 use Rattle.ept_real.proofs.path_set.PathSet.take_over.Goals as goal

@@ -1,7 +1,7 @@
 use Rattle.std.proofs.Common.{subst, sym}
 use Rattle.std.proofs.lemmas.Result.{on_ok_weaker}
 use Rattle.std.specs.Prelude.{Contains}
-use Rattle.ept_real.specs.Flushing.{flushed, folders_to_flush}
+use Rattle.ept_real.specs.Flushing.{flushed}
 use Rattle.ept_real.specs.Paths.{store_folder}
 use Rattle.ept_real.specs.Ways.{IsOnWay}
 use Rattle.ept_real.proofs.store.RealStoreStore.put.Goals as goal

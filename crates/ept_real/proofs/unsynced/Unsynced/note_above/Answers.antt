@@ -1,4 +1,4 @@
-use Rattle.std.proofs.Common.{inl, inr}
+use Rattle.std.proofs.Common.{inl}
 use Rattle.std.specs.Path.{path_bytes}
 use Rattle.std.specs.Path.Iter.{ancestors_next}
 use Rattle.ept_real.proofs.Climbs.{taken}
