@@ -4,6 +4,7 @@ use Rattle.std.proofs.lemmas.List.{take-append-le, drop-append-le}
 use Rattle.ept_http.specs.declared.asked.Asked.{Asked}
 use Rattle.ept_http.specs.Answers.{IsJudge, MayBeAsked}
 use Rattle.ept_http.proofs.OneAnswer.{one-answer, may-be-asked}
+use Rattle.ept_http.proofs.DecidedAnswer.{some-judge}
 use Rattle.ept_conn.specs.declared.turn.Turn.{Turn}
 use Rattle.ept_conn.specs.HeadEnd.{Front, Whole, Long, Short, front}
 use Rattle.ept_conn.specs.Held.{Held, fresh, fed, turns_left}
@@ -164,3 +165,8 @@ first-asked behind bytes (Whole len) turn first = may-be-asked (take len bytes) 
 
 pub next-asked : (old new : Held) (turn : Turn) → IsNext old turn new → MayBeAsked turn.asked
 next-asked old new turn is = first-asked (65536 - old.given - 1) old.bytes (front old.bytes) turn is.first
+
+-- ---- there are turns
+
+pub some-due : (held : Held) → (turns : List Turn) × AreDue held turns
+some-due held = (due_of some-judge.0 held, judged-due some-judge.0 held some-judge.1)

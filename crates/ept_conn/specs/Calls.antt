@@ -49,7 +49,11 @@ AllAreGiven =
 abbrev pub TurnsAreOne : Type 0
 TurnsAreOne = (held : Held) (a b : List Turn) → AreDue held a → AreDue held b → a ≡ b
 
--- and a judge's are these
+-- and there is one
+abbrev pub TurnsAreThere : Type 0
+TurnsAreThere = (held : Held) → (turns : List Turn) × AreDue held turns
+
+-- a judge's turns are these
 abbrev pub JudgeGivesTurns : Type 0
 JudgeGivesTurns = (judge : List ℕ → Asked × Bool) (held : Held) → IsJudge judge → AreDue held (due_of judge held)
 

@@ -1,12 +1,9 @@
 //! The bytes of a connection, cut into heads.
 
-ghost use Rattle.std.specs.Prelude.{◌≡◌, ◌≤◌, ◌<◌, ◌+◌, ◌↔◌, IsTrue, ℕ, List, Bool, true, false, Some, None, IfOk, OnOk, OnErr, IfSome, IfNone, Err, length, take, drop};
-ghost use Rattle.ept_http.specs.declared.asked.Asked.{Asked};
-ghost use Rattle.ept_http.specs.Answers.{IsJudge};
+ghost use Rattle.std.specs.Prelude.{◌≡◌, ◌≤◌, ◌+◌, ◌↔◌, IsTrue, true, false, Some, None, IfOk, OnOk, OnErr, IfSome, IfNone, Err, length, take};
 ghost use Rattle.ept_conn.specs.HeadEnd.{Whole, Long, front, head_end};
 ghost use Rattle.ept_conn.specs.Held.{fresh, fed};
-ghost use Rattle.ept_conn.specs.Turns.{IsNext, IsIdle, IsTurnOf, too_long};
-ghost use Rattle.ept_conn.specs.Judged.{Gives};
+ghost use Rattle.ept_conn.specs.Turns.{IsNext, IsIdle};
 
 use crate::head::{drop_front, find_end, first};
 use crate::turn::Turn;

@@ -3,3 +3,7 @@ mod Numbers
 mod QueryLemmas
 mod TargetLemmas
 pub mod OneAnswer
+mod Decided
+mod DecidedHead
+mod DecidedTarget
+pub mod DecidedAnswer

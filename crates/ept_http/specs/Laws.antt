@@ -4,7 +4,7 @@ use Rattle.ept_space.specs.declared.box3.Box3.{Box3}
 use Rattle.ept_http.specs.declared.asked.Asked.{Asked}
 use Rattle.ept_http.specs.QueryWords.{IsBoxText, IsDepthsText}
 use Rattle.ept_http.specs.Targets.{AsksFor}
-use Rattle.ept_http.specs.Answers.{IsAnswer, MayBeAsked}
+use Rattle.ept_http.specs.Answers.{IsAnswer, MayBeAsked, IsJudge}
 
 -- a text is that of one box at most
 abbrev pub TextHasOneBox : Type 0
@@ -27,3 +27,11 @@ BytesHaveOneAnswer =
 -- an answer is one that can be given: a query's words are ordered, and a refusal has a status of a refusal
 abbrev pub AnswersMayBeAsked : Type 0
 AnswersMayBeAsked = (bytes : List ℕ) (asked : Asked) (last : Bool) → IsAnswer bytes asked last → MayBeAsked asked
+
+-- each list of bytes has an answer
+abbrev pub BytesHaveAnAnswer : Type 0
+BytesHaveAnAnswer = (bytes : List ℕ) → (asked : Asked) × (last : Bool) × IsAnswer bytes asked last
+
+-- so there is a judge
+abbrev pub ThereIsAJudge : Type 0
+ThereIsAJudge = (judge : List ℕ → Asked × Bool) × IsJudge judge

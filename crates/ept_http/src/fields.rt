@@ -1,6 +1,6 @@
 //! The fields of a head (RFC 9110, section 5), each as two spans of the head's bytes.
 
-ghost use Rattle.std.specs.Prelude.{◌≡◌, ◌==◌, ◌≤◌, ◌∷◌, [], not, List, ℕ, All, length, map, reverse, codes, slice_range};
+ghost use Rattle.std.specs.Prelude.{◌≡◌, ◌==◌, not, All, length, map, reverse, codes, slice_range};
 ghost use Rattle.std.specs.List.{list_any};
 ghost use Rattle.std.specs.Str.{bytes_eq};
 ghost use Rattle.httparse.specs.Grammar.{skip_ows, trim_ows};

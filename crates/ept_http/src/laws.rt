@@ -1,6 +1,6 @@
 //! What holds of every head. Each law is the contract of a function that does nothing.
 
-ghost use Rattle.ept_http.specs.Laws.{TextHasOneBox, TextHasOneRange, TargetAsksOnce, BytesHaveOneAnswer, AnswersMayBeAsked};
+ghost use Rattle.ept_http.specs.Laws.{TextHasOneBox, TextHasOneRange, TargetAsksOnce, BytesHaveOneAnswer, AnswersMayBeAsked, BytesHaveAnAnswer, ThereIsAJudge};
 
 /// A text spells one box at most, and one range of depths.
 pub fn query_words_law()
@@ -13,4 +13,10 @@ pub fn one_answer_law()
     ensures one_target { TargetAsksOnce }
     ensures one_answer { BytesHaveOneAnswer }
     ensures may_be_asked { AnswersMayBeAsked }
+{}
+
+/// Each list of bytes has an answer, so there is a judge that gives them all.
+pub fn judge_law()
+    ensures each { BytesHaveAnAnswer }
+    ensures judge { ThereIsAJudge }
 {}

@@ -17,6 +17,6 @@ mod tests;
 
 pub use answer::{HeadKind, response_head};
 pub use asked::Asked;
-pub use laws::{one_answer_law, query_words_law};
+pub use laws::{judge_law, one_answer_law, query_words_law};
 pub use query::{read_box, read_depths};
 pub use request::read_request;

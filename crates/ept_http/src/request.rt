@@ -4,8 +4,7 @@ ghost use Rattle.std.specs.Prelude.{◌≡◌, List, ℕ, Bool, IfSome, IfNone, 
 ghost use Rattle.httparse.specs.Grammar.{RequestHead};
 ghost use Rattle.httparse.specs.Spans.{IsRequestWithin, IsRequestAt};
 ghost use Rattle.ept_http.specs.declared.asked.Asked.{Asked};
-ghost use Rattle.ept_http.specs.WholeHead.{IsHead, lines_of};
-ghost use Rattle.ept_http.specs.Fields.{has_close};
+ghost use Rattle.ept_http.specs.WholeHead.{IsHead};
 ghost use Rattle.ept_http.specs.Answers.{refusal_of, closes, HeadAsks, is_last, IsAnswer, IsJudge};
 
 use crate::asked::Asked;
