@@ -3,20 +3,16 @@ use Rattle.std.proofs.Common.{◌≡◌, ◌≢◌, ◌∙◌, inl, inr, ℕ, Li
 use Rattle.ept_base.specs.Files.{Files, SameFiles, SameBut, Tells}
 use Rattle.ept_base.specs.Moves.{Moves, IsSettled}
 use Rattle.ept_base.proofs.Moving.{moves_weaker, moves_both}
-use Rattle.ept_meta.specs.Output.{IsOutsideWork}
 use Rattle.ept_ckpt.specs.declared.letter.Letter.{Letter}
 use Rattle.ept_save.specs.Names.{gate_name, body_name, done_name}
 use Rattle.ept_save.specs.Gates.{IsOpen}
 use Rattle.ept_save.specs.Done.{IsDone, HasOutputOf, IsGuarded, Guards}
 use Rattle.ept_save.specs.View.{View, StandsFor, next_letter}
 use Rattle.ept_save.proofs.NamesDiffer.{done-gate, done-body}
+use Rattle.ept_save.proofs.WorkNames.{outside-done}
 use Rattle.ept_save.proofs.Moving.{moves_where}
 use Rattle.ept_save.proofs.Keeping.{has_current-same}
 use Rattle.ept_save.proofs.Standing.{open_or_not, stepped, tells_some, told_some, settled_some, settled-stands}
-
--- a file of an output is not the done gate
-outside-done : (name : List ℕ) → IsOutsideWork name → name ≢ done_name
-outside-done name outside same = outside.0 (_, same)
 
 gate-guards : (all a b : Files) → HasOutputOf all a → SameBut done_name a b → Guards all a b
 gate-guards all a b has same = record {

@@ -19,6 +19,11 @@ named-body : (current : Current) (letter : Letter) (name : List ℕ) → IsNamed
 named-body None letter name named same = absurd named
 named-body (Some (at, c)) letter name named same = body-tile letter named.1.letter named.1.key (sym same ∙ named.4)
 
+-- what the current checkpoint names is a name of checkpoints
+pub named-saved : (current : Current) (name : List ℕ) → IsNamed current name → IsSavedName name
+named-saved None name named = absurd named
+named-saved (Some (at, c)) name named = inr (inr (named.1.letter, named.1.key, named.4))
+
 pub gate-saved : (letter : Letter) (name : List ℕ) → ¬ IsSavedName name → name ≢ gate_name letter
 gate-saved letter name apart same = apart (inl (letter, same))
 

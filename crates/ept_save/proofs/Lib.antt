@@ -9,3 +9,10 @@ mod Next
 pub mod Newer
 mod Guarding
 mod LoadedLines
+mod WorkNames
+mod SoundFiles
+mod SampledTiles
+mod SoundTiles
+mod ScanCounts
+mod DoneFiles
+mod NextRoot

@@ -32,7 +32,7 @@ use Rattle.ept_save.specs.Loading.{OfLine, AreOfLine, IsNodeFound, IsWrong, IsDa
 -- ---- the line of a key
 
 -- what is found stands in the list, and passes
-found_stands : {X : Type 0} (test : X → Bool) (xs : List X) (x : X) → find test xs ≡ Some x → (i : ℕ) × (i < length xs) × (get_or xs i x ≡ x) × (test x ≡ true)
+pub found_stands : {X : Type 0} (test : X → Bool) (xs : List X) (x : X) → find test xs ≡ Some x → (i : ℕ) × (i < length xs) × (get_or xs i x ≡ x) × (test x ≡ true)
 found_stands test [] x e = cc
 found_stands {X} test (y ∷ xs) x e = by_test (test y) refl (found_stands test xs x) e
   where
@@ -57,7 +57,7 @@ pub of-line : (current : Current) (key : VoxelKey) (at : Letter × Checkpoint) (
 of-line current key at line fact is found has =
     subst (λ (w : Current). OfLine w key fact) (sym is) (subst (λ (o : Option NodeLine). IsSomeAnd o (fact at.1.kept)) (sym found) has)
 
-at-line : (current : Current) (key : VoxelKey) (at : Letter × Checkpoint) (line : NodeLine) (fact : Kept → NodeLine → Type 0) → current ≡ Some at → line_of_key at.1.nodes key ≡ Some line → OfLine current key fact → fact at.1.kept line
+pub at-line : (current : Current) (key : VoxelKey) (at : Letter × Checkpoint) (line : NodeLine) (fact : Kept → NodeLine → Type 0) → current ≡ Some at → line_of_key at.1.nodes key ≡ Some line → OfLine current key fact → fact at.1.kept line
 at-line current key at line fact is found has =
     subst (λ (o : Option NodeLine). IsSomeAnd o (fact at.1.kept)) found (subst (λ (w : Current). OfLine w key fact) is has)
 
@@ -82,7 +82,7 @@ not-wrong once rules line points are wrong = elim wrong [
     same : (found : List Point) → ReadsAs (tile points) (Ok found) → points ≡ found
     same found reads = let e = once (tile points) (Ok points) (Ok found) (refl, are.ascend) reads in cc
 
-not-damaged-line : ReadInOneWay → (rules : Rules) (line : NodeLine) (points : List Point) (files : Files) → AreOfLine rules line points → files (tile_of_line line) ≡ Some (tile points) → ¬ IsDamagedLine rules line files
+pub not-damaged-line : ReadInOneWay → (rules : Rules) (line : NodeLine) (points : List Point) (files : Files) → AreOfLine rules line points → files (tile_of_line line) ≡ Some (tile points) → ¬ IsDamagedLine rules line files
 not-damaged-line once rules line points files are has damaged = elim damaged [
   | inl absent ↦ (let e = sym absent ∙ has in cc)
   | inr wrong ↦ (let e : wrong.0 ≡ tile points = cc in not-wrong once rules line points are (subst (IsWrong rules line) e wrong.2))
@@ -116,6 +116,15 @@ refusal-comes (Err e) current key files all intact only told damaged = elim only
   | inl is ↦ inl (ap Err is)
   | inr (inl is) ↦ inr (inl (ap Err is))
   | inr (inr is) ↦ inr (inr (ap Err is))
+]
+
+-- none comes where it is not
+pub sound-only : {T : Type 0} (result : Result T SaveError) (current : Current) (key : VoxelKey) (files : Option Files) (all : Files) → (result ≡ Err (TileDamaged key) → Tells (IsDamaged current key) files) → IfErr result (λ e. (e ≡ TileDamaged key) ⊎ IsStores e)
+    → ¬ IsDamaged current key all → files ≡ Some all → IfErr result IsStores
+sound-only (Ok t) current key files all refused only intact told = tt
+sound-only (Err e) current key files all refused only intact told = elim only [
+  | inl is ↦ absurd (intact (subst (λ (o : Option Files). Tells (IsDamaged current key) o) told (refused (ap Err is))))
+  | inr stores ↦ stores
 ]
 
 -- ---- why it is told as damaged

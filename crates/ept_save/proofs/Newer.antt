@@ -1,6 +1,8 @@
 -- Which of two checkpoints is the current one.
-use Rattle.std.proofs.Common.{◌≡◌, ◌∙◌, ◌<◌, inl, inr, ℕ, List, Option, Some, None, refl, sym, ap, subst, arith}
-use Rattle.ept_base.specs.Files.{Files, SameFiles}
+use Rattle.std.proofs.Common.{◌≡◌, ◌≢◌, ◌∙◌, ◌<◌, inl, inr, ℕ, List, Option, Some, None, refl, sym, ap, subst, arith}
+use Rattle.std.specs.Prelude.{Result, Ok, Err, IfErr}
+use Rattle.ept_base.specs.Files.{Files, SameFiles, Tells}
+use Rattle.ept_space.specs.VoxelKey.{VoxelKey}
 use Rattle.ept_save.specs.Names.{gate_name, body_name}
 use Rattle.ept_ckpt.specs.declared.letter.Letter.TheVariants.{A, B}
 use Rattle.ept_ckpt.specs.declared.checkpoint.Checkpoint.{Checkpoint}
@@ -8,6 +10,9 @@ use Rattle.ept_ckpt.specs.declared.letter.Letter.{Letter}
 use Rattle.ept_ckpt.specs.Body.{body}
 use Rattle.ept_ckpt.specs.Facts.{facts}
 use Rattle.ept_ckpt.proofs.BothWays.{body_once}
+use Rattle.ept_save.specs.declared.error.SaveError.{SaveError}
+use Rattle.ept_save.specs.declared.error.SaveError.TheVariants.{StoreFault, BadCheckpoint, TileDamaged, Memory}
+use Rattle.ept_save.specs.Errors.{IsStores}
 use Rattle.ept_save.specs.Gates.{Counts}
 use Rattle.ept_save.specs.Current.{Current, HasBody, IsCurrent, HasCurrent}
 use Rattle.ept_save.specs.Opening.{IsBroken, IsBad, IsFound, AreAlike}
@@ -65,12 +70,39 @@ pub not-bad : (current : Current) (files : Files) (letter : Letter) → HasCurre
 not-bad current files A is bad = not-broken current files A is bad
 not-bad current files B is bad = elim bad.1 [ inl broken ↦ not-broken current files B is broken | inr both ↦ not-alike current files is both ]
 
+-- files have one current checkpoint
+two-current : (files : Files) (c d : Checkpoint) → ¬ (IsCurrent files A c × IsCurrent files B d)
+two-current files c d both =
+    let older = both.0.newest both.1.counts in
+    let newer = both.1.newest both.0.counts in
+    let first : older.older ≡ d = one-body files B older.older d older.has_body both.1.has_body in
+    let second : newer.older ≡ c = one-body files A newer.older c newer.has_body both.0.has_body in
+    absurd (omega (arith, older.before, newer.before, ap (λ (e : Checkpoint). e.generation) first, ap (λ (e : Checkpoint). e.generation) second))
+
+pub current-one : (files : Files) (a b : Current) → HasCurrent a files → HasCurrent b files → a ≡ b
+current-one files None None first second = refl
+current-one files None (Some (letter, c)) first second = absurd (first letter second.counts)
+current-one files (Some (letter, c)) None first second = absurd (second letter first.counts)
+current-one files (Some (A, c)) (Some (A, d)) first second = ap (λ (e : Checkpoint). let now : Current = Some (A, e) in now) (one-body files A c d first.has_body second.has_body)
+current-one files (Some (B, c)) (Some (B, d)) first second = ap (λ (e : Checkpoint). let now : Current = Some (B, e) in now) (one-body files B c d first.has_body second.has_body)
+current-one files (Some (A, c)) (Some (B, d)) first second = absurd (two-current files c d (first, second))
+current-one files (Some (B, c)) (Some (A, d)) first second = absurd (two-current files d c (second, first))
+
 -- the bad letter is one
 pub one-bad : (files : Files) (one two : Letter) → IsBad files one → IsBad files two → one ≡ two
 one-bad files A A first second = refl
 one-bad files A B first second = absurd (second.0 first)
 one-bad files B A first second = absurd (first.0 second)
 one-bad files B B first second = refl
+
+-- so none is told of them
+pub only-stores : {T : Type 0} (result : Result T SaveError) (files : Option Files) (current : Current) (all : Files) → files ≡ Some all → HasCurrent current all → ((which : Letter) → result ≡ Err (BadCheckpoint which) → Tells (λ f. IsBad f which) files) → IfErr result (λ e. (key : VoxelKey) → e ≢ TileDamaged key) → IfErr result IsStores
+only-stores (Ok t) files current all told has bad no_tile = tt
+only-stores (Err StoreFault) files current all told has bad no_tile = inl refl
+only-stores (Err (BadCheckpoint which)) files current all told has bad no_tile =
+    absurd (not-bad current all which has (subst (λ (o : Option Files). Tells (λ f. IsBad f which) o) told (bad which refl)))
+only-stores (Err (TileDamaged key)) files current all told has bad no_tile = absurd (no_tile key refl)
+only-stores (Err Memory) files current all told has bad no_tile = inr refl
 
 -- what is found does not change where the files do not
 pub found-back : (files mid : Files) (letter : Letter) (found : Option Checkpoint) → SameFiles files mid → IsFound mid letter found → IsFound files letter found

@@ -10,10 +10,10 @@ use Rattle.ept_ckpt.specs.declared.letter.Letter.{Letter}
 use Rattle.ept_save.specs.Names.{gate_name, body_name, work_tile_name}
 use Rattle.ept_save.specs.Gates.{IsOpen, Counts}
 use Rattle.ept_save.specs.Current.{Current, HasCurrent, IsNamed, Keeps, Agrees}
-use Rattle.ept_save.specs.View.{View, StandsFor, next_letter}
+use Rattle.ept_save.specs.View.{View, StandsFor, IsInEachImage, next_letter}
 use Rattle.ept_save.proofs.Moving.{moves_where}
 use Rattle.ept_save.proofs.NamesDiffer.{gate-tile, body-tile}
-use Rattle.ept_save.proofs.Keeping.{keeps-same, keeps-gate, keeps-tile}
+use Rattle.ept_save.proofs.Keeping.{has_current-same, keeps-same, keeps-gate, keeps-tile}
 
 -- a gate is open or not
 pub open_or_not : (files : Files) (name : List ℕ) → IsOpen files name ⊎ ¬ IsOpen files name
@@ -56,6 +56,15 @@ agrees-alike current one two three four first second agrees = record {
   gates = λ letter. second (gate_name letter) ∙ (agrees.gates letter ∙ sym (first (gate_name letter)));
   bodies = λ letter. second (body_name letter) ∙ (agrees.bodies letter ∙ sym (first (body_name letter)));
   tiles = λ name named. second name ∙ (agrees.tiles name named ∙ sym (first name));
+}
+
+-- what each image has of it
+pub in-images : (view : View) (files : Option Files) (may_leave : Files → Type 0) (stands : StandsFor view files may_leave) → IsInEachImage view stands.all may_leave
+in-images view files may_leave stands = record {
+  current = λ image may. (
+      let agrees = stands.agrees image may in has_current-same view.current stands.all image agrees.gates agrees.bodies stands.has_current);
+  tiles = λ image may. (stands.agrees image may).tiles;
+  shut = λ begun image may counts. stands.shut begun (sym ((stands.agrees image may).gates (next_letter view.current)) ∙ counts);
 }
 
 -- a settled store with this current checkpoint stands for it

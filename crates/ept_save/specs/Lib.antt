@@ -8,3 +8,6 @@ pub mod Stored
 pub mod Opening
 pub mod Done
 pub mod Loading
+pub mod Complete
+pub mod Sound
+pub mod SoundLaws

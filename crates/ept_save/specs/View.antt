@@ -10,7 +10,7 @@ use Rattle.ept_ckpt.specs.declared.node_line.NodeLine.{NodeLine}
 use Rattle.ept_ckpt.specs.declared.checkpoint.Checkpoint.{Checkpoint}
 use Rattle.ept_save.specs.Names.{other}
 use Rattle.ept_save.specs.Gates.{Counts}
-use Rattle.ept_save.specs.Current.{Current, HasCurrent, Agrees}
+use Rattle.ept_save.specs.Current.{Current, HasCurrent, IsNamed, Agrees}
 
 -- the current checkpoint, the lines for the next one in key order, and whether that one is begun
 pub record View : Type 0 where
@@ -51,3 +51,10 @@ next_facts view kept counts inserted = record {
 abbrev pub IsNewer : Current → Checkpoint → Type 0
 IsNewer None next = ⊤
 IsNewer (Some (letter, c)) next = c.generation < next.generation
+
+-- In each image the checkpoint is the current one, and the tiles that it names are those that are read; and where the
+-- next one is begun, its letter counts in none.
+pub record IsInEachImage (view : View) (all : Files) (may_leave : Files → Type 0) : Type 0 where
+  pub current : (image : Files) → may_leave image → HasCurrent view.current image
+  pub tiles : (image : Files) → may_leave image → (name : List ℕ) → IsNamed view.current name → image name ≡ all name
+  pub shut : view.begun ≡ true → (image : Files) → may_leave image → ¬ Counts image (next_letter view.current)

@@ -9,7 +9,7 @@ ghost use Rattle.ept_ckpt.specs.declared.checkpoint.Checkpoint as c;
 ghost use Rattle.ept_ckpt.specs.Facts.{facts};
 ghost use Rattle.ept_ckpt.specs.Valid.{IsCheckpoint};
 ghost use Rattle.ept_save.specs.Names.{body_name, gate_name};
-ghost use Rattle.ept_save.specs.Current.{Commits};
+ghost use Rattle.ept_save.specs.Current.{Commits, HasCurrent};
 ghost use Rattle.ept_save.specs.View.{View, StandsFor, IsNewer, next_letter, next_generation, next_facts};
 ghost use Rattle.ept_save.specs.Errors.{IsStores};
 
@@ -49,6 +49,8 @@ pub fn commit<T: Store>(
         (Commits saved.old.current (next_letter saved.old.current) next stands.all) store.old store.new }
     ensures stands { OnOk result (StandsFor saved.old (T.files store.old) (T.may_leave store.old)
         → StandsFor saved.new (T.files store.new) (T.may_leave store.new)) }
+    ensures each_image { OnOk result (StandsFor saved.old (T.files store.old) (T.may_leave store.old)
+        → (image : Files) → T.may_leave store.new image → HasCurrent saved.new.current image) }
     ensures settled { OnOk result (IsSettled (T.files store.new) (T.may_leave store.new)) }
     ensures only { IfErr result IsStores }
     ensures cause { HasCauseOf SaveError.StoreFault (T.faults store.old) (T.faults store.new) result }

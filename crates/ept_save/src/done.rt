@@ -31,6 +31,8 @@ pub fn is_done<T: Store>(alloc: Global, store: &mut T) -> Result<bool, SaveError
 /// Closes the done gate, and makes what is read stable.
 pub fn close_done<T: Store>(alloc: Global, store: &mut T) -> Result<(), SaveError>
     ensures closed { OnOk result (Tells (λ all. ¬ IsDone all) (T.files store.new)) }
+    ensures stood_shut { (all : Files) → T.files store.old ≡ Some all → ¬ IsDone all
+        → Moves T.files T.may_leave T.moment T.image_since SameFiles store.old store.new }
     ensures gate { Moves T.files T.may_leave T.moment T.image_since (SameBut done_name) store.old store.new }
     ensures guards { (guarded : IsGuarded (T.files store.old) (T.may_leave store.old))
         → Moves T.files T.may_leave T.moment T.image_since (Guards guarded.all) store.old store.new }

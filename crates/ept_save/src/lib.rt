@@ -2,10 +2,15 @@
 #![tactic(auto)]
 
 mod committing;
+#[cfg(test)]
+mod crash_tests;
 mod done;
 mod error;
 mod gates;
+mod laws;
 mod loading;
+#[cfg(test)]
+mod loading_tests;
 mod names;
 mod opening;
 mod saved;
@@ -16,6 +21,7 @@ mod tests;
 pub use committing::commit;
 pub use done::{close_done, is_done, open_done};
 pub use error::SaveError;
+pub use laws::{images_law, sound_law, sound_steps_law};
 pub use loading::{load_node, load_tile};
 pub use opening::open;
 pub use saved::Saved;

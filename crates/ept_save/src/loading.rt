@@ -1,6 +1,6 @@
 //! Loading the nodes of the current checkpoint.
 
-ghost use Rattle.std.specs.Prelude.{◌≡◌, ◌≢◌, ◌≤◌, ◌⊎◌, ◌++◌, length, Some, Err, IfOk, IfErr, OnOk, OnErr};
+ghost use Rattle.std.specs.Prelude.{◌≡◌, ◌≢◌, ◌≤◌, ◌<◌, ◌^◌, ◌⊎◌, ◌++◌, length, Some, Err, IfOk, IfErr, OnOk, OnErr};
 ghost use Rattle.ept_base.specs.Causes.{HasCauseOf};
 ghost use Rattle.ept_base.specs.Files.{Files, SameFiles, Tells};
 ghost use Rattle.ept_base.specs.Moves.{Moves, SameImages};
@@ -12,7 +12,8 @@ ghost use Rattle.ept_grid.specs.declared.error.GridError.{GridError};
 ghost use Rattle.ept_grid.specs.Tile.{IsTile, IsTileFault};
 ghost use Rattle.ept_meta.specs.Output.{rules_of};
 ghost use Rattle.ept_save.specs.Errors.{IsStores};
-ghost use Rattle.ept_save.specs.Current.{tile_of_line};
+ghost use Rattle.ept_save.specs.Current.{HasCurrent, tile_of_line};
+ghost use Rattle.ept_save.specs.Sound.{IsSound};
 ghost use Rattle.ept_save.specs.Loading.{HasLine, AreOfLine, AreFound, HasTile, IsNodeFound, AppendsFound, IsWrong, IsDamaged, IsDamagedLine};
 ghost use Rattle.ept_save.specs.View as view;
 ghost use Rattle.ept_save.specs.View.{StandsFor};
@@ -24,6 +25,7 @@ use ept_base::Store;
 use ept_ckpt::NodeLine;
 use ept_config::Kept;
 use ept_grid::{Grid, GridError};
+use ept_meta::output_once_law;
 use ept_point::{Point, TileError, read_tile, tile_once_law};
 use ept_space::{Cube, Key, Rules};
 use std::alloc::Global;
@@ -47,12 +49,15 @@ pub fn load_tile<T: Store>(
     ensures appended { OnOk result (AppendsFound saved.now.current key (T.files store.old) out.old.items out.new.items) }
     ensures unchanged { OnErr result (out.new.items ≡ out.old.items) }
 
-    // A damaged tile is told exactly where it is one, unless the store fails or memory runs out.
+    // A damaged tile is told exactly where it is one, unless the store fails or memory runs out; and so none of
+    // sound files is.
     ensures refused { result ≡ Err (SaveError.TileDamaged key) → Tells (IsDamaged saved.now.current key) (T.files store.old) }
     ensures refusal_comes { (all : Files) → T.files store.old ≡ Some all → IsDamaged saved.now.current key all
         → (result ≡ Err (SaveError.TileDamaged key)) ⊎ (result ≡ Err SaveError.StoreFault)
         ⊎ (result ≡ Err SaveError.Memory) }
     ensures only { IfErr result (λ e. (e ≡ SaveError.TileDamaged key) ⊎ IsStores e) }
+    ensures sound { (shelf all : Files) → T.files store.old ≡ Some all → IsSound shelf all
+        → HasCurrent saved.now.current all → IfErr result IsStores }
 
     // What is read and every image are as before, and the store stands for what it stood for.
     ensures images { SameImages (T.may_leave store.old) (T.may_leave store.new) }
@@ -83,12 +88,15 @@ pub fn load_node<T: Store>(
     ensures points { IfOk result (λ node. AreFound saved.now.current key node.points) }
     ensures tile { IfOk result (λ node. Tells (HasTile saved.now.current key node.points) (T.files store.old)) }
 
-    // A damaged tile is told exactly where it is one, unless the store fails or memory runs out.
+    // A damaged tile is told exactly where it is one, unless the store fails or memory runs out; and so none of
+    // sound files is.
     ensures refused { result ≡ Err (SaveError.TileDamaged key) → Tells (IsDamaged saved.now.current key) (T.files store.old) }
     ensures refusal_comes { (all : Files) → T.files store.old ≡ Some all → IsDamaged saved.now.current key all
         → (result ≡ Err (SaveError.TileDamaged key)) ⊎ (result ≡ Err SaveError.StoreFault)
         ⊎ (result ≡ Err SaveError.Memory) }
     ensures only { IfErr result (λ e. (e ≡ SaveError.TileDamaged key) ⊎ IsStores e) }
+    ensures sound { (shelf all : Files) → T.files store.old ≡ Some all → IsSound shelf all
+        → HasCurrent saved.now.current all → IfErr result IsStores }
 
     // What is read and every image are as before, and the store stands for what it stood for.
     ensures images { SameImages (T.may_leave store.old) (T.may_leave store.new) }
@@ -116,6 +124,8 @@ fn load<T: Store>(
     ensures points { IfOk result (λ node. AreFound saved.now.current key.now node.points) }
     ensures tile { IfOk result (λ node. Tells (HasTile saved.now.current key.now node.points) (T.files store.old)) }
     ensures refused { result ≡ Err (SaveError.TileDamaged key.now) → Tells (IsDamaged saved.now.current key.now) (T.files store.old) }
+    ensures sound { (shelf all : Files) → IsSound shelf all → HasCurrent saved.now.current all
+        → ¬ IsDamaged saved.now.current key.now all }
     ensures intact { OnOk result (Tells (λ all. ¬ IsDamaged saved.now.current key.now all) (T.files store.old)) }
     ensures only { IfErr result (λ e. (e ≡ SaveError.TileDamaged key.now) ⊎ IsStores e) }
     ensures images { SameImages (T.may_leave store.old) (T.may_leave store.new) }
@@ -124,8 +134,17 @@ fn load<T: Store>(
 {
     let (_, checkpoint) = saved.current.as_ref().unwrap();
     let line = checkpoint.line(key).unwrap();
+    mask_known(line);
     tile_once_law();
+    output_once_law();
     load_line(alloc, store, &checkpoint.kept, line, out)
+}
+
+// Tells a proof that a mask is a byte.
+fn mask_known(line: &NodeLine)
+    ensures { line.now.mask < 2 ^ 8 }
+{
+    let _mask = line.mask;
 }
 
 // The node that a line tells of, whose points are appended.

@@ -7,8 +7,9 @@ ghost use Rattle.ept_base.specs.Moves.{Elapses, Moves, SameImages, IsSettled};
 ghost use Rattle.ept_ckpt.specs.declared.letter.Letter.TheVariants as letter;
 ghost use Rattle.ept_ckpt.specs.declared.letter.Letter as l;
 ghost use Rattle.ept_ckpt.specs.declared.checkpoint.Checkpoint as c;
-ghost use Rattle.ept_save.specs.Current.{HasCurrent};
+ghost use Rattle.ept_save.specs.Current.{Current, HasCurrent};
 ghost use Rattle.ept_save.specs.Opening.{IsBroken, IsBad, IsFound, AreAlike, lines_of};
+ghost use Rattle.ept_save.specs.Errors.{IsStores};
 ghost use Rattle.ept_save.specs.View.{StandsFor};
 ghost use Rattle.ept_space.specs.VoxelKey.{VoxelKey};
 
@@ -32,15 +33,38 @@ pub fn open<T: Store>(alloc: Global, store: &mut T) -> Result<Saved, SaveError>
     ensures lines { IfOk result (λ saved. saved.lines ≡ lines_of saved.current) }
     ensures begun { IfOk result (λ saved. saved.begun ≡ false) }
 
-    // A bad checkpoint is told exactly where there is one, unless the store fails or memory runs out.
+    // A bad checkpoint is told exactly where there is one, unless the store fails or memory runs out; and so none
+    // of files of which it is known which one is current, or that none is, as of sound ones.
     ensures refused { (which : l.Letter) → result ≡ Err (SaveError.BadCheckpoint which)
         → Tells (λ all. IsBad all which) (T.files store.old) }
     ensures refusal_comes { (which : l.Letter) → (all : Files) → T.files store.old ≡ Some all → IsBad all which
         → (result ≡ Err (SaveError.BadCheckpoint which)) ⊎ (result ≡ Err SaveError.StoreFault)
         ⊎ (result ≡ Err SaveError.Memory) }
     ensures no_tile { IfErr result (λ e. (key : VoxelKey) → e ≢ SaveError.TileDamaged key) }
+    ensures none_bad { (current : Current) (all : Files) → T.files store.old ≡ Some all → HasCurrent current all
+        → IfErr result IsStores }
 
     // What is read and every image are as before, and a settled store stands for what was found.
+    ensures stands { IfOk result (λ saved. (all : Files) → T.files store.old ≡ Some all
+        → IsSettled (T.files store.old) (T.may_leave store.old)
+        → StandsFor saved (T.files store.new) (T.may_leave store.new)) }
+    ensures any_moment { Moves T.files T.may_leave T.moment T.image_since SameFiles store.old store.new }
+    ensures cause { HasCauseOf SaveError.StoreFault (T.faults store.old) (T.faults store.new) result }
+{
+    opened(alloc, store)
+}
+
+// Finds it, as `open` says.
+fn opened<T: Store>(alloc: Global, store: &mut T) -> Result<Saved, SaveError>
+    ensures current { IfOk result (λ saved. Tells (HasCurrent saved.current) (T.files store.old)) }
+    ensures lines { IfOk result (λ saved. saved.lines ≡ lines_of saved.current) }
+    ensures begun { IfOk result (λ saved. saved.begun ≡ false) }
+    ensures refused { (which : l.Letter) → result ≡ Err (SaveError.BadCheckpoint which)
+        → Tells (λ all. IsBad all which) (T.files store.old) }
+    ensures refusal_comes { (which : l.Letter) → (all : Files) → T.files store.old ≡ Some all → IsBad all which
+        → (result ≡ Err (SaveError.BadCheckpoint which)) ⊎ (result ≡ Err SaveError.StoreFault)
+        ⊎ (result ≡ Err SaveError.Memory) }
+    ensures no_tile { IfErr result (λ e. (key : VoxelKey) → e ≢ SaveError.TileDamaged key) }
     ensures stands { IfOk result (λ saved. (all : Files) → T.files store.old ≡ Some all
         → IsSettled (T.files store.old) (T.may_leave store.old)
         → StandsFor saved (T.files store.new) (T.may_leave store.new)) }

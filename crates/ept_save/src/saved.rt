@@ -6,6 +6,7 @@ ghost use Rattle.ept_ckpt.specs.Facts.{facts};
 ghost use Rattle.ept_ckpt.specs.Valid.{IsCheckpoint};
 ghost use Rattle.ept_save.specs.View.{next_letter, next_generation, next_facts};
 ghost use Rattle.ept_save.specs.Lines.{free_letter, with_line};
+ghost use Rattle.ept_save.specs.Loading.{current_line};
 ghost use Rattle.ept_save.specs.Opening.{lines_of};
 ghost use Rattle.ept_save.specs.Stored.{line_of};
 
@@ -69,6 +70,16 @@ impl Saved {
         ensures { option_copied result ≡ option_map (λ c. c.1) self.now.current }
     {
         self.current.as_ref().map(|current| &current.1)
+    }
+
+    /// What the current checkpoint tells of a node, if there is one of this key.
+    pub fn line(&self, key: &Key) -> Option<&NodeLine>
+        ensures { option_copied result ≡ current_line self.now.current key.now }
+    {
+        match &self.current {
+            Some((_, checkpoint)) => checkpoint.line(key),
+            None => None,
+        }
     }
 
     /// The version under which the tile of a key is put: the one that the current checkpoint does not name

@@ -23,7 +23,56 @@ fn body(alloc: Global) -> Result<Vec<u8>, AllocError> {
     Ok(bytes)
 }
 
-fn file(alloc: Global, name: &str, bytes: &[u8]) -> Result<(String, Vec<u8>), AllocError> {
+// The body of a checkpoint of this generation, of one input with so many points between 1 and 2 on each axis,
+// all of them in the root, whose tile is under letter a.
+pub(crate) fn packed_body(alloc: Global, generation: u8, points: u8) -> Result<Vec<u8>, AllocError> {
+    let mut bytes = Vec::from_slice(alloc, b"EPTW\x01\0\0\0")?;
+    bytes.extend_from_slice(&[generation, 0, 0, 0, 0, 0, 0, 0])?;
+    bytes.extend_from_slice(
+        b"\x02\x01\x01\0\x03\0\0\0\
+        \0\0\0\0\0\0\0\0\0\0\0\0\0\0\0\0\0\0\0\0\0\0\0\0\
+        \0\0\0\0\0\0\0\0\0\0\0\0\x03\0\0\0\x03\0\0\0\x03\0\0\0\0\
+        \x01\0\0\0\x05\0\0\0a.las\x02\0\0\0\0\0\0\0\0\0\0\0\0\0\0\0\0\0\0\0\0\0\0\0\0\0",
+    )?;
+    bytes.extend_from_slice(&[points, 0, 0, 0, 0, 0, 0, 0])?;
+    bytes.extend_from_slice(
+        b"\x01\x01\0\0\0\x01\0\0\0\x01\0\0\0\x02\0\0\0\x02\0\0\0\x02\0\0\0",
+    )?;
+    bytes.extend_from_slice(&[points, 0, 0, 0, 0, 0, 0, 0])?;
+    bytes.extend_from_slice(b"\x01\0\0\0\0\0\0\0\0\0\0\0\0\0\0\0\0")?;
+    bytes.extend_from_slice(&[points, 0, 0, 0, 0, 0, 0, 0])?;
+    bytes.extend_from_slice(&[0, 0])?;
+    Ok(bytes)
+}
+
+// A point of the first input.
+pub(crate) fn point(number: u32, place: [i32; 3], intensity: u16) -> Point {
+    Point {
+        x: place[0],
+        y: place[1],
+        z: place[2],
+        intensity,
+        return_number: 1,
+        number_of_returns: 1,
+        scan_direction: 0,
+        edge: 0,
+        class: 0,
+        class_flags: 0,
+        channel: 0,
+        angle_rank: 0,
+        angle: 0,
+        user: 0,
+        source_id: 0,
+        gps: [0; 8],
+        red: 0,
+        green: 0,
+        blue: 0,
+        origin: 0,
+        number,
+    }
+}
+
+pub(crate) fn file(alloc: Global, name: &str, bytes: &[u8]) -> Result<(String, Vec<u8>), AllocError> {
     Ok((
         String::from_str(alloc, name)?,
         Vec::from_slice(alloc, bytes)?,

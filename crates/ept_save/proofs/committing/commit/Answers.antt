@@ -9,6 +9,7 @@ use Rattle.ept_save.specs.Current.{Commits}
 use Rattle.ept_save.specs.Stored.{line_of}
 use Rattle.ept_save.specs.View.{View, StandsFor, next_letter}
 use Rattle.ept_save.proofs.Next.{is-newer}
+use Rattle.ept_save.proofs.Standing.{in-images}
 use Rattle.ept_save.proofs.committing.commit.Goals as goal
 
 pub returns-in_err-put_checkpoint-clause-names : goal.returns-in_err-put_checkpoint-clause-names
@@ -50,3 +51,7 @@ returns-clause-stands g c = λ stands.
     let then : StandsFor (record view { current = Some (c.next_letter-letter.result, next); begun = false }) (g.T.Store.files c.put_checkpoint.new.store) (g.T.Store.may_leave c.put_checkpoint.new.store) =
     c.in_ok-put_checkpoint.ensures.stands view c.requires.begun c.next_letter-letter.ensures (is-newer view c.args.kept.now c.args.counts.now c.args.inserted next c.in_ok-checkpoint.ensures) stands in
     subst (λ (v : View). StandsFor (record v { current = Some (c.next_letter-letter.result, next); begun = false }) (g.T.Store.files c.put_checkpoint.new.store) (g.T.Store.may_leave c.put_checkpoint.new.store)) (sym c.saved.view_is) then
+
+pub returns-clause-each_image : goal.returns-clause-each_image
+returns-clause-each_image g c = λ stands.
+    (in-images _ (g.T.Store.files c.put_checkpoint.new.store) (g.T.Store.may_leave c.put_checkpoint.new.store) (returns-clause-stands g c stands)).current

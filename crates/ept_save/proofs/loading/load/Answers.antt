@@ -2,6 +2,7 @@ use Rattle.std.proofs.Common.{◌∙◌, ap, sym}
 use Rattle.std.specs.Option.{option_copied}
 use Rattle.ept_save.specs.View.{View}
 use Rattle.ept_save.proofs.LoadedLines.{line-low, loaded-node, loaded-intact, loaded-only}
+use Rattle.ept_save.proofs.SoundTiles.{sound-intact}
 use Rattle.ept_save.proofs.loading.load.Goals as goal
 
 pub load_line-requires : goal.load_line-requires
@@ -29,3 +30,10 @@ returns-clause-only g c =
     (sym (ap (λ (v : View). v.current) c.saved.view_is) ∙ (sym c.as_ref.ensures.value ∙ ap option_copied c.unwrap.ensures))
     (sym c.line.ensures ∙ ap option_copied c.unwrap-line.ensures)
     c.load_line.result c.load_line.ensures.only
+
+pub returns-clause-sound : goal.returns-clause-sound
+returns-clause-sound g c = λ shelf all.
+    sound-intact c.tile_once_law.ensures.once c.output_once_law.ensures.sampled shelf all c.args.saved.now.current c.args.key.now c.unwrap.result.now c.unwrap-line.result.now
+    (sym (ap (λ (v : View). v.current) c.saved.view_is) ∙ (sym c.as_ref.ensures.value ∙ ap option_copied c.unwrap.ensures))
+    (sym c.line.ensures ∙ ap option_copied c.unwrap-line.ensures)
+    c.mask_known.ensures

@@ -1,5 +1,5 @@
 use Rattle.std.specs.Prelude.{Ok}
-use Rattle.ept_save.proofs.LoadedLines.{refusal-comes}
+use Rattle.ept_save.proofs.LoadedLines.{refusal-comes, sound-only}
 use Rattle.ept_save.proofs.Standing.{same-stands}
 use Rattle.ept_save.proofs.loading.load_tile.Goals as goal
 
@@ -10,3 +10,7 @@ returns-clause-refusal_comes g c = λ all told damaged.
 pub returns-clause-stands : goal.returns-clause-stands
 returns-clause-stands g c = λ v stands.
     same-stands g.T.Store.files g.T.Store.may_leave g.T.Store.moment g.T.Store.image_since v c.args.store.now c.load.new.store c.load.ensures.any_moment stands
+
+pub returns-in_err-load-clause-sound : goal.returns-in_err-load-clause-sound
+returns-in_err-load-clause-sound g c = λ shelf all told sound has.
+    sound-only c.load.result c.args.saved.now.current c.args.key (g.T.Store.files c.args.store.now) all c.load.ensures.refused c.load.ensures.only (c.load.ensures.sound shelf all sound has) told

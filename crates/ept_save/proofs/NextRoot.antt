@@ -1,0 +1,64 @@
+-- A checkpoint with the root alone can be followed by one with another tile of the root.
+use Rattle.std.proofs.Common.{◌≡◌, ◌∙◌, ℕ, zero, suc, ◌+◌, ◌<◌, ◌≤◌, Bool, false, cond, List, [], ◌∷◌, ◌++◌, Option, Some, None, refl, sym, ap, subst, arith, length, get_or}
+use Rattle.std.specs.Prelude.{All, option_map}
+use Rattle.std.specs.Ordering.{is_lt}
+use Rattle.ept_space.specs.VoxelKey.{VoxelKey, IsKey, key_cmp}
+use Rattle.ept_space.proofs.KeyOrder.{key_cmp-same}
+use Rattle.ept_ckpt.specs.declared.letter.Letter.{Letter}
+use Rattle.ept_ckpt.specs.declared.node_line.NodeLine.{NodeLine}
+use Rattle.ept_ckpt.specs.declared.checkpoint.Checkpoint.{Checkpoint}
+use Rattle.ept_ckpt.specs.Octree.{AreNodesOf}
+use Rattle.ept_ckpt.specs.Valid.{IsNode, IsCheckpoint, deepest}
+use Rattle.ept_save.specs.Current.{Current}
+use Rattle.ept_save.specs.Lines.{is_before, with_line}
+use Rattle.ept_save.specs.Opening.{lines_of}
+use Rattle.ept_save.specs.View.{next_generation}
+
+not_before : (a b : VoxelKey) → a ≡ b → is_before a b ≡ false
+not_before a b same = ap is_lt (key_cmp-same a b same)
+
+-- the new line stands in place of the old one
+in-place : (line new : NodeLine) → new.key ≡ line.key → with_line new (line ∷ []) ≡ new ∷ []
+in-place line new same =
+    by_tests (is_before line.key new.key) (is_before new.key line.key) (not_before line.key new.key (sym same)) (not_before new.key line.key same)
+  where
+    by_tests : (before behind : Bool) → before ≡ false → behind ≡ false → cond before (line ∷ []) [] ++ new ∷ cond behind (line ∷ []) [] ≡ new ∷ []
+    by_tests before behind e f =
+        ap (λ (b : Bool). cond b (line ∷ []) [] ++ new ∷ cond behind (line ∷ []) []) e ∙ ap (λ (b : Bool). new ∷ cond b (line ∷ []) []) f
+
+-- it tells of the same node
+same-nodes : (inserted : ℕ) (line new : NodeLine) → new.key ≡ line.key → new.count ≡ line.count → new.mask ≡ line.mask → AreNodesOf inserted (line ∷ []) → AreNodesOf inserted (new ∷ [])
+same-nodes inserted line new key count mask are =
+    let same : (record line { letter = new.letter }) ≡ new = cc in
+    subst (λ (l : NodeLine). AreNodesOf inserted (l ∷ [])) same (record { octree = record { ascend = are.octree.ascend; rooted = are.octree.rooted; parents = are.octree.parents; children = are.octree.children }; counted = are.counted })
+
+one-line : (most : ℕ) (line new : NodeLine) → new.key ≡ line.key → All (IsNode most) (line ∷ []) → All (IsNode most) (new ∷ [])
+one-line most line new key are zero d lt =
+    let was : IsNode most line = are 0 line (omega arith) in
+    let low : new.key.depth ≤ most = subst (λ (k : VoxelKey). k.depth ≤ most) (sym key) was.depth_most in
+    record { is_key = subst IsKey (sym key) was.is_key; depth_most = low }
+one-line most line new key are (suc k) d lt = absurd (omega (arith, lt))
+
+next : (c : Checkpoint) (line new : NodeLine) → c.nodes ≡ line ∷ [] → c.generation ≤ c.inserted → new.key ≡ line.key → new.count ≡ line.count → new.mask ≡ line.mask → IsCheckpoint (c.generation + 1) c.kept c.counts c.inserted (with_line new c.nodes)
+next c line new only ripe key count mask =
+    let nodes : with_line new c.nodes ≡ new ∷ [] = ap (with_line new) only ∙ in-place line new key in
+    let was : IsCheckpoint c.generation c.kept c.counts c.inserted (line ∷ []) = subst (λ (w : List NodeLine). IsCheckpoint c.generation c.kept c.counts c.inserted w) only c.is_checkpoint in
+    subst (λ (w : List NodeLine). IsCheckpoint (c.generation + 1) c.kept c.counts c.inserted w) (sym nodes) (record {
+      each = was.each;
+      counted = was.counted;
+      extents = was.extents;
+      inserted_most = was.inserted_most;
+      generation_least = omega arith;
+      generation_most = omega (arith, ripe, c.kept.layout.inputs_some);
+      nodes_few = omega arith;
+      lines = one-line (deepest c.kept.bounds c.kept.s c.kept.max_depth) line new key was.lines;
+      nodes_are = same-nodes c.inserted line new key count mask was.nodes_are;
+    })
+
+pub next-valid : (current : Current) (c : Checkpoint) (line new : NodeLine) (lines : List NodeLine) → option_map (λ (a : Letter × Checkpoint). a.1) current ≡ Some c → lines ≡ lines_of current → c.nodes ≡ line ∷ [] → c.generation ≤ c.inserted → new.key ≡ line.key → new.count ≡ line.count → new.mask ≡ line.mask
+    → IsCheckpoint (next_generation current) c.kept c.counts c.inserted (with_line new lines)
+next-valid None c line new lines is lines_are only ripe key count mask = cc
+next-valid (Some (letter, d)) c line new lines is lines_are only ripe key count mask =
+    let same : d ≡ c = cc in
+    subst (λ (e : Checkpoint). IsCheckpoint (e.generation + 1) c.kept c.counts c.inserted (with_line new lines)) (sym same)
+    (subst (λ (w : List NodeLine). IsCheckpoint (c.generation + 1) c.kept c.counts c.inserted (with_line new w)) (ap (λ (e : Checkpoint). e.nodes) (sym same) ∙ sym lines_are) (next c line new only ripe key count mask))

@@ -1,0 +1,58 @@
+-- When the files of a build are sound: what the current checkpoint tells is so, for the scans on a shelf.
+use Rattle.std.specs.Prelude.{◌≡◌, ℕ, List, length, take, Some, None}
+use Rattle.std.specs.List.{AllZip}
+use Rattle.ept_base.specs.Files.{Files}
+use Rattle.ept_point.specs.declared.point.Point.{Point}
+use Rattle.ept_point.specs.Packed.{tile}
+use Rattle.ept_sample.specs.Nodes.{sampled}
+use Rattle.ept_sample.specs.declared.tiles.Tile.{Tile}
+use Rattle.ept_scan.specs.Scans.{IsScan}
+use Rattle.ept_ckpt.specs.declared.node_line.NodeLine.{NodeLine}
+use Rattle.ept_ckpt.specs.declared.checkpoint.Checkpoint.{Checkpoint}
+use Rattle.ept_meta.specs.Output.{File, IsOutput, IsOutsideWork, rules_of}
+use Rattle.ept_save.specs.Current.{Current, HasCurrent, tile_of_line}
+use Rattle.ept_save.specs.Done.{IsDone}
+use Rattle.ept_save.specs.Complete.{HasAllOf, HasNoOther}
+
+-- ---- what a checkpoint tells
+
+-- the inputs of the checkpoint have these points, within its bounds and with its counts
+abbrev pub HasPointsOf : Files → Checkpoint → List Point → Type 0
+HasPointsOf shelf c points =
+    IsScan shelf c.kept.scale (Some c.kept.bounds) c.kept.inputs 0 points (record { counts = c.counts; bounds = c.kept.bounds })
+
+-- the line tells of this node, and the tile that it names is the node's; its mask follows from the keys of all lines
+pub record IsSavedAs (files : Files) (node : Tile) (line : NodeLine) : Type 0 where
+  pub key : line.key ≡ node.key
+  pub count : line.count ≡ length node.points
+  pub has_tile : files (tile_of_line line) ≡ Some (tile node.points)
+
+-- the inputs have these points, and the nodes are the sampling of those that are inserted, with their tiles
+pub record IsSaved (shelf files : Files) (c : Checkpoint) (points : List Point) : Type 0 where
+  pub scan : HasPointsOf shelf c points
+  pub nodes : AllZip (IsSavedAs files) (sampled (rules_of c.kept) (take c.inserted points)) c.nodes
+
+-- all points are inserted, and their output is all there
+pub record IsWhole (c : Checkpoint) (points : List Point) (output : List File) (files : Files) : Type 0 where
+  pub inserted : c.inserted ≡ length points
+  pub there : HasAllOf output files
+
+-- outside a build's own folders there are only files of the output of these points, and all of them where the done gate is open
+pub record HasAtMost (c : Checkpoint) (points : List Point) (files : Files) : Type 0 where
+  pub output : List File
+  pub is_output : IsOutput c.kept points output
+  pub no_other : HasNoOther output files
+  pub whole : IsDone files → IsWhole c points output files
+
+-- ---- sound files
+
+-- what the current checkpoint tells is so; where there is none, nothing is done
+abbrev pub IsSoundFor : Files → Files → Current → Type 0
+IsSoundFor shelf files None = ¬ IsDone files × ((name : List ℕ) → IsOutsideWork name → files name ≡ None)
+IsSoundFor shelf files (Some (letter, c)) = (points : List Point) × IsSaved shelf files c points × HasAtMost c points files
+
+-- the files are sound for the scans on the shelf
+pub record IsSound (shelf files : Files) : Type 0 where
+  pub current : Current
+  pub has_current : HasCurrent current files
+  pub sound : IsSoundFor shelf files current

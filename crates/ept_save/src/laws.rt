@@ -1,0 +1,39 @@
+//! What holds of sound files, and of a store that stands for a [`Saved`]. Each law is the contract of a function that does nothing.
+
+ghost use Rattle.ept_save.specs.View.{StandsFor, IsInEachImage};
+ghost use Rattle.ept_save.specs.SoundLaws.{EmptyIsSound, CurrentIsOne, SoundHasNoBad, DoneIsComplete, KeepingKeepsSound, SameIsSound, DoneIsPublished, GuardingKeepsSound, PuttingKeepsSound, CommittingKeepsSound};
+
+use crate::saved::Saved;
+use ept_base::Store;
+use ept_meta::{output_names_law, output_once_law};
+
+/// A folder without files is sound. Sound files have one current checkpoint and no bad one, and are complete
+/// where their done gate is open.
+pub fn sound_law()
+    ensures empty { EmptyIsSound }
+    ensures one { CurrentIsOne }
+    ensures none_bad { SoundHasNoBad }
+    ensures complete { DoneIsComplete }
+    ensures published { DoneIsPublished }
+{}
+
+/// Sound files stay sound where what is current is kept, where the done gate is closed or opened with the
+/// output all there, where files of the output change behind a closed done gate, and where the next
+/// checkpoint is committed with its tiles.
+pub fn sound_steps_law()
+    ensures same { SameIsSound }
+    ensures keeping { KeepingKeepsSound }
+    ensures guarding { GuardingKeepsSound }
+    ensures putting { PuttingKeepsSound }
+    ensures committing { CommittingKeepsSound }
+{
+    output_once_law();
+    output_names_law();
+}
+
+/// Of a store that stands for a [`Saved`], whichever image a crash leaves has its current checkpoint, with the
+/// tiles that are read; and where the next one is begun, its letter counts in none.
+pub fn images_law<T: Store>(store: &T, saved: &Saved)
+    ensures { (stands : StandsFor saved.now (T.files store.now) (T.may_leave store.now))
+        → IsInEachImage saved.now stands.all (T.may_leave store.now) }
+{}
