@@ -103,7 +103,7 @@ fn rules_of(kept: &Kept) -> Rules
     ensures cube { IsCube result.cube }
     ensures of_bounds { IsCubeOf kept.now.bounds kept.now.s kept.now.max_depth result.cube }
 {
-    let cube = Cube::of(&kept.bounds, kept.s, kept.max_depth).unwrap();
+    let cube = Cube::over(&kept.bounds, kept.s, kept.max_depth);
     cube.known();
     Rules {
         cube,
