@@ -1,18 +1,18 @@
-mod NamesDiffer
+pub mod NamesDiffer
 mod Moving
-mod Keeping
-mod Standing
-mod Inserting
-mod Free
+pub mod Keeping
+pub mod Standing
+pub mod Inserting
+pub mod Free
 mod CommitSteps
 mod Next
 pub mod Newer
 mod Guarding
-mod LoadedLines
+pub mod LoadedLines
 mod WorkNames
-mod SoundFiles
+pub mod SoundFiles
 mod SampledTiles
-mod SoundTiles
+pub mod SoundTiles
 mod ScanCounts
 mod DoneFiles
 mod NextRoot

@@ -54,7 +54,7 @@ node-of files (t ∷ ts) (l ∷ ls) (suc k) line all lt is =
     let more = node-of files ts ls k line all.1 (omega (arith, lt)) is in (more.0, inr more.1, more.2)
 
 -- the lines have the nodes' keys
-keys-same : (files : Files) (tiles : List Tile) (lines : List NodeLine) → AllZip (IsSavedAs files) tiles lines → keys_of lines ≡ map (λ (t : Tile). t.key) tiles
+pub keys-same : (files : Files) (tiles : List Tile) (lines : List NodeLine) → AllZip (IsSavedAs files) tiles lines → keys_of lines ≡ map (λ (t : Tile). t.key) tiles
 keys-same files [] [] all = refl
 keys-same files [] (l ∷ ls) all = absurd all
 keys-same files (t ∷ ts) [] all = absurd all
@@ -65,7 +65,7 @@ keys-at : (rules : Rules) (points : List Point) (keys : List VoxelKey) → map (
 keys-at rules points [] = refl
 keys-at rules points (k ∷ keys) = ap (λ (w : List VoxelKey). k ∷ w) (keys-at rules points keys)
 
-keys-sampled : (rules : Rules) (points : List Point) → map (λ (t : Tile). t.key) (sampled rules points) ≡ node_keys rules points
+pub keys-sampled : (rules : Rules) (points : List Point) → map (λ (t : Tile). t.key) (sampled rules points) ≡ node_keys rules points
 unfolding sampled
 keys-sampled rules points = keys-at rules points (node_keys rules points)
 
@@ -76,7 +76,7 @@ member-sampled rules points t m =
     subst (λ (w : Tile). w.points ≡ sampling rules points w.key) at.2 refl
 
 -- a key is among those of the nodes where it is a node
-among-node : (rules : Rules) (points : List Point) (can : CanBeSampled rules points) (key : VoxelKey) → is_among (node_keys rules points) key ≡ is_node rules points key
+pub among-node : (rules : Rules) (points : List Point) (can : CanBeSampled rules points) (key : VoxelKey) → is_among (node_keys rules points) key ≡ is_node rules points key
 among-node rules points can key =
     elim (either (is_node rules points key)) [
       | inl node ↦ any-member (same_key key) key (node_keys rules points) (node_keys-IsMember rules points key can.cube can.inside node) (same_key-same key key refl) ∙ sym node
@@ -89,7 +89,7 @@ among-node rules points can key =
           ]
     ]
 
-opened_bit : (mask o : ℕ) → opened mask o ≡ (bit_at mask o == 1)
+pub opened_bit : (mask o : ℕ) → opened mask o ≡ (bit_at mask o == 1)
 unfolding opened
 opened_bit mask o = refl
 
