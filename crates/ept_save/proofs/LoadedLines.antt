@@ -127,6 +127,11 @@ sound-only (Err e) current key files all refused only intact told = elim only [
   | inr stores ↦ stores
 ]
 
+-- so it is with a call that hands the refusal on
+pub handed-on : {X Y : Type 0} (inner : Result X SaveError) (outer : Result Y SaveError) (e : SaveError) → inner ≡ Err e → outer ≡ Err e → IfErr inner IsStores → IfErr outer IsStores
+handed-on {X} {Y} inner outer e was is stores =
+    subst (λ (r : Result Y SaveError). IfErr r IsStores) (sym is) (subst (λ (r : Result X SaveError). IfErr r IsStores) was stores)
+
 -- ---- why it is told as damaged
 
 pub is-wrong : (rules : Rules) (line : NodeLine) (bytes : List ℕ) (points slice : List Point) → slice ≡ points → ReadsAs bytes (Ok points)

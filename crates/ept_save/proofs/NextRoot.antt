@@ -7,7 +7,7 @@ use Rattle.ept_space.proofs.KeyOrder.{key_cmp-same}
 use Rattle.ept_ckpt.specs.declared.letter.Letter.{Letter}
 use Rattle.ept_ckpt.specs.declared.node_line.NodeLine.{NodeLine}
 use Rattle.ept_ckpt.specs.declared.checkpoint.Checkpoint.{Checkpoint}
-use Rattle.ept_ckpt.specs.Octree.{AreNodesOf}
+use Rattle.ept_ckpt.specs.Octree.{TellsChildren, keys_of, AreNodesOf}
 use Rattle.ept_ckpt.specs.Valid.{IsNode, IsCheckpoint, deepest}
 use Rattle.ept_save.specs.Current.{Current}
 use Rattle.ept_save.specs.Lines.{is_before, with_line}
@@ -26,11 +26,27 @@ in-place line new same =
     by_tests before behind e f =
         ap (λ (b : Bool). cond b (line ∷ []) [] ++ new ∷ cond behind (line ∷ []) []) e ∙ ap (λ (b : Bool). new ∷ cond b (line ∷ []) []) f
 
--- it tells of the same node
+-- it tells of the same node, under another letter
+under : Letter → NodeLine → NodeLine
+under letter line = record { key = line.key; count = line.count; mask = line.mask; letter = letter }
+
+children-under : (letter : Letter) (line : NodeLine) → All (TellsChildren (keys_of (line ∷ []))) (line ∷ []) → All (TellsChildren (keys_of (under letter line ∷ []))) (under letter line ∷ [])
+unfolding under
+children-under letter line all zero d lt = all 0 line (omega arith)
+children-under letter line all (suc k) d lt = absurd (omega (arith, lt))
+
+nodes-under : (inserted : ℕ) (letter : Letter) (line : NodeLine) → AreNodesOf inserted (line ∷ []) → AreNodesOf inserted (under letter line ∷ [])
+unfolding under
+nodes-under inserted letter line are = record {
+  octree = record { ascend = are.octree.ascend; rooted = are.octree.rooted; parents = are.octree.parents; children = children-under letter line are.octree.children };
+  counted = are.counted;
+}
+
 same-nodes : (inserted : ℕ) (line new : NodeLine) → new.key ≡ line.key → new.count ≡ line.count → new.mask ≡ line.mask → AreNodesOf inserted (line ∷ []) → AreNodesOf inserted (new ∷ [])
+unfolding under
 same-nodes inserted line new key count mask are =
-    let same : (record line { letter = new.letter }) ≡ new = cc in
-    subst (λ (l : NodeLine). AreNodesOf inserted (l ∷ [])) same (record { octree = record { ascend = are.octree.ascend; rooted = are.octree.rooted; parents = are.octree.parents; children = are.octree.children }; counted = are.counted })
+    let is : under new.letter line ≡ new = λ i. record { key = (sym key) i; count = (sym count) i; mask = (sym mask) i; letter = new.letter } in
+    subst (λ (l : NodeLine). AreNodesOf inserted (l ∷ [])) is (nodes-under inserted new.letter line are)
 
 one-line : (most : ℕ) (line new : NodeLine) → new.key ≡ line.key → All (IsNode most) (line ∷ []) → All (IsNode most) (new ∷ [])
 one-line most line new key are zero d lt =
@@ -55,10 +71,16 @@ next c line new only ripe key count mask =
       nodes_are = same-nodes c.inserted line new key count mask was.nodes_are;
     })
 
+some_same : (c d : Checkpoint) → Some c ≡ Some d → c ≡ d
+some_same c d same = cc
+
+one_of : (letter : Letter) (c d : Checkpoint) (lines : List NodeLine) → d ≡ c → lines ≡ d.nodes → (next_generation (Some (letter, d)) ≡ c.generation + 1) × (lines ≡ c.nodes)
+one_of letter c d lines same lines_are = (ap (λ (e : Checkpoint). e.generation + 1) same, lines_are ∙ ap (λ (e : Checkpoint). e.nodes) same)
+
 pub next-valid : (current : Current) (c : Checkpoint) (line new : NodeLine) (lines : List NodeLine) → option_map (λ (a : Letter × Checkpoint). a.1) current ≡ Some c → lines ≡ lines_of current → c.nodes ≡ line ∷ [] → c.generation ≤ c.inserted → new.key ≡ line.key → new.count ≡ line.count → new.mask ≡ line.mask
     → IsCheckpoint (next_generation current) c.kept c.counts c.inserted (with_line new lines)
 next-valid None c line new lines is lines_are only ripe key count mask = cc
 next-valid (Some (letter, d)) c line new lines is lines_are only ripe key count mask =
-    let same : d ≡ c = cc in
-    subst (λ (e : Checkpoint). IsCheckpoint (e.generation + 1) c.kept c.counts c.inserted (with_line new lines)) (sym same)
-    (subst (λ (w : List NodeLine). IsCheckpoint (c.generation + 1) c.kept c.counts c.inserted (with_line new w)) (ap (λ (e : Checkpoint). e.nodes) (sym same) ∙ sym lines_are) (next c line new only ripe key count mask))
+    let one = one_of letter c d lines (some_same d c is) lines_are in
+    subst (λ (n : ℕ). IsCheckpoint n c.kept c.counts c.inserted (with_line new lines)) (sym one.0)
+    (subst (λ (w : List NodeLine). IsCheckpoint (c.generation + 1) c.kept c.counts c.inserted (with_line new w)) (sym one.1) (next c line new only ripe key count mask))

@@ -91,7 +91,9 @@ fn left(alloc: Global, passes: u64, how: Crash) -> Result<(u64, bool, bool), Fai
     let _ = every_call(alloc, &mut store);
     let mut after = store.crash(how);
     let saved = open(alloc, &mut after)?;
-    let generation = saved.current().map_or(0, |checkpoint| checkpoint.generation);
+    let generation = saved
+        .current()
+        .map_or(0, |checkpoint| checkpoint.generation);
     let intensity = if generation == 2 { 0 } else { 9 };
     let found = root_points(alloc, &mut after, &saved)?;
     let as_saved = found.is_some_and(|found| found.as_slice() == points(intensity).as_slice());

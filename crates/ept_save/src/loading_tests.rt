@@ -49,13 +49,29 @@ fn a_root_is_loaded_and_a_damaged_one_is_told(rt: HostRuntime) -> Result<(), Fai
     assert_eq!(rt; loaded(alloc, Some(&tile))?, Ok((2, 2)));
     let damaged = Err(SaveError::TileDamaged { key: Key::ROOT });
     assert_eq!(rt; loaded(alloc, None)?, damaged, "it is absent");
-    assert_eq!(rt; loaded(alloc, Some(&tile[..tile.len() - 1]))?, damaged, "it is cut by one byte");
+    assert_eq!(rt;
+        loaded(alloc, Some(&tile[..tile.len() - 1]))?,
+        damaged,
+        "it is cut by one byte"
+    );
     let fewer = tile_of(alloc, &[first])?;
-    assert_eq!(rt; loaded(alloc, Some(&fewer))?, damaged, "it has another count");
+    assert_eq!(rt;
+        loaded(alloc, Some(&fewer))?,
+        damaged,
+        "it has another count"
+    );
     let swapped = tile_of(alloc, &[second, first])?;
-    assert_eq!(rt; loaded(alloc, Some(&swapped))?, damaged, "the ids do not ascend");
+    assert_eq!(rt;
+        loaded(alloc, Some(&swapped))?,
+        damaged,
+        "the ids do not ascend"
+    );
     let outside = tile_of(alloc, &[first, point(1, [2, 2, 9], 0)])?;
-    assert_eq!(rt; loaded(alloc, Some(&outside))?, damaged, "a point is outside");
+    assert_eq!(rt;
+        loaded(alloc, Some(&outside))?,
+        damaged,
+        "a point is outside"
+    );
     Ok(())
 }
 

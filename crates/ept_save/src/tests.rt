@@ -25,7 +25,11 @@ fn body(alloc: Global) -> Result<Vec<u8>, AllocError> {
 
 // The body of a checkpoint of this generation, of one input with so many points between 1 and 2 on each axis,
 // all of them in the root, whose tile is under letter a.
-pub(crate) fn packed_body(alloc: Global, generation: u8, points: u8) -> Result<Vec<u8>, AllocError> {
+pub(crate) fn packed_body(
+    alloc: Global,
+    generation: u8,
+    points: u8,
+) -> Result<Vec<u8>, AllocError> {
     let mut bytes = Vec::from_slice(alloc, b"EPTW\x01\0\0\0")?;
     bytes.extend_from_slice(&[generation, 0, 0, 0, 0, 0, 0, 0])?;
     bytes.extend_from_slice(
@@ -35,9 +39,7 @@ pub(crate) fn packed_body(alloc: Global, generation: u8, points: u8) -> Result<V
         \x01\0\0\0\x05\0\0\0a.las\x02\0\0\0\0\0\0\0\0\0\0\0\0\0\0\0\0\0\0\0\0\0\0\0\0\0",
     )?;
     bytes.extend_from_slice(&[points, 0, 0, 0, 0, 0, 0, 0])?;
-    bytes.extend_from_slice(
-        b"\x01\x01\0\0\0\x01\0\0\0\x01\0\0\0\x02\0\0\0\x02\0\0\0\x02\0\0\0",
-    )?;
+    bytes.extend_from_slice(b"\x01\x01\0\0\0\x01\0\0\0\x01\0\0\0\x02\0\0\0\x02\0\0\0\x02\0\0\0")?;
     bytes.extend_from_slice(&[points, 0, 0, 0, 0, 0, 0, 0])?;
     bytes.extend_from_slice(b"\x01\0\0\0\0\0\0\0\0\0\0\0\0\0\0\0\0")?;
     bytes.extend_from_slice(&[points, 0, 0, 0, 0, 0, 0, 0])?;
@@ -72,7 +74,11 @@ pub(crate) fn point(number: u32, place: [i32; 3], intensity: u16) -> Point {
     }
 }
 
-pub(crate) fn file(alloc: Global, name: &str, bytes: &[u8]) -> Result<(String, Vec<u8>), AllocError> {
+pub(crate) fn file(
+    alloc: Global,
+    name: &str,
+    bytes: &[u8],
+) -> Result<(String, Vec<u8>), AllocError> {
     Ok((
         String::from_str(alloc, name)?,
         Vec::from_slice(alloc, bytes)?,

@@ -1,5 +1,6 @@
-use Rattle.std.specs.Prelude.{Ok}
-use Rattle.ept_save.proofs.LoadedLines.{refusal-comes, sound-only}
+use Rattle.std.proofs.Common.{rules}
+use Rattle.std.specs.Prelude.{◌≡◌, Ok, Err}
+use Rattle.ept_save.proofs.LoadedLines.{refusal-comes, sound-only, handed-on}
 use Rattle.ept_save.proofs.Standing.{same-stands}
 use Rattle.ept_save.proofs.loading.load_tile.Goals as goal
 
@@ -13,4 +14,6 @@ returns-clause-stands g c = λ v stands.
 
 pub returns-in_err-load-clause-sound : goal.returns-in_err-load-clause-sound
 returns-in_err-load-clause-sound g c = λ shelf all told sound has.
-    sound-only c.load.result c.args.saved.now.current c.args.key (g.T.Store.files c.args.store.now) all c.load.ensures.refused c.load.ensures.only (c.load.ensures.sound shelf all sound has) told
+    let is : c.from_residual.result ≡ Err c.in_err-load.field-0.0 = search rules in
+    let stores = sound-only c.load.result c.args.saved.now.current c.args.key (g.T.Store.files c.args.store.now) all c.load.ensures.refused c.load.ensures.only (c.load.ensures.sound shelf all sound has) told in
+    handed-on c.load.result c.from_residual.result c.in_err-load.field-0.0 c.in_err-load.was is stores
