@@ -1,0 +1,7 @@
+pub mod Rows
+pub mod Search
+pub mod Hierarchies
+pub mod Plan
+pub mod Causes
+pub mod Damage
+pub mod Walk
