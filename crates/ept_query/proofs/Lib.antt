@@ -1,3 +1,7 @@
 mod Readings
 mod Forms
 mod Noting
+mod Walking
+mod Counting
+mod Told
+mod Plans

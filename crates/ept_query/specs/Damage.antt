@@ -73,3 +73,13 @@ RefusesReading file damaged files StoreFault = ⊤
 RefusesReading file damaged files (Damaged found) = (found ≡ file) × Tells damaged files
 RefusesReading file damaged files SinkFault = ⊥
 RefusesReading file damaged files Memory = ⊤
+
+-- of the hierarchy files: the store failed, a file is the first that is damaged, or memory ran out
+abbrev pub RefusesWalk : Search → Option Files → QueryError → Type 0
+RefusesWalk search files NotComplete = ⊥
+RefusesWalk search files StoreFault = ⊤
+RefusesWalk search files (Damaged BuildJson) = ⊥
+RefusesWalk search files (Damaged (Hierarchy key)) = Tells (λ all. IsFirstHierarchy search all key) files
+RefusesWalk search files (Damaged (Tile key)) = ⊥
+RefusesWalk search files SinkFault = ⊥
+RefusesWalk search files Memory = ⊤

@@ -41,3 +41,11 @@ pub record IsPlanned (search : Search) (files : Files) (key : VoxelKey) (count :
 pub record IsPlan (search : Search) (files : Files) (tiles : List Node) : Type 0 where
   pub ascend : AreAscending (keys_of tiles)
   pub each : (key : VoxelKey) (count : ℕ) → Contains tiles (key, count) ↔ IsPlanned search files key count
+
+-- a list has each key whose hierarchy file is needed
+abbrev pub HasNeeded : Search → Files → List VoxelKey → Type 0
+HasNeeded search files keys = (key : VoxelKey) → IsNeeded search files key → Contains keys key
+
+-- a list has each key whose tile is one of the plan
+abbrev pub HasPlanned : Search → Files → List VoxelKey → Type 0
+HasPlanned search files keys = (key : VoxelKey) (count : ℕ) → IsPlanned search files key count → Contains keys key

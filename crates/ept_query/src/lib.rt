@@ -7,5 +7,6 @@ mod notes;
 mod query_error;
 mod reading;
 mod search;
+mod walk;
 
 pub use query_error::{QueryError, QueryFile};
