@@ -1,4 +1,5 @@
 pub mod Causes
 pub mod Files
+pub mod Links
 pub mod Moves
 pub mod Devices

@@ -11,7 +11,7 @@ use crate::{Failed, Sink, Source};
 /// After `Failed` the place is past the bytes that were read, which stand in the front of `into`.
 pub fn read_full<S: Source>(source: &mut S, into: &mut [u8]) -> Result<usize, Failed>
     ensures ok { IfOk result (λ n. ReadsFull (S.left source.old) (S.left source.new) n into.new) }
-    ensures refused { OnErr result (ReadsSome (S.left source.old) (S.left source.new) into.new) }
+    ensures failed { OnErr result (ReadsSome (S.left source.old) (S.left source.new) into.new) }
     ensures given { S.given source.new ≤ S.given source.old + length into.new }
     ensures gained { IfOk result (λ n. S.given source.new ≤ S.given source.old + n) }
     ensures same { S.whole source.new ≡ S.whole source.old }
@@ -31,7 +31,7 @@ pub fn read_full<S: Source>(source: &mut S, into: &mut [u8]) -> Result<usize, Fa
 /// Appends all of `from`. After `Failed` a prefix of it was appended.
 pub fn write_full<O: Sink>(out: &mut O, from: &[u8]) -> Result<(), Failed>
     ensures ok { OnOk result (Appends (O.written out.old) (O.written out.new) from.now) }
-    ensures refused { OnErr result (AppendsPrefix (O.written out.old) (O.written out.new) from.now) }
+    ensures failed { OnErr result (AppendsPrefix (O.written out.old) (O.written out.new) from.now) }
     ensures cause { HasCause (O.faults out.old) (O.faults out.new) result }
 {
     let mut rest = from;

@@ -19,6 +19,6 @@ pub trait Sink {
         ensures bound { WritesAtMost result from.now }
         ensures some { IfOk result (λ n. 0 < length from.now → 0 < n) }
         ensures bytes { WriteAppends (written self.old) (written self.new) result from.now }
-        ensures refused { OnErr result (written self.new ≡ written self.old) }
+        ensures unchanged { OnErr result (written self.new ≡ written self.old) }
         ensures cause { HasCause (faults self.old) (faults self.new) result };
 }

@@ -29,7 +29,7 @@ pub trait Source {
     fn read(&mut self, into: &mut [u8]) -> Result<usize, Failed>
         ensures bound { ReadsAtMost result into.new }
         ensures bytes { ReadConsumes (left self.old) (left self.new) result into.new }
-        ensures refused { OnErr result ((left self.new ≡ left self.old) × (into.new ≡ into.old)) }
+        ensures unchanged { OnErr result ((left self.new ≡ left self.old) × (into.new ≡ into.old)) }
         ensures given { MatchResult result (λ n. given self.new ≡ counts_on (given self.old) n)
             (λ _. given self.new ≡ given self.old) }
         ensures same { whole self.new ≡ whole self.old }

@@ -30,7 +30,7 @@ pub trait SpillFile {
     /// After `Failed` `into` is as it was.
     fn load(&mut self, into: &mut [u8]) -> Result<usize, Failed>
         ensures ok { IfOk result (λ n. Tells (λ bytes. LoadsFront bytes n into.old into.new) (held self.old)) }
-        ensures refused { OnErr result (into.new ≡ into.old) }
+        ensures unchanged { OnErr result (into.new ≡ into.old) }
         ensures same { held self.new ≡ held self.old }
         ensures counted { keeps self.new ≡ keeps self.old }
         ensures cause { HasCause (faults self.old) (faults self.new) result };

@@ -35,7 +35,7 @@ pub trait Store {
     fn get(&mut self, name: &str, into: &mut Vec<u8>) -> Result<bool, GetError>
         ensures ok { IfOk result (λ found. Tells (λ all. Gets all name.now found into.new.items) (files self.old)) }
         ensures absent { IfOk result (λ found. found ≡ false → into.new.items ≡ []) }
-        ensures refused { OnErr result (into.new.items ≡ into.old.items) }
+        ensures unchanged { OnErr result (into.new.items ≡ into.old.items) }
         ensures reads { StepsBy SameFiles (files self.old) (files self.new) }
         ensures images { SameImages (may_leave self.old) (may_leave self.new) }
         ensures time { Elapses (moment self.old) (moment self.new) (image_since self.old) (image_since self.new) (may_leave self.new) }
@@ -69,7 +69,7 @@ pub trait Store {
     /// Makes what is read the one image. After a refusal what is read and the images are as before.
     fn sync(&mut self) -> Result<(), PutError>
         ensures ok { OnOk result (IsSettled (files self.new) (may_leave self.new)) }
-        ensures refused { OnErr result (SameImages (may_leave self.old) (may_leave self.new)) }
+        ensures unchanged { OnErr result (SameImages (may_leave self.old) (may_leave self.new)) }
         ensures reads { StepsBy SameFiles (files self.old) (files self.new) }
         ensures images { NoMore (may_leave self.old) (may_leave self.new) }
         ensures time { Elapses (moment self.old) (moment self.new) (image_since self.old) (image_since self.new) (may_leave self.new) }

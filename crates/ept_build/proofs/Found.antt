@@ -17,10 +17,9 @@ use Rattle.ept_config.specs.declared.kept.Kept.{Kept}
 use Rattle.ept_config.specs.declared.source_count.SourceCount.{SourceCount}
 use Rattle.ept_config.specs.KeptOf.{IsKeptOf}
 use Rattle.ept_scan.specs.declared.scan_done.ScanDone.{ScanDone}
-use Rattle.ept_scan.specs.Extents.{HasExtent}
-use Rattle.ept_scan.specs.Counts.{IsCountOf}
+use Rattle.ept_config.specs.Extents.{HasExtent}
+use Rattle.ept_config.specs.Counts.{IsCountOf, total}
 use Rattle.ept_scan.specs.Scans.{in_order, IsScan}
-use Rattle.ept_config.specs.Counts.{total}
 use Rattle.ept_scan.specs.Opening.{IsKeptScan}
 use Rattle.ept_tree.specs.declared.octree.Tree.{Tree}
 use Rattle.ept_tree.specs.Tree.{tile_of}

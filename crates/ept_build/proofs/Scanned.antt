@@ -23,9 +23,8 @@ use Rattle.ept_config.specs.declared.kept.Kept.{Kept}
 use Rattle.ept_config.specs.declared.source_count.SourceCount.{SourceCount}
 use Rattle.ept_config.specs.Ranges.{BoundsInRange}
 use Rattle.ept_scan.specs.declared.scan_done.ScanDone.{ScanDone}
-use Rattle.ept_scan.specs.Extents.{IsWithin, IsSpanOf, IsExtentOf, HasExtent}
-use Rattle.ept_config.specs.Counts.{total, IsCount}
-use Rattle.ept_scan.specs.Counts.{IsCountOf}
+use Rattle.ept_config.specs.Extents.{IsWithin, IsSpanOf, IsExtentOf, HasExtent}
+use Rattle.ept_config.specs.Counts.{total, IsCount, IsCountOf}
 use Rattle.ept_scan.specs.Scans.{in_order, AreBounds, IsScan}
 use Rattle.ept_scan.specs.Opening.{IsKeptScan, IsFileOf}
 use Rattle.ept_scan.specs.Queue.{Held, LiesIn}

@@ -10,7 +10,7 @@ use Rattle.ept_config.specs.KeptOf.{IsKeptOf}
 use Rattle.ept_scan.specs.declared.scan_done.ScanDone.{ScanDone}
 use Rattle.ept_scan.specs.declared.scan_error.ScanError.{ScanError}
 use Rattle.ept_scan.specs.declared.scan_error.ScanError.TheVariants as scan
-use Rattle.ept_scan.specs.Extents.{HasExtent}
+use Rattle.ept_config.specs.Extents.{HasExtent}
 use Rattle.ept_scan.specs.Scans.{IsScan, ScanIsRefused}
 use Rattle.ept_build.specs.declared.error.BuildError.{BuildError}
 use Rattle.ept_build.specs.declared.error.BuildError.TheVariants.{StoreFault, SourceFault, BadLas, OutOfBounds, TooManyPoints, NoBounds, SourceChanged, TooManyNodes, Memory}

@@ -6,7 +6,7 @@ use Rattle.ept_sample.specs.Nodes.{sampled}
 use Rattle.ept_sample.specs.SamplingLaws.{CanBeSampled}
 use Rattle.ept_config.specs.declared.config.Config.{Config}
 use Rattle.ept_scan.specs.declared.scan_done.ScanDone.{ScanDone}
-use Rattle.ept_scan.specs.Extents.{HasExtent}
+use Rattle.ept_config.specs.Extents.{HasExtent}
 use Rattle.ept_tree.specs.Tree.{tile_of}
 use Rattle.ept_tree.specs.Grown.{nodes_of}
 use Rattle.ept_build.specs.declared.octree.Octree.{Octree}

@@ -6,39 +6,29 @@ use ept_point::{Memory as NoMemory, PointNumber};
 use ept_scan::{ReadError, ScanError};
 use ept_tree::TreeError;
 use std::alloc::{AllocError, AllocFailed};
-use thiserror::Error;
 
 /// Why a build is refused. The causes are looked for in the order of the work: those of the first reading in
 /// the order of [`ScanError`], then of the second reading and the insertion, then of the store.
-#[derive(Clone, Copy, Debug, PartialEq, Eq, Error)]
+#[derive(Clone, Copy, Debug, PartialEq, Eq)]
 pub enum BuildError {
     /// A call of the store failed: its count of faults rose.
-    #[error("the store failed")]
     StoreFault,
     /// An input can't be opened or read: the shelf's count of faults rose.
-    #[error("an input cannot be read")]
     SourceFault,
     /// The input of this place in the list is no LAS file that can be read.
-    #[error("input {source}: {fault}")]
     BadLas { source: u32, fault: LasError },
     /// The record of this number of this input is not in stored units, or not within the bounds.
-    #[error("input {source}: record {number} is out of bounds")]
     OutOfBounds { source: u32, number: PointNumber },
     /// This input states more points than can be numbered.
-    #[error("input {source}: it has too many points")]
     TooManyPoints { source: u32 },
     /// No bounds are given, and no input has a point.
-    #[error("no bounds are given, and there are no points")]
     NoBounds,
     /// This input is not what the first reading has found: its header is not, which is told as record 0, or
     /// the record of this number ends early or lies elsewhere.
-    #[error("input {source}: it has changed at record {number}")]
     SourceChanged { source: u32, number: PointNumber },
     /// The octree has more nodes than there may be.
-    #[error("the octree has too many nodes")]
     TooManyNodes,
     /// Memory ran out.
-    #[error("out of memory")]
     Memory,
 }
 

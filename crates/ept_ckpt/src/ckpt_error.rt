@@ -3,25 +3,19 @@
 ghost use Rattle.std.specs.Prelude.{◌≡◌};
 
 use crate::field_error::FieldError;
-use thiserror::Error;
 
 /// Why bytes are no body of a checkpoint.
-#[derive(Clone, Copy, Debug, PartialEq, Eq, Error)]
+#[derive(Clone, Copy, Debug, PartialEq, Eq)]
 pub enum CkptError {
     /// The bytes end within a field, or go on behind the last one.
-    #[error("the bytes end within a field, or go on behind the last one")]
     Length,
     /// The first bytes are not those of this version of the format.
-    #[error("the bytes are no body of this version")]
     Version,
     /// The field that begins at this byte, from 0, is out of its range.
-    #[error("the field at byte {at} is out of its range")]
     Field { at: u64 },
     /// The nodes are no whole octree of so many points.
-    #[error("the nodes are no whole octree")]
     Tree,
     /// Memory ran out.
-    #[error("out of memory")]
     Memory,
 }
 

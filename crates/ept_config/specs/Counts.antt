@@ -1,13 +1,20 @@
--- What a count may be: the number of an input's points, and their extent.
-use Rattle.std.specs.Prelude.{ℕ, ◌<◌, ◌^◌, ◌↔◌, List, sum_by, IsSome}
+-- The number of an input's points and their extent: whose they are, and what such a count may be.
+use Rattle.std.specs.Prelude.{◌≡◌, ℕ, ◌<◌, ◌^◌, ◌↔◌, List, length, sum_by, IsSome}
 use Rattle.std.specs.Option.{ForSome}
+use Rattle.ept_point.specs.declared.point.Point.{Point}
 use Rattle.ept_space.specs.declared.bounds.Bounds.{Bounds}
 use Rattle.ept_space.specs.CubeOfBounds.{HasPlace, IsInside}
 use Rattle.ept_config.specs.declared.source_count.SourceCount.{SourceCount}
+use Rattle.ept_config.specs.Extents.{HasExtent}
 
 -- the number of all points of some counts
 abbrev pub total : List SourceCount → ℕ
 total counts = sum_by (λ count. count.points) counts
+
+-- the number of some points and their extent
+pub record IsCountOf (points : List Point) (count : SourceCount) : Type 0 where
+  pub number : count.points ≡ length points
+  pub has_extent : HasExtent points count.extent
 
 -- The points number fewer than 2 ^ 32. An extent is there exactly where there are points: its minimum is at most
 -- its maximum on every axis, and it lies within the bounds.

@@ -16,5 +16,6 @@ pub mod Values
 pub mod Configuration
 pub mod WorkFields
 pub mod KeptOf
+pub mod Extents
 pub mod Counts
 pub mod Laws

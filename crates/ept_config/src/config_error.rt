@@ -3,35 +3,26 @@
 use crate::config_key::ConfigKey;
 use ept_json::JsonError;
 use std::alloc::{AllocError, AllocFailed};
-use thiserror::Error;
 
 /// Why a text is no configuration. A text is refused for one cause: the first in the order in which
 /// `read_config` looks.
-#[derive(Clone, Copy, Debug, PartialEq, Eq, Error)]
+#[derive(Clone, Copy, Debug, PartialEq, Eq)]
 pub enum ConfigError {
     /// The bytes are no JSON text.
-    #[error("the configuration is no JSON text")]
     Json,
     /// A key is none of a configuration's.
-    #[error("the configuration has an unknown key")]
     Unknown,
     /// A key that each configuration has is not there.
-    #[error("a required key is missing")]
     Missing { key: ConfigKey },
     /// The value of a key is of the wrong kind.
-    #[error("the value of a key is of the wrong kind")]
     Kind { key: ConfigKey },
     /// The value of a key is of the right kind and out of its range.
-    #[error("the value of a key is out of range")]
     Range { key: ConfigKey },
     /// Fewer nodes may be kept in memory than there are threads.
-    #[error("cacheSize is below threads")]
     Threads,
     /// The text is longer than `MAX_LENGTH` bytes.
-    #[error("the configuration is too long")]
     Long,
     /// Memory ran out.
-    #[error("out of memory")]
     Memory,
 }
 

@@ -29,7 +29,7 @@ use std::alloc::Global;
 pub fn inputs(alloc: Global, scale: u8, value: &Value) -> Result<List<Input>, ConfigError>
     requires { scale ≤ 9 }
     ensures ok { IfOk result (λ list. inputs scale (view value.now) ≡ Ok (map input_facts list)) }
-    ensures err { IfErr result (λ e. e ≢ ConfigError.Memory
+    ensures refused { IfErr result (λ e. e ≢ ConfigError.Memory
         → inputs scale (view value.now) ≡ Err e) }
     ensures some { IfOk result (λ list. 1 ≤ length list) }
     ensures most { IfOk result (λ list. length list ≤ 65535) }
@@ -51,7 +51,7 @@ fn list_inputs(alloc: Global, scale: u8, items: &[Value]) -> Result<List<Input>,
     requires { scale ≤ 9 }
     ensures ok { IfOk result (λ list. list_inputs scale (map view items.now)
         ≡ Ok (map input_facts list)) }
-    ensures err { IfErr result (λ e. e ≢ ConfigError.Memory
+    ensures refused { IfErr result (λ e. e ≢ ConfigError.Memory
         → list_inputs scale (map view items.now) ≡ Err e) }
     ensures some { IfOk result (λ list. 1 ≤ length list) }
     ensures most { IfOk result (λ list. length list ≤ 65535) }
@@ -116,7 +116,7 @@ fn input_within(alloc: Global, scale: u8, raw: &RawInput) -> Result<Input, Confi
     requires expect { ForSome raw.now.expect (AreBytes 48) }
     ensures ok { IfOk result (λ input. in_range key.Input (input_within scale (members_of raw.now))
         ≡ Ok (input_facts input)) }
-    ensures err { IfErr result (λ e. e ≢ ConfigError.Memory
+    ensures refused { IfErr result (λ e. e ≢ ConfigError.Memory
         → in_range key.Input (input_within scale (members_of raw.now)) ≡ Err e) }
     ensures scale { IfOk result (λ input. input.scale ≤ scale) }
 {
@@ -140,7 +140,7 @@ fn input_within(alloc: Global, scale: u8, raw: &RawInput) -> Result<Input, Confi
 fn input_of(alloc: Global, scale: u8, value: &Value) -> Result<Input, ConfigError>
     requires { scale ≤ 9 }
     ensures ok { IfOk result (λ i. input scale (view value.now) ≡ Ok (input_facts i)) }
-    ensures err { IfErr result (λ e. e ≢ ConfigError.Memory
+    ensures refused { IfErr result (λ e. e ≢ ConfigError.Memory
         → input scale (view value.now) ≡ Err e) }
     ensures scale { IfOk result (λ i. i.scale ≤ scale) }
 {
@@ -156,7 +156,7 @@ fn one_input(alloc: Global, scale: u8, value: &Value) -> Result<List<Input>, Con
     requires kind { is_input (view value.now) ≡ true }
     ensures ok { IfOk result (λ list. list_inputs scale (view value.now ∷ [])
         ≡ Ok (map input_facts list)) }
-    ensures err { IfErr result (λ e. e ≢ ConfigError.Memory
+    ensures refused { IfErr result (λ e. e ≢ ConfigError.Memory
         → list_inputs scale (view value.now ∷ []) ≡ Err e) }
     ensures count { IfOk result (λ list. length list ≡ 1) }
     ensures scales { IfOk result (λ list. All (λ input. input.scale ≤ scale) list) }
@@ -171,7 +171,7 @@ fn inputs_of(alloc: Global, scale: u8, items: &[Value]) -> Result<List<Input>, C
     requires { scale ≤ 9 }
     ensures ok { IfOk result (λ list. each_input scale (map view items.now)
         ≡ Ok (map input_facts list)) }
-    ensures err { IfErr result (λ e. e ≢ ConfigError.Memory
+    ensures refused { IfErr result (λ e. e ≢ ConfigError.Memory
         → each_input scale (map view items.now) ≡ Err e) }
     ensures count { IfOk result (λ list. length list ≡ length items.now) }
     ensures scales { IfOk result (λ list. All (λ input. input.scale ≤ scale) list) }

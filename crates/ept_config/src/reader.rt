@@ -60,7 +60,7 @@ const KEYS: [&str; 13] = [
 #[tactic(auto, unfolding(crate::specs::Configuration::reading))]
 pub fn read_config(alloc: Global, bytes: &[u8]) -> Result<Config, ConfigError>
     ensures ok { IfOk result (λ config. reading bytes.now ≡ Ok (facts config)) }
-    ensures err { IfErr result (λ e. e ≢ ConfigError.Memory → reading bytes.now ≡ Err e) }
+    ensures refused { IfErr result (λ e. e ≢ ConfigError.Memory → reading bytes.now ≡ Err e) }
 {
     if bytes.len() > MAX_LENGTH {
         return Err(ConfigError::Long);
@@ -78,7 +78,7 @@ fn has_known_keys(top: &Value) -> bool
 #[tactic(auto, unfolding(crate::specs::Configuration::value_reading))]
 fn read_value(alloc: Global, top: &Value) -> Result<Config, ConfigError>
     ensures ok { IfOk result (λ config. value_reading (view top.now) ≡ Ok (facts config)) }
-    ensures err { IfErr result (λ e. e ≢ ConfigError.Memory
+    ensures refused { IfErr result (λ e. e ≢ ConfigError.Memory
         → value_reading (view top.now) ≡ Err e) }
 {
     if !top.is_object() {
@@ -95,7 +95,7 @@ fn read_value(alloc: Global, top: &Value) -> Result<Config, ConfigError>
 #[tactic(auto, unfolding(crate::specs::Configuration::object_reading, crate::specs::Configuration::settings, crate::specs::Configuration::values))]
 fn read_object(alloc: Global, top: &Value) -> Result<Config, ConfigError>
     ensures ok { IfOk result (λ config. object_reading (view top.now) ≡ Ok (facts config)) }
-    ensures err { IfErr result (λ e. e ≢ ConfigError.Memory
+    ensures refused { IfErr result (λ e. e ≢ ConfigError.Memory
         → object_reading (view top.now) ≡ Err e) }
 {
     let input = required(ConfigKey::Input, top)?;
@@ -152,7 +152,7 @@ fn read_object(alloc: Global, top: &Value) -> Result<Config, ConfigError>
 fn required(key: ConfigKey, top: &Value) -> Result<&Value, ConfigError>
     ensures ok { IfOk result (λ value. required key (get (name_of key) (view top.now))
         ≡ Ok (view value.now)) }
-    ensures err { IfErr result (λ e. required key (get (name_of key) (view top.now)) ≡ Err e) }
+    ensures refused { IfErr result (λ e. required key (get (name_of key) (view top.now)) ≡ Err e) }
 {
     top.get(key.name()).ok_or(ConfigError::Missing { key })
 }

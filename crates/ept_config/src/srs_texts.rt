@@ -31,7 +31,7 @@ pub struct RawSrs<'a> {
 #[tactic(auto, unfolding(crate::specs::Values::srs_at))]
 pub fn srs_at(alloc: Global, top: &Value) -> Result<Srs, ConfigError>
     ensures ok { IfOk result (λ texts. srs_at (view top.now) ≡ Ok (srs_facts texts)) }
-    ensures err { IfErr result (λ e. e ≢ ConfigError.Memory → srs_at (view top.now) ≡ Err e) }
+    ensures refused { IfErr result (λ e. e ≢ ConfigError.Memory → srs_at (view top.now) ≡ Err e) }
 {
     match top.get(ConfigKey::Srs.name()) {
         Some(value) => srs(alloc, value),
@@ -47,7 +47,7 @@ pub fn srs_at(alloc: Global, top: &Value) -> Result<Srs, ConfigError>
 #[tactic(auto, unfolding(crate::specs::Values::srs))]
 fn srs(alloc: Global, value: &Value) -> Result<Srs, ConfigError>
     ensures ok { IfOk result (λ texts. srs (view value.now) ≡ Ok (srs_facts texts)) }
-    ensures err { IfErr result (λ e. e ≢ ConfigError.Memory → srs (view value.now) ≡ Err e) }
+    ensures refused { IfErr result (λ e. e ≢ ConfigError.Memory → srs (view value.now) ≡ Err e) }
 {
     let key = ConfigKey::Srs;
     let raw = raw_srs(value).ok_or(ConfigError::Kind { key })?;
@@ -96,7 +96,7 @@ fn srs_member<'a>(object: &'a Value, name: &str) -> Option<Option<&'a str>>
 #[tactic(auto, unfolding(crate::specs::Values::srs_texts))]
 fn srs_texts(alloc: Global, raw: &RawSrs) -> Result<Srs, ConfigError>
     ensures ok { IfOk result (λ texts. srs_texts (raw_srs_facts raw.now) ≡ Ok (srs_facts texts)) }
-    ensures err { IfErr result (λ e. e ≢ ConfigError.Memory
+    ensures refused { IfErr result (λ e. e ≢ ConfigError.Memory
         → srs_texts (raw_srs_facts raw.now) ≡ Err e) }
 {
     Ok(Srs {
@@ -110,7 +110,7 @@ fn srs_texts(alloc: Global, raw: &RawSrs) -> Result<Srs, ConfigError>
 #[tactic(auto, unfolding(crate::specs::Values::srs_text, crate::specs::SrsTexts::fits_srs))]
 fn srs_text(alloc: Global, text: Option<&str>) -> Result<Option<Text>, ConfigError>
     ensures ok { IfOk result (λ kept. srs_text (option_map (λ t. t.now) text.entry) ≡ Ok kept) }
-    ensures err { IfErr result (λ e. e ≢ ConfigError.Memory
+    ensures refused { IfErr result (λ e. e ≢ ConfigError.Memory
         → srs_text (option_map (λ t. t.now) text.entry) ≡ Err e) }
     ensures fits { IfOk result (λ kept. ForSome kept (λ t. is_srs_text t ≡ true)) }
 {

@@ -27,7 +27,7 @@ pub struct Work {
 #[tactic(auto, unfolding(crate::specs::Configuration::work_at))]
 pub fn work_at(top: &Value) -> Result<Work, ConfigError>
     ensures ok { IfOk result (λ work. work_at (view top.now) ≡ Ok (work_facts work)) }
-    ensures err { IfErr result (λ e. work_at (view top.now) ≡ Err e) }
+    ensures refused { IfErr result (λ e. work_at (view top.now) ≡ Err e) }
     ensures threads_least { IfOk result (λ work. 1 ≤ work.threads) }
     ensures threads_most { IfOk result (λ work. work.threads ≤ 64) }
     ensures cache_most { IfOk result (λ work. work.cache ≤ 2 ^ 20) }

@@ -1,11 +1,11 @@
-mod NodeMap
+pub mod NodeMap
 pub mod Held
 pub mod Leaving
 pub mod ArriveLaw
 pub mod OtherSteps
 mod Sampled
 mod Landed
-mod Resumed
+pub mod Resumed
 pub mod CoreLaws
 mod EffectLaws
 pub mod Lookups

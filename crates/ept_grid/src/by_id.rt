@@ -27,7 +27,7 @@ pub(crate) fn append_by_id(
     out: &mut Vec<Point>,
 ) -> Result<(), Memory>
     ensures ok { OnOk result (out.new.items ≡ out.old.items ++ in_id_order (contents (winners cells.now) losers.now)) }
-    ensures err { OnErr result (out.new.items ≡ out.old.items) }
+    ensures unchanged { OnErr result (out.new.items ≡ out.old.items) }
 {
     let mut points = by_id(*out.allocator(), cells, losers)?;
     if out.is_empty() {

@@ -1,25 +1,19 @@
 //! Why points and open octants are no node.
 
 use ept_point::Memory;
-use thiserror::Error;
 
 /// Why points and open octants are no node of a key: the first cause in the order of the variants.
-#[derive(Clone, Copy, Debug, PartialEq, Eq, Error)]
+#[derive(Clone, Copy, Debug, PartialEq, Eq)]
 pub enum GridError {
     /// A point lies outside the key's box. This is the number of the first that does, from 0.
-    #[error("point {at} lies outside the box")]
     Outside { at: u64 },
     /// A point loses in an open octant. This is the number of the first that does, from 0.
-    #[error("point {at} loses in an open octant")]
     OpenLoser { at: u64 },
     /// A closed octant above the greatest depth has more losers than the threshold: the first that does.
-    #[error("octant {octant} has too many losers and is closed")]
     TooMany { octant: u8 },
     /// An octant is open at the greatest depth.
-    #[error("an octant is open at the greatest depth")]
     Deep,
     /// Memory ran out.
-    #[error("out of memory")]
     Memory,
 }
 

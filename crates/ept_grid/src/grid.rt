@@ -200,7 +200,7 @@ impl Grid {
     /// Appends the points of the node, in id order. After `Memory` the list is as it was.
     pub fn points_into(&self, out: &mut Vec<Point>) -> Result<(), Memory>
         ensures ok { OnOk result (out.new.items ≡ out.old.items ++ self.now.points) }
-        ensures err { OnErr result (out.new.items ≡ out.old.items) }
+        ensures unchanged { OnErr result (out.new.items ≡ out.old.items) }
         ensures in_order { IsInIdOrder self.now.points }
         ensures ascend { HasDistinctIds self.now.points → IsAscending self.now.points }
     {

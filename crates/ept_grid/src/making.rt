@@ -39,7 +39,7 @@ pub(crate) fn make_cells(
 // Makes a head for each column, where there are none yet. The first heads lead to no cell.
 fn make_heads(rules: &Rules, heads: &mut Vec<u32>) -> Result<(), Memory>
     ensures made { OnOk result (0 < length heads.new.items) }
-    ensures err { OnErr result (heads.new.items ≡ heads.old.items) }
+    ensures unchanged { OnErr result (heads.new.items ≡ heads.old.items) }
     ensures kept { 0 < length heads.old.items → heads.new.items ≡ heads.old.items }
     ensures table { length heads.old.items ≡ 0 → OnOk result (length heads.new.items ≡ 2 ^ (2 * rules.now.cube.s)) }
     ensures to_none { length heads.old.items ≡ 0 → (c : ℕ) → slice_index heads.new.items c ≡ 0 }

@@ -1,11 +1,13 @@
--- The members of a map of JSON values.
-use Rattle.std.specs.Prelude.{⊤, List, string_bytes, String}
+-- The members of a map of JSON values, while they are read.
+use Rattle.std.specs.Prelude.{◌≡◌, ℕ, ⊤, Bool, true, false, List, [], ◌∷◌, ◌++◌, string_bytes, String}
+use Rattle.std.specs.List.{AllZip}
 use Rattle.std.specs.declared.alloc.Global.{Global}
 use Rattle.serde_json.specs.View.{view}
 use Rattle.serde_json.specs.declared.value.Value.{Value}
 use Rattle.ept_json.specs.declared.json_error.JsonError.{JsonError}
 use Rattle.ept_json.specs.declared.json_error.JsonError.TheVariants as json
-use Rattle.ept_hier.specs.Reading.{Member, StopsAt}
+use Rattle.ept_hier.specs.Hierarchy.{Entry}
+use Rattle.ept_hier.specs.Reading.{Member, NamesKey, IsEntryOf, HasNoCount, RefusesMembers}
 use Rattle.ept_hier.specs.declared.hier_error.HierError.{HierError}
 use Rattle.ept_hier.specs.declared.hier_error.HierError.TheVariants.{Json, Key, Count, Memory}
 
@@ -18,9 +20,19 @@ of_json json.Memory = Memory
 abbrev pub member_at : String Global × Value → Member
 member_at e = (string_bytes e.0, view e.1)
 
--- the members of an object are refused by this cause
-abbrev pub RefusesMembers : List Member → HierError → Type 0
-RefusesMembers members Json = ⊥
-RefusesMembers members Key = StopsAt members Key
-RefusesMembers members Count = StopsAt members Count
-RefusesMembers members Memory = ⊤
+-- a name is refused by this cause: it is no key's
+abbrev pub RefusesName : List ℕ → HierError → Type 0
+RefusesName name Json = ⊥
+RefusesName name Key = ¬ NamesKey name
+RefusesName name Count = ⊥
+RefusesName name Memory = ⊤
+
+-- a member was read: its entry stands behind the others, or its name is a key's and its value no count
+abbrev pub IsTaken : Member → Bool → List Entry → List Entry → Type 0
+IsTaken m true old new = (e : Entry) × IsEntryOf m e × (new ≡ old ++ e ∷ [])
+IsTaken m false old new = NamesKey m.0 × HasNoCount m
+
+-- members were read: the entries are theirs, or their names are keys' and some value is no count
+abbrev pub AreTaken : List Member → Bool → List Entry → Type 0
+AreTaken members true entries = AllZip IsEntryOf members entries
+AreTaken members false entries = RefusesMembers members Count

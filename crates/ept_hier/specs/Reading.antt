@@ -1,5 +1,5 @@
 -- What a hierarchy file is read as.
-use Rattle.std.specs.Prelude.{◌≡◌, ℕ, ℤ, negsuc, ⊤, List, [], ◌∷◌, ◌++◌, All, IsPermutation, if◌then◌else◌, Option, Some, None, option_map, option_and_then}
+use Rattle.std.specs.Prelude.{◌≡◌, ℕ, ℤ, negsuc, ⊤, List, [], ◌∷◌, ◌++◌, All, Any, IsPermutation, if◌then◌else◌, Option, Some, None, option_map, option_and_then}
 use Rattle.std.specs.List.{AllZip}
 use Rattle.std.specs.List.Sorted.{IsSortedByKey}
 use Rattle.std.specs.Int.Signed.{lt_z}
@@ -55,21 +55,24 @@ pub record IsReading (bytes : List ℕ) (entries : List Entry) : Type 0 where
 abbrev pub Appends : List ℕ → List Entry → List Entry → Type 0
 Appends bytes old new = (entries : List Entry) × IsReading bytes entries × (new ≡ old ++ entries)
 
--- a member says no entry, by this cause
-abbrev pub RefusesMember : Member → HierError → Type 0
-RefusesMember m Json = ⊥
-RefusesMember m Key = ¬ NamesKey m.0
-RefusesMember m Count = NamesKey m.0 × (number_in m.1 ≡ None)
-RefusesMember m Memory = ⊥
+-- a member whose name is no key's
+abbrev pub HasNoKey : Member → Type 0
+HasNoKey m = ¬ NamesKey m.0
 
--- of the members, in the byte order of their names, those before one say entries, and this one doesn't
-abbrev pub StopsAt : List Member → HierError → Type 0
-StopsAt members error =
-    (front : List Member) × (m : Member) × (back : List Member) × (members ≡ front ++ m ∷ back) × All (λ (x : Member). (e : Entry) × IsEntryOf x e) front × RefusesMember m error
+-- a member whose value is no count
+abbrev pub HasNoCount : Member → Type 0
+HasNoCount m = number_in m.1 ≡ None
 
--- the bytes are refused by this cause
+-- members are refused by this cause: some name is no key's, or else some value is no count
+abbrev pub RefusesMembers : List Member → HierError → Type 0
+RefusesMembers members Json = ⊥
+RefusesMembers members Key = Any HasNoKey members
+RefusesMembers members Count = All (λ (m : Member). NamesKey m.0) members × Any HasNoCount members
+RefusesMembers members Memory = ⊤
+
+-- the bytes are refused by this cause: they are the text of no object, or else the object's members are refused
 abbrev pub RefusesFile : List ℕ → HierError → Type 0
 RefusesFile bytes Json = members_in bytes ≡ None
-RefusesFile bytes Key = (members : List Member) × (members_in bytes ≡ Some members) × StopsAt members Key
-RefusesFile bytes Count = (members : List Member) × (members_in bytes ≡ Some members) × StopsAt members Count
+RefusesFile bytes Key = (members : List Member) × (members_in bytes ≡ Some members) × RefusesMembers members Key
+RefusesFile bytes Count = (members : List Member) × (members_in bytes ≡ Some members) × RefusesMembers members Count
 RefusesFile bytes Memory = ⊤

@@ -4,23 +4,17 @@ ghost use Rattle.std.specs.Prelude.{◌≡◌};
 
 use ept_json::JsonError;
 use ept_point::Memory;
-use thiserror::Error;
 
 /// Why bytes are no hierarchy file.
-#[derive(Clone, Copy, Debug, PartialEq, Eq, Error)]
+#[derive(Clone, Copy, Debug, PartialEq, Eq)]
 pub enum HierError {
     /// The bytes are not the text of a JSON object.
-    #[error("the text is no JSON object")]
     Json,
-    /// A name is the text of no key, and each name before it, by its bytes, is a key's with a count.
-    #[error("a name is no key")]
+    /// The bytes are the text of an object, and a name is the text of no key.
     Key,
-    /// The value of a key is no whole number of 64 bits from -1 up, and each name before it is a key's
-    /// with a count.
-    #[error("a value is no count")]
+    /// Each name is a key's, and a value is no whole number of 64 bits from -1 up.
     Count,
     /// Memory ran out.
-    #[error("out of memory")]
     Memory,
 }
 

@@ -1,13 +1,14 @@
 //! Hierarchy files as entries.
 
-ghost use Rattle.std.specs.Prelude.{◌≡◌, ◌≢◌, ◌++◌, ◌∷◌, [], List, Some, None, map, IsPermutation, OnOk, OnErr, IfOk, IfErr};
+ghost use Rattle.std.specs.Prelude.{◌≡◌, ◌≢◌, ◌++◌, ◌∷◌, [], List, Some, None, map, ◌⊎◌, Err, IsPermutation, IsOk, OnOk, OnErr, IfOk, IfErr};
 ghost use Rattle.std.specs.List.{AllZip};
 ghost use Rattle.std.specs.List.Sorted.{IsSortedByKey};
 ghost use Rattle.serde_json.specs.View.{view};
 ghost use Rattle.ept_space.specs.VoxelKey.{key_cmp};
 ghost use Rattle.ept_hier.specs.Hierarchy.{Entry};
-ghost use Rattle.ept_hier.specs.Reading.{IsEntryOf, Appends, RefusesMember, RefusesFile, number_in};
-ghost use Rattle.ept_hier.specs.Objects.{member_at, RefusesMembers};
+ghost use Rattle.ept_hier.specs.Reading.{IsReading, IsEntryOf, Appends, RefusesMembers, RefusesFile, number_in};
+ghost use Rattle.ept_hier.specs.Objects.{member_at, IsTaken, RefusesName};
+ghost use Rattle.ept_hier.specs.declared.hier_error.HierError.{HierError};
 
 use crate::hier_error::HierError;
 use ept_json::document;
@@ -20,8 +21,7 @@ use std::alloc::Global;
 /// its node, or -1 where the file of that key tells it (Entwine Point Tile 1.1.0, "ept-hierarchy").
 ///
 /// The text may have white space, and its members may stand in any order; of a name that stands twice
-/// the last value counts. The members are judged in the byte order of their names, and the first that
-/// is at fault decides. After a refusal the list is as it was.
+/// the last value counts. All names are judged before any value. After a refusal the list is as it was.
 pub fn read_hierarchy_file(
     alloc: Global,
     bytes: &[u8],
@@ -29,16 +29,30 @@ pub fn read_hierarchy_file(
 ) -> Result<(), HierError>
     ensures ok { OnOk result (Appends bytes.now out.old.items out.new.items) }
     ensures refused { IfErr result (RefusesFile bytes.now) }
+    ensures refusal_comes { (e : HierError) → e ≢ HierError.Memory → RefusesFile bytes.now e
+        → (result ≡ Err e) ⊎ (result ≡ Err HierError.Memory) }
+    ensures accepted { (entries : List Entry) → IsReading bytes.now entries
+        → IsOk result ⊎ (result ≡ Err HierError.Memory) }
     ensures unchanged { OnErr result (out.new.items ≡ out.old.items) }
+{
+    let entries = read_entries(alloc, bytes)?;
+    append(entries, out)?;
+    Ok(())
+}
+
+// The entries in key order.
+fn read_entries(alloc: Global, bytes: &[u8]) -> Result<Vec<(Key, i64)>, HierError>
+    ensures ok { IfOk result (λ v. IsReading bytes.now v.items) }
+    ensures refused { IfErr result (RefusesFile bytes.now) }
 {
     let value = document(alloc, bytes)?;
     let members = match value.as_object() {
         Some(members) => members,
         None => return Err(HierError::Json),
     };
-    let entries = entries_of(alloc, members)?;
-    append_in_order(entries, out)?;
-    Ok(())
+    let mut entries = entries_of(alloc, members)?;
+    sort(&mut entries)?;
+    Ok(entries)
 }
 
 // The entries that the members say.
@@ -47,25 +61,34 @@ fn entries_of(alloc: Global, members: &Map<String, Value>) -> Result<Vec<(Key, i
     ensures refused { IfErr result (RefusesMembers (map member_at members.now.entries)) }
 {
     let mut entries = Vec::new(alloc);
+    let mut counted = true;
     for (name, value) in members.iter() {
-        let entry = entry_of(name.as_str(), value)?;
-        push(&mut entries, entry)?;
+        counted &= read_member(name.as_str(), value, &mut entries)?;
     }
-    Ok(entries)
+    if counted {
+        Ok(entries)
+    } else {
+        Err(HierError::Count)
+    }
 }
 
-// The entry that a member says.
-fn entry_of(name: &str, value: &Value) -> Result<(Key, i64), HierError>
-    ensures ok { IfOk result (λ entry. IsEntryOf (name.now, view value.now) entry) }
-    ensures refused { IfErr result (RefusesMember (name.now, view value.now)) }
+// Adds the entry that a member says behind the others. Its name is a key's; answers whether its value is
+// a count, without which it says no entry.
+fn read_member(name: &str, value: &Value, entries: &mut Vec<(Key, i64)>) -> Result<bool, HierError>
+    ensures ok { IfOk result (λ counted.
+        IsTaken (name.now, view value.now) counted entries.old.items entries.new.items) }
+    ensures refused { IfErr result (RefusesName name.now) }
 {
     let key = match read_key(name.as_bytes()) {
         Some(key) => key,
         None => return Err(HierError::Key),
     };
     match number_in(value) {
-        Some(number) => Ok((key, number)),
-        None => Err(HierError::Count),
+        Some(number) => {
+            push(entries, (key, number))?;
+            Ok(true)
+        }
+        None => Ok(false),
     }
 }
 
@@ -85,13 +108,20 @@ fn number_in(value: &Value) -> Option<i64>
     value.as_i64().filter(|number| *number >= -1)
 }
 
-// Appends the entries in key order.
-fn append_in_order(mut entries: Vec<(Key, i64)>, out: &mut Vec<(Key, i64)>) -> Result<(), Memory>
-    ensures ok { OnOk result ((found : List Entry) × IsPermutation entries.items found
-        × IsSortedByKey (λ (e : Entry). e.0) key_cmp found × (out.new.items ≡ out.old.items ++ found)) }
-    ensures unchanged { OnErr result (out.new.items ≡ out.old.items) }
+// Brings the entries in key order.
+fn sort(entries: &mut Vec<(Key, i64)>) -> Result<(), Memory>
+    ensures { OnOk result (IsPermutation entries.old.items entries.new.items
+        × IsSortedByKey (λ (e : Entry). e.0) key_cmp entries.new.items) }
 {
     entries.sort_by_key(|entry| entry.0)?;
+    Ok(())
+}
+
+// Moves the entries behind those of the list.
+fn append(mut entries: Vec<(Key, i64)>, out: &mut Vec<(Key, i64)>) -> Result<(), Memory>
+    ensures ok { OnOk result (out.new.items ≡ out.old.items ++ entries.items) }
+    ensures unchanged { OnErr result (out.new.items ≡ out.old.items) }
+{
     out.append(&mut entries)?;
     Ok(())
 }

@@ -196,7 +196,7 @@ fn nodes_in_another_order_do_not_ascend(rt: HostRuntime) -> Result<(), Fail> {
 // A text, why it is refused, and its entries.
 type Reading<'a> = (&'a str, Option<HierError>, &'a [(&'a str, i64)]);
 
-static TEXTS: [Reading<'static>; 27] = [
+static TEXTS: [Reading<'static>; 28] = [
     ("[]", Some(HierError::Json), &[]),
     (r#"{"x":1}"#, Some(HierError::Key), &[]),
     (r#"{"0-0-0-0":-2}"#, Some(HierError::Count), &[]),
@@ -219,8 +219,13 @@ static TEXTS: [Reading<'static>; 27] = [
         Some(HierError::Count),
         &[],
     ),
-    (r#"{"0-0-0-0":"1","x":1}"#, Some(HierError::Count), &[]),
-    (r#"{"x":1,"0-0-0-0":"1"}"#, Some(HierError::Count), &[]),
+    (r#"{"0-0-0-0":"1","x":1}"#, Some(HierError::Key), &[]),
+    (r#"{"x":1,"0-0-0-0":"1"}"#, Some(HierError::Key), &[]),
+    (
+        r#"{"0-0-0-0":"1","1-0-0-0":1}"#,
+        Some(HierError::Count),
+        &[],
+    ),
     (r#"{"1-0-0-0":"1","0-0-0":1}"#, Some(HierError::Key), &[]),
     ("{}", None, &[]),
     (r#"{"0-0-0-0":0}"#, None, &[("0-0-0-0", 0)]),

@@ -3,6 +3,7 @@ use Rattle.std.specs.Prelude.{ℕ, ℤ, ◌≡◌, ◌<◌, ◌+◌, ◌*◌, Li
 use Rattle.std.specs.Int.{w32}
 use Rattle.ept_point.specs.declared.point.Point.{Point}
 use Rattle.ept_las.specs.declared.shift.Shift.{Shift}
+use Rattle.ept_las.specs.declared.place.Place.{Place}
 use Rattle.ept_las.specs.Words.{u16_at, i32_at}
 use Rattle.ept_las.specs.Pulses.{return_number_of, number_of_returns_of, scan_direction_of, edge_of, class_of, class_flags_of, channel_of, angle_rank_of, angle_of, source_id_of}
 use Rattle.ept_las.specs.Shifts.{stored}
@@ -15,6 +16,24 @@ coordinate shift bytes axis = stored shift axis (i32_at bytes (4 * axis))
 -- a stored coordinate is no number of 32 bits
 abbrev pub IsOutOfUnits : Shift → List ℕ → Type 0
 IsOutOfUnits shift bytes = (axis : ℕ) × (axis < 3) × ¬ FitsSigned w32 (coordinate shift bytes axis)
+
+-- the place of a record, where each stored coordinate is a number of 32 bits
+pub record IsPlaceOf (shift : Shift) (bytes : List ℕ) (place : Place) : Type 0 where
+  pub x_is : place.x ≡ coordinate shift bytes 0
+  pub y_is : place.y ≡ coordinate shift bytes 1
+  pub z_is : place.z ≡ coordinate shift bytes 2
+  pub in_units : (axis : ℕ) → axis < 3 → FitsSigned w32 (coordinate shift bytes axis)
+
+-- what it reads as: its place, or none where a stored coordinate is out of units
+abbrev pub PlaceReadsAs : Shift → List ℕ → Option Place → Type 0
+PlaceReadsAs shift bytes None = IsOutOfUnits shift bytes
+PlaceReadsAs shift bytes (Some place) = IsPlaceOf shift bytes place
+
+-- a point lies at a place
+pub record LiesAt (place : Place) (p : Point) : Type 0 where
+  pub x : p.x ≡ place.x
+  pub y : p.y ≡ place.y
+  pub z : p.z ≡ place.z
 
 -- GPS Time: eight bytes where there is a place for them, and zeros where there is none
 abbrev pub gps_of : Option ℕ → List ℕ → List ℕ

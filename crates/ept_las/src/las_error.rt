@@ -1,41 +1,30 @@
 //! Why a file is no LAS file that can be read.
 
 use ept_point::PointNumber;
-use thiserror::Error;
 
 /// Why a file is no LAS file that can be read. The faults of a header are looked for in this order,
 /// and the first one is answered.
-#[derive(Clone, Copy, Debug, PartialEq, Eq, Error)]
+#[derive(Clone, Copy, Debug, PartialEq, Eq)]
 pub enum LasError {
     /// The file is shorter than the least header.
-    #[error("the file is shorter than a LAS header")]
     Short,
     /// The file does not begin with `LASF`.
-    #[error("the file does not begin with LASF")]
     Signature,
     /// The version is not 1.2, 1.3 or 1.4.
-    #[error("the version is not 1.2, 1.3 or 1.4")]
     Version,
     /// The stated header size, or the file, is below the version's least header size.
-    #[error("the header is shorter than its version asks for")]
     HeaderSize,
     /// The points are compressed.
-    #[error("the points are compressed")]
     Compressed,
     /// The point data record format is not 0, 1, 2, 3, 6 or 7.
-    #[error("the point data record format is not 0 to 3, 6 or 7")]
     Format,
     /// The stated record length is below the format's.
-    #[error("the records are shorter than their format asks for")]
     RecordLength,
     /// The points begin within the header.
-    #[error("the points begin within the header")]
     PointOffset,
     /// The scales and offsets are not the expected ones.
-    #[error("the scales and offsets are not the expected ones")]
     Expect,
     /// The file ends before the last byte of the record of this number, the first such record.
-    #[error("the file ends within record {number}")]
     Truncated { number: PointNumber },
 }
 

@@ -1,6 +1,6 @@
 //! What holds of every header and record. Each law is the contract of a function that does nothing.
 
-ghost use Rattle.ept_las.specs.Laws.{HeaderInOneWay, RecordInOneWay, IdentityIsInUnits};
+ghost use Rattle.ept_las.specs.Laws.{HeaderInOneWay, RecordInOneWay, IdentityIsInUnits, PlaceHasPoint};
 
 /// The first bytes of a file read as one header, or as one fault.
 pub fn header_once_law()
@@ -15,4 +15,9 @@ pub fn record_once_law()
 /// A record whose coordinates are stored as they are is never out of units.
 pub fn identity_shift_law()
     ensures fits { IdentityIsInUnits }
+{}
+
+/// A record whose place [`read_place`](crate::read_place) gives holds a point, which lies there.
+pub fn place_law()
+    ensures { PlaceHasPoint }
 {}

@@ -168,7 +168,14 @@ fn shifts_coordinates(rt: HostRuntime) -> Result<(), Fail> {
     assert!(rt; record_length(0) == 20);
     let point = read_record(0, &record, &shift, 0, 0)?;
     assert_eq!(rt; [point.x, point.y, point.z], [35, 30, 23]);
+    let place = Place {
+        x: 35,
+        y: 30,
+        z: 23,
+    };
+    assert_eq!(rt; read_place(&record, &shift), Ok(place));
     record[3] = 0x20;
     assert_eq!(rt; read_record(0, &record, &shift, 0, 0), Err(OutOfUnits));
+    assert_eq!(rt; read_place(&record, &shift), Err(OutOfUnits));
     Ok(())
 }

@@ -1,2 +1,4 @@
 mod Calls
+mod Crashing
+mod Cutting
 mod Pieces

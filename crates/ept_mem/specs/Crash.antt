@@ -4,7 +4,7 @@ use Rattle.std.proofs.Common.{arith, subst, sym, ◌∙◌}
 use Rattle.std.proofs.lemmas.List.{take_all}
 use Rattle.ept_base.specs.Files.{Files}
 use Rattle.ept_mem.specs.declared.store.Call.{Call}
-use Rattle.ept_mem.specs.declared.store.Call.TheVariants.{Write, Sync}
+use Rattle.ept_mem.specs.declared.store.Call.TheVariants.{Write, Sync, Crashed}
 use Rattle.std.specs.Prelude.{suc, String, Vec, Option}
 use Rattle.std.specs.declared.alloc.Global.{Global}
 use Rattle.ept_base.proofs.Changing.{changed_other}
@@ -24,13 +24,14 @@ image_only first calls image since =
 pub reads_image : (first : Files) (calls : List Call) → IsImage (disk first calls) (disk first calls).reads
 reads_image first calls = from_here calls (settled first) (λ name free. refl)
   where
-    written : (now : Disk) (name : String Global) (content : Option (Vec ℕ Global)) → IsImage now now.reads → IsImage (after now (Write name content)) (after now (Write name content)).reads
-    written now name content agrees other free =
+    put : (now : Disk) (name : String Global) (content : Option (Vec ℕ Global)) → IsImage now now.reads → IsImage (after now (Write name content)) (after now (Write name content)).reads
+    put now name content agrees other free =
         changed_other now.reads (string_bytes name) (bytes_of content) other (λ same. free (0, omega arith, sym same)) ∙ agrees other (λ had. free (suc had.0, omega (arith, had.1), had.2))
 
     one_more : (now : Disk) (call : Call) → IsImage now now.reads → IsImage (after now call) (after now call).reads
-    one_more now (Write name content) agrees = written now name content agrees
+    one_more now (Write name content) agrees = put now name content agrees
     one_more now Sync agrees = λ name free. refl
+    one_more now (Crashed name content how) agrees = λ other free. refl
 
     from_here : (calls : List Call) (now : Disk) → IsImage now now.reads → IsImage (fold after now calls) (fold after now calls).reads
     from_here [] now agrees = agrees

@@ -1,15 +1,19 @@
 -- What the objects in memory hold.
-use Rattle.std.specs.Prelude.{◌≡◌, ℕ, List, [], length, map, drop, string_bytes}
+use Rattle.std.specs.Prelude.{◌≡◌, ℕ, Option, List, [], length, map, drop, string_bytes}
 use Rattle.ept_base.specs.Files.{Files}
 use Rattle.ept_mem.specs.Named.{content_of}
 use Rattle.ept_mem.specs.Disk.{Disk, disk, IsImage, WasImageSince}
 use Rattle.ept_mem.specs.declared.plan.Plan.{Plan}
+use Rattle.ept_mem.specs.declared.plan.FusedPlan.{FusedPlan}
 use Rattle.ept_mem.specs.declared.source.MemSource.{MemSource}
 use Rattle.ept_mem.specs.declared.source.MemShelf.{MemShelf}
 use Rattle.ept_mem.specs.declared.sink.MemSink.{MemSink}
 use Rattle.ept_mem.specs.declared.spill.MemSpill.{MemSpill}
 use Rattle.ept_mem.specs.declared.spill.MemRoom.{MemRoom}
 use Rattle.ept_mem.specs.declared.store.MemStore.{MemStore}
+use Rattle.ept_mem.specs.declared.link.MemLink.{MemLink}
+use Rattle.ept_mem.specs.Cut.{bytes_of_all, rest_of_piece}
+use Rattle.ept_base.specs.Links.{Wire}
 
 -- the bytes of a source
 abbrev pub source_bytes : MemSource → List ℕ
@@ -31,6 +35,19 @@ shelf_asked shelf = map string_bytes shelf.asked.items
 abbrev pub sink_bytes : MemSink → List ℕ
 sink_bytes sink = sink.bytes.items
 
+-- what comes and goes over a link
+abbrev pub link_wire : MemLink → Wire
+link_wire link = record {
+  taken = link.taken.items;
+  left = drop (length link.taken.items) (bytes_of_all link.pieces.items);
+  written = link.written.items;
+  reads = link.reads.items;
+}
+
+-- what a read of a link gives at most: the rest of the piece that it stands in
+abbrev pub link_piece : MemLink → List ℕ
+link_piece link = rest_of_piece link.pieces.items (length link.taken.items)
+
 -- the bytes that a spill file holds
 abbrev pub spill_bytes : MemSpill → List ℕ
 spill_bytes spill = spill.held.items
@@ -45,13 +62,16 @@ shelf_plan shelf = shelf.plan
 abbrev pub sink_plan : MemSink → Plan
 sink_plan sink = sink.plan
 
+abbrev pub link_plan : MemLink → Plan
+link_plan link = link.plan
+
 abbrev pub spill_plan : MemSpill → Plan
 spill_plan spill = spill.plan
 
 abbrev pub room_plan : MemRoom → Plan
 room_plan room = room.plan
 
-abbrev pub store_plan : MemStore → Plan
+abbrev pub store_plan : MemStore → FusedPlan
 store_plan store = store.plan
 
 -- how many bytes a sink takes in a write, at most
@@ -68,6 +88,9 @@ shelf_calls shelf = shelf.plan.calls
 abbrev pub sink_calls : MemSink → ℕ
 sink_calls sink = sink.plan.calls
 
+abbrev pub link_calls : MemLink → ℕ
+link_calls link = link.plan.calls
+
 abbrev pub spill_calls : MemSpill → ℕ
 spill_calls spill = spill.plan.calls
 
@@ -75,7 +98,7 @@ abbrev pub room_calls : MemRoom → ℕ
 room_calls room = room.plan.calls
 
 abbrev pub store_calls : MemStore → ℕ
-store_calls store = store.plan.calls
+store_calls store = store.plan.plan.calls
 
 -- the numbers of the calls that are to fail, and of those of the sources and files that an object makes
 abbrev pub source_fails : MemSource → List ℕ
@@ -90,6 +113,9 @@ shelf_source_fails shelf = shelf.source_fails.items
 abbrev pub sink_fails : MemSink → List ℕ
 sink_fails sink = sink.plan.fails.items
 
+abbrev pub link_fails : MemLink → List ℕ
+link_fails link = link.plan.fails.items
+
 abbrev pub spill_fails : MemSpill → List ℕ
 spill_fails spill = spill.plan.fails.items
 
@@ -100,7 +126,11 @@ abbrev pub room_file_fails : MemRoom → List ℕ
 room_file_fails room = room.file_fails.items
 
 abbrev pub store_fails : MemStore → List ℕ
-store_fails store = store.plan.fails.items
+store_fails store = store.plan.plan.fails.items
+
+-- how many calls more a store's fuse passes, where it has one
+abbrev pub store_fuse : MemStore → Option ℕ
+store_fuse store = store.plan.fuse
 
 -- the counts of faults
 abbrev pub source_faults : MemSource → ℕ
@@ -112,6 +142,9 @@ shelf_faults shelf = shelf.plan.faults
 abbrev pub sink_faults : MemSink → ℕ
 sink_faults sink = sink.plan.faults
 
+abbrev pub link_faults : MemLink → ℕ
+link_faults link = link.plan.faults
+
 abbrev pub spill_faults : MemSpill → ℕ
 spill_faults spill = spill.plan.faults
 
@@ -119,7 +152,7 @@ abbrev pub room_faults : MemRoom → ℕ
 room_faults room = room.plan.faults
 
 abbrev pub store_faults : MemStore → ℕ
-store_faults store = store.plan.faults
+store_faults store = store.plan.plan.faults
 
 -- the counts of the bytes that a source gave, and that the sources of a shelf gave that it took back
 abbrev pub source_given : MemSource → ℕ

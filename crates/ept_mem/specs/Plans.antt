@@ -1,7 +1,9 @@
--- Which calls of an object fail. Its calls are numbered from 0, and each object is given the numbers of those that are to fail.
-use Rattle.std.specs.Prelude.{◌≡◌, Contains}
+-- Which calls of an object fail. Its calls are numbered from 0, and each object is given the numbers of those that are to fail. A store may have a fuse besides.
+use Rattle.std.specs.Prelude.{◌≡◌, ◌⊎◌, Some, Contains}
 use Rattle.ept_base.specs.Devices.{counts_on}
+use Rattle.ept_mem.specs.Fuse.{one_less}
 use Rattle.ept_mem.specs.declared.plan.Plan.{Plan}
+use Rattle.ept_mem.specs.declared.plan.FusedPlan.{FusedPlan}
 
 -- the next call is to fail
 abbrev pub IsToFail : Plan → Type 0
@@ -18,3 +20,11 @@ IsOneCallMore old new = (new.calls ≡ counts_on old.calls 1) × SameList old ne
 -- no call was counted, and the same ones are to fail
 abbrev pub IsNoCall : Plan → Plan → Type 0
 IsNoCall old new = (new.calls ≡ old.calls) × SameList old new
+
+-- the same with a fuse: the next call is listed, or the fuse passes none any more
+abbrev pub IsFusedToFail : FusedPlan → Type 0
+IsFusedToFail plan = IsToFail plan.plan ⊎ (plan.fuse ≡ Some 0)
+
+-- one call more was counted, the same ones are to fail, and the fuse passes one less
+abbrev pub IsOneFusedCallMore : FusedPlan → FusedPlan → Type 0
+IsOneFusedCallMore old new = IsOneCallMore old.plan new.plan × (new.fuse ≡ one_less old.fuse)

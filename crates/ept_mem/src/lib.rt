@@ -1,10 +1,12 @@
-//! Sources, sinks, spill files and stores in memory, for tests and for runs that touch no disk.
+//! Sources, sinks, links, spill files and stores in memory, for tests and for runs that touch no disk.
 //!
 //! Each object tells what it holds, and each is given the numbers of the calls that are to fail. Its
 //! calls are numbered from 0, `retire` apart. A store keeps a record of its calls, from which the
 //! images that a crash may leave follow.
 #![tactic(auto)]
 
+mod crash;
+mod link;
 mod named;
 mod plan;
 mod sink;
@@ -12,6 +14,8 @@ mod source;
 mod spill;
 mod store;
 
+pub use crash::Crash;
+pub use link::MemLink;
 pub use sink::MemSink;
 pub use source::{MemShelf, MemSource};
 pub use spill::{MemRoom, MemSpill};

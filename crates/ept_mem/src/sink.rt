@@ -57,7 +57,7 @@ impl Sink for MemSink {
         ensures bound { WritesAtMost result from.now }
         ensures some { IfOk result (λ n. 0 < length from.now → 0 < n) }
         ensures bytes { WriteAppends (Some (sink_bytes self.old)) (Some (sink_bytes self.new)) result from.now }
-        ensures refused { OnErr result (sink_bytes self.new ≡ sink_bytes self.old) }
+        ensures unchanged { OnErr result (sink_bytes self.new ≡ sink_bytes self.old) }
         ensures cause { HasCause (sink_faults self.old) (sink_faults self.new) result }
         ensures most { IfOk result (λ n. n ≡ min (length from.now) (sink_most self.old)) }
         ensures same_most { sink_most self.new ≡ sink_most self.old }

@@ -57,7 +57,7 @@ impl Source for MemSource {
     fn read(&mut self, into: &mut [u8]) -> Result<usize, Failed>
         ensures bound { ReadsAtMost result into.new }
         ensures bytes { ReadConsumes (Some (source_left self.old)) (Some (source_left self.new)) result into.new }
-        ensures refused { OnErr result ((source_left self.new ≡ source_left self.old) × (into.new ≡ into.old)) }
+        ensures unchanged { OnErr result ((source_left self.new ≡ source_left self.old) × (into.new ≡ into.old)) }
         ensures given { MatchResult result (λ n. source_given self.new ≡ counts_on (source_given self.old) n)
             (λ _. source_given self.new ≡ source_given self.old) }
         ensures same { source_bytes self.new ≡ source_bytes self.old }
@@ -162,7 +162,7 @@ impl MemShelf {
     /// Notes that this path was asked for.
     fn note(&mut self, path: &str) -> Result<(), AllocError>
         ensures noted { OnOk result (shelf_asked self.new ≡ shelf_asked self.old ++ path.now ∷ []) }
-        ensures refused { OnErr result (shelf_asked self.new ≡ shelf_asked self.old) }
+        ensures unchanged { OnErr result (shelf_asked self.new ≡ shelf_asked self.old) }
         ensures files { shelf_files self.new ≡ shelf_files self.old }
         ensures given { shelf_given self.new ≡ shelf_given self.old }
         ensures source_fails { shelf_source_fails self.new ≡ shelf_source_fails self.old }

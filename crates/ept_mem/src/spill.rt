@@ -68,7 +68,7 @@ impl SpillFile for MemSpill {
 
     fn load(&mut self, into: &mut [u8]) -> Result<usize, Failed>
         ensures ok { IfOk result (λ n. LoadsFront (spill_bytes self.old) n into.old into.new) }
-        ensures refused { OnErr result (into.new ≡ into.old) }
+        ensures unchanged { OnErr result (into.new ≡ into.old) }
         ensures same { Some (spill_bytes self.new) ≡ Some (spill_bytes self.old) }
         ensures counted { spill_keeps self.new ≡ spill_keeps self.old }
         ensures cause { HasCause (spill_faults self.old) (spill_faults self.new) result }

@@ -1,13 +1,14 @@
-ghost use Rattle.std.specs.Prelude.{◌≡◌, Some, OnOk, OnErr};
+ghost use Rattle.std.specs.Prelude.{◌≡◌, Option, List, Vec, ℕ, [], Some, None, OnOk, OnErr, false};
 ghost use Rattle.std.specs.Option.{option_copied};
-ghost use Rattle.ept_base.specs.Files.{changed, SameFiles, SameBut};
+ghost use Rattle.ept_base.specs.Files.{Files, changed, SameFiles, SameBut};
 ghost use Rattle.ept_base.specs.Moves.{Follows, SameImages, NoMore, IsSettled, Elapses};
 ghost use Rattle.ept_mem.specs.Named.{content_of};
-ghost use Rattle.ept_mem.specs.Disk.{Disk, disk, after, bytes_of, MaySpoil};
-ghost use Rattle.ept_mem.specs.Objects.{store_files, store_images, store_images_since, store_moment, store_faults, store_gets, store_fails, store_calls, store_plan};
+ghost use Rattle.ept_mem.specs.Disk.{Disk, disk, after, written, settled, crashed, bytes_of, MaySpoil, IsCrashOf, Knows};
+ghost use Rattle.ept_mem.specs.Objects.{store_files, store_images, store_images_since, store_moment, store_faults, store_gets, store_fails, store_calls, store_plan, store_fuse, store_disk};
 
+use crate::crash::Crash;
 use crate::named::find;
-use crate::plan::Plan;
+use crate::plan::FusedPlan;
 use ept_base::{GetError, PutError, Store};
 use std::alloc::{AllocError, Global};
 
@@ -21,6 +22,12 @@ pub(crate) enum Call {
     },
     /// What was read became stable.
     Sync,
+    /// The name was written so, and then there was a crash.
+    Crashed {
+        name: String,
+        content: Option<Vec<u8>>,
+        how: Crash,
+    },
 }
 
 /// A store in memory. A call of `put` or `remove` that fails leaves its name absent.
@@ -33,20 +40,81 @@ pub struct MemStore {
     first: Vec<(String, Vec<u8>)>,
     calls: Vec<Call>,
     gets: u64,
-    plan: Plan,
+    plan: FusedPlan,
 }
 
-/// What the name reads as after one call more, where it read as `found` before it.
-fn after_call<'a>(found: Option<&'a [u8]>, call: &'a Call, name: &str) -> Option<&'a [u8]>
-    ensures { (disk : Disk) → disk.reads name.now ≡ option_copied found.entry
-        → (after disk call.now).reads name.now ≡ option_copied result }
+/// What is known of a name: what it reads as, what is stable, and whether it was written since the last
+/// sync.
+#[derive(Clone, Copy)]
+struct Known<'a> {
+    reads: Option<&'a [u8]>,
+    stable: Option<&'a [u8]>,
+    is_touched: bool,
+}
+
+/// What is known after the name `target` was written.
+fn after_write<'a>(
+    known: Known<'a>,
+    target: &str,
+    content: &'a Option<Vec<u8>>,
+    name: &str,
+) -> Known<'a>
+    ensures { (disk : Disk) → Knows disk name.now (option_copied known.entry.reads) (option_copied known.entry.stable) known.entry.is_touched
+        → Knows (written disk target.now (bytes_of content.now)) name.now (option_copied result.reads) (option_copied result.stable) result.is_touched }
+{
+    if name != target {
+        return known;
+    }
+    Known {
+        reads: content.as_ref().map(|bytes| bytes.as_slice()),
+        stable: known.stable,
+        is_touched: true,
+    }
+}
+
+/// What is known after everything read so.
+fn when_settled<'a>(reads: Option<&'a [u8]>) -> Known<'a>
+    ensures reads { option_copied result.reads ≡ option_copied reads.entry }
+    ensures stable { option_copied result.stable ≡ option_copied reads.entry }
+    ensures untouched { result.is_touched ≡ false }
+{
+    Known {
+        reads,
+        stable: reads,
+        is_touched: false,
+    }
+}
+
+/// What a crash leaves of the name.
+fn left_of<'a>(known: Known<'a>, how: Crash) -> Option<&'a [u8]>
+    ensures { (disk : Disk) (name : List ℕ) → Knows disk name (option_copied known.entry.reads) (option_copied known.entry.stable) known.entry.is_touched
+        → crashed how disk name ≡ option_copied result }
+{
+    match how {
+        _ if !known.is_touched => known.stable,
+        Crash::Old => known.stable,
+        Crash::New => known.reads,
+        Crash::Absent => None,
+        Crash::Junk => Some(&[255]),
+    }
+}
+
+/// What is known after one call more.
+fn after_call<'a>(known: Known<'a>, call: &'a Call, name: &str) -> Known<'a>
+    ensures { (disk : Disk) → Knows disk name.now (option_copied known.entry.reads) (option_copied known.entry.stable) known.entry.is_touched
+        → Knows (after disk call.now) name.now (option_copied result.reads) (option_copied result.stable) result.is_touched }
 {
     match call {
         Call::Write {
             name: written,
             content,
-        } if name == written.as_str() => content.as_ref().map(|bytes| bytes.as_slice()),
-        _ => found,
+        } => after_write(known, written, content, name),
+        Call::Sync => when_settled(known.reads),
+        Call::Crashed {
+            name: written,
+            content,
+            how,
+        } => when_settled(left_of(after_write(known, written, content, name), *how)),
     }
 }
 
@@ -54,11 +122,25 @@ fn after_call<'a>(found: Option<&'a [u8]>, call: &'a Call, name: &str) -> Option
 fn latest<'a>(first: &'a [(String, Vec<u8>)], calls: &'a [Call], name: &str) -> Option<&'a [u8]>
     ensures { option_copied result ≡ (disk (content_of first.now) calls.now).reads name.now }
 {
-    let mut found = find(first, name);
+    let mut known = when_settled(find(first, name));
     for call in calls {
-        found = after_call(found, call, name);
+        known = after_call(known, call, name);
     }
-    found
+    known.reads
+}
+
+/// These calls, and then a crash. No call more is noted, so that it takes no memory.
+fn crash_behind(mut calls: Vec<Call>, how: Crash) -> Vec<Call>
+    ensures { (first : Files) → IsCrashOf how (disk first calls.items) (disk first result.items) }
+{
+    match calls.pop() {
+        Some(Call::Write { name, content }) => {
+            calls.push_reserved(Call::Crashed { name, content, how });
+        }
+        Some(settling) => calls.push_reserved(settling),
+        None => {}
+    }
+    calls
 }
 
 impl MemStore {
@@ -71,13 +153,53 @@ impl MemStore {
         ensures fails { store_fails result ≡ fails.items }
         ensures unread { store_gets result ≡ 0 }
         ensures unused { store_calls result ≡ 0 }
+        ensures unfused { store_fuse result ≡ None }
     {
         MemStore {
             alloc,
             first: files,
             calls: Vec::new(alloc),
             gets: 0,
-            plan: Plan::new(fails),
+            plan: FusedPlan::new(fails),
+        }
+    }
+
+    /// The same store, which passes this many calls from now on, and fails each one behind them. It
+    /// takes no memory.
+    pub fn with_fuse(self, calls: u64) -> MemStore
+        ensures fuse { store_fuse result ≡ Some calls }
+        ensures files { store_files result ≡ store_files self }
+        ensures images { SameImages (store_images self) (store_images result) }
+        ensures moment { store_moment result ≡ store_moment self }
+        ensures time { (t : ℕ) → SameImages (store_images_since self t) (store_images_since result t) }
+        ensures faults { store_faults result ≡ store_faults self }
+        ensures gets { store_gets result ≡ store_gets self }
+        ensures fails { store_fails result ≡ store_fails self }
+        ensures numbered { store_calls result ≡ store_calls self }
+    {
+        let mut fused = self;
+        fused.plan.fuse = Some(calls);
+        fused
+    }
+
+    /// A settled store of the files that a crash of this kind leaves, without a fuse and without a call
+    /// that is to fail. It takes no memory.
+    pub fn crash(self, how: Crash) -> MemStore
+        ensures files { SameFiles (crashed how (store_disk self)) (store_files result) }
+        ensures image { store_images self (store_files result) }
+        ensures settled { IsSettled (Some (store_files result)) (store_images result) }
+        ensures sound { store_faults result ≡ 0 }
+        ensures fails { store_fails result ≡ [] }
+        ensures unread { store_gets result ≡ 0 }
+        ensures unused { store_calls result ≡ 0 }
+        ensures unfused { store_fuse result ≡ None }
+    {
+        MemStore {
+            alloc: self.alloc,
+            first: self.first,
+            calls: crash_behind(self.calls, how),
+            gets: 0,
+            plan: FusedPlan::new(Vec::new(self.alloc)),
         }
     }
 
@@ -91,7 +213,7 @@ impl MemStore {
     /// Notes that the name reads as this content from now on.
     fn write(&mut self, name: &str, content: Option<Vec<u8>>) -> Result<(), AllocError>
         ensures ok { OnOk result (SameFiles (changed (store_files self.old) name.now (bytes_of content)) (store_files self.new)) }
-        ensures refused { OnErr result (SameFiles (store_files self.old) (store_files self.new)
+        ensures unchanged { OnErr result (SameFiles (store_files self.old) (store_files self.new)
             × SameImages (store_images self.old) (store_images self.new)) }
         ensures reads { SameBut name.now (store_files self.old) (store_files self.new) }
         ensures images { Follows (SameBut name.now) (store_images self.old) (store_images self.new) }
@@ -108,7 +230,7 @@ impl MemStore {
     /// Notes that what is read is stable.
     fn settle(&mut self) -> Result<(), AllocError>
         ensures ok { OnOk result (IsSettled (Some (store_files self.new)) (store_images self.new)) }
-        ensures refused { OnErr result (SameImages (store_images self.old) (store_images self.new)) }
+        ensures unchanged { OnErr result (SameImages (store_images self.old) (store_images self.new)) }
         ensures reads { SameFiles (store_files self.old) (store_files self.new) }
         ensures images { NoMore (store_images self.old) (store_images self.new) }
         ensures time { Elapses (store_moment self.old) (store_moment self.new) (store_images_since self.old) (store_images_since self.new) (store_images self.new) }
@@ -129,7 +251,7 @@ impl Store for MemStore {
     ghost use Rattle.ept_mem.specs.Disk.{MaySpoil};
     ghost use Rattle.ept_mem.specs.Named.{content_of};
     ghost use Rattle.ept_mem.specs.Objects.{store_files, store_images, store_images_since, store_moment, store_faults, store_gets, store_plan};
-    ghost use Rattle.ept_mem.specs.Plans.{IsToFail, IsOneCallMore};
+    ghost use Rattle.ept_mem.specs.Plans.{IsFusedToFail, IsOneFusedCallMore};
     ghost use Rattle.ept_mem.specs.Crash.{image_counts, image_only, reads_image};
 
     ghost files = { λ store. Some (store_files store) };
@@ -153,16 +275,16 @@ impl Store for MemStore {
     fn get(&mut self, name: &str, into: &mut Vec<u8>) -> Result<bool, GetError>
         ensures ok { IfOk result (λ found. Gets (store_files self.old) name.now found into.new.items) }
         ensures absent { IfOk result (λ found. found ≡ false → into.new.items ≡ []) }
-        ensures refused { OnErr result (into.new.items ≡ into.old.items) }
+        ensures unchanged { OnErr result (into.new.items ≡ into.old.items) }
         ensures reads { SameFiles (store_files self.old) (store_files self.new) }
         ensures images { SameImages (store_images self.old) (store_images self.new) }
         ensures time { Elapses (store_moment self.old) (store_moment self.new) (store_images_since self.old) (store_images_since self.new) (store_images self.new) }
         ensures counted { store_gets self.new ≡ counts_on (store_gets self.old) 1 }
         ensures cause { HasCauseOf GetError.Failed (store_faults self.old) (store_faults self.new) result }
-        ensures to_fail { IsToFail (store_plan self.old) → IsErr result }
-        ensures not_to_fail { ¬ IsToFail (store_plan self.old) → IsOkUnless result GetError.Memory }
-        ensures sound { ¬ IsToFail (store_plan self.old) → store_faults self.new ≡ store_faults self.old }
-        ensures numbered { IsOneCallMore (store_plan self.old) (store_plan self.new) }
+        ensures to_fail { IsFusedToFail (store_plan self.old) → IsErr result }
+        ensures not_to_fail { ¬ IsFusedToFail (store_plan self.old) → IsOkUnless result GetError.Memory }
+        ensures sound { ¬ IsFusedToFail (store_plan self.old) → store_faults self.new ≡ store_faults self.old }
+        ensures numbered { IsOneFusedCallMore (store_plan self.old) (store_plan self.new) }
     {
         self.gets = self.gets.saturating_add(1);
         if self.plan.next() {
@@ -191,10 +313,10 @@ impl Store for MemStore {
         ensures time { Elapses (store_moment self.old) (store_moment self.new) (store_images_since self.old) (store_images_since self.new) (store_images self.new) }
         ensures counted { store_gets self.new ≡ store_gets self.old }
         ensures cause { HasCauseOf PutError.Failed (store_faults self.old) (store_faults self.new) result }
-        ensures to_fail { IsToFail (store_plan self.old) → IsErr result }
-        ensures not_to_fail { ¬ IsToFail (store_plan self.old) → IsOkUnless result PutError.Memory }
-        ensures sound { ¬ IsToFail (store_plan self.old) → store_faults self.new ≡ store_faults self.old }
-        ensures numbered { IsOneCallMore (store_plan self.old) (store_plan self.new) }
+        ensures to_fail { IsFusedToFail (store_plan self.old) → IsErr result }
+        ensures not_to_fail { ¬ IsFusedToFail (store_plan self.old) → IsOkUnless result PutError.Memory }
+        ensures sound { ¬ IsFusedToFail (store_plan self.old) → store_faults self.new ≡ store_faults self.old }
+        ensures numbered { IsOneFusedCallMore (store_plan self.old) (store_plan self.new) }
     {
         if self.plan.next() {
             self.write(name, None)?;
@@ -216,10 +338,10 @@ impl Store for MemStore {
         ensures time { Elapses (store_moment self.old) (store_moment self.new) (store_images_since self.old) (store_images_since self.new) (store_images self.new) }
         ensures counted { store_gets self.new ≡ store_gets self.old }
         ensures cause { HasCauseOf PutError.Failed (store_faults self.old) (store_faults self.new) result }
-        ensures to_fail { IsToFail (store_plan self.old) → IsErr result }
-        ensures not_to_fail { ¬ IsToFail (store_plan self.old) → IsOkUnless result PutError.Memory }
-        ensures sound { ¬ IsToFail (store_plan self.old) → store_faults self.new ≡ store_faults self.old }
-        ensures numbered { IsOneCallMore (store_plan self.old) (store_plan self.new) }
+        ensures to_fail { IsFusedToFail (store_plan self.old) → IsErr result }
+        ensures not_to_fail { ¬ IsFusedToFail (store_plan self.old) → IsOkUnless result PutError.Memory }
+        ensures sound { ¬ IsFusedToFail (store_plan self.old) → store_faults self.new ≡ store_faults self.old }
+        ensures numbered { IsOneFusedCallMore (store_plan self.old) (store_plan self.new) }
     {
         let is_to_fail = self.plan.next();
         self.write(name, None)?;
@@ -231,16 +353,16 @@ impl Store for MemStore {
 
     fn sync(&mut self) -> Result<(), PutError>
         ensures ok { OnOk result (IsSettled (Some (store_files self.new)) (store_images self.new)) }
-        ensures refused { OnErr result (SameImages (store_images self.old) (store_images self.new)) }
+        ensures unchanged { OnErr result (SameImages (store_images self.old) (store_images self.new)) }
         ensures reads { SameFiles (store_files self.old) (store_files self.new) }
         ensures images { NoMore (store_images self.old) (store_images self.new) }
         ensures time { Elapses (store_moment self.old) (store_moment self.new) (store_images_since self.old) (store_images_since self.new) (store_images self.new) }
         ensures counted { store_gets self.new ≡ store_gets self.old }
         ensures cause { HasCauseOf PutError.Failed (store_faults self.old) (store_faults self.new) result }
-        ensures to_fail { IsToFail (store_plan self.old) → IsErr result }
-        ensures not_to_fail { ¬ IsToFail (store_plan self.old) → IsOkUnless result PutError.Memory }
-        ensures sound { ¬ IsToFail (store_plan self.old) → store_faults self.new ≡ store_faults self.old }
-        ensures numbered { IsOneCallMore (store_plan self.old) (store_plan self.new) }
+        ensures to_fail { IsFusedToFail (store_plan self.old) → IsErr result }
+        ensures not_to_fail { ¬ IsFusedToFail (store_plan self.old) → IsOkUnless result PutError.Memory }
+        ensures sound { ¬ IsFusedToFail (store_plan self.old) → store_faults self.new ≡ store_faults self.old }
+        ensures numbered { IsOneFusedCallMore (store_plan self.old) (store_plan self.new) }
     {
         if self.plan.next() {
             return Err(self.plan.fault().into());

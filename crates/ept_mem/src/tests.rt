@@ -1,6 +1,7 @@
-use crate::{MemRoom, MemShelf, MemSink, MemSource, MemSpill, MemStore};
+use crate::{Crash, MemLink, MemRoom, MemShelf, MemSink, MemSource, MemSpill, MemStore};
 use ept_base::{
-    Failed, GetError, PutError, Room, Shelf, Sink, Source, SpillFile, Store, read_full, write_full,
+    Failed, GetError, Link, PutError, Room, Shelf, Sink, Source, SpillFile, Store, put_kept,
+    read_full, write_full,
 };
 use std::alloc::{AllocError, Global};
 use std::test::Fail;
@@ -167,5 +168,91 @@ fn a_store_reads_as_it_was_written(rt: HostRuntime) -> Result<(), Fail> {
     assert_eq!(rt; store.file("a"), None);
     assert_eq!(rt; store.put("c", b""), Ok(()));
     assert_eq!(rt; store.file("c"), Some(b"".as_slice()));
+    Ok(())
+}
+
+// A store in which `a` was put and made stable, and then `a` and `c` were put and `b` removed, of which
+// calls the fuse passes so many.
+fn burnt(alloc: Global, passes: u64) -> Result<MemStore, Fail> {
+    let files = named(alloc, &[("a", b"one"), ("b", b"two")])?;
+    let mut stable = MemStore::new(alloc, files, Vec::new(alloc));
+    put_kept(&mut stable, "a", b"three")?;
+    let mut store = stable.with_fuse(passes);
+    let _ = store.put("a", b"four");
+    let _ = store.remove("b");
+    let _ = store.put("c", b"five");
+    Ok(store)
+}
+
+#[test]
+fn a_crash_leaves_one_image(rt: HostRuntime) -> Result<(), Fail> {
+    let alloc = rt.alloc();
+    let table: [(u64, Crash, [Option<&'static [u8]>; 3]); 10] = [
+        (3, Crash::Old, [Some(b"three"), Some(b"two"), None]),
+        (3, Crash::New, [Some(b"four"), None, Some(b"five")]),
+        (3, Crash::Absent, [None, None, None]),
+        (3, Crash::Junk, [Some(&[255]), Some(&[255]), Some(&[255])]),
+        (2, Crash::New, [Some(b"four"), None, None]),
+        (1, Crash::New, [Some(b"four"), None, None]),
+        (1, Crash::Old, [Some(b"three"), Some(b"two"), None]),
+        (1, Crash::Junk, [Some(&[255]), Some(&[255]), Some(&[255])]),
+        (0, Crash::New, [None, None, None]),
+        (0, Crash::Old, [Some(b"three"), Some(b"two"), None]),
+    ];
+    for (passes, how, left) in table {
+        let mut store = burnt(alloc, passes)?.crash(how);
+        for (name, bytes) in ["a", "b", "c"].iter().zip(left) {
+            assert_eq!(rt;
+                store.file(name),
+                bytes,
+                "{name} after {how:?}, {passes} passed"
+            );
+        }
+        assert_eq!(rt; store.put("d", b"six"), Ok(()));
+        let again = store.crash(Crash::Old);
+        assert_eq!(rt; again.file("d"), None);
+        assert_eq!(rt; again.crash(Crash::Absent).file("a"), left[0]);
+    }
+    Ok(())
+}
+
+#[test]
+fn a_fuse_passes_so_many_calls(rt: HostRuntime) -> Result<(), Fail> {
+    let alloc = rt.alloc();
+    for passes in 0..5 {
+        let files = named(alloc, &[("a", b"one")])?;
+        let mut store = MemStore::new(alloc, files, vec![in alloc; 0]?).with_fuse(passes);
+        let mut into = Vec::new(alloc);
+        assert_eq!(rt; store.get("a", &mut into), Err(GetError::Failed));
+        assert_eq!(rt; store.get("a", &mut into).is_ok(), 1 < passes, "{passes}");
+        assert_eq!(rt; store.put("b", b"two").is_ok(), 2 < passes, "{passes}");
+        assert_eq!(rt; store.sync().is_ok(), 3 < passes, "{passes}");
+        assert_eq!(rt; store.remove("a").is_ok(), 4 < passes, "{passes}");
+        assert_eq!(rt; store.sync(), Err(PutError::Failed));
+    }
+    Ok(())
+}
+
+#[test]
+fn a_link_gives_its_pieces_and_gathers_what_is_written(rt: HostRuntime) -> Result<(), Fail> {
+    let alloc = rt.alloc();
+    let mut pieces = Vec::new(alloc);
+    for piece in ["abcde", "", "fg"] {
+        pieces.push(Vec::from_slice(alloc, piece.as_bytes())?)?;
+    }
+    let mut link = MemLink::new(alloc, pieces, vec![in alloc; 1, 4]?);
+    let mut into = [0; 3];
+    assert_eq!(rt; link.read(&mut into), Ok(3));
+    assert_eq!(rt; link.read(&mut into), Err(Failed));
+    assert_eq!(rt; into, *b"abc");
+    assert_eq!(rt; link.write(b"xy"), Ok(2));
+    assert_eq!(rt; link.read(&mut into), Ok(2));
+    assert_eq!(rt; into, *b"dec");
+    assert_eq!(rt; link.write(b"z"), Err(Failed));
+    assert_eq!(rt; link.read(&mut into), Ok(2));
+    assert_eq!(rt; into, *b"fgc");
+    assert_eq!(rt; link.read(&mut into), Ok(0));
+    assert_eq!(rt; link.write(b""), Ok(0));
+    assert_eq!(rt; link.written(), b"xy".as_slice());
     Ok(())
 }

@@ -49,7 +49,7 @@ impl<T: Drop> From<AllocFailed<T>> for TileError {
 /// Appends the packed points.
 pub fn tile_bytes(points: &[Point], out: &mut Vec<u8>) -> Result<(), Memory>
     ensures ok { OnOk result (out.new.items ≡ out.old.items ++ tile points.now) }
-    ensures err { OnErr result (out.new.items ≡ out.old.items) }
+    ensures unchanged { OnErr result (out.new.items ≡ out.old.items) }
 {
     let kept = out.len();
     for point in points {
@@ -83,21 +83,23 @@ fn next_point(
     Ok(point)
 }
 
-// Reads whole points up to the first fault, and leaves behind an error what it has read.
+// Reads whole points up to the first fault, and leaves behind an error what it has read. Room for all
+// of them is made once, before the first.
 fn read_points(bytes: &[u8], out: &mut Vec<Point>) -> Result<(), TileError>
     requires { length bytes.now % PACKED_LENGTH ≡ 0 }
     ensures ok { OnOk result ((points : List Point) × ReadsAs bytes.now (Ok points) × (out.new.items ≡ out.old.items ++ points)) }
     ensures fault { IfErr result (λ e. e ≢ TileError.Memory → ReadsAs bytes.now (Err e)) }
     ensures kept { (points : List Point) × (out.new.items ≡ out.old.items ++ points) }
 {
+    out.reserve(bytes.len() / PACKED_LENGTH)?;
     let mut rest = bytes;
     let mut last = None;
     let mut at = 0;
     while let Some((packed, after)) = rest.split_first_chunk::<PACKED_LENGTH>() {
         let point = next_point(packed, last, at)?;
-        out.push(point)?;
         rest = after;
         last = Some(point.id());
+        out.push_reserved(point);
         at += 1;
     }
     Ok(())
@@ -112,7 +114,7 @@ fn read_points(bytes: &[u8], out: &mut Vec<Point>) -> Result<(), TileError>
 pub fn read_tile(bytes: &[u8], out: &mut Vec<Point>) -> Result<(), TileError>
     ensures ok { OnOk result ((points : List Point) × ReadsAs bytes.now (Ok points) × (out.new.items ≡ out.old.items ++ points)) }
     ensures fault { IfErr result (λ e. e ≢ TileError.Memory → ReadsAs bytes.now (Err e)) }
-    ensures err { OnErr result (out.new.items ≡ out.old.items) }
+    ensures unchanged { OnErr result (out.new.items ≡ out.old.items) }
 
     // Bytes read in one way, so this says what comes exactly where, unless memory runs out.
     ensures exact { (reading : Result (List Point) TileError) → ReadsAs bytes.now reading

@@ -8,3 +8,4 @@ mod CommitSteps
 mod Next
 pub mod Newer
 mod Guarding
+mod LoadedLines

@@ -7,3 +7,4 @@ pub mod Lines
 pub mod Stored
 pub mod Opening
 pub mod Done
+pub mod Loading

@@ -14,10 +14,9 @@ ghost use Rattle.ept_save.specs.View.{View, StandsFor, IsNewer, next_letter, nex
 ghost use Rattle.ept_save.specs.Errors.{IsStores};
 
 use crate::error::SaveError;
-use crate::gates::put_kept;
 use crate::names::{body_name, gate_name};
 use crate::saved::Saved;
-use ept_base::Store;
+use ept_base::{Store, put_kept};
 use ept_ckpt::{Checkpoint, Letter, write_ckpt};
 use ept_config::{Kept, SourceCount};
 use std::alloc::Global;
@@ -106,7 +105,8 @@ fn put_body<T: Store>(
 {
     let mut body = Vec::new(alloc);
     write_ckpt(checkpoint, &mut body)?;
-    put_kept(store, body_name(letter), &body)
+    put_kept(store, body_name(letter), &body)?;
+    Ok(())
 }
 
 // Opens the gate of a letter, and makes it stable.
@@ -118,5 +118,6 @@ fn open_gate<T: Store>(store: &mut T, letter: Letter) -> Result<(), SaveError>
     ensures only { IfErr result IsStores }
     ensures cause { HasCauseOf SaveError.StoreFault (T.faults store.old) (T.faults store.new) result }
 {
-    put_kept(store, gate_name(letter), &[1])
+    put_kept(store, gate_name(letter), &[1])?;
+    Ok(())
 }

@@ -11,9 +11,9 @@ ghost use Rattle.ept_save.specs.View as view;
 ghost use Rattle.ept_save.specs.View.{StandsFor};
 
 use crate::error::SaveError;
-use crate::gates::{close_gate, is_open, put_kept};
+use crate::gates::{close_gate, is_open};
 use crate::names::DONE;
-use ept_base::Store;
+use ept_base::{Store, put_kept};
 use std::alloc::Global;
 
 /// Whether the output is whole: whether the done gate is open. Nothing is put.

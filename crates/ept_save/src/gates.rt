@@ -2,7 +2,7 @@
 
 ghost use Rattle.std.specs.Prelude.{◌≡◌, ◌↔◌, ℕ, Some, IfOk, IfErr, OnOk, IsTrue};
 ghost use Rattle.ept_base.specs.Causes.{HasCauseOf};
-ghost use Rattle.ept_base.specs.Files.{Files, SameFiles, SameBut, Puts, Tells, StepsBy};
+ghost use Rattle.ept_base.specs.Files.{Files, SameFiles, SameBut, Tells, StepsBy};
 ghost use Rattle.ept_base.specs.Moves.{Elapses, Moves, SameImages, IsSettled};
 ghost use Rattle.ept_save.specs.Gates.{IsOpen};
 ghost use Rattle.ept_save.specs.Errors.{IsStores};
@@ -43,19 +43,6 @@ pub(crate) fn close_gate<T: Store>(
     if is_open(alloc, store, name)? {
         store.put(name, &[0])?;
     }
-    store.sync()?;
-    Ok(())
-}
-
-/// Puts a file, and makes what is read stable.
-pub(crate) fn put_kept<T: Store>(store: &mut T, name: &str, bytes: &[u8]) -> Result<(), SaveError>
-    ensures any_moment { Moves T.files T.may_leave T.moment T.image_since (SameBut name.now) store.old store.new }
-    ensures ok { OnOk result (StepsBy (Puts name.now bytes.now) (T.files store.old) (T.files store.new)) }
-    ensures settled { OnOk result (IsSettled (T.files store.new) (T.may_leave store.new)) }
-    ensures only { IfErr result IsStores }
-    ensures cause { HasCauseOf SaveError.StoreFault (T.faults store.old) (T.faults store.new) result }
-{
-    store.put(name, bytes)?;
     store.sync()?;
     Ok(())
 }

@@ -16,19 +16,18 @@ use Rattle.ept_las.specs.declared.header.Header.{Header}
 use Rattle.ept_scan.specs.declared.reading.Reading.{Reading}
 use Rattle.ept_scan.specs.declared.part.Part.{Part}
 use Rattle.ept_scan.specs.declared.queue.Queue.{Queue}
-use Rattle.ept_scan.specs.Counts.{IsCountOf}
+use Rattle.ept_config.specs.Counts.{IsCountOf, total}
 use Rattle.ept_scan.specs.Places.{StandsAt, GivenAt}
 use Rattle.ept_scan.specs.Reach.{ReadsNoFurther, TakesOfFile}
 use Rattle.ept_scan.specs.Scans.{in_order, ArePointsFrom}
 use Rattle.ept_scan.specs.Queue.{HoldsPoints, held, RestOf, records_left, IsUnread, StandsBefore, IsQueue, AreNear, GiveNoMore}
-use Rattle.ept_config.specs.Counts.{total}
 use Rattle.ept_scan.specs.Opening.{IsKeptScan, StartsAt, AreHeld, IsFileOf, HasOpened}
 use Rattle.ept_scan.proofs.Listing.{zip_length}
 use Rattle.ept_scan.proofs.Asked.{some_of}
 use Rattle.ept_scan.proofs.Taking.{taken_none}
 
 -- the lengths of the first lists are those that the counts state
-total_length : (lists : List (List Point)) (counts : List SourceCount) (n : ℕ) → AllZip IsCountOf lists counts → length (in_order (take n lists)) ≡ total (take n counts)
+pub total_length : (lists : List (List Point)) (counts : List SourceCount) (n : ℕ) → AllZip IsCountOf lists counts → length (in_order (take n lists)) ≡ total (take n counts)
 total_length [] [] zero zip = refl
 total_length [] [] (suc n) zip = refl
 total_length [] (c ∷ counts) n zip = absurd zip

@@ -154,7 +154,7 @@ module _ (reading : Reading) (points : ℕ) (held after : List ℕ) (mid new : O
           let split : header.length * (header.points - n) + header.length * n ≡ header.length * header.points = split_product header.length n header.points (omega (arith, within)) in
           omega (arith, at.reach, split, reach)
 
-  pub record_changed : (whole : Option (List ℕ)) (it : Found) → n < points → ((p : Point) → it ≢ found.At p) → IsWithinFile reading points whole mid held n header → ReadsNext reading header n (prepend_known held mid) (prepend_known after new) it
+  pub record_changed : (whole : Option (List ℕ)) (it : Found Point) → n < points → ((p : Point) → it ≢ found.At p) → IsWithinFile reading points whole mid held n header → ReadsNext reading header n (prepend_known held mid) (prepend_known after new) it
       → Tells (λ file. RecordDiffers reading points file n) whole
   record_changed None it stated other at next = tt
   record_changed (Some file) (found.At p) stated other at next = absurd (other p refl)

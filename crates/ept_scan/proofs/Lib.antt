@@ -23,3 +23,4 @@ pub mod OneRefusal
 mod Taking
 pub mod Scanned
 pub mod Ascending
+pub mod Joined

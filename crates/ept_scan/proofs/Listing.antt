@@ -16,8 +16,10 @@ use Rattle.ept_scan.specs.declared.reading.Reading.{Reading}
 use Rattle.ept_scan.specs.declared.reading.TheConstants.{MAX_POINTS}
 use Rattle.ept_scan.specs.declared.scan_error.ScanError.{ScanError}
 use Rattle.ept_scan.specs.declared.scan_error.ScanError.TheVariants.{SourceFault, BadLas, OutOfBounds, TooManyPoints, NoBounds, Memory}
-use Rattle.ept_scan.specs.Extents.{IsAllowed, HasExtent}
-use Rattle.ept_scan.specs.Counts.{IsCountOf, FindsCount}
+use Rattle.ept_config.specs.Extents.{HasExtent}
+use Rattle.ept_scan.specs.Extents.{IsAllowed}
+use Rattle.ept_config.specs.Counts.{IsCountOf}
+use Rattle.ept_scan.specs.Counts.{FindsCount}
 use Rattle.ept_scan.specs.Scans.{in_order, IsReadingOf, Blames, HasPoints, PathIsRefused, HasPointsAt, ArePointsFrom, ScanIsRefused}
 use Rattle.ept_scan.specs.Found.{FindsLists}
 

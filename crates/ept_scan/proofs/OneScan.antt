@@ -16,7 +16,8 @@ use Rattle.ept_scan.specs.declared.reading.TheConstants.{MAX_POINTS}
 use Rattle.ept_scan.specs.declared.scan_done.ScanDone.{ScanDone}
 use Rattle.ept_scan.specs.declared.scan_error.ScanError.{ScanError}
 use Rattle.ept_scan.specs.declared.scan_error.ScanError.TheVariants.{SourceFault, BadLas, OutOfBounds, TooManyPoints, NoBounds, Memory}
-use Rattle.ept_scan.specs.Extents.{IsAllowed, IsExtentOf}
+use Rattle.ept_config.specs.Extents.{IsExtentOf}
+use Rattle.ept_scan.specs.Extents.{IsAllowed}
 use Rattle.ept_scan.specs.LasFile.{head_of, HasHeader, records_of, IsTruncated, IsOutsideAt, AreFirstPoints, ArePointsOf}
 use Rattle.ept_scan.specs.Refusals.{HeaderIsRefused, IsFirstBad, RecordsAreRefused, FileIsRefused}
 use Rattle.ept_scan.specs.Scans.{in_order, Blames, IsReadingOf, AreBounds, HasPointsAt, ArePointsFrom, IsFirstRefused, LacksBounds, ScanIsRefused, IsScan}

@@ -15,10 +15,9 @@ use Rattle.ept_config.specs.declared.input.Input.{Input}
 use Rattle.ept_config.specs.declared.kept.Kept.{Kept}
 use Rattle.ept_config.specs.declared.source_count.SourceCount.{SourceCount}
 use Rattle.ept_scan.specs.declared.part.Part.{Part}
-use Rattle.ept_scan.specs.Counts.{IsCountOf}
+use Rattle.ept_config.specs.Counts.{IsCountOf, total, IsCount}
 use Rattle.ept_scan.specs.Scans.{in_order, IsReadingOf, HasPointsAt, ArePointsFrom}
 use Rattle.ept_scan.specs.Queue.{Held, HoldsPoints, held, IsUnread, IsLimited}
-use Rattle.ept_config.specs.Counts.{total, IsCount}
 use Rattle.ept_scan.specs.Opening.{AreHeld, IsFileOf, HasOpened, AddsInput}
 use Rattle.ept_scan.proofs.Listing.{zip_push, zip_at, zip_length, in_order_push}
 use Rattle.ept_scan.proofs.Spans.{extent_none}

@@ -12,7 +12,7 @@ use Rattle.ept_las.specs.PointRecord.{IsPointOf}
 use Rattle.ept_scan.specs.declared.reading.Reading.{Reading}
 use Rattle.ept_scan.specs.Extents.{IsAllowed}
 use Rattle.ept_scan.specs.LasFile.{head_of, records_of, record_at, ArePointsOf}
-use Rattle.ept_scan.specs.Counts.{IsCountOf}
+use Rattle.ept_config.specs.Counts.{IsCountOf}
 use Rattle.ept_scan.specs.Scans.{IsReadingOf, HasPointsAt}
 use Rattle.ept_scan.specs.Queue.{HoldsPoints}
 use Rattle.ept_scan.proofs.Spans.{extent_at}

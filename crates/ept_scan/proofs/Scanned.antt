@@ -10,7 +10,8 @@ use Rattle.ept_space.specs.declared.bounds.Bounds.{Bounds}
 use Rattle.ept_config.specs.declared.input.Input.{Input}
 use Rattle.ept_scan.specs.declared.reading.Reading.{Reading}
 use Rattle.ept_scan.specs.declared.scan_done.ScanDone.{ScanDone}
-use Rattle.ept_scan.specs.Extents.{IsWithin, IsAllowed}
+use Rattle.ept_config.specs.Extents.{IsWithin}
+use Rattle.ept_scan.specs.Extents.{IsAllowed}
 use Rattle.ept_scan.specs.Scans.{in_order, HasPointsAt, IsScan}
 use Rattle.ept_scan.proofs.Rereading.{reread}
 use Rattle.ept_scan.proofs.Sound.{all_within}
@@ -37,7 +38,7 @@ module _ (all : Files) (scale : ℕ) (inputs : List Input) where
   reread_at limits other i points has within =
       let old : Reading = has.reading in
       let was = has.is_input.reading_is in
-      let new : Reading = record { origin = old.origin; shift = old.shift; expect = old.expect; limits = other } in
+      let new : Reading = record { origin = old.origin; shift = old.shift; expect = old.expect; limits = other; origin_fits = old.origin_fits } in
       record {
         input = has.input;
         reading = new;

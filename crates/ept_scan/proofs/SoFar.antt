@@ -14,7 +14,8 @@ use Rattle.ept_scan.specs.declared.reading.Reading.{Reading}
 use Rattle.ept_scan.specs.declared.scan_error.ScanError.TheVariants.{BadLas, OutOfBounds}
 use Rattle.ept_scan.specs.declared.record.Found.{Found}
 use Rattle.ept_scan.specs.declared.record.Found.TheVariants as found
-use Rattle.ept_scan.specs.Extents.{IsAllowed, HasExtent, IsExtentOf}
+use Rattle.ept_config.specs.Extents.{HasExtent, IsExtentOf}
+use Rattle.ept_scan.specs.Extents.{IsAllowed}
 use Rattle.ept_scan.specs.LasFile.{IsWhole, IsTruncated, IsPointAt, IsOutsideAt, AreFirstPoints}
 use Rattle.ept_scan.specs.Records.{Takes, ReadsNext}
 use Rattle.ept_scan.specs.Refusals.{RecordsAreRefused}
@@ -36,7 +37,7 @@ at_first header (Some records) =
     record { ahead = ap (λ (i : ℕ). Some (drop i records)) start }
 
 -- a record that was taken is the one of this number, and the next place is behind it
-module _ (reading : Reading) (header : Header) (records : List ℕ) (n : ℕ) (now new : Option (List ℕ)) (it : Found) (some : 0 < header.length) (place : IsPlace header records now n)
+module _ (reading : Reading) (header : Header) (records : List ℕ) (n : ℕ) (now new : Option (List ℕ)) (it : Found Point) (some : 0 < header.length) (place : IsPlace header records now n)
     (takes : Takes reading header n (drop (header.length * n) records) new it) where
   whole_is : IsWhole header records n
   whole_is = omega (arith, some, takes.whole, length-drop (header.length * n) records)

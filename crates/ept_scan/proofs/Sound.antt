@@ -9,15 +9,15 @@ use Rattle.ept_space.specs.declared.bounds.Bounds.{Bounds}
 use Rattle.ept_space.specs.ClosedBox.{IsBetween}
 use Rattle.ept_config.specs.declared.input.Input.{Input}
 use Rattle.ept_config.specs.declared.source_count.SourceCount.{SourceCount}
-use Rattle.ept_scan.specs.Extents.{IsWithin, IsAllowed, IsSpanOf, IsExtentOf, HasExtent}
-use Rattle.ept_scan.specs.Counts.{IsCountOf}
+use Rattle.ept_config.specs.Extents.{IsWithin, IsSpanOf, IsExtentOf, HasExtent}
+use Rattle.ept_scan.specs.Extents.{IsAllowed}
+use Rattle.ept_config.specs.Counts.{IsCountOf, IsCount}
 use Rattle.ept_scan.specs.Scans.{in_order, AreBounds, ArePointsFrom, IsScan}
 use Rattle.std.specs.Prelude.{IfSome}
 use Rattle.std.specs.Option.{ForSome}
 use Rattle.std.proofs.lemmas.Int.{ints}
 use Rattle.ept_space.specs.CubeOfBounds.{HasPlace, IsInside}
 use Rattle.ept_config.specs.Ranges.{BoundsInRange}
-use Rattle.ept_config.specs.Counts.{IsCount}
 use Rattle.ept_scan.specs.Found.{limits_of, FindsLists}
 use Rattle.ept_scan.proofs.Listing.{zip_at, zip_length}
 

@@ -12,7 +12,10 @@ use Rattle.ept_space.specs.declared.bounds.Bounds.{Bounds}
 use Rattle.ept_space.specs.Place.{coordinate}
 use Rattle.ept_space.specs.ClosedBox.{IsBetween}
 use Rattle.ept_space.proofs.Intervals.{all-three}
-use Rattle.ept_scan.specs.Extents.{IsWithin, IsSpanOf, IsExtentOf, HasExtent, IsLeast, IsGreatest}
+use Rattle.ept_las.specs.declared.place.Place.{Place}
+use Rattle.ept_las.specs.PointRecord.{LiesAt}
+use Rattle.ept_config.specs.Extents.{IsWithin, IsSpanOf, IsExtentOf, HasExtent}
+use Rattle.ept_scan.specs.Extents.{IsLeast, IsGreatest}
 
 -- what a test of an axis says of the numbers that were read
 pub plain_between : (test : Bool) (least greatest at : ℤ) → FitsSigned w32 least → FitsSigned w32 greatest → FitsSigned w32 at → IsTrue test ↔ IsBetween (to_z w32 (of_z w32 least)) (to_z w32 (of_z w32 greatest)) (to_z w32 (of_z w32 at)) → IsTrue test ↔ IsBetween least greatest at
@@ -25,11 +28,19 @@ plain_least a b r fits_a fits_b fits_r h = rw (to_z-of_z fits_r) (rw (to_z-of_z 
 pub plain_greatest : (a b r : ℤ) → FitsSigned w32 a → FitsSigned w32 b → FitsSigned w32 r → IsGreatest (to_z w32 (of_z w32 a)) (to_z w32 (of_z w32 b)) r → IsGreatest a b (to_z w32 (of_z w32 r))
 plain_greatest a b r fits_a fits_b fits_r h = rw (to_z-of_z fits_r) (rw (to_z-of_z fits_a, to_z-of_z fits_b) at h)
 
--- a point is within bounds where its coordinates are
-pub within_code : (b : Bounds) (p : Point) (x y z : Bool) → IsTrue x ↔ IsBetween (coordinate b.min 0) (coordinate b.max 0) p.x → IsTrue y ↔ IsBetween (coordinate b.min 1) (coordinate b.max 1) p.y → IsTrue z ↔ IsBetween (coordinate b.min 2) (coordinate b.max 2) p.z → IsTrue (x && y && z) ↔ IsWithin b p
-within_code b p x y z in_x in_y in_z =
-    let all = all-three x y z _ _ _ in_x in_y in_z in
-    ((λ h. let t = all.0 h in record { x = t.0; y = t.1; z = t.2 }), (λ h. all.1 (h.x, h.y, h.z)))
+-- a point is within bounds where the coordinates of its place are
+pub within_code : (b : Bounds) (p : Point) (place : Place) (x y z : Bool) → LiesAt place p → IsTrue x ↔ IsBetween (coordinate b.min 0) (coordinate b.max 0) place.x → IsTrue y ↔ IsBetween (coordinate b.min 1) (coordinate b.max 1) place.y → IsTrue z ↔ IsBetween (coordinate b.min 2) (coordinate b.max 2) place.z
+    → IsTrue (x && y && z) ↔ IsWithin b p
+within_code b p place x y z lies in_x in_y in_z =
+    let all = all-three x y z _ _ _ in_x in_y in_z in (
+      (λ h.
+          let t = all.0 h in
+          record { x = moved (coordinate b.min 0) (coordinate b.max 0) (sym lies.x) t.0; y = moved (coordinate b.min 1) (coordinate b.max 1) (sym lies.y) t.1; z = moved (coordinate b.min 2) (coordinate b.max 2) (sym lies.z) t.2 }),
+      (λ h. all.1 (moved (coordinate b.min 0) (coordinate b.max 0) lies.x h.x, moved (coordinate b.min 1) (coordinate b.max 1) lies.y h.y, moved (coordinate b.min 2) (coordinate b.max 2) lies.z h.z)),
+    )
+  where
+    moved : (least greatest : ℤ) {a b : ℤ} → a ≡ b → IsBetween least greatest a → IsBetween least greatest b
+    moved least greatest same between = subst (IsBetween least greatest) same between
 
 -- something holds of one of the points of either list
 any_left : {X : Type 0} (P : X → Type 0) (xs ys : List X) → Any P xs → Any P (xs ++ ys)

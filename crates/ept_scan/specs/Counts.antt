@@ -6,7 +6,9 @@ use Rattle.ept_space.specs.declared.bounds.Bounds.{Bounds}
 use Rattle.ept_las.specs.declared.header.Header.{Header}
 use Rattle.ept_config.specs.declared.source_count.SourceCount.{SourceCount}
 use Rattle.ept_scan.specs.declared.reading.Reading.{Reading}
-use Rattle.ept_scan.specs.Extents.{IsAllowed, HasExtent}
+use Rattle.ept_config.specs.Extents.{HasExtent}
+use Rattle.ept_config.specs.Counts.{IsCountOf}
+use Rattle.ept_scan.specs.Extents.{IsAllowed}
 use Rattle.ept_scan.specs.LasFile.{most_points, AreFirstPoints}
 
 -- so many records were found to have an extent: that of their points, which lie where points may lie
@@ -17,11 +19,6 @@ pub record FindsExtent (reading : Reading) (header : Header) (records : Option (
   pub allowed : All (IsAllowed reading.limits) points
   pub has_extent : HasExtent points extent
   pub are : Tells (λ bytes. AreFirstPoints reading header bytes header.points points) records
-
--- the number of some points and their extent
-pub record IsCountOf (points : List Point) (count : SourceCount) : Type 0 where
-  pub number : count.points ≡ length points
-  pub has_extent : HasExtent points count.extent
 
 -- The number and the extent of points that were found, which lie where points may lie, and of which something is known.
 pub record FindsCount (limits : Option Bounds) (Are : List Point → Type 0)

@@ -8,11 +8,12 @@ use Rattle.ept_config.specs.declared.input.Input.{Input}
 use Rattle.ept_scan.specs.declared.reading.Reading.{Reading}
 use Rattle.ept_scan.specs.declared.scan_error.ScanError.{ScanError}
 use Rattle.ept_scan.specs.declared.scan_done.ScanDone.{ScanDone}
-use Rattle.ept_scan.specs.Extents.{IsWithin}
+use Rattle.ept_config.specs.Extents.{IsWithin}
+use Rattle.ept_config.specs.Counts.{total}
 use Rattle.ept_scan.specs.LasFile.{ArePointsOf}
 use Rattle.ept_scan.specs.Refusals.{FileIsRefused}
 use Rattle.ept_scan.specs.Scans.{Blames, IsScan, ScanIsRefused}
-use Rattle.std.specs.Prelude.{◌<◌, Some, length, slice_index_or, All}
+use Rattle.std.specs.Prelude.{◌<◌, ◌++◌, Some, length, take, drop, slice_index_or, All}
 
 -- a file reads as one list of points
 abbrev pub FileInOneWay : Type 0
@@ -82,3 +83,36 @@ abbrev pub ScanComesFromInputs : Type 0
 ScanComesFromInputs = (all : Files) (scale : ℕ) (limits : Option Bounds) (inputs : List Input)
     (from : ℕ) (points : List Point) (done : ScanDone)
     → IsScan all scale limits inputs from points done → All (λ p. p.origin < length inputs) points
+
+-- the first inputs and those behind them, scanned within the same bounds, are the scan of all: the points and the counts of both, in order
+abbrev pub ScansJoin : Type 0
+ScansJoin = (all : Files) (scale : ℕ) (bounds : Bounds) (first others : List Input)
+    (xs ys : List Point) (front back : ScanDone) → IsScan all scale (Some bounds) first 0 xs front
+    → IsScan all scale (Some bounds) (first ++ others) (length first) ys back
+    → IsScan all scale (Some bounds) (first ++ others) 0 (xs ++ ys)
+    (record { counts = front.counts ++ back.counts; bounds = bounds })
+
+-- of a scan of all inputs within bounds, the first inputs have the first counts, and as many of the first points as these count
+abbrev pub ScanFront : Type 0
+ScanFront = (all : Files) (scale : ℕ) (bounds : Bounds) (first others : List Input)
+    (points : List Point) (done : ScanDone)
+    → IsScan all scale (Some bounds) (first ++ others) 0 points done
+    → IsScan all scale (Some bounds) first 0 (take (total (take (length first) done.counts)) points)
+    (record { counts = take (length first) done.counts; bounds = bounds })
+
+-- and those behind them have the other counts and points
+abbrev pub ScanBack : Type 0
+ScanBack = (all : Files) (scale : ℕ) (bounds : Bounds) (first others : List Input)
+    (points : List Point) (done : ScanDone)
+    → IsScan all scale (Some bounds) (first ++ others) 0 points done
+    → IsScan all scale (Some bounds) (first ++ others) (length first)
+    (drop (total (take (length first) done.counts)) points)
+    (record { counts = drop (length first) done.counts; bounds = bounds })
+
+-- where the first inputs were scanned, the cause for which those behind them are refused is that of all
+abbrev pub RefusedBehind : Type 0
+RefusedBehind = (all : Files) (scale : ℕ) (bounds : Bounds) (first others : List Input)
+    (points : List Point) (done : ScanDone) (e : ScanError)
+    → IsScan all scale (Some bounds) first 0 points done
+    → ScanIsRefused all scale (Some bounds) (first ++ others) (length first) e
+    → ScanIsRefused all scale (Some bounds) (first ++ others) 0 e

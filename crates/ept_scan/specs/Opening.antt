@@ -8,9 +8,8 @@ use Rattle.ept_config.specs.declared.input.Input.{Input}
 use Rattle.ept_point.specs.declared.point.Point.{Point}
 use Rattle.ept_config.specs.declared.kept.Kept.{Kept}
 use Rattle.ept_config.specs.declared.source_count.SourceCount.{SourceCount}
-use Rattle.ept_config.specs.Counts.{total}
+use Rattle.ept_config.specs.Counts.{total, IsCountOf}
 use Rattle.ept_scan.specs.declared.part.Part.{Part}
-use Rattle.ept_scan.specs.Counts.{IsCountOf}
 use Rattle.ept_scan.specs.Scans.{in_order, IsReadingOf, ArePointsFrom, IsScan}
 use Rattle.ept_scan.specs.Queue.{Held, HoldsPoints, held, IsUnread, IsLimited}
 

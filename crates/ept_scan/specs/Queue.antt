@@ -8,7 +8,7 @@ use Rattle.ept_scan.specs.declared.reading.Reading.{Reading}
 use Rattle.ept_scan.specs.declared.part.Part.{Part}
 use Rattle.ept_scan.specs.declared.part.Cursor.{Cursor}
 use Rattle.ept_scan.specs.declared.queue.Queue.{Queue}
-use Rattle.ept_scan.specs.Extents.{IsWithin}
+use Rattle.ept_config.specs.Extents.{IsWithin}
 use Rattle.ept_scan.specs.LasFile.{ArePointsOf}
 use Rattle.ept_scan.specs.Scans.{in_order}
 use Rattle.ept_scan.specs.Changes.{Differs, HasRecord}

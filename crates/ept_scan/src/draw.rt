@@ -20,6 +20,7 @@ use ept_las::Header;
 use ept_point::{Point, PointNumber};
 
 /// Reads the next record of a file, of which there is one, and moves on behind it.
+#[inline(always)]
 pub(crate) fn draw<S: Source>(
     window: &mut Window,
     part: &mut Part<S>,
@@ -74,6 +75,7 @@ pub(crate) fn draw<S: Source>(
 }
 
 // The header of a file, which is read now where it was not yet. The place is then before this record.
+#[inline(always)]
 fn header_at<S: Source>(
     window: &mut Window,
     source: &mut S,
@@ -105,6 +107,7 @@ fn header_at<S: Source>(
 }
 
 // Reads the header of a file that is at its front, and passes over the records before this one.
+#[inline(never)]
 fn start<S: Source>(
     window: &mut Window,
     source: &mut S,

@@ -3,8 +3,11 @@
 ghost use Rattle.std.specs.Prelude.{◌↔◌, List, [], ◌∷◌, ◌++◌, IsTrue};
 ghost use Rattle.ept_point.specs.declared.point.Point as at;
 ghost use Rattle.ept_space.specs.ClosedBox.{IsBetween};
-ghost use Rattle.ept_scan.specs.Extents.{IsWithin, IsAllowed, IsExtentOf, HasExtent, IsLeast, IsGreatest};
+ghost use Rattle.ept_las.specs.PointRecord.{LiesAt};
+ghost use Rattle.ept_config.specs.Extents.{IsWithin, IsExtentOf, HasExtent};
+ghost use Rattle.ept_scan.specs.Extents.{IsAllowed, IsLeast, IsGreatest};
 
+use ept_las::Place;
 use ept_point::Point;
 use ept_space::Bounds;
 
@@ -15,24 +18,41 @@ fn is_between(least: i32, greatest: i32, at: i32) -> bool
     least <= at && at <= greatest
 }
 
-/// Whether a point lies within bounds.
-pub(crate) fn is_within(bounds: &Bounds, point: &Point) -> bool
-    ensures { IsTrue result ↔ IsWithin bounds.now point.now }
+// Whether a point that lies at a place lies within bounds.
+#[inline(always)]
+fn is_within(bounds: &Bounds, place: Place) -> bool
+    ensures { (p : at.Point) → LiesAt place p → IsTrue result ↔ IsWithin bounds.now p }
 {
-    let x = is_between(bounds.min[0], bounds.max[0], point.x);
-    let y = is_between(bounds.min[1], bounds.max[1], point.y);
-    let z = is_between(bounds.min[2], bounds.max[2], point.z);
+    let x = is_between(bounds.min[0], bounds.max[0], place.x);
+    let y = is_between(bounds.min[1], bounds.max[1], place.y);
+    let z = is_between(bounds.min[2], bounds.max[2], place.z);
     x & y & z
 }
 
-/// Whether a point lies within bounds, where there are any.
-pub(crate) fn is_allowed(limits: Option<Bounds>, point: &Point) -> bool
-    ensures { IsTrue result ↔ IsAllowed limits point.now }
+/// Whether a point may lie at a place: within bounds, where there are any.
+#[inline(always)]
+pub(crate) fn may_lie(limits: Option<Bounds>, place: Place) -> bool
+    ensures { (p : at.Point) → LiesAt place p → IsTrue result ↔ IsAllowed limits p }
 {
     match limits {
         None => true,
-        Some(bounds) => is_within(&bounds, point),
+        Some(bounds) => is_within(&bounds, place),
     }
+}
+
+/// Whether a point lies where points may lie.
+#[inline(always)]
+pub(crate) fn is_allowed(limits: Option<Bounds>, point: &Point) -> bool
+    ensures { IsTrue result ↔ IsAllowed limits point.now }
+{
+    may_lie(
+        limits,
+        Place {
+            x: point.x,
+            y: point.y,
+            z: point.z,
+        },
+    )
 }
 
 fn least(a: i32, b: i32) -> i32
@@ -47,18 +67,20 @@ fn greatest(a: i32, b: i32) -> i32
     if a < b { b } else { a }
 }
 
-/// The extent of one point.
-fn extent_of(point: &Point) -> Bounds
-    ensures { IsExtentOf (point.now ∷ []) result }
+// The extent of one point that lies at a place.
+#[inline(always)]
+fn extent_of(place: Place) -> Bounds
+    ensures { (p : at.Point) → LiesAt place p → IsExtentOf (p ∷ []) result }
 {
-    let place = [point.x, point.y, point.z];
+    let corner = [place.x, place.y, place.z];
     Bounds {
-        min: place,
-        max: place,
+        min: corner,
+        max: corner,
     }
 }
 
 /// The extent of all points of two extents.
+#[inline(always)]
 pub(crate) fn joined(a: &Bounds, b: &Bounds) -> Bounds
     ensures { (xs ys : List at.Point) → IsExtentOf xs a.now → IsExtentOf ys b.now
         → IsExtentOf (xs ++ ys) result }
@@ -77,13 +99,15 @@ pub(crate) fn joined(a: &Bounds, b: &Bounds) -> Bounds
     }
 }
 
-/// The extent with one point more.
-pub(crate) fn grown(extent: Option<Bounds>, point: &Point) -> Bounds
-    ensures { (xs : List at.Point) → HasExtent xs extent → IsExtentOf (xs ++ point.now ∷ []) result }
+/// The extent with one point more, which lies at a place.
+#[inline(always)]
+pub(crate) fn grown(extent: Option<Bounds>, place: Place) -> Bounds
+    ensures { (xs : List at.Point) (p : at.Point) → LiesAt place p → HasExtent xs extent
+        → IsExtentOf (xs ++ p ∷ []) result }
 {
     match extent {
-        None => extent_of(point),
-        Some(extent) => joined(&extent, &extent_of(point)),
+        None => extent_of(place),
+        Some(extent) => joined(&extent, &extent_of(place)),
     }
 }
 

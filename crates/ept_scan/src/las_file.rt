@@ -13,7 +13,7 @@ ghost use Rattle.ept_scan.specs.Refusals.{HeaderIsRefused, RecordsAreRefused, Fi
 
 use crate::extent::grown;
 use crate::reading::{MAX_POINTS, Reading};
-use crate::record::{Found, next_point};
+use crate::record::{Found, next_place};
 use crate::scan_error::ScanError;
 use crate::window::{PIECE, Window};
 use ept_base::{Failed, Source};
@@ -150,8 +150,8 @@ fn scan_records<S: Source>(
 {
     let mut extent = None;
     for number in 0..header.points as PointNumber {
-        match next_point(window, source, reading, header, number)? {
-            Found::At(point) => extent = Some(grown(extent, &point)),
+        match next_place(window, source, reading, header, number)? {
+            Found::At(place) => extent = Some(grown(extent, place)),
             Found::Outside => {
                 return Err(ScanError::OutOfBounds {
                     source: reading.origin,

@@ -2,6 +2,7 @@
 
 ghost use Rattle.ept_scan.specs.Laws.{FileInOneWay, FileOrRefusal, FileForOneCause, ScanInOneWay, ScanOrRefusal, ScanForOneCause};
 ghost use Rattle.ept_scan.specs.Laws.{ScanIsKept, ScanLiesWithin, ScanAscends, ScanHasDistinctIds, ScanComesFromInputs};
+ghost use Rattle.ept_scan.specs.Laws.{ScansJoin, ScanFront, ScanBack, RefusedBehind};
 
 /// A file reads as one list of points.
 pub fn file_once_law()
@@ -56,4 +57,20 @@ pub fn ascending_law()
 /// Each point that was scanned carries the place of one of the inputs.
 pub fn origin_law()
     ensures { ScanComesFromInputs }
+{}
+
+/// What was kept of the first inputs and what [`scan`](crate::scan) answers of those behind them, within
+/// the kept bounds, is together the scan of all inputs: it has the points of both in order, and the counts
+/// of both. The other way round, a scan of all inputs within bounds has two parts, the scan of the first
+/// ones and that of those behind them.
+pub fn joined_law()
+    ensures joined { ScansJoin }
+    ensures front { ScanFront }
+    ensures back { ScanBack }
+{}
+
+/// Where the first inputs were scanned, those behind them are refused for the cause for which all inputs
+/// are refused within these bounds.
+pub fn refused_behind_law()
+    ensures { RefusedBehind }
 {}

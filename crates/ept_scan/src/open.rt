@@ -50,7 +50,7 @@ pub fn reader<S: Source, H: Shelf<Source = S>>(
     ensures given { IfOk result (GivesNoMore S.whole S.given) }
     ensures faultless { IfOk result (λ r. HasFault S.faults r → ⊥) }
     ensures reader { IfOk result (IsReader S.whole S.left S.given S.faults) }
-    ensures unchanged { (source number : ℕ) → result ≢ Err (ReadError.SourceChanged source number) }
+    ensures no_change { (source number : ℕ) → result ≢ Err (ReadError.SourceChanged source number) }
     ensures asked { OpensThese (paths_left kept.now.inputs counts.now drawn) result
         (H.asked shelf.old) (H.asked shelf.new) }
     ensures files { H.files shelf.new ≡ H.files shelf.old }
@@ -169,7 +169,7 @@ fn open_parts<S: Source, H: Shelf<Source = S>>(
     ensures opened { OnOk result (HasOpened S.whole S.left S.given S.faults
         (H.files shelf.old) kept.now counts.now from (length counts.now) parts.new.items) }
     ensures fresh { HasFailed S.faults parts.new.items → ⊥ }
-    ensures unchanged { (source number : ℕ) → result ≢ Err (ReadError.SourceChanged source number) }
+    ensures no_change { (source number : ℕ) → result ≢ Err (ReadError.SourceChanged source number) }
     ensures asked { OpensThese (paths_left (drop from kept.now.inputs) (drop from counts.now) 0) result
         (H.asked shelf.old) (H.asked shelf.new) }
     ensures files { H.files shelf.new ≡ H.files shelf.old }
@@ -196,8 +196,8 @@ fn open_input<S: Source, H: Shelf<Source = S>>(
         (H.files shelf.old) kept.now index count.points count.extent parts.old.items parts.new.items) }
     ensures one { vec_len parts.new ≤ vec_len parts.old + 1 }
     ensures room { vec_capacity parts.new ≡ vec_capacity parts.old }
-    ensures refused { OnErr result (parts.new.items ≡ parts.old.items) }
-    ensures unchanged { (source number : ℕ) → result ≢ Err (ReadError.SourceChanged source number) }
+    ensures unchanged { OnErr result (parts.new.items ≡ parts.old.items) }
+    ensures no_change { (source number : ℕ) → result ≢ Err (ReadError.SourceChanged source number) }
     ensures asked { (input : config.Input) → slice_get kept.now.inputs index ≡ Some input
         → OpensThese (path_left input count 0) result (H.asked shelf.old) (H.asked shelf.new) }
     ensures files { H.files shelf.new ≡ H.files shelf.old }

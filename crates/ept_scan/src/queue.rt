@@ -38,6 +38,7 @@ struct Drawn {
 
 impl<S: Source> Queue<S> {
     /// Reads the next record, of which there is one.
+    #[inline(always)]
     pub(crate) fn next(&mut self) -> Result<Point, ReadError>
         requires queue { IsQueue S.whole S.left S.given self.old }
         requires more { self.old.at < length self.old.parts.items }
@@ -49,7 +50,7 @@ impl<S: Source> Queue<S> {
         ensures rest { (points : List at.Point) → RestOf S.whole self.old points
             → IfOk result (λ p. (rest : List at.Point) × (points ≡ p ∷ rest)
             × RestOf S.whole self.new rest) }
-        ensures unchanged { (points : List at.Point) → RestOf S.whole self.old points
+        ensures no_change { (points : List at.Point) → RestOf S.whole self.old points
             → (source number : ℕ) → result ≢ Err (ReadError.SourceChanged source number) }
         ensures changed { IfErr result (IfChanged
             (HasChanged (held_of S.whole self.old) (records_left self.old))) }
@@ -91,8 +92,8 @@ impl<S: Source> Queue<S> {
         ensures rest { (points : List at.Point) → RestOf S.whole self.old points
             → OnOk result ((out.new.items ≡ out.old.items ++ take count points)
             × RestOf S.whole self.new (drop count points)) }
-        ensures refused { OnErr result (out.new.items ≡ out.old.items) }
-        ensures unchanged { (points : List at.Point) → RestOf S.whole self.old points
+        ensures unchanged { OnErr result (out.new.items ≡ out.old.items) }
+        ensures no_change { (points : List at.Point) → RestOf S.whole self.old points
             → (source number : ℕ) → result ≢ Err (ReadError.SourceChanged source number) }
         ensures changed { IfErr result (IfChanged
             (IsFirstChanged (held_of S.whole self.old) (records_left self.old) count)) }
@@ -118,6 +119,7 @@ impl<S: Source> Queue<S> {
 }
 
 // Reads the next record of a file, and rewinds the file behind the last one.
+#[inline(always)]
 fn draw_on<S: Source>(
     window: &mut Window,
     part: &mut Part<S>,

@@ -1,5 +1,7 @@
 //! How the records of one file become points.
 
+ghost use Rattle.std.specs.Prelude.{◌<◌, ◌^◌};
+
 use ept_las::{SCALE_WIDTH, Shift};
 use ept_space::Bounds;
 
@@ -17,4 +19,6 @@ pub struct Reading {
     pub expect: Option<[u8; SCALE_WIDTH]>,
     /// Where all points are to lie, in stored units, if they are to.
     pub limits: Option<Bounds>,
+    // What the width of the place says, since a definition sees a number without a width.
+    ghost origin_fits: { origin < 2 ^ 32 },
 }

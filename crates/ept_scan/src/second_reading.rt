@@ -78,7 +78,7 @@ impl<S: Source> Reader<S> {
         ensures rest { (points : List at.Point) → IsRest S.whole self.old points
             → OnOk result ((out.new.items ≡ out.old.items ++ take (batch_of n self.old) points)
             × IsRest S.whole self.new (drop (batch_of n self.old) points)) }
-        ensures unchanged { (points : List at.Point) → IsRest S.whole self.old points
+        ensures no_change { (points : List at.Point) → IsRest S.whole self.old points
             → refusal_of self.old ≡ None → (source number : ℕ)
             → result ≢ Err (ReadError.SourceChanged source number) }
 
@@ -86,7 +86,7 @@ impl<S: Source> Reader<S> {
         ensures fault { result ≡ Err ReadError.SourceFault → HasFault S.faults self.new }
         ensures changed { refusal_of self.old ≡ None → IfErr result (IfChanged
             (IsFirstChanged (files_of S.whole self.old) (left_of self.old) (batch_of n self.old))) }
-        ensures refused { OnErr result (out.new.items ≡ out.old.items) }
+        ensures unchanged { OnErr result (out.new.items ≡ out.old.items) }
         ensures memory { result ≡ Err ReadError.Memory → self.new ≡ self.old }
         ensures refusal { IfErr result (λ e. e ≢ ReadError.Memory → refusal_of self.new ≡ Some e) }
         ensures again { (e : ReadError) → refusal_of self.old ≡ Some e → result ≡ Err e }

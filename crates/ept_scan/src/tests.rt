@@ -468,6 +468,31 @@ fn an_input_that_was_inserted_may_be_absent(rt: HostRuntime) -> Result<(), Fail>
     Ok(())
 }
 
+#[test]
+fn a_new_input_lies_within_the_kept_bounds(rt: HostRuntime) -> Result<(), Fail> {
+    let alloc = rt.alloc();
+    let places = [[4, 4, 4], [9, 5, 5]];
+    let first = plain(alloc, &[[1, 1, 1], [7, 7, 7]])?;
+    let second = plain(alloc, &[])?;
+    let mut shelf = shelf_of(alloc, first, second, &[])?;
+    let unbounded = "{\"input\":[\"a.las\",\"b.las\"],\"scale\":2}";
+    let found = found_in(alloc, unbounded, &mut shelf)?;
+
+    let later = plain(alloc, &places)?;
+    let mut shelf = second_alone(alloc, later)?;
+    let config = read_config(alloc, unbounded.as_bytes())?;
+    let last = config.inputs.as_slice().len().saturating_sub(1) as u32;
+    let refused = ScanError::OutOfBounds {
+        source: 1,
+        number: 1,
+    };
+    assert_eq!(rt;
+        scan(alloc, &mut shelf, &config, last, Some(found.kept.bounds)).err(),
+        Some(refused)
+    );
+    Ok(())
+}
+
 const RECORD_7: [u8; 36] = [
     1, 0, 0, 0, 1, 0, 0, 0, 1, 0, 0, 0, 0, 0, 0x11, 0xa8, 0x42, 9, 0x0c, 0xfe, 4, 0, 1, 2, 3, 4, 5,
     6, 7, 8, 10, 0, 20, 0, 30, 0,

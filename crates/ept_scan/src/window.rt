@@ -74,6 +74,7 @@ impl Window {
     }
 
     /// Reads on, up to `most` bytes, where there are fewer than `least`. Answers whether there are.
+    #[inline(always)]
     pub(crate) fn fill<S: Source>(
         &mut self,
         source: &mut S,
@@ -103,6 +104,7 @@ impl Window {
     }
 
     /// Reads on until there are `most` bytes, or the source is at its end.
+    #[inline(never)]
     pub(crate) fn refill<S: Source>(&mut self, source: &mut S, most: usize) -> Result<(), Failed>
         requires { most ≤ PIECE }
         ensures ahead { OnOk result (Keeps (prepend_known self.old (S.left source.old))

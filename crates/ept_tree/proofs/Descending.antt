@@ -1,12 +1,14 @@
 -- Points that arrive one after another, and those that then go on.
-use Rattle.std.proofs.Common.{◌≡◌, ◌∙◌, ℕ, suc, ◌+◌, ◌<◌, List, [], ◌∷◌, ◌++◌, drop, refl, sym, ap, subst, arith, length, get_or, append_assoc}
+use Rattle.std.proofs.Common.{◌≡◌, ◌∙◌, ℕ, suc, ◌+◌, ◌<◌, List, [], ◌∷◌, ◌++◌, drop, map, refl, sym, ap, subst, arith, length, get_or, append_assoc}
 use Rattle.std.proofs.Math.Seq.{drop-cons}
 use Rattle.std.proofs.lemmas.List.{append-nil}
 use Rattle.std.proofs.lemmas.List.Elements.{All-append, All-get_or}
 use Rattle.ept_point.specs.declared.point.Point.{Point}
 use Rattle.ept_space.specs.declared.cube.Rules.{Rules}
 use Rattle.ept_tree.specs.declared.arrival.Arrival.{Arrival}
-use Rattle.ept_tree.specs.Tree.{Branch, IsTree, IsPlaced, ArePlaced, Becomes, AreAtDepth, HasArrived}
+use Rattle.ept_tree.specs.Whole.{AreWhole, StaysWhole}
+use Rattle.ept_tree.specs.Tree.{Branch, entry_of, IsTree, IsPlaced, ArePlaced, Becomes, AreAtDepth}
+use Rattle.ept_tree.specs.Landing.{HasArrived}
 
 -- the item of an index stands in front of those behind it
 pub front-of : {X : Type 0} (xs : List X) (i : ℕ) (x : X) → i < length xs → x ≡ get_or xs i x → drop i xs ≡ x ∷ drop (i + 1) xs
@@ -28,6 +30,10 @@ descent-begins rules arrivals next nodes none = λ points left tree. (
     let same : arrivals ++ next ≡ arrivals = ap (λ (w : List Arrival). arrivals ++ w) none ∙ append-nil arrivals in
     subst (λ (w : List Arrival). IsTree rules points left w nodes) (sym same) tree)
 
+pub whole-begins : (arrivals next : List Arrival) (nodes : List Branch) → next ≡ [] → StaysWhole arrivals nodes (arrivals ++ next) nodes
+whole-begins arrivals next nodes none whole =
+    (subst (λ (w : List Arrival). AreWhole w (map entry_of nodes)) (sym (ap (λ (w : List Arrival). arrivals ++ w) none ∙ append-nil arrivals)) whole, λ key is. is)
+
 module _ (rules rules' : Rules) (same_rules : rules' ≡ rules) (arrivals next : List Arrival) (i : ℕ) (a : Arrival) (low : i < length arrivals) (a_is : a ≡ get_or arrivals i a) (old now : List Branch) (so_far : Becomes rules arrivals old (drop i arrivals ++ next) now) where
   at_front : drop i arrivals ≡ a ∷ drop (i + 1) arrivals
   at_front = front-of arrivals i a low a_is
@@ -47,6 +53,13 @@ module _ (rules rules' : Rules) (same_rules : rules' ≡ rules) (arrivals next :
         let t = arrived.becomes others points left (descent-next points left tree) in
         let same : others ++ arrived.sent ≡ drop (i + 1) arrivals ++ next' = append_assoc (drop (i + 1) arrivals) next arrived.sent ∙ ap (λ (w : List Arrival). drop (i + 1) arrivals ++ w) (sym arrived.grows) in
         subst (λ (r : Rules). IsTree r points left (drop (i + 1) arrivals ++ next') new) same_rules (subst (λ (w : List Arrival). IsTree rules' points left w new) same t)
+
+    -- and the nodes are whole with them
+    pub whole-goes-on : StaysWhole arrivals old (drop i arrivals ++ next) now → StaysWhole arrivals old (drop (i + 1) arrivals ++ next') new
+    whole-goes-on before whole =
+        let t = arrived.whole others (subst (λ (w : List Arrival). AreWhole (w ++ next) (map entry_of now)) at_front (before whole).0) in
+        let same : others ++ arrived.sent ≡ drop (i + 1) arrivals ++ next' = append_assoc (drop (i + 1) arrivals) next arrived.sent ∙ ap (λ (w : List Arrival). drop (i + 1) arrivals ++ w) (sym arrived.grows) in
+        (subst (λ (w : List Arrival). AreWhole w (map entry_of new)) same t.0, λ key is. t.1 key ((before whole).1 key is))
 
     -- one depth below
     pub descent-deepens : ((depth : ℕ) → AreAtDepth depth arrivals → AreAtDepth (depth + 1) next) → (depth : ℕ) → AreAtDepth depth arrivals → AreAtDepth (depth + 1) next'
@@ -69,3 +82,7 @@ descent-places rules rules' same a now new next next' arrived placed =
 pub descent-ends : (rules : Rules) (arrivals next : List Arrival) (i : ℕ) (old now : List Branch) → i ≡ length arrivals → Becomes rules arrivals old (drop i arrivals ++ next) now → Becomes rules arrivals old next now
 descent-ends rules arrivals next i old now end so_far = λ points left tree. (
     subst (λ (w : List Arrival). IsTree rules points left (w ++ next) now) (none-left arrivals i end) (so_far points left tree))
+
+pub whole-ends : (arrivals next : List Arrival) (i : ℕ) (old now : List Branch) → i ≡ length arrivals → StaysWhole arrivals old (drop i arrivals ++ next) now → StaysWhole arrivals old next now
+whole-ends arrivals next i old now end so_far whole =
+    (subst (λ (w : List Arrival). AreWhole (w ++ next) (map entry_of now)) (none-left arrivals i end) (so_far whole).0, (so_far whole).1)

@@ -46,7 +46,7 @@ use Rattle.ept_tree.proofs.Regrouping.{behind-others, one-each, whole, split, sp
 
 -- ---- the eight octants
 
-map_alike : {X : Type 0} (f g : ℕ → X) (os : List ℕ) → ((o : ℕ) → IsMember o os → f o ≡ g o) → map f os ≡ map g os
+pub map_alike : {X : Type 0} (f g : ℕ → X) (os : List ℕ) → ((o : ℕ) → IsMember o os → f o ≡ g o) → map f os ≡ map g os
 map_alike f g [] same = refl
 map_alike {X} f g (o ∷ os) same =
     ap (λ (x : X). x ∷ map f os) (same o (inl refl)) ∙ ap (λ (w : List X). g o ∷ w) (map_alike f g os (λ k m. same k (inr m)))
@@ -180,11 +180,11 @@ module _ (rules : Rules) (points left : List Point) (a : Arrival) (others : List
 
 -- ---- a node that is found, and one that is new
 
-has_open_then : (g : grid.Node) (o : ℕ) → o < 8 → has_open (node_of g) o ≡ is_open_in g o
+pub has_open_then : (g : grid.Node) (o : ℕ) → o < 8 → has_open (node_of g) o ≡ is_open_in g o
 unfolding has_open
 has_open_then g o low = open-at (opened g.mask) o low
 
-blank_closed : (o : ℕ) → o < 8 → has_open blank o ≡ opened 0 o
+pub blank_closed : (o : ℕ) → o < 8 → has_open blank o ≡ opened 0 o
 unfolding has_open opened
 blank_closed zero low = refl
 blank_closed (suc zero) low = refl
@@ -298,6 +298,10 @@ sent-below key leaving = all_below key (points_at leaving) all_octants
 pub three-ok : {E : Type 0} (r : Result (Unit {0}) E) (P Q R S : Type 0) → OnOk r P → OnOk r Q → OnOk r R → (P → Q → R → S) → OnOk r S
 three-ok (Ok u) P Q R S p q r' more = more p q r'
 three-ok (Err e) P Q R S p q r' more = tt
+
+pub four-ok : {E : Type 0} (r : Result (Unit {0}) E) (P Q R S V : Type 0) → OnOk r P → OnOk r Q → OnOk r R → OnOk r S → (P → Q → R → S → V) → OnOk r V
+four-ok (Ok u) P Q R S V p q r' s more = more p q r' s
+four-ok (Err e) P Q R S V p q r' s more = tt
 
 pub one-ok : {E : Type 0} (r : Result (Unit {0}) E) (P R : Type 0) → OnOk r P → (P → R) → OnOk r R
 one-ok (Ok u) P R p more = more p

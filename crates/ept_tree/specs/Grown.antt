@@ -1,10 +1,11 @@
 -- A tree, as its callers see it.
-use Rattle.std.specs.Prelude.{◌≡◌, ℕ, List, []}
+use Rattle.std.specs.Prelude.{◌≡◌, ℕ, List, [], map}
 use Rattle.ept_point.specs.declared.point.Point.{Point}
 use Rattle.ept_space.specs.declared.cube.Rules.{Rules}
 use Rattle.ept_grid.specs.Outgoing.{Leaving, points_at}
 use Rattle.ept_tree.specs.declared.octree.Tree.{Tree}
-use Rattle.ept_tree.specs.Tree.{Branch, points_in, AreNodes, IsTree}
+use Rattle.ept_tree.specs.Tree.{Branch, entry_of, points_in, AreNodes, IsTree}
+use Rattle.ept_tree.specs.Whole.{AreWhole, StaysWhole}
 
 -- the rules of its sampling
 abbrev pub rules_of : Tree → Rules
@@ -26,6 +27,14 @@ leaving_of tree = tree.leaving
 pub record IsAtRest (tree : Tree) : Type 0 where
   pub own : AreNodes (rules_of tree) (nodes_of tree)
   pub none : (o : ℕ) → points_at (leaving_of tree) o ≡ []
+
+-- its nodes are a whole octree, whatever points they have
+abbrev pub IsWhole : Tree → Type 0
+IsWhole tree = AreWhole [] (map entry_of (nodes_of tree))
+
+-- a tree that was whole is whole, and no node is gone
+abbrev pub GrowsWhole : Tree → Tree → Type 0
+GrowsWhole old new = StaysWhole [] (nodes_of old) [] (nodes_of new)
 
 -- of these points, all but those left were brought in
 abbrev pub HasTaken : List Point → List Point → Tree → Type 0

@@ -79,18 +79,3 @@ Becomes rules arrivals nodes arrivals' nodes' =
 -- points on their way to nodes of this depth
 abbrev pub AreAtDepth : ℕ → List Arrival → Type 0
 AreAtDepth depth arrivals = All (λ (a : Arrival). a.key.depth ≡ depth) arrivals
-
--- A point has arrived at its node, and the points that leave it go on from there.
-pub record HasLanded (rules : Rules) (a : Arrival) (old new : List Branch) (leaving : List Leaving) : Type 0 where
-  pub becomes : (others : List Arrival) → Becomes rules (a ∷ others) old (others ++ sending a.key leaving) new
-  pub together : (test : Point → Bool) → count_by test (points_in new) + count_by test (all_points leaving) ≡ count_by test (a.point ∷ points_in old)
-  pub down : GoDown rules a.key leaving
-
--- A point has arrived at its node, and those that left it are on their way, one depth below.
-pub record HasArrived (rules : Rules) (a : Arrival) (old new : List Branch) (before after : List Arrival) : Type 0 where
-  pub sent : List Arrival
-  pub grows : after ≡ before ++ sent
-  pub deeper : AreAtDepth (a.key.depth + 1) sent
-  pub placed : ArePlaced rules sent
-  pub together : (test : Point → Bool) → count_by test (points_in new) + count_by test (on_the_way sent) ≡ count_by test (a.point ∷ points_in old)
-  pub becomes : (others : List Arrival) → Becomes rules (a ∷ others) old (others ++ sent) new

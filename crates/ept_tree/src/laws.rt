@@ -1,8 +1,10 @@
-//! The law of trees, on the contract of a function that does nothing.
+//! The laws of trees, on the contract of a function that does nothing.
 
-ghost use Rattle.ept_tree.specs.TreeLaws.{GrownIsSampled};
+ghost use Rattle.ept_tree.specs.TreeLaws.{GrownIsSampled, SampledIsGrown};
 
-/// Once all points are in, the nodes are the tiles of their sampling.
+/// Once the first of some points are in, the nodes are those of their sampling; and a tree with these nodes
+/// has taken these points.
 pub fn sampled_law()
-    ensures { GrownIsSampled }
+    ensures grown { GrownIsSampled }
+    ensures resumed { SampledIsGrown }
 {}

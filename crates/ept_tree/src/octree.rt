@@ -12,8 +12,10 @@ ghost use Rattle.ept_sample.specs.SamplingLaws.{CanBeSampled};
 ghost use Rattle.ept_sample.specs.Nodes.{sampled};
 ghost use Rattle.ept_grid.specs.Node.{TakesIn};
 ghost use Rattle.ept_grid.specs.Outgoing.{points_at, all_points};
-ghost use Rattle.ept_tree.specs.Tree.{on_the_way, AreNodes, IsPlaced, ArePlaced, GoDown, Becomes, AreAtDepth, HasLanded, HasArrived};
-ghost use Rattle.ept_tree.specs.Grown.{rules_of, nodes_of, points_of, IsAtRest, HasTaken};
+ghost use Rattle.ept_tree.specs.Tree.{on_the_way, AreNodes, IsPlaced, ArePlaced, GoDown, Becomes, AreAtDepth};
+ghost use Rattle.ept_tree.specs.Landing.{HasLanded, HasArrived};
+ghost use Rattle.ept_tree.specs.Whole.{StaysWhole, HasOpened};
+ghost use Rattle.ept_tree.specs.Grown.{rules_of, nodes_of, points_of, IsAtRest, IsWhole, GrowsWhole, HasTaken};
 ghost use Rattle.ept_tree.specs.declared.arrival.Arrival.{Arrival};
 
 use crate::arrival::{Arrival, send_on};
@@ -41,6 +43,7 @@ impl Tree {
         ensures rules { IfOk result (λ tree. rules_of tree ≡ rules.now) }
         ensures rest { IfOk result IsAtRest }
         ensures one { IfOk result (λ tree. length (nodes_of tree) ≡ 1) }
+        ensures whole { IfOk result IsWhole }
         ensures begun { IfOk result (λ tree. (points : List Point) → CanBeSampled rules.now points
             → HasTaken points points tree) }
     {
@@ -52,6 +55,21 @@ impl Tree {
             nodes,
             leaving: Outgoing::new(alloc),
         })
+    }
+
+    /// The octree of these nodes, each of which stands under its key. It takes no memory.
+    pub fn of(alloc: Global, rules: &Rules, nodes: BTreeMap<Key, Grid>) -> Tree
+        requires own { AreNodes rules.now nodes.entries }
+        ensures rules { rules_of result ≡ rules.now }
+        ensures nodes { nodes_of result ≡ nodes.entries }
+        ensures rest { IsAtRest result }
+    {
+        Tree {
+            alloc,
+            rules: *rules,
+            nodes,
+            leaving: Outgoing::new(alloc),
+        }
     }
 
     /// The nodes by their keys.
@@ -75,9 +93,11 @@ impl Tree {
         ensures rest { OnOk result (IsAtRest self.new) }
         ensures few { OnOk result (length (nodes_of self.new) ≤ most) }
 
-        // Whatever the ids, the points of all nodes are together those before and these.
+        // Whatever the ids, the points of all nodes are together those before and these, and the nodes are a whole
+        // octree where they were one.
         ensures together { OnOk result ((test : Point → Bool) → count_by test (points_of self.new)
             ≡ count_by test given.now + count_by test (points_of self.old)) }
+        ensures whole { OnOk result (GrowsWhole self.old self.new) }
 
         // Where the points have different ids, the tree has taken these too, or they are too many for it.
         ensures taken { OnOk result ((points left : List Point) → HasTaken points (given.now ++ left) self.old
@@ -103,6 +123,7 @@ impl Tree {
         ensures rest { OnOk result (IsAtRest self.new) }
         ensures together { OnOk result ((test : Point → Bool) → count_by test (points_of self.new)
             ≡ count_by test (point ∷ points_of self.old)) }
+        ensures whole { OnOk result (GrowsWhole self.old self.new) }
         ensures taken { OnOk result ((points left : List Point) → HasTaken points (point ∷ left) self.old
             → HasTaken points left self.new) }
     {
@@ -133,6 +154,8 @@ impl Tree {
         ensures together { IfOk result (λ next. (test : Point → Bool)
             → count_by test (points_of self.new) + count_by test (on_the_way next.items)
             ≡ count_by test (on_the_way arrivals.now) + count_by test (points_of self.old)) }
+        ensures whole { IfOk result (λ next. StaysWhole
+            arrivals.now self.old.nodes.entries next.items self.new.nodes.entries) }
         ensures becomes { IfOk result (λ next. Becomes
             self.old.rules arrivals.now self.old.nodes.entries next.items self.new.nodes.entries) }
     {
@@ -203,6 +226,7 @@ fn take_in(node: &mut Grid, point: Point, leaving: &mut Outgoing) -> Result<(), 
     ensures down { OnOk result (GoDown node.old.rules node.old.key leaving.new) }
     ensures together { OnOk result ((test : Point → Bool) → count_by test node.new.points
         + count_by test (all_points leaving.new) ≡ count_by test (point ∷ node.old.points)) }
+    ensures opened { OnOk result (HasOpened node.old.mask node.new.mask leaving.new) }
     ensures taken { OnOk result (HasDistinctIds (point ∷ node.old.points)
         → TakesIn node.old node.new point leaving.old leaving.new) }
 {

@@ -6,6 +6,7 @@ use ept_point::Point;
 use ept_sample::{Tiles, are_in_cube, ids_ascend, sample};
 use ept_space::{Bounds, Cube, Rules};
 use std::alloc::{AllocError, Global};
+use std::collections::BTreeMap;
 use std::test::Fail;
 
 /// A point of which only the number and the place matter.
@@ -106,6 +107,11 @@ fn the_tree_is_the_sampling(rt: HostRuntime) -> Result<(), Fail> {
         else {
             return Ok(());
         };
+        let mut other = Tree::of(alloc, &rules, BTreeMap::new(alloc));
+        if other.insert_all(&points, 100_000).is_err() {
+            return Ok(());
+        }
+        assert!(rt; is_same(alloc, &other, &tiles)?, "of no nodes, seed {seed}");
         if tree.insert_all(first, 100_000).is_err() || tree.insert_all(second, 100_000).is_err() {
             return Ok(());
         }

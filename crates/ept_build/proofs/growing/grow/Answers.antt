@@ -44,7 +44,7 @@ loop-batch-preserved g c =
 pub returns-in_err-next_batch-clause-unchanged : goal.returns-in_err-next_batch-clause-unchanged
 returns-in_err-next_batch-clause-unchanged g c = λ source number is all rest can.
     let t = c.loop-batch.invariant.taken all (c.allow.ensures.rest all rest) can in
-    c.in_err-next_batch.ensures.unchanged t.0 t.1 c.loop-batch.invariant.fresh source number
+    c.in_err-next_batch.ensures.no_change t.0 t.1 c.loop-batch.invariant.fresh source number
     (ap (λ (e : ReadError). Err e) (was_changed c.in_err-next_batch.field-0.0 source number (search (rules, is))))
 
 pub returns-in_err-next_batch-clause-fault : goal.returns-in_err-next_batch-clause-fault

@@ -1,34 +1,18 @@
-use Rattle.std.proofs.Common.{map, ap, Err}
+use Rattle.std.proofs.Common.{Ok}
 use Rattle.std.proofs.lemmas.Result.{err_from_is_err_and}
-use Rattle.serde_json.specs.View.{view}
-use Rattle.ept_hier.specs.Objects.{member_at}
-use Rattle.ept_hier.proofs.Objects.{members-in, members-none, refuses, refuses-json}
+use Rattle.ept_hier.proofs.Objects.{comes, accepts}
 use Rattle.ept_hier.proofs.reader.read_hierarchy_file.Goals as goal
 
-pub returns-in_err-value-clause-refused : goal.returns-in_err-value-clause-refused
-returns-in_err-value-clause-refused c =
+pub returns-in_err-entries-clause-refusal_comes : goal.returns-in_err-entries-clause-refusal_comes
+returns-in_err-entries-clause-refusal_comes c =
     let p = err_from_is_err_and c.from_residual.result c.from_residual.ensures.1 in
-    rw (p.1, p.2) (refuses-json c.args.bytes.now c.in_err-value.field-0.0 (λ e. c.in_err-value.ensures.no_text (ap Err e)))
+    comes c.args.bytes.now c.from_residual.result (rw p.1 tt) (rw (p.1, p.2) c.in_err-entries.ensures.refused)
 
-pub returns-in-None-clause-refused : goal.returns-in-None-clause-refused
-returns-in-None-clause-refused c = members-none c.args.bytes.now (view c.in_ok-value.value) c.in_ok-value.ensures.value c.in-None.ensures
+pub returns-in_err-entries-clause-accepted : goal.returns-in_err-entries-clause-accepted
+returns-in_err-entries-clause-accepted c =
+    let p = err_from_is_err_and c.from_residual.result c.from_residual.ensures.1 in
+    accepts c.args.bytes.now c.from_residual.result (rw (p.1, p.2) c.in_err-entries.ensures.refused)
 
-pub returns-in_err-entries-clause-refused : goal.returns-in_err-entries-clause-refused
-returns-in_err-entries-clause-refused c =
-    let p = err_from_is_err_and c.from_residual-in_err-entries.result c.from_residual-in_err-entries.ensures.1 in
-    rw (p.1, p.2) (refuses c.args.bytes.now (map member_at c.in-Some.members.now.entries) c.in_err-entries.field-0.0 (members-in c.args.bytes.now (view c.in_ok-value.value) c.in-Some.members.now.entries c.in_ok-value.ensures.value c.in-Some.ensures) c.in_err-entries.ensures.refused)
-
-pub returns-clause-ok : goal.returns-clause-ok
-returns-clause-ok c =
-    let r = c.in_ok-append_in_order.ensures.ok in (
-      r.0,
-      record {
-        members = map member_at c.in-Some.members.now.entries;
-        object = members-in c.args.bytes.now (view c.in_ok-value.value) c.in-Some.members.now.entries c.in_ok-value.ensures.value c.in-Some.ensures;
-        said = c.in_ok-entries.entries.items;
-        each = c.in_ok-entries.ensures.ok;
-        same = r.1;
-        ordered = r.2;
-      },
-      r.3,
-    )
+pub returns-clause-refusal_comes : goal.returns-clause-refusal_comes
+returns-clause-refusal_comes c =
+    comes c.args.bytes.now (Ok tt) (c.in_ok-entries.entries.items, c.in_ok-entries.ensures.ok) tt

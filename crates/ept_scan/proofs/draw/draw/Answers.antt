@@ -1,5 +1,6 @@
 use Rattle.std.proofs.Common.{refl, inr, subst, arith, length}
 use Rattle.std.specs.Io.KnownBytes.{prepend_known}
+use Rattle.ept_point.specs.declared.point.Point.{Point}
 use Rattle.ept_scan.specs.declared.record.Found.{Found}
 use Rattle.ept_scan.specs.Records.{ReadsNext, FindsAllowed, IsWithinReach}
 use Rattle.ept_scan.proofs.Drawing.{far_within, drawn_is, within_next, record_changed}
@@ -16,13 +17,13 @@ returns-clause-far g c =
 
 pub returns-clause-record : goal.returns-clause-record
 returns-clause-record g c =
-    let next = subst (λ (it : Found). ReadsNext c.args.part.now.reading c.in_ok-header.header c.args.cursor.now.number (prepend_known c.header_at.new.window (g.S.Source.left c.header_at.new.source)) (prepend_known c.next_point.new.window (g.S.Source.left c.next_point.new.source)) it) c.in-At.is c.in_ok-found.ensures.next in
+    let next = subst (λ (it : Found Point). ReadsNext c.args.part.now.reading c.in_ok-header.header c.args.cursor.now.number (prepend_known c.header_at.new.window (g.S.Source.left c.header_at.new.source)) (prepend_known c.next_point.new.window (g.S.Source.left c.next_point.new.source)) it) c.in-At.is c.in_ok-found.ensures.next in
     let allowed = subst (FindsAllowed c.args.part.now.reading) c.in-At.is c.in_ok-found.ensures.allowed in
     drawn_is c.args.part.now.reading c.args.part.now.points c.header_at.new.window c.next_point.new.window (g.S.Source.left c.header_at.new.source) (g.S.Source.left c.next_point.new.source) c.args.cursor.now.number c.in_ok-header.header (g.S.Source.whole c.args.part.now.source) c.in-At.point c.in_ok-header.ensures.at next allowed
 
 pub returns-clause-at : goal.returns-clause-at
 returns-clause-at g c =
-    let next = subst (λ (it : Found). ReadsNext c.args.part.now.reading c.in_ok-header.header c.args.cursor.now.number (prepend_known c.header_at.new.window (g.S.Source.left c.header_at.new.source)) (prepend_known c.next_point.new.window (g.S.Source.left c.next_point.new.source)) it) c.in-At.is c.in_ok-found.ensures.next in
+    let next = subst (λ (it : Found Point). ReadsNext c.args.part.now.reading c.in_ok-header.header c.args.cursor.now.number (prepend_known c.header_at.new.window (g.S.Source.left c.header_at.new.source)) (prepend_known c.next_point.new.window (g.S.Source.left c.next_point.new.source)) it) c.in-At.is c.in_ok-found.ensures.next in
     let reach = subst (IsWithinReach _ _ _) c.in-At.is c.in_ok-found.ensures.reach in
     within_next c.args.part.now.reading c.args.part.now.points c.header_at.new.window c.next_point.new.window (g.S.Source.left c.header_at.new.source) (g.S.Source.left c.next_point.new.source) c.args.cursor.now.number c.in_ok-header.header (g.S.Source.whole c.args.part.now.source) c.in-At.point (omega (arith, c.in_ok-header.ensures.at.stated)) c.in_ok-header.ensures.at next reach
 

@@ -16,5 +16,5 @@ returns-in-Ok-clause-ok g c =
 pub returns-clause-refused : goal.returns-clause-refused
 returns-clause-refused g c =
     let told = configuration_refused (g.H.Shelf.files c.args.shelf.now) c.args.path.now c.in_ok-text.text.items c.in-Err.error c.in_ok-text.ensures.front
-    (subst (λ (l : List ℕ). c.in-Err.error ≢ Memory → reading l ≡ Err c.in-Err.error) c.deref.ensures.value c.in-Err.ensures.err) in
+    (subst (λ (l : List ℕ). c.in-Err.error ≢ Memory → reading l ≡ Err c.in-Err.error) c.deref.ensures.value c.in-Err.ensures.refused) in
     subst (λ (r : Refusal). Tells (λ all. BuildIsRefused all c.args.path.now r) (g.H.Shelf.files c.args.shelf.now)) (sym c.from.ensures) told

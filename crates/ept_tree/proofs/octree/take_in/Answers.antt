@@ -8,6 +8,7 @@ use Rattle.ept_point.specs.declared.point.Point.{Point}
 use Rattle.ept_grid.specs.Outgoing.{all_points}
 use Rattle.ept_grid.proofs.Leavings.{all-none}
 use Rattle.ept_tree.proofs.Inside.{found-down, all_go_down}
+use Rattle.ept_tree.proofs.Wholeness.{sends-opened}
 use Rattle.ept_tree.proofs.octree.take_in.Goals as goal
 
 pub returns-clause-down : goal.returns-clause-down
@@ -30,3 +31,7 @@ returns-clause-together c = λ test. (
     let same : count_by test (c.args.point ∷ old.points) ≡ count_by test (c.args.point ∷ node.points) = ap (λ (n : grid.Node). count_by test (c.args.point ∷ n.points)) c.in_ok-reserve.ensures.node in
     let none : count_by test (all_points out) ≡ 0 = ap (λ (w : List Point). count_by test w) (all-none out (λ o low. c.in_ok-reserve.ensures.points o ∙ c.requires.empty o)) in
     omega (arith, c.arrive.ensures.together test, same, none))
+
+pub returns-clause-opened : goal.returns-clause-opened
+returns-clause-opened c =
+    sends-opened c.reserve.new.self c.arrive.new.self c.args.node.now.mask (ap (λ (n : grid.Node). n.mask) c.in_ok-reserve.ensures.node) c.reserve.new.out c.arrive.new.out (λ o. c.in_ok-reserve.ensures.points o ∙ c.requires.empty o) c.arrive.ensures.sends_on

@@ -4,8 +4,8 @@ use Rattle.ept_mem.proofs.Calls.{sync_images, time_more, time_same, same_images}
 use Rattle.ept_mem.specs.declared.store.Call.TheVariants.{Sync}
 use Rattle.ept_mem.proofs.store.MemStore.settle.Goals as goal
 
-pub returns-in_err-push-clause-refused : goal.returns-in_err-push-clause-refused
-returns-in_err-push-clause-refused c =
+pub returns-in_err-push-clause-unchanged : goal.returns-in_err-push-clause-unchanged
+returns-in_err-push-clause-unchanged c =
     let p = err_from_is_err_and c.from_residual.result c.from_residual.ensures.1 in
     rw p.1 (same_images (content_of c.args.self.now.first.items) c.args.self.now.calls.items c.push.new.self.items c.in_err-push.ensures.items)
 

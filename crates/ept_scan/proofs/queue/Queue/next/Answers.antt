@@ -23,8 +23,8 @@ true_from_not false e = sym e
 pub returns-in_err-drawn-clause-held : goal.returns-in_err-drawn-clause-held
 returns-in_err-drawn-clause-held g c = held_same g.S.Source.whole g.S.Source.left g.S.Source.given c.args.self.now.parts.items c.args.self.now.at c.index_mut.result.now c.draw_on.new.part c.requires.more c.index_mut.ensures.value c.draw_on.ensures.reading c.draw_on.ensures.points c.draw_on.ensures.same
 
-pub returns-in_err-drawn-clause-unchanged : goal.returns-in_err-drawn-clause-unchanged
-returns-in_err-drawn-clause-unchanged g c points rest source number is =
+pub returns-in_err-drawn-clause-no_change : goal.returns-in_err-drawn-clause-no_change
+returns-in_err-drawn-clause-no_change g c points rest source number is =
     let p = err_from_is_err_and c.from_residual.result c.from_residual.ensures.1 in
     never_changed g.S.Source.whole g.S.Source.left g.S.Source.given c.args.self.now.parts.items c.args.self.now.at c.index_mut.result.now c.draw_on.new.part c.requires.more c.index_mut.ensures.value c.args.self.now.cursor.number points rest source number c.in_err-drawn.field-0.0 (sym p.2 ∙ same_error c.from_residual.result p.0 _ p.1 is) c.in_err-drawn.ensures.changed
 

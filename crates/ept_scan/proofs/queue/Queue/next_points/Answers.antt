@@ -28,9 +28,9 @@ loop-preserved g c = record {
   room = omega (arith, c.push_reserved.ensures.capacity, c.loop.invariant.room);
 }
 
-pub returns-in-Err-clause-unchanged : goal.returns-in-Err-clause-unchanged
-returns-in-Err-clause-unchanged g c points rest source number is =
-    c.in-Err.ensures.unchanged _ (c.loop.invariant.drawn.rest points rest).1 source number (ap (λ (e : ReadError). Err e) (same_refusal c.in-Err.refused (SourceChanged source number) (Err c.in-Err.refused) (Err (SourceChanged source number)) refl refl is))
+pub returns-in-Err-clause-no_change : goal.returns-in-Err-clause-no_change
+returns-in-Err-clause-no_change g c points rest source number is =
+    c.in-Err.ensures.no_change _ (c.loop.invariant.drawn.rest points rest).1 source number (ap (λ (e : ReadError). Err e) (same_refusal c.in-Err.refused (SourceChanged source number) (Err c.in-Err.refused) (Err (SourceChanged source number)) refl refl is))
 
 pub returns-in-Err-clause-faults : goal.returns-in-Err-clause-faults
 returns-in-Err-clause-faults g c any = c.in-Err.ensures.faults (c.loop.invariant.drawn.fault any)

@@ -5,8 +5,8 @@ use Rattle.ept_scan.specs.Queue.{AreDrawn}
 use Rattle.ept_scan.specs.Reader.{files_of}
 use Rattle.ept_scan.proofs.second_reading.Reader.next_batch.Goals as goal
 
-pub returns-in-Err-clause-unchanged : goal.returns-in-Err-clause-unchanged
-returns-in-Err-clause-unchanged g c points rest free source number is = c.in-Err.ensures.unchanged points rest source number is
+pub returns-in-Err-clause-no_change : goal.returns-in-Err-clause-no_change
+returns-in-Err-clause-no_change g c points rest free source number is = c.in-Err.ensures.no_change points rest source number is
 
 none_is : (o : Option ReadError) → ((e : ReadError) → o ≢ Some e) → o ≡ None
 none_is None never = refl

@@ -32,4 +32,5 @@ returns-clause-arrived c =
       placed = sending-placed c.args.self.now.rules a.key leaving c.in_ok-land.ensures.landed.down;
       together = λ test. sent-together test (a.point ∷ points_in c.args.self.now.nodes.entries) c.land.new.self.nodes.entries a.key leaving c.known-2.ensures (c.in_ok-land.ensures.landed.together test);
       becomes = c.in_ok-land.ensures.landed.becomes;
+      whole = c.in_ok-land.ensures.landed.whole;
     })

@@ -2,7 +2,7 @@ use Rattle.std.proofs.Common.{◌≡◌, ◌∙◌, ◌+◌, length, List, refl,
 use Rattle.std.proofs.lemmas.List.Elements.{All-nil}
 use Rattle.ept_tree.specs.declared.arrival.Arrival.{Arrival}
 use Rattle.ept_tree.specs.Tree.{IsPlaced, ArePlaced, AreAtDepth, points_in, on_the_way}
-use Rattle.ept_tree.proofs.Descending.{descent-begins, descent-goes-on, descent-deepens, descent-placed, descent-places, descent-ends, front-of, none-left}
+use Rattle.ept_tree.proofs.Descending.{descent-begins, whole-begins, whole-goes-on, whole-ends, descent-goes-on, descent-deepens, descent-placed, descent-places, descent-ends, front-of, none-left}
 use Rattle.ept_tree.proofs.Together.{next-together}
 use Rattle.ept_tree.proofs.octree.Tree.descend.Goals as goal
 
@@ -15,6 +15,7 @@ loop-arrival-init c = record {
   together = λ test. (
       let none : count_by test (on_the_way c.new-next.result.items) ≡ 0 = ap (λ (w : List Arrival). count_by test (on_the_way w)) c.new-next.ensures.items in
       omega (arith, none));
+  whole = whole-begins c.args.arrivals.now c.new-next.result.items c.args.self.now.nodes.entries c.new-next.ensures.items;
   becomes = descent-begins c.args.self.now.rules c.args.arrivals.now c.new-next.result.items c.args.self.now.nodes.entries c.new-next.ensures.items;
 }
 
@@ -38,6 +39,7 @@ loop-arrival-preserved c =
       placed = descent-places rules i.self.rules i.invariant.rules c.arrival-item.result i.self.nodes.entries c.arrive.new.self.nodes.entries i.next.items c.arrive.new.next.items c.in_ok-arrive.ensures.arrived i.invariant.placed;
       deeper = descent-deepens rules i.self.rules i.invariant.rules arrivals i.next.items i.arrival-index c.arrival-item.result c.loop-arrival-test.true c.arrival-item.is old i.self.nodes.entries i.invariant.becomes c.arrive.new.self.nodes.entries c.arrive.new.next.items c.in_ok-arrive.ensures.arrived i.invariant.deeper;
       together = λ test. next-together test (on_the_way arrivals) (points_in old) (points_in i.self.nodes.entries) c.arrival-item.result (drop i.arrival-index arrivals) (drop (i.arrival-index + 1) arrivals) i.next.items c.in_ok-arrive.ensures.arrived.sent c.arrive.new.next.items c.arrive.new.self.nodes.entries (front-of arrivals i.arrival-index c.arrival-item.result c.loop-arrival-test.true c.arrival-item.is) c.in_ok-arrive.ensures.arrived.grows (c.in_ok-arrive.ensures.arrived.together test) (i.invariant.together test);
+      whole = whole-goes-on rules i.self.rules i.invariant.rules arrivals i.next.items i.arrival-index c.arrival-item.result c.loop-arrival-test.true c.arrival-item.is old i.self.nodes.entries i.invariant.becomes c.arrive.new.self.nodes.entries c.arrive.new.next.items c.in_ok-arrive.ensures.arrived i.invariant.whole;
       becomes = descent-goes-on rules i.self.rules i.invariant.rules arrivals i.next.items i.arrival-index c.arrival-item.result c.loop-arrival-test.true c.arrival-item.is old i.self.nodes.entries i.invariant.becomes c.arrive.new.self.nodes.entries c.arrive.new.next.items c.in_ok-arrive.ensures.arrived;
     }
 
@@ -64,3 +66,8 @@ pub returns-clause-becomes : goal.returns-clause-becomes
 returns-clause-becomes c =
     let all : c.loop-arrival.arrival-index ≡ length c.args.arrivals.now = omega arith in
     descent-ends c.args.self.now.rules c.args.arrivals.now c.loop-arrival.next.items c.loop-arrival.arrival-index c.args.self.now.nodes.entries c.loop-arrival.self.nodes.entries all c.loop-arrival.invariant.becomes
+
+pub returns-clause-whole : goal.returns-clause-whole
+returns-clause-whole c =
+    let all : c.loop-arrival.arrival-index ≡ length c.args.arrivals.now = omega arith in
+    whole-ends c.args.arrivals.now c.loop-arrival.next.items c.loop-arrival.arrival-index c.args.self.now.nodes.entries c.loop-arrival.self.nodes.entries all c.loop-arrival.invariant.whole

@@ -1,4 +1,4 @@
-use Rattle.std.proofs.Common.{◌≡◌, ◌∙◌, List, [], ◌∷◌, refl, sym, subst, ap, arith, count_by}
+use Rattle.std.proofs.Common.{◌≡◌, ◌∙◌, List, [], ◌∷◌, map, refl, sym, subst, ap, arith, count_by}
 use Rattle.std.proofs.lemmas.List.Elements.{All-nil, All-cons}
 use Rattle.ept_space.specs.declared.cube.Rules.{Rules}
 use Rattle.ept_space.specs.VoxelKey.{root}
@@ -7,7 +7,9 @@ use Rattle.ept_sample.specs.Place.{place}
 use Rattle.ept_tree.specs.declared.octree.Tree.{Tree}
 use Rattle.ept_tree.specs.declared.arrival.Arrival.{Arrival}
 use Rattle.ept_tree.specs.Sending.{arrival_at}
-use Rattle.ept_tree.specs.Tree.{IsTree, IsPlaced, ArePlaced, AreAtDepth, points_in, on_the_way}
+use Rattle.ept_tree.specs.Whole.{AreWhole}
+use Rattle.ept_tree.proofs.Wholeness.{drawn-whole}
+use Rattle.ept_tree.specs.Tree.{entry_of, IsTree, IsPlaced, ArePlaced, AreAtDepth, points_in, on_the_way}
 use Rattle.ept_tree.proofs.Growing.{drawn-tree, none-deeper}
 use Rattle.ept_sample.proofs.IdLaws.{count_by-append}
 use Rattle.ept_tree.proofs.Together.{none-below}
@@ -25,6 +27,7 @@ loop-depth-init c =
       together = λ test. (
           let way : count_by test (on_the_way c.in_ok-arrivals.arrivals.items) ≡ count_by test (c.args.point ∷ []) = ap (λ (w : List Arrival). count_by test (on_the_way w)) one in
           omega (arith, way, count_by-append test (c.args.point ∷ []) (points_in c.args.self.now.nodes.entries)));
+      whole = λ whole. (subst (λ (w : List Arrival). AreWhole w (map entry_of c.args.self.now.nodes.entries)) (sym one) (drawn-whole (arrival_at root c.args.point) refl (map entry_of c.args.self.now.nodes.entries) whole), λ key is. is);
       becomes = λ points left tree. subst (λ (w : List Arrival). IsTree rules points left w c.args.self.now.nodes.entries) (sym one) (drawn-tree rules points left c.args.point c.args.self.now.nodes.entries tree);
     }
 
@@ -65,5 +68,15 @@ loop-depth-preserved c =
       together = λ test. (
           let given : count_by test (on_the_way c.deref.result.now) ≡ count_by test (on_the_way i.arrivals.items) = ap (λ (w : List Arrival). count_by test (on_the_way w)) c.deref.ensures.value in
           omega (arith, next.ensures.together test, i.invariant.together test, given));
+      whole = λ whole. (
+          let before = i.invariant.whole whole in
+          let after = next.ensures.whole (subst (λ (w : List Arrival). AreWhole w (map entry_of i.self.nodes.entries)) (sym c.deref.ensures.value) before.0) in
+          (after.0, λ key is. after.1 key (before.1 key is)));
       becomes = λ points left tree. subst (λ (r : Rules). IsTree r points left next.arrivals.items c.descend.new.self.nodes.entries) i.invariant.rules (next.ensures.becomes points left (subst (λ (r : Rules). IsTree r points left c.deref.result.now i.self.nodes.entries) (sym i.invariant.rules) (subst (λ (w : List Arrival). IsTree rules points left w i.self.nodes.entries) (sym c.deref.ensures.value) (i.invariant.becomes points left tree))));
     }
+
+pub returns-clause-whole : goal.returns-clause-whole
+returns-clause-whole c = λ whole. (
+    let i = c.loop-depth in
+    let none : i.arrivals.items ≡ [] = none-below c.args.self.now.rules i.arrivals.items i._depth i.invariant.placed i.invariant.at (omega (arith, ap (λ (t : Tree). t.rules.cube.depth) c.self.view_is)) in
+    (subst (λ (w : List Arrival). AreWhole w (map entry_of i.self.nodes.entries)) none (i.invariant.whole whole).0, (i.invariant.whole whole).1))

@@ -29,6 +29,10 @@ loop-point-preserved c =
       together = λ test. (
           let next : count_by test (drop i.point-index given) ≡ count_by test (c.point-item.result ∷ drop (i.point-index + 1) given) = ap (λ (w : List Point). count_by test w) front in
           omega (arith, i.invariant.together test, c.in_ok-insert.ensures.together test, next, count_by-append test (c.point-item.result ∷ []) (points_in i.self.nodes.entries), count_by-append test (c.point-item.result ∷ []) (drop (i.point-index + 1) given)));
+      whole = λ whole. (
+          let before = i.invariant.whole whole in
+          let after = c.in_ok-insert.ensures.whole before.0 in
+          (after.0, λ key is. after.1 key (before.1 key is)));
       taken = λ points left h. c.in_ok-insert.ensures.taken points (drop (i.point-index + 1) given ++ left) (subst (λ (w : List Point). IsTree i.self.rules points (w ++ left) [] i.self.nodes.entries) front (i.invariant.taken points left h));
     }
 

@@ -3,12 +3,14 @@ use Rattle.ept_sample.specs.Ids.{HasDistinctIds}
 use Rattle.ept_grid.specs.Node.{TakesIn}
 use Rattle.ept_tree.specs.Sending.{sending}
 use Rattle.ept_tree.specs.Tree.{Branch, AreNodes, IsTree, GoDown}
+use Rattle.ept_tree.specs.Whole.{StaysWhole, HasOpened}
 use Rattle.ept_tree.proofs.Branches.{branch, lookup-member, own-set}
-use Rattle.ept_tree.proofs.Growing.{found-distinct, found-tree, three-ok}
+use Rattle.ept_tree.proofs.Growing.{found-distinct, found-tree, four-ok}
 use Rattle.ept_tree.proofs.Inside.{found-placed, found-down, any-ok}
 use Rattle.ept_point.specs.declared.point.Point.{Point}
 use Rattle.ept_grid.specs.Outgoing.{all_points}
 use Rattle.ept_tree.proofs.Together.{found-together}
+use Rattle.ept_tree.proofs.Wholeness.{found-whole}
 use Rattle.ept_tree.proofs.octree.Tree.land.Goals as goal
 
 pub take_in-requires-clause-inside : goal.take_in-requires-clause-inside
@@ -33,8 +35,9 @@ returns-in-Some-clause-landed c =
     let new = c.take_in.new.node in
     let leaving = c.take_in.new.leaving in
     let its = c.requires.rest.own (branch a.key old) (lookup-member nodes a.key old c.in-Some.ensures.value) in
-    three-ok c.take_in.result (HasDistinctIds (a.point ∷ old.points) → TakesIn old new a.point c.args.self.now.leaving leaving) ((test : Point → Bool) → count_by test new.points + count_by test (all_points leaving) ≡ count_by test (a.point ∷ old.points)) (GoDown old.rules old.key leaving) _ c.take_in.ensures.taken c.take_in.ensures.together c.take_in.ensures.down (λ taken counted down. record {
+    four-ok c.take_in.result (HasDistinctIds (a.point ∷ old.points) → TakesIn old new a.point c.args.self.now.leaving leaving) ((test : Point → Bool) → count_by test new.points + count_by test (all_points leaving) ≡ count_by test (a.point ∷ old.points)) (GoDown old.rules old.key leaving) (HasOpened old.mask new.mask leaving) _ c.take_in.ensures.taken c.take_in.ensures.together c.take_in.ensures.down c.take_in.ensures.opened (λ taken counted down opening. record {
       becomes = λ others points left tree. subst (λ (w : List Branch). IsTree rules points left (others ++ sending a.key leaving) w) (sym (c.get_mut.follows.holds new).0) (found-tree rules points left a others nodes tree old c.in-Some.ensures.value new c.args.self.now.leaving leaving c.take_in.ensures.key c.take_in.ensures.rules (taken (found-distinct rules points left a others nodes tree old c.in-Some.ensures.value)) c.requires.rest.none);
       together = λ test. found-together test nodes _ a.key a.point old new leaving c.in-Some.ensures.value (c.get_mut.follows.holds new).0 (counted test);
       down = found-down rules old.rules a.key old.key leaving its.1 its.0 down;
+      whole = λ others. subst (λ (w : List Branch). StaysWhole (a ∷ others) nodes (others ++ sending a.key leaving) w) (sym (c.get_mut.follows.holds new).0) (found-whole nodes a others old new leaving opening c.in-Some.ensures.value);
     })

@@ -1,0 +1,3 @@
+pub mod HeadEnd
+pub mod Held
+pub mod Turns

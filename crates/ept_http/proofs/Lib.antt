@@ -1,0 +1,5 @@
+mod Marks
+mod Numbers
+mod QueryLemmas
+mod TargetLemmas
+mod OneAnswer

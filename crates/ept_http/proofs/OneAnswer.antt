@@ -1,0 +1,143 @@
+-- One text, one box; one target, one thing that it asks for; one head, one answer.
+use Rattle.std.proofs.Common.{◌≡◌, ◌≢◌, ℕ, ◌<◌, List, [], ◌∷◌, ◌++◌, length, ℤ, pos, FitsSigned, w64, Bool, Option, Some, None, refl, sym, ap, subst, ◌∙◌, arith, lit<, decimal, inl, inr, Result, Ok, Err, OnErr}
+use Rattle.std.specs.Prelude.{codes, MatchOption}
+use Rattle.std.specs.Fmt.{signed_decimal}
+use Rattle.std.specs.List.{AllByRecursion}
+use Rattle.std.proofs.lemmas.List.{append_cancel_left}
+use Rattle.ept_space.specs.declared.box3.Box3.{Box3}
+use Rattle.ept_space.specs.Place.{coordinate}
+use Rattle.ept_http.specs.declared.asked.Asked.{Asked}
+use Rattle.ept_http.specs.declared.asked.Asked.TheVariants.{File, Query, Refuse}
+use Rattle.ept_http.specs.QueryWords.{IsBoxText, IsDepthsText}
+use Rattle.ept_http.specs.Targets.{IsServedName, IsQueryTarget, AsksFor}
+use Rattle.httparse.specs.Grammar.{RequestHead}
+use Rattle.httparse.proofs.GrammarLemmas.{request_unique}
+use Rattle.ept_http.specs.WholeHead.{IsHead, lines_of}
+use Rattle.ept_http.specs.Fields.{has_close}
+use Rattle.ept_http.specs.Answers.{refusal_of, HeadAsks, IsAnswerTo, IsAnswer, IsJudge}
+use Rattle.ept_http.proofs.TargetLemmas.{box-lacks}
+use Rattle.ept_http.proofs.Numbers.{number-lacks, one-number}
+use Rattle.ept_http.proofs.QueryLemmas.{three-axes, split-box, after_min_x, after_min_y, after_min_z, after_max_x, small-depth}
+
+-- a list in front of a mark that it lacks is found again
+pub same-front : (mark : ℕ) (xs ys s t : List ℕ) → AllByRecursion (λ b. b ≢ mark) xs → AllByRecursion (λ b. b ≢ mark) ys → xs ++ mark ∷ s ≡ ys ++ mark ∷ t → (xs ≡ ys) × (s ≡ t)
+same-front mark [] [] s t no_x no_y same = (refl, cc)
+same-front mark [] (y ∷ ys) s t no_x no_y same = absurd (no_y.0 cc)
+same-front mark (x ∷ xs) [] s t no_x no_y same = absurd (no_x.0 cc)
+same-front mark (x ∷ xs) (y ∷ ys) s t no_x no_y same =
+    let rest : (xs ≡ ys) × (s ≡ t) = same-front mark xs ys s t no_x.1 no_y.1 cc in
+    let fronts = rest.0 in
+    (cc, rest.1)
+
+-- so is a number in front of a comma
+same-number : (m n : ℤ) (s t : List ℕ) → FitsSigned w64 m → FitsSigned w64 n → signed_decimal m ++ 44 ∷ s ≡ signed_decimal n ++ 44 ∷ t → (m ≡ n) × (s ≡ t)
+same-number m n s t fits_m fits_n same =
+    let parts = same-front 44 (signed_decimal m) (signed_decimal n) s t (number-lacks 44 m (lit< tt) fits_m) (number-lacks 44 n (lit< tt) fits_n) same in
+    (one-number m n (signed_decimal m) fits_m fits_n refl parts.0, parts.1)
+
+same-places : (least most : List ℤ) → length least ≡ 3 → length most ≡ 3 → coordinate least 0 ≡ coordinate most 0 → coordinate least 1 ≡ coordinate most 1 → coordinate least 2 ≡ coordinate most 2 → least ≡ most
+same-places least most a b x y z =
+    let left = three-axes least a in
+    let right = three-axes most b in
+    cc
+
+pub one-box : (text : List ℕ) (a b : Box3) → IsBoxText text a → IsBoxText text b → a ≡ b
+one-box text a b is_a is_b =
+    let p = split-box text a is_a in
+    let q = split-box text b is_b in
+    let min_x = same-number _ _ (after_min_x a) (after_min_x b) p.min_x q.min_x (sym p.spelled ∙ q.spelled) in
+    let min_y = same-number _ _ (after_min_y a) (after_min_y b) p.min_y q.min_y min_x.1 in
+    let min_z = same-number _ _ (after_min_z a) (after_min_z b) p.min_z q.min_z min_y.1 in
+    let max_x = same-number _ _ (after_max_x a) (after_max_x b) p.max_x q.max_x min_z.1 in
+    let max_y = same-number _ _ (signed_decimal (coordinate a.max 2)) (signed_decimal (coordinate b.max 2)) p.max_y q.max_y max_x.1 in
+    let max_z = one-number _ _ _ p.max_z q.max_z refl max_y.1 in
+    let mins = same-places a.min b.min is_a.least is_b.least min_x.0 min_y.0 min_z.0 in
+    let maxes = same-places a.max b.max is_a.greatest is_b.greatest max_x.0 max_y.0 max_z in
+    λ i. record { min = mins i; max = maxes i }
+
+pub one-range : (text : List ℕ) (a b c d : ℕ) → IsDepthsText text a b → IsDepthsText text c d → (a ≡ c) × (b ≡ d)
+one-range text a b c d is_a is_c =
+    let first = same-number (pos a) (pos c) (decimal b) (decimal d) (small-depth a (omega arith)) (small-depth c (omega arith)) (sym is_a.spelled ∙ is_c.spelled) in
+    let last = one-number (pos b) (pos d) (decimal b) (small-depth b (omega arith)) (small-depth d (omega arith)) refl first.1 in
+    (cc, cc)
+
+-- ---- targets
+
+-- a served name begins with an `e`
+served-first : (name : List ℕ) → IsServedName name → (rest : List ℕ) × (name ≡ 101 ∷ rest)
+served-first name (inl (inl is)) = (_, is)
+served-first name (inl (inr (inl is))) = (_, is)
+served-first name (inl (inr (inr is))) = (_, is)
+served-first name (inr (inl (key, is_key, is))) = (_, is)
+served-first name (inr (inr (key, is_key, is))) = (_, is)
+
+other-letters : (a b : ℕ) (xs ys : List ℕ) → a ∷ xs ≡ b ∷ ys → a < b → ⊥
+other-letters a b xs ys same less = let first : a ≡ b = cc in omega arith
+
+-- so no target names a file and a query
+file-or-query : (target name : List ℕ) (area : Box3) (first last : ℕ) → target ≡ codes "/" ++ name → IsServedName name → IsQueryTarget target area first last → ⊥
+file-or-query target name area first last spelled served query =
+    let begins = served-first name served in
+    let same : 47 ∷ name ≡ codes "/query?box=" ++ (query.box ++ (codes "&depths=" ++ query.depths)) = sym spelled ∙ query.spelled in
+    other-letters 101 113 _ _ (sym begins.1 ∙ append_cancel_left (47 ∷ []) name _ same) (lit< tt)
+
+one-query : (target : List ℕ) (a b : Box3) (i j k l : ℕ) → IsQueryTarget target a i j → IsQueryTarget target b k l → (a ≡ b) × (i ≡ k) × (j ≡ l)
+one-query target a b i j k l p q =
+    let words = append_cancel_left (codes "/query?box=") (p.box ++ (codes "&depths=" ++ p.depths)) (q.box ++ (codes "&depths=" ++ q.depths)) (sym p.spelled ∙ q.spelled) in
+    let parts = same-front 38 p.box q.box (codes "depths=" ++ p.depths) (codes "depths=" ++ q.depths) (box-lacks p.box a p.is_box) (box-lacks q.box b q.is_box) words in
+    let depths = append_cancel_left (codes "depths=") p.depths q.depths parts.1 in
+    let box = one-box q.box a b (subst (λ (text : List ℕ). IsBoxText text a) parts.0 p.is_box) q.is_box in
+    let range = one-range q.depths i j k l (subst (λ (text : List ℕ). IsDepthsText text i j) depths p.are_depths) q.are_depths in
+    (box, range.0, range.1)
+
+pub one-target : (target : List ℕ) (a b : Asked) → AsksFor target a → AsksFor target b → a ≡ b
+one-target target (File m) (File n) p q = ap File (append_cancel_left (codes "/") m n (sym p.0 ∙ q.0))
+one-target target (File m) (Query b k l) p q = absurd (file-or-query target m b k l p.0 p.1 q)
+one-target target (Query a i j) (File n) p q = absurd (file-or-query target n a i j q.0 q.1 p)
+one-target target (Query a i j) (Query b k l) p q =
+    let same = one-query target a b i j k l p q in
+    λ x. Query (same.0 x) (same.1 x) (same.2 x)
+one-target target (Refuse s) (Refuse t) p q = ap Refuse (p.0 ∙ sym q.0)
+one-target target (Refuse s) (File n) p q = absurd (p.1 (File n) q)
+one-target target (Refuse s) (Query b k l) p q = absurd (p.1 (Query b k l) q)
+one-target target (File m) (Refuse t) p q = absurd (q.1 (File m) p)
+one-target target (Query a i j) (Refuse t) p q = absurd (q.1 (Query a i j) p)
+
+-- ---- heads
+
+asks-once : (refusal : Option ℕ) (target : List ℕ) (a b : Asked) → MatchOption refusal (AsksFor target a) (λ status. a ≡ Refuse status) → MatchOption refusal (AsksFor target b) (λ status. b ≡ Refuse status) → a ≡ b
+asks-once None target a b p q = one-target target a b p q
+asks-once (Some status) target a b p q = p ∙ sym q
+
+answer-once : (head : RequestHead) (a b : Asked) (k l : Bool) → IsAnswerTo head a k → IsAnswerTo head b l → (a ≡ b) × (k ≡ l)
+answer-once head a b k l p q =
+    let same = asks-once (refusal_of head) head.target a b p.asks q.asks in
+    let k_is = p.ends in
+    let l_is = q.ends in
+    (same, cc)
+
+pub one-answer : (bytes : List ℕ) (a b : Asked) (k l : Bool) → IsAnswer bytes a k → IsAnswer bytes b l → (a ≡ b) × (k ≡ l)
+one-answer bytes a b k l (inl (head, is, to)) (inl (other, also, also_to)) =
+    let same = request_unique bytes other head [] [] also.reads is.reads in
+    answer-once head a b k l to (subst (λ (h : RequestHead). IsAnswerTo h b l) same.0 also_to)
+one-answer bytes a b k l (inl (head, is, to)) (inr none) = absurd (none.0 head is)
+one-answer bytes a b k l (inr none) (inl (head, is, to)) = absurd (none.0 head is)
+one-answer bytes a b k l (inr p) (inr q) = (p.1 ∙ sym q.1, p.2 ∙ sym q.2)
+
+-- so any judge gives the answer
+pub judged-once : (bytes : List ℕ) (asked : Asked) (last : Bool) (judge : List ℕ → Asked × Bool) → IsJudge judge → IsAnswer bytes asked last → (asked, last) ≡ judge bytes
+judged-once bytes asked last judge is answer =
+    let same = one-answer bytes asked (judge bytes).0 last (judge bytes).1 answer (is bytes) in
+    λ i. (same.0 i, same.1 i)
+
+-- ---- want of memory
+
+pub on-err : {T E : Type 0} (r : Result T E) (P : Type 0) → P → OnErr r P
+on-err (Ok x) P h = tt
+on-err (Err e) P h = h
+
+-- a whole head whose target names a file has that answer
+pub named-answer : (bytes : List ℕ) (P : RequestHead → Type 0) → (whole : RequestHead) × (IsHead bytes whole × P whole) → (name : List ℕ) × ((whole : RequestHead) → P whole → HeadAsks whole (File name)) → (name : List ℕ) × (last : Bool) × IsAnswer bytes (File name) last
+named-answer bytes P (whole, (is, at)) (name, asks) =
+    let to : IsAnswerTo whole (File name) (has_close (lines_of whole)) = record { asks = asks whole at; ends = refl } in
+    (name, has_close (lines_of whole), inl (whole, is, to))

@@ -1,0 +1,46 @@
+-- What the head of a request asks for, and whether the connection ends after it.
+use Rattle.std.specs.Prelude.{◌≡◌, ◌⊎◌, ℕ, List, Bool, true, false, ◌||◌, ◌==◌, not, if◌then◌else◌, Option, Some, None, MatchOption, codes}
+use Rattle.std.specs.Str.{bytes_eq}
+use Rattle.httparse.specs.Grammar.{RequestHead}
+use Rattle.ept_http.specs.declared.asked.Asked.{Asked}
+use Rattle.ept_http.specs.declared.asked.Asked.TheVariants.{File, Query, Refuse}
+use Rattle.ept_http.specs.WholeHead.{IsHead, lines_of}
+use Rattle.ept_http.specs.Fields.{has_close, is_faulty}
+use Rattle.ept_http.specs.Targets.{AsksFor}
+
+-- the status with which a head is refused before its target is looked at
+unfoldable pub refusal_of : RequestHead → Option ℕ
+refusal_of head =
+    if is_faulty head.minor (lines_of head) then Some 400
+    else if not (bytes_eq head.method (codes "GET")) then Some 405
+    else if head.minor == 0 then Some 505
+    else None
+
+-- what a head asks for: a refusal, or what its target asks for
+abbrev pub HeadAsks : RequestHead → Asked → Type 0
+HeadAsks head asked = MatchOption (refusal_of head) (AsksFor head.target asked) (λ status. asked ≡ Refuse status)
+
+-- the statuses behind which a connection ends
+abbrev pub closes : ℕ → Bool
+closes status = status == 431 || status == 400 || status == 505 || status == 503 || status == 507
+
+-- the answer's status is one of these
+abbrev pub is_last : Asked → Bool
+is_last (File name) = false
+is_last (Query area first last) = false
+is_last (Refuse status) = closes status
+
+-- the answer to a head, and whether it is the last
+pub record IsAnswerTo (head : RequestHead) (asked : Asked) (last : Bool) : Type 0 where
+  pub asks : HeadAsks head asked
+  pub ends : last ≡ (is_last asked || has_close (lines_of head))
+
+-- the answer to bytes: that to the head that they are, or status 400 where they are none
+abbrev pub IsAnswer : List ℕ → Asked → Bool → Type 0
+IsAnswer bytes asked last =
+    ((head : RequestHead) × IsHead bytes head × IsAnswerTo head asked last)
+    ⊎ (((head : RequestHead) → ¬ IsHead bytes head) × (asked ≡ Refuse 400) × (last ≡ true))
+
+-- a judge gives the answer to any bytes
+abbrev pub IsJudge : (List ℕ → Asked × Bool) → Type 0
+IsJudge judge = (bytes : List ℕ) → IsAnswer bytes (judge bytes).0 (judge bytes).1

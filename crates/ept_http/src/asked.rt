@@ -1,0 +1,15 @@
+//! What a request asks for.
+
+use ept_point::Text;
+use ept_space::Box3;
+
+/// What a request asks for.
+#[derive(Debug, Drop)]
+pub enum Asked {
+    /// The file of this name, as the store of a dataset names it.
+    File(Text),
+    /// The points in a box, in stored units, of the depths from the first to the last.
+    Query(Box3, u8, u8),
+    /// Nothing that is served: the answer has this status (RFC 9110, section 15).
+    Refuse(u16),
+}

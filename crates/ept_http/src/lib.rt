@@ -1,0 +1,22 @@
+//! The heads of HTTP/1.1 requests for a dataset, and of their answers (RFC 9112).
+//!
+//! A request is a `GET` without a body for a file of the dataset or for a query. What its head asks for
+//! is read here, from the bytes of the whole head; what it is answered with is the crate above.
+
+#![tactic(auto)]
+
+mod answer;
+mod asked;
+mod fields;
+mod laws;
+mod query;
+mod request;
+mod target;
+#[cfg(test)]
+mod tests;
+
+pub use answer::{HeadKind, response_head};
+pub use asked::Asked;
+pub use laws::{one_answer_law, query_words_law};
+pub use query::{read_box, read_depths};
+pub use request::read_request;

@@ -1,0 +1,79 @@
+-- Loading a node of the current checkpoint: what is found, and why its tile is damaged.
+use Rattle.std.specs.Prelude.{◌≡◌, ◌≢◌, ◌⊎◌, ℕ, List, ◌++◌, length, Option, Some, None, IsSome, IsSomeAnd, Ok, Err}
+use Rattle.ept_base.specs.Files.{Files, Tells}
+use Rattle.ept_point.specs.declared.point.Point.{Point}
+use Rattle.ept_point.specs.declared.tile.TileError.{TileError}
+use Rattle.ept_point.specs.Order.{IsAscending}
+use Rattle.ept_point.specs.Packed.{tile}
+use Rattle.ept_point.specs.Tile.{ReadsAs}
+use Rattle.ept_space.specs.VoxelKey.{VoxelKey}
+use Rattle.ept_space.specs.declared.cube.Rules.{Rules}
+use Rattle.ept_config.specs.declared.kept.Kept.{Kept}
+use Rattle.ept_grid.specs.declared.error.GridError.{GridError}
+use Rattle.ept_grid.specs.Tile.{IsTile, IsTileFault}
+use Rattle.ept_grid.specs.Node.{Node, IsNodeOf}
+use Rattle.ept_ckpt.specs.declared.node_line.NodeLine.{NodeLine}
+use Rattle.ept_ckpt.specs.Lookup.{line_of_key}
+use Rattle.ept_meta.specs.Output.{rules_of}
+use Rattle.ept_save.specs.Current.{Current, tile_of_line}
+
+-- ---- the line of a key
+
+-- the current checkpoint's line of a key, if there is one
+abbrev pub current_line : Current → VoxelKey → Option NodeLine
+current_line None key = None
+current_line (Some (letter, c)) key = line_of_key c.nodes key
+
+-- the current checkpoint has a line of the key
+abbrev pub HasLine : Current → VoxelKey → Type 0
+HasLine current key = IsSome (current_line current key)
+
+-- of that line, with what the checkpoint keeps of the configuration, this holds
+abbrev pub OfLine : Current → VoxelKey → (Kept → NodeLine → Type 0) → Type 0
+OfLine None key fact = ⊥
+OfLine (Some (letter, c)) key fact = IsSomeAnd (line_of_key c.nodes key) (fact c.kept)
+
+-- ---- what is found
+
+-- The points are as many as the line counts, their ids ascend, and with the line's open octants they are those of a node of its key.
+pub record AreOfLine (rules : Rules) (line : NodeLine) (points : List Point) : Type 0 where
+  pub counted : length points ≡ line.count
+  pub ascend : IsAscending points
+  pub fits : IsTile line.key rules line.mask points
+
+-- whatever the files are, such are the points that are found
+abbrev pub AreFound : Current → VoxelKey → List Point → Type 0
+AreFound current key points = OfLine current key (λ kept line. AreOfLine (rules_of kept) line points)
+
+-- the file that the line names is the tile of these points
+abbrev pub HasTile : Current → VoxelKey → List Point → Files → Type 0
+HasTile current key points files = OfLine current key (λ kept line. files (tile_of_line line) ≡ Some (tile points))
+
+-- the node has the line's key and open octants, and the rules that are kept
+abbrev pub IsNodeFound : Current → VoxelKey → Node → Type 0
+IsNodeFound current key node = OfLine current key (λ kept line. IsNodeOf key (rules_of kept) line.mask node.points node)
+
+-- points are appended, and are those that were found; of files that are told they are the tile's
+pub record AppendsFound (current : Current) (key : VoxelKey) (files : Option Files) (old new : List Point) : Type 0 where
+  pub points : List Point
+  pub appended : new ≡ old ++ points
+  pub are_found : AreFound current key points
+  pub has_tile : Tells (HasTile current key points) files
+
+-- ---- why it is damaged
+
+-- The bytes are no tile, or one with another number of points, or its points are those of no node with this key and these open octants.
+abbrev pub IsWrong : Rules → NodeLine → List ℕ → Type 0
+IsWrong rules line bytes =
+    ((fault : TileError) × ReadsAs bytes (Err fault))
+    ⊎ ((points : List Point) × ReadsAs bytes (Ok points) × (length points ≢ line.count))
+    ⊎ ((points : List Point) × ReadsAs bytes (Ok points) × ((fault : GridError) × IsTileFault line.key rules line.mask points fault))
+
+-- the file that the line names is absent, or wrong
+abbrev pub IsDamagedLine : Rules → NodeLine → Files → Type 0
+IsDamagedLine rules line files =
+    (files (tile_of_line line) ≡ None) ⊎ ((bytes : List ℕ) × (files (tile_of_line line) ≡ Some bytes) × IsWrong rules line bytes)
+
+-- so it is with the line of the key
+abbrev pub IsDamaged : Current → VoxelKey → Files → Type 0
+IsDamaged current key files = OfLine current key (λ kept line. IsDamagedLine (rules_of kept) line files)

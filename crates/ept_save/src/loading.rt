@@ -1,0 +1,223 @@
+//! Loading the nodes of the current checkpoint.
+
+ghost use Rattle.std.specs.Prelude.{◌≡◌, ◌≢◌, ◌≤◌, ◌⊎◌, ◌++◌, length, Some, Err, IfOk, IfErr, OnOk, OnErr};
+ghost use Rattle.ept_base.specs.Causes.{HasCauseOf};
+ghost use Rattle.ept_base.specs.Files.{Files, SameFiles, Tells};
+ghost use Rattle.ept_base.specs.Moves.{Moves, SameImages};
+ghost use Rattle.ept_point.specs.Order.{IsAscending};
+ghost use Rattle.ept_point.specs.Packed.{tile};
+ghost use Rattle.ept_ckpt.specs.Lookup.{line_of_key};
+ghost use Rattle.ept_grid.specs.Node.{IsNodeOf};
+ghost use Rattle.ept_grid.specs.declared.error.GridError.{GridError};
+ghost use Rattle.ept_grid.specs.Tile.{IsTile, IsTileFault};
+ghost use Rattle.ept_meta.specs.Output.{rules_of};
+ghost use Rattle.ept_save.specs.Errors.{IsStores};
+ghost use Rattle.ept_save.specs.Current.{tile_of_line};
+ghost use Rattle.ept_save.specs.Loading.{HasLine, AreOfLine, AreFound, HasTile, IsNodeFound, AppendsFound, IsWrong, IsDamaged, IsDamagedLine};
+ghost use Rattle.ept_save.specs.View as view;
+ghost use Rattle.ept_save.specs.View.{StandsFor};
+
+use crate::error::SaveError;
+use crate::names::work_tile_name;
+use crate::saved::Saved;
+use ept_base::Store;
+use ept_ckpt::NodeLine;
+use ept_config::Kept;
+use ept_grid::{Grid, GridError};
+use ept_point::{Point, TileError, read_tile};
+use ept_space::{Cube, Key, Rules};
+use std::alloc::Global;
+
+/// Appends the points of a node of the current checkpoint: those of the tile that it names for the key.
+/// Nothing is put.
+///
+/// # Errors
+///
+/// `TileDamaged` where that tile is absent, is no tile, has another number of points than the checkpoint
+/// counts, or has points that are those of no node of the key with the open octants that the checkpoint tells.
+/// `out` is as it was after each refusal.
+pub fn load_tile<T: Store>(
+    alloc: Global,
+    store: &mut T,
+    saved: &Saved,
+    key: Key,
+    out: &mut Vec<Point>,
+) -> Result<(), SaveError>
+    requires line { HasLine saved.now.current key }
+    ensures appended { OnOk result (AppendsFound saved.now.current key (T.files store.old) out.old.items out.new.items) }
+    ensures unchanged { OnErr result (out.new.items ≡ out.old.items) }
+
+    // A damaged tile is told exactly where it is one, unless the store fails or memory runs out.
+    ensures refused { result ≡ Err (SaveError.TileDamaged key) → Tells (IsDamaged saved.now.current key) (T.files store.old) }
+    ensures refusal_comes { (all : Files) → T.files store.old ≡ Some all → IsDamaged saved.now.current key all
+        → (result ≡ Err (SaveError.TileDamaged key)) ⊎ (result ≡ Err SaveError.StoreFault)
+        ⊎ (result ≡ Err SaveError.Memory) }
+    ensures only { IfErr result (λ e. (e ≡ SaveError.TileDamaged key) ⊎ IsStores e) }
+
+    // What is read and every image are as before, and the store stands for what it stood for.
+    ensures images { SameImages (T.may_leave store.old) (T.may_leave store.new) }
+    ensures any_moment { Moves T.files T.may_leave T.moment T.image_since SameFiles store.old store.new }
+    ensures stands { (v : view.View) → StandsFor v (T.files store.old) (T.may_leave store.old)
+        → StandsFor v (T.files store.new) (T.may_leave store.new) }
+    ensures cause { HasCauseOf SaveError.StoreFault (T.faults store.old) (T.faults store.new) result }
+{
+    load(alloc, store, saved, &key, out)?;
+    Ok(())
+}
+
+/// A node of the current checkpoint: with the key, the points of the tile that is named for it, and the open
+/// octants that the checkpoint tells, by the rules that it keeps. Nothing is put.
+///
+/// # Errors
+///
+/// `TileDamaged` where that tile is absent, is no tile, has another number of points than the checkpoint
+/// counts, or has points that are those of no node of the key with those open octants.
+pub fn load_node<T: Store>(
+    alloc: Global,
+    store: &mut T,
+    saved: &Saved,
+    key: Key,
+) -> Result<Grid, SaveError>
+    requires line { HasLine saved.now.current key }
+    ensures node { IfOk result (IsNodeFound saved.now.current key) }
+    ensures points { IfOk result (λ node. AreFound saved.now.current key node.points) }
+    ensures tile { IfOk result (λ node. Tells (HasTile saved.now.current key node.points) (T.files store.old)) }
+
+    // A damaged tile is told exactly where it is one, unless the store fails or memory runs out.
+    ensures refused { result ≡ Err (SaveError.TileDamaged key) → Tells (IsDamaged saved.now.current key) (T.files store.old) }
+    ensures refusal_comes { (all : Files) → T.files store.old ≡ Some all → IsDamaged saved.now.current key all
+        → (result ≡ Err (SaveError.TileDamaged key)) ⊎ (result ≡ Err SaveError.StoreFault)
+        ⊎ (result ≡ Err SaveError.Memory) }
+    ensures only { IfErr result (λ e. (e ≡ SaveError.TileDamaged key) ⊎ IsStores e) }
+
+    // What is read and every image are as before, and the store stands for what it stood for.
+    ensures images { SameImages (T.may_leave store.old) (T.may_leave store.new) }
+    ensures any_moment { Moves T.files T.may_leave T.moment T.image_since SameFiles store.old store.new }
+    ensures stands { (v : view.View) → StandsFor v (T.files store.old) (T.may_leave store.old)
+        → StandsFor v (T.files store.new) (T.may_leave store.new) }
+    ensures cause { HasCauseOf SaveError.StoreFault (T.faults store.old) (T.faults store.new) result }
+{
+    let mut points = Vec::new(alloc);
+    load(alloc, store, saved, &key, &mut points)
+}
+
+// A node of the current checkpoint, whose points are appended.
+fn load<T: Store>(
+    alloc: Global,
+    store: &mut T,
+    saved: &Saved,
+    key: &Key,
+    out: &mut Vec<Point>,
+) -> Result<Grid, SaveError>
+    requires line { HasLine saved.now.current key.now }
+    ensures appended { IfOk result (λ node. out.new.items ≡ out.old.items ++ node.points) }
+    ensures unchanged { OnErr result (out.new.items ≡ out.old.items) }
+    ensures node { IfOk result (IsNodeFound saved.now.current key.now) }
+    ensures points { IfOk result (λ node. AreFound saved.now.current key.now node.points) }
+    ensures tile { IfOk result (λ node. Tells (HasTile saved.now.current key.now node.points) (T.files store.old)) }
+    ensures refused { result ≡ Err (SaveError.TileDamaged key.now) → Tells (IsDamaged saved.now.current key.now) (T.files store.old) }
+    ensures only { IfErr result (λ e. (e ≡ SaveError.TileDamaged key.now) ⊎ IsStores e) }
+    ensures images { SameImages (T.may_leave store.old) (T.may_leave store.new) }
+    ensures any_moment { Moves T.files T.may_leave T.moment T.image_since SameFiles store.old store.new }
+    ensures cause { HasCauseOf SaveError.StoreFault (T.faults store.old) (T.faults store.new) result }
+{
+    let (_, checkpoint) = saved.current.as_ref().unwrap();
+    let line = checkpoint.line(key).unwrap();
+    load_line(alloc, store, &checkpoint.kept, line, out)
+}
+
+// The node that a line tells of, whose points are appended.
+fn load_line<T: Store>(
+    alloc: Global,
+    store: &mut T,
+    kept: &Kept,
+    line: &NodeLine,
+    out: &mut Vec<Point>,
+) -> Result<Grid, SaveError>
+    requires low { line.now.key.depth ≤ (rules_of kept.now).cube.depth }
+    ensures appended { IfOk result (λ node. out.new.items ≡ out.old.items ++ node.points) }
+    ensures unchanged { OnErr result (out.new.items ≡ out.old.items) }
+    ensures node { IfOk result (λ node. IsNodeOf line.now.key (rules_of kept.now) line.now.mask node.points node) }
+    ensures points { IfOk result (λ node. AreOfLine (rules_of kept.now) line.now node.points) }
+    ensures tile { IfOk result (λ node.
+        Tells (λ all. all (tile_of_line line.now) ≡ Some (tile node.points)) (T.files store.old)) }
+    ensures refused { result ≡ Err (SaveError.TileDamaged line.now.key)
+        → Tells (IsDamagedLine (rules_of kept.now) line.now) (T.files store.old) }
+    ensures only { IfErr result (λ e. (e ≡ SaveError.TileDamaged line.now.key) ⊎ IsStores e) }
+    ensures images { SameImages (T.may_leave store.old) (T.may_leave store.new) }
+    ensures any_moment { Moves T.files T.may_leave T.moment T.image_since SameFiles store.old store.new }
+    ensures cause { HasCauseOf SaveError.StoreFault (T.faults store.old) (T.faults store.new) result }
+{
+    let rules = rules_of(kept);
+    let name = work_tile_name(alloc, line.letter, &line.key)?;
+    let mut bytes = Vec::new(alloc);
+    if !store.get(name.as_str(), &mut bytes)? {
+        return Err(SaveError::TileDamaged { key: line.key });
+    }
+    node_of_bytes(alloc, &rules, line, &bytes, out)
+}
+
+// The rules of the sampling of what is kept.
+fn rules_of(kept: &Kept) -> Rules
+    ensures { result ≡ rules_of kept.now }
+{
+    Rules {
+        cube: Cube::over(&kept.bounds, kept.s, kept.max_depth),
+        threshold: kept.threshold,
+    }
+}
+
+// The node that a line tells of, from the bytes of its tile. Its points are appended.
+fn node_of_bytes(
+    alloc: Global,
+    rules: &Rules,
+    line: &NodeLine,
+    bytes: &[u8],
+    out: &mut Vec<Point>,
+) -> Result<Grid, SaveError>
+    requires low { line.now.key.depth ≤ rules.now.cube.depth }
+    ensures appended { IfOk result (λ node. out.new.items ≡ out.old.items ++ node.points) }
+    ensures unchanged { OnErr result (out.new.items ≡ out.old.items) }
+    ensures node { IfOk result (λ node. IsNodeOf line.now.key rules.now line.now.mask node.points node) }
+    ensures points { IfOk result (λ node. AreOfLine rules.now line.now node.points) }
+    ensures tile { IfOk result (λ node. bytes.now ≡ tile node.points) }
+    ensures refused { result ≡ Err (SaveError.TileDamaged line.now.key) → IsWrong rules.now line.now bytes.now }
+    ensures only { IfErr result (λ e. (e ≡ SaveError.TileDamaged line.now.key) ⊎ (e ≡ SaveError.Memory)) }
+{
+    let kept = out.len();
+    match read_tile(bytes, out) {
+        Ok(()) => {}
+        Err(TileError::Memory) => return Err(SaveError::Memory),
+        Err(_) => return Err(SaveError::TileDamaged { key: line.key }),
+    }
+    let outcome = node_of_points(alloc, rules, line, &out.as_slice()[kept..]);
+    if outcome.is_err() {
+        out.truncate(kept);
+    }
+    outcome
+}
+
+// The node that a line tells of, from the points of its tile.
+fn node_of_points(
+    alloc: Global,
+    rules: &Rules,
+    line: &NodeLine,
+    points: &[Point],
+) -> Result<Grid, SaveError>
+    requires low { line.now.key.depth ≤ rules.now.cube.depth }
+    requires ascend { IsAscending points.now }
+    ensures node { IfOk result (IsNodeOf line.now.key rules.now line.now.mask points.now) }
+    ensures points { OnOk result (AreOfLine rules.now line.now points.now) }
+    ensures refused { result ≡ Err (SaveError.TileDamaged line.now.key) → (length points.now ≢ line.now.count)
+        ⊎ ((fault : GridError) × IsTileFault line.now.key rules.now line.now.mask points.now fault) }
+    ensures only { IfErr result (λ e. (e ≡ SaveError.TileDamaged line.now.key) ⊎ (e ≡ SaveError.Memory)) }
+{
+    if points.len() as u64 != line.count {
+        return Err(SaveError::TileDamaged { key: line.key });
+    }
+    match Grid::from_tile(alloc, line.key, rules, line.mask, points) {
+        Ok(node) => Ok(node),
+        Err(GridError::Memory) => Err(SaveError::Memory),
+        Err(_) => Err(SaveError::TileDamaged { key: line.key }),
+    }
+}

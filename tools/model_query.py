@@ -1,0 +1,146 @@
+"""A second implementation of queries: what `query OUT BOX DEPTHS` answers on any folder, whole or damaged.
+
+It follows docs/FORMATS.md: the done gate, then `ept-build.json`, then each hierarchy file that a link leads to and
+whose root's box meets the area, in key order, then each tile in the depths whose box meets the area, in key order.
+The first of these files that is absent or not of its form is the one that is damaged.
+"""
+
+import heapq
+import json
+import re
+
+import model
+
+DONE = "ept-work/done"
+ROOT = (0, 0, 0, 0)
+
+
+class Damaged(Exception):
+    """A file that a query needs is not of its form; the bytes before it."""
+
+    def __init__(self, name, written=b""):
+        super().__init__(name)
+        self.name, self.written = name, written
+
+
+def as_object(data):
+    """The members of a JSON object, in the order of their names' bytes; None where the bytes are none."""
+    def refused(_):
+        raise ValueError
+
+    try:
+        value = json.loads(data.decode(), parse_int=model.whole, parse_float=lambda _: model.NoWhole(), parse_constant=refused)
+    except ValueError:
+        return None
+    return value if isinstance(value, dict) else None
+
+
+def read_build_json(data):
+    """What `ept-build.json` says; None where no build has these very bytes."""
+    value = as_object(data) if data is not None else None
+    if value is None or list(value) != ["scale", "offset", "bounds", "span", "minNodeSize", "maxDepth", "hierarchyStep", "srs",
+                                        "input"]:
+        return None
+    try:
+        kept = model.read_config(json.dumps(value, default=lambda _: 0.5))
+    except model.Refused:
+        return None
+    return kept if kept["bounds"] and model.build_text(kept, kept["bounds"]).encode() == data else None
+
+
+def read_key(text):
+    """The key of a text; None where it is no key's."""
+    found = re.fullmatch(r"(0|[1-9]\d?)-(0|[1-9]\d*)-(0|[1-9]\d*)-(0|[1-9]\d*)", text, re.ASCII)
+    key = tuple(map(int, found.groups())) if found else None
+    return key if key and key[0] <= 31 and all(n < 2 ** key[0] for n in key[1:]) else None
+
+
+def read_hierarchy(data):
+    """The entries of a hierarchy file; None where it is none."""
+    value = as_object(data) if data is not None else None
+    if value is None:
+        return None
+    entries = {read_key(name): count for name, count in value.items()}
+    sound = all(key is not None and model.is_whole(count) and -1 <= count < 2 ** 63 for key, count in entries.items())
+    return entries if sound else None
+
+
+def is_within(key, top):
+    """Whether a key is that of `top` or below it."""
+    down = key[0] - top[0]
+    return down >= 0 and tuple(n >> down for n in key[1:]) == top[1:]
+
+
+def is_file_of(entries, top, step, deepest):
+    """Whether entries are of the form of the hierarchy file of this key."""
+    if entries.get(top, -1) == -1 or any(not is_within(key, top) or key[0] > deepest for key in entries):
+        return False
+    return all((count == -1) == (bool(step) and key[0] == top[0] + step) and (not step or key[0] <= top[0] + step)
+               for key, count in entries.items())
+
+
+def node_box(cube, key):
+    """The closed box of a key."""
+    corner, e, _ = cube
+    side = 2 ** (e - key[0])
+    least = [corner[i] + key[i + 1] * side for i in range(3)]
+    return least + [n + side - 1 for n in least]
+
+
+def meet(one, other):
+    return all(one[i] <= other[i + 3] and other[i] <= one[i + 3] for i in range(3))
+
+
+def counts_of(files, kept, cube, area):
+    """The count of each node that the hierarchy files name which a query of this area reads."""
+    counts, waiting = {}, [ROOT] if meet(node_box(cube, ROOT), area) else []
+    while waiting:
+        top = heapq.heappop(waiting)
+        name = "ept-hierarchy/%s.json" % model.key_text(top)
+        entries = read_hierarchy(files.get(name))
+        if entries is None or not is_file_of(entries, top, kept["hierarchyStep"], cube[2]):
+            raise Damaged(name)
+        for key, count in entries.items():
+            if count != -1:
+                counts[key] = count
+            elif meet(node_box(cube, key), area):
+                heapq.heappush(waiting, key)
+    return counts
+
+
+def answer(files, area, depths):
+    """The packed points of a query; a file that is not of its form is told."""
+    kept = read_build_json(files.get("ept-build.json"))
+    if kept is None:
+        raise Damaged("ept-build.json")
+    cube = model.cube_of(kept["bounds"], kept["span"], kept["maxDepth"])
+    counts, written = counts_of(files, kept, cube, area), b""
+    for key in sorted(key for key in counts if depths[0] <= key[0] <= depths[1] and meet(node_box(cube, key), area)):
+        name = "ept-data/%s.bin" % model.key_text(key)
+        points = model.read_tile(files[name]) if name in files else None
+        if points is None or len(points) != counts[key]:
+            raise Damaged(name, written)
+        written += b"".join(point["packed"] for point in points
+                            if all(area[i] <= point["place"][i] <= area[i + 3] for i in range(3)))
+    return written
+
+
+def query(files, area, depths):
+    """Status, bytes and the file that is damaged, or None, of a query on these files."""
+    if files.get(DONE) != b"\1":
+        return 6, b"", None
+    try:
+        return 0, answer(files, area, depths), None
+    except Damaged as damaged:
+        return 8, damaged.written, damaged.name
+
+
+def plain_filter(files, area, depths):
+    """The same on a complete folder by looking at all tiles: what a query has to give there."""
+    found = b""
+    for key in sorted(read_key(name[9:-4]) for name in files if name.startswith("ept-data/")):
+        if depths[0] <= key[0] <= depths[1]:
+            for point in model.read_tile(files["ept-data/%s.bin" % model.key_text(key)]):
+                if all(area[i] <= point["place"][i] <= area[i + 3] for i in range(3)):
+                    found += point["packed"]
+    return found
