@@ -5,3 +5,6 @@ mod Members
 mod Sources
 mod SchemaRows
 pub mod NamesDiffer
+mod OneOutput
+mod InBounds
+mod OutputNames

@@ -6,3 +6,4 @@ pub mod EptText
 pub mod ManifestText
 pub mod BuildText
 pub mod Output
+pub mod OutputLaws

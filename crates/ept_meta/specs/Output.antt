@@ -1,5 +1,5 @@
 -- The files of the output: what the octree of some points is as files.
-use Rattle.std.specs.Prelude.{◌≡◌, ◌⊎◌, ℕ, Option, List, [], ◌∷◌, ◌++◌, length, codes, map}
+use Rattle.std.specs.Prelude.{◌≡◌, ◌⊎◌, ℕ, ◌<◌, ◌==◌, Option, List, [], ◌∷◌, ◌++◌, length, slice_index_or, codes, map, filter}
 use Rattle.ept_point.specs.declared.point.Point.{Point}
 use Rattle.ept_point.specs.Packed.{tile}
 use Rattle.ept_space.specs.declared.bounds.Bounds.{Bounds}
@@ -11,6 +11,8 @@ use Rattle.ept_sample.specs.declared.tiles.Tile.{Tile}
 use Rattle.ept_sample.specs.Nodes.{sampled}
 use Rattle.ept_config.specs.declared.kept.Kept.{Kept}
 use Rattle.ept_config.specs.declared.source_count.SourceCount.{SourceCount}
+use Rattle.ept_config.specs.Extents.{HasExtent}
+use Rattle.ept_config.specs.Counts.{IsCountOf}
 use Rattle.ept_hier.specs.declared.file.HierFile.{HierFile}
 use Rattle.ept_hier.specs.Hierarchy.{hierarchy}
 use Rattle.ept_meta.specs.EptText.{ept_text}
@@ -84,3 +86,26 @@ files_of kept counts extent points tiles =
 -- the output of points: the files of their sampling
 abbrev pub output : Kept → List SourceCount → Option Bounds → List Point → List File
 output kept counts extent points = files_of kept counts extent (length points) (sampled (rules_of kept) points)
+
+-- ---- the output as a function of what is kept and of the points
+
+-- the points of the input of this place
+abbrev pub points_from : ℕ → List Point → List Point
+points_from source points = filter (λ p. p.origin == source) points
+
+-- there is a count for each input: the number and the extent of its points
+pub record AreCountsOf (kept : Kept) (points : List Point) (counts : List SourceCount) : Type 0 where
+  pub each : length counts ≡ length kept.inputs
+  pub counted : (source : ℕ) (none : SourceCount) → source < length counts → IsCountOf (points_from source points) (slice_index_or counts source none)
+
+-- these are the files of the output of points: they follow from what is kept and the points alone
+pub record IsOutput (kept : Kept) (points : List Point) (files : List File) : Type 0 where
+  pub counts : List SourceCount
+  pub are_counts : AreCountsOf kept points counts
+  pub extent : Option Bounds
+  pub has_extent : HasExtent points extent
+  pub files_are : files ≡ output kept counts extent points
+
+-- the names of files, in order
+abbrev pub names_of : List File → List (List ℕ)
+names_of files = map (λ (f : File). f.0) files

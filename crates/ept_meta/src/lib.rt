@@ -18,7 +18,7 @@ mod tests;
 mod units;
 
 pub use build::build_json;
-pub use laws::output_names_law;
+pub use laws::{output_names_law, output_once_law};
 pub use manifest::manifest_json;
 pub use metadata::ept_json;
 pub use names::{BUILD_FILE, MANIFEST, METADATA, hierarchy_name, tile_name};
