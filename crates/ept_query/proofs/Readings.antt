@@ -25,7 +25,7 @@ use Rattle.ept_space.specs.VoxelKey.{VoxelKey, IsKey}
 use Rattle.ept_space.specs.KeyText.{key_text}
 use Rattle.ept_space.proofs.KeyTexts.{key_text-injective}
 use Rattle.ept_hier.specs.Hierarchy.{Entry}
-use Rattle.ept_hier.specs.Reading.{Member, member_list, members_in, IsEntryOf, IsReading, Appends, RefusesMember, StopsAt, RefusesFile}
+use Rattle.ept_hier.specs.Reading.{Member, member_list, members_in, IsEntryOf, IsReading, Appends, RefusesMembers, RefusesFile}
 use Rattle.ept_hier.specs.declared.hier_error.HierError.{HierError}
 use Rattle.ept_hier.specs.declared.hier_error.HierError.TheVariants.{Json, Key, Count, Memory}
 
@@ -227,22 +227,33 @@ each-key bytes entries reading =
 
 -- ---- what is refused has no reading
 
-stopped : (bytes : List ℕ) (error : HierError) (entries : List Entry) (members : List Member) → members_in bytes ≡ Some members → StopsAt members error → ((m : Member) (e : Entry) → RefusesMember m error → IsEntryOf m e → ⊥) → IsReading bytes entries → ⊥
-stopped bytes error entries members is stops apart reading =
-    let same : members ≡ reading.members = some-is (sym is ∙ reading.object) in
-    let split : reading.members ≡ stops.0 ++ stops.1 ∷ stops.2 = sym same ∙ stops.3 in
-    let at : get_or reading.members (length stops.0) stops.1 ≡ stops.1 = ap (λ (w : List Member). get_or w (length stops.0) stops.1) split ∙ get_or-append_seam stops.0 stops.1 stops.2 stops.1 in
-    let size : length reading.members ≡ length reading.said = zip-length IsEntryOf reading.members reading.said reading.each in
-    let whole : length reading.members ≡ length stops.0 + suc (length stops.2) = ap length split ∙ length-append stops.0 (stops.1 ∷ stops.2) in
-    let said : Entry = get_or reading.said (length stops.0) (record { 0 = record { depth = 0; x = 0; y = 0; z = 0 }; 1 = pos 0 }) in
-    let one : IsEntryOf (get_or reading.members (length stops.0) stops.1) said = zip-at IsEntryOf reading.members reading.said (length stops.0) stops.1 (record { 0 = record { depth = 0; x = 0; y = 0; z = 0 }; 1 = pos 0 }) reading.each (omega arith) in
-    apart stops.1 said stops.5 (subst (λ (m : Member). IsEntryOf m said) at one)
+-- of members that say entries each says one
+one-said : (members : List Member) (said : List Entry) (m : Member) (k : ℕ) → AllZip IsEntryOf members said → k < length members → get_or members k m ≡ m → (e : Entry) × IsEntryOf m e
+one-said members said m k each within at =
+    let none : Entry = (record { depth = 0; x = 0; y = 0; z = 0 }, pos 0) in
+    let size : length members ≡ length said = zip-length IsEntryOf members said each in
+    (get_or said k none, subst (λ (x : Member). IsEntryOf x (get_or said k none)) at (zip-at IsEntryOf members said k m none each (omega arith)))
+
+refused-members : (members : List Member) (said : List Entry) (error : HierError) → RefusesMembers members error → error ≢ Memory → AllZip IsEntryOf members said → ⊥
+refused-members members said Json refused other each = refused
+refused-members members said Key refused other each =
+    let one = one-said members said refused.1 refused.0 each refused.2 refused.3 in refused.4 (one.0, one.1.names)
+refused-members members said Count refused other each =
+    let some = refused.1 in
+    let one = one-said members said some.1 some.0 each some.2 some.3 in
+    let said' : Entry = one.0 in
+    let wrong : None ≡ Some said'.1 = sym some.4 ∙ one.1.number in cc
+refused-members members said Memory refused other each = other refl
 
 pub refused-unread : (bytes : List ℕ) (error : HierError) (entries : List Entry) → RefusesFile bytes error → error ≢ Memory → IsReading bytes entries → ⊥
 refused-unread bytes Json entries none other reading = let wrong : None ≡ Some reading.members = sym none ∙ reading.object in cc
-refused-unread bytes Key entries stops other reading = stopped bytes Key entries stops.0 stops.1 stops.2 (λ m e named is. named (e.0, is.names)) reading
-refused-unread bytes Count entries stops other reading = stopped bytes Count entries stops.0 stops.1 stops.2 (λ m e none is. let wrong : None ≡ Some e.1 = sym none.1 ∙ is.number in cc) reading
-refused-unread bytes Memory entries stops other reading = other refl
+refused-unread bytes Key entries refused other reading =
+    let same : reading.members ≡ refused.0 = some-is (sym reading.object ∙ refused.1) in
+    refused-members refused.0 reading.said Key refused.2 other (subst (λ (w : List Member). AllZip IsEntryOf w reading.said) same reading.each)
+refused-unread bytes Count entries refused other reading =
+    let same : reading.members ≡ refused.0 = some-is (sym reading.object ∙ refused.1) in
+    refused-members refused.0 reading.said Count refused.2 other (subst (λ (w : List Member). AllZip IsEntryOf w reading.said) same reading.each)
+refused-unread bytes Memory entries refused other reading = other refl
 
 -- what is appended to nothing is a reading
 pub first-reading : (bytes : List ℕ) (old new : List Entry) → old ≡ [] → Appends bytes old new → IsReading bytes new
