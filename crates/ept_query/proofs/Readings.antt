@@ -237,7 +237,9 @@ one-said members said m k each within at =
 refused-members : (members : List Member) (said : List Entry) (error : HierError) → RefusesMembers members error → error ≢ Memory → AllZip IsEntryOf members said → ⊥
 refused-members members said Json refused other each = refused
 refused-members members said Key refused other each =
-    let one = one-said members said refused.1 refused.0 each refused.2 refused.3 in refused.4 (one.0, one.1.names)
+    let one = one-said members said refused.1 refused.0 each refused.2 refused.3 in
+    let said' : Entry = one.0 in
+    refused.4 (said'.0, one.1.names)
 refused-members members said Count refused other each =
     let some = refused.1 in
     let one = one-said members said some.1 some.0 each some.2 some.3 in
