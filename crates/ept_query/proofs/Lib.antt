@@ -5,3 +5,5 @@ mod Walking
 mod Counting
 mod Told
 mod Plans
+mod Inside
+mod Tiles

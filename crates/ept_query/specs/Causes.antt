@@ -3,6 +3,8 @@ use Rattle.ept_base.specs.declared.errors.GetError.{GetError}
 use Rattle.ept_base.specs.declared.errors.GetError.TheVariants as get
 use Rattle.ept_hier.specs.declared.hier_error.HierError.{HierError}
 use Rattle.ept_hier.specs.declared.hier_error.HierError.TheVariants as hier
+use Rattle.ept_point.specs.declared.tile.TileError.{TileError}
+use Rattle.ept_point.specs.declared.tile.TileError.TheVariants as tile
 use Rattle.ept_query.specs.declared.query_error.QueryFile.{QueryFile}
 use Rattle.ept_query.specs.declared.query_error.QueryError.{QueryError}
 use Rattle.ept_query.specs.declared.query_error.QueryError.TheVariants.{StoreFault, Damaged, Memory}
@@ -17,3 +19,10 @@ of_hierarchy file hier.Json = Damaged file
 of_hierarchy file hier.Key = Damaged file
 of_hierarchy file hier.Count = Damaged file
 of_hierarchy file hier.Memory = Memory
+
+-- of the bytes of a tile
+abbrev pub of_tile : QueryFile → TileError → QueryError
+of_tile file tile.Length = Damaged file
+of_tile file (tile.Field at) = Damaged file
+of_tile file (tile.Order at) = Damaged file
+of_tile file tile.Memory = Memory

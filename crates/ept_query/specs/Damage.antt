@@ -24,11 +24,17 @@ use Rattle.ept_query.specs.Plan.{IsBuiltWith, IsNeeded, EachIsThere, IsPlanned}
 abbrev pub HasNoBuild : Files → Type 0
 HasNoBuild files = (kept : Kept) → ¬ IsBuiltWith files kept
 
--- the tile of a key is there: these points, as many as its hierarchy file counts
-pub record HasTile (files : Files) (key : VoxelKey) (count : ℕ) (points : List Point) : Type 0 where
-  pub there : files (tile_name key) ≡ Some (tile points)
+-- bytes are a tile of these points, as many as counted
+pub record IsTileOf (bytes : List ℕ) (count : ℕ) (points : List Point) : Type 0 where
+  pub packed : bytes ≡ tile points
   pub ascend : IsAscending points
   pub counted : length points ≡ count
+
+-- the tile of a key is there: these points, as many as its hierarchy file counts
+pub record HasTile (files : Files) (key : VoxelKey) (count : ℕ) (points : List Point) : Type 0 where
+  pub bytes : List ℕ
+  pub there : files (tile_name key) ≡ Some bytes
+  pub form : IsTileOf bytes count points
 
 -- it is absent, not of its form, or of another number of points
 abbrev pub HasNoTile : Files → VoxelKey → ℕ → Type 0

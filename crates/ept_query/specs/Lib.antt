@@ -5,3 +5,4 @@ pub mod Plan
 pub mod Causes
 pub mod Damage
 pub mod Walk
+pub mod Parts

@@ -4,9 +4,13 @@
 mod form;
 mod hierarchy;
 mod notes;
+mod plan;
 mod query_error;
 mod reading;
 mod search;
+mod tile;
 mod walk;
 
+pub use plan::QueryPlan;
 pub use query_error::{QueryError, QueryFile};
+pub use tile::query_tile;
