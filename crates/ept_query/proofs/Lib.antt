@@ -7,3 +7,4 @@ mod Told
 mod Plans
 mod Inside
 mod Tiles
+mod Written

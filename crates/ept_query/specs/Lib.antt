@@ -6,3 +6,4 @@ pub mod Causes
 pub mod Damage
 pub mod Walk
 pub mod Parts
+pub mod Writing

@@ -25,6 +25,16 @@ node_at plan number = slice_index_or plan.tiles number (root, 0)
 abbrev pub points_in : Box3 → List Point → List Point
 points_in area points = filter (is_inside area) points
 
+-- these are the points in an area of the tile of a node
+pub record IsPart (files : Files) (area : Box3) (node : Node) (part : List Point) : Type 0 where
+  pub points : List Point
+  pub has : HasTile files node.0 node.1 points
+  pub inside : part ≡ points_in area points
+
+-- the points of parts, one after another
+abbrev pub points_of : List (List Point) → List Point
+points_of parts = flat_map (λ (part : List Point). part) parts
+
 -- Bytes are the packed points in the area of a tile, and this is their number. The tile has as many points as its
 -- hierarchy file counts, and where the store tells, they are those of its file.
 pub record IsPartOf (area : Box3) (node : Node) (bytes : List ℕ) (number : ℕ) (files : Option Files) : Type 0 where

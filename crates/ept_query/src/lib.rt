@@ -10,6 +10,7 @@ mod reading;
 mod search;
 mod tile;
 mod walk;
+mod writing;
 
 pub use plan::QueryPlan;
 pub use query_error::{QueryError, QueryFile};

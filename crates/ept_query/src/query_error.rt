@@ -2,7 +2,7 @@
 
 ghost use Rattle.std.specs.Prelude.{◌≡◌};
 
-use ept_base::GetError;
+use ept_base::{Failed, GetError};
 use ept_point::Memory;
 use ept_space::Key;
 use std::alloc::{AllocError, AllocFailed};
@@ -44,6 +44,17 @@ impl From<GetError> for QueryError {
             GetError::Failed => QueryError::StoreFault,
             GetError::Memory => QueryError::Memory,
         }
+    }
+}
+
+/// A sink is refused as [`Failed`].
+impl From<Failed> for QueryError {
+    ghost use Rattle.ept_query.specs.declared.query_error.QueryError.TheVariants.{SinkFault};
+
+    ghost from_gives = { λ _ e. e ≡ SinkFault };
+
+    fn from(_error: Failed) -> QueryError {
+        QueryError::SinkFault
     }
 }
 
