@@ -10,7 +10,6 @@ from collections import defaultdict
 
 import model
 from model import Refused
-from model_query import read_key
 
 MARK = b"EPTW" + struct.pack("<I", 1)
 SRS_BITS = {"authority": 0, "horizontal": 1, "vertical": 2, "wkt": 3}

@@ -1,1 +1,2 @@
 mod HeadEnds
+pub mod TurnLemmas

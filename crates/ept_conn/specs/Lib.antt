@@ -1,3 +1,5 @@
 pub mod HeadEnd
 pub mod Held
 pub mod Turns
+pub mod Judged
+pub mod Calls

@@ -1,18 +1,171 @@
 //! The bytes of a connection, cut into heads.
 
-ghost use Rattle.std.specs.Prelude.{◌≡◌, ◌≤◌, ◌+◌, ℕ, length, take, drop, None};
-ghost use Rattle.ept_conn.specs.HeadEnd.{is_mark, head_end};
+ghost use Rattle.std.specs.Prelude.{◌≡◌, ◌≤◌, ◌<◌, ◌+◌, ◌↔◌, IsTrue, ℕ, List, Bool, true, false, Some, None, IfOk, OnOk, OnErr, IfSome, IfNone, Err, length, take, drop};
+ghost use Rattle.ept_http.specs.declared.asked.Asked.{Asked};
+ghost use Rattle.ept_http.specs.Answers.{IsJudge};
+ghost use Rattle.ept_conn.specs.HeadEnd.{Whole, Long, front, head_end};
+ghost use Rattle.ept_conn.specs.Held.{fresh, fed};
+ghost use Rattle.ept_conn.specs.Turns.{IsNext, IsIdle, IsTurnOf, too_long};
+ghost use Rattle.ept_conn.specs.Judged.{Gives};
 
-/// Where the head ends that bytes begin with. The first `searched` bytes hold no end of a head.
-fn find_end(bytes: &[u8], searched: usize) -> Option<usize>
-    requires within { searched ≤ length bytes.now }
-    requires none { head_end (take searched bytes.now) ≡ None }
-    ensures { result ≡ head_end bytes.now }
-{
-    for at in searched.saturating_sub(3)..bytes.len() {
-        if bytes[at..].starts_with(b"\r\n\r\n") {
-            return Some(at + 4);
+use crate::head::{drop_front, find_end, first};
+use crate::turn::Turn;
+use ept_http::{Asked, read_request};
+use ept_point::Memory;
+use std::alloc::{AllocError, Global};
+use std::marker::Model;
+
+/// The most bytes that are looked at for the end of a head.
+const MAX_HEAD: usize = 8192;
+
+/// The most turns of a connection.
+const MAX_TURNS: u32 = 65_536;
+
+/// Why bytes are not taken.
+#[derive(Clone, Copy, Debug, PartialEq, Eq)]
+pub enum ConnError {
+    /// The last turn was given out.
+    Closed,
+    /// Memory ran out.
+    Memory,
+}
+
+impl From<AllocError> for ConnError {
+    ghost use Rattle.ept_conn.specs.declared.conn.ConnError.TheVariants.{Memory};
+
+    ghost from_gives = { λ _ e. e ≡ Memory };
+
+    fn from(_error: AllocError) -> ConnError {
+        ConnError::Memory
+    }
+}
+
+/// The bytes of a connection that no turn has taken yet. Contracts see them, how many turns were given, and
+/// whether the last was.
+#[derive(Debug, Drop)]
+pub struct Conn {
+    bytes: Vec<u8>,
+    // How many of the first bytes hold no end of a head.
+    searched: usize,
+    given: u32,
+    ended: bool,
+}
+
+impl Model for Conn {
+    ghost use Rattle.ept_conn.specs.Held.{Held, IsSearched};
+
+    ghost Value = { Held };
+
+    ghost view = { λ c. record { bytes = c.bytes.items; given = c.given; ended = c.ended } };
+
+    ghost invariant = { λ c. IsSearched c.bytes.items c.searched c.given c.ended };
+}
+
+impl Conn {
+    /// A connection that holds nothing and has given no turn. It takes no memory.
+    pub fn new(alloc: Global) -> Conn
+        ensures { result ≡ fresh }
+    {
+        Conn {
+            bytes: Vec::new(alloc),
+            searched: 0,
+            given: 0,
+            ended: false,
         }
     }
-    None
+
+    /// Puts bytes behind those held.
+    ///
+    /// # Errors
+    ///
+    /// `Closed` where the last turn was given out, and `Memory` where memory runs out. Nothing has changed
+    /// then.
+    pub fn feed(&mut self, piece: &[u8]) -> Result<(), ConnError>
+        ensures ok { OnOk result (self.new ≡ fed self.old piece.now) }
+        ensures refused { result ≡ Err ConnError.Closed → self.old.ended ≡ true }
+        ensures refusal_comes { self.old.ended ≡ true → result ≡ Err ConnError.Closed }
+        ensures unchanged { OnErr result (self.new ≡ self.old) }
+    {
+        if self.ended {
+            return Err(ConnError::Closed);
+        }
+        self.bytes.extend_from_slice(piece)?;
+        Ok(())
+    }
+
+    /// The next turn: what the head asks for that the bytes held begin with, or status 431 where none ends in
+    /// the first 8,192. None where there are fewer bytes and no head among them, and where the last turn was
+    /// given out.
+    ///
+    /// # Errors
+    ///
+    /// Want of memory for the name of a file. Nothing has changed then.
+    pub fn next(&mut self) -> Result<Option<Turn>, Memory>
+        ensures some { IfOk result (λ given. IfSome given (λ turn. IsNext self.old turn self.new)) }
+        ensures none { IfOk result (λ given. IfNone given (IsIdle self.old × (self.new ≡ self.old))) }
+        ensures unchanged { OnErr result (self.new ≡ self.old) }
+    {
+        if self.ended {
+            return Ok(None);
+        }
+        match self.find_head() {
+            Some(len) => Ok(Some(self.answer(len)?)),
+            None if self.is_full() => Ok(Some(self.refuse())),
+            None => Ok(None),
+        }
+    }
+
+    // The turn of a whole head.
+    fn answer(&mut self, len: usize) -> Result<Turn, Memory>
+        requires going { self.old.ended ≡ false }
+        requires head { front self.old.bytes ≡ Whole len }
+        requires within { len ≤ length self.old.bytes }
+        ensures ok { IfOk result (λ turn. IsNext self.old turn self.new) }
+        ensures unchanged { OnErr result (self.new ≡ self.old) }
+    {
+        let (asked, closes) = read_request(*self.bytes.allocator(), &self.bytes[..len])?;
+        let last = closes || self.given + 1 == MAX_TURNS;
+        self.given += 1;
+        if last {
+            self.ended = true;
+        } else {
+            drop_front(&mut self.bytes, len);
+            self.searched = 0;
+        }
+        Ok(Turn { asked, last })
+    }
+
+    // The turn of bytes in which no head ends in time.
+    fn refuse(&mut self) -> Turn
+        requires going { self.old.ended ≡ false }
+        requires long { front self.old.bytes ≡ Long }
+        ensures { IsNext self.old result self.new }
+    {
+        self.given += 1;
+        self.ended = true;
+        Turn {
+            asked: Asked::Refuse(431),
+            last: true,
+        }
+    }
+
+    // Whether as many bytes are held as are looked at.
+    fn is_full(&self) -> bool
+        ensures { IsTrue result ↔ (8192 ≤ length self.now.bytes) }
+    {
+        self.bytes.len() >= MAX_HEAD
+    }
+
+    // Where the first head ends in the first 8,192 bytes held.
+    fn find_head(&mut self) -> Option<usize>
+        ensures value { result ≡ head_end (take 8192 self.old.bytes) }
+        ensures same { self.new ≡ self.old }
+    {
+        let window = first(self.bytes.as_slice(), MAX_HEAD);
+        let end = find_end(window, self.searched);
+        if end.is_none() {
+            self.searched = window.len();
+        }
+        end
+    }
 }

@@ -6,7 +6,12 @@
 #![tactic(auto)]
 
 mod conn;
+mod head;
+mod laws;
+#[cfg(test)]
+mod tests;
 mod turn;
 
-
+pub use conn::{Conn, ConnError};
+pub use laws::{one_list_of_turns_law, turns_however_cut_law};
 pub use turn::Turn;

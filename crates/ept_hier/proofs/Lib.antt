@@ -5,3 +5,5 @@ mod Steps
 mod AllNodes
 mod HierarchyLaws
 mod Objects
+mod ReadTexts
+mod OneReading

@@ -2,4 +2,5 @@ pub mod Hierarchy
 pub mod OpenFiles
 pub mod HierarchyLaws
 pub mod Reading
+pub mod ReadingLaws
 pub mod Objects

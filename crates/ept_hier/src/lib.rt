@@ -18,6 +18,6 @@ mod tests;
 pub use file::HierFile;
 pub use files::hierarchy_files;
 pub use hier_error::HierError;
-pub use laws::hierarchy_law;
+pub use laws::{hierarchy_law, reading_law};
 pub use order::keys_ascend;
 pub use reader::read_hierarchy_file;

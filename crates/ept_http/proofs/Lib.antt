@@ -2,4 +2,4 @@ mod Marks
 mod Numbers
 mod QueryLemmas
 mod TargetLemmas
-mod OneAnswer
+pub mod OneAnswer

@@ -1,5 +1,5 @@
 -- One text, one box; one target, one thing that it asks for; one head, one answer.
-use Rattle.std.proofs.Common.{◌≡◌, ◌≢◌, ℕ, ◌<◌, List, [], ◌∷◌, ◌++◌, length, ℤ, pos, FitsSigned, w64, Bool, Option, Some, None, refl, sym, ap, subst, ◌∙◌, arith, lit<, decimal, inl, inr, Result, Ok, Err, OnErr}
+use Rattle.std.proofs.Common.{◌≡◌, ◌≢◌, ℕ, ◌<◌, List, [], ◌∷◌, ◌++◌, length, ℤ, pos, FitsSigned, w64, Bool, true, false, Option, Some, None, IsTrue, if◌then◌else◌, refl, sym, ap, subst, ◌∙◌, arith, lit<, decimal, inl, inr, Result, Ok, Err, OnErr}
 use Rattle.std.specs.Prelude.{codes, MatchOption}
 use Rattle.std.specs.Fmt.{signed_decimal}
 use Rattle.std.specs.List.{AllByRecursion}
@@ -14,7 +14,8 @@ use Rattle.httparse.specs.Grammar.{RequestHead}
 use Rattle.httparse.proofs.GrammarLemmas.{request_unique}
 use Rattle.ept_http.specs.WholeHead.{IsHead, lines_of}
 use Rattle.ept_http.specs.Fields.{has_close}
-use Rattle.ept_http.specs.Answers.{refusal_of, HeadAsks, IsAnswerTo, IsAnswer, IsJudge}
+use Rattle.ept_http.specs.Answers.{refusal_of, HeadAsks, IsAnswerTo, IsAnswer, MayBeAsked, IsJudge}
+use Rattle.ept_http.specs.AnswerHead.{is_refusal}
 use Rattle.ept_http.proofs.TargetLemmas.{box-lacks}
 use Rattle.ept_http.proofs.Numbers.{number-lacks, one-number}
 use Rattle.ept_http.proofs.QueryLemmas.{three-axes, split-box, after_min_x, after_min_y, after_min_z, after_max_x, small-depth}
@@ -141,3 +142,30 @@ pub named-answer : (bytes : List ℕ) (P : RequestHead → Type 0) → (whole : 
 named-answer bytes P (whole, (is, at)) (name, asks) =
     let to : IsAnswerTo whole (File name) (has_close (lines_of whole)) = record { asks = asks whole at; ends = refl } in
     (name, has_close (lines_of whole), inl (whole, is, to))
+
+-- ---- what may be asked for
+
+target-asked : (target : List ℕ) (asked : Asked) → AsksFor target asked → MayBeAsked asked
+target-asked target (File name) h = h.1
+target-asked target (Query area first last) h = (h.is_box.ordered, h.are_depths.ordered, h.are_depths.bounded)
+target-asked target (Refuse status) h = subst (λ (s : ℕ). IsTrue (is_refusal s)) (sym h.0) refl
+
+-- a head is refused before its target with one of three statuses
+early-refusal : (faulty other old : Bool) (status : ℕ) → (if faulty then Some 400 else if other then Some 405 else if old then Some 505 else None) ≡ Some status → IsTrue (is_refusal status)
+early-refusal true other old status h = let is : 400 ≡ status = cc in subst (λ (s : ℕ). IsTrue (is_refusal s)) is refl
+early-refusal false true old status h = let is : 405 ≡ status = cc in subst (λ (s : ℕ). IsTrue (is_refusal s)) is refl
+early-refusal false false true status h = let is : 505 ≡ status = cc in subst (λ (s : ℕ). IsTrue (is_refusal s)) is refl
+early-refusal false false false status h = absurd cc
+
+refused-asked : (refusal : Option ℕ) (target : List ℕ) (asked : Asked) → ((status : ℕ) → refusal ≡ Some status → IsTrue (is_refusal status)) → MatchOption refusal (AsksFor target asked) (λ status. asked ≡ Refuse status) → MayBeAsked asked
+refused-asked None target asked known h = target-asked target asked h
+refused-asked (Some status) target asked known h = subst MayBeAsked (sym h) (known status refl)
+
+head-asked : (head : RequestHead) (asked : Asked) → HeadAsks head asked → MayBeAsked asked
+unfolding refusal_of
+head-asked head asked h =
+    refused-asked (refusal_of head) head.target asked (λ status is. early-refusal _ _ _ status is) h
+
+pub may-be-asked : (bytes : List ℕ) (asked : Asked) (last : Bool) → IsAnswer bytes asked last → MayBeAsked asked
+may-be-asked bytes asked last (inl (head, is, to)) = head-asked head asked to.asks
+may-be-asked bytes asked last (inr none) = subst MayBeAsked (sym none.1) refl

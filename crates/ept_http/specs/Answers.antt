@@ -1,12 +1,14 @@
 -- What the head of a request asks for, and whether the connection ends after it.
-use Rattle.std.specs.Prelude.{◌≡◌, ◌⊎◌, ℕ, List, Bool, true, false, ◌||◌, ◌==◌, not, if◌then◌else◌, Option, Some, None, MatchOption, codes}
+use Rattle.std.specs.Prelude.{◌≡◌, ◌≤◌, ◌⊎◌, IsTrue, ℕ, List, Bool, true, false, ◌||◌, ◌==◌, not, if◌then◌else◌, Option, Some, None, MatchOption, codes}
 use Rattle.std.specs.Str.{bytes_eq}
 use Rattle.httparse.specs.Grammar.{RequestHead}
 use Rattle.ept_http.specs.declared.asked.Asked.{Asked}
 use Rattle.ept_http.specs.declared.asked.Asked.TheVariants.{File, Query, Refuse}
 use Rattle.ept_http.specs.WholeHead.{IsHead, lines_of}
 use Rattle.ept_http.specs.Fields.{has_close, is_faulty}
-use Rattle.ept_http.specs.Targets.{AsksFor}
+use Rattle.ept_http.specs.QueryWords.{IsOrdered}
+use Rattle.ept_http.specs.Targets.{IsServedName, AsksFor}
+use Rattle.ept_http.specs.AnswerHead.{is_refusal}
 
 -- the status with which a head is refused before its target is looked at
 unfoldable pub refusal_of : RequestHead → Option ℕ
@@ -40,6 +42,13 @@ abbrev pub IsAnswer : List ℕ → Asked → Bool → Type 0
 IsAnswer bytes asked last =
     ((head : RequestHead) × IsHead bytes head × IsAnswerTo head asked last)
     ⊎ (((head : RequestHead) → ¬ IsHead bytes head) × (asked ≡ Refuse 400) × (last ≡ true))
+
+-- what may be asked for: a file that is served, a query of an ordered box and of ordered depths from 0 to
+-- 32, or the status of a refusal
+abbrev pub MayBeAsked : Asked → Type 0
+MayBeAsked (File name) = IsServedName name
+MayBeAsked (Query area first last) = IsOrdered area × (first ≤ last) × (last ≤ 32)
+MayBeAsked (Refuse status) = IsTrue (is_refusal status)
 
 -- a judge gives the answer to any bytes
 abbrev pub IsJudge : (List ℕ → Asked × Bool) → Type 0

@@ -4,7 +4,7 @@ use Rattle.ept_space.specs.declared.box3.Box3.{Box3}
 use Rattle.ept_http.specs.declared.asked.Asked.{Asked}
 use Rattle.ept_http.specs.QueryWords.{IsBoxText, IsDepthsText}
 use Rattle.ept_http.specs.Targets.{AsksFor}
-use Rattle.ept_http.specs.Answers.{IsAnswer}
+use Rattle.ept_http.specs.Answers.{IsAnswer, MayBeAsked}
 
 -- a text is that of one box at most
 abbrev pub TextHasOneBox : Type 0
@@ -23,3 +23,7 @@ TargetAsksOnce = (target : List ℕ) (a b : Asked) → AsksFor target a → Asks
 abbrev pub BytesHaveOneAnswer : Type 0
 BytesHaveOneAnswer =
     (bytes : List ℕ) (a b : Asked) (k l : Bool) → IsAnswer bytes a k → IsAnswer bytes b l → (a ≡ b) × (k ≡ l)
+
+-- an answer is one that can be given: a query's words are ordered, and a refusal has a status of a refusal
+abbrev pub AnswersMayBeAsked : Type 0
+AnswersMayBeAsked = (bytes : List ℕ) (asked : Asked) (last : Bool) → IsAnswer bytes asked last → MayBeAsked asked

@@ -26,9 +26,9 @@ const MAX_FIELDS: usize = 64;
 ///
 /// Want of memory for the name of a file.
 pub fn read_request(alloc: Global, head: &[u8]) -> Result<(Asked, bool), Memory>
-    ensures answer { IfOk result (λ answer. IsAnswer head.now answer.0 answer.1) }
+    ensures ok { IfOk result (λ answer. IsAnswer head.now answer.0 answer.1) }
     ensures memory { OnErr result ((name : List ℕ) × (last : Bool) × IsAnswer head.now (Asked.File name) last) }
-    ensures judged { (judge : List ℕ → Asked × Bool) → IsJudge judge → IfOk result (λ answer. answer ≡ judge head.now) }
+    ensures value { (judge : List ℕ → Asked × Bool) → IsJudge judge → IfOk result (λ answer. answer ≡ judge head.now) }
 {
     let mut lines = [EMPTY_HEADER_SPAN; MAX_FIELDS];
     let Some(found) = whole_head(head, &mut lines) else {

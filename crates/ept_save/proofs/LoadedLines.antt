@@ -1,12 +1,14 @@
 -- The line of a key in the current checkpoint, and what its tile is loaded as.
-use Rattle.std.proofs.Common.{◌≡◌, ◌≢◌, ◌∙◌, ◌⊎◌, inl, inr, ℕ, zero, suc, ◌<◌, ◌≤◌, ◌+◌, Bool, true, false, cond, List, [], ◌∷◌, ◌++◌, length, get_or, drop, Option, Some, None, refl, sym, ap, subst, arith}
-use Rattle.std.specs.Prelude.{find, All, Result, Ok, Err, IfOk, IfErr, IsSomeAnd, IsSome, position}
+use Rattle.std.proofs.Common.{◌≡◌, ◌≢◌, ◌∙◌, ◌⊎◌, inl, inr, ℕ, zero, suc, ◌<◌, ◌≤◌, ◌+◌, Bool, true, false, cond, List, [], ◌∷◌, ◌++◌, length, get_or, take, drop, ◌-◌, Option, Some, None, refl, sym, ap, subst, arith}
+use Rattle.std.proofs.lemmas.List.{drop_at, take_rest}
+use Rattle.std.specs.Prelude.{find, All, Result, Ok, Err, IfOk, IfErr, OnOk, IsSomeAnd}
 use Rattle.ept_base.specs.Files.{Files, Tells}
+use Rattle.ept_base.specs.Devices.{Gets}
 use Rattle.ept_point.specs.declared.point.Point.{Point}
 use Rattle.ept_point.specs.declared.tile.TileError.{TileError}
 use Rattle.ept_point.specs.Packed.{tile}
 use Rattle.ept_point.specs.Tile.{ReadsAs}
-use Rattle.ept_point.proofs.TileLaws.{reads_once}
+use Rattle.ept_point.specs.Laws.{ReadInOneWay}
 use Rattle.ept_space.specs.VoxelKey.{VoxelKey, same_key}
 use Rattle.ept_space.specs.declared.cube.Rules.{Rules}
 use Rattle.ept_space.specs.OctreeCube.{InBox}
@@ -15,6 +17,7 @@ use Rattle.ept_sample.specs.Place.{place, AllInBox}
 use Rattle.ept_config.specs.declared.kept.Kept.{Kept}
 use Rattle.ept_grid.specs.declared.error.GridError.{GridError}
 use Rattle.ept_grid.specs.declared.error.GridError.TheVariants.{Outside, OpenLoser, TooMany, Deep, Memory}
+use Rattle.ept_grid.specs.Node.{Node, IsNodeOf}
 use Rattle.ept_grid.specs.Tile.{is_open_loser, IsTile, IsTileFault}
 use Rattle.ept_ckpt.specs.declared.letter.Letter.{Letter}
 use Rattle.ept_ckpt.specs.declared.node_line.NodeLine.{NodeLine}
@@ -27,18 +30,18 @@ use Rattle.ept_save.specs.declared.error.SaveError.TheVariants.{StoreFault, Tile
 use Rattle.ept_save.specs.declared.error.SaveError.TheVariants as save
 use Rattle.ept_save.specs.Current.{Current, tile_of_line}
 use Rattle.ept_save.specs.Errors.{IsStores}
-use Rattle.ept_save.specs.Loading.{OfLine, AreOfLine, AreFound, HasTile, IsWrong, IsDamagedLine, IsDamaged}
+use Rattle.ept_save.specs.Loading.{OfLine, AreOfLine, IsNodeFound, IsWrong, IsDamagedLine, IsDamaged}
 
 -- ---- the line of a key
 
 -- what is found stands in the list, and passes
 found_stands : {X : Type 0} (test : X → Bool) (xs : List X) (x : X) → find test xs ≡ Some x → (i : ℕ) × (i < length xs) × (get_or xs i x ≡ x) × (test x ≡ true)
 found_stands test [] x e = cc
-found_stands test (y ∷ xs) x e = by_test (test y) refl e
+found_stands {X} test (y ∷ xs) x e = by_test (test y) refl (found_stands test xs x) e
   where
-    by_test : (b : Bool) → test y ≡ b → cond b (Some y) (find test xs) ≡ Some x → (i : ℕ) × (i < length (y ∷ xs)) × (get_or (y ∷ xs) i x ≡ x) × (test x ≡ true)
-    by_test true passes is = let same : y ≡ x = cc in (0, omega arith, same, subst (λ (w : _). test w ≡ true) same passes)
-    by_test false fails is = let more = found_stands test xs x is in (suc more.0, omega (arith, more.1), more.2, more.3)
+    by_test : (b : Bool) → test y ≡ b → (find test xs ≡ Some x → (i : ℕ) × (i < length xs) × (get_or xs i x ≡ x) × (test x ≡ true)) → cond b (Some y) (find test xs) ≡ Some x → (i : ℕ) × (i < length (y ∷ xs)) × (get_or (y ∷ xs) i x ≡ x) × (test x ≡ true)
+    by_test true passes below is = let same : y ≡ x = cc in (0, omega arith, same, subst (λ (w : X). test w ≡ true) same passes)
+    by_test false fails below is = let more = below is in (suc more.0, omega (arith, more.1), more.2, more.3)
 
 -- the line of a key has that key
 pub line-key : (nodes : List NodeLine) (key : VoxelKey) (line : NodeLine) → line_of_key nodes key ≡ Some line → line.key ≡ key
@@ -53,54 +56,66 @@ line-low c key line found =
     subst (λ (l : NodeLine). l.key.depth ≤ deepest c.kept.bounds c.kept.s c.kept.max_depth) stands.2 (c.is_checkpoint.lines stands.0 line stands.1).depth_most
 
 -- a fact on the line of a key
-pub of-line : (current : Current) (key : VoxelKey) (letter : Letter) (c : Checkpoint) (line : NodeLine) (fact : Kept → NodeLine → Type 0) → current ≡ Some (letter, c) → line_of_key c.nodes key ≡ Some line → fact c.kept line → OfLine current key fact
-of-line current key letter c line fact is found has =
-    subst (λ (w : Current). OfLine w key fact) (sym is) (subst (λ (o : Option NodeLine). IsSomeAnd o (fact c.kept)) (sym found) has)
+pub of-line : (current : Current) (key : VoxelKey) (at : Letter × Checkpoint) (line : NodeLine) (fact : Kept → NodeLine → Type 0) → current ≡ Some at → line_of_key at.1.nodes key ≡ Some line → fact at.1.kept line → OfLine current key fact
+of-line current key at line fact is found has =
+    subst (λ (w : Current). OfLine w key fact) (sym is) (subst (λ (o : Option NodeLine). IsSomeAnd o (fact at.1.kept)) (sym found) has)
+
+at-line : (current : Current) (key : VoxelKey) (at : Letter × Checkpoint) (line : NodeLine) (fact : Kept → NodeLine → Type 0) → current ≡ Some at → line_of_key at.1.nodes key ≡ Some line → OfLine current key fact → fact at.1.kept line
+at-line current key at line fact is found has =
+    subst (λ (o : Option NodeLine). IsSomeAnd o (fact at.1.kept)) found (subst (λ (w : Current). OfLine w key fact) is has)
 
 -- ---- a tile that was loaded is not damaged
 
 -- points of a node have no fault
 no-fault : (key : VoxelKey) (rules : Rules) (mask : ℕ) (points : List Point) (fault : GridError) → IsTile key rules mask points → IsTileFault key rules mask points fault → ⊥
-no-fault key rules mask points (Outside at) fits fault = fault.outside (get_or points at no_point) (fits.inside at no_point fault.within)
-  where
-    no_point : Point
-    no_point = ?
+no-fault key rules mask [] (Outside at) fits fault = absurd (let none = fault.within in omega (arith, none))
+no-fault key rules mask (p ∷ points) (Outside at) fits fault = fault.outside p (fits.inside at p fault.within)
 no-fault key rules mask points (OpenLoser at) fits fault = let e = sym fits.no_open_loser ∙ fault.1 in cc
 no-fault key rules mask points (TooMany o) fits fault = let e : true ≡ false = sym fault.2.overfull ∙ fits.none_overfull o fault.2.one_of_eight in cc
 no-fault key rules mask points Deep fits fault = fault.4 (fits.not_deep fault.3)
 no-fault key rules mask points Memory fits fault = fault
 
-not-wrong : (rules : Rules) (line : NodeLine) (points : List Point) → AreOfLine rules line points → ¬ IsWrong rules line (tile points)
-not-wrong rules line points are wrong = elim wrong [
-  | inl none ↦ (let e = reads_once (tile points) (Ok points) (Err none.0) (refl, are.ascend) none.1 in cc)
+not-wrong : ReadInOneWay → (rules : Rules) (line : NodeLine) (points : List Point) → AreOfLine rules line points → ¬ IsWrong rules line (tile points)
+not-wrong once rules line points are wrong = elim wrong [
+  | inl none ↦ (let e = once (tile points) (Ok points) (Err none.0) (refl, are.ascend) none.1 in cc)
   | inr (inl other) ↦ other.2 (subst (λ (w : List Point). length w ≡ line.count) (same other.0 other.1) are.counted)
   | inr (inr unfit) ↦ no-fault line.key rules line.mask points unfit.2.0 are.fits (subst (λ (w : List Point). IsTileFault line.key rules line.mask w unfit.2.0) (sym (same unfit.0 unfit.1)) unfit.2.1)
 ]
   where
     same : (found : List Point) → ReadsAs (tile points) (Ok found) → points ≡ found
-    same found reads = let e = reads_once (tile points) (Ok points) (Ok found) (refl, are.ascend) reads in cc
+    same found reads = let e = once (tile points) (Ok points) (Ok found) (refl, are.ascend) reads in cc
 
-not-damaged-line : (rules : Rules) (line : NodeLine) (points : List Point) (files : Files) → AreOfLine rules line points → files (tile_of_line line) ≡ Some (tile points) → ¬ IsDamagedLine rules line files
-not-damaged-line rules line points files are has damaged = elim damaged [
+not-damaged-line : ReadInOneWay → (rules : Rules) (line : NodeLine) (points : List Point) (files : Files) → AreOfLine rules line points → files (tile_of_line line) ≡ Some (tile points) → ¬ IsDamagedLine rules line files
+not-damaged-line once rules line points files are has damaged = elim damaged [
   | inl absent ↦ (let e = sym absent ∙ has in cc)
-  | inr wrong ↦ (let e : wrong.0 ≡ tile points = cc in not-wrong rules line points are (subst (IsWrong rules line) e wrong.2))
+  | inr wrong ↦ (let e : wrong.0 ≡ tile points = cc in not-wrong once rules line points are (subst (IsWrong rules line) e wrong.2))
 ]
 
-pub not-damaged : (current : Current) (key : VoxelKey) (points : List Point) (files : Files) → AreFound current key points → HasTile current key points files → ¬ IsDamaged current key files
-not-damaged None key points files are has damaged = damaged
-not-damaged (Some (letter, c)) key points files are has damaged = at (line_of_key c.nodes key) are has damaged
-  where
-    at : (o : Option NodeLine) → IsSomeAnd o (λ line. AreOfLine (rules_of c.kept) line points) → IsSomeAnd o (λ line. files (tile_of_line line) ≡ Some (tile points)) → IsSomeAnd o (λ line. IsDamagedLine (rules_of c.kept) line files) → ⊥
-    at None are has damaged = damaged
-    at (Some line) are has damaged = not-damaged-line (rules_of c.kept) line points files are has damaged
+module _ (current : Current) (key : VoxelKey) (at : Letter × Checkpoint) (line : NodeLine) (is : current ≡ Some at) (found : line_of_key at.1.nodes key ≡ Some line) where
+  -- a node that was loaded has the key that was asked for
+  pub loaded-node : (result : Result Node SaveError) → IfOk result (λ node. IsNodeOf line.key (rules_of at.1.kept) line.mask node.points node) → IfOk result (IsNodeFound current key)
+  loaded-node (Err e) has = tt
+  loaded-node (Ok node) has =
+      of-line current key at line (λ kept l. IsNodeOf key (rules_of kept) l.mask node.points node) is found (subst (λ (k : VoxelKey). IsNodeOf k (rules_of at.1.kept) line.mask node.points node) (line-key at.1.nodes key line found) has)
 
--- so a refusal comes where it is
-pub refusal-comes : {T : Type 0} (result : Result T SaveError) (points : T → List Point) (current : Current) (key : VoxelKey) (files : Option Files) (all : Files) → files ≡ Some all
-    → IfOk result (λ t. AreFound current key (points t)) → IfOk result (λ t. Tells (HasTile current key (points t)) files) → IfErr result (λ e. (e ≡ TileDamaged key) ⊎ IsStores e)
+  -- its tile was not damaged
+  pub loaded-intact : ReadInOneWay → (result : Result Node SaveError) (files : Option Files) → IfOk result (λ node. AreOfLine (rules_of at.1.kept) line node.points) → IfOk result (λ node. Tells (λ all. all (tile_of_line line) ≡ Some (tile node.points)) files) → OnOk result (Tells (λ all. ¬ IsDamaged current key all) files)
+  loaded-intact once (Err e) files are has = tt
+  loaded-intact once (Ok node) None are has = tt
+  loaded-intact once (Ok node) (Some all) are has = λ damaged.
+      not-damaged-line once (rules_of at.1.kept) line node.points all are has (at-line current key at line (λ kept l. IsDamagedLine (rules_of kept) l all) is found damaged)
+
+  -- and one that was told as damaged is told by that key
+  pub loaded-only : (result : Result Node SaveError) → IfErr result (λ e. (e ≡ TileDamaged line.key) ⊎ IsStores e) → IfErr result (λ e. (e ≡ TileDamaged key) ⊎ IsStores e)
+  loaded-only (Ok node) only = tt
+  loaded-only (Err e) only = subst (λ (k : VoxelKey). (e ≡ TileDamaged k) ⊎ IsStores e) (line-key at.1.nodes key line found) only
+
+-- and a refusal comes where it is damaged
+pub refusal-comes : {T : Type 0} (result : Result T SaveError) (current : Current) (key : VoxelKey) (files : Option Files) (all : Files) → OnOk result (Tells (λ f. ¬ IsDamaged current key f) files) → IfErr result (λ e. (e ≡ TileDamaged key) ⊎ IsStores e) → files ≡ Some all
     → IsDamaged current key all → (result ≡ Err (TileDamaged key)) ⊎ (result ≡ Err StoreFault) ⊎ (result ≡ Err save.Memory)
-refusal-comes (Ok t) points current key files all told are has only damaged =
-    absurd (not-damaged current key (points t) all are (subst (λ (o : Option Files). Tells (HasTile current key (points t)) o) told has) damaged)
-refusal-comes (Err e) points current key files all told are has only damaged = elim only [
+refusal-comes (Ok t) current key files all intact only told damaged =
+    absurd (subst (λ (o : Option Files). Tells (λ f. ¬ IsDamaged current key f) o) told intact damaged)
+refusal-comes (Err e) current key files all intact only told damaged = elim only [
   | inl is ↦ inl (ap Err is)
   | inr (inl is) ↦ inr (inl (ap Err is))
   | inr (inr is) ↦ inr (inr (ap Err is))
@@ -115,5 +130,13 @@ is-wrong rules line bytes points slice same reads why = elim why [
   | inr unfit ↦ inr (inr (points, reads, (unfit.0, subst (λ (w : List Point). IsTileFault line.key rules line.mask w unfit.0) same unfit.1)))
 ]
 
-pub drop-old : (old points new : List Point) (n : ℕ) → n ≡ length old → new ≡ old ++ points → drop n new ≡ points
-drop-old old points new n is e = ?
+-- what stands behind the old points
+pub behind-old : (old points new now : List Point) (n : ℕ) → length old ≡ n → now ≡ new → new ≡ old ++ points → take (length now - n) (drop n now) ≡ points
+behind-old old points new now n is same e =
+    take_rest now n ∙ (ap (λ (w : List Point). drop n w) (same ∙ e) ∙ drop_at old points n is)
+
+-- the file that a line names was read, and is wrong
+pub damaged-told : (rules : Rules) (line : NodeLine) (files : Option Files) (name : List ℕ) (found : Bool) (bytes read : List ℕ) → name ≡ tile_of_line line → found ≡ true → read ≡ bytes → Tells (λ all. Gets all name found bytes) files → IsWrong rules line read → Tells (IsDamagedLine rules line) files
+damaged-told rules line None name found bytes read named there same gets wrong = tt
+damaged-told rules line (Some all) name found bytes read named there same gets wrong =
+    inr (bytes, subst (λ (w : List ℕ). all w ≡ Some bytes) named (subst (λ (b : Bool). all name ≡ cond b (Some bytes) None) there gets.0), subst (IsWrong rules line) same wrong)

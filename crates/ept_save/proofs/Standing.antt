@@ -51,6 +51,13 @@ agrees-same current one two same = record {
   tiles = λ name named. same name;
 }
 
+agrees-alike : (current : Current) (one two three four : Files) → SameFiles one two → SameFiles three four → Agrees current one three → Agrees current two four
+agrees-alike current one two three four first second agrees = record {
+  gates = λ letter. second (gate_name letter) ∙ (agrees.gates letter ∙ sym (first (gate_name letter)));
+  bodies = λ letter. second (body_name letter) ∙ (agrees.bodies letter ∙ sym (first (body_name letter)));
+  tiles = λ name named. second name ∙ (agrees.tiles name named ∙ sym (first name));
+}
+
 -- a settled store with this current checkpoint stands for it
 pub settled-stands : (view : View) (files : Option Files) (may_leave : Files → Type 0) (all : Files) → files ≡ Some all → HasCurrent view.current all → (view.begun ≡ true → ¬ Counts all (next_letter view.current)) → IsSettled files may_leave → StandsFor view files may_leave
 settled-stands view files may_leave all told has shut settled = record {
@@ -143,4 +150,18 @@ module _ {D : Type 0} (files : D → Option Files) (may_leave : D → Files → 
             let was = same.leaves image may in
             agrees-same view.current now.0 image (λ name. was.2 name ∙ (settled_some (files old) (may_leave old) all told settled was.0 was.1 name ∙ sym (now.2 name))));
         shut = λ is_begun. absurd (let wrong : false ≡ true = sym begun ∙ is_begun in cc);
+      }
+
+  -- and a store stands for what it stood for
+  pub same-stands : (view : View) (old new : D) → Moves files may_leave moment image_since SameFiles old new → StandsFor view (files old) (may_leave old) → StandsFor view (files new) (may_leave new)
+  same-stands view old new same stands =
+      let now = stepped SameFiles (files old) (files new) stands.all stands.told same.reads in
+      record {
+        all = now.0;
+        told = now.1;
+        has_current = (keeps-same view.current stands.all now.0 now.2).same stands.has_current;
+        agrees = λ image may. (
+            let was = same.leaves image may in
+            agrees-alike view.current stands.all now.0 was.0 image now.2 was.2 (stands.agrees was.0 was.1));
+        shut = λ begun counts. stands.shut begun (sym (now.2 (gate_name (next_letter view.current))) ∙ counts);
       }

@@ -24,7 +24,7 @@ use ept_base::Store;
 use ept_ckpt::NodeLine;
 use ept_config::Kept;
 use ept_grid::{Grid, GridError};
-use ept_point::{Point, TileError, read_tile};
+use ept_point::{Point, TileError, read_tile, tile_once_law};
 use ept_space::{Cube, Key, Rules};
 use std::alloc::Global;
 
@@ -116,6 +116,7 @@ fn load<T: Store>(
     ensures points { IfOk result (λ node. AreFound saved.now.current key.now node.points) }
     ensures tile { IfOk result (λ node. Tells (HasTile saved.now.current key.now node.points) (T.files store.old)) }
     ensures refused { result ≡ Err (SaveError.TileDamaged key.now) → Tells (IsDamaged saved.now.current key.now) (T.files store.old) }
+    ensures intact { OnOk result (Tells (λ all. ¬ IsDamaged saved.now.current key.now all) (T.files store.old)) }
     ensures only { IfErr result (λ e. (e ≡ SaveError.TileDamaged key.now) ⊎ IsStores e) }
     ensures images { SameImages (T.may_leave store.old) (T.may_leave store.new) }
     ensures any_moment { Moves T.files T.may_leave T.moment T.image_since SameFiles store.old store.new }
@@ -123,6 +124,7 @@ fn load<T: Store>(
 {
     let (_, checkpoint) = saved.current.as_ref().unwrap();
     let line = checkpoint.line(key).unwrap();
+    tile_once_law();
     load_line(alloc, store, &checkpoint.kept, line, out)
 }
 

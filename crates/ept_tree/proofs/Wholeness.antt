@@ -175,7 +175,7 @@ module _ (nodes : List Branch) (a : Arrival) (others : List Arrival) (old new : 
 
 -- ---- the root alone, and a point on its way to it
 
-blank_open : (o : ℕ) → has_open blank o ≡ true → ⊥
+pub blank_open : (o : ℕ) → has_open blank o ≡ true → ⊥
 unfolding has_open
 blank_open o is = absurd (cc)
 

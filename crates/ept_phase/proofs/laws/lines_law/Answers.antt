@@ -1,0 +1,8 @@
+use Rattle.ept_phase.proofs.Telling.{whole-told, told-whole}
+use Rattle.ept_phase.proofs.laws.lines_law.Goals as goal
+
+pub returns-clause-told : goal.returns-clause-told
+returns-clause-told c = whole-told
+
+pub returns-clause-whole : goal.returns-clause-whole
+returns-clause-whole c = told-whole

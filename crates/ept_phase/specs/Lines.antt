@@ -1,0 +1,26 @@
+-- The nodes of an octree, and the lines of a checkpoint that tell of them.
+use Rattle.std.specs.Prelude.{◌≡◌, List, length, Some}
+use Rattle.std.specs.List.{AllZip}
+use Rattle.ept_base.specs.Files.{Files}
+use Rattle.ept_point.specs.Packed.{tile}
+use Rattle.ept_ckpt.specs.declared.node_line.NodeLine.{NodeLine}
+use Rattle.ept_save.specs.Current.{tile_of_line}
+use Rattle.ept_tree.specs.Tree.{Branch}
+
+-- a line tells of a node: its key, its open octants, and how many points it has
+pub record TellsNode (b : Branch) (line : NodeLine) : Type 0 where
+  pub key : line.key ≡ b.0
+  pub mask : line.mask ≡ b.1.mask
+  pub count : line.count ≡ length b.1.points
+
+-- the lines tell of the nodes, one line of each
+abbrev pub TellNodes : List Branch → List NodeLine → Type 0
+TellNodes nodes lines = AllZip TellsNode nodes lines
+
+-- the file that a line names is the tile of a node
+abbrev pub NamesTile : Files → Branch → NodeLine → Type 0
+NamesTile files b line = files (tile_of_line line) ≡ Some (tile b.1.points)
+
+-- each line names the tile of its node
+abbrev pub NameTiles : Files → List Branch → List NodeLine → Type 0
+NameTiles files nodes lines = AllZip (NamesTile files) nodes lines
