@@ -5,6 +5,7 @@
 //! faults, of bytes given and of gets, in 64 bits, and a count stands still at its last value.
 #![tactic(auto)]
 
+mod path_set;
 mod paths;
 mod shelf;
 mod sink;

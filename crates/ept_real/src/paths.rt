@@ -1,5 +1,5 @@
 ghost use Rattle.std.specs.Prelude.{◌≡◌, IfOk, string_bytes};
-ghost use Rattle.ept_real.specs.Paths.{folder_path, joined};
+ghost use Rattle.ept_real.specs.Joined.{folder_path, joined};
 
 use std::alloc::{AllocError, Global};
 

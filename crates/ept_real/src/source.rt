@@ -77,7 +77,7 @@ impl<'a, R: Files> RealSource<'a, R> {
     /// Reads the next bytes into the front of `into`, and closes the file where there are no more.
     fn read_next(&mut self, into: &mut [u8]) -> io::Result<usize>
         ensures bound { ReadsAtMost result into.new }
-        ensures refused { OnErr result (into.new ≡ into.old) }
+        ensures unchanged { OnErr result (into.new ≡ into.old) }
         ensures faults { source_faults self.new ≡ source_faults self.old }
         ensures given { source_given self.new ≡ source_given self.old }
     {

@@ -1,7 +1,11 @@
-ghost use Rattle.std.specs.Prelude.{◌≡◌, ◌≤◌, IsTrue, IfOk, OnOk, string_bytes};
-ghost use Rattle.std.specs.BTreeSet.{contains_text};
+ghost use Rattle.std.specs.Prelude.{◌≡◌, ◌≢◌, ◌≤◌, ◌⊎◌, ℕ, List, [], false, true, Bool, Contains, IsOk, IsTrue, IfOk, IsErrOf, OnOk, OnErr, Err, string_bytes};
 ghost use Rattle.ept_base.specs.Causes.{Rose, HasCauseOf};
+ghost use Rattle.ept_base.specs.Devices.{Gets, counts_on};
+ghost use Rattle.ept_base.specs.Files.{SameFiles, SameBut, Puts, Removes, Tells, StepsBy};
+ghost use Rattle.ept_base.specs.Moves.{Follows, SameImages, NoMore, IsSettled, Elapses};
+ghost use Rattle.ept_real.specs.Ways.{Keeps, KeepsBut};
 
+use crate::path_set::PathSet;
 use crate::paths::{or_here, path_in};
 use crate::unsynced::Unsynced;
 use ept_base::{GetError, PutError, Store};
@@ -13,10 +17,14 @@ use std::rt::Files;
 
 /// A folder of the machine, which is made where it is not there. A name is a path below it.
 ///
-/// `sync` flushes the files that were put, and the folders on the way to each name that was put or
-/// removed: those below the store's folder, the store's folder, the one that it is in, and any above
-/// that had to be made. So each of these folders must be readable. After a refused `sync` all of it
-/// stays to be flushed.
+/// `sync` flushes the files that were put, and those that were got and that this store has not flushed
+/// yet, since another program may have written them and been stopped before it flushed them. It also
+/// flushes the folders on the way to each name that was put, got or removed: those below the store's
+/// folder, the store's folder, the one that it is in, and any above that had to be made. So each of
+/// these folders must be readable.
+///
+/// After a refused `sync` each later one is refused: the system tells that a write was lost once, and may
+/// then answer as if nothing had been.
 ///
 /// A name below a file is a fault; one that is absent is not.
 #[derive(Drop)]
@@ -25,6 +33,8 @@ pub struct RealStore<'a, R: Files> {
     alloc: Global,
     folder: &'a str,
     unsynced: Unsynced,
+    flushed: PathSet,
+    refused: bool,
     pub(crate) faults: u64,
     pub(crate) gets: u64,
 }
@@ -58,7 +68,9 @@ fn remove_file(files: &impl Files, path: &str) -> io::Result<()> {
 
 impl<'a, R: Files> RealStore<'a, R> {
     ghost use Rattle.ept_real.specs.Counts.{store_faults, store_gets};
-    ghost use Rattle.ept_real.specs.Paths.{joined, folder_path, store_folder};
+    ghost use Rattle.ept_real.specs.Flushing.{flushed, IsFlushed, sync_refused};
+    ghost use Rattle.ept_real.specs.Joined.{joined, folder_path};
+    ghost use Rattle.ept_real.specs.Paths.{store_folder};
 
     /// The store in this folder, without a fault and without a get. An empty path is that of the
     /// folder in which the program runs.
@@ -66,12 +78,17 @@ impl<'a, R: Files> RealStore<'a, R> {
         ensures sound { store_faults result ≡ 0 }
         ensures unread { store_gets result ≡ 0 }
         ensures folder { store_folder result ≡ folder_path folder.now }
+        ensures to_flush { IsFlushed result }
+        ensures flushed { flushed result ≡ [] }
+        ensures open { sync_refused result ≡ false }
     {
         RealStore {
             files,
             alloc,
             folder: or_here(folder),
             unsynced: Unsynced::new(alloc),
+            flushed: PathSet::new(alloc),
+            refused: false,
             faults: 0,
             gets: 0,
         }
@@ -81,7 +98,7 @@ impl<'a, R: Files> RealStore<'a, R> {
     fn fault(&mut self)
         ensures rose { Rose (store_faults self.old) (store_faults self.new) }
         ensures later { store_faults self.old ≤ store_faults self.new }
-        ensures gets { store_gets self.new ≡ store_gets self.old }
+        ensures same { self.new ≡ record self.old { faults = store_faults self.new } }
     {
         self.faults = self.faults.saturating_add(1);
     }
@@ -92,20 +109,82 @@ impl<'a, R: Files> RealStore<'a, R> {
     {
         path_in(self.alloc, self.folder, name)
     }
+}
 
-    /// Writes a file, which is to be flushed from then on, where it is there.
-    fn write(&mut self, path: &str, bytes: &[u8]) -> Result<(), PutError>
-        ensures noted { OnOk result (IsTrue (contains_text self.new.unsynced.files path.now)) }
-        ensures gets { store_gets self.new ≡ store_gets self.old }
+impl<'a, R: Files> RealStore<'a, R> {
+    ghost use Rattle.ept_real.specs.Counts.{store_faults, store_gets};
+    ghost use Rattle.ept_real.specs.Flushing.{names_to_flush, folders_to_flush, flushed, HasWayToFlush, HasToFlush, KeepsToFlush};
+    ghost use Rattle.ept_real.specs.Paths.{store_folder};
+
+    /// The folders on the way to this name are to be flushed.
+    fn note_way(&mut self, name: &str) -> Result<(), AllocError>
+        ensures ok { OnOk result (HasWayToFlush self.new name.now) }
+        ensures still { Keeps (folders_to_flush self.old) (folders_to_flush self.new) }
+        ensures names { names_to_flush self.new ≡ names_to_flush self.old }
+        ensures same { self.new ≡ record self.old { unsynced = self.new.unsynced } }
+    {
+        self.unsynced.note_way(self.files, self.folder, name)
+    }
+
+    /// The file of this name, which was read, is to be flushed, where this store has not flushed it.
+    fn note_read(&mut self, name: &str) -> Result<(), AllocError>
+        ensures ok { OnOk result (HasToFlush self.new name.now ⊎ Contains (flushed self.new) name.now) }
+        ensures still { KeepsToFlush self.old self.new }
+        ensures same { self.new ≡ record self.old { unsynced = self.new.unsynced } }
+    {
+        if self.flushed.contains(name) {
+            return Ok(());
+        }
+        self.note_way(name)?;
+        self.unsynced.names.add(name)
+    }
+
+    /// The file of this name is no longer to be flushed, where it is not there.
+    fn forget_absent(&mut self, name: &str, path: &str)
+        ensures still { KeepsBut name.now (names_to_flush self.old) (names_to_flush self.new) }
+        ensures folders { folders_to_flush self.new ≡ folders_to_flush self.old }
+        ensures same { self.new ≡ record self.old { unsynced = self.new.unsynced } }
+    {
+        if !Path::new(path).exists(self.files) {
+            self.unsynced.names.remove(name);
+        }
+    }
+
+    /// Writes the file of this name, which is to be flushed from then on, where it is there.
+    fn write(&mut self, name: &str, path: &str, bytes: &[u8]) -> Result<(), PutError>
+        ensures ok { OnOk result (Contains (names_to_flush self.new) name.now) }
+        ensures still { KeepsBut name.now (names_to_flush self.old) (names_to_flush self.new) }
+        ensures folders { folders_to_flush self.new ≡ folders_to_flush self.old }
+        ensures same { self.new ≡ record self.old { unsynced = self.new.unsynced; faults = store_faults self.new } }
         ensures cause { HasCauseOf PutError.Failed (store_faults self.old) (store_faults self.new) result }
     {
-        self.unsynced.note_file(path)?;
+        self.unsynced.names.add(name)?;
         match write_file(self.files, path, bytes) {
             Ok(()) => Ok(()),
             Err(_) => {
-                if !Path::new(path).exists(self.files) {
-                    self.unsynced.forget_file(path);
-                }
+                self.forget_absent(name, path);
+                self.fault();
+                Err(PutError::Failed)
+            }
+        }
+    }
+
+    /// Removes the file of this name, which is then no longer to be flushed.
+    fn erase(&mut self, name: &str, path: &str) -> Result<(), PutError>
+        ensures gone { OnOk result (Contains (names_to_flush self.new) name.now → ⊥) }
+        ensures still { KeepsBut name.now (names_to_flush self.old) (names_to_flush self.new) }
+        ensures not_gone { OnErr result (names_to_flush self.new ≡ names_to_flush self.old) }
+        ensures folders { folders_to_flush self.new ≡ folders_to_flush self.old }
+        ensures same { self.new ≡ record self.old { unsynced = self.new.unsynced; faults = store_faults self.new } }
+        ensures only { result ≢ Err PutError.Memory }
+        ensures cause { HasCauseOf PutError.Failed (store_faults self.old) (store_faults self.new) result }
+    {
+        match remove_file(self.files, path) {
+            Ok(()) => {
+                self.unsynced.names.remove(name);
+                Ok(())
+            }
+            Err(_) => {
                 self.fault();
                 Err(PutError::Failed)
             }
@@ -116,14 +195,16 @@ impl<'a, R: Files> RealStore<'a, R> {
 impl<'a, R: Files> Store for RealStore<'a, R> {
     ghost use Rattle.std.specs.Prelude.{None};
     ghost use Rattle.ept_real.specs.Counts.{store_faults, store_gets};
+    ghost use Rattle.ept_real.specs.Flushing.{names_to_flush, folders_to_flush, flushed, sync_refused, IsFlushed, HasWayToFlush, HasToFlush, KeepsToFlush, KeepsToFlushBut, no_image, no_image_since};
+    ghost use Rattle.ept_real.specs.Paths.{store_folder};
 
     ghost files = { λ _. None };
 
-    ghost may_leave = { λ _ _. ⊥ };
+    ghost may_leave = { λ _. no_image };
 
     ghost moment = { λ _. 0 };
 
-    ghost image_since = { λ _ _ _. ⊥ };
+    ghost image_since = { λ _. no_image_since };
 
     ghost faults = { λ store. store_faults store };
 
@@ -135,11 +216,29 @@ impl<'a, R: Files> Store for RealStore<'a, R> {
 
     ghost reads_an_image = { λ store. tt };
 
-    fn get(&mut self, name: &str, into: &mut Vec<u8>) -> Result<bool, GetError> {
+    fn get(&mut self, name: &str, into: &mut Vec<u8>) -> Result<bool, GetError>
+        ensures ok { IfOk result (λ found. Tells (λ all. Gets all name.now found into.new.items) None) }
+        ensures absent { IfOk result (λ found. found ≡ false → into.new.items ≡ []) }
+        ensures unchanged { OnErr result (into.new.items ≡ into.old.items) }
+        ensures reads { StepsBy SameFiles None None }
+        ensures images { SameImages no_image no_image }
+        ensures time { Elapses 0 0 no_image_since no_image_since no_image }
+        ensures counted { store_gets self.new ≡ counts_on (store_gets self.old) 1 }
+        ensures cause { HasCauseOf GetError.Failed (store_faults self.old) (store_faults self.new) result }
+
+        // What was found is flushed before it is built upon, unless this store has flushed it.
+        ensures found { IfOk result (λ found. found ≡ true
+            → HasToFlush self.new name.now ⊎ Contains (flushed self.new) name.now) }
+        ensures still { KeepsToFlush self.old self.new }
+        ensures flushed { flushed self.new ≡ flushed self.old }
+        ensures open { sync_refused self.new ≡ sync_refused self.old }
+        ensures folder { store_folder self.new ≡ store_folder self.old }
+    {
         self.gets = self.gets.saturating_add(1);
         let path = self.path_of(name)?;
         match read_file(self.files, self.alloc, path.as_str()) {
             Ok(bytes) => {
+                self.note_read(name)?;
                 *into = bytes;
                 Ok(true)
             }
@@ -157,36 +256,84 @@ impl<'a, R: Files> Store for RealStore<'a, R> {
         }
     }
 
-    fn put(&mut self, name: &str, bytes: &[u8]) -> Result<(), PutError> {
+    fn put(&mut self, name: &str, bytes: &[u8]) -> Result<(), PutError>
+        ensures ok { OnOk result (StepsBy (Puts name.now bytes.now) None None) }
+        ensures memory { IsErrOf result PutError.Memory → StepsBy SameFiles None None × SameImages no_image no_image }
+        ensures reads { StepsBy (SameBut name.now) None None }
+        ensures images { Follows (SameBut name.now) no_image no_image }
+        ensures time { Elapses 0 0 no_image_since no_image_since no_image }
+        ensures counted { store_gets self.new ≡ store_gets self.old }
+        ensures cause { HasCauseOf PutError.Failed (store_faults self.old) (store_faults self.new) result }
+
+        // What was put is to be flushed, with the folders on its way.
+        ensures noted { OnOk result (HasToFlush self.new name.now) }
+        ensures still { KeepsToFlushBut name.now self.old self.new }
+        ensures anew { result ≢ Err PutError.Memory → Contains (flushed self.new) name.now → ⊥ }
+        ensures flushed { Keeps (flushed self.new) (flushed self.old) }
+        ensures open { sync_refused self.new ≡ sync_refused self.old }
+        ensures folder { store_folder self.new ≡ store_folder self.old }
+    {
         let path = self.path_of(name)?;
-        self.unsynced.note_way(self.folder, name)?;
-        self.unsynced.note_above(self.files, self.folder)?;
-        self.write(path.as_str(), bytes)
+        self.flushed.remove(name);
+        self.note_way(name)?;
+        self.write(name, path.as_str(), bytes)
     }
 
-    fn remove(&mut self, name: &str) -> Result<(), PutError> {
+    fn remove(&mut self, name: &str) -> Result<(), PutError>
+        ensures ok { OnOk result (StepsBy (Removes name.now) None None) }
+        ensures memory { IsErrOf result PutError.Memory → StepsBy SameFiles None None × SameImages no_image no_image }
+        ensures reads { StepsBy (SameBut name.now) None None }
+        ensures images { Follows (SameBut name.now) no_image no_image }
+        ensures time { Elapses 0 0 no_image_since no_image_since no_image }
+        ensures counted { store_gets self.new ≡ store_gets self.old }
+        ensures cause { HasCauseOf PutError.Failed (store_faults self.old) (store_faults self.new) result }
+
+        // The folders on the way are to be flushed; the file is no longer.
+        ensures noted { OnOk result (HasWayToFlush self.new name.now) }
+        ensures gone { OnOk result (Contains (names_to_flush self.new) name.now → ⊥) }
+        ensures still { KeepsToFlushBut name.now self.old self.new }
+        ensures not_gone { OnErr result (KeepsToFlush self.old self.new) }
+        ensures anew { result ≢ Err PutError.Memory → Contains (flushed self.new) name.now → ⊥ }
+        ensures flushed { Keeps (flushed self.new) (flushed self.old) }
+        ensures open { sync_refused self.new ≡ sync_refused self.old }
+        ensures folder { store_folder self.new ≡ store_folder self.old }
+    {
         let path = self.path_of(name)?;
-        self.unsynced.note_way(self.folder, name)?;
-        self.unsynced.note_above(self.files, self.folder)?;
-        match remove_file(self.files, path.as_str()) {
-            Ok(()) => {
-                self.unsynced.forget_file(path.as_str());
-                Ok(())
-            }
-            Err(_) => {
-                self.fault();
-                Err(PutError::Failed)
-            }
-        }
+        self.flushed.remove(name);
+        self.note_way(name)?;
+        self.erase(name, path.as_str())
     }
 
-    fn sync(&mut self) -> Result<(), PutError> {
-        match self.unsynced.flush(self.files) {
-            Ok(()) => Ok(()),
-            Err(_) => {
-                self.fault();
-                Err(PutError::Failed)
-            }
+    fn sync(&mut self) -> Result<(), PutError>
+        ensures ok { OnOk result (IsSettled None no_image) }
+        ensures unchanged { OnErr result (SameImages no_image no_image) }
+        ensures reads { StepsBy SameFiles None None }
+        ensures images { NoMore no_image no_image }
+        ensures time { Elapses 0 0 no_image_since no_image_since no_image }
+        ensures counted { store_gets self.new ≡ store_gets self.old }
+        ensures cause { HasCauseOf PutError.Failed (store_faults self.old) (store_faults self.new) result }
+        ensures only { result ≢ Err PutError.Memory }
+
+        // At Ok nothing is left to flush, and after a refusal all is.
+        ensures none_left { OnOk result (IsFlushed self.new) }
+        ensures names { OnErr result (names_to_flush self.new ≡ names_to_flush self.old) }
+        ensures folders { OnErr result (folders_to_flush self.new ≡ folders_to_flush self.old) }
+        ensures flushed { (name : List ℕ) → Contains (flushed self.new) name
+            → Contains (flushed self.old) name ⊎ (IsOk result × Contains (names_to_flush self.old) name) }
+
+        // After a refusal each later sync is refused.
+        ensures refusal_comes { IsTrue (sync_refused self.old) → result ≡ Err PutError.Failed }
+        ensures for_good { OnErr result (IsTrue (sync_refused self.new)) }
+        ensures open { OnOk result (sync_refused self.new ≡ false) }
+        ensures folder { store_folder self.new ≡ store_folder self.old }
+    {
+        if self.refused || self.unsynced.flush(self.files, self.folder).is_err() {
+            self.refused = true;
+            self.fault();
+            return Err(PutError::Failed);
         }
+        self.flushed.take_over(&mut self.unsynced.names);
+        self.unsynced.folders.clear();
+        Ok(())
     }
 }

@@ -214,8 +214,8 @@ fn a_sync_flushes_the_way_to_a_file(rt: HostRuntime) -> Result<(), Fail> {
 }
 
 #[test]
-fn what_was_not_flushed_stays_to_be_flushed(rt: HostRuntime) -> Result<(), Fail> {
-    enter(&rt, "stays")?;
+fn each_file_is_flushed_once(rt: HostRuntime) -> Result<(), Fail> {
+    enter(&rt, "once")?;
     let alloc = rt.alloc();
     let flushed = RefCell::new(String::new(alloc));
     let to_fault = Cell::new(0);
@@ -225,14 +225,7 @@ fn what_was_not_flushed_stays_to_be_flushed(rt: HostRuntime) -> Result<(), Fail>
         assert_eq!(rt; store.put(name, b"x"), Ok(()), "at {name}");
     }
     assert_eq!(rt; store.remove("gone"), Ok(()));
-    // The flush of a file fails, and then that of a folder.
-    for (nth, faults) in [(2, 1), (5, 2)] {
-        to_fault.set(nth);
-        assert_eq!(rt; store.sync(), Err(PutError::Failed), "at {nth}");
-        assert_eq!(rt; store.faults, faults, "at {nth}");
-    }
     for want in ["out/a/one\nout/two\n.\nout/\nout/a\n", ""] {
-        flushed.try_replace(String::new(alloc))?;
         assert_eq!(rt; store.sync(), Ok(()));
         assert_eq!(rt; flushed.try_replace(String::new(alloc))?.as_str(), want);
     }
@@ -242,6 +235,71 @@ fn what_was_not_flushed_stays_to_be_flushed(rt: HostRuntime) -> Result<(), Fail>
         flushed.try_replace(String::new(alloc))?.as_str(),
         ".\nout/\nout/a\n"
     );
+    Ok(())
+}
+
+#[test]
+fn what_was_read_is_flushed(rt: HostRuntime) -> Result<(), Fail> {
+    enter(&rt, "read")?;
+    let alloc = rt.alloc();
+    fs::create_dir_all(&rt, "out/a")?;
+    fs::write(&rt, "out/a/one", "by another")?;
+    let flushed = RefCell::new(String::new(alloc));
+    let to_fault = Cell::new(0);
+    let disk = Disk::new(&rt, &flushed, &to_fault);
+    let mut store = RealStore::new(alloc, &disk, "out");
+    let mut into = Vec::new(alloc);
+    let whole = "out/a/one\n.\nout/\nout/a\n";
+    // What another wrote, what this store has flushed, and what it has put since.
+    for (puts, want) in [(false, whole), (false, ""), (true, whole), (false, "")] {
+        if puts {
+            assert_eq!(rt; store.put("a/one", b"anew"), Ok(()));
+        }
+        assert_eq!(rt; store.get("a/one", &mut into), Ok(true));
+        assert_eq!(rt; store.get("a/none", &mut into), Ok(false));
+        assert_eq!(rt; store.sync(), Ok(()));
+        assert_eq!(rt;
+            flushed.try_replace(String::new(alloc))?.as_str(),
+            want,
+            "{puts}"
+        );
+    }
+    Ok(())
+}
+
+#[test]
+fn a_sync_is_refused_for_good(rt: HostRuntime) -> Result<(), Fail> {
+    enter(&rt, "refused")?;
+    let alloc = rt.alloc();
+    // The flush of a file fails, and that of a folder; nothing is flushed from then on.
+    for (nth, want) in [(2, "out/a/one\n"), (4, "out/a/one\nout/two\n.\n")] {
+        let flushed = RefCell::new(String::new(alloc));
+        let to_fault = Cell::new(nth);
+        let disk = Disk::new(&rt, &flushed, &to_fault);
+        let mut store = RealStore::new(alloc, &disk, "out");
+        assert_eq!(rt; store.put("a/one", b"x"), Ok(()));
+        assert_eq!(rt; store.put("two", b"x"), Ok(()));
+        for faults in 1..4 {
+            assert_eq!(rt; store.sync(), Err(PutError::Failed), "at {nth}");
+            assert_eq!(rt; store.faults, faults, "at {nth}");
+            assert_eq!(rt; store.put("three", b"x"), Ok(()), "at {nth}");
+        }
+        assert_eq!(rt; flushed.try_replace(String::new(alloc))?.as_str(), want);
+    }
+    Ok(())
+}
+
+#[test]
+fn a_file_that_went_can_not_be_flushed(rt: HostRuntime) -> Result<(), Fail> {
+    enter(&rt, "went")?;
+    let alloc = rt.alloc();
+    let mut store = RealStore::new(alloc, &rt, "out");
+    assert_eq!(rt; store.put("a/one", b"x"), Ok(()));
+    fs::remove_dir_all(&rt, "out/a")?;
+    assert_eq!(rt; store.sync(), Err(PutError::Failed));
+    assert_eq!(rt; store.put("a/one", b"x"), Ok(()));
+    assert_eq!(rt; store.sync(), Err(PutError::Failed));
+    assert_eq!(rt; store.faults, 2);
     Ok(())
 }
 

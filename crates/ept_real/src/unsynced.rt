@@ -1,6 +1,8 @@
-ghost use Rattle.std.specs.Prelude.{◌≡◌, false, IsTrue, OnOk, OnErr};
-ghost use Rattle.std.specs.BTreeSet.{IsEmpty, contains_text};
+ghost use Rattle.std.specs.Prelude.{◌≡◌, ℕ, List, [], Contains, OnOk, OnErr};
+ghost use Rattle.ept_real.specs.Joined.{joined};
+ghost use Rattle.ept_real.specs.Ways.{Keeps, IsAbove, IsHolder, IsOnWay};
 
+use crate::path_set::PathSet;
 use crate::paths::{or_here, path_in};
 use std::alloc::{AllocError, Global};
 use std::collections::BTreeSet;
@@ -9,72 +11,58 @@ use std::io::{self, ErrorKind};
 use std::path::Path;
 use std::rt::Files;
 
-/// What the next sync is to flush: files, and folders for the sake of their entries, each once.
+/// What the next sync of a store has to flush: the files of names, and folders, by their paths, for the
+/// sake of their entries.
 #[derive(Drop)]
 pub(crate) struct Unsynced {
     alloc: Global,
-    pub(crate) files: BTreeSet<String>,
-    pub(crate) folders: BTreeSet<String>,
+    pub(crate) names: PathSet,
+    pub(crate) folders: PathSet,
 }
 
 impl Unsynced {
     /// Nothing is to be flushed.
     pub(crate) fn new(alloc: Global) -> Self
-        ensures files { IsEmpty result.files }
-        ensures folders { IsEmpty result.folders }
+        ensures names { result.names ≡ [] }
+        ensures folders { result.folders ≡ [] }
     {
         Unsynced {
             alloc,
-            files: BTreeSet::new(alloc),
-            folders: BTreeSet::new(alloc),
+            names: PathSet::new(alloc),
+            folders: PathSet::new(alloc),
         }
     }
 
-    /// The file of this path is to be flushed.
-    pub(crate) fn note_file(&mut self, path: &str) -> Result<(), AllocError>
-        ensures noted { OnOk result (IsTrue (contains_text self.new.files path.now)) }
-        ensures refused { OnErr result (self.new.files ≡ self.old.files) }
-        ensures folders { self.new.folders ≡ self.old.folders }
+    /// The folders on the way to a name in this folder are to be flushed: those that the name goes
+    /// through, this folder, the one that it is in, and each one above that up to the first that is
+    /// there.
+    pub(crate) fn note_way(
+        &mut self,
+        files: &impl Files,
+        folder: &str,
+        name: &str,
+    ) -> Result<(), AllocError>
+        ensures ok { OnOk result ((path : List ℕ) → IsOnWay folder.now name.now path → Contains self.new.folders path) }
+        ensures still { Keeps self.old.folders self.new.folders }
+        ensures names { self.new.names ≡ self.old.names }
     {
-        note(self.alloc, &mut self.files, path)
-    }
-
-    /// The file of this path is no longer to be flushed.
-    pub(crate) fn forget_file(&mut self, path: &str)
-        ensures forgotten { contains_text self.new.files path.now ≡ false }
-        ensures folders { self.new.folders ≡ self.old.folders }
-    {
-        self.files.remove(path);
-    }
-
-    /// The entries of the folder of this path are to be flushed.
-    fn note_folder(&mut self, path: &str) -> Result<(), AllocError>
-        ensures noted { OnOk result (IsTrue (contains_text self.new.folders path.now)) }
-        ensures files { self.new.files ≡ self.old.files }
-    {
-        note(self.alloc, &mut self.folders, path)
-    }
-
-    /// The folders on the way from this folder to a name in it are to be flushed, the folder itself
-    /// among them.
-    pub(crate) fn note_way(&mut self, folder: &str, name: &str) -> Result<(), AllocError>
-        ensures files { self.new.files ≡ self.old.files }
-    {
-        for above in Path::new(name).ancestors().skip(1) {
-            let path = path_in(self.alloc, folder, above.as_str())?;
-            self.note_folder(path.as_str())?;
-        }
-        Ok(())
+        self.note_above(files, folder)?;
+        self.note_below(folder, name)
     }
 
     /// The folder that this folder is in is to be flushed, and each one above it up to the first that
     /// is there.
-    pub(crate) fn note_above(&mut self, files: &impl Files, folder: &str) -> Result<(), AllocError>
-        ensures files { self.new.files ≡ self.old.files }
+    fn note_above(&mut self, files: &impl Files, folder: &str) -> Result<(), AllocError>
+        ensures ok { OnOk result ((path : List ℕ) → IsHolder folder.now path → Contains self.new.folders path) }
+        ensures still { Keeps self.old.folders self.new.folders }
+        ensures names { self.new.names ≡ self.old.names }
     {
-        for above in Path::new(folder).ancestors().skip(1) {
+        let Some(holder) = Path::new(folder).parent() else {
+            return Ok(());
+        };
+        for above in holder.ancestors() {
             let path = or_here(above.as_str());
-            self.note_folder(path)?;
+            self.folders.add(path)?;
             if Path::new(path).exists(files) {
                 return Ok(());
             }
@@ -82,41 +70,35 @@ impl Unsynced {
         Ok(())
     }
 
-    /// Flushes all of it. After an error all of it is still to be flushed.
-    pub(crate) fn flush(&mut self, files: &impl Files) -> io::Result<()>
-        ensures no_file { OnOk result (IsEmpty self.new.files) }
-        ensures no_folder { OnOk result (IsEmpty self.new.folders) }
-        ensures same_files { OnErr result (self.new.files ≡ self.old.files) }
-        ensures same_folders { OnErr result (self.new.folders ≡ self.old.folders) }
+    /// The folders that a name goes through are to be flushed, this folder among them.
+    fn note_below(&mut self, folder: &str, name: &str) -> Result<(), AllocError>
+        ensures ok { OnOk result ((above : List ℕ) → IsAbove name.now above → Contains self.new.folders (joined folder.now above)) }
+        ensures still { Keeps self.old.folders self.new.folders }
+        ensures names { self.new.names ≡ self.old.names }
     {
-        flush_files(files, &self.files)?;
-        flush_folders(files, &self.folders)?;
-        self.files.clear();
-        self.folders.clear();
+        let Some(parent) = Path::new(name).parent() else {
+            return Ok(());
+        };
+        for above in parent.ancestors() {
+            let path = path_in(self.alloc, folder, above.as_str())?;
+            self.folders.add(path.as_str())?;
+        }
         Ok(())
     }
-}
 
-/// Adds a path to a set of paths.
-fn note(alloc: Global, paths: &mut BTreeSet<String>, path: &str) -> Result<(), AllocError>
-    ensures noted { OnOk result (IsTrue (contains_text paths.new path.now)) }
-    ensures refused { OnErr result (paths.new ≡ paths.old) }
-{
-    if paths.contains(path) {
-        return Ok(());
-    }
-    match paths.insert(String::from_str(alloc, path)?) {
-        Ok(_) => Ok(()),
-        Err(_) => Err(AllocError),
+    /// Flushes all of it; the names are of files in this folder.
+    pub(crate) fn flush(&self, files: &impl Files, folder: &str) -> io::Result<()> {
+        for name in self.names.paths() {
+            let path = path_in(self.alloc, folder, name.as_str())?;
+            flush_file(files, path.as_str())?;
+        }
+        flush_folders(files, self.folders.paths())
     }
 }
 
-/// Flushes each of these files.
-fn flush_files(files: &impl Files, paths: &BTreeSet<String>) -> io::Result<()> {
-    for path in paths {
-        fs::open(files, path.as_str())?.sync_all()?;
-    }
-    Ok(())
+/// Flushes a file: its bytes, and what is needed to read them.
+fn flush_file(files: &impl Files, path: &str) -> io::Result<()> {
+    fs::open(files, path)?.sync_data()
 }
 
 /// Flushes the entries of each of these folders.

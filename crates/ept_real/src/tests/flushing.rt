@@ -87,6 +87,23 @@ impl<'a> Files for Disk<'a> {
     }
 }
 
+impl<'a> DiskFile<'a> {
+    // Writes down that this file is flushed, unless it is to fail.
+    fn count_flush(&self) -> io::Result<()> {
+        let left = self.to_fault.get();
+        self.to_fault.set(left.saturating_sub(1));
+        if left == 1 {
+            return Err(io::Error::from(ErrorKind::Other));
+        }
+        let Ok(mut flushed) = self.flushed.try_borrow_mut() else {
+            return Err(io::Error::from(ErrorKind::ResourceBusy));
+        };
+        flushed.push_str(self.path.as_str())?;
+        flushed.push('\n')?;
+        Ok(())
+    }
+}
+
 impl<'a> OpenFile for DiskFile<'a> {
     fn metadata(&self) -> io::Result<Metadata> {
         self.file.metadata()
@@ -97,21 +114,12 @@ impl<'a> OpenFile for DiskFile<'a> {
     }
 
     fn sync_all(&self) -> io::Result<()> {
-        let left = self.to_fault.get();
-        self.to_fault.set(left.saturating_sub(1));
-        if left == 1 {
-            return Err(io::Error::from(ErrorKind::Other));
-        }
-        self.file.sync_all()?;
-        let Ok(mut flushed) = self.flushed.try_borrow_mut() else {
-            return Err(io::Error::from(ErrorKind::ResourceBusy));
-        };
-        flushed.push_str(self.path.as_str())?;
-        flushed.push('\n')?;
-        Ok(())
+        self.count_flush()?;
+        self.file.sync_all()
     }
 
     fn sync_data(&self) -> io::Result<()> {
+        self.count_flush()?;
         self.file.sync_data()
     }
 }
