@@ -1,0 +1,10 @@
+mod Readings
+mod Forms
+mod Noting
+mod Walking
+mod Counting
+mod Told
+mod Plans
+mod Inside
+mod Tiles
+mod Written
