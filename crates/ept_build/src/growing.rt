@@ -54,7 +54,7 @@ pub(crate) fn grown_tree<H: Shelf>(
         (λ all. (points : List Point) → IsKeptScan all kept.now counts.now points
         → CanBeSampled (rules_of kept.now) points
         → most < length (sampled (rules_of kept.now) points)) (H.files shelf.old) }
-    ensures unchanged { (source number : ℕ) → result ≡ Err (BuildError.SourceChanged source number)
+    ensures no_change { (source number : ℕ) → result ≡ Err (BuildError.SourceChanged source number)
         → Tells (λ all. (points : List Point) → IsKeptScan all kept.now counts.now points
         → CanBeSampled (rules_of kept.now) points → ⊥) (H.files shelf.old) }
     ensures causes { IfErr result IsInsertion }
@@ -87,7 +87,7 @@ fn grow<S: Source>(
         → CanBeSampled rules.now all → tree.HasTaken all [] grown) }
     ensures too_many { result ≡ Err BuildError.TooManyNodes → (all : List Point) → IsRest S.whole reader.old all
         → CanBeSampled rules.now all → most < length (sampled rules.now all) }
-    ensures unchanged { (source number : ℕ) → result ≡ Err (BuildError.SourceChanged source number)
+    ensures no_change { (source number : ℕ) → result ≡ Err (BuildError.SourceChanged source number)
         → (all : List Point) → IsRest S.whole reader.old all → CanBeSampled rules.now all → ⊥ }
     ensures causes { IfErr result IsInsertion }
     ensures fault { result ≡ Err BuildError.SourceFault → HasFault S.faults reader.new }

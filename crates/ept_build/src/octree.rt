@@ -4,11 +4,9 @@ ghost use Rattle.std.specs.Prelude.{◌≡◌, ◌⊎◌, ◌^◌, ◌<◌, List
 ghost use Rattle.ept_base.specs.Causes.{HasCauseOf};
 ghost use Rattle.ept_base.specs.Files.{Tells};
 ghost use Rattle.ept_point.specs.declared.point.Point.{Point};
-ghost use Rattle.ept_space.specs.OctreeCube.{IsCube};
-ghost use Rattle.ept_space.specs.CubeOfBounds.{IsCubeOf, HasPlace};
+ghost use Rattle.ept_space.specs.CubeOfBounds.{HasPlace};
 ghost use Rattle.ept_config.specs.Counts.{IsCount};
 ghost use Rattle.ept_scan.specs.Scans.{IsScan};
-ghost use Rattle.ept_meta.specs.Output.{rules_of};
 ghost use Rattle.ept_tree.specs.Grown.{nodes_of};
 ghost use Rattle.ept_build.specs.Building.{IsAccepted, IsReading, IsInsertion, IsRefused, IsDefinite, Stops};
 ghost use Rattle.ept_build.specs.Octrees.{IsOctree};
@@ -17,9 +15,10 @@ use crate::error::BuildError;
 use crate::growing::grown_tree;
 use ept_base::Shelf;
 use ept_config::{Config, Kept, SourceCount, total_of};
+use ept_meta::rules_of;
 use ept_point::List;
 use ept_scan::{ScanDone, scan, whole_extent};
-use ept_space::{Bounds, Cube, Rules};
+use ept_space::Bounds;
 use ept_tree::Tree;
 use std::alloc::Global;
 
@@ -94,19 +93,5 @@ fn inserted<H: Shelf>(
             tree,
         }),
         Err(refused) => Err(refused),
-    }
-}
-
-// The rules of the sampling of what is kept.
-fn rules_of(kept: &Kept) -> Rules
-    ensures rules { result ≡ rules_of kept.now }
-    ensures cube { IsCube result.cube }
-    ensures of_bounds { IsCubeOf kept.now.bounds kept.now.s kept.now.max_depth result.cube }
-{
-    let cube = Cube::of(&kept.bounds, kept.s, kept.max_depth).unwrap();
-    cube.known();
-    Rules {
-        cube,
-        threshold: kept.threshold,
     }
 }

@@ -35,7 +35,7 @@ pub use limits::{
     EXPECT_WIDTH, MAX_CACHE, MAX_CHECKPOINT, MAX_DEPTH, MAX_INPUTS, MAX_LENGTH, MAX_NODES,
     MAX_OFFSET, MAX_PATH, MAX_SCALE, MAX_SHIFT, MAX_SRS_TEXT, MAX_STEP, MAX_THREADS, MAX_THRESHOLD,
 };
-pub use reader::read_config;
+pub use reader::{read_config, read_value};
 pub use source_count::{SourceCount, total_of};
 pub use srs::Srs;
 pub use texts::{is_path, is_srs_text};

@@ -75,8 +75,13 @@ fn has_known_keys(top: &Value) -> bool
     has_only(&KEYS, top)
 }
 
+/// Reads a configuration from its JSON value, as [`read_config`] reads its text, however long that was.
+///
+/// # Errors
+///
+/// Those of [`read_config`] but for `Long` and `Json`.
 #[tactic(auto, unfolding(crate::specs::Configuration::value_reading))]
-fn read_value(alloc: Global, top: &Value) -> Result<Config, ConfigError>
+pub fn read_value(alloc: Global, top: &Value) -> Result<Config, ConfigError>
     ensures ok { IfOk result (λ config. value_reading (view top.now) ≡ Ok (facts config)) }
     ensures refused { IfErr result (λ e. e ≢ ConfigError.Memory
         → value_reading (view top.now) ≡ Err e) }

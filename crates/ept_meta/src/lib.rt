@@ -11,6 +11,7 @@ mod laws;
 mod manifest;
 mod metadata;
 mod names;
+mod rules;
 mod schema;
 mod srs_object;
 #[cfg(test)]
@@ -22,3 +23,4 @@ pub use laws::{output_names_law, output_once_law};
 pub use manifest::manifest_json;
 pub use metadata::ept_json;
 pub use names::{BUILD_FILE, MANIFEST, METADATA, hierarchy_name, tile_name};
+pub use rules::rules_of;

@@ -34,7 +34,7 @@ pub(crate) fn append_bounds(text: &mut Vec<u8>, kept: &Kept, bounds: &Bounds) ->
 fn cube_of(kept: &Kept) -> Cube
     ensures { result ≡ cube_of kept.now.bounds kept.now.s kept.now.max_depth }
 {
-    Cube::of(&kept.bounds, kept.s, kept.max_depth).unwrap()
+    Cube::over(&kept.bounds, kept.s, kept.max_depth)
 }
 
 #[tactic(auto, unfolding(crate::specs::Units::far_corner))]

@@ -24,8 +24,9 @@ use ept_base::Store;
 use ept_ckpt::NodeLine;
 use ept_config::Kept;
 use ept_grid::{Grid, GridError};
+use ept_meta::rules_of;
 use ept_point::{Point, TileError, read_tile, tile_once_law};
-use ept_space::{Cube, Key, Rules};
+use ept_space::{Key, Rules};
 use std::alloc::Global;
 
 /// Appends the points of a node of the current checkpoint: those of the tile that it names for the key.
@@ -157,16 +158,6 @@ fn load_line<T: Store>(
         return Err(SaveError::TileDamaged { key: line.key });
     }
     node_of_bytes(alloc, &rules, line, &bytes, out)
-}
-
-// The rules of the sampling of what is kept.
-fn rules_of(kept: &Kept) -> Rules
-    ensures { result ≡ rules_of kept.now }
-{
-    Rules {
-        cube: Cube::over(&kept.bounds, kept.s, kept.max_depth),
-        threshold: kept.threshold,
-    }
 }
 
 // The node that a line tells of, from the bytes of its tile. Its points are appended.

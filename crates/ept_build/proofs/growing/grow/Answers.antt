@@ -41,8 +41,8 @@ loop-batch-preserved g c =
           (drop k left, drawn.1, c.in_ok-insert_all.ensures.taken all (drop k left) (subst (λ (w : List Point). HasTaken all w i.grown) front t.2), omega (arith, size, t.3, next.drawn)));
     }
 
-pub returns-in_err-next_batch-clause-unchanged : goal.returns-in_err-next_batch-clause-unchanged
-returns-in_err-next_batch-clause-unchanged g c = λ source number is all rest can.
+pub returns-in_err-next_batch-clause-no_change : goal.returns-in_err-next_batch-clause-no_change
+returns-in_err-next_batch-clause-no_change g c = λ source number is all rest can.
     let t = c.loop-batch.invariant.taken all (c.allow.ensures.rest all rest) can in
     c.in_err-next_batch.ensures.no_change t.0 t.1 c.loop-batch.invariant.fresh source number
     (ap (λ (e : ReadError). Err e) (was_changed c.in_err-next_batch.field-0.0 source number (search (rules, is))))

@@ -33,12 +33,12 @@ returns-clause-too_many g c = λ is.
     tells-more _ (λ (all : Files). (points : List Point) → IsKeptScan all kept counts points → CanBeSampled (rules_of kept) points → c.args.most < length (sampled (rules_of kept) points))
     (λ all rest points scan can. subst (λ (r : Rules). c.args.most < length (sampled r points)) c.requires.rules (c.grow-grown.ensures.too_many is points (rest points scan) (subst (λ (r : Rules). CanBeSampled r points) (sym c.requires.rules) can))) (g.H.Shelf.files c.args.shelf.now) c.in_ok-reader.ensures.rest
 
-pub returns-clause-unchanged : goal.returns-clause-unchanged
-returns-clause-unchanged g c = λ source number is.
+pub returns-clause-no_change : goal.returns-clause-no_change
+returns-clause-no_change g c = λ source number is.
     let kept = c.args.kept.now in
     let counts = c.args.counts.now in
     tells-more _ (λ (all : Files). (points : List Point) → IsKeptScan all kept counts points → CanBeSampled (rules_of kept) points → ⊥)
-    (λ all rest points scan can. c.grow-grown.ensures.unchanged source number is points (rest points scan) (subst (λ (r : Rules). CanBeSampled r points) (sym c.requires.rules) can)) (g.H.Shelf.files c.args.shelf.now) c.in_ok-reader.ensures.rest
+    (λ all rest points scan can. c.grow-grown.ensures.no_change source number is points (rest points scan) (subst (λ (r : Rules). CanBeSampled r points) (sym c.requires.rules) can)) (g.H.Shelf.files c.args.shelf.now) c.in_ok-reader.ensures.rest
 
 pub returns-clause-cause : goal.returns-clause-cause
 returns-clause-cause g c = record {

@@ -9,4 +9,4 @@ pub returns-clause-refused : goal.returns-clause-refused
 returns-clause-refused g c = λ e.
     damaged-told (rules_of c.args.kept.now) c.args.line.now (g.T.Store.files c.args.store.now) c.as_str.result.now c.in_ok-get.field-0 c.get.new.into.items c.deref.result.now
     (c.as_str.ensures.value ∙ c.in_ok-name.ensures) c.if-not-branch.false c.deref.ensures.value c.in_ok-get.ensures.ok
-    (subst (λ (r : Rules). IsWrong r c.args.line.now c.deref.result.now) c.rules_of-rules.ensures (c.node_of_bytes.ensures.refused e))
+    (subst (λ (r : Rules). IsWrong r c.args.line.now c.deref.result.now) c.rules_of-rules.ensures.value (c.node_of_bytes.ensures.refused e))
