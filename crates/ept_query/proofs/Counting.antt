@@ -1,6 +1,6 @@
 -- How many files the walk gets, and that it ends.
-use Rattle.std.proofs.Common.{◌≡◌, ◌∙◌, ◌+◌, ◌-◌, ◌*◌, ◌^◌, ◌<◌, ◌≤◌, inl, inr, ℕ, List, [], ◌∷◌, length, get_or, refl, sym, ap, subst, arith, Ordering, Less, Equal, Greater, Bool, true, false}
-use Rattle.std.specs.List.{All, AllPairs, Contains, IsDistinct, list_any}
+use Rattle.std.proofs.Common.{◌≡◌, ◌+◌, ◌-◌, ◌*◌, ◌^◌, ◌<◌, ◌≤◌, inl, inr, ℕ, List, [], ◌∷◌, length, refl, sym, ap, subst, arith, Ordering, Less, Equal, Greater, true}
+use Rattle.std.specs.List.{All, Contains}
 use Rattle.std.specs.Ordering.{is_eq, eq_by_cmp}
 use Rattle.std.proofs.lemmas.Cmp.{eq_by_cmp_equiv}
 use Rattle.std.proofs.lemmas.List.Elements.{All-head}
@@ -24,8 +24,8 @@ same-from one two same = key_cmp-equal one two (tied (key_cmp one two) same)
 pub fewer : (keys most : List VoxelKey) → AreAscending keys → ((key : VoxelKey) → Contains keys key → Contains most key) → length keys ≤ length most
 fewer keys most ascend each =
     length-le_from_is_member (eq_by_cmp_equiv key_cmp_total) keys most
-        (IsDistinct-from_apart (eq_by_cmp key_cmp) keys (λ i j d less within. ap is_eq (ascend i j d less within)))
-        (λ q member. list_any-from_Contains (eq_by_cmp_equiv key_cmp_total) q most (each q (Contains-from_any same-from q keys member)))
+    (IsDistinct-from_apart (eq_by_cmp key_cmp) keys (λ i j d less within. ap is_eq (ascend i j d less within)))
+    (λ q member. list_any-from_Contains (eq_by_cmp_equiv key_cmp_total) q most (each q (Contains-from_any same-from q keys member)))
 
 -- the place of a key in the order of all keys, as a number
 pub rank : VoxelKey → ℕ

@@ -1,10 +1,10 @@
 -- A box as a test of places.
-use Rattle.std.proofs.Common.{◌≡◌, ◌∙◌, ℕ, suc, ◌≤◌, Bool, true, false, cond, ◌&&◌, T, List, [], ◌∷◌, length, filter, refl, sym, arith}
-use Rattle.std.specs.Prelude.{ℤ, ◌≤ℤ◌, IsTrue, ◌↔◌}
+use Rattle.std.proofs.Common.{◌≡◌, ◌∙◌, suc, ◌≤◌, Bool, true, false, cond, T, List, [], ◌∷◌, length, filter, refl, sym, arith}
+use Rattle.std.specs.Prelude.{ℤ, IsTrue, ◌↔◌}
 use Rattle.std.specs.Int.Signed.{le_z, le_z_yes}
 use Rattle.std.proofs.lemmas.Bool.{and_parts, and_from}
 use Rattle.ept_space.specs.declared.box3.Box3.{Box3}
-use Rattle.ept_space.specs.Place.{Place, coordinate}
+use Rattle.ept_space.specs.Place.{Place}
 use Rattle.ept_space.specs.ClosedBox.{IsBetween, IsIn}
 use Rattle.ept_query.specs.Rows.{is_between, is_in}
 

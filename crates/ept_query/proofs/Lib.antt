@@ -8,3 +8,10 @@ mod Plans
 mod Inside
 mod Tiles
 mod Written
+mod Refusing
+mod Querying
+mod Laid
+mod Asked
+mod Calling
+mod Completing
+mod Whole

@@ -1,14 +1,13 @@
 -- What is noted of entries, one after another.
-use Rattle.std.proofs.Common.{◌≡◌, ◌≢◌, ◌∙◌, ◌+◌, ◌<◌, ◌≤◌, ℕ, ℤ, List, [], ◌∷◌, ◌++◌, length, get_or, take, refl, sym, ap, subst, inl, inr, ◌⊎◌, ⊎_elim, arith, Option, Some, None, Ordering, Less, Equal, Greater, Bool, true, false, cond}
+use Rattle.std.proofs.Common.{◌≡◌, ◌∙◌, ◌+◌, ◌<◌, ℕ, ℤ, List, [], ◌∷◌, ◌++◌, length, get_or, take, refl, sym, ap, subst, inl, inr, ◌⊎◌, ⊎_elim, Option, Some, Ordering, Less, Equal, Greater, Bool, true, false, cond}
 use Rattle.std.specs.Prelude.{pos, negsuc, IsSome}
-use Rattle.std.specs.List.{All, Contains}
+use Rattle.std.specs.List.{Contains}
 use Rattle.std.specs.Ordering.{match_ordering, is_eq}
 use Rattle.std.specs.BTreeMap.{is_at}
 use Rattle.std.specs.BTreeSet.{insert_key}
 use Rattle.std.proofs.lemmas.List.{take_more}
 use Rattle.std.proofs.lemmas.List.Elements.{Contains-append_cases, Contains-append_left, Contains-append_right}
-use Rattle.std.proofs.lemmas.Map.Views.{All-insert_key}
-use Rattle.ept_space.specs.VoxelKey.{VoxelKey, IsKey, key_cmp}
+use Rattle.ept_space.specs.VoxelKey.{VoxelKey, key_cmp}
 use Rattle.ept_space.proofs.KeyOrder.{key_cmp-equal, key_cmp-same}
 use Rattle.ept_sample.specs.Members.{IsMember}
 use Rattle.ept_sample.proofs.Members.{IsMember-contains, contains-IsMember}

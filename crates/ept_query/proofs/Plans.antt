@@ -1,33 +1,31 @@
 -- What the walk answers.
-use Rattle.std.proofs.Common.{◌≡◌, ◌∙◌, ◌+◌, ◌<◌, ◌≤◌, ℕ, List, [], ◌∷◌, ◌++◌, length, refl, sym, ap, subst, Option, Some, None, Result, Ok, Err, arith, Ordering, Less, Bool, true, false}
-use Rattle.std.specs.Prelude.{IfOk, IsSome, ◌↔◌}
-use Rattle.std.specs.List.{All, Contains, IsDistinct}
+use Rattle.std.proofs.Common.{◌≡◌, ◌∙◌, ◌+◌, ◌<◌, ◌≤◌, ℕ, List, [], ◌∷◌, length, refl, sym, ap, subst, Option, Some, Result, Ok, Err, arith}
+use Rattle.std.specs.Prelude.{IfOk}
+use Rattle.std.specs.List.{Contains}
 use Rattle.std.specs.List.Sorted.{IsStrictlySortedBy}
 use Rattle.std.specs.Ordering.{is_eq, eq_by_cmp}
 use Rattle.std.specs.BTreeMap.{BTreeMap, get, is_at}
 use Rattle.std.specs.Map.{keys_of as map_keys, lookup}
-use Rattle.std.proofs.lemmas.Bool.{false≢true}
 use Rattle.std.proofs.lemmas.Cmp.{eq_by_cmp_equiv}
 use Rattle.std.proofs.lemmas.Map.Keys.{IsDistinct-from_apart, Less-from_sorted}
 use Rattle.std.proofs.lemmas.Map.Views.{Contains-from_lookup, lookup-from_Contains}
 use Rattle.ept_base.specs.Files.{Files, SameFiles, StepsBy, Tells}
-use Rattle.ept_space.specs.VoxelKey.{VoxelKey, IsKey, key_cmp}
+use Rattle.ept_space.specs.VoxelKey.{VoxelKey, key_cmp}
 use Rattle.ept_space.proofs.KeyOrder.{key_cmp_total}
 use Rattle.ept_sample.specs.Nodes.{AreAscending}
 use Rattle.ept_hier.specs.Hierarchy.{Entry, Node, keys_of}
 use Rattle.ept_meta.specs.Output.{hierarchy_name}
 use Rattle.ept_query.specs.declared.search.Search.{Search}
-use Rattle.ept_query.specs.declared.query_error.QueryFile.{QueryFile}
 use Rattle.ept_query.specs.declared.query_error.QueryFile.TheVariants.{BuildJson, Hierarchy, Tile}
 use Rattle.ept_query.specs.declared.query_error.QueryError.{QueryError}
 use Rattle.ept_query.specs.declared.query_error.QueryError.TheVariants.{NotComplete, StoreFault, Damaged, SinkFault, Memory}
 use Rattle.ept_query.specs.Hierarchies.{HasHierarchy, HasNoHierarchy}
-use Rattle.ept_query.specs.Plan.{IsNeeded, EachIsThere, IsPlanned, IsPlan, HasNeeded}
+use Rattle.ept_query.specs.Plan.{IsNeeded, IsPlan, HasNeeded}
 use Rattle.ept_query.specs.Damage.{IsFirstHierarchy, RefusesReading, RefusesWalk}
 use Rattle.ept_query.specs.Walk.{NotesFile}
 use Rattle.ept_query.proofs.Counting.{fewer, same-from}
 use Rattle.ept_query.proofs.Told.{tells-from, told-back}
-use Rattle.ept_query.proofs.Walking.{IsWalk, each-there, counts-planned}
+use Rattle.ept_query.proofs.Walking.{IsWalk, counts-planned}
 
 -- ---- files that read as before
 
@@ -55,7 +53,7 @@ walk-refuses search top before now (Damaged (Hierarchy key)) first steps refused
     let wrong = refused.0 in
     let same : top ≡ key = cc in
     tells-from (λ all. IsFirstHierarchy search all key) before (λ all is.
-        subst (λ (k : VoxelKey). IsFirstHierarchy search all k) same (first all is (told-back (λ (f : Files). HasNoHierarchy search f top) (no-hierarchy-back search top) before now all is steps refused.1)))
+    subst (λ (k : VoxelKey). IsFirstHierarchy search all k) same (first all is (told-back (λ (f : Files). HasNoHierarchy search f top) (no-hierarchy-back search top) before now all is steps refused.1)))
 
 -- ---- how many files
 

@@ -1,6 +1,6 @@
 -- What a hierarchy file is read as: its bytes alone decide which number it has of a key.
-use Rattle.std.proofs.Common.{◌+◌, length-append, ◌≡◌, ◌≢◌, ◌∙◌, ℕ, suc, zero, ◌<◌, ℤ, List, [], ◌∷◌, ◌++◌, length, get_or, refl, sym, ap, subst, inl, inr, ⊎_elim, arith, Option, Some, None, Ordering, Less, Equal, Greater, Bool, true, false}
-use Rattle.std.specs.Prelude.{negsuc, pos}
+use Rattle.std.proofs.Common.{◌≡◌, ◌≢◌, ◌∙◌, ℕ, suc, zero, ◌<◌, ℤ, List, [], ◌∷◌, ◌++◌, length, get_or, refl, sym, ap, subst, inl, inr, arith, Option, Some, None, Ordering, Less, Equal, Greater, Bool, true, false}
+use Rattle.std.specs.Prelude.{pos}
 use Rattle.std.specs.Prelude.{if◌then◌else◌}
 use Rattle.std.specs.Str.{is_utf8}
 use Rattle.std.specs.Option.{option_map, option_and_then}
@@ -14,10 +14,9 @@ use Rattle.std.proofs.lemmas.List.Kept.{AllPairs-cons}
 use Rattle.std.proofs.lemmas.List.Sorted.{IsPermutation-sym, IsPermutation-trans, Contains-permutation, All-permutation}
 use Rattle.std.proofs.lemmas.Bool.{cases_lt}
 use Rattle.std.proofs.lemmas.List.{get_or_default}
-use Rattle.std.proofs.Math.Seq.{get_or-append_seam}
 use Rattle.json.specs.Json as json
 use Rattle.json.specs.Lex.{tokens}
-use Rattle.serde_json.specs.Data.{Data, null, boolean, number, string, array, object, Items, Members, no_members, member, put}
+use Rattle.serde_json.specs.Data.{Data, null, boolean, number, string, array, object, Members, no_members, member, put}
 use Rattle.serde_json.specs.Find.{as_object}
 use Rattle.serde_json.specs.Read.{of_json, of_members, of_items, number_of, max_depth, read}
 use Rattle.ept_json.specs.Document.{document}
@@ -209,21 +208,21 @@ one-entry bytes entries a b reading has_a has_b same =
     by_place i j in_i in_j at_i at_j ascend = elim (cases_lt i j) [
       | inl less ↦ absurd (same-name reading.members reading.said i j a b ascend reading.each less in_j at_i at_j same)
       | inr above ↦ (elim (cases_lt j i) [
-          | inl less ↦ absurd (same-name reading.members reading.said j i b a ascend reading.each less in_i at_j at_i (sym same))
-          | inr below ↦ (
-              let here : i ≡ j = omega arith in
-              sym at_i ∙ (ap (λ (k : ℕ). get_or reading.said k a) here ∙ (get_or_default reading.said j a b in_j ∙ at_j)))
-        ])
+        | inl less ↦ absurd (same-name reading.members reading.said j i b a ascend reading.each less in_i at_j at_i (sym same))
+        | inr below ↦ (
+            let here : i ≡ j = omega arith in
+            sym at_i ∙ (ap (λ (k : ℕ). get_or reading.said k a) here ∙ (get_or_default reading.said j a b in_j ∙ at_j)))
+      ])
     ]
 
 -- each entry is of a key
 pub each-key : (bytes : List ℕ) (entries : List Entry) → IsReading bytes entries → All (λ (e : Entry). IsKey e.0) entries
 each-key bytes entries reading =
     All-permutation (λ (e : Entry). IsKey e.0) reading.said entries reading.same (λ k d within.
-        let none : Member = ([], null) in
-        let size : length reading.members ≡ length reading.said = zip-length IsEntryOf reading.members reading.said reading.each in
-        let one : IsEntryOf (get_or reading.members k none) (get_or reading.said k d) = zip-at IsEntryOf reading.members reading.said k none d reading.each (omega arith) in
-        one.names.is_key)
+    let none : Member = ([], null) in
+    let size : length reading.members ≡ length reading.said = zip-length IsEntryOf reading.members reading.said reading.each in
+    let one : IsEntryOf (get_or reading.members k none) (get_or reading.said k d) = zip-at IsEntryOf reading.members reading.said k none d reading.each (omega arith) in
+    one.names.is_key)
 
 -- ---- what is refused has no reading
 

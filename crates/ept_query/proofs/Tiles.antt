@@ -1,18 +1,14 @@
 -- Why bytes are no tile of so many points.
-use Rattle.std.proofs.Common.{◌≡◌, ◌≢◌, ◌∙◌, ◌+◌, ℕ, List, [], ◌++◌, length, refl, sym, ap, subst, arith, Option, Some, None, Result, Ok, Err}
-use Rattle.ept_base.specs.Files.{Files, Tells}
+use Rattle.std.proofs.Common.{◌≡◌, ◌≢◌, ◌∙◌, ℕ, List, [], ◌++◌, length, refl, sym, ap, subst, Result, Ok, Err}
 use Rattle.ept_point.specs.declared.point.Point.{Point}
 use Rattle.ept_point.specs.declared.tile.TileError.{TileError}
 use Rattle.ept_point.specs.declared.tile.TileError.TheVariants as tile
 use Rattle.ept_point.specs.Packed.{tile as tile_of}
 use Rattle.ept_point.specs.Order.{IsAscending}
 use Rattle.ept_point.specs.Tile.{ReadsAs, AppendsReading}
-use Rattle.ept_meta.specs.Output.{tile_name}
-use Rattle.ept_space.specs.VoxelKey.{VoxelKey}
 use Rattle.ept_query.specs.declared.query_error.QueryFile.{QueryFile}
 use Rattle.ept_query.specs.Causes.{of_tile}
-use Rattle.ept_query.specs.Damage.{IsTileOf, HasTile, HasNoTile, RefusesBytes}
-use Rattle.ept_query.proofs.Readings.{some-is}
+use Rattle.ept_query.specs.Damage.{IsTileOf, RefusesBytes}
 
 -- the bytes are a tile of no so many points
 abbrev pub IsNoTile : List ℕ → ℕ → Type 0

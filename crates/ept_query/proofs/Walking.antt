@@ -1,8 +1,7 @@
 -- The walk over the hierarchy files, in key order: which were got, which are still to be got, and the counts found so far.
-use Rattle.std.proofs.Common.{◌≡◌, ◌≢◌, ◌∙◌, ◌+◌, ◌*◌, ◌<◌, ◌≤◌, ℕ, zero, suc, ℤ, List, [], ◌∷◌, ◌++◌, length, get_or, refl, sym, ap, subst, inl, inr, ◌⊎◌, ⊎_elim, arith, Option, Some, None, Ordering, Less, Equal, Greater, Bool, true, false, cond, ◌&&◌}
+use Rattle.std.proofs.Common.{◌≡◌, ◌∙◌, ◌+◌, ◌*◌, ◌<◌, ◌≤◌, ℕ, suc, List, [], ◌∷◌, ◌++◌, get_or, refl, sym, ap, subst, inl, inr, ◌⊎◌, ⊎_elim, arith, Option, Some, None, Less, Equal, Greater, Bool, true, false, ◌&&◌}
 use Rattle.std.specs.Prelude.{pos, negsuc, IsSome, nat_lt, ◌==◌, nat_le, ◌||◌}
-use Rattle.std.specs.List.{All, AllPairs, Contains}
-use Rattle.std.specs.Cmp.{IsTotalOrder}
+use Rattle.std.specs.List.{All, Contains}
 use Rattle.std.specs.Ordering.{ordering_reverse}
 use Rattle.std.proofs.lemmas.Bool.{cases_lt, false≢true}
 use Rattle.std.proofs.lemmas.Bool.Decides.{nat_tests}
@@ -14,7 +13,6 @@ use Rattle.ept_space.specs.VoxelKey.{VoxelKey, root, is_within, IsBefore, key_cm
 use Rattle.ept_space.proofs.KeyOrder.{key_cmp_total, key_cmp-less, key_cmp-before, key_cmp-same}
 use Rattle.ept_space.proofs.Within.{depth-within, is_within-unique}
 use Rattle.ept_sample.specs.Nodes.{AreAscending}
-use Rattle.ept_sample.specs.Members.{IsMember}
 use Rattle.ept_sample.proofs.Members.{IsMember-contains, contains-IsMember}
 use Rattle.ept_hier.specs.Hierarchy.{Entry, stands_in, is_link}
 use Rattle.ept_hier.specs.Reading.{IsReading}
@@ -103,9 +101,9 @@ level-once m n step depth a b c d =
     elim (cases_lt m n) [
       | inl less ↦ (let far : suc m * step ≤ n * step = mul-le-mul_right step (omega (arith, less)) in let next : suc m * step ≡ m * step + step = grind arith in absurd (omega (arith, far, next)))
       | inr above ↦ (elim (cases_lt n m) [
-          | inl less ↦ (let far : suc n * step ≤ m * step = mul-le-mul_right step (omega (arith, less)) in let next : suc n * step ≡ n * step + step = grind arith in absurd (omega (arith, far, next)))
-          | inr below ↦ omega arith
-        ])
+        | inl less ↦ (let far : suc n * step ≤ m * step = mul-le-mul_right step (omega (arith, less)) in let next : suc n * step ≡ n * step + step = grind arith in absurd (omega (arith, far, next)))
+        | inr below ↦ omega arith
+      ])
     ]
 
 module _ (search : Search) (files : Files) where
@@ -255,12 +253,12 @@ module _ (search : Search) (files : Files) where
     not-before key less = λ has.
         let below : key_cmp key top ≡ Less = key_cmp-before key top less in
         ⊎_elim (λ (same : top ≡ key). let tied : key_cmp key top ≡ Equal = key_cmp-same key top (sym same) in let wrong : Less ≡ Equal = sym below ∙ tied in absurd (cc))
-            (λ (later : Contains rest key). (
-                let up : key_cmp top key ≡ Less = All-contains (λ (k : VoxelKey). key_cmp top k ≡ Less) rest key above later in
-                let back : key_cmp key top ≡ Greater = key_cmp_total.antisymm key top ∙ ap ordering_reverse up in
-                let wrong : Less ≡ Greater = sym below ∙ back in
-                absurd (cc)))
-            (first-or key top pending rest is has)
+        (λ (later : Contains rest key). (
+        let up : key_cmp top key ≡ Less = All-contains (λ (k : VoxelKey). key_cmp top k ≡ Less) rest key above later in
+        let back : key_cmp key top ≡ Greater = key_cmp_total.antisymm key top ∙ ap ordering_reverse up in
+        let wrong : Less ≡ Greater = sym below ∙ back in
+        absurd (cc)))
+        (first-or key top pending rest is has)
 
     pub taken-below : (key : VoxelKey) → IsNeeded search files key → IsBefore key top → Contains taken key
     taken-below key (at_root meets) less = ⊎_elim (λ has. has) (λ has. absurd (not-before root less has)) (walk.start meets)
@@ -302,4 +300,3 @@ module _ (search : Search) (files : Files) where
         by_count : (o : Option ℕ) → counts key ≡ o → IsSome o → counts key ≡ Some count
         by_count None at some = absurd (false≢true some)
         by_count (Some n) at some = at ∙ ap (λ (m : ℕ). Some m) (planned-once search files key n count (walk.planned key n at) plan)
-

@@ -1,7 +1,6 @@
 -- What was written so far of the tiles of a plan.
-use Rattle.std.proofs.Common.{◌≡◌, ◌≢◌, ◌∙◌, ◌+◌, ◌-◌, ◌^◌, ◌<◌, ◌≤◌, ℕ, suc, min, List, [], ◌∷◌, ◌++◌, length, get_or, take, drop, refl, sym, ap, subst, arith, Option, Some, None, Result, Ok, Err, append_assoc, length-append}
-use Rattle.std.specs.Prelude.{IfOk, IfErr}
-use Rattle.std.specs.List.{AllZip, flat_map}
+use Rattle.std.proofs.Common.{◌≡◌, ◌∙◌, ◌+◌, ◌-◌, ◌^◌, ◌<◌, ◌≤◌, ℕ, suc, min, List, [], ◌∷◌, ◌++◌, length, take, drop, refl, sym, ap, subst, arith, Option, Some, length-append}
+use Rattle.std.specs.List.{AllZip}
 use Rattle.std.specs.Io.KnownBytes.{Appends}
 use Rattle.std.proofs.Math.Seq.{take-length, take-append-add, drop-cons}
 use Rattle.std.proofs.lemmas.List.{take_more, take_all, take-append-drop, append-nil}
@@ -18,7 +17,7 @@ use Rattle.ept_meta.specs.Output.{tile_name}
 use Rattle.ept_query.specs.declared.query_error.QueryFile.TheVariants.{BuildJson, Hierarchy, Tile}
 use Rattle.ept_query.specs.declared.query_error.QueryError.{QueryError}
 use Rattle.ept_query.specs.declared.query_error.QueryError.TheVariants.{NotComplete, StoreFault, Damaged, SinkFault, Memory}
-use Rattle.ept_query.specs.Damage.{HasTile, HasNoTile, RefusesReading}
+use Rattle.ept_query.specs.Damage.{HasTile, HasNoTile}
 use Rattle.ept_query.specs.Parts.{Plan, IsPart, IsPartOf, points_in, points_of, node_at}
 use Rattle.ept_query.specs.Writing.{WritesTile, WritesSome, LeavesTile, WritesAll, WritesFront, WritesBefore, LeavesTiles}
 use Rattle.ept_query.proofs.Told.{tells-from, told, told-back}
@@ -98,7 +97,7 @@ prefix-both a b c first second one two = (
 has-tile-back : (node : Node) (points : List Point) (old new : Files) → SameFiles old new → HasTile new node.0 node.1 points → HasTile old node.0 node.1 points
 has-tile-back node points old new same has = record { bytes = has.bytes; there = sym (same (tile_name node.0)) ∙ has.there; form = has.form }
 
-part-back : (area : Box3) (node : Node) (part : List Point) (old new : Files) → SameFiles old new → IsPart new area node part → IsPart old area node part
+pub part-back : (area : Box3) (node : Node) (part : List Point) (old new : Files) → SameFiles old new → IsPart new area node part → IsPart old area node part
 part-back area node part old new same is = record { points = is.points; has = has-tile-back node is.points old new same is.has; inside = is.inside }
 
 some-back : (area : Box3) (node : Node) (before now : Option (List ℕ)) (old new : Files) → SameFiles old new → WritesSome area node before now new → WritesSome area node before now old
@@ -107,7 +106,7 @@ some-back area node before now old new same some = record { part = some.part; is
 tile-back : (area : Box3) (node : Node) (before now : Option (List ℕ)) (count : ℕ) (old new : Files) → SameFiles old new → WritesTile area node before now count new → WritesTile area node before now count old
 tile-back area node before now count old new same one = record { part = one.part; is_part = part-back area node one.part old new same one.is_part; written = one.written; counted = one.counted }
 
-none-back : (node : Node) (old new : Files) → SameFiles old new → HasNoTile new node.0 node.1 → HasNoTile old node.0 node.1
+pub none-back : (node : Node) (old new : Files) → SameFiles old new → HasNoTile new node.0 node.1 → HasNoTile old node.0 node.1
 none-back node old new same none = λ points has. none points (has-tile-back node points new old (λ name. sym (same name)) has)
 
 module _ (plan : Plan) (number : ℕ) (within : number < length plan.tiles) (before now : Option Files) (steps : StepsBy SameFiles before now) (old mid : Option (List ℕ)) (total : ℕ) (was : (all : Files) → before ≡ Some all → AreWritten all plan.area (take number plan.tiles) old mid total) where
@@ -115,8 +114,8 @@ module _ (plan : Plan) (number : ℕ) (within : number < length plan.tiles) (bef
   pub tiles-more : (new : Option (List ℕ)) (count sum : ℕ) → Tells (WritesTile plan.area (node_at plan number) mid new count) now → sum ≡ min (total + count) (2 ^ 64 - 1) → (all : Files) → before ≡ Some all → AreWritten all plan.area (take (number + 1) plan.tiles) old new sum
   tiles-more new count sum one sums all is =
       subst (λ (w : List Node). AreWritten all plan.area w old new sum) (sym (node-next plan number within))
-          (written-more all plan.area (take number plan.tiles) (node_at plan number) old mid new total count sum (was all is)
-              (told-back (WritesTile plan.area (node_at plan number) mid new count) (tile-back plan.area (node_at plan number) mid new count) before now all is steps one) sums)
+      (written-more all plan.area (take number plan.tiles) (node_at plan number) old mid new total count sum (was all is)
+      (told-back (WritesTile plan.area (node_at plan number) mid new count) (tile-back plan.area (node_at plan number) mid new count) before now all is steps one) sums)
 
   stops : (new : Option (List ℕ)) → new ≡ mid → Tells (WritesFront plan old new) before
   stops new same = tells-from (WritesFront plan old new) before (λ all is. (

@@ -16,7 +16,7 @@ use Rattle.ept_query.specs.declared.query_error.QueryError.{QueryError}
 use Rattle.ept_query.specs.declared.query_error.QueryError.TheVariants.{NotComplete, StoreFault, Damaged, SinkFault, Memory}
 use Rattle.ept_query.specs.Search.{search_of}
 use Rattle.ept_query.specs.Hierarchies.{HasHierarchy, HasNoHierarchy}
-use Rattle.ept_query.specs.Plan.{IsBuiltWith, IsNeeded, EachIsThere, IsPlanned}
+use Rattle.ept_query.specs.Plan.{IsBuiltWith, HasBuild, IsNeeded, EachIsThere, IsPlanned}
 
 -- ---- which file is damaged
 
@@ -54,13 +54,13 @@ pub record IsFirstTile (search : Search) (files : Files) (key : VoxelKey) : Type
   pub damaged : HasNoTile files key count
   pub first : (other : VoxelKey) (n : ℕ) → IsPlanned search files other n → IsBefore other key → (points : List Point) × HasTile files other n points
 
--- the first of the files that is damaged: the build file, else a hierarchy file, else a tile
+-- the first of the files that is damaged: the build file, else a hierarchy file of the octree that it tells, else a tile
 abbrev pub IsFirstDamaged : Box3 → ℕ → ℕ → QueryFile → Files → Type 0
 IsFirstDamaged area first last BuildJson files = HasNoBuild files
 IsFirstDamaged area first last (Hierarchy key) files =
-    (kept : Kept) × IsBuiltWith files kept × IsFirstHierarchy (search_of kept area first last) files key
+    HasBuild files × ((kept : Kept) → IsBuiltWith files kept → IsFirstHierarchy (search_of kept area first last) files key)
 IsFirstDamaged area first last (Tile key) files =
-    (kept : Kept) × IsBuiltWith files kept × IsFirstTile (search_of kept area first last) files key
+    HasBuild files × ((kept : Kept) → IsBuiltWith files kept → IsFirstTile (search_of kept area first last) files key)
 
 -- ---- why a file is not read
 

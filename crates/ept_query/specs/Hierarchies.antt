@@ -1,6 +1,6 @@
 -- The hierarchy files of a folder (Entwine Point Tile 1.1.0, "ept-hierarchy"): which one is of its form, and what it
 -- has.
-use Rattle.std.specs.Prelude.{◌≡◌, ◌≢◌, ℕ, ◌≤◌, ◌↔◌, ℤ, negsuc, List, All, Some, IsTrue}
+use Rattle.std.specs.Prelude.{◌≡◌, ◌≢◌, ℕ, ◌≤◌, ◌↔◌, negsuc, List, All, Some, IsTrue}
 use Rattle.std.specs.List.{Any}
 use Rattle.ept_base.specs.Files.{Files}
 use Rattle.ept_space.specs.VoxelKey.{VoxelKey}

@@ -7,3 +7,7 @@ pub mod Damage
 pub mod Walk
 pub mod Parts
 pub mod Writing
+pub mod Refusals
+pub mod Planning
+pub mod Answers
+pub mod Complete

@@ -6,7 +6,7 @@ use Rattle.ept_point.specs.declared.point.Point.{Point}
 use Rattle.ept_point.specs.Packed.{tile}
 use Rattle.ept_point.specs.Order.{IsAscending}
 use Rattle.ept_space.specs.declared.box3.Box3.{Box3}
-use Rattle.ept_space.specs.VoxelKey.{VoxelKey, root}
+use Rattle.ept_space.specs.VoxelKey.{root}
 use Rattle.ept_hier.specs.Hierarchy.{Node}
 use Rattle.ept_meta.specs.Output.{tile_name}
 use Rattle.ept_query.specs.Rows.{is_inside}

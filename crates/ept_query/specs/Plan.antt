@@ -1,5 +1,5 @@
 -- Which files of a folder a query reads. The folder may hold anything.
-use Rattle.std.specs.Prelude.{◌≡◌, ℕ, ◌↔◌, pos, negsuc, List, map, Contains, Some}
+use Rattle.std.specs.Prelude.{◌≡◌, ℕ, ◌↔◌, pos, negsuc, List, Contains, Some}
 use Rattle.ept_base.specs.Files.{Files}
 use Rattle.ept_space.specs.VoxelKey.{VoxelKey, root}
 use Rattle.ept_sample.specs.Nodes.{AreAscending}
@@ -14,6 +14,10 @@ use Rattle.ept_query.specs.Hierarchies.{HasHierarchy}
 -- the build file of the folder tells what its output depends on
 abbrev pub IsBuiltWith : Files → Kept → Type 0
 IsBuiltWith files kept = files build_file_name ≡ Some (build_text kept)
+
+-- the build file is there and of its form
+abbrev pub HasBuild : Files → Type 0
+HasBuild files = (kept : Kept) × IsBuiltWith files kept
 
 -- The hierarchy file of a key is needed: it is the root's, or a needed file of its form has a link to it; and the box of
 -- the key meets the area.

@@ -1,5 +1,5 @@
 -- The points of a dataset that a query asks for.
-use Rattle.std.specs.Prelude.{◌≡◌, ℕ, ℤ, Bool, ◌&&◌, nat_le, List, map, filter}
+use Rattle.std.specs.Prelude.{ℕ, ℤ, Bool, ◌&&◌, nat_le, List, map, filter}
 use Rattle.std.specs.List.{flat_map}
 use Rattle.std.specs.Int.Signed.{le_z}
 use Rattle.ept_point.specs.declared.point.Point.{Point}

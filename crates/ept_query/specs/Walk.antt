@@ -1,5 +1,5 @@
 -- What is noted of the entries of a hierarchy file, on the walk from file to file.
-use Rattle.std.specs.Prelude.{◌≡◌, ◌⊎◌, ℕ, ℤ, pos, negsuc, List, Contains, Option, Some, IsSome}
+use Rattle.std.specs.Prelude.{◌≡◌, ◌⊎◌, ℕ, pos, negsuc, List, Contains, Option, Some, IsSome}
 use Rattle.ept_base.specs.Files.{Files}
 use Rattle.ept_space.specs.VoxelKey.{VoxelKey}
 use Rattle.ept_hier.specs.Hierarchy.{Entry}

@@ -1,5 +1,5 @@
 -- What a query writes: the packed points of the parts of tiles, one after another. The folder may hold anything.
-use Rattle.std.specs.Prelude.{◌≡◌, ℕ, ◌-◌, ◌^◌, min, ⊤, List, ◌∷◌, ◌++◌, length, Option}
+use Rattle.std.specs.Prelude.{◌≡◌, ℕ, ◌-◌, ◌^◌, min, List, ◌∷◌, ◌++◌, length, Option}
 use Rattle.std.specs.List.{AllZip}
 use Rattle.std.specs.Io.KnownBytes.{Appends}
 use Rattle.ept_base.specs.Devices.{AppendsPrefix}

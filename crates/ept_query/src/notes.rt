@@ -28,11 +28,7 @@ pub(crate) fn note_links(
 }
 
 // Notes an entry if it is a link whose box meets the area.
-fn note_link(
-    search: &Search,
-    entry: &(Key, i64),
-    pending: &mut BTreeSet<Key>,
-) -> Result<(), Memory>
+fn note_link(search: &Search, entry: &(Key, i64), pending: &mut BTreeSet<Key>) -> Result<(), Memory>
     requires { entry.now.0.depth ≤ search.now.cube.depth }
     ensures links { OnOk result (NotesLinks search.now (entry.now ∷ []) pending.old.keys pending.new.keys) }
     ensures are_keys { OnOk result (All IsKey pending.old.keys → All IsKey pending.new.keys) }

@@ -23,7 +23,7 @@ impl Search {
         ensures { result ≡ search_of kept.now area.now depths.0 depths.1 }
     {
         Search {
-            cube: Cube::of(&kept.bounds, kept.s, kept.max_depth).unwrap(),
+            cube: Cube::over(&kept.bounds, kept.s, kept.max_depth),
             step: kept.step,
             area: *area,
             first: depths.0,

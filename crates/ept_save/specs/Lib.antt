@@ -8,3 +8,4 @@ pub mod Stored
 pub mod Opening
 pub mod Done
 pub mod Loading
+pub mod Complete

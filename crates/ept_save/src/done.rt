@@ -2,8 +2,9 @@
 
 ghost use Rattle.std.specs.Prelude.{◌≡◌, ◌↔◌, Some, IsTrue, IfOk, IfErr, OnOk};
 ghost use Rattle.ept_base.specs.Causes.{HasCauseOf};
+ghost use Rattle.ept_base.specs.Devices.{counts_on};
 ghost use Rattle.ept_base.specs.Files.{Files, SameFiles, SameBut, Tells};
-ghost use Rattle.ept_base.specs.Moves.{Moves, IsSettled};
+ghost use Rattle.ept_base.specs.Moves.{Moves, SameImages, IsSettled};
 ghost use Rattle.ept_save.specs.Names.{done_name};
 ghost use Rattle.ept_save.specs.Done.{IsDone, IsGuarded, Guards};
 ghost use Rattle.ept_save.specs.Errors.{IsStores};
@@ -16,9 +17,11 @@ use crate::names::DONE;
 use ept_base::{Store, put_kept};
 use std::alloc::Global;
 
-/// Whether the output is whole: whether the done gate is open. Nothing is put.
+/// Whether the output is whole: whether the done gate is open. One file is read, and nothing is put.
 pub fn is_done<T: Store>(alloc: Global, store: &mut T) -> Result<bool, SaveError>
     ensures done { IfOk result (λ done. Tells (λ all. IsTrue done ↔ IsDone all) (T.files store.old)) }
+    ensures counted { T.gets store.new ≡ counts_on (T.gets store.old) 1 }
+    ensures images { SameImages (T.may_leave store.old) (T.may_leave store.new) }
     ensures any_moment { Moves T.files T.may_leave T.moment T.image_since SameFiles store.old store.new }
     ensures stands { (v : view.View) → StandsFor v (T.files store.old) (T.may_leave store.old)
         → StandsFor v (T.files store.new) (T.may_leave store.new) }

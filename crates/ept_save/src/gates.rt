@@ -2,6 +2,7 @@
 
 ghost use Rattle.std.specs.Prelude.{◌≡◌, ◌↔◌, ℕ, Some, IfOk, IfErr, OnOk, IsTrue};
 ghost use Rattle.ept_base.specs.Causes.{HasCauseOf};
+ghost use Rattle.ept_base.specs.Devices.{counts_on};
 ghost use Rattle.ept_base.specs.Files.{Files, SameFiles, SameBut, Tells, StepsBy};
 ghost use Rattle.ept_base.specs.Moves.{Elapses, Moves, SameImages, IsSettled};
 ghost use Rattle.ept_save.specs.Gates.{IsOpen};
@@ -17,6 +18,7 @@ pub(crate) fn is_open<T: Store>(alloc: Global, store: &mut T, name: &str) -> Res
     ensures reads { StepsBy SameFiles (T.files store.old) (T.files store.new) }
     ensures images { SameImages (T.may_leave store.old) (T.may_leave store.new) }
     ensures time { Elapses (T.moment store.old) (T.moment store.new) (T.image_since store.old) (T.image_since store.new) (T.may_leave store.new) }
+    ensures counted { T.gets store.new ≡ counts_on (T.gets store.old) 1 }
     ensures only { IfErr result IsStores }
     ensures cause { HasCauseOf SaveError.StoreFault (T.faults store.old) (T.faults store.new) result }
 {

@@ -1,5 +1,5 @@
-use Rattle.std.proofs.Common.{◌≡◌, ◌+◌, ◌≤◌, ℕ, List, [], ◌∷◌, ◌++◌, length, length-append, sym, ap, subst, arith, Option}
-use Rattle.std.specs.List.{All, Contains}
+use Rattle.std.proofs.Common.{◌≡◌, List, [], ◌∷◌, ◌++◌, length-append, sym, ap, subst, arith, Option}
+use Rattle.std.specs.List.{All}
 use Rattle.std.specs.BTreeMap.{get, is_at}
 use Rattle.std.specs.Map.{lookup}
 use Rattle.std.proofs.lemmas.List.Elements.{All-head, All-rest, All-same}
@@ -11,11 +11,10 @@ use Rattle.ept_space.specs.VoxelKey.{VoxelKey, IsKey, key_cmp}
 use Rattle.ept_hier.specs.Hierarchy.{Node, keys_of}
 use Rattle.ept_sample.specs.Nodes.{AreAscending}
 use Rattle.ept_query.specs.Plan.{EachIsThere, IsPlan}
-use Rattle.ept_query.specs.Hierarchies.{HasNoHierarchy}
 use Rattle.ept_query.specs.Walk.{NotesFile}
 use Rattle.ept_query.proofs.Counting.{left-falls}
 use Rattle.ept_query.proofs.Told.{tells-from, told-back, same-none, same-twice}
-use Rattle.ept_query.proofs.Walking.{IsWalk, walk-begun, walk-more, walk-first, taken-ascend, taken-needed, each-there}
+use Rattle.ept_query.proofs.Walking.{walk-begun, walk-more, walk-first, taken-ascend, taken-needed, each-there}
 use Rattle.ept_query.proofs.Plans.{noted-back, walk-refuses, gets-fewer, plan-listed, ok-both, nothing-left}
 use Rattle.ept_query.proofs.walk.tiles_of.Goals as goal
 
@@ -61,12 +60,12 @@ returns-in_err-note_file-clause-refused g c =
 pub returns-in_err-note_file-clause-gets : goal.returns-in_err-note_file-clause-gets
 returns-in_err-note_file-clause-gets g c =
     gets-fewer c.args.search.now (g.T.Store.files c.args.store.now) (g.T.Store.gets c.args.store.now) (g.T.Store.gets c.note_file.new.store) (λ all is. (
-        let w = c.loop-top.invariant.walk all is in (
-          w.0 ++ c.in-Some.top ∷ [],
-          taken-ascend c.args.search.now all w.0 c.loop-top.pending.keys c.pop_first.new.self.keys c.in-Some.top (get key_cmp c.loop-top.tiles) w.1 c.in-Some.ensures.removal c.in-Some.ensures.all_above,
-          taken-needed c.args.search.now all w.0 c.loop-top.pending.keys c.pop_first.new.self.keys c.in-Some.top (get key_cmp c.loop-top.tiles) w.1 c.in-Some.ensures.removal c.in-Some.ensures.all_above,
-          (let one = c.note_file.ensures.gets in let most = w.2 in let size = length-append w.0 (c.in-Some.top ∷ []) in omega (arith, one, most, size)),
-        )))
+    let w = c.loop-top.invariant.walk all is in (
+      w.0 ++ c.in-Some.top ∷ [],
+      taken-ascend c.args.search.now all w.0 c.loop-top.pending.keys c.pop_first.new.self.keys c.in-Some.top (get key_cmp c.loop-top.tiles) w.1 c.in-Some.ensures.removal c.in-Some.ensures.all_above,
+      taken-needed c.args.search.now all w.0 c.loop-top.pending.keys c.pop_first.new.self.keys c.in-Some.top (get key_cmp c.loop-top.tiles) w.1 c.in-Some.ensures.removal c.in-Some.ensures.all_above,
+      (let one = c.note_file.ensures.gets in let most = w.2 in let size = length-append w.0 (c.in-Some.top ∷ []) in omega (arith, one, most, size)),
+    )))
 
 pub returns-in_err-note_file-clause-any_moment : goal.returns-in_err-note_file-clause-any_moment
 returns-in_err-note_file-clause-any_moment g c =
@@ -77,10 +76,10 @@ returns-clause-plan g c =
     let none : c.loop-top.pending.keys ≡ [] = nothing-left c.loop-top.pending.keys (λ some. false≢true (subst (λ (o : Option VoxelKey). IsSome o) c.in_default.is (c.pop_first.ensures.variant.1 some))) in
     ok-both (λ v. v.items ≡ c.loop-top.tiles.entries) (λ v. AreAscending (keys_of v.items)) (λ v. Tells (λ all. EachIsThere c.args.search.now all × IsPlan c.args.search.now all v.items) (g.T.Store.files c.args.store.now)) c.listed.result
     (λ v same ascend. tells-from (λ all. EachIsThere c.args.search.now all × IsPlan c.args.search.now all v.items) (g.T.Store.files c.args.store.now) (λ all is. (
-        let w = c.loop-top.invariant.walk all is in (
-          each-there c.args.search.now all w.0 c.loop-top.pending.keys (get key_cmp c.loop-top.tiles) w.1 none,
-          plan-listed c.args.search.now all w.0 c.loop-top.pending.keys c.loop-top.tiles v.items w.1 none same ascend,
-        ))))
+    let w = c.loop-top.invariant.walk all is in (
+      each-there c.args.search.now all w.0 c.loop-top.pending.keys (get key_cmp c.loop-top.tiles) w.1 none,
+      plan-listed c.args.search.now all w.0 c.loop-top.pending.keys c.loop-top.tiles v.items w.1 none same ascend,
+    ))))
     c.listed.ensures.same c.listed.ensures.ascend
 
 pub returns-clause-gets : goal.returns-clause-gets

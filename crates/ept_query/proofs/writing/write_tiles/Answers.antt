@@ -1,7 +1,7 @@
 use Rattle.std.proofs.Common.{arith}
 use Rattle.std.proofs.lemmas.Result.{err_from_is_err_and}
 use Rattle.ept_query.proofs.Told.{same-twice}
-use Rattle.ept_query.proofs.Written.{written-none, tiles-more, leaves-tiles, tiles-all}
+use Rattle.ept_query.proofs.Written.{tiles-more, leaves-tiles, tiles-all}
 use Rattle.ept_query.proofs.writing.write_tiles.Goals as goal
 
 pub returns-in_err-count-clause-leaves : goal.returns-in_err-count-clause-leaves
