@@ -4,6 +4,8 @@ use Rattle.std.specs.Prelude.{All, option_map}
 use Rattle.std.specs.Ordering.{is_lt}
 use Rattle.ept_space.specs.VoxelKey.{VoxelKey, IsKey, key_cmp}
 use Rattle.ept_space.proofs.KeyOrder.{key_cmp-same}
+use Rattle.ept_config.specs.declared.kept.Kept.{Kept}
+use Rattle.ept_config.specs.declared.source_count.SourceCount.{SourceCount}
 use Rattle.ept_ckpt.specs.declared.letter.Letter.{Letter}
 use Rattle.ept_ckpt.specs.declared.node_line.NodeLine.{NodeLine}
 use Rattle.ept_ckpt.specs.declared.checkpoint.Checkpoint.{Checkpoint}
@@ -84,3 +86,11 @@ next-valid (Some (letter, d)) c line new lines is lines_are only ripe key count 
     let one = one_of letter c d lines (some_same d c is) lines_are in
     subst (λ (n : ℕ). IsCheckpoint n c.kept c.counts c.inserted (with_line new lines)) (sym one.0)
     (subst (λ (w : List NodeLine). IsCheckpoint (c.generation + 1) c.kept c.counts c.inserted (with_line new w)) (sym one.1) (next c line new only ripe key count mask))
+
+-- it is the same of what is the same
+pub valid-same : (current current' : Current) (kept kept' : Kept) (counts counts' : List SourceCount) (inserted : ℕ) (lines lines' : List NodeLine) → current' ≡ current → kept' ≡ kept → counts' ≡ counts → lines' ≡ lines → IsCheckpoint (next_generation current) kept counts inserted lines → IsCheckpoint (next_generation current') kept' counts' inserted lines'
+valid-same current current' kept kept' counts counts' inserted lines lines' a b c d valid =
+    subst (λ (w : Current). IsCheckpoint (next_generation w) kept' counts' inserted lines') (sym a)
+    (subst (λ (k : Kept). IsCheckpoint (next_generation current) k counts' inserted lines') (sym b)
+    (subst (λ (w : List SourceCount). IsCheckpoint (next_generation current) kept w inserted lines') (sym c)
+    (subst (λ (w : List NodeLine). IsCheckpoint (next_generation current) kept counts inserted w) (sym d) valid)))

@@ -1,10 +1,13 @@
 //! Stores that stop at each call, and what each kind of crash leaves of them.
 
-ghost use Rattle.std.specs.Prelude.{◌≡◌};
+ghost use Rattle.std.specs.Prelude.{◌≡◌, ◌≤◌, ◌∷◌, []};
+ghost use Rattle.std.specs.Option.{ForSome};
+ghost use Rattle.ept_space.specs.VoxelKey.{root};
 ghost use Rattle.ept_save.specs.Opening.{lines_of};
 
 use super::*;
 use crate::tests::{file, packed_body, point};
+use ept_ckpt::{Checkpoint, NodeLine};
 use ept_mem::{Crash, MemStore};
 use ept_point::{Point, tile_bytes};
 use ept_space::Key;
@@ -45,6 +48,23 @@ fn root_points(
     Ok(Some(points))
 }
 
+// The line of the root, where it is the only node and has so many points, and where one more commit may follow
+// that brings no point.
+fn only_root(checkpoint: &Checkpoint, points: u64) -> Option<NodeLine>
+    ensures { ForSome result (λ line. (checkpoint.now.nodes ≡ line ∷ [])
+        × (checkpoint.now.generation ≤ checkpoint.now.inserted) × (line.key ≡ root) × (line.count ≡ points)) }
+{
+    let [line] = checkpoint.nodes.as_slice() else {
+        return None;
+    };
+    let fits = line.key == Key::ROOT && line.count == points;
+    if fits && checkpoint.generation <= checkpoint.inserted {
+        Some(*line)
+    } else {
+        None
+    }
+}
+
 // Commits the next checkpoint, whose root has these points, where it is the only node and has as many as in
 // the current one.
 fn commit_root(
@@ -58,14 +78,9 @@ fn commit_root(
     let Some(checkpoint) = saved.current() else {
         return Ok(());
     };
-    let [line] = checkpoint.nodes.as_slice() else {
+    let Some(line) = only_root(checkpoint, points.len() as u64) else {
         return Ok(());
     };
-    let line = *line;
-    let is_full = checkpoint.generation > checkpoint.inserted;
-    if is_full || line.key != Key::ROOT || line.count != points.len() as u64 {
-        return Ok(());
-    }
     let kept = checkpoint.kept.copy(alloc)?;
     let counts = Vec::from_slice(alloc, checkpoint.counts.as_slice())?;
     let inserted = checkpoint.inserted;

@@ -41,6 +41,14 @@ fn loaded(alloc: Global, tile: Option<&[u8]>) -> Result<Result<(usize, u64), Sav
     }
 }
 
+// All of these bytes but the last one.
+fn without_end(bytes: &[u8]) -> &[u8] {
+    match bytes.split_last() {
+        Some((_, front)) => front,
+        None => bytes,
+    }
+}
+
 #[test]
 fn a_root_is_loaded_and_a_damaged_one_is_told(rt: HostRuntime) -> Result<(), Fail> {
     let alloc = rt.alloc();
@@ -50,7 +58,7 @@ fn a_root_is_loaded_and_a_damaged_one_is_told(rt: HostRuntime) -> Result<(), Fai
     let damaged = Err(SaveError::TileDamaged { key: Key::ROOT });
     assert_eq!(rt; loaded(alloc, None)?, damaged, "it is absent");
     assert_eq!(rt;
-        loaded(alloc, Some(&tile[..tile.len() - 1]))?,
+        loaded(alloc, Some(without_end(&tile)))?,
         damaged,
         "it is cut by one byte"
     );
@@ -80,7 +88,7 @@ fn a_body_that_is_cut_or_of_another_version_is_told(rt: HostRuntime) -> Result<(
     let alloc = rt.alloc();
     let body = packed_body(alloc, 1, 2)?;
     let bad = Some(SaveError::BadCheckpoint { letter: Letter::A });
-    let mut cut = store_of(alloc, &body[..body.len() - 1], None)?;
+    let mut cut = store_of(alloc, without_end(&body), None)?;
     assert_eq!(rt; open(alloc, &mut cut).err(), bad);
     let mut other = packed_body(alloc, 1, 2)?;
     if let Some(byte) = other.get_mut(0) {
