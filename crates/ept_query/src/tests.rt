@@ -1,6 +1,7 @@
 //! Queries over folders in memory, whose files are written out by hand.
 
 use crate::{QueryError, QueryFile, query, query_plan, query_tile};
+use ept_base::Store;
 use ept_mem::{MemSink, MemStore};
 use ept_space::{Box3, Key};
 use std::alloc::{AllocError, Global};
@@ -147,7 +148,7 @@ fn expect_refusal(
     rt: &impl Abort,
     alloc: Global,
     files: &[File],
-    want: (QueryError, usize),
+    want: &(QueryError, usize),
 ) -> Result<(), AllocError> {
     let mut store = store_of(alloc, files)?;
     let mut out = sink(alloc);
@@ -172,58 +173,74 @@ const TOP: File<'static> = (
 
 const LOW: File<'static> = ("ept-hierarchy/1-0-0-0.json", br#"{"1-0-0-0":1}"#);
 
+const ONES: File<'static> = ("ept-work/done", &[1, 1]);
+
+const WRONG: File<'static> = ("ept-build.json", b"{}");
+
+const UNLINKED: File<'static> = (
+    "ept-hierarchy/0-0-0-0.json",
+    br#"{"0-0-0-0":1,"1-0-0-0":1}"#,
+);
+
 #[test]
 fn a_gate_that_is_shut_is_told(rt: HostRuntime) -> Result<(), Fail> {
     let alloc = rt.alloc();
     let want = (QueryError::NotComplete, 0);
-    expect_refusal(&rt, alloc, &[], want)?;
-    expect_refusal(&rt, alloc, &[SHUT, LINKED_BUILD, TOP, LOW], want)?;
-    expect_refusal(
-        &rt,
-        alloc,
-        &[("ept-work/done", &[1, 1]), LINKED_BUILD],
-        want,
-    )?;
+    expect_refusal(&rt, alloc, &[], &want)?;
+    expect_refusal(&rt, alloc, &[SHUT, LINKED_BUILD, TOP, LOW], &want)?;
+    expect_refusal(&rt, alloc, &[ONES, LINKED_BUILD], &want)?;
     Ok(())
 }
 
 #[test]
 fn the_first_damaged_file_is_told(rt: HostRuntime) -> Result<(), Fail> {
     let alloc = rt.alloc();
-    let zero = packed(1, 0);
-    let one = packed(3, 1);
-    let first: File = ("ept-data/0-0-0-0.bin", &zero);
-    let cut: File = ("ept-data/1-0-0-0.bin", &one[1..]);
-    let none: File = ("ept-data/1-0-0-0.bin", &[]);
-    let wrong: File = ("ept-build.json", b"{}");
-    let unlinked: File = (
-        "ept-hierarchy/0-0-0-0.json",
-        br#"{"0-0-0-0":1,"1-0-0-0":1}"#,
-    );
     let build = (damaged(QueryFile::BuildJson), 0);
     let top = (damaged(QueryFile::Hierarchy(Key::ROOT)), 0);
     let low = (damaged(QueryFile::Hierarchy(BELOW)), 0);
     let root = (damaged(QueryFile::Tile(Key::ROOT)), 0);
+    expect_refusal(&rt, alloc, &[OPEN, TOP, LOW], &build)?;
+    expect_refusal(&rt, alloc, &[OPEN, WRONG], &build)?;
+    expect_refusal(&rt, alloc, &[OPEN, LINKED_BUILD], &top)?;
+    expect_refusal(&rt, alloc, &[OPEN, LINKED_BUILD, UNLINKED], &top)?;
+    expect_refusal(&rt, alloc, &[OPEN, LINKED_BUILD, TOP], &low)?;
+    expect_refusal(&rt, alloc, &[OPEN, LINKED_BUILD, TOP, LOW], &root)?;
+    Ok(())
+}
+
+#[test]
+fn of_a_damaged_tile_nothing_is_written(rt: HostRuntime) -> Result<(), Fail> {
+    let alloc = rt.alloc();
     let below = (damaged(QueryFile::Tile(BELOW)), 49);
-    expect_refusal(&rt, alloc, &[OPEN, TOP, LOW, first], build)?;
-    expect_refusal(&rt, alloc, &[OPEN, wrong], build)?;
-    expect_refusal(&rt, alloc, &[OPEN, LINKED_BUILD], top)?;
-    expect_refusal(&rt, alloc, &[OPEN, LINKED_BUILD, unlinked], top)?;
-    expect_refusal(&rt, alloc, &[OPEN, LINKED_BUILD, TOP, first], low)?;
-    expect_refusal(&rt, alloc, &[OPEN, LINKED_BUILD, TOP, LOW], root)?;
-    expect_refusal(&rt, alloc, &[OPEN, LINKED_BUILD, TOP, LOW, first], below)?;
-    expect_refusal(
-        &rt,
-        alloc,
-        &[OPEN, LINKED_BUILD, TOP, LOW, first, none],
-        below,
-    )?;
-    expect_refusal(
-        &rt,
-        alloc,
-        &[OPEN, LINKED_BUILD, TOP, LOW, first, cut],
-        below,
-    )?;
+    let zero = packed(1, 0);
+    let tile = zero.as_slice();
+    let one = packed(3, 1);
+    expect_tile(&rt, alloc, tile, None, &below)?;
+    expect_tile(&rt, alloc, tile, Some(b"".as_slice()), &below)?;
+    expect_tile(&rt, alloc, tile, Some(&one[1..]), &below)?;
+    Ok(())
+}
+
+// Asks a folder of two tiles, of which the second may be absent.
+fn expect_tile(
+    rt: &impl Abort,
+    alloc: Global,
+    first: &[u8],
+    second: Option<&[u8]>,
+    want: &(QueryError, usize),
+) -> Result<(), AllocError> {
+    let mut store = store_of(alloc, &[OPEN, LINKED_BUILD, TOP, LOW])?;
+    let mut puts = store.put("ept-data/0-0-0-0.bin", first).is_ok();
+    if let Some(second) = second {
+        puts = puts && store.put("ept-data/1-0-0-0.bin", second).is_ok();
+    }
+    if !puts {
+        return Err(AllocError);
+    }
+    let mut out = sink(alloc);
+    let found = query(alloc, &mut store, &cube(0, 7), (0, 2), &mut out);
+    assert_eq!(rt; found, Err(want.0));
+    assert_eq!(rt; out.bytes().len(), want.1);
     Ok(())
 }
 
