@@ -1,30 +1,38 @@
 //! Queries over folders in memory, whose files are written out by hand.
 
 use crate::{QueryError, QueryFile, query, query_plan, query_tile};
+use ept_base::Store;
 use ept_mem::{MemSink, MemStore};
 use ept_space::{Box3, Key};
 use std::alloc::{AllocError, Global};
+use std::process::Abort;
 use std::test::Fail;
 
 // A file of a folder.
 type File<'a> = (&'a str, &'a [u8]);
 
 // The build file of points within 0 to 7, two cells an axis, whose hierarchy is one file.
-const BUILD: &str =
-    r#"{"scale":2,"offset":[0,0,0],"bounds":[0,0,0,7,7,7],"span":2,"minNodeSize":0,"maxDepth":32,"hierarchyStep":0,"srs":{},"input":[{"path":"a.las","scale":2,"shift":[0,0,0]}]}"#;
+const BUILD: &[u8] =
+    br#"{"scale":2,"offset":[0,0,0],"bounds":[0,0,0,7,7,7],"span":2,"minNodeSize":0,"maxDepth":32,"hierarchyStep":0,"srs":{},"input":[{"path":"a.las","scale":2,"shift":[0,0,0]}]}"#;
 
 // The same with a hierarchy file for each node.
-const LINKED: &str =
-    r#"{"scale":2,"offset":[0,0,0],"bounds":[0,0,0,7,7,7],"span":2,"minNodeSize":0,"maxDepth":32,"hierarchyStep":1,"srs":{},"input":[{"path":"a.las","scale":2,"shift":[0,0,0]}]}"#;
+const LINKED: &[u8] =
+    br#"{"scale":2,"offset":[0,0,0],"bounds":[0,0,0,7,7,7],"span":2,"minNodeSize":0,"maxDepth":32,"hierarchyStep":1,"srs":{},"input":[{"path":"a.las","scale":2,"shift":[0,0,0]}]}"#;
 
 const OPEN: File<'static> = ("ept-work/done", &[1]);
 
-// The packed point of that number of the first input, at a place on the diagonal, all other fields 0.
-const fn packed(place: u8, number: u8) -> [u8; 49] {
+// The packed point of that number of the first input, at a place, all other fields 0.
+const fn packed_at(place: [u8; 3], number: u8) -> [u8; 49] {
+    let [x, y, z] = place;
     [
-        place, 0, 0, 0, place, 0, 0, 0, place, 0, 0, 0, 0, 0, 0, 0, 0, 0, 0, 0, 0, 0, 0, 0, 0, 0,
-        0, 0, 0, 0, 0, 0, 0, 0, 0, 0, 0, 0, 0, 0, 0, 0, 0, 0, 0, number, 0, 0, 0,
+        x, 0, 0, 0, y, 0, 0, 0, z, 0, 0, 0, 0, 0, 0, 0, 0, 0, 0, 0, 0, 0, 0, 0, 0, 0, 0, 0, 0, 0,
+        0, 0, 0, 0, 0, 0, 0, 0, 0, 0, 0, 0, 0, 0, 0, number, 0, 0, 0,
     ]
+}
+
+// The same at a place on the diagonal.
+const fn packed(place: u8, number: u8) -> [u8; 49] {
+    packed_at([place, place, place], number)
 }
 
 fn store_of(alloc: Global, files: &[File]) -> Result<MemStore, AllocError> {
@@ -60,6 +68,19 @@ const BELOW: Key = Key {
     z: 0,
 };
 
+// A question on a folder of two points: the least and the greatest coordinate of a box on the diagonal, the
+// depths, and the place and number of each point that is answered.
+type Asked = ((i64, i64), (u8, u8), &'static [(u8, u8)]);
+
+const ASKED: [Asked; 6] = [
+    ((3, 3), (0, 2), &[(3, 1)]),
+    ((3, 3), (0, 0), &[]),
+    ((0, 3), (0, 2), &[(1, 0), (3, 1)]),
+    ((0, 2), (0, 2), &[(1, 0)]),
+    ((0, 3), (1, 1), &[(3, 1)]),
+    ((100, 101), (0, 2), &[]),
+];
+
 #[test]
 fn the_points_of_a_box_and_of_depths_are_answered(rt: HostRuntime) -> Result<(), Fail> {
     let alloc = rt.alloc();
@@ -67,7 +88,7 @@ fn the_points_of_a_box_and_of_depths_are_answered(rt: HostRuntime) -> Result<(),
     let one = packed(3, 1);
     let files = [
         OPEN,
-        ("ept-build.json", BUILD.as_bytes()),
+        ("ept-build.json", BUILD),
         (
             "ept-hierarchy/0-0-0-0.json",
             br#"{"0-0-0-0":1,"1-0-0-0":1}"#,
@@ -75,22 +96,14 @@ fn the_points_of_a_box_and_of_depths_are_answered(rt: HostRuntime) -> Result<(),
         ("ept-data/0-0-0-0.bin", &zero),
         ("ept-data/1-0-0-0.bin", &one),
     ];
-    let table: [(Box3, (u8, u8), &[&[u8]]); 6] = [
-        (cube(3, 3), (0, 2), &[&one]),
-        (cube(3, 3), (0, 0), &[]),
-        (cube(0, 3), (0, 2), &[&zero, &one]),
-        (cube(0, 2), (0, 2), &[&zero]),
-        (cube(0, 3), (1, 1), &[&one]),
-        (cube(100, 101), (0, 2), &[]),
-    ];
-    for (area, depths, expected) in table {
+    for ((least, greatest), depths, expected) in ASKED {
         let mut store = store_of(alloc, &files)?;
         let mut out = sink(alloc);
-        let count = query(alloc, &mut store, &area, depths, &mut out);
+        let count = query(alloc, &mut store, &cube(least, greatest), depths, &mut out);
         assert_eq!(rt; count, Ok(expected.len() as u64));
         let mut bytes = Vec::new(alloc);
-        for point in expected {
-            bytes.extend_from_slice(point)?;
+        for (place, number) in expected {
+            bytes.extend_from_slice(&packed(*place, *number))?;
         }
         assert_eq!(rt; out.bytes(), bytes.as_slice());
     }
@@ -106,7 +119,7 @@ fn a_plan_has_the_keys_in_order_and_its_tiles_their_points(rt: HostRuntime) -> R
         alloc,
         &[
             OPEN,
-            ("ept-build.json", LINKED.as_bytes()),
+            ("ept-build.json", LINKED),
             (
                 "ept-hierarchy/0-0-0-0.json",
                 br#"{"0-0-0-0":1,"1-0-0-0":-1}"#,
@@ -130,97 +143,104 @@ fn a_plan_has_the_keys_in_order_and_its_tiles_their_points(rt: HostRuntime) -> R
     Ok(())
 }
 
-// What is refused, and how many bytes were written before.
-type Refused = (QueryError, usize);
-
-fn refusal(alloc: Global, files: &[File]) -> Result<Option<Refused>, AllocError> {
+// Asks a folder for all its points, which is refused so after so many bytes.
+fn expect_refusal(
+    rt: &impl Abort,
+    alloc: Global,
+    files: &[File],
+    want: &(QueryError, usize),
+) -> Result<(), AllocError> {
     let mut store = store_of(alloc, files)?;
     let mut out = sink(alloc);
     let found = query(alloc, &mut store, &cube(0, 7), (0, 2), &mut out);
-    Ok(found.err().map(|error| (error, out.bytes().len())))
+    assert_eq!(rt; found, Err(want.0));
+    assert_eq!(rt; out.bytes().len(), want.1);
+    Ok(())
 }
 
-const fn damaged(file: QueryFile) -> QueryError {
+fn damaged(file: QueryFile) -> QueryError {
     QueryError::Damaged { file }
+}
+
+const SHUT: File<'static> = ("ept-work/done", &[0]);
+
+const LINKED_BUILD: File<'static> = ("ept-build.json", LINKED);
+
+const TOP: File<'static> = (
+    "ept-hierarchy/0-0-0-0.json",
+    br#"{"0-0-0-0":1,"1-0-0-0":-1}"#,
+);
+
+const LOW: File<'static> = ("ept-hierarchy/1-0-0-0.json", br#"{"1-0-0-0":1}"#);
+
+const ONES: File<'static> = ("ept-work/done", &[1, 1]);
+
+const WRONG: File<'static> = ("ept-build.json", b"{}");
+
+const UNLINKED: File<'static> = (
+    "ept-hierarchy/0-0-0-0.json",
+    br#"{"0-0-0-0":1,"1-0-0-0":1}"#,
+);
+
+#[test]
+fn a_gate_that_is_shut_is_told(rt: HostRuntime) -> Result<(), Fail> {
+    let alloc = rt.alloc();
+    let want = (QueryError::NotComplete, 0);
+    expect_refusal(&rt, alloc, &[], &want)?;
+    expect_refusal(&rt, alloc, &[SHUT, LINKED_BUILD, TOP, LOW], &want)?;
+    expect_refusal(&rt, alloc, &[ONES, LINKED_BUILD], &want)?;
+    Ok(())
 }
 
 #[test]
 fn the_first_damaged_file_is_told(rt: HostRuntime) -> Result<(), Fail> {
     let alloc = rt.alloc();
+    let build = (damaged(QueryFile::BuildJson), 0);
+    let top = (damaged(QueryFile::Hierarchy(Key::ROOT)), 0);
+    let low = (damaged(QueryFile::Hierarchy(BELOW)), 0);
+    let root = (damaged(QueryFile::Tile(Key::ROOT)), 0);
+    expect_refusal(&rt, alloc, &[OPEN, TOP, LOW], &build)?;
+    expect_refusal(&rt, alloc, &[OPEN, WRONG], &build)?;
+    expect_refusal(&rt, alloc, &[OPEN, LINKED_BUILD], &top)?;
+    expect_refusal(&rt, alloc, &[OPEN, LINKED_BUILD, UNLINKED], &top)?;
+    expect_refusal(&rt, alloc, &[OPEN, LINKED_BUILD, TOP], &low)?;
+    expect_refusal(&rt, alloc, &[OPEN, LINKED_BUILD, TOP, LOW], &root)?;
+    Ok(())
+}
+
+#[test]
+fn of_a_damaged_tile_nothing_is_written(rt: HostRuntime) -> Result<(), Fail> {
+    let alloc = rt.alloc();
+    let below = (damaged(QueryFile::Tile(BELOW)), 49);
     let zero = packed(1, 0);
+    let tile = zero.as_slice();
     let one = packed(3, 1);
-    let build: File = ("ept-build.json", LINKED.as_bytes());
-    let top: File = (
-        "ept-hierarchy/0-0-0-0.json",
-        br#"{"0-0-0-0":1,"1-0-0-0":-1}"#,
-    );
-    let low: File = ("ept-hierarchy/1-0-0-0.json", br#"{"1-0-0-0":1}"#);
-    let first: File = ("ept-data/0-0-0-0.bin", &zero);
-    let second: File = ("ept-data/1-0-0-0.bin", &one);
-    let table: [(&[File], Refused); 12] = [
-        (&[], (QueryError::NotComplete, 0)),
-        (
-            &[("ept-work/done", &[0]), build, top, low, first, second],
-            (QueryError::NotComplete, 0),
-        ),
-        (
-            &[("ept-work/done", &[1, 1]), build],
-            (QueryError::NotComplete, 0),
-        ),
-        (
-            &[OPEN, top, low, first, second],
-            (damaged(QueryFile::BuildJson), 0),
-        ),
-        (
-            &[OPEN, ("ept-build.json", b"{}")],
-            (damaged(QueryFile::BuildJson), 0),
-        ),
-        (
-            &[OPEN, build],
-            (damaged(QueryFile::Hierarchy(Key::ROOT)), 0),
-        ),
-        (
-            &[
-                OPEN,
-                build,
-                (
-                    "ept-hierarchy/0-0-0-0.json",
-                    br#"{"0-0-0-0":1,"1-0-0-0":1}"#,
-                ),
-            ],
-            (damaged(QueryFile::Hierarchy(Key::ROOT)), 0),
-        ),
-        (
-            &[OPEN, build, top, first, second],
-            (damaged(QueryFile::Hierarchy(BELOW)), 0),
-        ),
-        (
-            &[OPEN, build, top, low],
-            (damaged(QueryFile::Tile(Key::ROOT)), 0),
-        ),
-        (
-            &[OPEN, build, top, low, first],
-            (damaged(QueryFile::Tile(BELOW)), 49),
-        ),
-        (
-            &[OPEN, build, top, low, first, ("ept-data/1-0-0-0.bin", &[])],
-            (damaged(QueryFile::Tile(BELOW)), 49),
-        ),
-        (
-            &[
-                OPEN,
-                build,
-                top,
-                low,
-                first,
-                ("ept-data/1-0-0-0.bin", &one[1..]),
-            ],
-            (damaged(QueryFile::Tile(BELOW)), 49),
-        ),
-    ];
-    for (files, expected) in table {
-        assert_eq!(rt; refusal(alloc, files)?, Some(expected));
+    expect_tile(&rt, alloc, tile, None, &below)?;
+    expect_tile(&rt, alloc, tile, Some(b"".as_slice()), &below)?;
+    expect_tile(&rt, alloc, tile, Some(&one[1..]), &below)?;
+    Ok(())
+}
+
+// Asks a folder of two tiles, of which the second may be absent.
+fn expect_tile(
+    rt: &impl Abort,
+    alloc: Global,
+    first: &[u8],
+    second: Option<&[u8]>,
+    want: &(QueryError, usize),
+) -> Result<(), AllocError> {
+    let mut store = store_of(alloc, &[OPEN, LINKED_BUILD, TOP, LOW])?;
+    let mut puts = store.put("ept-data/0-0-0-0.bin", first).is_ok();
+    if let Some(second) = second {
+        puts = puts && store.put("ept-data/1-0-0-0.bin", second).is_ok();
     }
+    if !puts {
+        return Err(AllocError);
+    }
+    let mut out = sink(alloc);
+    let found = query(alloc, &mut store, &cube(0, 7), (0, 2), &mut out);
+    assert_eq!(rt; found, Err(want.0));
+    assert_eq!(rt; out.bytes().len(), want.1);
     Ok(())
 }
 
@@ -230,7 +250,7 @@ fn faults_of_the_store_and_of_the_sink_are_told(rt: HostRuntime) -> Result<(), F
     let zero = packed(1, 0);
     let files = [
         OPEN,
-        ("ept-build.json", BUILD.as_bytes()),
+        ("ept-build.json", BUILD),
         ("ept-hierarchy/0-0-0-0.json", br#"{"0-0-0-0":1}"#),
         ("ept-data/0-0-0-0.bin", zero.as_slice()),
     ];
@@ -257,29 +277,31 @@ fn faults_of_the_store_and_of_the_sink_are_told(rt: HostRuntime) -> Result<(), F
     Ok(())
 }
 
-// The rows of a folder with links: the depth of the node, the place of the point on the diagonal, and its
-// number.
-const ROWS: [(u8, u8, u8); 8] = [
-    (0, 0, 0),
-    (0, 5, 1),
-    (1, 3, 2),
-    (1, 4, 3),
-    (1, 7, 4),
-    (2, 1, 5),
-    (2, 2, 6),
-    (2, 6, 7),
+// A row: the depth of its node, the place of its point, and its number.
+type Row = (u8, [u8; 3], u8);
+
+// The rows of a folder with links, by key and then by number.
+const ROWS: [Row; 8] = [
+    (0, [0, 7, 3], 0),
+    (0, [5, 2, 6], 1),
+    (1, [3, 0, 1], 2),
+    (1, [4, 7, 5], 3),
+    (1, [7, 4, 6], 4),
+    (2, [1, 0, 1], 5),
+    (2, [2, 3, 2], 6),
+    (2, [6, 7, 7], 7),
 ];
 
 fn linked_store(alloc: Global) -> Result<MemStore, AllocError> {
-    let mut top = Vec::from_slice(alloc, &packed(0, 0))?;
-    top.extend_from_slice(&packed(5, 1))?;
-    let mut upper = Vec::from_slice(alloc, &packed(4, 3))?;
-    upper.extend_from_slice(&packed(7, 4))?;
+    let mut top = Vec::from_slice(alloc, &packed_at([0, 7, 3], 0))?;
+    top.extend_from_slice(&packed_at([5, 2, 6], 1))?;
+    let mut upper = Vec::from_slice(alloc, &packed_at([4, 7, 5], 3))?;
+    upper.extend_from_slice(&packed_at([7, 4, 6], 4))?;
     store_of(
         alloc,
         &[
             OPEN,
-            ("ept-build.json", LINKED.as_bytes()),
+            ("ept-build.json", LINKED),
             (
                 "ept-hierarchy/0-0-0-0.json",
                 br#"{"0-0-0-0":2,"1-0-0-0":-1,"1-1-1-1":-1}"#,
@@ -296,46 +318,69 @@ fn linked_store(alloc: Global) -> Result<MemStore, AllocError> {
             ("ept-hierarchy/2-1-1-1.json", br#"{"2-1-1-1":1}"#),
             ("ept-hierarchy/2-3-3-3.json", br#"{"2-3-3-3":1}"#),
             ("ept-data/0-0-0-0.bin", top.as_slice()),
-            ("ept-data/1-0-0-0.bin", &packed(3, 2)),
+            ("ept-data/1-0-0-0.bin", &packed_at([3, 0, 1], 2)),
             ("ept-data/1-1-1-1.bin", upper.as_slice()),
-            ("ept-data/2-0-0-0.bin", &packed(1, 5)),
-            ("ept-data/2-1-1-1.bin", &packed(2, 6)),
-            ("ept-data/2-3-3-3.bin", &packed(6, 7)),
+            ("ept-data/2-0-0-0.bin", &packed_at([1, 0, 1], 5)),
+            ("ept-data/2-1-1-1.bin", &packed_at([2, 3, 2], 6)),
+            ("ept-data/2-3-3-3.bin", &packed_at([6, 7, 7], 7)),
         ],
     )
 }
 
 // The packed rows that a plain filter of all of them keeps.
-fn filtered(
-    alloc: Global,
-    least: u8,
-    greatest: u8,
-    depths: (u8, u8),
-) -> Result<Vec<u8>, AllocError> {
+fn filtered(alloc: Global, area: &Box3, depths: (u8, u8)) -> Result<Vec<u8>, AllocError> {
     let mut bytes = Vec::new(alloc);
     for (depth, place, number) in ROWS {
         let in_depths = depths.0 <= depth && depth <= depths.1;
-        if in_depths && least <= place && place <= greatest {
-            bytes.extend_from_slice(&packed(place, number))?;
+        if in_depths && lies_in(area, place) {
+            bytes.extend_from_slice(&packed_at(place, number))?;
         }
     }
     Ok(bytes)
+}
+
+fn lies_in(area: &Box3, place: [u8; 3]) -> bool {
+    let [x, y, z] = place;
+    is_between(area.min[0], x, area.max[0])
+        && is_between(area.min[1], y, area.max[1])
+        && is_between(area.min[2], z, area.max[2])
+}
+
+fn is_between(least: i64, at: u8, greatest: i64) -> bool {
+    least <= i64::from(at) && i64::from(at) <= greatest
+}
+
+// A box by lot: on each axis two numbers from 0 to 7, in order.
+fn area_of(lot: u64) -> Box3 {
+    let [a, b, c, d, e, f, _, _] = lot.to_be_bytes();
+    let (x, y, z) = (ends(a, b), ends(c, d), ends(e, f));
+    Box3 {
+        min: [x.0, y.0, z.0],
+        max: [x.1, y.1, z.1],
+    }
+}
+
+fn ends(one: u8, other: u8) -> (i64, i64) {
+    let (one, other) = (i64::from(one >> 5), i64::from(other >> 5));
+    (one.min(other), one.max(other))
 }
 
 #[test]
 fn a_plain_filter_of_all_rows_finds_the_same(rt: HostRuntime) -> Result<(), Fail> {
     let alloc = rt.alloc();
     let mut store = linked_store(alloc)?;
-    for least in 0..8u8 {
-        for greatest in least..8u8 {
-            for depths in [(0u8, 2u8), (0, 1), (1, 2), (2, 2)] {
-                let area = cube(i64::from(least), i64::from(greatest));
-                let expected = filtered(alloc, least, greatest, depths)?;
-                let mut out = sink(alloc);
-                let count = query(alloc, &mut store, &area, depths, &mut out);
-                assert_eq!(rt; count, Ok(expected.len() as u64 / 49));
-                assert_eq!(rt; out.bytes(), expected.as_slice());
-            }
+    let mut lot = 1u64;
+    for _ in 0..300 {
+        lot = lot
+            .wrapping_mul(6364136223846793005)
+            .wrapping_add(1442695040888963407);
+        let area = area_of(lot);
+        for depths in [(0u8, 2u8), (0, 1), (1, 2), (2, 2)] {
+            let expected = filtered(alloc, &area, depths)?;
+            let mut out = sink(alloc);
+            let count = query(alloc, &mut store, &area, depths, &mut out);
+            assert_eq!(rt; count, Ok(expected.len() as u64 / 49));
+            assert_eq!(rt; out.bytes(), expected.as_slice());
         }
     }
     Ok(())
