@@ -4,7 +4,6 @@ use Rattle.ept_base.specs.Files.{Files, changed, SameFiles, SameBut}
 use Rattle.ept_meta.specs.Output.{File, IsOutputName}
 use Rattle.ept_save.specs.Names.{done_name}
 use Rattle.ept_save.specs.Done.{IsDone, HasOutputOf}
-use Rattle.ept_save.specs.Complete.{HasAllOf}
 
 -- each of these files is there, and every other name reads as before
 pub record Gains (gained : List File) (old new : Files) : Type 0 where
@@ -43,6 +42,10 @@ pub record PutsBehindGate (files : List File) (old new : Files) : Type 0 where
 abbrev pub SameButBuild : Files → Files → Type 0
 SameButBuild old new = (name : List ℕ) → ¬ IsOutputName name → name ≢ done_name → new name ≡ old name
 
--- where the done gate is open, the files of the output are those of the start, or these are all there
+-- these were put, one after another, and the files of the output are as they were then
+abbrev pub HasPut : List File → Files → Type 0
+HasPut output files = (shut : Files) × (put : Files) × PutsAll output shut put × HasOutputOf put files
+
+-- where the done gate is open, the files of the output are those of the start, or these were put
 abbrev pub IsOverWhole : List File → Files → Files → Type 0
-IsOverWhole output start files = IsDone files → HasOutputOf start files ⊎ HasAllOf output files
+IsOverWhole output start files = IsDone files → HasOutputOf start files ⊎ HasPut output files

@@ -60,8 +60,8 @@ where
     ensures room { _room.new ≡ _room.old }
 {
     let octree = octree_of(alloc, config, shelf)?;
-    finish(alloc, store, &octree)?;
     output_names_law();
+    finish(alloc, store, &octree)?;
     Ok(Summary {
         points: octree.points,
         nodes: octree.tree.nodes().len() as u32,
