@@ -13,7 +13,6 @@ use Rattle.ept_build.specs.declared.octree.Octree.{Octree}
 use Rattle.ept_build.specs.declared.summary.Summary.{Summary}
 use Rattle.ept_build.specs.declared.error.BuildError.{BuildError}
 use Rattle.ept_meta.specs.Output.{EachIsOutsideWork, rules_of, files_of, output}
-use Rattle.ept_save.specs.Done.{IsDone, HasOutputOf}
 use Rattle.ept_build.specs.Gains.{PutsBehindGate, HasPut, IsOverWhole}
 use Rattle.ept_build.specs.Building.{IsAccepted, IsBuilt, HasOutput, IsOverOutput, IsRefused, IsDefinite, Stops, Fails}
 use Rattle.ept_build.specs.Octrees.{IsOctree}

@@ -1,7 +1,7 @@
 -- The files of the output, put between a closing of the done gate and its opening.
 use Rattle.std.proofs.Common.{◌≡◌, ◌≢◌, ◌∙◌, ◌⊎◌, inl, inr, ℕ, List, [], ◌∷◌, ◌++◌, map, refl, sym, ap, subst, arith, Option, Some, None}
 use Rattle.std.specs.Prelude.{All}
-use Rattle.ept_base.specs.Files.{Files, SameFiles, SameBut, StepsBy, Tells}
+use Rattle.ept_base.specs.Files.{Files, SameBut, StepsBy, Tells}
 use Rattle.ept_base.specs.Moves.{IsSettled, Moves}
 use Rattle.ept_base.proofs.Moving.{steps_both, steps_weaker, moves_weaker, moves_both}
 use Rattle.ept_space.specs.declared.bounds.Bounds.{Bounds}
@@ -10,7 +10,6 @@ use Rattle.ept_sample.specs.Members.{IsMember}
 use Rattle.ept_sample.proofs.Members.{All-members, all-member, IsMember-append, member-map}
 use Rattle.ept_config.specs.declared.kept.Kept.{Kept}
 use Rattle.ept_config.specs.declared.source_count.SourceCount.{SourceCount}
-use Rattle.ept_hier.specs.declared.file.HierFile.{HierFile}
 use Rattle.ept_hier.specs.Hierarchy.{hierarchy}
 use Rattle.ept_meta.specs.Output.{File, IsOutputName, EachIsOutsideWork, tile_file, hierarchy_file, counted, files_of, metadata_name, manifest_name, build_file_name}
 use Rattle.ept_meta.specs.EptText.{ept_text}
@@ -20,7 +19,7 @@ use Rattle.ept_save.specs.Names.{done_name}
 use Rattle.ept_save.specs.Done.{IsDone, IsGuarded, Guards, HasOutputOf}
 use Rattle.ept_save.specs.Complete.{HasAllOf}
 use Rattle.ept_save.proofs.Moving.{moves_where}
-use Rattle.ept_save.proofs.Standing.{stepped, settled_some, tells_some, told_some}
+use Rattle.ept_save.proofs.Standing.{stepped, settled_some, told_some}
 use Rattle.ept_save.proofs.WorkNames.{outside-done}
 use Rattle.ept_build.specs.Gains.{Gains, PutsAll, PutsBehindGate, SameButOutput, SameButBuild, HasPut, IsOverWhole, done_file}
 use Rattle.ept_build.proofs.Putting.{AreApart, gained}
@@ -31,9 +30,9 @@ pub files-named : (kept : Kept) (counts : List SourceCount) (extent : Option Bou
 files-named kept counts extent n tiles f m =
     elim (IsMember-append f (map tile_file tiles ++ map hierarchy_file (hierarchy kept.step (map counted tiles))) ((metadata_name, ept_text kept extent n) ∷ (manifest_name, manifest_text kept counts) ∷ (build_file_name, build_text kept) ∷ []) m) [
       | inl two ↦ elim (IsMember-append f (map tile_file tiles) (map hierarchy_file (hierarchy kept.step (map counted tiles))) two) [
-          | inl one ↦ let at = member-map tile_file f tiles one in inl (at.0.key, ap (λ (w : File). w.0) (sym at.2))
-          | inr one ↦ let at = member-map hierarchy_file f (hierarchy kept.step (map counted tiles)) one in inr (inl (at.0.key, ap (λ (w : File). w.0) (sym at.2)))
-        ]
+        | inl one ↦ let at = member-map tile_file f tiles one in inl (at.0.key, ap (λ (w : File). w.0) (sym at.2))
+        | inr one ↦ let at = member-map hierarchy_file f (hierarchy kept.step (map counted tiles)) one in inr (inl (at.0.key, ap (λ (w : File). w.0) (sym at.2)))
+      ]
       | inr text ↦ of_text text
     ]
   where

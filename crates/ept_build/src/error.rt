@@ -92,9 +92,8 @@ impl From<SaveError> for BuildError {
     fn from(error: SaveError) -> BuildError {
         match error {
             SaveError::StoreFault => BuildError::StoreFault,
-            SaveError::BadCheckpoint { .. }
-            | SaveError::TileDamaged { .. }
-            | SaveError::Memory => BuildError::Memory,
+            SaveError::BadCheckpoint { .. } | SaveError::TileDamaged { .. } | SaveError::Memory =>
+                BuildError::Memory,
         }
     }
 }

@@ -4,7 +4,6 @@ use Rattle.ept_meta.specs.Output.{File, files_of}
 use Rattle.ept_tree.specs.Tree.{tile_of}
 use Rattle.ept_tree.specs.Grown.{nodes_of}
 use Rattle.ept_build.specs.declared.octree.Octree.{Octree}
-use Rattle.ept_build.proofs.Putting.{any-ok}
 use Rattle.ept_build.proofs.Guarding.{puts-behind, gate-build, output-build, build-both, settled-guarded, over-both, over-closing, over-putting, put-guarded, over-opening}
 use Rattle.ept_build.proofs.finishing.finish.Goals as goal
 
