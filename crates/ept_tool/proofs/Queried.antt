@@ -1,6 +1,8 @@
 -- The words of a query are those of no other command, and what its status says.
-use Rattle.std.proofs.Common.{◌≡◌, ◌≢◌, ◌⊎◌, inl, inr, ℕ, List, [], ◌∷◌, Option, Ok, Err, refl, sym, ◌∙◌, subst, arith}
-use Rattle.std.specs.Prelude.{Result, codes}
+use Rattle.std.proofs.Common.{◌≡◌, ◌≢◌, ◌⊎◌, inl, inr, ℕ, List, [], ◌∷◌, Option, Ok, Err, get_or, ap, refl, sym, ◌∙◌, subst, arith}
+use Rattle.std.specs.Prelude.{Result, String, codes, string_bytes, length}
+use Rattle.std.specs.declared.alloc.Global.{Global}
+use Rattle.std.proofs.lemmas.List.{length-map}
 use Rattle.ept_base.specs.Files.{Files}
 use Rattle.ept_space.specs.declared.box3.Box3.{Box3}
 use Rattle.ept_http.specs.QueryWords.{IsBoxText, IsDepthsText}
@@ -8,7 +10,7 @@ use Rattle.ept_http.specs.Laws.{TextHasOneBox, TextHasOneRange}
 use Rattle.ept_query.specs.declared.query_error.QueryError.{QueryError}
 use Rattle.ept_query.specs.declared.query_error.QueryError.TheVariants.{NotComplete, StoreFault, Damaged, SinkFault, Memory}
 use Rattle.ept_tool.specs.declared.refusal.Refusal.{Refusal}
-use Rattle.ept_tool.specs.Words.{IsBuild, IsInfo, IsQuery, IsLater, IsUsage}
+use Rattle.ept_tool.specs.Words.{bytes_of, IsBuild, IsInfo, IsQuery, IsLater, IsUsage}
 use Rattle.ept_tool.specs.Answers.{AsksBuild, AsksInfo, AsksQuery, IsRefused}
 use Rattle.ept_tool.specs.Queries.{query_status, EndsQuery}
 
@@ -31,7 +33,10 @@ module _ (words : List (List ℕ)) (out : List ℕ) (area : Box3) (first last : 
   query_or_later other = apart other.first other.others other.named (sym other.words_are ∙ is.words_are)
     where
       apart : (head : List ℕ) (others : List (List ℕ)) → head ≡ codes "trial" → head ∷ others ≡ codes "query" ∷ out ∷ is.box ∷ is.depths ∷ [] → ⊥
-      apart head others named same = cc
+      apart head others named same =
+          let query : get_or head 0 0 ≡ 113 = ap (λ (ws : List (List ℕ)). get_or (get_or ws 0 []) 0 0) same in
+          let trial : get_or head 0 0 ≡ 116 = ap (λ (w : List ℕ). get_or w 0 0) named in
+          omega (arith, query, trial)
 
   pub query_asked : AsksQuery words
   query_asked = record { folder = out; area = area; first = first; last = last; words_are = is }
@@ -63,6 +68,17 @@ module _ (one_box : TextHasOneBox) (one_range : TextHasOneRange) (words : List (
       let same = query_once out other area found first last least most one two in
       subst (λ (a : Box3). EndsQuery a least most status files old new store sink) same.0
       (subst (λ (n : ℕ). EndsQuery area n most status files old new store sink) same.1 (subst (λ (n : ℕ). EndsQuery area first n status files old new store sink) same.2 ends))
+
+-- words of another number than those of a command, which do not begin as a later one
+pub no_command : (words : List (String Global)) → length words ≢ 2 → length words ≢ 3 → length words ≢ 4 → (IsLater (bytes_of words) → ⊥) → IsUsage (bytes_of words)
+no_command words two three four later =
+    let size : length (bytes_of words) ≡ length words = length-map words string_bytes in
+    record {
+      not_build = λ config out is. three (sym size ∙ ap (λ (ws : List (List ℕ)). length ws) is.words_are);
+      not_info = λ las is. two (sym size ∙ ap (λ (ws : List (List ℕ)). length ws) is.words_are);
+      not_query = λ out area first last is. four (sym size ∙ ap (λ (ws : List (List ℕ)). length ws) is.words_are);
+      not_later = later;
+    }
 
 -- ---- its status
 

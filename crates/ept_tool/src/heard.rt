@@ -29,15 +29,6 @@ impl<O: Sink + Drop> Heard<O> {
     pub(crate) fn line(&self) -> &str {
         str::from_utf8(&self.line).unwrap_or("").trim_end()
     }
-
-    // Keeps these bytes, as far as there is room for a line.
-    fn keep(&mut self, from: &[u8]) {
-        let room = LONGEST.saturating_sub(self.line.len());
-        let front = &from[..from.len().min(room)];
-        if self.line.extend_from_slice(front).is_err() {
-            self.line.clear();
-        }
-    }
 }
 
 impl<O: Sink + Drop> Sink for Heard<O> {
@@ -47,9 +38,18 @@ impl<O: Sink + Drop> Sink for Heard<O> {
 
     fn write(&mut self, from: &[u8]) -> Result<usize, Failed> {
         self.line.truncate(self.written);
-        self.keep(from);
+        keep(&mut self.line, from);
         let count = self.out.write(from)?;
         self.written = self.written.saturating_add(count);
         Ok(count)
+    }
+}
+
+// Keeps a front of these bytes behind a line, as far as a line goes.
+fn keep(line: &mut Vec<u8>, from: &[u8]) {
+    let room = LONGEST.saturating_sub(line.len());
+    let front = &from[..from.len().min(room)];
+    if line.extend_from_slice(front).is_err() {
+        line.clear();
     }
 }

@@ -104,11 +104,29 @@ fn expect_points(rt: &impl Abort, alloc: Global) -> Result<(), AllocError> {
     let second = packed(alloc, &[([3, 3, 3], 1, 0)])?;
     let both = packed(alloc, &[([1, 1, 1], 0, 0), ([3, 3, 3], 1, 0)])?;
     expect(rt, alloc, &[], ALL, (0, both.as_slice()))?;
-    expect(rt, alloc, &[], ("3,3,3,3,3,3", "0,2"), (0, second.as_slice()))?;
+    expect(
+        rt,
+        alloc,
+        &[],
+        ("3,3,3,3,3,3", "0,2"),
+        (0, second.as_slice()),
+    )?;
     expect(rt, alloc, &[], ("3,3,3,3,3,3", "0,0"), (0, NOTHING))?;
     expect(rt, alloc, &[], ("0,0,0,3,3,3", "0,2"), (0, both.as_slice()))?;
-    expect(rt, alloc, &[], ("0,0,0,3,3,3", "0,0"), (0, first.as_slice()))?;
-    expect(rt, alloc, &[], ("100,100,100,101,101,101", "0,2"), (0, NOTHING))
+    expect(
+        rt,
+        alloc,
+        &[],
+        ("0,0,0,3,3,3", "0,0"),
+        (0, first.as_slice()),
+    )?;
+    expect(
+        rt,
+        alloc,
+        &[],
+        ("100,100,100,101,101,101", "0,2"),
+        (0, NOTHING),
+    )
 }
 
 #[test]

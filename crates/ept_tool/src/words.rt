@@ -1,6 +1,6 @@
 //! What the words of a command line ask for.
 
-ghost use Rattle.std.specs.Prelude.{◌≡◌, ◌↔◌, [], ◌∷◌, codes, IsTrue};
+ghost use Rattle.std.specs.Prelude.{◌≡◌, ◌≢◌, ◌↔◌, [], ◌∷◌, length, codes, IsTrue};
 ghost use Rattle.ept_tool.specs.Words.{bytes_of, IsBuild, IsInfo, NamesLater, IsCommand};
 
 use ept_http::{read_box, read_depths};
@@ -35,14 +35,67 @@ pub(crate) fn command_of(words: &[String]) -> Command<'_>
     ensures { IsCommand (bytes_of words.now) result }
 {
     match words {
-        [first, config, out] if is_build(first, config, out) => Command::Build {
-            config: config.as_str(),
-            out: out.as_str(),
-        },
-        [first, las] if is_info(first, las) => Command::Info { las: las.as_str() },
-        [first, out, area, depths] if is_query(first) => query_of(out, area, depths),
-        [first, ..] if is_later(first) => Command::Later,
-        _ => Command::Usage,
+        [first, las] => command_of_two(first, las),
+        [first, config, out] => command_of_three(first, config, out),
+        [first, out, area, depths] => command_of_four(first, out, area, depths),
+        _ => command_of_others(words),
+    }
+}
+
+// The command that fewer or more words are.
+#[tactic(auto, using(crate::proofs::Queried::no_command))]
+fn command_of_others(words: &[String]) -> Command<'_>
+    requires two { length words.now ≢ 2 }
+    requires three { length words.now ≢ 3 }
+    requires four { length words.now ≢ 4 }
+    ensures { IsCommand (bytes_of words.now) result }
+{
+    let [first, ..] = words else {
+        return Command::Usage;
+    };
+    if is_later(first) {
+        Command::Later
+    } else {
+        Command::Usage
+    }
+}
+
+// The command that two words are.
+fn command_of_two<'a>(first: &str, las: &'a str) -> Command<'a>
+    ensures { IsCommand (first.now ∷ las.now ∷ []) result }
+{
+    if is_info(first, las) {
+        Command::Info { las }
+    } else if is_later(first) {
+        Command::Later
+    } else {
+        Command::Usage
+    }
+}
+
+// The command that three words are.
+fn command_of_three<'a>(first: &str, config: &'a str, out: &'a str) -> Command<'a>
+    ensures { IsCommand (first.now ∷ config.now ∷ out.now ∷ []) result }
+{
+    if is_build(first, config, out) {
+        Command::Build { config, out }
+    } else if is_later(first) {
+        Command::Later
+    } else {
+        Command::Usage
+    }
+}
+
+// The command that four words are.
+fn command_of_four<'a>(first: &str, out: &'a str, area: &str, depths: &str) -> Command<'a>
+    ensures { IsCommand (first.now ∷ out.now ∷ area.now ∷ depths.now ∷ []) result }
+{
+    if is_query(first) {
+        query_of(out, area, depths)
+    } else if is_later(first) {
+        Command::Later
+    } else {
+        Command::Usage
     }
 }
 
