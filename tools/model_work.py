@@ -158,6 +158,11 @@ def is_output_name(name):
     return not name.startswith(("ept-work/", "ept-spill/"))
 
 
+def has_checkpoints(names):
+    """Whether a program that left files of these names keeps checkpoints."""
+    return any(name.startswith("ept-work/body-") for name in names)
+
+
 def current(files):
     """The letter and the current checkpoint, or None; a counted body that is none is refused."""
     found = []
