@@ -12,11 +12,11 @@ use Rattle.ept_tree.specs.Grown.{nodes_of}
 use Rattle.ept_build.specs.declared.octree.Octree.{Octree}
 use Rattle.ept_build.specs.declared.summary.Summary.{Summary}
 use Rattle.ept_build.specs.declared.error.BuildError.{BuildError}
-use Rattle.ept_meta.specs.Output.{rules_of, files_of, output}
-use Rattle.ept_build.specs.Gains.{PutsAll}
-use Rattle.ept_build.specs.Building.{IsAccepted, IsBuilt, IsRefused, IsDefinite, Stops, Fails}
+use Rattle.ept_meta.specs.Output.{EachIsOutsideWork, rules_of, files_of, output}
+use Rattle.ept_build.specs.Gains.{PutsBehindGate, HasPut, IsOverWhole}
+use Rattle.ept_build.specs.Building.{IsAccepted, IsBuilt, HasOutput, IsOverOutput, IsRefused, IsDefinite, Stops, Fails}
 use Rattle.ept_build.specs.Octrees.{IsOctree}
-use Rattle.ept_build.proofs.Putting.{puts-gain}
+use Rattle.ept_build.proofs.Guarding.{files-named, behind-gains, put-there}
 use Rattle.ept_build.proofs.Apart.{output-apart}
 
 -- an octree is no refusal
@@ -54,12 +54,12 @@ pub accepted-told : (config : Config) (o : Octree) (files : Option Files) → Te
 accepted-told config o None is = tt
 accepted-told config o (Some all) is = record { done = is.done; kept = o.kept; points = is.points; has_points = is.has_points; few = is.few }
 
-module _ (config : Config) (o : Octree) (nodes : ℕ) (nodes_are : nodes ≡ length (nodes_of o.tree)) (old new : Option Files) (put : StepsBy (PutsAll (files_of o.kept o.counts o.extent o.points (map tile_of (nodes_of o.tree)))) old new) where
+module _ (config : Config) (o : Octree) (nodes : ℕ) (nodes_are : nodes ≡ length (nodes_of o.tree)) (old new : Option Files) (outside : EachIsOutsideWork) (put : StepsBy (PutsBehindGate (files_of o.kept o.counts o.extent o.points (map tile_of (nodes_of o.tree)))) old new) where
   built_at : (all : Files) → IsOctree all config o → IsBuilt all config (record { points = o.points; nodes = nodes }) old new
   built_at all is =
-      let counts = subst (λ (w : List SourceCount). StepsBy (PutsAll (files_of o.kept w o.extent o.points (map tile_of (nodes_of o.tree)))) old new) is.counts_are put in
-      let tiles = subst (λ (w : List Tile). StepsBy (PutsAll (files_of o.kept is.done.counts o.extent o.points w)) old new) is.tiles counts in
-      let all_put : StepsBy (PutsAll (output o.kept is.done.counts o.extent is.points)) old new = subst (λ (n : ℕ). StepsBy (PutsAll (files_of o.kept is.done.counts o.extent n (sampled (rules_of o.kept) is.points))) old new) is.number tiles in
+      let counts = subst (λ (w : List SourceCount). StepsBy (PutsBehindGate (files_of o.kept w o.extent o.points (map tile_of (nodes_of o.tree)))) old new) is.counts_are put in
+      let tiles = subst (λ (w : List Tile). StepsBy (PutsBehindGate (files_of o.kept is.done.counts o.extent o.points w)) old new) is.tiles counts in
+      let all_put : StepsBy (PutsBehindGate (output o.kept is.done.counts o.extent is.points)) old new = subst (λ (n : ℕ). StepsBy (PutsBehindGate (files_of o.kept is.done.counts o.extent n (sampled (rules_of o.kept) is.points))) old new) is.number tiles in
       record {
         done = is.done;
         kept = o.kept;
@@ -68,7 +68,7 @@ module _ (config : Config) (o : Octree) (nodes : ℕ) (nodes_are : nodes ≡ len
         few = is.few;
         extent = o.extent;
         has_extent = is.has_extent;
-        gains = puts-gain (output o.kept is.done.counts o.extent is.points) (output-apart (rules_of o.kept) is.points is.can o.kept is.done.counts o.extent (length is.points)) old new all_put;
+        gains = behind-gains outside (output o.kept is.done.counts o.extent is.points) (files-named o.kept is.done.counts o.extent (length is.points) (sampled (rules_of o.kept) is.points)) (output-apart (rules_of o.kept) is.points is.can o.kept is.done.counts o.extent (length is.points)) old new all_put;
         points_are = is.number;
         nodes_are = nodes_are ∙ (sym (length-map (nodes_of o.tree) tile_of) ∙ ap (λ (w : List Tile). length w) is.tiles);
       }
@@ -76,3 +76,28 @@ module _ (config : Config) (o : Octree) (nodes : ℕ) (nodes_are : nodes ≡ len
   pub built-told : (files : Option Files) → Tells (λ all. IsOctree all config o) files → Tells (λ all. IsBuilt all config (record { points = o.points; nodes = nodes }) old new) files
   built-told None is = tt
   built-told (Some all) is = built_at all is
+
+-- ---- what an open gate stands over
+
+module _ (config : Config) (o : Octree) (all : Files) (is : IsOctree all config o) (outside : EachIsOutsideWork) (start : Files) where
+  has_output : (now : Files) → HasPut (files_of o.kept o.counts o.extent o.points (map tile_of (nodes_of o.tree))) now → HasOutput all config now
+  has_output now put =
+      let counts = subst (λ (w : List SourceCount). HasPut (files_of o.kept w o.extent o.points (map tile_of (nodes_of o.tree))) now) is.counts_are put in
+      let tiles = subst (λ (w : List Tile). HasPut (files_of o.kept is.done.counts o.extent o.points w) now) is.tiles counts in
+      let all_put : HasPut (output o.kept is.done.counts o.extent is.points) now = subst (λ (n : ℕ). HasPut (files_of o.kept is.done.counts o.extent n (sampled (rules_of o.kept) is.points)) now) is.number tiles in
+      record {
+        done = is.done;
+        kept = o.kept;
+        points = is.points;
+        has_points = is.has_points;
+        extent = o.extent;
+        has_extent = is.has_extent;
+        there = put-there outside (output o.kept is.done.counts o.extent is.points) (files-named o.kept is.done.counts o.extent (length is.points) (sampled (rules_of o.kept) is.points)) (output-apart (rules_of o.kept) is.points is.can o.kept is.done.counts o.extent (length is.points)) now all_put;
+      }
+
+  pub over-output : (old new : Files) → IsOverWhole (files_of o.kept o.counts o.extent o.points (map tile_of (nodes_of o.tree))) start new → IsOverOutput all config start new
+  over-output old new over done =
+      elim (over done) [
+        | inl same ↦ inl same
+        | inr put ↦ inr (has_output new put)
+      ]

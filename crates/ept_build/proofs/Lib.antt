@@ -3,6 +3,7 @@ mod Apart
 mod Scanned
 mod Drawn
 mod Causes
+mod Guarding
 mod Judged
 mod Found
 mod Built

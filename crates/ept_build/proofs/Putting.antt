@@ -82,7 +82,7 @@ put_name f (x ∷ files) apart g (inl is) =
     (other_name (changed f x.0 (Some x.1)) files x.0 apart.0 ∙ changed_same f x.0 (Some x.1))
 put_name f (x ∷ files) apart g (inr m) = put_name (changed f x.0 (Some x.1)) files apart.1 g m
 
-gained : (files : List File) → AreApart files → (old new : Files) → PutsAll files old new → Gains files old new
+pub gained : (files : List File) → AreApart files → (old new : Files) → PutsAll files old new → Gains files old new
 gained files apart old new put = record {
   are_there = All-members (λ (f : File). new f.0 ≡ Some f.1) files (λ f m. put f.0 ∙ put_name old files apart f m);
   others_stay = λ name none. put name ∙ other_name old files name (λ g m. all-member (λ (f : File). name ≢ f.0) g files none m);

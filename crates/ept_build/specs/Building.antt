@@ -1,5 +1,5 @@
 -- What a build of a configuration is of, over a shelf of these files, and why it is refused.
-use Rattle.std.specs.Prelude.{◌≡◌, ◌≢◌, ◌⊎◌, ℕ, ◌<◌, ◌≤◌, List, Option, Result, Err, length, ⊤}
+use Rattle.std.specs.Prelude.{◌≡◌, ◌≢◌, ◌⊎◌, ℕ, ◌<◌, ◌≤◌, List, ◌∷◌, Option, Result, Err, length, ⊤}
 use Rattle.ept_base.specs.Files.{Files, StepsBy}
 use Rattle.ept_point.specs.declared.point.Point.{Point}
 use Rattle.ept_space.specs.declared.bounds.Bounds.{Bounds}
@@ -16,7 +16,9 @@ use Rattle.ept_build.specs.declared.error.BuildError.{BuildError}
 use Rattle.ept_build.specs.declared.error.BuildError.TheVariants.{StoreFault, SourceFault, BadLas, OutOfBounds, TooManyPoints, NoBounds, SourceChanged, TooManyNodes, Memory}
 use Rattle.ept_build.specs.declared.summary.Summary.{Summary}
 use Rattle.ept_meta.specs.Output.{rules_of, output}
-use Rattle.ept_build.specs.Gains.{Gains}
+use Rattle.ept_save.specs.Done.{IsDone, HasOutputOf}
+use Rattle.ept_save.specs.Complete.{HasAllOf}
+use Rattle.ept_build.specs.Gains.{Gains, done_file}
 
 -- The inputs of the configuration have these points, all in order; within the bounds that were found, this is kept of the configuration.
 pub record HasPoints (all : Files) (config : Config) (done : ScanDone) (kept : Kept) (points : List Point) : Type 0 where
@@ -35,7 +37,8 @@ pub record IsAccepted (all : Files) (config : Config) : Type 0 where
   pub has_points : HasPoints all config done kept points
   pub few : node_count kept points ≤ config.max_nodes
 
--- The points of the inputs have few enough nodes; the store has gained the files of their sampling, and this is said of them.
+-- The points of the inputs have few enough nodes; the store has gained the files of their sampling and the open done gate, and this
+-- is said of them.
 pub record IsBuilt (all : Files) (config : Config) (summary : Summary) (old new : Option Files) : Type 0 where
   pub done : ScanDone
   pub kept : Kept
@@ -44,9 +47,23 @@ pub record IsBuilt (all : Files) (config : Config) (summary : Summary) (old new 
   pub few : node_count kept points ≤ config.max_nodes
   pub extent : Option Bounds
   pub has_extent : HasExtent points extent
-  pub gains : StepsBy (Gains (output kept done.counts extent points)) old new
+  pub gains : StepsBy (Gains (done_file ∷ output kept done.counts extent points)) old new
   pub points_are : summary.points ≡ length points
   pub nodes_are : summary.nodes ≡ node_count kept points
+
+-- all files of the output of the inputs' points are there
+pub record HasOutput (all : Files) (config : Config) (files : Files) : Type 0 where
+  pub done : ScanDone
+  pub kept : Kept
+  pub points : List Point
+  pub has_points : HasPoints all config done kept points
+  pub extent : Option Bounds
+  pub has_extent : HasExtent points extent
+  pub there : HasAllOf (output kept done.counts extent points) files
+
+-- where the done gate is open, the files of the output are those of the start, or the output of the inputs' points is all there
+abbrev pub IsOverOutput : Files → Config → Files → Files → Type 0
+IsOverOutput all config start files = IsDone files → HasOutputOf start files ⊎ HasOutput all config files
 
 -- the sampling of the inputs' points has more nodes than there may be
 pub record HasTooManyNodes (all : Files) (config : Config) : Type 0 where

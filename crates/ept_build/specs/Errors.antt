@@ -7,6 +7,8 @@ use Rattle.ept_scan.specs.declared.read_error.ReadError.{ReadError}
 use Rattle.ept_scan.specs.declared.read_error.ReadError.TheVariants as read
 use Rattle.ept_tree.specs.declared.tree_error.TreeError.{TreeError}
 use Rattle.ept_tree.specs.declared.tree_error.TreeError.TheVariants as tree
+use Rattle.ept_save.specs.declared.error.SaveError.{SaveError}
+use Rattle.ept_save.specs.declared.error.SaveError.TheVariants as save
 use Rattle.ept_build.specs.declared.error.BuildError.{BuildError}
 use Rattle.ept_build.specs.declared.error.BuildError.TheVariants.{StoreFault, SourceFault, BadLas, OutOfBounds, TooManyPoints, NoBounds, SourceChanged, TooManyNodes, Memory}
 
@@ -30,3 +32,10 @@ of_put put.Memory = Memory
 abbrev pub of_tree : TreeError → BuildError
 of_tree tree.TooManyNodes = TooManyNodes
 of_tree tree.Memory = Memory
+
+-- of the calls on the done gate, which refuse for a fault of the store or want of memory alone
+abbrev pub of_save : SaveError → BuildError
+of_save save.StoreFault = StoreFault
+of_save (save.BadCheckpoint letter) = Memory
+of_save (save.TileDamaged key) = Memory
+of_save save.Memory = Memory

@@ -1,23 +1,25 @@
 //! A build.
 
-ghost use Rattle.std.specs.Prelude.{◌≡◌, ◌⊎◌, Err, IsOk, IfOk, IfErr, OnOk};
+ghost use Rattle.std.specs.Prelude.{◌≡◌, ◌⊎◌, Some, Err, IsOk, IfOk, IfErr, OnOk};
 ghost use Rattle.ept_base.specs.Causes.{HasCauseOf};
-ghost use Rattle.ept_base.specs.Files.{Tells};
+ghost use Rattle.ept_base.specs.Files.{Files, Tells};
 ghost use Rattle.ept_base.specs.Moves.{Moves, IsSettled};
-ghost use Rattle.ept_build.specs.Gains.{SameButOutput};
-ghost use Rattle.ept_build.specs.Building.{IsAccepted, IsBuilt, IsRefused, IsDefinite, IsLate, Fails};
+ghost use Rattle.ept_build.specs.Gains.{SameButBuild};
+ghost use Rattle.ept_build.specs.Building.{IsAccepted, IsBuilt, IsRefused, IsDefinite, IsLate, IsOverOutput, Fails};
 
 use crate::error::BuildError;
+use crate::finishing::finish;
 use crate::octree::octree_of;
-use crate::publishing::publish;
 use crate::summary::Summary;
 use ept_base::{Gate, Room, Shelf, Store};
 use ept_config::Config;
+use ept_meta::output_names_law;
 use std::alloc::Global;
 
 /// Builds the octree of the points of all inputs of the configuration, and puts its files into the store: the
 /// tile of each node, the hierarchy, the metadata, the manifest and the build file. Nothing is put before all
-/// points are inserted, so inputs that aren't accepted leave no trace, whatever fails besides.
+/// points are inserted, so inputs that aren't accepted leave no trace, whatever fails besides. The done gate is
+/// closed before the first file is put, and opened once all are stable.
 ///
 /// # Errors
 ///
@@ -50,12 +52,16 @@ where
     // What stays as it was.
     ensures untouched { IfErr result (λ e. (IsLate e → ⊥) → store.new ≡ store.old) }
     ensures puts_accepted { (store.new ≡ store.old) ⊎ Tells (λ all. IsAccepted all config.now) (H.files shelf.old) }
-    ensures any_moment { Moves T.files T.may_leave T.moment T.image_since SameButOutput store.old store.new }
+    ensures any_moment { Moves T.files T.may_leave T.moment T.image_since SameButBuild store.old store.new }
+    ensures guarded { (all start : Files) → H.files shelf.old ≡ Some all → T.files store.old ≡ Some start
+        → IsSettled (T.files store.old) (T.may_leave store.old) → Moves T.files T.may_leave T.moment T.image_since
+        (λ (old new : Files). IsOverOutput all config.now start new) store.old store.new }
     ensures files { H.files shelf.new ≡ H.files shelf.old }
     ensures room { _room.new ≡ _room.old }
 {
     let octree = octree_of(alloc, config, shelf)?;
-    publish(alloc, store, &octree)?;
+    output_names_law();
+    finish(alloc, store, &octree)?;
     Ok(Summary {
         points: octree.points,
         nodes: octree.tree.nodes().len() as u32,

@@ -3,6 +3,7 @@
 use ept_base::PutError;
 use ept_las::LasError;
 use ept_point::{Memory as NoMemory, PointNumber};
+use ept_save::SaveError;
 use ept_scan::{ReadError, ScanError};
 use ept_tree::TreeError;
 use std::alloc::{AllocError, AllocFailed};
@@ -77,6 +78,22 @@ impl From<PutError> for BuildError {
         match error {
             PutError::Failed => BuildError::StoreFault,
             PutError::Memory => BuildError::Memory,
+        }
+    }
+}
+
+impl From<SaveError> for BuildError {
+    ghost use Rattle.std.specs.Prelude.{◌≡◌};
+    ghost use Rattle.ept_build.specs.Errors.{of_save};
+
+    ghost from_gives = { λ from e. e ≡ of_save from };
+
+    // The calls on the done gate refuse for no other cause.
+    fn from(error: SaveError) -> BuildError {
+        match error {
+            SaveError::StoreFault => BuildError::StoreFault,
+            SaveError::BadCheckpoint { .. } | SaveError::TileDamaged { .. } | SaveError::Memory =>
+                BuildError::Memory,
         }
     }
 }

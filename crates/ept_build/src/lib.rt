@@ -6,6 +6,7 @@
 
 mod building;
 mod error;
+mod finishing;
 mod growing;
 mod octree;
 mod publishing;

@@ -307,15 +307,16 @@ fn an_input_is_scaled_and_shifted(rt: HostRuntime) -> Result<(), Fail> {
     Ok(())
 }
 
-// A tile, a hierarchy file, three texts and a sync: six calls of the store.
+// The done gate is read and the store synced; a tile, a hierarchy file, three texts and a sync; a sync, the open
+// gate and a sync: eleven calls of the store.
 #[test]
 fn each_call_of_the_store_may_fail(rt: HostRuntime) -> Result<(), Fail> {
     let alloc = rt.alloc();
-    for call in 0..7 {
+    for call in 0..12 {
         let mut files = Vec::new(alloc);
         files.push(file(alloc, "a.las", las(alloc, &FIRST, &[&FULL_RECORD])?)?)?;
         let left = build_of(alloc, SMALLEST, files, Some(call))?;
-        let want = if call < 6 {
+        let want = if call < 11 {
             Err(BuildError::StoreFault)
         } else {
             Ok(Summary {
@@ -326,9 +327,11 @@ fn each_call_of_the_store_may_fail(rt: HostRuntime) -> Result<(), Fail> {
         compare(&rt, &left, want, &[]);
         assert_eq!(rt;
             left.store.file("ept-build.json").is_some(),
-            call > 4,
+            call > 6,
             "{call}"
         );
+        let gate = left.store.file("ept-work/done");
+        assert_eq!(rt; gate == Some(b"\x01".as_slice()), call > 9, "{call}");
     }
     Ok(())
 }

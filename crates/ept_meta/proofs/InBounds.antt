@@ -1,5 +1,5 @@
 -- Points within the bounds can be sampled.
-use Rattle.std.proofs.Common.{◌<◌, ◌^◌, ℤ, List, arith, unsigned_abs, max}
+use Rattle.std.proofs.Common.{◌<◌, ◌^◌, ℤ, List, arith, unsigned_abs}
 use Rattle.std.specs.Prelude.{◌-ℤ◌, FitsSigned}
 use Rattle.std.specs.List.{All}
 use Rattle.std.specs.Int.{w32}

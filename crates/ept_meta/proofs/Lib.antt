@@ -8,3 +8,7 @@ pub mod NamesDiffer
 mod OneOutput
 mod InBounds
 mod OutputNames
+mod JsonTexts
+mod BuildData
+mod BuildRead
+mod BuildAgain

@@ -5,5 +5,6 @@ pub mod Dimensions
 pub mod EptText
 pub mod ManifestText
 pub mod BuildText
+pub mod BuildReading
 pub mod Output
 pub mod OutputLaws

@@ -7,7 +7,7 @@ ghost use Rattle.ept_meta.specs.Json.{quoted};
 ghost use Rattle.ept_meta.specs.BuildText.{build_text, units_text, stored_bounds_text, octree_text};
 ghost use Rattle.ept_meta.specs.BuildText.{inputs_text, input_text, expect_text};
 
-use crate::json::{
+use crate::pieces::{
     append, append_comma, append_number, append_number_member, append_quoted, append_whole_items,
     append_wholes,
 };

@@ -6,11 +6,13 @@
 #![tactic(auto)]
 
 mod build;
-mod json;
+mod build_reader;
 mod laws;
 mod manifest;
+mod meta_error;
 mod metadata;
 mod names;
+mod pieces;
 mod rules;
 mod schema;
 mod srs_object;
@@ -19,8 +21,10 @@ mod tests;
 mod units;
 
 pub use build::build_json;
+pub use build_reader::read_build_json;
 pub use laws::{output_names_law, output_once_law};
 pub use manifest::manifest_json;
+pub use meta_error::MetaError;
 pub use metadata::ept_json;
 pub use names::{BUILD_FILE, MANIFEST, METADATA, hierarchy_name, tile_name};
 pub use rules::rules_of;

@@ -4,7 +4,7 @@ ghost use Rattle.std.specs.Prelude.{◌≡◌, ◌++◌, length, codes, OnOk, On
 ghost use Rattle.std.specs.List.{join_by, zip};
 ghost use Rattle.ept_meta.specs.ManifestText.{manifest_text, source_text, extent_text};
 
-use crate::json::{append, append_comma, append_number_member, append_quoted};
+use crate::pieces::{append, append_comma, append_number_member, append_quoted};
 use crate::units::append_bounds;
 use ept_config::{Input, Kept, SourceCount};
 use ept_point::Memory;

@@ -4,7 +4,7 @@ ghost use Rattle.std.specs.Prelude.{◌≡◌, ◌++◌, OnOk, OnErr};
 ghost use Rattle.std.specs.Option.{option_copied};
 ghost use Rattle.ept_meta.specs.EptText.{place_text, points_text, ept_text};
 
-use crate::json::{append, append_number_member};
+use crate::pieces::{append, append_number_member};
 use crate::schema::append_schema;
 use crate::srs_object::append_srs;
 use crate::units::{append_bounds, append_cube, span};

@@ -4,7 +4,7 @@ ghost use Rattle.std.specs.Prelude.{◌≡◌, ◌≤◌, ◌++◌, pos, OnOk};
 ghost use Rattle.ept_num.specs.Decimals.{decimal_text_of};
 ghost use Rattle.ept_meta.specs.Dimensions.{row_text, rows_text, transform_text, schema_text};
 
-use crate::json::{append, append_comma, append_number_member, append_quoted, append_whole};
+use crate::pieces::{append, append_comma, append_number_member, append_quoted, append_whole};
 use ept_config::Kept;
 use ept_num::decimal_text;
 use ept_point::{GPS_WIDTH, Memory, NUMBER_WIDTH};

@@ -3,7 +3,7 @@
 ghost use Rattle.std.specs.Prelude.{◌≡◌, ◌++◌, ◌||◌, is_some, OnOk, IfOk};
 ghost use Rattle.ept_meta.specs.SrsObject.{srs_text, member_part};
 
-use crate::json::{append, append_comma, append_quoted};
+use crate::pieces::{append, append_comma, append_quoted};
 use ept_config::Srs;
 use ept_point::{Memory, Text};
 

@@ -240,3 +240,47 @@ fn writes_build_files(rt: HostRuntime) -> Result<(), Fail> {
     }
     Ok(())
 }
+
+// Bytes that are no build file.
+const NO_BUILDS: [&str; 18] = [
+    "",
+    "{}",
+    "[]",
+    r#"{"scale":2,"offset":[0,0,0],"bounds":[0,0,0,7,7,7],"span":2,"minNodeSize":4096,"maxDepth":32,"hierarchyStep":0,"srs":{},"input":[{"path":"a.las","scale":2,"shift":[0,0,0]}]"#,
+    r#"{"scale":2,"offset":[0,0,0],"bounds":[0,0,0,7,7,7],"span":2,"minNodeSize":4096,"maxDepth":32,"hierarchyStep":0,"srs":{},"input":[{"path":"a.las","scale":2,"shift":[0,0,0]}]}}"#,
+    r#"{"scale":2,"offset":[0,0,0],"bounds":[0,0,0,7,7,7],"span":2,"minNodeSize":4096,"maxDepth":32,"hierarchyStep":0,"srs":{},"input":[{"path":"a.las","scale":2,"shift":[0,0,0]}]} "#,
+    r#"{"scale": 2,"offset":[0,0,0],"bounds":[0,0,0,7,7,7],"span":2,"minNodeSize":4096,"maxDepth":32,"hierarchyStep":0,"srs":{},"input":[{"path":"a.las","scale":2,"shift":[0,0,0]}]}"#,
+    r#"{"offset":[0,0,0],"scale":2,"bounds":[0,0,0,7,7,7],"span":2,"minNodeSize":4096,"maxDepth":32,"hierarchyStep":0,"srs":{},"input":[{"path":"a.las","scale":2,"shift":[0,0,0]}]}"#,
+    r#"{"scale":02,"offset":[0,0,0],"bounds":[0,0,0,7,7,7],"span":2,"minNodeSize":4096,"maxDepth":32,"hierarchyStep":0,"srs":{},"input":[{"path":"a.las","scale":2,"shift":[0,0,0]}]}"#,
+    r#"{"scale":10,"offset":[0,0,0],"bounds":[0,0,0,7,7,7],"span":2,"minNodeSize":4096,"maxDepth":32,"hierarchyStep":0,"srs":{},"input":[{"path":"a.las","scale":2,"shift":[0,0,0]}]}"#,
+    r#"{"scale":2,"offset":[0,0,0],"bounds":[0,0,8,7,7,7],"span":2,"minNodeSize":4096,"maxDepth":32,"hierarchyStep":0,"srs":{},"input":[{"path":"a.las","scale":2,"shift":[0,0,0]}]}"#,
+    r#"{"scale":2,"offset":[0,0,0],"bounds":[0,0,0,7,7,7],"span":3,"minNodeSize":4096,"maxDepth":32,"hierarchyStep":0,"srs":{},"input":[{"path":"a.las","scale":2,"shift":[0,0,0]}]}"#,
+    r#"{"scale":2,"offset":[0,0,0],"bounds":[0,0,0,7,7,7],"span":2,"minNodeSize":4096,"maxDepth":32,"hierarchyStep":0,"srs":{"wkt":"a","authority":"b"},"input":[{"path":"a.las","scale":2,"shift":[0,0,0]}]}"#,
+    r#"{"scale":2,"offset":[0,0,0],"bounds":[0,0,0,7,7,7],"span":2,"minNodeSize":4096,"maxDepth":32,"hierarchyStep":0,"srs":{},"input":[]}"#,
+    r#"{"scale":2,"offset":[0,0,0],"bounds":[0,0,0,7,7,7],"span":2,"minNodeSize":4096,"maxDepth":32,"hierarchyStep":0,"srs":{},"input":[{"path":"a.l\as","scale":2,"shift":[0,0,0]}]}"#,
+    r#"{"scale":2,"offset":[0,0,0],"bounds":[0,0,0,7,7,7],"span":2,"minNodeSize":4096,"maxDepth":32,"hierarchyStep":0,"srs":{},"input":[{"path":"a.las","scale":3,"shift":[0,0,0]}]}"#,
+    r#"{"scale":2,"offset":[0,0,0],"bounds":[0,0,0,7,7,7],"span":2,"minNodeSize":4096,"maxDepth":32,"hierarchyStep":0,"srs":{},"input":[{"path":"a.las","scale":2,"shift":[0,0,0]}],"threads":4}"#,
+    r#"{"scale":2,"offset":[0,0,0],"span":2,"minNodeSize":4096,"maxDepth":32,"hierarchyStep":0,"srs":{},"input":[{"path":"a.las","scale":2,"shift":[0,0,0]}]}"#,
+];
+
+#[test]
+fn reads_build_files(rt: HostRuntime) -> Result<(), Fail> {
+    let alloc = rt.alloc();
+    for row in &BUILDS {
+        let Ok(kept) = read_build_json(alloc, row.text.as_bytes()) else {
+            return Err(Fail::new("a build file is refused"));
+        };
+        let mut text = Vec::new(alloc);
+        build_json(&kept, &mut text)?;
+        assert_eq!(rt; text.as_slice(), row.text.as_bytes());
+    }
+    Ok(())
+}
+
+#[test]
+fn refuses_what_is_no_build_file(rt: HostRuntime) {
+    for text in NO_BUILDS.iter() {
+        let answer = read_build_json(rt.alloc(), text.as_bytes());
+        assert!(rt; answer.err() == Some(MetaError::Form), "{text}");
+    }
+}

@@ -8,7 +8,7 @@ ghost use Rattle.ept_space.specs.OctreeCube.{OctreeCube};
 ghost use Rattle.ept_meta.specs.Units.{coordinate_text, corner_text, box_text, bounds_text};
 ghost use Rattle.ept_meta.specs.Units.{cube_text, far_corner};
 
-use crate::json::append;
+use crate::pieces::append;
 use ept_config::Kept;
 use ept_num::decimal_text;
 use ept_point::Memory;

@@ -1,5 +1,5 @@
 -- Closing and opening the done gate, over every image.
-use Rattle.std.proofs.Common.{◌≡◌, ◌≢◌, ◌∙◌, inl, inr, ℕ, List, refl, sym, Option, Some}
+use Rattle.std.proofs.Common.{◌≡◌, ◌∙◌, inl, inr, ℕ, refl, sym, Option, Some}
 use Rattle.ept_base.specs.Files.{Files, SameFiles, SameBut, Tells}
 use Rattle.ept_base.specs.Moves.{Moves, IsSettled}
 use Rattle.ept_base.proofs.Moving.{moves_weaker, moves_both}

@@ -1,5 +1,5 @@
 pub mod NamesDiffer
-mod Moving
+pub mod Moving
 pub mod Keeping
 pub mod Standing
 pub mod Inserting
@@ -9,7 +9,7 @@ mod Next
 pub mod Newer
 mod Guarding
 pub mod LoadedLines
-mod WorkNames
+pub mod WorkNames
 pub mod SoundFiles
 mod SampledTiles
 pub mod SoundTiles

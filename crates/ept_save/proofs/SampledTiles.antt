@@ -19,7 +19,7 @@ use Rattle.ept_sample.proofs.Members.{all-member, All-members}
 use Rattle.ept_sample.proofs.Choices.{either, not_both, and_left, and_right}
 use Rattle.ept_sample.proofs.ArrivalLaws.{leaves-from, loses-kept, overflows-depth}
 use Rattle.ept_sample.proofs.SamplingLaws.{given-IsMember, given-InBox, IsMember-sampling}
-use Rattle.ept_core.proofs.Leaving.{over-open, fits-few, losers-kept}
+use Rattle.ept_core.proofs.Leaving.{over-open, losers-kept}
 use Rattle.ept_core.proofs.Resumed.{child-is_node, is_node-child}
 use Rattle.ept_grid.specs.Mask.{opened}
 use Rattle.ept_grid.specs.Tile.{is_open_loser, is_overfull, IsTile}

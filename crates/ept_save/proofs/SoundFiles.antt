@@ -1,6 +1,6 @@
 -- What keeps files sound.
-use Rattle.std.proofs.Common.{◌≡◌, ◌≢◌, ◌∙◌, inl, inr, ℕ, zero, suc, ◌<◌, List, [], ◌∷◌, Option, Some, None, refl, sym, ap, subst, arith, length, get_or, map}
-use Rattle.std.specs.Prelude.{All, Contains}
+use Rattle.std.proofs.Common.{◌≡◌, ◌∙◌, inl, inr, ℕ, suc, ◌<◌, List, [], ◌∷◌, Some, None, refl, sym, ap, subst, arith, length, get_or}
+use Rattle.std.specs.Prelude.{Contains}
 use Rattle.std.specs.List.{AllZip}
 use Rattle.std.proofs.lemmas.List.{get_or-map, length-map}
 use Rattle.ept_base.specs.Files.{Files, SameFiles}
@@ -9,7 +9,6 @@ use Rattle.ept_sample.specs.declared.tiles.Tile.{Tile}
 use Rattle.ept_config.specs.declared.kept.Kept.{Kept}
 use Rattle.ept_scan.specs.Laws.{ScanInOneWay}
 use Rattle.ept_ckpt.specs.declared.letter.Letter.{Letter}
-use Rattle.ept_ckpt.specs.declared.letter.Letter.TheVariants.{A, B}
 use Rattle.ept_ckpt.specs.declared.node_line.NodeLine.{NodeLine}
 use Rattle.ept_ckpt.specs.declared.checkpoint.Checkpoint.{Checkpoint}
 use Rattle.ept_meta.specs.Output.{File, IsOutput, IsOutputName, IsOutsideWork, EachIsOutsideWork, names_of}

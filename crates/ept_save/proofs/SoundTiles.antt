@@ -1,7 +1,6 @@
 -- No tile of sound files is damaged.
-use Rattle.std.proofs.Common.{◌≡◌, ◌∙◌, inl, inr, ℕ, zero, suc, ◌<◌, ◌^◌, Bool, true, false, ◌==◌, List, [], ◌∷◌, ◌++◌, Option, Some, None, refl, sym, ap, subst, arith, length, get_or, map, take, drop}
-use Rattle.std.specs.Prelude.{All, IsSomeAnd}
-use Rattle.std.specs.List.{AllZip, list_any}
+use Rattle.std.proofs.Common.{◌≡◌, ◌∙◌, inl, inr, ℕ, zero, suc, ◌<◌, ◌^◌, true, ◌==◌, List, [], ◌∷◌, Some, refl, sym, ap, subst, arith, length, get_or, map, take, drop}
+use Rattle.std.specs.List.{AllZip}
 use Rattle.std.specs.Int.{bit_at}
 use Rattle.std.proofs.lemmas.List.{take-append-drop}
 use Rattle.std.proofs.lemmas.List.Elements.{All-take}
@@ -14,7 +13,6 @@ use Rattle.ept_space.specs.declared.cube.Rules.{Rules}
 use Rattle.ept_space.specs.VoxelKey.{VoxelKey, child, same_key}
 use Rattle.ept_space.proofs.Within.{same_key-true, same_key-same}
 use Rattle.ept_config.specs.Extents.{IsWithin}
-use Rattle.ept_config.specs.declared.kept.Kept.{Kept}
 use Rattle.ept_sample.specs.Ids.{HasDistinctIds}
 use Rattle.ept_sample.specs.declared.tiles.Tile.{Tile}
 use Rattle.ept_sample.specs.Members.{IsMember}
@@ -37,7 +35,7 @@ use Rattle.ept_ckpt.specs.Lookup.{line_of_key}
 use Rattle.ept_ckpt.specs.Octree.{keys_of, is_among}
 use Rattle.ept_meta.specs.Output.{rules_of}
 use Rattle.ept_meta.specs.OutputLaws.{PointsCanBeSampled}
-use Rattle.ept_save.specs.Current.{Current, HasCurrent, tile_of_line}
+use Rattle.ept_save.specs.Current.{Current, HasCurrent}
 use Rattle.ept_save.specs.Loading.{AreOfLine, IsDamagedLine, IsDamaged}
 use Rattle.ept_save.specs.Sound.{HasPointsOf, IsSavedAs, IsSaved, IsSoundFor, IsSound}
 use Rattle.ept_save.proofs.LoadedLines.{found_stands, not-damaged-line, at-line}

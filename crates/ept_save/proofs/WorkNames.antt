@@ -1,5 +1,5 @@
 -- The names of checkpoints are in the folder that a build has for itself.
-use Rattle.std.proofs.Common.{◌≡◌, ◌≢◌, inl, inr, ℕ, List, ◌++◌, refl, sym, subst}
+use Rattle.std.proofs.Common.{◌≢◌, inl, inr, ℕ, List, ◌++◌, refl, sym, subst}
 use Rattle.std.specs.Prelude.{codes}
 use Rattle.ept_space.specs.VoxelKey.{VoxelKey}
 use Rattle.ept_space.specs.KeyText.{key_text}

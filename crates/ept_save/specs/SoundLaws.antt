@@ -1,5 +1,5 @@
 -- What holds of sound files. Each statement stands on the contract of a function of `laws`.
-use Rattle.std.specs.Prelude.{◌≡◌, ℕ, List, length, Option, Some, None, ⊤, Contains}
+use Rattle.std.specs.Prelude.{◌≡◌, ℕ, List, length, Some, None, ⊤, Contains}
 use Rattle.ept_base.specs.Files.{Files, SameFiles}
 use Rattle.ept_point.specs.declared.point.Point.{Point}
 use Rattle.ept_ckpt.specs.declared.letter.Letter.{Letter}
@@ -8,7 +8,7 @@ use Rattle.ept_meta.specs.Output.{File, IsOutput, names_of}
 use Rattle.ept_save.specs.Current.{Current, HasCurrent, Keeps, Commits}
 use Rattle.ept_save.specs.Done.{IsDone, Guards}
 use Rattle.ept_save.specs.Opening.{IsBad}
-use Rattle.ept_save.specs.Complete.{HasAllOf, IsComplete}
+use Rattle.ept_save.specs.Complete.{IsComplete}
 use Rattle.ept_save.specs.Sound.{HasPointsOf, IsSaved, IsWhole, IsSound}
 
 -- ---- what is sound

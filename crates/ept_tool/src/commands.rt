@@ -5,7 +5,7 @@ ghost use Rattle.ept_base.specs.Causes.{HasCauseOf};
 ghost use Rattle.ept_base.specs.Files.{Tells};
 ghost use Rattle.ept_base.specs.Moves.{Moves, IsSettled};
 ghost use Rattle.ept_las.specs.declared.header.Header as found;
-ghost use Rattle.ept_build.specs.Gains.{SameButOutput};
+ghost use Rattle.ept_build.specs.Gains.{SameButBuild};
 ghost use Rattle.ept_tool.specs.Lines.{summary_text, header_text};
 ghost use Rattle.ept_tool.specs.Requests.{IsBuiltAt, HasBuilt, IsAcceptedAt, BuildIsRefused, HasTold, HasHeader, InfoIsRefused, IsOfBuild, IsOfHeader, IsDefinite, IsLate, Fails};
 
@@ -48,7 +48,7 @@ where
     ensures untouched { IfErr result (λ r. (IsLate r → ⊥) → store.new ≡ store.old) }
     ensures puts_accepted { (store.new ≡ store.old)
         ⊎ Tells (λ all. IsAcceptedAt all path.now) (H.files shelf.old) }
-    ensures any_moment { Moves T.files T.may_leave T.moment T.image_since SameButOutput store.old store.new }
+    ensures any_moment { Moves T.files T.may_leave T.moment T.image_since SameButBuild store.old store.new }
     ensures files { H.files shelf.new ≡ H.files shelf.old }
     ensures room { room.new ≡ room.old }
 {
@@ -83,7 +83,7 @@ where
     ensures untouched { IfErr result (λ r. (IsLate r → ⊥) → store.new ≡ store.old) }
     ensures puts_accepted { (store.new ≡ store.old)
         ⊎ Tells (λ all. IsAcceptedAt all path.now) (H.files shelf.old) }
-    ensures any_moment { Moves T.files T.may_leave T.moment T.image_since SameButOutput store.old store.new }
+    ensures any_moment { Moves T.files T.may_leave T.moment T.image_since SameButBuild store.old store.new }
     ensures files { H.files shelf.new ≡ H.files shelf.old }
     ensures room { room.new ≡ room.old }
 {

@@ -6,7 +6,7 @@ ghost use Rattle.ept_base.specs.Causes.{Rose};
 ghost use Rattle.ept_base.specs.Files.{Tells};
 ghost use Rattle.ept_base.specs.Moves.{Moves, IsSettled};
 ghost use Rattle.ept_las.specs.declared.header.Header as found;
-ghost use Rattle.ept_build.specs.Gains.{SameButOutput};
+ghost use Rattle.ept_build.specs.Gains.{SameButBuild};
 ghost use Rattle.ept_tool.specs.declared.refusal.Refusal as cause;
 ghost use Rattle.ept_tool.specs.Words.{bytes_of, IsBuild, IsInfo, IsUsage, IsLater};
 ghost use Rattle.ept_tool.specs.Requests.{IsAcceptedAt, HasHeader, IsDefinite};
@@ -77,7 +77,7 @@ where
     ensures puts_accepted { (store.new ≡ store.old)
         ⊎ Tells (λ all. AsksBuild (bytes_of words.now) (IsAcceptedAt all)) (H.files shelf.old) }
     ensures info_puts_nothing { (las : List ℕ) → IsInfo (bytes_of words.now) las → store.new ≡ store.old }
-    ensures any_moment { Moves T.files T.may_leave T.moment T.image_since SameButOutput store.old store.new }
+    ensures any_moment { Moves T.files T.may_leave T.moment T.image_since SameButBuild store.old store.new }
     ensures files { H.files shelf.new ≡ H.files shelf.old }
     ensures room { room.new ≡ room.old }
 {

@@ -1,4 +1,3 @@
-use Rattle.std.specs.Prelude.{Ok}
 use Rattle.ept_save.proofs.LoadedLines.{refusal-comes, sound-only}
 use Rattle.ept_save.proofs.Standing.{same-stands}
 use Rattle.ept_save.proofs.loading.load_node.Goals as goal

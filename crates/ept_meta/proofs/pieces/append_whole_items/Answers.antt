@@ -2,7 +2,7 @@ use Rattle.std.proofs.Common.{pos, get_or, codes}
 use Rattle.std.specs.Fmt.{signed_decimal}
 use Rattle.ept_meta.proofs.Joining.{item_written}
 use Rattle.ept_meta.proofs.Sources.{other_default}
-use Rattle.ept_meta.proofs.json.append_whole_items.Goals as goal
+use Rattle.ept_meta.proofs.pieces.append_whole_items.Goals as goal
 
 pub loop-at-preserved : goal.loop-at-preserved
 loop-at-preserved c =

@@ -1,0 +1,44 @@
+-- A build file is that of one thing, and is read as that.
+use Rattle.std.proofs.Common.{◌≡◌, ◌≢◌, ◌∙◌, ℕ, List, Some, None, sym, ap}
+use Rattle.std.proofs.Props.{props}
+use mathlib.Core.HLevel.{is_prop→PathP}
+use Rattle.ept_config.specs.declared.kept.Kept.{Kept}
+use Rattle.ept_config.specs.Ranges.{LayoutInRange, BoundsInRange}
+use Rattle.ept_config.proofs.FactsTell.{inputs_same, srs_same}
+use Rattle.ept_meta.specs.BuildText.{build_text}
+use Rattle.ept_meta.specs.BuildReading.{KeptFacts, kept_facts, told}
+use Rattle.ept_meta.proofs.BuildRead.{build_told}
+
+-- what has the same facts is the same
+kept_same : (a b : Kept) → kept_facts a ≡ kept_facts b → a ≡ b
+kept_same a b e = λ i. record {
+  scale = (e i).scale;
+  offset = (e i).offset;
+  bounds = (e i).bounds;
+  s = (e i).s;
+  threshold = (e i).threshold;
+  max_depth = (e i).max_depth;
+  step = (e i).step;
+  srs = reference i;
+  inputs = list i;
+  layout = is_prop→PathP (λ j. LayoutInRange (e j).scale (e j).offset (e j).s (e j).threshold (e j).max_depth (e j).step (list j)) (λ j. hlevel props) a.layout b.layout i;
+  has_bounds = is_prop→PathP (λ j. BoundsInRange (e j).bounds) (λ j. hlevel props) a.has_bounds b.has_bounds i;
+}
+  where
+    reference : a.srs ≡ b.srs
+    reference = srs_same a.srs b.srs (λ i. (e i).srs)
+
+    list : a.inputs ≡ b.inputs
+    list = inputs_same a.inputs b.inputs (λ i. (e i).inputs)
+
+same_facts : (a b : KeptFacts) → Some a ≡ Some b → a ≡ b
+same_facts a b same = cc
+
+-- what the build file of `kept` was read as is `kept`
+pub read_again : (bytes : List ℕ) (found kept : Kept) → told bytes ≡ Some (kept_facts found) → bytes ≡ build_text kept → kept ≡ found
+read_again bytes found kept read is =
+    kept_same kept found (same_facts (kept_facts kept) (kept_facts found) (sym (ap told is ∙ build_told kept) ∙ read))
+
+-- bytes that tell nothing are no build file
+pub told_nothing : (bytes : List ℕ) → told bytes ≡ None → (kept : Kept) → bytes ≢ build_text kept
+told_nothing bytes nothing kept is = let some = sym nothing ∙ (ap told is ∙ build_told kept) in cc

@@ -1,0 +1,17 @@
+mod Readings
+mod Forms
+mod Noting
+mod Walking
+mod Counting
+mod Told
+mod Plans
+mod Inside
+mod Tiles
+mod Written
+mod Refusing
+mod Querying
+mod Laid
+mod Asked
+mod Calling
+mod Completing
+mod Whole

@@ -1,0 +1,174 @@
+-- A whole query, from its plan and its tiles.
+use Rattle.std.proofs.Common.{◌≡◌, ◌∙◌, ◌+◌, ◌≤◌, ℕ, List, [], ◌∷◌, ◌++◌, length, refl, sym, ap, subst, inl, inr, arith, Option, Result, Ok, Err, Less, Equal, Greater, true, false}
+use Rattle.std.specs.Prelude.{IfErr}
+use Rattle.std.specs.List.{AllZip}
+use Rattle.std.specs.Ordering.{ordering_reverse, is_lt}
+use Rattle.std.proofs.lemmas.List.{length-map}
+use Rattle.ept_base.specs.Files.{Files, SameFiles, StepsBy, Tells}
+use Rattle.ept_point.specs.declared.point.Point.{Point}
+use Rattle.ept_space.specs.declared.box3.Box3.{Box3}
+use Rattle.ept_space.specs.VoxelKey.{VoxelKey, IsBefore, key_cmp}
+use Rattle.ept_space.proofs.KeyOrder.{key_cmp_total, key_cmp-before, key_cmp-same}
+use Rattle.ept_config.specs.declared.kept.Kept.{Kept}
+use Rattle.ept_hier.specs.Hierarchy.{Node, keys_of}
+use Rattle.ept_sample.specs.Members.{IsMember}
+use Rattle.ept_sample.proofs.Ascending.{IsRising}
+use Rattle.ept_sample.proofs.KeyOrder.{key_before, IsRising-AllPairs}
+use Rattle.ept_sample.proofs.Members.{IsMember-contains, contains-IsMember, IsMember-right, IsMember-map, member-map}
+use Rattle.ept_save.specs.Done.{IsDone}
+use Rattle.ept_query.specs.declared.query_error.QueryFile.TheVariants.{BuildJson, Hierarchy, Tile}
+use Rattle.ept_query.specs.declared.query_error.QueryError.{QueryError}
+use Rattle.ept_query.specs.declared.query_error.QueryError.TheVariants.{NotComplete, StoreFault, Damaged, SinkFault, Memory}
+use Rattle.ept_query.specs.Search.{search_of}
+use Rattle.ept_query.specs.Plan.{IsBuiltWith, IsPlanned}
+use Rattle.ept_query.specs.Damage.{HasTile, IsFirstTile, IsFirstDamaged}
+use Rattle.ept_query.specs.Parts.{Plan, IsPart}
+use Rattle.ept_query.specs.Planning.{IsPlanFor, GetsFiles, GetsAll}
+use Rattle.ept_query.specs.Refusals.{RefusesPlan, RefusesQuery}
+use Rattle.ept_query.specs.Writing.{WritesAll, WritesFront, WritesBefore, LeavesTiles}
+use Rattle.ept_query.specs.Answers.{Answers, Stops, StopsAt, LeavesQuery}
+use Rattle.ept_query.proofs.Counting.{fewer}
+use Rattle.ept_query.proofs.Told.{tells-from, told, told-back}
+use Rattle.ept_query.proofs.Written.{part-back, none-back}
+
+-- ---- files that read as before
+
+parts-back : (area : Box3) (nodes : List Node) (parts : List (List Point)) (old new : Files) → SameFiles old new → AllZip (IsPart new area) nodes parts → AllZip (IsPart old area) nodes parts
+parts-back area [] [] old new same each = tt
+parts-back area [] (p ∷ parts) old new same each = absurd each
+parts-back area (n ∷ nodes) [] old new same each = absurd each
+parts-back area (n ∷ nodes) (p ∷ parts) old new same each = (part-back area n p old new same each.0, parts-back area nodes parts old new same each.1)
+
+all-back : (plan : Plan) (before now : Option (List ℕ)) (count : ℕ) (old new : Files) → SameFiles old new → WritesAll plan before now count new → WritesAll plan before now count old
+all-back plan before now count old new same w = record { parts = w.parts; read = parts-back plan.area plan.tiles w.parts old new same w.read; written = w.written; counted = w.counted }
+
+front-back : (plan : Plan) (before now : Option (List ℕ)) (old new : Files) → SameFiles old new → WritesFront plan before now new → WritesFront plan before now old
+front-back plan before now old new same w = record { front = w.front; back = w.back; split = w.split; parts = w.parts; read = parts-back plan.area w.front w.parts old new same w.read; written = w.written }
+
+before-back : (plan : Plan) (key : VoxelKey) (before now : Option (List ℕ)) (old new : Files) → SameFiles old new → WritesBefore plan key before now new → WritesBefore plan key before now old
+before-back plan key before now old new same w = record { front = w.front; count = w.count; back = w.back; split = w.split; damaged = none-back (key, w.count) old new same w.damaged; parts = w.parts; read = parts-back plan.area w.front w.parts old new same w.read; written = w.written }
+
+-- ---- where there is no plan
+
+pub plan-query : (area : Box3) (first last : ℕ) (files : Option Files) (error : QueryError) → RefusesPlan area first last files error → RefusesQuery area first last files error
+plan-query area first last files NotComplete refused = refused
+plan-query area first last files StoreFault refused = tt
+plan-query area first last files SinkFault refused = absurd refused
+plan-query area first last files Memory refused = tt
+plan-query area first last files (Damaged BuildJson) refused = refused
+plan-query area first last files (Damaged (Hierarchy key)) refused = refused
+plan-query area first last files (Damaged (Tile key)) refused = absurd refused
+
+pub plan-leaves : (area : Box3) (first last : ℕ) (files : Option Files) (old : Option (List ℕ)) (error : QueryError) → RefusesPlan area first last files error → LeavesQuery area first last files old old error
+plan-leaves area first last files old NotComplete refused = refl
+plan-leaves area first last files old StoreFault refused = inl refl
+plan-leaves area first last files old SinkFault refused = absurd refused
+plan-leaves area first last files old Memory refused = inl refl
+plan-leaves area first last files old (Damaged BuildJson) refused = refl
+plan-leaves area first last files old (Damaged (Hierarchy key)) refused = refl
+plan-leaves area first last files old (Damaged (Tile key)) refused = absurd refused
+
+pub gets-none : (area : Box3) (first last : ℕ) (files : Option Files) (old new : ℕ) → Tells (GetsFiles area first last old new) files → Tells (GetsAll area first last old new) files
+gets-none area first last files old new few = tells-from (GetsAll area first last old new) files (λ all is needed planned each others. (
+    let most = told (GetsFiles area first last old new) files all is few needed each in omega (arith, most)))
+
+-- ---- a tile that is damaged is the first
+
+-- the tiles that have parts are there
+pub there-tile : (files : Files) (area : Box3) (nodes : List Node) (parts : List (List Point)) (n : Node) → AllZip (IsPart files area) nodes parts → IsMember n nodes → (points : List Point) × HasTile files n.0 n.1 points
+there-tile files area [] parts n each m = absurd m
+there-tile files area (x ∷ nodes) [] n each m = absurd each
+there-tile files area (x ∷ nodes) (p ∷ parts) n each (inl is) = (each.0.points, subst (λ (y : Node). HasTile files y.0 y.1 each.0.points) is each.0.has)
+there-tile files area (x ∷ nodes) (p ∷ parts) n each (inr m) = there-tile files area nodes parts n each.1 m
+
+-- of keys that rise, those before one that stand in the list stand before it there
+stands-first : (front back : List Node) (node other : Node) → IsRising key_before (keys_of (front ++ node ∷ back)) → IsMember other (front ++ node ∷ back) → IsBefore other.0 node.0 → IsMember other front
+stands-first [] back node other rise (inl is) less =
+    (let below : key_cmp other.0 node.0 ≡ Less = key_cmp-before other.0 node.0 less in
+    let tied : key_cmp other.0 node.0 ≡ Equal = key_cmp-same other.0 node.0 (sym (ap (λ (n : Node). n.0) is)) in
+    let wrong : Less ≡ Equal = sym below ∙ tied in absurd (cc))
+stands-first [] back node other rise (inr m) less =
+    (let up : key_before node.0 other.0 ≡ true = rise.0 other.0 (IsMember-map (λ (n : Node). n.0) other back m) in
+    let below : key_cmp other.0 node.0 ≡ Less = key_cmp-before other.0 node.0 less in
+    let back' : key_cmp node.0 other.0 ≡ Greater = key_cmp_total.antisymm node.0 other.0 ∙ ap ordering_reverse below in
+    let wrong : false ≡ true = sym (ap is_lt back') ∙ up in absurd (cc))
+stands-first (x ∷ front) back node other rise (inl is) less = inl is
+stands-first (x ∷ front) back node other rise (inr m) less = inr (stands-first front back node other rise.1 m less)
+
+first-tile : (area : Box3) (first last : ℕ) (plan : Plan) (key : VoxelKey) (old new : Option (List ℕ)) (files : Files) (is : IsPlanFor area first last plan files) → WritesBefore plan key old new files → (kept : Kept) → IsBuiltWith files kept → IsFirstTile (search_of kept area first last) files key
+first-tile area first last plan key old new files is w kept built = record {
+  each = is.each kept built;
+  count = w.count;
+  planned = ((is.tiles kept built).each key w.count).0 (contains-IsMember (key, w.count) plan.tiles (subst (λ (ns : List Node). IsMember (key, w.count) ns) (sym w.split) (IsMember-right (key, w.count) w.front ((key, w.count) ∷ w.back) (inl refl))));
+  damaged = w.damaged;
+  first = λ other n planned less. there-tile files plan.area w.front w.parts (other, n) w.read
+      (stands-first w.front w.back (key, w.count) (other, n) (subst (λ (ns : List Node). IsRising key_before (keys_of ns)) w.split (IsRising-AllPairs (keys_of plan.tiles) (is.tiles kept built).ascend))
+      (subst (λ (ns : List Node). IsMember (other, n) ns) w.split (IsMember-contains (other, n) plan.tiles (((is.tiles kept built).each other n).1 planned))) less);
+}
+
+-- ---- where the tiles end
+
+module _ (area : Box3) (first last : ℕ) (plan : Plan) (area_is : plan.area ≡ area) (before now : Option Files) (is_plan : Tells (IsPlanFor area first last plan) before) (steps : StepsBy SameFiles before now) where
+  pub tiles-answer : (old new : Option (List ℕ)) (count : ℕ) → Tells (WritesAll plan old new count) now → Tells (Answers area first last old new count) before
+  tiles-answer old new count written = tells-from (Answers area first last old new count) before (λ all is. record {
+    plan = plan;
+    is_plan = told (IsPlanFor area first last plan) before all is is_plan;
+    area_is = area_is;
+    writes = told-back (WritesAll plan old new count) (all-back plan old new count) before now all is steps written;
+  })
+
+  stops-query : (old new : Option (List ℕ)) → Tells (WritesFront plan old new) now → Tells (Stops area first last old new) before
+  stops-query old new written = tells-from (Stops area first last old new) before (λ all is. record {
+    plan = plan;
+    is_plan = told (IsPlanFor area first last plan) before all is is_plan;
+    area_is = area_is;
+    writes = told-back (WritesFront plan old new) (front-back plan old new) before now all is steps written;
+  })
+
+  pub tiles-leave : (old new : Option (List ℕ)) (error : QueryError) → LeavesTiles plan now old new error → LeavesQuery area first last before old new error
+  tiles-leave old new NotComplete left = absurd left
+  tiles-leave old new StoreFault left = inr (stops-query old new left)
+  tiles-leave old new SinkFault left = stops-query old new left
+  tiles-leave old new Memory left = inr (stops-query old new left)
+  tiles-leave old new (Damaged BuildJson) left = absurd left
+  tiles-leave old new (Damaged (Hierarchy key)) left = absurd left
+  tiles-leave old new (Damaged (Tile key)) left = tells-from (StopsAt area first last key old new) before (λ all is. record {
+    plan = plan;
+    is_plan = told (IsPlanFor area first last plan) before all is is_plan;
+    area_is = area_is;
+    writes = told-back (WritesBefore plan key old new) (before-back plan key old new) before now all is steps left;
+  })
+
+  pub tiles-refuse : (old new : Option (List ℕ)) (error : QueryError) → LeavesTiles plan now old new error → RefusesQuery area first last before error
+  tiles-refuse old new NotComplete left = absurd left
+  tiles-refuse old new StoreFault left = tt
+  tiles-refuse old new SinkFault left = tt
+  tiles-refuse old new Memory left = tt
+  tiles-refuse old new (Damaged BuildJson) left = absurd left
+  tiles-refuse old new (Damaged (Hierarchy key)) left = absurd left
+  tiles-refuse old new (Damaged (Tile key)) left = tells-from (λ all. IsDone all × IsFirstDamaged area first last (Tile key) all) before (λ all is. (
+      let p = told (IsPlanFor area first last plan) before all is is_plan in
+      let w = told-back (WritesBefore plan key old new) (before-back plan key old new) before now all is steps left in
+      (p.done, (p.build, λ kept built. first-tile area first last plan key old new all p w kept built))))
+
+  pub tiles-left : (old new : Option (List ℕ)) (r : Result ℕ QueryError) → IfErr r (LeavesTiles plan now old new) → IfErr r (LeavesQuery area first last before old new)
+  tiles-left old new (Ok count) left = tt
+  tiles-left old new (Err error) left = tiles-leave old new error left
+
+  pub tiles-refused : (old new : Option (List ℕ)) (r : Result ℕ QueryError) → IfErr r (LeavesTiles plan now old new) → IfErr r (RefusesQuery area first last before)
+  tiles-refused old new (Ok count) left = tt
+  tiles-refused old new (Err error) left = tiles-refuse old new error left
+
+  pub gets-tiles : (old mid new : ℕ) → Tells (GetsFiles area first last old mid) before → new ≤ mid + length plan.tiles → Tells (GetsAll area first last old new) before
+  gets-tiles old mid new few more = tells-from (GetsAll area first last old new) before (λ all is needed planned each others. (
+      let p = told (IsPlanFor area first last plan) before all is is_plan in
+      let most = told (GetsFiles area first last old mid) before all is few needed each in
+      let kept : Kept = p.build.0 in
+      let built : IsBuiltWith all kept = p.build.1 in
+      let made = p.tiles kept built in
+      let count : length (keys_of plan.tiles) ≤ length planned = fewer (keys_of plan.tiles) planned made.ascend (λ key has. (
+      let found = member-map (λ (n : Node). n.0) key plan.tiles (IsMember-contains key (keys_of plan.tiles) has) in
+      let n : Node = found.0 in
+      others kept built key n.1 (subst (λ (k : VoxelKey). IsPlanned (search_of kept area first last) all k n.1) found.2 ((made.each n.0 n.1).0 (contains-IsMember n plan.tiles found.1))))) in
+      let size : length (keys_of plan.tiles) ≡ length plan.tiles = length-map plan.tiles (λ (n : Node). n.0) in
+      omega (arith, most, count, size, more)))

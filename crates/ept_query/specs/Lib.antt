@@ -1,0 +1,13 @@
+pub mod Rows
+pub mod Search
+pub mod Hierarchies
+pub mod Plan
+pub mod Causes
+pub mod Damage
+pub mod Walk
+pub mod Parts
+pub mod Writing
+pub mod Refusals
+pub mod Planning
+pub mod Answers
+pub mod Complete

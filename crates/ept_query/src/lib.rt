@@ -1,0 +1,24 @@
+//! Queries over a finished dataset: exactly the points of a box, in the nodes of some depths.
+#![tactic(auto)]
+
+mod asking;
+mod form;
+mod hierarchy;
+mod notes;
+mod plan;
+mod planning;
+mod query_error;
+mod reading;
+mod search;
+mod start;
+#[cfg(test)]
+mod tests;
+mod tile;
+mod walk;
+mod writing;
+
+pub use asking::query;
+pub use plan::QueryPlan;
+pub use planning::query_plan;
+pub use query_error::{QueryError, QueryFile};
+pub use tile::query_tile;

@@ -1,0 +1,131 @@
+//! The tiles of a plan.
+
+ghost use Rattle.std.specs.Prelude.{◌≡◌, ◌+◌, ◌<◌, ◌≤◌, ◌↔◌, List, ◌++◌, length, IsTrue, IfOk, IfErr, OnErr};
+ghost use Rattle.ept_base.specs.Causes.{HasCauseOf};
+ghost use Rattle.ept_base.specs.Files.{SameFiles, Tells};
+ghost use Rattle.ept_base.specs.Moves.{Moves};
+ghost use Rattle.ept_point.specs.declared.point.Point.{Point};
+ghost use Rattle.ept_point.specs.Order.{IsAscending};
+ghost use Rattle.ept_point.specs.Packed.{tile};
+ghost use Rattle.ept_query.specs.Causes.{of_tile};
+ghost use Rattle.ept_query.specs.Damage.{HasNoTile, HasTile, IsTileOf, RefusesBytes, RefusesReading};
+ghost use Rattle.ept_query.specs.Parts.{IsPartOf, node_at, points_in};
+ghost use Rattle.ept_query.specs.Rows.{is_inside};
+
+use crate::plan::QueryPlan;
+use crate::query_error::{QueryError, QueryFile};
+use crate::reading::read_file;
+use ept_base::Store;
+use ept_meta::tile_name;
+use ept_point::{Memory, Point, TileError, pack, read_tile};
+use ept_sample::place_of;
+use ept_space::{Box3, Key, contains};
+use std::alloc::Global;
+
+/// Makes `into` the packed points in the area of the tile of that number of the plan, in id order, and
+/// answers their number. No more than one file is got. After a refusal `into` is as it was.
+///
+/// # Errors
+///
+/// `Damaged` with the tile where it is absent, not of its form, or of another number of points than the
+/// plan has from its hierarchy file.
+pub fn query_tile<T: Store>(
+    alloc: Global,
+    store: &mut T,
+    plan: &QueryPlan,
+    number: usize,
+    into: &mut Vec<u8>,
+) -> Result<u64, QueryError>
+    requires { number < length plan.now.tiles }
+    ensures part { IfOk result (λ count. IsPartOf plan.now.area (node_at plan.now number)
+        into.new.items count (T.files store.old)) }
+    ensures refused { IfErr result (RefusesReading (QueryFile.Tile (node_at plan.now number).0)
+        (λ all. HasNoTile all (node_at plan.now number).0 (node_at plan.now number).1) (T.files store.old)) }
+    ensures unchanged { OnErr result (into.new.items ≡ into.old.items) }
+    ensures any_moment { Moves T.files T.may_leave T.moment T.image_since SameFiles store.old store.new }
+    ensures gets { T.gets store.new ≤ T.gets store.old + 1 }
+    ensures cause { HasCauseOf QueryError.StoreFault (T.faults store.old) (T.faults store.new) result }
+{
+    let (key, count) = plan.node(number);
+    let points = points_at(alloc, store, &key, count)?;
+    let mut found = Vec::new(alloc);
+    let number = append_inside(&plan.area, &points, &mut found)?;
+    *into = found;
+    Ok(number)
+}
+
+// The points of the tile of a key, which are as many as counted.
+fn points_at<T: Store>(
+    alloc: Global,
+    store: &mut T,
+    key: &Key,
+    count: u64,
+) -> Result<Vec<Point>, QueryError>
+    ensures found { IfOk result (λ points. Tells (λ all. HasTile all key.now count points.items) (T.files store.old)) }
+    ensures points { IfOk result (λ points. IsAscending points.items × (length points.items ≡ count)) }
+    ensures refused { IfErr result (RefusesReading (QueryFile.Tile key.now)
+        (λ all. HasNoTile all key.now count) (T.files store.old)) }
+    ensures any_moment { Moves T.files T.may_leave T.moment T.image_since SameFiles store.old store.new }
+    ensures gets { T.gets store.new ≤ T.gets store.old + 1 }
+    ensures cause { HasCauseOf QueryError.StoreFault (T.faults store.old) (T.faults store.new) result }
+{
+    let name = tile_name(alloc, key)?;
+    let bytes = read_file(alloc, store, QueryFile::Tile(*key), name.as_str())?;
+    points_of(alloc, &bytes, count, QueryFile::Tile(*key))
+}
+
+// The points that bytes are read as, where they are as many as counted.
+fn points_of(
+    alloc: Global,
+    bytes: &[u8],
+    count: u64,
+    file: QueryFile,
+) -> Result<Vec<Point>, QueryError>
+    ensures points { IfOk result (λ points. IsTileOf bytes.now count points.items) }
+    ensures refused { IfErr result (RefusesBytes file ((points : List Point) → ¬ IsTileOf bytes.now count points)) }
+{
+    let mut points = Vec::new(alloc);
+    match read_tile(bytes, &mut points) {
+        Ok(()) => {}
+        Err(error) => return Err(told_of(error, file)),
+    }
+    if points.len() as u64 == count {
+        Ok(points)
+    } else {
+        Err(QueryError::Damaged { file })
+    }
+}
+
+// What is told of a tile that is refused.
+fn told_of(error: TileError, file: QueryFile) -> QueryError
+    ensures { result ≡ of_tile file error }
+{
+    match error {
+        TileError::Length | TileError::Field { .. } | TileError::Order { .. } => {
+            QueryError::Damaged { file }
+        }
+        TileError::Memory => QueryError::Memory,
+    }
+}
+
+// Appends the packed points that lie in the area, and answers their number.
+fn append_inside(area: &Box3, points: &[Point], into: &mut Vec<u8>) -> Result<u64, Memory>
+    ensures bytes { IfOk result (λ count. into.new.items ≡ into.old.items ++ tile (points_in area.now points.now)) }
+    ensures number { IfOk result (λ count. count ≡ length (points_in area.now points.now)) }
+{
+    let mut count = 0;
+    for point in points {
+        if is_inside(area, point) {
+            into.extend_from_slice(&pack(point))?;
+            count += 1;
+        }
+    }
+    Ok(count)
+}
+
+// Whether a point lies in the area.
+fn is_inside(area: &Box3, point: &Point) -> bool
+    ensures { result ≡ is_inside area.now point.now }
+{
+    contains(area, place_of(point))
+}
