@@ -112,7 +112,7 @@ fn expect_sentences(rt: &impl Abort, alloc: Global) -> Result<(), AllocError> {
             &["flights/b.las"],
             BOUNDED,
             "error 2 usage",
-            Some("the words are neither `build CONFIG OUT` nor `info LAS`"),
+            Some("the words are none of `build CONFIG OUT`, `query OUT BOX DEPTHS` and `info LAS`"),
         ),
     ] {
         expect(rt, alloc, words, configuration, (line, want))?;

@@ -115,7 +115,8 @@ pub(crate) fn sentence(
 }
 
 /// Of words that are no command.
-pub(crate) const USAGE_SENTENCE: &str = "the words are neither `build CONFIG OUT` nor `info LAS`";
+pub(crate) const USAGE_SENTENCE: &str =
+    "the words are none of `build CONFIG OUT`, `query OUT BOX DEPTHS` and `info LAS`";
 
 /// Of want of memory.
 pub(crate) const MEMORY_SENTENCE: &str = "out of memory";
