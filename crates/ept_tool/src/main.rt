@@ -31,7 +31,7 @@ use crate::heard::Heard;
 use crate::messages::{message, plain};
 use crate::refusal::Refusal;
 use crate::run::run;
-use crate::status::{DAMAGED, OK};
+use crate::status::{DAMAGED, NOT_COMPLETE, OK};
 use crate::watched::Watched;
 use crate::words::{Command, command_of};
 use ept_base::{OpenGate, Sink};
@@ -121,7 +121,18 @@ fn tell(rt: &HostRuntime, words: &[String], ended: &Ended, line: &str, unread: &
         (Some(got), _) if status == DAMAGED => {
             eprintln!(rt; "ept_tool: {got} is absent or not of its form")
         }
+        (Some(_), _) if status == NOT_COMPLETE => {
+            eprintln!(rt; "ept_tool: {} has no complete dataset", folder_of(words))
+        }
         (_, Ok(Some(sentence))) => eprintln!(rt; "ept_tool: {sentence}"),
         _ => eprintln!(rt; "ept_tool: {}", plain(status)),
     };
+}
+
+// The folder of a query, as it is named.
+fn folder_of(words: &[String]) -> &str {
+    match command_of(words) {
+        Command::Query { out, .. } => out,
+        _ => "the folder",
+    }
 }
