@@ -6,6 +6,8 @@ use Rattle.hex.specs.Hex.{encode_lower}
 use Rattle.ept_space.specs.declared.bounds.Bounds.{Bounds}
 use Rattle.ept_config.specs.declared.input.Input.{Input}
 use Rattle.ept_config.specs.declared.kept.Kept.{Kept}
+use Rattle.ept_meta.specs.declared.fields.Field.{Field}
+use Rattle.ept_meta.specs.declared.fields.Field.TheVariants as field
 use Rattle.ept_meta.specs.Json.{number_member, quoted, wholes, wholes_text}
 use Rattle.ept_meta.specs.SrsObject.{srs_text}
 
@@ -46,3 +48,21 @@ unfoldable pub build_text : Kept → List ℕ
 build_text kept =
     units_text kept ++ octree_text kept ++ codes ",\"srs\":" ++ srs_text kept.srs
     ++ inputs_text kept.inputs ++ codes "}"
+
+-- ---- field by field
+
+-- the inputs, in order
+unfoldable pub input_list_text : List Input → List ℕ
+input_list_text inputs = codes "[" ++ join_by input_text (codes ",") inputs ++ codes "]"
+
+-- the value of a field
+abbrev pub field_text : Field → Kept → List ℕ
+field_text field.Scale kept = decimal kept.scale
+field_text field.Offset kept = wholes_text kept.offset
+field_text field.Bounds kept = stored_bounds_text kept.bounds
+field_text field.Span kept = decimal (2 ^ kept.s)
+field_text field.MinNodeSize kept = decimal kept.threshold
+field_text field.MaxDepth kept = decimal kept.max_depth
+field_text field.HierarchyStep kept = decimal kept.step
+field_text field.Srs kept = srs_text kept.srs
+field_text field.Input kept = input_list_text kept.inputs

@@ -5,7 +5,7 @@ ghost use Rattle.std.specs.List.{join_by};
 ghost use Rattle.hex.specs.Hex.{encode_lower};
 ghost use Rattle.ept_meta.specs.Json.{quoted};
 ghost use Rattle.ept_meta.specs.BuildText.{build_text, units_text, stored_bounds_text, octree_text};
-ghost use Rattle.ept_meta.specs.BuildText.{inputs_text, input_text, expect_text};
+ghost use Rattle.ept_meta.specs.BuildText.{inputs_text, input_list_text, input_text, expect_text};
 
 use crate::pieces::{
     append, append_comma, append_number, append_number_member, append_quoted, append_whole_items,
@@ -57,8 +57,9 @@ fn append_units(text: &mut Vec<u8>, kept: &Kept) -> Result<(), Memory>
     Ok(())
 }
 
+/// Appends bounds in stored units.
 #[tactic(auto, unfolding(crate::specs::BuildText::stored_bounds_text))]
-fn append_stored_bounds(text: &mut Vec<u8>, bounds: &Bounds) -> Result<(), Memory>
+pub(crate) fn append_stored_bounds(text: &mut Vec<u8>, bounds: &Bounds) -> Result<(), Memory>
     ensures { OnOk result (text.new.items
         ≡ text.old.items ++ stored_bounds_text bounds.now) }
 {
@@ -91,6 +92,17 @@ fn append_inputs(text: &mut Vec<u8>, inputs: &[Input]) -> Result<(), Memory>
     Ok(())
 }
 
+/// Appends the inputs as an array.
+#[tactic(auto, unfolding(crate::specs::BuildText::input_list_text))]
+pub(crate) fn append_input_list(text: &mut Vec<u8>, inputs: &[Input]) -> Result<(), Memory>
+    ensures { OnOk result (text.new.items ≡ text.old.items ++ input_list_text inputs.now) }
+{
+    append(text, b"[")?;
+    append_input_items(text, inputs)?;
+    append(text, b"]")?;
+    Ok(())
+}
+
 fn append_input_items(text: &mut Vec<u8>, inputs: &[Input]) -> Result<(), Memory>
     ensures { OnOk result (text.new.items ≡ text.old.items ++ join_by input_text (codes ",") inputs.now) }
 {
@@ -101,8 +113,9 @@ fn append_input_items(text: &mut Vec<u8>, inputs: &[Input]) -> Result<(), Memory
     Ok(())
 }
 
+/// Appends the object of an input.
 #[tactic(auto, unfolding(crate::specs::BuildText::input_text))]
-fn append_input(text: &mut Vec<u8>, input: &Input) -> Result<(), Memory>
+pub(crate) fn append_input(text: &mut Vec<u8>, input: &Input) -> Result<(), Memory>
     ensures { OnOk result (text.new.items ≡ text.old.items ++ input_text input.now) }
 {
     append(text, b"{\"path\":")?;

@@ -7,6 +7,7 @@
 
 mod build;
 mod build_reader;
+mod fields;
 mod laws;
 mod manifest;
 mod meta_error;
@@ -22,6 +23,7 @@ mod units;
 
 pub use build::build_json;
 pub use build_reader::read_build_json;
+pub use fields::{Field, field_json, input_json};
 pub use laws::{output_names_law, output_once_law};
 pub use manifest::manifest_json;
 pub use meta_error::MetaError;
