@@ -3,9 +3,10 @@
 ghost use Rattle.std.specs.Prelude.{◌≡◌, ◌↔◌, Some, IsTrue, IfOk, IfErr, OnOk};
 ghost use Rattle.ept_base.specs.Causes.{HasCauseOf};
 ghost use Rattle.ept_base.specs.Devices.{counts_on};
-ghost use Rattle.ept_base.specs.Files.{Files, SameFiles, SameBut, Tells};
+ghost use Rattle.ept_base.specs.Files.{Files, SameFiles, SameBut, Tells, StepsBy};
 ghost use Rattle.ept_base.specs.Moves.{Moves, SameImages, IsSettled};
 ghost use Rattle.ept_save.specs.Names.{done_name};
+ghost use Rattle.ept_save.specs.Gates.{Closes};
 ghost use Rattle.ept_save.specs.Done.{IsDone, IsGuarded, Guards};
 ghost use Rattle.ept_save.specs.Errors.{IsStores};
 ghost use Rattle.ept_save.specs.View as view;
@@ -31,8 +32,10 @@ pub fn is_done<T: Store>(alloc: Global, store: &mut T) -> Result<bool, SaveError
     is_open(alloc, store, DONE)
 }
 
-/// Closes the done gate, and makes what is read stable.
+/// Closes the done gate: the byte 0 is put where it is open, and nothing where it is not; then what is read is
+/// made stable.
 pub fn close_done<T: Store>(alloc: Global, store: &mut T) -> Result<(), SaveError>
+    ensures puts { OnOk result (StepsBy (Closes done_name) (T.files store.old) (T.files store.new)) }
     ensures closed { OnOk result (Tells (λ all. ¬ IsDone all) (T.files store.new)) }
     ensures stood_shut { (all : Files) → T.files store.old ≡ Some all → ¬ IsDone all
         → Moves T.files T.may_leave T.moment T.image_since SameFiles store.old store.new }

@@ -5,7 +5,7 @@ ghost use Rattle.ept_base.specs.Causes.{HasCauseOf};
 ghost use Rattle.ept_base.specs.Devices.{counts_on};
 ghost use Rattle.ept_base.specs.Files.{Files, SameFiles, SameBut, Tells, StepsBy};
 ghost use Rattle.ept_base.specs.Moves.{Elapses, Moves, SameImages, IsSettled};
-ghost use Rattle.ept_save.specs.Gates.{IsOpen};
+ghost use Rattle.ept_save.specs.Gates.{IsOpen, Closes};
 ghost use Rattle.ept_save.specs.Errors.{IsStores};
 
 use crate::error::SaveError;
@@ -37,6 +37,7 @@ pub(crate) fn close_gate<T: Store>(
     ensures any_moment { Moves T.files T.may_leave T.moment T.image_since (SameBut name.now) store.old store.new }
     ensures stood_shut { (all : Files) → T.files store.old ≡ Some all → ¬ IsOpen all name.now
         → Moves T.files T.may_leave T.moment T.image_since SameFiles store.old store.new }
+    ensures puts { OnOk result (StepsBy (Closes name.now) (T.files store.old) (T.files store.new)) }
     ensures shut { OnOk result (Tells (λ all. ¬ IsOpen all name.now) (T.files store.new)) }
     ensures settled { OnOk result (IsSettled (T.files store.new) (T.may_leave store.new)) }
     ensures only { IfErr result IsStores }

@@ -7,6 +7,7 @@ ghost use Rattle.ept_base.specs.Moves.{Moves, IsSettled};
 ghost use Rattle.ept_point.specs.Packed.{tile};
 ghost use Rattle.ept_ckpt.specs.declared.node_line.NodeLine.{NodeLine};
 ghost use Rattle.ept_save.specs.Names.{gate_name, work_tile_name};
+ghost use Rattle.ept_save.specs.Gates.{Closes};
 ghost use Rattle.ept_save.specs.Current.{Keeps};
 ghost use Rattle.ept_save.specs.View.{StandsFor, next_letter};
 ghost use Rattle.ept_save.specs.Lines.{free_letter, with_line};
@@ -22,11 +23,13 @@ use ept_point::{Point, tile_bytes};
 use ept_space::Key;
 use std::alloc::Global;
 
-/// Begins the next checkpoint: closes the gate of its letter, the one that is not current, and makes what
-/// is read stable.
+/// Begins the next checkpoint: closes the gate of its letter, the one that is not current, by the byte 0 where it
+/// is open, and makes what is read stable.
 pub fn begin<T: Store>(alloc: Global, store: &mut T, saved: &mut Saved) -> Result<(), SaveError>
     ensures begun { OnOk result (saved.new ≡ record saved.old { begun = true }) }
     ensures unchanged { OnErr result (saved.new ≡ saved.old) }
+    ensures puts { OnOk result (StepsBy (Closes (gate_name (next_letter saved.old.current)))
+        (T.files store.old) (T.files store.new)) }
 
     // Whatever the moment, no name but this gate changes, and the current checkpoint stays.
     ensures gate { Moves T.files T.may_leave T.moment T.image_since

@@ -34,7 +34,7 @@ told_as : {X : Type 0} (P Q : X → Type 0) (told : Option X) → ((x : X) → P
 told_as P Q None step p = tt
 told_as P Q (Some x) step p = step x p
 
-told_always : {X : Type 0} (Q : X → Type 0) (told : Option X) → ((x : X) → Q x) → Tells Q told
+pub told_always : {X : Type 0} (Q : X → Type 0) (told : Option X) → ((x : X) → Q x) → Tells Q told
 told_always Q None holds = tt
 told_always Q (Some x) holds = holds x
 

@@ -1,5 +1,6 @@
 mod Asked
 mod Fronts
+mod Queried
 mod Refused
 mod Runs
 mod Texts

@@ -5,9 +5,10 @@ use Rattle.std.specs.declared.alloc.Global.{Global}
 use Rattle.ept_base.specs.Devices.{AppendsPrefix}
 use Rattle.ept_base.specs.Files.{Files, Tells}
 use Rattle.ept_las.specs.declared.header.Header.{Header}
+use Rattle.ept_space.specs.declared.box3.Box3.{Box3}
 use Rattle.ept_tool.specs.declared.refusal.Refusal.{Refusal}
 use Rattle.ept_tool.specs.declared.refusal.Refusal.TheVariants.{Usage, BadConfiguration, BadLas, OutOfBounds, NoBounds, SourceChanged, TooManyPoints, TooManyNodes, SourceFault, StoreFault, Memory}
-use Rattle.ept_tool.specs.Words.{IsBuild, IsInfo, IsUsage}
+use Rattle.ept_tool.specs.Words.{IsBuild, IsInfo, IsQuery, IsUsage}
 use Rattle.ept_tool.specs.Lines.{summary_text, header_text, status_of, line_of}
 use Rattle.ept_tool.specs.Requests.{HasBuilt, HasTold, BuildIsRefused, InfoIsRefused, IsLate}
 
@@ -29,6 +30,14 @@ pub record AsksInfo (words : List (List ℕ)) (Fact : List ℕ → Type 0) : Typ
   pub path : List ℕ
   pub words_are : IsInfo words path
   pub holds : Fact path
+
+-- the points of some area and depths of the dataset in some folder
+pub record AsksQuery (words : List (List ℕ)) : Type 0 where
+  pub folder : List ℕ
+  pub area : Box3
+  pub first : ℕ
+  pub last : ℕ
+  pub words_are : IsQuery words folder area first last
 
 -- ---- what is done
 

@@ -3,3 +3,4 @@ pub mod Errors
 pub mod Lines
 pub mod Requests
 pub mod Answers
+pub mod Queries

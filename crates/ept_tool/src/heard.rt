@@ -3,7 +3,10 @@
 use ept_base::{Failed, Sink};
 use std::alloc::Global;
 
-/// A sink that hands all on, and keeps what it was to write: also what could not be written.
+/// No line is longer. The points of a query are, and only a front of them is kept.
+const LONGEST: usize = 4_096;
+
+/// A sink that hands all on, and keeps a front of what it was to write: also what could not be written.
 #[derive(Drop)]
 pub(crate) struct Heard<O: Sink + Drop> {
     out: O,
@@ -35,11 +38,18 @@ impl<O: Sink + Drop> Sink for Heard<O> {
 
     fn write(&mut self, from: &[u8]) -> Result<usize, Failed> {
         self.line.truncate(self.written);
-        if self.line.extend_from_slice(from).is_err() {
-            self.line.clear();
-        }
+        keep(&mut self.line, from);
         let count = self.out.write(from)?;
         self.written = self.written.saturating_add(count);
         Ok(count)
+    }
+}
+
+// Keeps a front of these bytes behind a line, as far as a line goes.
+fn keep(line: &mut Vec<u8>, from: &[u8]) {
+    let room = LONGEST.saturating_sub(line.len());
+    let front = &from[..from.len().min(room)];
+    if line.extend_from_slice(front).is_err() {
+        line.clear();
     }
 }

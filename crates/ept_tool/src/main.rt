@@ -1,4 +1,5 @@
-//! `ept_tool` builds an Entwine Point Tile folder from LAS files, and tells what the header of one says.
+//! `ept_tool` builds an Entwine Point Tile folder from LAS files, answers the points of a box of one, and tells
+//! what the header of a LAS file says.
 #![tactic(auto)]
 
 mod answers;
@@ -11,12 +12,16 @@ mod lines;
 #[cfg(test)]
 mod message_tests;
 mod messages;
+#[cfg(test)]
+mod query_tests;
+mod querying;
 mod refusal;
 mod run;
 mod sentences;
 mod status;
 #[cfg(test)]
 mod tests;
+mod watched;
 mod words;
 #[cfg(test)]
 mod worked_tests;
@@ -26,7 +31,8 @@ use crate::heard::Heard;
 use crate::messages::{message, plain};
 use crate::refusal::Refusal;
 use crate::run::run;
-use crate::status::OK;
+use crate::status::{DAMAGED, OK};
+use crate::watched::Watched;
 use crate::words::{Command, command_of};
 use ept_base::{OpenGate, Sink};
 use ept_mem::{MemRoom, MemStore};
@@ -39,18 +45,28 @@ fn main(rt: HostRuntime) -> ExitCode {
     let alloc = rt.alloc();
     let mut shelf = RealShelf::new(alloc, &rt);
     let mut out = Heard::new(alloc, RealSink::new(writer(&rt)));
-    let (words, status) = match given_words(&rt) {
+    let (words, ended) = match given_words(&rt) {
         Ok(words) => {
-            let status = start(&rt, &words, &mut shelf, &mut out);
-            (words, status)
+            let ended = start(&rt, &words, &mut shelf, &mut out);
+            (words, ended)
         }
-        Err(refusal) => (Vec::new(alloc), refuse(alloc, &mut out, refusal)),
+        Err(refusal) => {
+            let status = refuse(alloc, &mut out, refusal);
+            (Vec::new(alloc), Ended { status, got: None })
+        }
     };
-    if status != OK {
+    if ended.status != OK {
         let unread = shelf.refused().unwrap_or("a file");
-        tell(&rt, &words, status, out.line(), unread);
+        tell(&rt, &words, &ended, out.line(), unread);
     }
-    ExitCode::from(status)
+    ExitCode::from(ended.status)
+}
+
+// How a run ended, and of a query the file of the folder that was got last.
+#[derive(Drop)]
+struct Ended {
+    status: u8,
+    got: Option<String>,
 }
 
 // The words behind the program's name. Words that are not text are faulty ones.
@@ -72,28 +88,40 @@ fn start<O: Sink>(
     words: &[String],
     shelf: &mut RealShelf<'_, HostRuntime>,
     out: &mut O,
-) -> u8 {
+) -> Ended {
     let alloc = rt.alloc();
     let mut room = MemRoom::new(alloc, Vec::new(alloc), Vec::new(alloc));
     match command_of(words) {
         Command::Build { out: folder, .. } => {
             let mut store = RealStore::new(alloc, rt, folder);
-            run(alloc, words, shelf, &mut store, &mut room, out, &OpenGate)
+            let status = run(alloc, words, shelf, &mut store, &mut room, out, &OpenGate);
+            Ended { status, got: None }
+        }
+        Command::Query { out: folder, .. } => {
+            let mut store = Watched::new(alloc, RealStore::new(alloc, rt, folder));
+            let status = run(alloc, words, shelf, &mut store, &mut room, out, &OpenGate);
+            let got = String::from_str(alloc, store.name()).ok();
+            Ended { status, got }
         }
         _ => {
             let mut store = MemStore::new(alloc, Vec::new(alloc), Vec::new(alloc));
-            run(alloc, words, shelf, &mut store, &mut room, out, &OpenGate)
+            let status = run(alloc, words, shelf, &mut store, &mut room, out, &OpenGate);
+            Ended { status, got: None }
         }
     }
 }
 
 // Says on standard error what was wrong: what the line says, in words, or else what the status says.
-fn tell(rt: &HostRuntime, words: &[String], status: u8, line: &str, unread: &str) {
+fn tell(rt: &HostRuntime, words: &[String], ended: &Ended, line: &str, unread: &str) {
     let alloc = rt.alloc();
+    let status = ended.status;
     let mut shelf = RealShelf::new(alloc, rt);
     // A message that can't be written changes no status.
-    let _ = match message(alloc, words, line, unread, &mut shelf) {
-        Ok(Some(sentence)) => eprintln!(rt; "ept_tool: {sentence}"),
+    let _ = match (&ended.got, message(alloc, words, line, unread, &mut shelf)) {
+        (Some(got), _) if status == DAMAGED => {
+            eprintln!(rt; "ept_tool: {got} is absent or not of its form")
+        }
+        (_, Ok(Some(sentence))) => eprintln!(rt; "ept_tool: {sentence}"),
         _ => eprintln!(rt; "ept_tool: {}", plain(status)),
     };
 }

@@ -3,7 +3,9 @@
 use crate::files::{MOST, read_configuration, read_front};
 use crate::refusal::Refusal;
 use crate::sentences::{MEMORY_SENTENCE, Names, Record, Told, USAGE_SENTENCE, read_line, sentence};
-use crate::status::{BAD_CONFIGURATION, BAD_SCAN, DEVICE, MEMORY, NOT_BUILT, TOO_MANY, USAGE};
+use crate::status::{
+    BAD_CONFIGURATION, BAD_SCAN, DAMAGED, DEVICE, MEMORY, NOT_BUILT, NOT_COMPLETE, TOO_MANY, USAGE,
+};
 use crate::words::{Command, command_of};
 use ept_base::Shelf;
 use ept_config::{Config, ConfigKey};
@@ -37,10 +39,15 @@ pub(crate) fn message<'x, H: Shelf>(
     unread: &'x str,
     shelf: &mut H,
 ) -> Result<Option<String>, Refusal> {
+    let command = command_of(words);
+    if let Command::Query { .. } = command {
+        // What a query writes are points, and no line.
+        return Ok(None);
+    }
     let Some(told) = read_line(line) else {
         return unsaid(alloc, line);
     };
-    match command_of(words) {
+    match command {
         Command::Build { config, out } => {
             let names = Names {
                 config,
@@ -150,7 +157,9 @@ pub(crate) fn plain(status: u8) -> &'static str {
         BAD_CONFIGURATION => "the configuration is refused",
         BAD_SCAN => "a LAS file can't be read, or its points don't fit the bounds",
         TOO_MANY => "there are too many points, or too many nodes",
+        NOT_COMPLETE => "the folder has no complete dataset",
         DEVICE => "a file could not be read or written",
+        DAMAGED => "a file of the dataset is absent or not of its form",
         MEMORY => MEMORY_SENTENCE,
         NOT_BUILT => "this command is not carried out yet",
         _ => "refused",

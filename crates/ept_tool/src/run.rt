@@ -3,20 +3,24 @@
 ghost use Rattle.std.specs.Prelude.{◌≡◌, ◌≢◌, ◌⊎◌, ◌↔◌, ℕ, List};
 ghost use Rattle.std.specs.Io.KnownBytes.{Appends};
 ghost use Rattle.ept_base.specs.Causes.{Rose};
-ghost use Rattle.ept_base.specs.Files.{Tells};
+ghost use Rattle.ept_base.specs.Files.{SameFiles, Tells};
 ghost use Rattle.ept_base.specs.Moves.{Moves, IsSettled};
 ghost use Rattle.ept_las.specs.declared.header.Header as found;
+ghost use Rattle.ept_space.specs.declared.box3.Box3 as space;
 ghost use Rattle.ept_build.specs.Gains.{SameButBuild};
 ghost use Rattle.ept_tool.specs.declared.refusal.Refusal as cause;
-ghost use Rattle.ept_tool.specs.Words.{bytes_of, IsBuild, IsInfo, IsUsage, IsLater};
+ghost use Rattle.ept_tool.specs.Words.{bytes_of, IsBuild, IsInfo, IsQuery, IsUsage, IsLater};
 ghost use Rattle.ept_tool.specs.Requests.{IsAcceptedAt, HasHeader, IsDefinite};
-ghost use Rattle.ept_tool.specs.Answers.{Yields, YieldsRefusal, AsksBuild, AsksInfo, Ends, IsRefused, Refuses, IsCut};
+ghost use Rattle.ept_tool.specs.Answers.{Yields, YieldsRefusal, AsksBuild, AsksInfo, AsksQuery, Ends, IsRefused, Refuses, IsCut};
+ghost use Rattle.ept_tool.specs.Queries.{EndsQuery};
 
 use crate::answers::{finish, refuse_usage};
 use crate::commands::{build_line, info_line};
+use crate::querying::answer_query;
 use crate::status::NOT_BUILT;
 use crate::words::{Command, command_of};
 use ept_base::{Gate, Room, Shelf, Sink, Store};
+use ept_http::query_words_law;
 use std::alloc::Global;
 
 /// Carries out the command that the words are, over these devices, and answers the status with which the
@@ -24,8 +28,10 @@ use std::alloc::Global;
 ///
 /// `build CONFIG OUT` reads the configuration from the shelf, and the LAS files that it names, puts the
 /// octree of their points into the store, and writes how many points and nodes it has to the sink. `info LAS`
-/// reads the header of a LAS file from the shelf and writes what it says to the sink. A refusal is one line on
-/// the sink, except that of a command that this program doesn't carry out, which writes nothing.
+/// reads the header of a LAS file from the shelf and writes what it says to the sink. `query OUT BOX DEPTHS`
+/// writes the packed points of a box and of some depths of the dataset in the store to the sink. A refusal is
+/// one line on the sink, except that of a query, and that of a command that this program doesn't carry out,
+/// which write none.
 pub fn run<H: Shelf, T: Store, R: Room, O: Sink, G: Gate + Sync>(
     alloc: Global,
     words: &[String],
@@ -38,8 +44,8 @@ pub fn run<H: Shelf, T: Store, R: Room, O: Sink, G: Gate + Sync>(
 where
     H::Source: Send,
     R::File: Send,
-    // The statuses: 0 done, 2 no command, 3 the configuration, 4 a scan, 5 too many, 7 a device, 9 memory,
-    // 10 a later command.
+    // The statuses: 0 done, 2 no command, 3 the configuration, 4 a scan, 5 too many, 6 no complete dataset,
+    // 7 a device, 8 a damaged file, 9 memory, 10 a later command.
 
     // Words that are no command, and nothing else, are faulty; a later command, and nothing else, is put off.
     ensures usage { (result ≡ 2) ↔ IsUsage (bytes_of words.now) }
@@ -48,7 +54,7 @@ where
     // What is done.
     ensures done { result ≡ 0
         → Ends (bytes_of words.now) (H.files shelf.old) (T.files store.old) (T.files store.new)
-        (Appends (O.written out.old) (O.written out.new)) }
+        (Appends (O.written out.old) (O.written out.new)) ⊎ AsksQuery (bytes_of words.now) }
     ensures settled { (config folder : List ℕ) → IsBuild (bytes_of words.now) config folder
         → result ≡ 0 → IsSettled (T.files store.new) (T.may_leave store.new) }
     ensures build_comes { Tells (λ all. AsksBuild (bytes_of words.now) (IsAcceptedAt all) → Yields 0 result)
@@ -57,14 +63,22 @@ where
         → AsksInfo (bytes_of words.now) (λ path. HasHeader all path header) → Yields 0 result)
         (H.files shelf.old) }
 
-    // Each refusal has its cause and its line, but where the line of a command that is carried out is cut.
+    // A query ends as the query of its area and depths does, and leaves the store as it was.
+    ensures query { (folder : List ℕ) (area : space.Box3) (first last : ℕ) → IsQuery (bytes_of words.now) folder area first last
+        → EndsQuery area first last result (T.files store.old) (O.written out.old) (O.written out.new)
+        (Rose (T.faults store.old) (T.faults store.new)) (Rose (O.faults out.old) (O.faults out.new)) }
+    ensures query_puts_nothing { AsksQuery (bytes_of words.now)
+        → Moves T.files T.may_leave T.moment T.image_since SameFiles store.old store.new }
+
+    // Each other refusal has its cause and its line, but where the line of a command that is carried out is cut.
     ensures refused { result ≢ 0 → result ≢ 10
         → Refuses (bytes_of words.now) (H.files shelf.old) result
         (Rose (H.faults shelf.old) (H.faults shelf.new)) (Rose (T.faults store.old) (T.faults store.new))
         (Rose (O.faults out.old) (O.faults out.new)) (O.written out.old) (O.written out.new)
         (store.new ≡ store.old)
         ⊎ IsCut (bytes_of words.now) (H.files shelf.old) result (T.files store.old) (T.files store.new)
-        (Rose (O.faults out.old) (O.faults out.new)) (O.written out.old) (O.written out.new) }
+        (Rose (O.faults out.old) (O.faults out.new)) (O.written out.old) (O.written out.new)
+        ⊎ AsksQuery (bytes_of words.now) }
     ensures refusal_comes { Tells (λ all. (r : cause.Refusal) → IsDefinite r
         → IsRefused (bytes_of words.now) all r
         → YieldsRefusal r result (O.written out.old) (O.written out.new)
@@ -75,7 +89,8 @@ where
     // What stays as it was.
     ensures silent { result ≡ 10 → (out.new ≡ out.old) × (store.new ≡ store.old) }
     ensures puts_accepted { (store.new ≡ store.old)
-        ⊎ Tells (λ all. AsksBuild (bytes_of words.now) (IsAcceptedAt all)) (H.files shelf.old) }
+        ⊎ Tells (λ all. AsksBuild (bytes_of words.now) (IsAcceptedAt all)) (H.files shelf.old)
+        ⊎ AsksQuery (bytes_of words.now) }
     ensures info_puts_nothing { (las : List ℕ) → IsInfo (bytes_of words.now) las → store.new ≡ store.old }
     ensures any_moment { Moves T.files T.may_leave T.moment T.image_since SameButBuild store.old store.new }
     ensures files { H.files shelf.new ≡ H.files shelf.old }
@@ -89,6 +104,10 @@ where
         Command::Info { las } => {
             let line = info_line(alloc, shelf, las);
             finish(alloc, out, line)
+        }
+        Command::Query { area, depths, .. } => {
+            query_words_law();
+            answer_query(alloc, &area, depths, store, out)
         }
         Command::Later => NOT_BUILT,
         Command::Usage => refuse_usage(out),

@@ -15,8 +15,14 @@ pub const BAD_SCAN: u8 = 4;
 /// There are more points, or more nodes, than there may be.
 pub const TOO_MANY: u8 = 5;
 
+/// The folder of a query has no complete dataset.
+pub const NOT_COMPLETE: u8 = 6;
+
 /// A device failed: the shelf, the store or the sink.
 pub const DEVICE: u8 = 7;
+
+/// A file of the dataset is absent, or not of its form.
+pub const DAMAGED: u8 = 8;
 
 /// There was no memory.
 pub const MEMORY: u8 = 9;

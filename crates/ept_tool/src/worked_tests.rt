@@ -6,10 +6,10 @@ use std::process::Abort;
 use std::test::Fail;
 
 /// A point of which only the place, the number of the record and that of the input matter.
-type Seen = ([u8; 3], u8, u8);
+pub(crate) type Seen = ([u8; 3], u8, u8);
 
 /// The bytes of packed points with all else zero.
-fn packed(alloc: Global, points: &[Seen]) -> Result<Vec<u8>, AllocError> {
+pub(crate) fn packed(alloc: Global, points: &[Seen]) -> Result<Vec<u8>, AllocError> {
     let mut bytes = Vec::new(alloc);
     for ([x, y, z], number, origin) in points {
         let mut point = [0u8; 49];

@@ -1,9 +1,15 @@
-use Rattle.std.proofs.Common.{◌≡◌, map, string_bytes, refl}
+use Rattle.std.proofs.Common.{◌≡◌, map, string_bytes, refl, inl, inr}
 use Rattle.ept_base.specs.Causes.{Rose}
-use Rattle.ept_tool.specs.Requests.{IsAcceptedAt, HasHeader}
-use Rattle.ept_tool.specs.Answers.{AsksBuild, AsksInfo, IsRefused}
+use Rattle.ept_las.specs.declared.header.Header.{Header}
+use Rattle.ept_tool.specs.declared.refusal.Refusal.{Refusal}
+use Rattle.ept_tool.specs.Requests.{IsAcceptedAt, HasHeader, IsDefinite}
+use Rattle.ept_tool.specs.Answers.{Yields, YieldsRefusal, AsksBuild, AsksInfo, IsRefused}
 use Rattle.ept_tool.proofs.Runs.{Carries, never_usage, never_later, is_done, has_risen, is_refused, refusal_yields, done_yields, info_yields, usage_comes, usage_yields}
-use Rattle.ept_tool.proofs.Asked.{build_or_info, build_carries, build_accepted, build_puts, info_carries, info_accepted}
+use Rattle.ept_tool.proofs.Asked.{told_always, build_or_info, build_carries, build_accepted, build_puts, info_carries, info_accepted}
+use Rattle.ept_build.specs.Gains.{SameButBuild}
+use Rattle.ept_base.specs.Files.{SameFiles}
+use Rattle.ept_base.proofs.Moving.{moves_weaker}
+use Rattle.ept_tool.proofs.Queried.{query_or_build, query_or_info, query_or_later, query_asked, query_unrefused, query_unbuilt, query_untold, query_ends, query_not_usage, query_not_later, query_rose, first_two}
 use Rattle.ept_tool.proofs.run.run.Given as given
 use Rattle.ept_tool.proofs.run.run.Goals as goal
 
@@ -22,12 +28,10 @@ returns-in-Build-clause-usage g c = (
 )
 
 pub returns-in-Build-clause-done : goal.returns-in-Build-clause-done
-returns-in-Build-clause-done g c =
-    is_done c.finish.result (g.O.Sink.written c.args.out.now) (g.O.Sink.written c.finish.new.out) (Rose (g.O.Sink.faults c.args.out.now) (g.O.Sink.faults c.finish.new.out)) (map string_bytes c.args.words.now) (g.H.Shelf.files c.args.shelf.now) (g.T.Store.files c.args.store.now) (g.T.Store.files c.build_line-line.new.store) (Rose (g.H.Shelf.faults c.args.shelf.now) (g.H.Shelf.faults c.build_line-line.new.shelf)) (Rose (g.T.Store.faults c.args.store.now) (g.T.Store.faults c.build_line-line.new.store)) (c.build_line-line.new.store ≡ c.args.store.now) c.build_line-line.result (build_known g c) c.finish.ensures
+returns-in-Build-clause-done g c = λ ok. inl (is_done c.finish.result (g.O.Sink.written c.args.out.now) (g.O.Sink.written c.finish.new.out) (Rose (g.O.Sink.faults c.args.out.now) (g.O.Sink.faults c.finish.new.out)) (map string_bytes c.args.words.now) (g.H.Shelf.files c.args.shelf.now) (g.T.Store.files c.args.store.now) (g.T.Store.files c.build_line-line.new.store) (Rose (g.H.Shelf.faults c.args.shelf.now) (g.H.Shelf.faults c.build_line-line.new.shelf)) (Rose (g.T.Store.faults c.args.store.now) (g.T.Store.faults c.build_line-line.new.store)) (c.build_line-line.new.store ≡ c.args.store.now) c.build_line-line.result (build_known g c) c.finish.ensures ok)
 
 pub returns-in-Build-clause-refused : goal.returns-in-Build-clause-refused
-returns-in-Build-clause-refused g c = λ not_ok not_later.
-    is_refused c.finish.result (g.O.Sink.written c.args.out.now) (g.O.Sink.written c.finish.new.out) (Rose (g.O.Sink.faults c.args.out.now) (g.O.Sink.faults c.finish.new.out)) (map string_bytes c.args.words.now) (g.H.Shelf.files c.args.shelf.now) (g.T.Store.files c.args.store.now) (g.T.Store.files c.build_line-line.new.store) (Rose (g.H.Shelf.faults c.args.shelf.now) (g.H.Shelf.faults c.build_line-line.new.shelf)) (Rose (g.T.Store.faults c.args.store.now) (g.T.Store.faults c.build_line-line.new.store)) (c.build_line-line.new.store ≡ c.args.store.now) c.build_line-line.result (build_known g c) c.finish.ensures not_ok
+returns-in-Build-clause-refused g c = λ not_ok not_later. first_two (is_refused c.finish.result (g.O.Sink.written c.args.out.now) (g.O.Sink.written c.finish.new.out) (Rose (g.O.Sink.faults c.args.out.now) (g.O.Sink.faults c.finish.new.out)) (map string_bytes c.args.words.now) (g.H.Shelf.files c.args.shelf.now) (g.T.Store.files c.args.store.now) (g.T.Store.files c.build_line-line.new.store) (Rose (g.H.Shelf.faults c.args.shelf.now) (g.H.Shelf.faults c.build_line-line.new.shelf)) (Rose (g.T.Store.faults c.args.store.now) (g.T.Store.faults c.build_line-line.new.store)) (c.build_line-line.new.store ≡ c.args.store.now) c.build_line-line.result (build_known g c) c.finish.ensures not_ok)
 
 pub returns-in-Build-clause-fault : goal.returns-in-Build-clause-fault
 returns-in-Build-clause-fault g c =
@@ -46,8 +50,7 @@ returns-in-Build-clause-build_comes g c =
     (build_accepted (map string_bytes c.args.words.now) c.in-Build.config.now c.in-Build.out.now c.in-Build.ensures c.build_line-line.result (g.H.Shelf.files c.args.shelf.now) c.build_line-line.ensures.accepted)
 
 pub returns-in-Build-clause-puts_accepted : goal.returns-in-Build-clause-puts_accepted
-returns-in-Build-clause-puts_accepted g c =
-    build_puts (map string_bytes c.args.words.now) c.in-Build.config.now c.in-Build.out.now c.in-Build.ensures (g.H.Shelf.files c.args.shelf.now) (c.build_line-line.new.store ≡ c.args.store.now) c.build_line-line.ensures.puts_accepted
+returns-in-Build-clause-puts_accepted g c = first_two (build_puts (map string_bytes c.args.words.now) c.in-Build.config.now c.in-Build.out.now c.in-Build.ensures (g.H.Shelf.files c.args.shelf.now) (c.build_line-line.new.store ≡ c.args.store.now) c.build_line-line.ensures.puts_accepted)
 
 -- ---- info
 
@@ -63,12 +66,10 @@ returns-in-Info-clause-usage g c = (
 )
 
 pub returns-in-Info-clause-done : goal.returns-in-Info-clause-done
-returns-in-Info-clause-done g c =
-    is_done c.finish-in-Info.result (g.O.Sink.written c.args.out.now) (g.O.Sink.written c.finish-in-Info.new.out) (Rose (g.O.Sink.faults c.args.out.now) (g.O.Sink.faults c.finish-in-Info.new.out)) (map string_bytes c.args.words.now) (g.H.Shelf.files c.args.shelf.now) (g.T.Store.files c.args.store.now) (g.T.Store.files c.args.store.now) (Rose (g.H.Shelf.faults c.args.shelf.now) (g.H.Shelf.faults c.info_line-line.new.shelf)) (Rose (g.T.Store.faults c.args.store.now) (g.T.Store.faults c.args.store.now)) (c.args.store.now ≡ c.args.store.now) c.info_line-line.result (info_known g c) c.finish-in-Info.ensures
+returns-in-Info-clause-done g c = λ ok. inl (is_done c.finish-in-Info.result (g.O.Sink.written c.args.out.now) (g.O.Sink.written c.finish-in-Info.new.out) (Rose (g.O.Sink.faults c.args.out.now) (g.O.Sink.faults c.finish-in-Info.new.out)) (map string_bytes c.args.words.now) (g.H.Shelf.files c.args.shelf.now) (g.T.Store.files c.args.store.now) (g.T.Store.files c.args.store.now) (Rose (g.H.Shelf.faults c.args.shelf.now) (g.H.Shelf.faults c.info_line-line.new.shelf)) (Rose (g.T.Store.faults c.args.store.now) (g.T.Store.faults c.args.store.now)) (c.args.store.now ≡ c.args.store.now) c.info_line-line.result (info_known g c) c.finish-in-Info.ensures ok)
 
 pub returns-in-Info-clause-refused : goal.returns-in-Info-clause-refused
-returns-in-Info-clause-refused g c = λ not_ok not_later.
-    is_refused c.finish-in-Info.result (g.O.Sink.written c.args.out.now) (g.O.Sink.written c.finish-in-Info.new.out) (Rose (g.O.Sink.faults c.args.out.now) (g.O.Sink.faults c.finish-in-Info.new.out)) (map string_bytes c.args.words.now) (g.H.Shelf.files c.args.shelf.now) (g.T.Store.files c.args.store.now) (g.T.Store.files c.args.store.now) (Rose (g.H.Shelf.faults c.args.shelf.now) (g.H.Shelf.faults c.info_line-line.new.shelf)) (Rose (g.T.Store.faults c.args.store.now) (g.T.Store.faults c.args.store.now)) (c.args.store.now ≡ c.args.store.now) c.info_line-line.result (info_known g c) c.finish-in-Info.ensures not_ok
+returns-in-Info-clause-refused g c = λ not_ok not_later. first_two (is_refused c.finish-in-Info.result (g.O.Sink.written c.args.out.now) (g.O.Sink.written c.finish-in-Info.new.out) (Rose (g.O.Sink.faults c.args.out.now) (g.O.Sink.faults c.finish-in-Info.new.out)) (map string_bytes c.args.words.now) (g.H.Shelf.files c.args.shelf.now) (g.T.Store.files c.args.store.now) (g.T.Store.files c.args.store.now) (Rose (g.H.Shelf.faults c.args.shelf.now) (g.H.Shelf.faults c.info_line-line.new.shelf)) (Rose (g.T.Store.faults c.args.store.now) (g.T.Store.faults c.args.store.now)) (c.args.store.now ≡ c.args.store.now) c.info_line-line.result (info_known g c) c.finish-in-Info.ensures not_ok)
 
 pub returns-in-Info-clause-fault : goal.returns-in-Info-clause-fault
 returns-in-Info-clause-fault g c =
@@ -100,3 +101,85 @@ returns-in-Usage-clause-refusal_comes g c =
 
 pub returns-in-Build-clause-info_puts_nothing : goal.returns-in-Build-clause-info_puts_nothing
 returns-in-Build-clause-info_puts_nothing g c = λ las is. absurd (build_or_info (map string_bytes c.args.words.now) c.in-Build.config.now c.in-Build.out.now las c.in-Build.ensures is)
+
+-- ---- query
+
+pub returns-in-Query-clause-usage : goal.returns-in-Query-clause-usage
+returns-in-Query-clause-usage g c = (
+  λ is. absurd (query_not_usage c.in-Query.area c.in-Query.depths.0 c.in-Query.depths.1 c.answer_query.result (g.T.Store.files c.args.store.now) (g.O.Sink.written c.args.out.now) (g.O.Sink.written c.answer_query.new.out) (Rose (g.T.Store.faults c.args.store.now) (g.T.Store.faults c.answer_query.new.store)) (Rose (g.O.Sink.faults c.args.out.now) (g.O.Sink.faults c.answer_query.new.out)) c.answer_query.ensures.ends is),
+  λ usage. absurd (usage.not_query c.in-Query.out.now c.in-Query.area c.in-Query.depths.0 c.in-Query.depths.1 c.in-Query.ensures),
+)
+
+pub returns-in-Query-clause-later : goal.returns-in-Query-clause-later
+returns-in-Query-clause-later g c = (
+  λ is. absurd (query_not_later c.in-Query.area c.in-Query.depths.0 c.in-Query.depths.1 c.answer_query.result (g.T.Store.files c.args.store.now) (g.O.Sink.written c.args.out.now) (g.O.Sink.written c.answer_query.new.out) (Rose (g.T.Store.faults c.args.store.now) (g.T.Store.faults c.answer_query.new.store)) (Rose (g.O.Sink.faults c.args.out.now) (g.O.Sink.faults c.answer_query.new.out)) c.answer_query.ensures.ends is),
+  λ later. absurd (query_or_later (map string_bytes c.args.words.now) c.in-Query.out.now c.in-Query.area c.in-Query.depths.0 c.in-Query.depths.1 c.in-Query.ensures later),
+)
+
+pub returns-in-Query-clause-done : goal.returns-in-Query-clause-done
+returns-in-Query-clause-done g c = λ ok. inr (query_asked (map string_bytes c.args.words.now) c.in-Query.out.now c.in-Query.area c.in-Query.depths.0 c.in-Query.depths.1 c.in-Query.ensures)
+
+pub returns-in-Query-clause-settled : goal.returns-in-Query-clause-settled
+returns-in-Query-clause-settled g c = λ config folder is ok. absurd (query_or_build (map string_bytes c.args.words.now) c.in-Query.out.now c.in-Query.area c.in-Query.depths.0 c.in-Query.depths.1 c.in-Query.ensures config folder is)
+
+pub returns-in-Query-clause-build_comes : goal.returns-in-Query-clause-build_comes
+returns-in-Query-clause-build_comes g c =
+    told_always (λ all. AsksBuild (map string_bytes c.args.words.now) (IsAcceptedAt all) → Yields 0 c.answer_query.result) (g.H.Shelf.files c.args.shelf.now) (λ all asks. absurd (query_unbuilt (map string_bytes c.args.words.now) c.in-Query.out.now c.in-Query.area c.in-Query.depths.0 c.in-Query.depths.1 c.in-Query.ensures asks))
+
+pub returns-in-Query-clause-info_comes : goal.returns-in-Query-clause-info_comes
+returns-in-Query-clause-info_comes g c =
+    told_always (λ all. (header : Header) → AsksInfo (map string_bytes c.args.words.now) (λ path. HasHeader all path header) → Yields 0 c.answer_query.result) (g.H.Shelf.files c.args.shelf.now) (λ all header asks. absurd (query_untold (map string_bytes c.args.words.now) c.in-Query.out.now c.in-Query.area c.in-Query.depths.0 c.in-Query.depths.1 c.in-Query.ensures asks))
+
+pub returns-in-Query-clause-query : goal.returns-in-Query-clause-query
+returns-in-Query-clause-query g c = λ folder area first last is. query_ends c.query_words_law.ensures.one_box c.query_words_law.ensures.one_range (map string_bytes c.args.words.now) c.in-Query.out.now folder c.in-Query.area area c.in-Query.depths.0 c.in-Query.depths.1 first last c.answer_query.result (g.T.Store.files c.args.store.now) (g.O.Sink.written c.args.out.now) (g.O.Sink.written c.answer_query.new.out) (Rose (g.T.Store.faults c.args.store.now) (g.T.Store.faults c.answer_query.new.store)) (Rose (g.O.Sink.faults c.args.out.now) (g.O.Sink.faults c.answer_query.new.out)) c.in-Query.ensures is c.answer_query.ensures.ends
+
+pub returns-in-Query-clause-query_puts_nothing : goal.returns-in-Query-clause-query_puts_nothing
+returns-in-Query-clause-query_puts_nothing g c = λ asks. c.answer_query.ensures.any_moment
+
+pub returns-in-Query-clause-refused : goal.returns-in-Query-clause-refused
+returns-in-Query-clause-refused g c = λ not_ok not_later. inr (inr (query_asked (map string_bytes c.args.words.now) c.in-Query.out.now c.in-Query.area c.in-Query.depths.0 c.in-Query.depths.1 c.in-Query.ensures))
+
+pub returns-in-Query-clause-refusal_comes : goal.returns-in-Query-clause-refusal_comes
+returns-in-Query-clause-refusal_comes g c =
+    told_always (λ all. (r : Refusal) → IsDefinite r → IsRefused (map string_bytes c.args.words.now) all r → YieldsRefusal r c.answer_query.result (g.O.Sink.written c.args.out.now) (g.O.Sink.written c.answer_query.new.out) (Rose (g.O.Sink.faults c.args.out.now) (g.O.Sink.faults c.answer_query.new.out))) (g.H.Shelf.files c.args.shelf.now) (λ all r definite refused. absurd (query_unrefused (map string_bytes c.args.words.now) c.in-Query.out.now c.in-Query.area c.in-Query.depths.0 c.in-Query.depths.1 c.in-Query.ensures all r refused))
+
+pub returns-in-Query-clause-fault : goal.returns-in-Query-clause-fault
+returns-in-Query-clause-fault g c = λ is. inr (query_rose c.in-Query.area c.in-Query.depths.0 c.in-Query.depths.1 c.answer_query.result (g.T.Store.files c.args.store.now) (g.O.Sink.written c.args.out.now) (g.O.Sink.written c.answer_query.new.out) (Rose (g.T.Store.faults c.args.store.now) (g.T.Store.faults c.answer_query.new.store)) (Rose (g.O.Sink.faults c.args.out.now) (g.O.Sink.faults c.answer_query.new.out)) c.answer_query.ensures.ends is)
+
+pub returns-in-Query-clause-silent : goal.returns-in-Query-clause-silent
+returns-in-Query-clause-silent g c = λ is. absurd (query_not_later c.in-Query.area c.in-Query.depths.0 c.in-Query.depths.1 c.answer_query.result (g.T.Store.files c.args.store.now) (g.O.Sink.written c.args.out.now) (g.O.Sink.written c.answer_query.new.out) (Rose (g.T.Store.faults c.args.store.now) (g.T.Store.faults c.answer_query.new.store)) (Rose (g.O.Sink.faults c.args.out.now) (g.O.Sink.faults c.answer_query.new.out)) c.answer_query.ensures.ends is)
+
+pub returns-in-Query-clause-puts_accepted : goal.returns-in-Query-clause-puts_accepted
+returns-in-Query-clause-puts_accepted g c = inr (inr (query_asked (map string_bytes c.args.words.now) c.in-Query.out.now c.in-Query.area c.in-Query.depths.0 c.in-Query.depths.1 c.in-Query.ensures))
+
+pub returns-in-Query-clause-info_puts_nothing : goal.returns-in-Query-clause-info_puts_nothing
+returns-in-Query-clause-info_puts_nothing g c = λ las is. absurd (query_or_info (map string_bytes c.args.words.now) c.in-Query.out.now c.in-Query.area c.in-Query.depths.0 c.in-Query.depths.1 c.in-Query.ensures las is)
+
+pub returns-in-Query-clause-any_moment : goal.returns-in-Query-clause-any_moment
+returns-in-Query-clause-any_moment g c = moves_weaker g.T.Store.files g.T.Store.may_leave g.T.Store.moment g.T.Store.image_since SameFiles SameButBuild (λ a b same name outside apart. same name) c.args.store.now c.answer_query.new.store c.answer_query.ensures.any_moment
+
+-- ---- no query
+
+pub returns-in-Build-clause-query : goal.returns-in-Build-clause-query
+returns-in-Build-clause-query g c = λ folder area first last is. absurd (query_or_build (map string_bytes c.args.words.now) folder area first last is c.in-Build.config.now c.in-Build.out.now c.in-Build.ensures)
+
+pub returns-in-Build-clause-query_puts_nothing : goal.returns-in-Build-clause-query_puts_nothing
+returns-in-Build-clause-query_puts_nothing g c = λ asks. absurd (query_or_build (map string_bytes c.args.words.now) asks.folder asks.area asks.first asks.last asks.words_are c.in-Build.config.now c.in-Build.out.now c.in-Build.ensures)
+
+pub returns-in-Info-clause-query : goal.returns-in-Info-clause-query
+returns-in-Info-clause-query g c = λ folder area first last is. absurd (query_or_info (map string_bytes c.args.words.now) folder area first last is c.in-Info.las.now c.in-Info.ensures)
+
+pub returns-in-Info-clause-query_puts_nothing : goal.returns-in-Info-clause-query_puts_nothing
+returns-in-Info-clause-query_puts_nothing g c = λ asks. absurd (query_or_info (map string_bytes c.args.words.now) asks.folder asks.area asks.first asks.last asks.words_are c.in-Info.las.now c.in-Info.ensures)
+
+pub returns-in-Later-clause-query : goal.returns-in-Later-clause-query
+returns-in-Later-clause-query g c = λ folder area first last is. absurd (query_or_later (map string_bytes c.args.words.now) folder area first last is c.in-Later.ensures)
+
+pub returns-in-Later-clause-query_puts_nothing : goal.returns-in-Later-clause-query_puts_nothing
+returns-in-Later-clause-query_puts_nothing g c = λ asks. absurd (query_or_later (map string_bytes c.args.words.now) asks.folder asks.area asks.first asks.last asks.words_are c.in-Later.ensures)
+
+pub returns-in-Usage-clause-query : goal.returns-in-Usage-clause-query
+returns-in-Usage-clause-query g c = λ folder area first last is. absurd (c.in-Usage.ensures.not_query folder area first last is)
+
+pub returns-in-Usage-clause-query_puts_nothing : goal.returns-in-Usage-clause-query_puts_nothing
+returns-in-Usage-clause-query_puts_nothing g c = λ asks. absurd (c.in-Usage.ensures.not_query asks.folder asks.area asks.first asks.last asks.words_are)

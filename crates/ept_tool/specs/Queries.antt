@@ -1,0 +1,34 @@
+-- How a query ends.
+use Rattle.std.specs.Prelude.{◌≡◌, ℕ, Option, Some, List, Result, Ok, Err, IfOk, IfErr}
+use Rattle.ept_base.specs.Files.{Files, Tells}
+use Rattle.ept_point.specs.declared.point.Point.{Point}
+use Rattle.ept_space.specs.declared.box3.Box3.{Box3}
+use Rattle.ept_config.specs.declared.kept.Kept.{Kept}
+use Rattle.ept_query.specs.declared.query_error.QueryError.{QueryError}
+use Rattle.ept_query.specs.declared.query_error.QueryError.TheVariants.{NotComplete, StoreFault, Damaged, SinkFault, Memory}
+use Rattle.ept_query.specs.Answers.{Answers, LeavesQuery}
+use Rattle.ept_save.specs.Complete.{IsComplete}
+use Rattle.ept_query.specs.Complete.{AnswersWhole}
+use Rattle.ept_query.specs.Refusals.{RefusesQuery, CallsOfQuery, RefusesAsCalled}
+
+-- the status of what a query answers
+abbrev pub query_status : Result ℕ QueryError → ℕ
+query_status (Ok count) = 0
+query_status (Err NotComplete) = 6
+query_status (Err StoreFault) = 7
+query_status (Err (Damaged file)) = 8
+query_status (Err SinkFault) = 7
+query_status (Err Memory) = 9
+
+-- A query of an area and depths ends with a status: it answers the points, or a refusal, whose status this is. Store and
+-- out say that the count of that device rose.
+pub record EndsQuery (area : Box3) (first last : ℕ) (status : ℕ) (files : Option Files) (old new : Option (List ℕ)) (store out : Type 0) : Type 0 where
+  pub answer : Result ℕ QueryError
+  pub status_is : status ≡ query_status answer
+  pub done : IfOk answer (λ count. Tells (Answers area first last old new count) files)
+  pub complete : (kept : Kept) (points : List Point) (all : Files) → files ≡ Some all → IsComplete kept points all → AnswersWhole kept points area first last old new answer
+  pub refused : IfErr answer (RefusesQuery area first last files)
+  pub comes : RefusesAsCalled (CallsOfQuery area first last) files answer
+  pub leaves : IfErr answer (LeavesQuery area first last files old new)
+  pub stores : answer ≡ Err StoreFault → store
+  pub sinks : answer ≡ Err SinkFault → out
