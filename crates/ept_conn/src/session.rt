@@ -120,7 +120,7 @@ impl Session {
         ensures bytes { result.now ≡ self.now.out }
         ensures some { 0 < length result.now }
     {
-        self.out.as_slice()
+        self.to_send()
     }
 
     /// The first bytes to be sent now were sent, so many.
@@ -147,6 +147,15 @@ impl Session {
 impl Session {
     fn alloc(&self) -> Global {
         self.out.allocator()
+    }
+
+    // The bytes to be sent now.
+    fn to_send(&self) -> &[u8]
+        requires { want_of self.now ≡ Want.Write }
+        ensures bytes { result.now ≡ self.now.out }
+        ensures some { 0 < length result.now }
+    {
+        self.out.as_slice()
     }
 
     // What a session wants that goes on and has nothing to be sent.
