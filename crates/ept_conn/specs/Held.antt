@@ -1,6 +1,6 @@
 -- What is seen of a connection.
-use Rattle.std.specs.Prelude.{◌≡◌, ℕ, ◌-◌, ◌<◌, ◌≤◌, List, [], ◌++◌, Bool, false, if◌then◌else◌, length, take, None}
-use Rattle.ept_conn.specs.HeadEnd.{head_end}
+use Rattle.std.specs.Prelude.{◌≡◌, ℕ, ◌-◌, ◌<◌, ◌≤◌, List, [], ◌++◌, Bool, true, false, ◌&&◌, not, if◌then◌else◌, length, take, None}
+use Rattle.ept_conn.specs.HeadEnd.{head_end, Front, Whole, Long, Short, front}
 
 -- the bytes held, how many turns were given, and whether the last was
 pub record Held : Type 0 where
@@ -27,3 +27,13 @@ pub record IsSearched (bytes : List ℕ) (searched given : ℕ) (ended : Bool) :
   pub near : searched ≤ 8192
   pub clear : head_end (take searched bytes) ≡ None
   pub room : (if ended then 0 else given) < 65536
+
+-- bytes begin with a turn
+abbrev pub begins : Front → Bool
+begins (Whole len) = true
+begins Long = true
+begins Short = false
+
+-- a turn is due
+unfoldable pub has_turn : Held → Bool
+has_turn held = not held.ended && begins (front held.bytes)

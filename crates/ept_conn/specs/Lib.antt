@@ -3,3 +3,13 @@ pub mod Held
 pub mod Turns
 pub mod Judged
 pub mod Calls
+pub mod Answers
+pub mod Served
+pub mod State
+pub mod Works
+pub mod Planning
+pub mod Ends
+pub mod History
+pub mod SessionCalls
+pub mod Serving
+pub mod Conversation

@@ -1,8 +1,8 @@
 //! The bytes of a connection, cut into heads.
 
-ghost use Rattle.std.specs.Prelude.{◌≡◌, ◌≤◌, ◌+◌, ◌↔◌, IsTrue, true, false, Some, None, IfOk, OnOk, OnErr, IfSome, IfNone, Err, length, take};
+ghost use Rattle.std.specs.Prelude.{◌≡◌, ◌≤◌, ◌+◌, ◌↔◌, IsTrue, true, false, Some, None, IfOk, OnOk, OnErr, IfSome, IfNone, Err, is_some, length, take};
 ghost use Rattle.ept_conn.specs.HeadEnd.{Whole, Long, front, head_end};
-ghost use Rattle.ept_conn.specs.Held.{fresh, fed};
+ghost use Rattle.ept_conn.specs.Held.{fresh, fed, has_turn};
 ghost use Rattle.ept_conn.specs.Turns.{IsNext, IsIdle};
 
 use crate::head::{drop_front, find_end, first};
@@ -87,7 +87,30 @@ impl Conn {
             return Err(ConnError::Closed);
         }
         self.bytes.extend_from_slice(piece)?;
+        self.find_head();
         Ok(())
+    }
+
+    /// Whether the last turn was given out.
+    pub fn is_ended(&self) -> bool
+        ensures { result ≡ self.now.ended }
+    {
+        self.ended
+    }
+
+    /// Whether `next` has a turn to give, unless memory runs out.
+    #[tactic(auto, unfolding(crate::specs::Held::has_turn))]
+    pub fn has_turn(&self) -> bool
+        ensures { result ≡ has_turn self.now }
+    {
+        !self.ended && (self.is_full() || self.head_is_there())
+    }
+
+    // Whether a head ends in the first 8,192 bytes held.
+    fn head_is_there(&self) -> bool
+        ensures { result ≡ is_some (head_end (take 8192 self.now.bytes)) }
+    {
+        find_end(first(&self.bytes, MAX_HEAD), self.searched).is_some()
     }
 
     /// The next turn: what the head asks for that the bytes held begin with, or status 431 where none ends in

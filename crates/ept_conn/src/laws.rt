@@ -1,5 +1,6 @@
 //! What holds of every list of calls. Each law is the contract of a function that does nothing.
 
+ghost use Rattle.ept_conn.specs.SessionCalls.{SendsAnswers, EndsSo, ReadsAnswered, OwesTheRest};
 ghost use Rattle.ept_conn.specs.Calls.{HoweverCut, AllAreGiven, TurnsAreThere, TurnsAreOne, JudgeGivesTurns, NextIsGiven, TurnsMayBeAsked};
 
 /// Over any list of calls the turns given are, in order, the first turns of all the bytes fed, however these
@@ -17,4 +18,14 @@ pub fn one_list_of_turns_law()
     ensures judged { JudgeGivesTurns }
     ensures next { NextIsGiven }
     ensures may_be_asked { TurnsMayBeAsked }
+{}
+
+/// Over any list of calls of a session on one folder, what was sent and is to be sent now is what may be sent
+/// of the bytes fed: the answers to their turns, in order, as far as the session has come; and where it is at
+/// its end, what is sent at that end.
+pub fn session_law()
+    ensures sends { SendsAnswers }
+    ensures ends { EndsSo }
+    ensures reads { ReadsAnswered }
+    ensures owes { OwesTheRest }
 {}

@@ -6,12 +6,25 @@
 #![tactic(auto)]
 
 mod conn;
+mod end;
+mod folder;
+mod hand;
 mod head;
 mod laws;
+mod out;
+mod queries;
+mod serve;
+#[cfg(test)]
+mod serve_tests;
+mod session;
 #[cfg(test)]
 mod tests;
 mod turn;
 
 pub use conn::{Conn, ConnError};
-pub use laws::{one_list_of_turns_law, turns_however_cut_law};
+pub use end::{End, Fault, Want};
+pub use hand::Hand;
+pub use laws::{one_list_of_turns_law, session_law, turns_however_cut_law};
+pub use serve::serve_link;
+pub use session::Session;
 pub use turn::Turn;

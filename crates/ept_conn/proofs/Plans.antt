@@ -1,0 +1,93 @@
+-- A folder has one plan of a query, and one part of a tile.
+use Rattle.std.proofs.Common.{◌≡◌, ◌∙◌, ◌<◌, ◌≤◌, ◌↔◌, inl, inr, ℕ, zero, suc, List, [], ◌∷◌, length, get_or, Some, None, refl, sym, ap, arith}
+use Rattle.std.specs.Prelude.{Contains}
+use Rattle.std.proofs.lemmas.List.{get_or_default}
+use Rattle.ept_base.specs.Files.{Files}
+use Rattle.ept_point.specs.Packed.{tile}
+use Rattle.ept_space.specs.declared.box3.Box3.{Box3}
+use Rattle.ept_space.specs.VoxelKey.{VoxelKey, root}
+use Rattle.ept_sample.specs.Members.{IsMember}
+use Rattle.ept_sample.proofs.Ascending.{IsOrder, IsRising, same_rising}
+use Rattle.ept_sample.proofs.KeyOrder.{key_before, key_order, IsRising-AllPairs}
+use Rattle.ept_hier.specs.Hierarchy.{Node, keys_of}
+use Rattle.ept_http.specs.QueryWords.{IsOrdered}
+use Rattle.ept_sample.specs.Nodes.{AreAscending}
+use Rattle.ept_query.specs.Planning.{IsPlanFor}
+use Rattle.ept_query.specs.Damage.{HasTile}
+use Rattle.ept_query.specs.Parts.{Plan, node_at, IsPartOf}
+use Rattle.ept_conn.specs.declared.turn.Turn.{Turn}
+use Rattle.ept_conn.specs.Answers.{Served}
+use Rattle.ept_conn.specs.Served.{HasPart, IsOpenTo, IsServed}
+use Rattle.ept_conn.specs.Works.{IsTurnsPlan}
+
+-- ---- members
+
+at-member : {X : Type 0} (xs : List X) (k : ℕ) (x d : X) → k < length xs → get_or xs k d ≡ x → IsMember x xs
+at-member [] k x d within is = absurd (omega (arith, within))
+at-member (y ∷ ys) zero x d within is = inl is
+at-member (y ∷ ys) (suc k) x d within is = inr (at-member ys k x d (omega (arith, within)) is)
+
+contains-member : {X : Type 0} (xs : List X) (x : X) → Contains xs x → IsMember x xs
+contains-member xs x has = at-member xs has.0 x x has.1 has.2
+
+member-contains : {X : Type 0} (xs : List X) (x : X) → IsMember x xs → Contains xs x
+member-contains [] x m = absurd m
+member-contains (y ∷ ys) x (inl is) = (0, omega arith, is)
+member-contains (y ∷ ys) x (inr m) =
+    let rest = member-contains ys x m in
+    (suc rest.0, omega (arith, rest.1), rest.2)
+
+-- ---- one plan
+
+nodes_rise : (nodes : List Node) → IsRising key_before (keys_of nodes) → IsRising (λ (a b : Node). key_before a.0 b.0) nodes
+nodes_rise [] up = tt
+nodes_rise (n ∷ nodes) up = (λ y m. up.0 y.0 (there y nodes m), nodes_rise nodes up.1)
+  where
+    there : (y : Node) (ys : List Node) → IsMember y ys → IsMember y.0 (keys_of ys)
+    there y [] m = absurd m
+    there y (z ∷ ys) (inl is) = inl (ap (λ (n : Node). n.0) is)
+    there y (z ∷ ys) (inr m) = inr (there y ys m)
+
+node_order : IsOrder (λ (a b : Node). key_before a.0 b.0)
+node_order = record {
+  none_itself = λ n. key_order.none_itself n.0;
+  goes_on = λ a b c. key_order.goes_on a.0 b.0 c.0;
+}
+
+plan-once : (IsAsked : VoxelKey → ℕ → Type 0) (a b : List Node) → AreAscending (keys_of a) → AreAscending (keys_of b) → ((key : VoxelKey) (count : ℕ) → Contains a (key, count) ↔ IsAsked key count) → ((key : VoxelKey) (count : ℕ) → Contains b (key, count) ↔ IsAsked key count) → a ≡ b
+plan-once IsAsked a b up up' p q =
+    same_rising (λ (x y : Node). key_before x.0 y.0) node_order a b
+    (nodes_rise a (IsRising-AllPairs (keys_of a) up))
+    (nodes_rise b (IsRising-AllPairs (keys_of b) up'))
+    (λ z m. contains-member b z ((q z.0 z.1).1 ((p z.0 z.1).0 (member-contains a z m))))
+    (λ z m. contains-member a z ((p z.0 z.1).1 ((q z.0 z.1).0 (member-contains b z m))))
+
+pub plan-served : (files : Files) (served : Served) (area : Box3) (first second : ℕ) (plan : Plan) → IsServed files served → IsOrdered area → first ≤ second → IsPlanFor area first second plan files → served.plan area first second ≡ Some plan.tiles
+plan-served files served area first second plan (inl shut) ordered depths has = absurd (shut.done has.done)
+plan-served files served area first second plan (inr is) ordered depths has =
+    let there = is.plan area first second ordered depths in
+    let one = there.2.tiles has.build.0 has.build.1 in
+    let two = has.tiles has.build.0 has.build.1 in
+    there.1 ∙ ap Some (plan-once _ there.0 plan.tiles one.ascend two.ascend one.each two.each)
+
+-- ---- one part
+
+pub part-there : (files : Files) (served : Served) (turn : Turn) (plan : Plan) (done : ℕ) → IsOpenTo files served → done < length plan.tiles → IsTurnsPlan served turn plan → HasPart files plan.area (node_at plan done) (served.part plan.area (node_at plan done))
+part-there files served turn plan done is within planned =
+    let node = node_at plan done in
+    let there : Contains plan.tiles node = (done, within, get_or_default plan.tiles done node (root, 0) within) in
+    is.part plan.area planned.first planned.second plan.tiles node planned.plan_is there
+
+pub part-served : (files : Files) (served : Served) (turn : Turn) (plan : Plan) (done : ℕ) (bytes : List ℕ) (count : ℕ) → IsServed files served → IsTurnsPlan served turn plan → done < length plan.tiles → IsPartOf plan.area (node_at plan done) bytes count (Some files) → served.part plan.area (node_at plan done) ≡ bytes
+part-served files served turn plan done bytes count (inl shut) planned within part =
+    let none : Some plan.tiles ≡ None = sym planned.plan_is ∙ shut.plan plan.area planned.first planned.second in
+    absurd cc
+part-served files served turn plan done bytes count (inr is) planned within part =
+    let node = node_at plan done in
+    let has : HasTile files node.0 node.1 part.points = record {
+      bytes = tile part.points;
+      there = part.there;
+      form = record { packed = refl; ascend = part.ascend; counted = part.counted };
+    } in
+    let held = part-there files served turn plan done is within planned in
+    held.packed part.points has ∙ sym part.bytes_are

@@ -1,0 +1,25 @@
+use Rattle.std.proofs.Common.{◌≡◌, ◌<◌, length, Some}
+use Rattle.ept_base.specs.Causes.{Rose}
+use Rattle.ept_base.specs.Files.{Files, SameFiles, StepsBy}
+use Rattle.ept_base.specs.Moves.{Moves}
+use Rattle.ept_conn.specs.declared.end.Fault.TheVariants as fault
+use Rattle.ept_conn.specs.Answers.{Served}
+use Rattle.ept_conn.specs.Served.{IsServed}
+use Rattle.ept_conn.specs.Conversation.{Converses, rank}
+use Rattle.ept_conn.proofs.Conversing.{CauseSince}
+use Rattle.ept_conn.proofs.serve.serve_link.Given as given
+
+-- what the session and the link did since the start
+abbrev pub invariant-loop-end : given.invariant-loop-end
+invariant-loop-end g l =
+    let stores = g.T.Store.faults in
+    record {
+      converses : (files : Files) → g.T.Store.files l.fn.store ≡ Some files → (served : Served) → IsServed files served → StepsBy (λ start now. Converses served (Rose (stores l.fn.store) (stores l.store)) start l.session now) (g.L.Link.wire l.fn.link) (g.L.Link.wire l.link);
+      links : CauseSince fault.Link l.session (g.L.Link.faults l.fn.link) (g.L.Link.faults l.link);
+      stores : CauseSince fault.Store l.session (stores l.fn.store) (stores l.store);
+      moved : Moves g.T.Store.files g.T.Store.may_leave g.T.Store.moment g.T.Store.image_since SameFiles l.fn.store l.store;
+      room : 0 < length l.piece;
+    }
+
+abbrev pub decreases-loop-end : given.decreases-loop-end
+decreases-loop-end g l = rank l.session

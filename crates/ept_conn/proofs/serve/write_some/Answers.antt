@@ -1,0 +1,19 @@
+use Rattle.std.proofs.Common.{ℕ, List, take, refl, subst}
+use Rattle.ept_base.specs.Causes.{Rose}
+use Rattle.ept_base.specs.Links.{Writes}
+use Rattle.ept_base.proofs.Moving.{steps_weaker}
+use Rattle.ept_conn.specs.Conversation.{GoesOn}
+use Rattle.ept_conn.proofs.Conversing.{steps-same, write-converses, unwritten-converses}
+use Rattle.ept_conn.proofs.serve.write_some.Goals as goal
+
+pub returns-in-Ok-clause-converses : goal.returns-in-Ok-clause-converses
+returns-in-Ok-clause-converses g c = λ served before after.
+    let n = c.in-Ok.count in
+    steps_weaker (Writes (take n c.out.result.now)) (GoesOn served (Rose before after) (Rose before after) c.args.session.now c.sent.new.self) (λ now next writes start so_far.
+    write-converses served (Rose before after) start now next c.args.session.now c.sent.new.self n so_far c.requires
+    (subst (λ (w : List ℕ). Writes (take n w) now next) c.out.ensures.bytes writes) c.sent.ensures) (g.L.Link.wire c.args.link.now) (g.L.Link.wire c.write.new.self) c.in-Ok.ensures.ok
+
+pub returns-in-Err-clause-converses : goal.returns-in-Err-clause-converses
+returns-in-Err-clause-converses g c = λ served before after.
+    steps-same (GoesOn served (Rose before after) (Rose before after) c.args.session.now c.fault.new.self) (g.L.Link.wire c.args.link.now) (g.L.Link.wire c.write.new.self) c.in-Err.ensures.unchanged (λ now start so_far.
+    unwritten-converses served (Rose before after) start now now c.args.session.now c.fault.new.self so_far refl c.fault.ensures)

@@ -1,0 +1,18 @@
+use Rattle.std.proofs.Common.{◌≡◌, ◌++◌, List, Option, sym, ap, subst}
+use Rattle.ept_hier.specs.Hierarchy.{Node}
+use Rattle.ept_http.specs.declared.answer.HeadKind.TheVariants as head
+use Rattle.ept_http.specs.AnswerHead.{head_text}
+use Rattle.ept_query.specs.Parts.{Plan}
+use Rattle.ept_conn.specs.Works.{Begins, hand_at, end_at}
+use Rattle.ept_conn.proofs.Plans.{plan-served}
+use Rattle.ept_conn.proofs.session.Session.make_plan.Goals as goal
+
+pub returns-in-Ok-Some-clause-begins : goal.returns-in-Ok-Some-clause-begins
+returns-in-Ok-Some-clause-begins g c = λ going files told served is.
+    let plan = c.in-Ok-Some.plan in
+    let found = rw (c.in-Ok-Some.field-0-is, c.in-Ok-Some.plan-is, told) at c.in-Ok-Some.ensures.plan in
+    let area = rw (c.in-Ok-Some.field-0-is, c.in-Ok-Some.plan-is) at c.in-Ok-Some.ensures.area in
+    let served_plan = plan-served files served c.args.area.now c.args.depths.0 c.args.depths.1 plan is c.requires.ordered c.requires.depths found in
+    let same : plan ≡ record { area = c.args.area.now; tiles = plan.tiles } = ap (λ a. record { area = a; tiles = plan.tiles }) area in
+    subst (λ (p : Option (List Node)). Begins c.args.turn c.args.area.now p c.begin.new.self) (sym served_plan)
+    (subst (λ (p : Plan). (c.begin.new.self.hand ≡ hand_at c.args.turn p 0) × (c.begin.new.self.out ≡ head_text (head.Query c.args.turn.last) ++ end_at p 0)) same (c.begin.ensures.hand going, c.begin.ensures.out going))

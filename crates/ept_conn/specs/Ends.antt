@@ -1,0 +1,76 @@
+-- What has been sent where a connection ends, for the bytes that came.
+use Rattle.std.specs.Prelude.{◌≡◌, ◌⊎◌, ℕ, ◌≤◌, List, [], ◌∷◌, ◌++◌, Bool, true, length, take, Some}
+use Rattle.std.specs.List.{list_any}
+use Rattle.ept_space.specs.declared.box3.Box3.{Box3}
+use Rattle.ept_hier.specs.Hierarchy.{Node}
+use Rattle.ept_http.specs.declared.asked.Asked.TheVariants.{Query}
+use Rattle.ept_http.specs.declared.answer.HeadKind.TheVariants as head
+use Rattle.ept_http.specs.AnswerHead.{head_text}
+use Rattle.ept_conn.specs.declared.turn.Turn.{Turn}
+use Rattle.ept_conn.specs.declared.end.Fault.{Fault}
+use Rattle.ept_conn.specs.declared.end.Fault.TheVariants as fault
+use Rattle.ept_conn.specs.declared.end.End.{End}
+use Rattle.ept_conn.specs.declared.end.End.TheVariants as end
+use Rattle.ept_conn.specs.Held.{fresh, fed}
+use Rattle.ept_conn.specs.Turns.{AreDue}
+use Rattle.ept_conn.specs.Answers.{Served, refusal, chunks, answers, AreAnswers}
+use Rattle.ept_conn.specs.Works.{IsLastWord}
+
+-- one of the turns is a last one
+abbrev pub has_last : List Turn → Bool
+has_last turns = list_any (λ (turn : Turn). turn.last) turns
+
+-- bytes have a last turn
+abbrev pub EndsItself : List ℕ → Type 0
+EndsItself bytes = (turns : List Turn) × AreDue (fed fresh bytes) turns × (has_last turns ≡ true)
+
+-- the answers to the first turns of bytes, and words behind them that fit the other turns
+pub record IsCutOff (served : Served) (bytes : List ℕ) (Fits : List Turn → List ℕ → Type 0) (text : List ℕ) : Type 0 where
+  pub before : List Turn
+  pub others : List Turn
+  pub due : AreDue (fed fresh bytes) (before ++ others)
+  pub words : List ℕ
+  pub fits : Fits others words
+  pub text_is : text ≡ answers served before ++ words
+
+-- the head of the answer to a query, and whole chunks of it without the last chunk
+pub record IsQueryFront (served : Served) (turn : Turn) (text : List ℕ) : Type 0 where
+  pub area : Box3
+  pub first : ℕ
+  pub second : ℕ
+  pub nodes : List Node
+  pub done : ℕ
+  pub asked : turn.asked ≡ Query area first second
+  pub plan : served.plan area first second ≡ Some nodes
+  pub within : done ≤ length nodes
+  pub text_is : text ≡ head_text (head.Query turn.last) ++ chunks served area (take done nodes)
+
+-- the same of the first of some turns
+abbrev pub IsFrontOf : Served → List Turn → List ℕ → Type 0
+IsFrontOf served [] text = ⊥
+IsFrontOf served (turn ∷ turns) text = IsQueryFront served turn text
+
+-- the last words for a cause: none, a status, or the front of the answer to a query
+abbrev pub AreLastWords : Served → Fault → List Turn → List ℕ → Type 0
+AreLastWords served cause others text = IsLastWord cause text ⊎ IsFrontOf served others text
+
+-- the words of a status: 503 only for this reason, and 507
+abbrev pub IsStatus : Type 0 → List ℕ → Type 0
+IsStatus reason text = (reason × (text ≡ refusal 503 true)) ⊎ (text ≡ refusal 507 true)
+
+-- a front of the answers to bytes, or of the answers to the first turns and a status behind them
+pub record IsBroken (served : Served) (reason : Type 0) (bytes text : List ℕ) : Type 0 where
+  pub whole : List ℕ
+  pub unsent : List ℕ
+  pub front : whole ≡ text ++ unsent
+  pub allowed : AreAnswers served bytes whole ⊎ IsCutOff served bytes (λ others. IsStatus reason) whole
+
+-- ---- at the end
+
+-- what has been sent at each end; `closed` says that the input has ended
+abbrev pub IsEnd : Served → Type 0 → Type 0 → List ℕ → List ℕ → End → Type 0
+IsEnd served reason closed bytes text end.Closed = AreAnswers served bytes text × (closed ⊎ EndsItself bytes)
+IsEnd served reason closed bytes text end.LinkFault = IsBroken served reason bytes text
+IsEnd served reason closed bytes text end.StoreFault = reason × IsCutOff served bytes (AreLastWords served fault.Store) text
+IsEnd served reason closed bytes text (end.Damaged file) = ⊥
+IsEnd served reason closed bytes text end.Memory = IsCutOff served bytes (AreLastWords served fault.Memory) text

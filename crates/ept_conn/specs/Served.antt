@@ -1,0 +1,36 @@
+-- What is sent of a folder.
+use Rattle.std.specs.Prelude.{◌≡◌, ◌≤◌, ◌⊎◌, ℕ, List, Some, None, Contains}
+use Rattle.ept_base.specs.Files.{Files}
+use Rattle.ept_point.specs.declared.point.Point.{Point}
+use Rattle.ept_point.specs.Packed.{tile}
+use Rattle.ept_space.specs.declared.box3.Box3.{Box3}
+use Rattle.ept_hier.specs.Hierarchy.{Node}
+use Rattle.ept_http.specs.QueryWords.{IsOrdered}
+use Rattle.ept_save.specs.Done.{IsDone}
+use Rattle.ept_query.specs.Planning.{IsPlanFor}
+use Rattle.ept_query.specs.Damage.{HasTile}
+use Rattle.ept_query.specs.Parts.{points_in}
+use Rattle.ept_conn.specs.Answers.{Served}
+
+-- a tile is there, and these bytes are its points in an area, packed
+pub record HasPart (files : Files) (area : Box3) (node : Node) (bytes : List ℕ) : Type 0 where
+  pub points : List Point
+  pub has : HasTile files node.0 node.1 points
+  pub packed : (others : List Point) → HasTile files node.0 node.1 others → bytes ≡ tile (points_in area others)
+
+-- a folder whose done gate is open: its files are sent; each query has its plan, and the tiles of a plan are there
+pub record IsOpenTo (files : Files) (served : Served) : Type 0 where
+  pub done : IsDone files
+  pub file : (name : List ℕ) → served.file name ≡ files name
+  pub plan : (area : Box3) (first second : ℕ) → IsOrdered area → first ≤ second → (nodes : List Node) × (served.plan area first second ≡ Some nodes) × IsPlanFor area first second (record { area = area; tiles = nodes }) files
+  pub part : (area : Box3) (first second : ℕ) (nodes : List Node) (node : Node) → served.plan area first second ≡ Some nodes → Contains nodes node → HasPart files area node (served.part area node)
+
+-- a folder whose done gate is not open: nothing is sent
+pub record IsShutTo (files : Files) (served : Served) : Type 0 where
+  pub done : ¬ IsDone files
+  pub file : (name : List ℕ) → served.file name ≡ None
+  pub plan : (area : Box3) (first second : ℕ) → served.plan area first second ≡ None
+
+-- what is sent of a folder
+abbrev pub IsServed : Files → Served → Type 0
+IsServed files served = IsShutTo files served ⊎ IsOpenTo files served

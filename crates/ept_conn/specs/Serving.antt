@@ -1,0 +1,32 @@
+-- What passes over a link while a connection is served.
+use Rattle.std.specs.Prelude.{◌≡◌, ℕ, ◌+◌, ◌≤◌, List, [], ◌++◌, length, take}
+use Rattle.std.specs.List.{AllByRecursion}
+use Rattle.ept_base.specs.Links.{Wire}
+use Rattle.ept_conn.specs.declared.end.End.{End}
+use Rattle.ept_conn.specs.Answers.{Served, AreAnswers}
+use Rattle.ept_conn.specs.Ends.{IsEnd}
+
+-- Of a read, by how many bytes had been taken and written before it: what had been written in the call is the answers to the bytes read in the call before.
+pub record IsAnsweredAt (served : Served) (old : Wire) (bytes text : List ℕ) (at : ℕ × ℕ) : Type 0 where
+  pub came : ℕ
+  pub went : ℕ
+  pub within : came ≤ length bytes
+  pub up_to : went ≤ length text
+  pub taken : at.0 ≡ length old.taken + came
+  pub written : at.1 ≡ length old.written + went
+  pub answers : AreAnswers served (take came bytes) (take went text)
+
+-- in the call these bytes were read and this text was written, and no turn waited for bytes behind it
+pub record Passes (served : Served) (old new : Wire) (bytes text : List ℕ) : Type 0 where
+  pub taken : new.taken ≡ old.taken ++ bytes
+  pub written : new.written ≡ old.written ++ text
+  pub reads : List (ℕ × ℕ)
+  pub reads_are : new.reads ≡ old.reads ++ reads
+  pub each : AllByRecursion (IsAnsweredAt served old bytes text) reads
+
+-- the connection was served up to its end; status 503 was sent only for this reason
+pub record IsServedOver (served : Served) (reason : Type 0) (ends : End) (old new : Wire) : Type 0 where
+  pub bytes : List ℕ
+  pub text : List ℕ
+  pub passes : Passes served old new bytes text
+  pub ended : IsEnd served reason (new.left ≡ []) bytes text ends

@@ -1,0 +1,145 @@
+-- What one piece of work does: one turn is decided, one plan is made, or one file or tile is got.
+use Rattle.std.specs.Prelude.{◌≡◌, ◌⊎◌, ℕ, ◌+◌, ◌<◌, ◌^◌, ⊤, List, [], ◌++◌, Bool, true, if◌then◌else◌, nat_lt, length, Option, Some, None}
+use Rattle.ept_base.specs.Files.{Files}
+use Rattle.ept_space.specs.declared.box3.Box3.{Box3}
+use Rattle.ept_hier.specs.Hierarchy.{Node}
+use Rattle.ept_http.specs.declared.asked.Asked.{Asked}
+use Rattle.ept_http.specs.declared.asked.Asked.TheVariants as asked
+use Rattle.ept_http.specs.declared.answer.HeadKind.TheVariants as head
+use Rattle.ept_http.specs.AnswerHead.{head_text}
+use Rattle.ept_save.specs.Done.{IsDone}
+use Rattle.ept_query.specs.declared.query_error.QueryFile.{QueryFile}
+use Rattle.ept_query.specs.declared.query_error.QueryFile.TheVariants as file
+use Rattle.ept_query.specs.Damage.{HasNoBuild, HasNoTile, IsFirstDamaged}
+use Rattle.ept_query.specs.Parts.{Plan, node_at}
+use Rattle.ept_conn.specs.declared.turn.Turn.{Turn}
+use Rattle.ept_conn.specs.declared.hand.Hand.{Hand}
+use Rattle.ept_conn.specs.declared.hand.Hand.TheVariants.{Empty, Decided, Tiles}
+use Rattle.ept_conn.specs.declared.end.Fault.{Fault}
+use Rattle.ept_conn.specs.declared.end.Fault.TheVariants as fault
+use Rattle.ept_conn.specs.Turns.{IsNext}
+use Rattle.ept_conn.specs.Answers.{Served, refusal, is_json, file_answer, chunk, last_chunk}
+use Rattle.ept_conn.specs.State.{State}
+
+-- ---- which turn, and what stays in hand
+
+-- a refusal is put out at once, and any other turn stays in hand
+abbrev pub hand_to : Asked → Turn → Hand
+hand_to (asked.File name) turn = Decided turn
+hand_to (asked.Query area first second) turn = Decided turn
+hand_to (asked.Refuse status) turn = Empty
+
+abbrev pub out_to : Asked → Bool → List ℕ
+out_to (asked.File name) last = []
+out_to (asked.Query area first second) last = []
+out_to (asked.Refuse status) last = refusal status last
+
+-- the first turn that is due was decided
+pub record Decides (old new : State) : Type 0 where
+  pub turn : Turn
+  pub next : IsNext old.held turn new.held
+  pub hand : new.hand ≡ hand_to turn.asked turn
+  pub out : new.out ≡ out_to turn.asked turn.last
+
+-- the turn stays in hand while there are tiles
+abbrev pub hand_at : Turn → Plan → ℕ → Hand
+hand_at turn plan done = if nat_lt done (length plan.tiles) then Tiles turn plan done else Empty
+
+-- behind the last tile stands the last chunk
+abbrev pub end_at : Plan → ℕ → List ℕ
+end_at plan done = if nat_lt done (length plan.tiles) then [] else last_chunk
+
+-- a plan was made and the head of the answer is put out, or there are no queries
+abbrev pub Begins : Turn → Box3 → Option (List Node) → State → Type 0
+Begins turn area None new = (new.hand ≡ Empty) × (new.out ≡ refusal 404 turn.last)
+Begins turn area (Some nodes) new =
+    let plan : Plan = record { area = area; tiles = nodes } in
+    (new.hand ≡ hand_at turn plan 0) × (new.out ≡ head_text (head.Query turn.last) ++ end_at plan 0)
+
+-- what was asked for was got
+abbrev pub Gets : Served → Turn → Asked → State → Type 0
+Gets served turn (asked.File name) new =
+    (new.hand ≡ Empty) × (new.out ≡ file_answer (is_json name) turn.last (served.file name))
+Gets served turn (asked.Query area first second) new = Begins turn area (served.plan area first second) new
+Gets served turn (asked.Refuse status) new = (new.hand ≡ Empty) × (new.out ≡ refusal status turn.last)
+
+-- a plan is that of a turn
+pub record IsTurnsPlan (served : Served) (turn : Turn) (plan : Plan) : Type 0 where
+  pub first : ℕ
+  pub second : ℕ
+  pub is_query : turn.asked ≡ asked.Query plan.area first second
+  pub plan_is : served.plan plan.area first second ≡ Some plan.tiles
+
+abbrev pub IsPlanned : Served → Hand → Type 0
+IsPlanned served Empty = ⊤
+IsPlanned served (Decided turn) = ⊤
+IsPlanned served (Tiles turn plan done) = IsTurnsPlan served turn plan
+
+-- one piece of work, by what is in hand
+abbrev pub WorksOn : Served → Hand → State → State → Type 0
+WorksOn served Empty old new = Decides old new
+WorksOn served (Decided turn) old new = (new.held ≡ old.held) × Gets served turn turn.asked new
+WorksOn served (Tiles turn plan done) old new =
+    (new.held ≡ old.held)
+    × (new.hand ≡ hand_at turn plan (done + 1))
+    × (new.out ≡ chunk (served.part plan.area (node_at plan done)) ++ end_at plan (done + 1))
+
+abbrev pub Works : Served → State → State → Type 0
+Works served old new = WorksOn served old.hand old new
+
+-- ---- whatever a store holds
+
+-- the turn is still in hand, with a plan, only where it asks for a query
+abbrev pub IsBegun : Turn → Hand → Type 0
+IsBegun turn Empty = ⊤
+IsBegun turn (Decided other) = ⊥
+IsBegun turn (Tiles other plan done) = (other ≡ turn) × (done ≡ 0) × (length plan.tiles < 2 ^ 64)
+
+-- one thing is done and no more: a turn is decided, what it asks for is got, or one more tile is
+abbrev pub IsOneStep : Hand → State → State → Type 0
+IsOneStep Empty old new = Decides old new
+IsOneStep (Decided turn) old new = (new.held ≡ old.held) × IsBegun turn new.hand
+IsOneStep (Tiles turn plan done) old new =
+    (done < length plan.tiles) × (new.held ≡ old.held) × (new.hand ≡ hand_at turn plan (done + 1))
+
+-- ---- refusals
+
+-- the words in which a session ends that has sent nothing of the answer in hand: none, or status 503 where the store is the cause and 507 where memory is
+abbrev pub IsLastWord : Fault → List ℕ → Type 0
+IsLastWord fault.Link text = text ≡ []
+IsLastWord fault.Store text = (text ≡ []) ⊎ (text ≡ refusal 503 true)
+IsLastWord (fault.Damaged file) text = (text ≡ []) ⊎ (text ≡ refusal 503 true)
+IsLastWord fault.Memory text = (text ≡ []) ⊎ (text ≡ refusal 507 true)
+
+-- where the head of an answer is out, there are none
+abbrev pub IsLastOf : Hand → Fault → List ℕ → Type 0
+IsLastOf Empty fault text = IsLastWord fault text
+IsLastOf (Decided turn) fault text = IsLastWord fault text
+IsLastOf (Tiles turn plan done) fault text = text ≡ []
+
+-- the work on what was in hand was refused for this cause, which is not the link: nothing stays in hand
+pub record Stops (hand : Hand) (new : State) (cause : Fault) : Type 0 where
+  pub is_empty : new.hand ≡ Empty
+  pub words : IsLastOf hand cause new.out
+  pub not_link : ¬ (cause ≡ fault.Link)
+
+-- nothing is in hand, nothing is to be sent, and no end is fixed
+pub record IsReady (state : State) : Type 0 where
+  pub hand : state.hand ≡ Empty
+  pub out : state.out ≡ []
+  pub going : state.fault ≡ None
+
+-- a file that a query needs is damaged: for its plan, the first such file; for its tiles, the next one
+abbrev pub IsDamagedFor : Asked → QueryFile → Files → Type 0
+IsDamagedFor (asked.File name) found files = ⊥
+IsDamagedFor (asked.Query area first second) file.BuildJson files = IsDone files × HasNoBuild files
+IsDamagedFor (asked.Query area first second) (file.Hierarchy key) files =
+    IsDone files × IsFirstDamaged area first second (file.Hierarchy key) files
+IsDamagedFor (asked.Query area first second) (file.Tile key) files = ⊥
+IsDamagedFor (asked.Refuse status) found files = ⊥
+
+abbrev pub IsDamagedIn : Hand → QueryFile → Files → Type 0
+IsDamagedIn Empty found files = ⊥
+IsDamagedIn (Decided turn) found files = IsDamagedFor turn.asked found files
+IsDamagedIn (Tiles turn plan done) found files =
+    (found ≡ file.Tile (node_at plan done).0) × HasNoTile files (node_at plan done).0 (node_at plan done).1

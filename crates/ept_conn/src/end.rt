@@ -1,0 +1,61 @@
+//! How a connection ends, and what it wants until then.
+
+ghost use Rattle.std.specs.Prelude.{◌≡◌};
+ghost use Rattle.ept_conn.specs.State.{end_of};
+
+use ept_query::QueryFile;
+
+/// Why a session ends before its peer has ended or the last turn is answered.
+#[derive(Clone, Copy, Debug, PartialEq, Eq)]
+pub enum Fault {
+    /// The link failed.
+    Link,
+    /// The store failed.
+    Store,
+    /// A file that a query needs is absent or not of its form.
+    Damaged { file: QueryFile },
+    /// Memory ran out.
+    Memory,
+}
+
+/// How a connection ended.
+#[derive(Clone, Copy, Debug, PartialEq, Eq)]
+pub enum End {
+    /// The end of the input was met, or the last turn was answered.
+    Closed,
+    /// The link failed: its count of faults rose.
+    LinkFault,
+    /// The store failed: its count of faults rose.
+    StoreFault,
+    /// A file that a query needs is absent or not of its form.
+    Damaged { file: QueryFile },
+    /// Memory ran out.
+    Memory,
+}
+
+/// What a session wants.
+#[derive(Clone, Copy, Debug, PartialEq, Eq)]
+pub enum Want {
+    /// To be fed: bytes that came, or the end of the input.
+    Read,
+    /// To do one piece of work.
+    Work,
+    /// That bytes be sent.
+    Write,
+    /// Nothing more.
+    End(End),
+}
+
+impl Fault {
+    /// The end of a session for this cause.
+    pub fn end(self) -> End
+        ensures { result ≡ end_of self }
+    {
+        match self {
+            Fault::Link => End::LinkFault,
+            Fault::Store => End::StoreFault,
+            Fault::Damaged { file } => End::Damaged { file },
+            Fault::Memory => End::Memory,
+        }
+    }
+}

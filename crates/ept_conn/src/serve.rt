@@ -1,0 +1,123 @@
+//! A connection over a link, served to its end.
+
+ghost use Rattle.std.specs.Prelude.{◌≡◌, ◌≢◌, ◌⊎◌, ◌<◌, ◌≤◌, ℕ, [], Some, IfSome, IfNone, length, drop};
+ghost use Rattle.ept_base.specs.Causes.{Rose};
+ghost use Rattle.ept_base.specs.Files.{Files, SameFiles, StepsBy};
+ghost use Rattle.ept_base.specs.Links.{Wire};
+ghost use Rattle.ept_base.specs.Moves.{Moves};
+ghost use Rattle.ept_conn.specs.Answers.{Served};
+ghost use Rattle.ept_conn.specs.Served.{IsServed};
+ghost use Rattle.ept_conn.specs.State.{want_of};
+ghost use Rattle.ept_conn.specs.Serving.{IsServedOver};
+ghost use Rattle.ept_conn.specs.Conversation.{GoesOn, HasFailed, HasCauseFor, rank};
+
+use crate::end::{End, Fault, Want};
+use crate::session::Session;
+use ept_base::{Failed, Link, Store};
+use std::alloc::Global;
+
+/// How many bytes one read takes at most.
+const PIECE: usize = 8192;
+
+/// Serves a connection over a link from a folder, turn by turn, up to its end. Nothing is read while a turn
+/// waits for its answer.
+pub fn serve_link<L: Link, T: Store>(alloc: Global, link: &mut L, store: &mut T) -> End
+    ensures served { (files : Files) → T.files store.old ≡ Some files → (served : Served) → IsServed files served
+        → StepsBy (IsServedOver served (Rose (T.faults store.old) (T.faults store.new)) result) (L.wire link.old) (L.wire link.new) }
+    ensures links { result ≡ End.LinkFault → Rose (L.faults link.old) (L.faults link.new) }
+    ensures stores { result ≡ End.StoreFault → Rose (T.faults store.old) (T.faults store.new) }
+    ensures any_moment { Moves T.files T.may_leave T.moment T.image_since SameFiles store.old store.new }
+{
+    let mut session = Session::new(alloc);
+    let mut piece = [0; PIECE];
+    loop {
+        if let Some(end) = step(&mut session, link, store, &mut piece) {
+            return end;
+        }
+    }
+}
+
+// Does what the session wants; its end, where it wants no more.
+fn step<L: Link, T: Store>(
+    session: &mut Session,
+    link: &mut L,
+    store: &mut T,
+    piece: &mut [u8],
+) -> Option<End>
+    requires { 0 < length piece.old }
+    ensures converses { (files : Files) → T.files store.old ≡ Some files → (served : Served) → IsServed files served
+        → (before : ℕ) → before ≤ T.faults store.old
+        → StepsBy (GoesOn served (Rose before (T.faults store.old)) (Rose before (T.faults store.new)) session.old session.new)
+        (L.wire link.old) (L.wire link.new) }
+    ensures end { IfSome result (λ ends. want_of session.new ≡ Want.End ends) }
+    ensures falls { IfNone result (rank session.new < rank session.old) }
+    ensures links { HasCauseFor Fault.Link session.old session.new (L.faults link.old) (L.faults link.new) }
+    ensures stores { HasCauseFor Fault.Store session.old session.new (T.faults store.old) (T.faults store.new) }
+    ensures any_moment { Moves T.files T.may_leave T.moment T.image_since SameFiles store.old store.new }
+    ensures room { length piece.new ≡ length piece.old }
+{
+    match session.want() {
+        Want::Read => {
+            read_piece(session, link, piece);
+            None
+        }
+        Want::Work => {
+            session.work(store);
+            None
+        }
+        Want::Write => {
+            write_out(session, link);
+            None
+        }
+        Want::End(end) => Some(end),
+    }
+}
+
+// Reads a piece, and feeds it.
+fn read_piece<L: Link>(session: &mut Session, link: &mut L, piece: &mut [u8])
+    requires wanted { want_of session.old ≡ Want.Read }
+    requires room { 0 < length piece.old }
+    ensures converses { (served : Served) (before after : ℕ)
+        → StepsBy (GoesOn served (Rose before after) (Rose before after) session.old session.new)
+        (L.wire link.old) (L.wire link.new) }
+    ensures falls { rank session.new < rank session.old }
+    ensures links { HasCauseFor Fault.Link session.old session.new (L.faults link.old) (L.faults link.new) }
+    ensures no_store { session.new.fault ≢ Some Fault.Store }
+    ensures room { length piece.new ≡ length piece.old }
+{
+    match link.read(piece) {
+        Ok(count) => session.feed(&piece[..count]),
+        Err(Failed) => session.fault(),
+    }
+}
+
+// Writes what is to be sent, all of it.
+fn write_out<L: Link>(session: &mut Session, link: &mut L)
+    requires { want_of session.old ≡ Want.Write }
+    ensures converses { (served : Served) (before after : ℕ)
+        → StepsBy (GoesOn served (Rose before after) (Rose before after) session.old session.new)
+        (L.wire link.old) (L.wire link.new) }
+    ensures state { (session.new ≡ record session.old { out = [] })
+        ⊎ (HasFailed session.old session.new × Rose (L.faults link.old) (L.faults link.new)) }
+    ensures later { L.faults link.old ≤ L.faults link.new }
+{
+    while let Want::Write = session.want() {
+        write_some(session, link);
+    }
+}
+
+// Writes of what is to be sent as much as the link takes at once.
+fn write_some<L: Link>(session: &mut Session, link: &mut L)
+    requires { want_of session.old ≡ Want.Write }
+    ensures converses { (served : Served) (before after : ℕ)
+        → StepsBy (GoesOn served (Rose before after) (Rose before after) session.old session.new)
+        (L.wire link.old) (L.wire link.new) }
+    ensures state { ((count : ℕ) × (0 < count) × (session.new ≡ record session.old { out = drop count session.old.out }))
+        ⊎ (HasFailed session.old session.new × Rose (L.faults link.old) (L.faults link.new)) }
+    ensures later { L.faults link.old ≤ L.faults link.new }
+{
+    match link.write(session.out()) {
+        Ok(count) => session.sent(count),
+        Err(Failed) => session.fault(),
+    }
+}
