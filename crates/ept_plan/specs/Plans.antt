@@ -1,10 +1,9 @@
 -- What a build is to do: which inputs are new behind the current checkpoint, and what is known of all.
-use Rattle.std.specs.Prelude.{◌≡◌, ℕ, ◌+◌, ◌<◌, ◌≤◌, ◌↔◌, List, [], length, take, Option, Some, None, IsTrue, All, ⊤}
+use Rattle.std.specs.Prelude.{◌≡◌, ◌≢◌, ◌⊎◌, ℕ, ◌≤◌, List, [], ◌++◌, length, take, Option, Some, None, Result, Err, All, ⊤}
 use Rattle.ept_base.specs.Files.{Files}
 use Rattle.ept_point.specs.declared.point.Point.{Point}
 use Rattle.ept_space.specs.declared.bounds.Bounds.{Bounds}
 use Rattle.ept_config.specs.declared.config.Config.{Config}
-use Rattle.ept_config.specs.declared.input.Input.{Input}
 use Rattle.ept_config.specs.declared.kept.Kept.{Kept}
 use Rattle.ept_config.specs.declared.source_count.SourceCount.{SourceCount}
 use Rattle.ept_config.specs.Counts.{IsCount, total}
@@ -43,6 +42,8 @@ abbrev pub HasFirst : Files → Current → List Point → Type 0
 HasFirst shelf None first = first ≡ []
 HasFirst shelf (Some (letter, c)) first = HasPointsOf shelf c first
 
+-- ---- what is given
+
 -- the given bounds, or else the kept ones
 abbrev pub bounds_or : Option Bounds → Bounds → Bounds
 bounds_or None kept = kept
@@ -56,6 +57,11 @@ IsGiven config kept given = IsKeptOf config (bounds_or config.bounds kept.bounds
 abbrev pub GoesOn : Config → Current → Type 0
 GoesOn config None = ⊤
 GoesOn config (Some (letter, c)) = (given : Kept) × IsGiven config c.kept given × GoesOnFrom c.kept given
+
+-- what is given differs from what the checkpoint keeps: this is the first field that does, with both texts
+abbrev pub DiffersBy : Config → Current → Difference → Type 0
+DiffersBy config None d = ⊥
+DiffersBy config (Some (letter, c)) d = (given : Kept) × IsGiven config c.kept given × IsDifference c.kept given d
 
 -- ---- the plan
 
@@ -89,15 +95,24 @@ abbrev pub AreRefused : Files → Config → Current → ScanError → Type 0
 AreRefused shelf config current error =
     ScanIsRefused shelf config.scale (limits_by config.bounds current) config.inputs (inputs_by current) error
 
--- what is given differs from what the checkpoint keeps: this is the first field that does, with both texts
-abbrev pub DiffersBy : Config → Current → Difference → Type 0
-DiffersBy config None d = ⊥
-DiffersBy config (Some (letter, c)) d = (given : Kept) × IsGiven config c.kept given × IsDifference c.kept given d
-
--- why there is no plan: what is kept is compared before an input is opened
+-- Why there is no plan: what is kept is compared before an input is opened. Memory may run out before that.
 abbrev pub IsRefused : Files → Config → Current → PlanError → Type 0
 IsRefused shelf config current (Differs d) = DiffersBy config current d
-IsRefused shelf config current (Scan e) = GoesOn config current × AreRefused shelf config current e
+IsRefused shelf config current (Scan e) = AreRefused shelf config current e × (e ≢ scan.Memory → GoesOn config current)
+
+-- a cause that lies in the inputs: no fault of the shelf, and no want of memory
+abbrev pub IsDefinite : ScanError → Type 0
+IsDefinite e = (e ≢ scan.SourceFault) × (e ≢ scan.Memory)
+
+-- the answer is a fault of the shelf, or want of memory
+abbrev pub Stops : {T : Type 0} → Result T PlanError → Type 0
+Stops answer = (answer ≡ Err (Scan scan.SourceFault)) ⊎ (answer ≡ Err (Scan scan.Memory))
+
+-- the answer is a field that differs, or want of memory
+abbrev pub TellsDifference : {T : Type 0} → Result T PlanError → Type 0
+TellsDifference answer = ((d : Difference) × (answer ≡ Err (Differs d))) ⊎ (answer ≡ Err (Scan scan.Memory))
+
+-- ---- what the shelf is asked for
 
 -- the paths of the new inputs, in order
 abbrev pub new_paths : Config → Current → List (List ℕ)

@@ -3,7 +3,12 @@
 #![tactic(auto)]
 
 mod error;
+mod extents;
+mod given;
+mod new_inputs;
 mod plan;
+#[cfg(test)]
+mod tests;
 
 pub use error::PlanError;
-pub use plan::{Plan, plan};
+pub use plan::{Plan, plan_of};

@@ -1,0 +1,4 @@
+mod Fields
+mod Judged
+mod Scanned
+mod Told
