@@ -85,19 +85,19 @@ module _ (config : Config) (current : Current) where
   ]
 
   module _ (all : Files) where
-    comes : (f e : ScanError) → AreRefused all config current f → IsDefinite e → AreRefused all config current e → (Err {T = Plan} (Scan f) ≡ Err (Scan e)) ⊎ Stops (Err {T = Plan} (Scan f))
-    comes f e is_f is_definite is_e = elim (kind_of f) [
-      | of_fault same ↦ inr (inl (ap (λ (g : ScanError). Err (Scan g)) same))
-      | of_want same ↦ inr (inr (ap (λ (g : ScanError). Err (Scan g)) same))
+    comes : (r : Result Plan PlanError) (f e : ScanError) → r ≡ Err (Scan f) → AreRefused all config current f → IsDefinite e → AreRefused all config current e → (r ≡ Err (Scan e)) ⊎ Stops r
+    comes r f e is is_f is_definite is_e = elim (kind_of f) [
+      | of_fault same ↦ inr (inl (is ∙ ap (λ (g : ScanError). Err (Scan g)) same))
+      | of_want same ↦ inr (inr (is ∙ ap (λ (g : ScanError). Err (Scan g)) same))
       | of_cause blamed ↦
           let one : f ≡ e = definite e is_definite (f ≡ e) (blamed (Blames e (f ≡ e)) (one_refusal all config.scale (limits_by config.bounds current) config.inputs (inputs_by current) f e is_f is_e)) in
-          inl (ap (λ (g : ScanError). Err (Scan g)) one)
+          inl (is ∙ ap (λ (g : ScanError). Err (Scan g)) one)
     ]
 
-    stops : (f : ScanError) (points : List Point) (done : ScanDone) → AreRefused all config current f → IsScan all config.scale (limits_by config.bounds current) config.inputs (inputs_by current) points done → Stops (Err {T = Plan} (Scan f))
-    stops f points done is_f scan = elim (kind_of f) [
-      | of_fault same ↦ inl (ap (λ (g : ScanError). Err (Scan g)) same)
-      | of_want same ↦ inr (ap (λ (g : ScanError). Err (Scan g)) same)
+    stops : (r : Result Plan PlanError) (f : ScanError) (points : List Point) (done : ScanDone) → r ≡ Err (Scan f) → AreRefused all config current f → IsScan all config.scale (limits_by config.bounds current) config.inputs (inputs_by current) points done → Stops r
+    stops r f points done is is_f scan = elim (kind_of f) [
+      | of_fault same ↦ inl (is ∙ ap (λ (g : ScanError). Err (Scan g)) same)
+      | of_want same ↦ inr (is ∙ ap (λ (g : ScanError). Err (Scan g)) same)
       | of_cause blamed ↦ absurd (blamed ⊥ (scan_or_refusal all config.scale (limits_by config.bounds current) config.inputs (inputs_by current) points done f scan is_f))
     ]
 
@@ -107,7 +107,7 @@ module _ (config : Config) (current : Current) where
   refusal-comes (Some all) (Ok p) found why = λ e on is_definite is_e.
       absurd (definite e is_definite ⊥ (scan_or_refusal all config.scale (limits_by config.bounds current) config.inputs (inputs_by current) found.scan.0 _ e found.scan.1 is_e))
   refusal-comes (Some all) (Err (Differs d)) found why = λ e on is_definite is_e. absurd (on-or-differs config current d on why)
-  refusal-comes (Some all) (Err (Scan f)) found why = λ e on is_definite is_e. comes all f e why.0 is_definite is_e
+  refusal-comes (Some all) (Err (Scan f)) found why = λ e on is_definite is_e. comes all (Err (Scan f)) f e refl why.0 is_definite is_e
 
   pub accepted : (files : Option Files) (r : Result Plan PlanError) → IfErr r (WhyNot files config current)
       → Tells (λ all. (points : List Point) (done : ScanDone) → GoesOn config current → IsScan all config.scale (limits_by config.bounds current) config.inputs 0 points done → IsOk r ⊎ Stops r) files
@@ -116,4 +116,4 @@ module _ (config : Config) (current : Current) where
   accepted (Some all) (Err (Differs d)) why = λ points done on scan. absurd (on-or-differs config current d on why)
   accepted (Some all) (Err (Scan f)) why = λ points done on scan.
       let new = new-scanned all config current points done on scan in
-      inr (stops all f new.0 new.1 why.0 new.2)
+      inr (stops all (Err (Scan f)) f new.0 new.1 refl why.0 new.2)

@@ -1,4 +1,6 @@
-mod Fields
-mod Judged
-mod Scanned
 mod Told
+mod Fields
+mod Currents
+mod Scanned
+mod Judged
+mod Steps

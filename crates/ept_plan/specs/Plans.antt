@@ -17,6 +17,7 @@ use Rattle.ept_save.specs.Current.{Current}
 use Rattle.ept_save.specs.Sound.{HasPointsOf}
 use Rattle.ept_batch.specs.declared.differing.Difference.{Difference}
 use Rattle.ept_batch.specs.Differing.{GoesOnFrom, IsDifference}
+use Rattle.ept_meta.specs.Output.{rules_of}
 use Rattle.ept_plan.specs.declared.error.PlanError.{PlanError}
 use Rattle.ept_plan.specs.declared.error.PlanError.TheVariants.{Differs, Scan}
 use Rattle.ept_plan.specs.declared.plan.Plan.{Plan}
@@ -65,6 +66,21 @@ DiffersBy config (Some (letter, c)) d = (given : Kept) × IsGiven config c.kept 
 
 -- ---- the plan
 
+-- the counts of the checkpoint are the first ones
+abbrev pub CountsBegin : Current → List SourceCount → Type 0
+CountsBegin None counts = ⊤
+CountsBegin (Some (letter, c)) counts = (more : List SourceCount) × (counts ≡ c.counts ++ more)
+
+-- the rules of the sampling, and the depths of a hierarchy file, are those of the checkpoint
+abbrev pub RulesStay : Current → Kept → Type 0
+RulesStay None kept = ⊤
+RulesStay (Some (letter, c)) kept = (rules_of kept ≡ rules_of c.kept) × (kept.step ≡ c.kept.step)
+
+-- the checkpoint keeps what the plan keeps, with the plan's counts
+abbrev pub IsOf : Plan → Current → Type 0
+IsOf plan None = ⊥
+IsOf plan (Some (letter, c)) = (c.kept ≡ plan.kept) × (c.counts ≡ plan.counts)
+
 -- What holds of a plan whatever the shelf tells: there is a count for each input, of which the first ones are those of the checkpoint.
 pub record IsPlan (config : Config) (current : Current) (plan : Plan) : Type 0 where
   pub kept_is : IsKeptOf config plan.kept.bounds plan.kept
@@ -77,6 +93,9 @@ pub record IsPlan (config : Config) (current : Current) (plan : Plan) : Type 0 w
   pub inserted_most : plan.inserted ≤ plan.points
   pub inputs_least : inputs_by current ≤ length plan.kept.inputs
   pub bounds_are : limits_by (Some plan.kept.bounds) current ≡ Some plan.kept.bounds
+  pub counts_are : CountsBegin current plan.counts
+  pub rules_stay : RulesStay current plan.kept
+  pub same : inputs_by current ≡ length plan.kept.inputs → IsOf plan current
 
 -- all inputs have these points, with the counts and the bounds of the plan
 abbrev pub HasPoints : Files → Config → Current → Plan → List Point → Type 0

@@ -11,4 +11,4 @@ mod plan;
 mod tests;
 
 pub use error::PlanError;
-pub use plan::{Plan, plan_of};
+pub use plan::{Plan, make_plan};

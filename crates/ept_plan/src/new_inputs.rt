@@ -1,6 +1,6 @@
 //! The inputs that a checkpoint does not have.
 
-ghost use Rattle.std.specs.Prelude.{◌≡◌, ◌↔◌, ◌++◌, Some, IsTrue, IfOk, IfErr, length};
+ghost use Rattle.std.specs.Prelude.{◌≡◌, ◌++◌, Some, IfOk, IfErr, length};
 ghost use Rattle.ept_base.specs.Causes.{HasCauseOf};
 ghost use Rattle.ept_base.specs.Files.{Tells};
 ghost use Rattle.ept_batch.specs.Differing.{ArePrefix};
@@ -14,7 +14,6 @@ use ept_ckpt::Checkpoint;
 use ept_config::{Config, SourceCount};
 use ept_point::List;
 use ept_scan::{ScanError, scan};
-use ept_space::Bounds;
 use std::alloc::{AllocError, Global};
 
 /// The counts of all inputs: those of the checkpoint, and behind them those of the inputs that it does not have,
@@ -38,9 +37,6 @@ pub(crate) fn all_counts<H: Shelf>(
     let from = checkpoint.kept.inputs.as_slice().len() as u32;
     let bounds = checkpoint.kept.bounds;
     let done = scan(alloc, shelf, config, from, Some(bounds))?;
-    if !is_same(&done.bounds, &bounds) {
-        return Err(ScanError::NoBounds);
-    }
     extents_known(&bounds, done.counts.as_slice());
     let counts = joined(alloc, checkpoint.counts.as_slice(), done.counts.as_slice())?;
     Ok(List::of(counts))
@@ -57,11 +53,4 @@ fn joined(
     let mut all = Vec::from_slice(alloc, first)?;
     all.extend_from_slice(others)?;
     Ok(all)
-}
-
-// Whether bounds are the same.
-fn is_same(a: &Bounds, b: &Bounds) -> bool
-    ensures { IsTrue result ↔ (a.now ≡ b.now) }
-{
-    a == b
 }

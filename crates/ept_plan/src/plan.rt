@@ -45,7 +45,7 @@ pub struct Plan {
 ///
 /// `Differs` with the first field that differs, before an input is opened; then the refusals of
 /// [`scan`](ept_scan::scan).
-pub fn plan_of<H: Shelf>(
+pub fn make_plan<H: Shelf>(
     alloc: Global,
     config: &Config,
     shelf: &mut H,

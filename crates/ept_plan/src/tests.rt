@@ -142,7 +142,7 @@ fn differs(
 ) -> Result<bool, Fail> {
     let config = configured(alloc, more)?;
     let mut shelf = shelf_of(alloc, "b.las", &[1])?;
-    let Err(PlanError::Differs(found)) = plan_of(alloc, &config, &mut shelf, saved) else {
+    let Err(PlanError::Differs(found)) = make_plan(alloc, &config, &mut shelf, saved) else {
         return Ok(false);
     };
     let same = found.kept.as_slice() == kept.as_bytes()
@@ -155,7 +155,7 @@ fn refusal(alloc: Global, more: &str, places: &[u8]) -> Result<Option<ScanError>
     let config = configured(alloc, more)?;
     let saved = saved(alloc, false)?;
     let mut shelf = shelf_of(alloc, "b.las", places)?;
-    match plan_of(alloc, &config, &mut shelf, &saved) {
+    match make_plan(alloc, &config, &mut shelf, &saved) {
         Err(PlanError::Scan(refused)) => Ok(Some(refused)),
         _ => Ok(None),
     }
@@ -167,7 +167,7 @@ fn a_first_plan_has_all_inputs(rt: HostRuntime) -> Result<(), Fail> {
     let config = configured(alloc, "")?;
     let saved = fresh(alloc)?;
     let mut shelf = shelf_of(alloc, "a.las", &[1, 2])?;
-    let Ok(plan) = plan_of(alloc, &config, &mut shelf, &saved) else {
+    let Ok(plan) = make_plan(alloc, &config, &mut shelf, &saved) else {
         return Err(Fail::new("no plan"));
     };
     let counts = [count(2, Some(cube(1, 2)))];
@@ -184,7 +184,7 @@ fn a_next_plan_opens_the_new_input_alone(rt: HostRuntime) -> Result<(), Fail> {
     let config = configured(alloc, r#","input":["a.las","b.las"]"#)?;
     let saved = saved(alloc, false)?;
     let mut shelf = shelf_of(alloc, "b.las", &[3, 0, 1])?;
-    let Ok(plan) = plan_of(alloc, &config, &mut shelf, &saved) else {
+    let Ok(plan) = make_plan(alloc, &config, &mut shelf, &saved) else {
         return Err(Fail::new("no plan"));
     };
     let counts = [count(2, Some(cube(1, 2))), count(3, Some(cube(0, 3)))];
@@ -266,12 +266,12 @@ fn bounds_that_are_not_given_are_the_kept_ones_or_the_extent(rt: HostRuntime) ->
     let config = read_config(alloc, br#"{"input":"a.las","scale":2}"#)?;
     let saved = fresh(alloc)?;
     let mut shelf = shelf_of(alloc, "a.las", &[1, 2])?;
-    let Ok(found) = plan_of(alloc, &config, &mut shelf, &saved) else {
+    let Ok(found) = make_plan(alloc, &config, &mut shelf, &saved) else {
         return Err(Fail::new("no plan"));
     };
     assert_eq!(rt; found.kept.bounds, cube(1, 2));
     let mut empty = shelf_of(alloc, "a.las", &[])?;
-    let refused = plan_of(alloc, &config, &mut empty, &saved);
+    let refused = make_plan(alloc, &config, &mut empty, &saved);
     assert!(rt; matches!(refused, Err(PlanError::Scan(ScanError::NoBounds))));
     Ok(())
 }
