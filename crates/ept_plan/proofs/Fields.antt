@@ -1,13 +1,11 @@
 -- What is given of a configuration that goes on from what is kept.
-use Rattle.std.proofs.Common.{◌≡◌, ◌∙◌, ℕ, ◌<◌, List, [], ◌∷◌, ◌++◌, length, refl, sym, ap, subst, arith, length-append}
+use Rattle.std.proofs.Common.{◌≡◌, ◌∙◌, ℕ, List, [], ◌∷◌, ◌++◌, length, refl, sym, ap, subst, arith, length-append}
 use Rattle.std.specs.Prelude.{All}
 use Rattle.std.proofs.Props.{props}
 use Rattle.std.proofs.lemmas.List.{append-nil}
 use Rattle.std.proofs.lemmas.List.Elements.{All-head, All-tail}
 use mathlib.Core.HLevel.{is_prop→PathP}
 use Rattle.ept_space.specs.CubeOfBounds.{cube_of}
-use Rattle.ept_space.specs.OctreeCube.{OctreeCube}
-use Rattle.ept_space.specs.declared.cube.Rules.{Rules}
 use Rattle.ept_config.specs.Ranges.{LayoutInRange, BoundsInRange}
 use Rattle.ept_meta.specs.Output.{rules_of}
 use Rattle.ept_space.specs.declared.bounds.Bounds.{Bounds}
@@ -18,7 +16,7 @@ use Rattle.ept_config.specs.KeptOf.{IsKeptOf}
 use Rattle.ept_meta.specs.declared.fields.Field.{Field}
 use Rattle.ept_meta.specs.declared.fields.Field.TheVariants as field
 use Rattle.ept_batch.specs.declared.differing.Difference.{Difference}
-use Rattle.ept_batch.specs.Differing.{ArePrefix, IsAsKept, in_order, GoesOnFrom, IsDifference}
+use Rattle.ept_batch.specs.Differing.{ArePrefix, IsAsKept, GoesOnFrom, IsDifference}
 use Rattle.ept_plan.specs.Plans.{IsGiven}
 
 at-middle : (P : Field → Type 0) (before behind : List Field) (x : Field) → All P (before ++ x ∷ behind) → P x

@@ -1,5 +1,5 @@
 -- The new inputs and those of the checkpoint are all inputs.
-use Rattle.std.proofs.Common.{◌≡◌, ◌∙◌, ℕ, List, [], ◌∷◌, ◌++◌, length, take, drop, refl, sym, ap, subst, arith, Option, Some, None}
+use Rattle.std.proofs.Common.{◌≡◌, ℕ, List, ◌++◌, length, take, drop, refl, sym, subst, Some, None}
 use Rattle.std.proofs.Math.Seq.{take-append_seam}
 use Rattle.ept_base.specs.Files.{Files}
 use Rattle.ept_point.specs.declared.point.Point.{Point}
@@ -12,12 +12,11 @@ use Rattle.ept_config.specs.Counts.{total}
 use Rattle.ept_scan.specs.declared.scan_done.ScanDone.{ScanDone}
 use Rattle.ept_scan.specs.Scans.{IsScan}
 use Rattle.ept_scan.proofs.Joined.{scans_join, scan_back}
-use Rattle.ept_ckpt.specs.declared.letter.Letter.{Letter}
 use Rattle.ept_ckpt.specs.declared.checkpoint.Checkpoint.{Checkpoint}
 use Rattle.ept_save.specs.Current.{Current}
 use Rattle.ept_save.specs.Sound.{HasPointsOf}
 use Rattle.ept_plan.specs.declared.plan.Plan.{Plan}
-use Rattle.ept_plan.specs.Plans.{inputs_by, limits_by, GoesOn, IsPlan, HasPoints, ScansAll}
+use Rattle.ept_plan.specs.Plans.{inputs_by, limits_by, GoesOn, IsPlan, ScansAll}
 use Rattle.ept_plan.specs.Steps.{ScansNew, counts_by}
 use Rattle.ept_plan.proofs.Fields.{scale-kept, inputs-kept}
 

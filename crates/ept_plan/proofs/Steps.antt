@@ -1,5 +1,5 @@
 -- What the steps of a plan find.
-use Rattle.std.proofs.Common.{◌≡◌, ◌∙◌, ℕ, ◌+◌, List, [], ◌++◌, length, refl, sym, ap, subst, arith, Option, Some, None, length-append}
+use Rattle.std.proofs.Common.{◌≡◌, ◌∙◌, List, ◌++◌, length, refl, sym, ap, subst, arith, Option, Some, None, length-append}
 use Rattle.std.specs.Prelude.{◌≤◌, ◌≢◌, All}
 use Rattle.std.proofs.lemmas.List.Elements.{All-append}
 use Rattle.std.proofs.lemmas.List.{append-nil}
@@ -23,7 +23,7 @@ use Rattle.ept_batch.specs.Differing.{GoesOnFrom}
 use Rattle.ept_plan.specs.declared.error.PlanError.{PlanError}
 use Rattle.ept_plan.specs.declared.error.PlanError.TheVariants.{Differs, Scan}
 use Rattle.ept_plan.specs.declared.plan.Plan.{Plan}
-use Rattle.ept_plan.specs.Plans.{IsGiven, AreRefused, GoesOn, IsPlan}
+use Rattle.ept_plan.specs.Plans.{IsGiven, AreRefused}
 use Rattle.ept_plan.specs.Steps.{DoesNotGoOn, AddsCounts, IsFound, WhyNot}
 use Rattle.ept_plan.proofs.Told.{tells-more, tells-always}
 use Rattle.ept_plan.proofs.Fields.{nothing, bounds-kept, step-kept, rules-kept, same-kept}

@@ -1,6 +1,6 @@
 -- What is told, and what a shelf was asked for.
-use Rattle.std.proofs.Common.{◌≡◌, ◌∙◌, ℕ, zero, List, [], ◌++◌, length, take, sym, subst, arith, Option, Some, None}
-use Rattle.std.specs.Prelude.{◌≤◌, Result, Err}
+use Rattle.std.proofs.Common.{◌≡◌, ℕ, List, length, take, sym, subst, arith, Option, Some, None}
+use Rattle.std.specs.Prelude.{Result, Err}
 use Rattle.std.proofs.lemmas.List.{take_all, append-nil}
 use Rattle.ept_base.specs.Files.{Tells}
 use Rattle.ept_scan.specs.Asking.{AsksFor, OpensThese}

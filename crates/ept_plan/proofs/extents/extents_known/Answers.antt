@@ -1,10 +1,7 @@
-use Rattle.std.proofs.Common.{◌∙◌, subst, sym, arith, take}
+use Rattle.std.proofs.Common.{subst, arith}
 use Rattle.std.specs.List.{All}
 use Rattle.std.proofs.lemmas.List.{take_all}
 use Rattle.std.proofs.lemmas.List.Elements.{All-more}
-use Rattle.ept_config.specs.Counts.{IsCount}
-use Rattle.ept_config.specs.declared.source_count.SourceCount.{SourceCount}
-use Rattle.std.specs.Prelude.{List}
 use Rattle.ept_ckpt.specs.Valid.{ExtentInRange}
 use Rattle.ept_plan.proofs.extents.extents_known.Goals as goal
 

@@ -1,4 +1,4 @@
-use Rattle.std.proofs.Common.{◌≡◌, sym, ap, subst, arith, rules, List, None}
+use Rattle.std.proofs.Common.{◌≡◌, sym, subst, rules, List, None}
 use Rattle.std.specs.Prelude.{Result, Err, IfErr, All}
 use Rattle.ept_base.specs.Files.{Files}
 use Rattle.ept_space.specs.declared.bounds.Bounds.{Bounds}

@@ -1,4 +1,4 @@
-use Rattle.std.proofs.Common.{◌≡◌, sym, ap, subst, arith, rules, Some}
+use Rattle.std.proofs.Common.{◌≡◌, sym, subst, arith, rules, Some}
 use Rattle.std.specs.Prelude.{Result, Err, IfErr}
 use Rattle.ept_plan.specs.declared.error.PlanError.{PlanError}
 use Rattle.ept_plan.specs.declared.error.PlanError.TheVariants.{Scan}
@@ -6,7 +6,7 @@ use Rattle.ept_plan.specs.declared.plan.Plan.{Plan}
 use Rattle.ept_plan.specs.Plans.{new_paths}
 use Rattle.ept_plan.specs.Steps.{WhyNot}
 use Rattle.ept_plan.proofs.Fields.{inputs-kept}
-use Rattle.ept_plan.proofs.Steps.{not-on, no-fault, all-each, all-counted, next-found}
+use Rattle.ept_plan.proofs.Steps.{not-on, no-fault, next-found}
 use Rattle.ept_plan.proofs.Told.{refused-first, refused-behind}
 use Rattle.ept_plan.proofs.plan.next_plan.Goals as goal
 
