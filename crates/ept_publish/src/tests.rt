@@ -1,6 +1,6 @@
 //! The files of small outputs, put into a store in memory.
 
-use crate::publish;
+use crate::{publish, published_law};
 use ept_base::PutError;
 use ept_config::SourceCount;
 use ept_grid::Grid;
@@ -144,6 +144,7 @@ const ONE_MANIFEST: &[u8] = b"[{\"path\":\"a.las\",\"points\":1,\
 
 #[test]
 fn a_root_with_one_point_is_five_files(rt: HostRuntime) -> Result<(), Fail> {
+    published_law();
     let root = [(Key::ROOT, 0, [1, 2, 3])];
     let left = published(rt.alloc(), ROOT_FILE, ONE, &root, None)?;
     compare(
@@ -212,16 +213,18 @@ fn each_call_of_the_store_may_fail(rt: HostRuntime) -> Result<(), Fail> {
             Ok(())
         };
         compare(&rt, &left, want, &[]);
-        let mut put = 0;
-        for name in [
-            "ept-data/0-0-0-0.bin",
-            "ept-hierarchy/0-0-0-0.json",
-            "ept.json",
-            "ept-sources/manifest.json",
-            "ept-build.json",
+        for (put, name) in [
+            (0, "ept-data/0-0-0-0.bin"),
+            (1, "ept-hierarchy/0-0-0-0.json"),
+            (2, "ept.json"),
+            (3, "ept-sources/manifest.json"),
+            (4, "ept-build.json"),
         ] {
-            assert_eq!(rt; left.store.file(name).is_some(), put < call, "{call} {name}");
-            put += 1;
+            assert_eq!(rt;
+                left.store.file(name).is_some(),
+                put < call,
+                "{call} {name}"
+            );
         }
     }
     Ok(())

@@ -1,5 +1,4 @@
 use Rattle.std.proofs.Common.{◌≡◌, ◌∙◌, ◌∷◌, ◌++◌, List, map, sym, ap, subst, arith, rules}
-use Rattle.std.specs.Prelude.{Contains}
 use Rattle.std.specs.Map.Iter.{deref_pair}
 use Rattle.std.proofs.lemmas.Map.Iter.{iter_end, rest_so_far, rest_more}
 use Rattle.ept_base.specs.Files.{StepsBy}
