@@ -1,1 +1,6 @@
-mod Telling
+mod Lining
+mod Merging
+mod Phasing
+mod SavedTo
+mod SavedNodes
+pub mod Telling
