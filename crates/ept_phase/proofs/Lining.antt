@@ -1,6 +1,7 @@
 -- Nodes that are loaded line by line, and put into a map behind those before them.
-use Rattle.std.proofs.Common.{◌≡◌, ◌∙◌, ◌⊎◌, inl, inr, ℕ, zero, suc, ◌<◌, Bool, true, false, cond, List, [], ◌∷◌, ◌++◌, map, take, length, get_or, refl, sym, ap, subst, arith, Option, Some, None, Ordering}
-use Rattle.std.specs.Prelude.{AllPairs}
+use Rattle.std.proofs.Common.{◌≡◌, ◌∙◌, ◌⊎◌, inl, inr, ℕ, zero, suc, ◌+◌, ◌<◌, Bool, true, false, cond, List, [], ◌∷◌, ◌++◌, map, take, length, get_or, refl, sym, ap, subst, arith, Option, Some, None, Ordering}
+use Rattle.std.specs.Prelude.{AllPairs, IsSome}
+use Rattle.std.proofs.Math.Seq.{take-suc}
 use Rattle.std.specs.List.{AllZip}
 use Rattle.std.specs.Option.{option_map}
 use Rattle.std.specs.BTreeMap.{insert_entry}
@@ -8,7 +9,9 @@ use Rattle.std.specs.declared.cmp.Ordering.TheVariants.{Less, Equal, Greater}
 use Rattle.std.specs.Ordering.{is_lt, match_ordering, ordering_reverse}
 use Rattle.ept_base.specs.Files.{Files, SameFiles, StepsBy, Tells}
 use Rattle.ept_point.specs.Packed.{tile}
+use Rattle.std.proofs.lemmas.List.{length-append}
 use Rattle.ept_space.specs.VoxelKey.{VoxelKey, same_key, key_cmp}
+use Rattle.ept_space.specs.declared.cube.Rules.{Rules}
 use Rattle.ept_space.proofs.KeyOrder.{key_cmp_total}
 use Rattle.ept_space.proofs.Within.{same_key-true, same_key-same}
 use Rattle.ept_sample.specs.Members.{IsMember}
@@ -23,20 +26,21 @@ use Rattle.ept_ckpt.specs.Octree.{keys_of}
 use Rattle.ept_ckpt.specs.Lookup.{line_of_key}
 use Rattle.ept_meta.specs.Output.{rules_of}
 use Rattle.ept_save.specs.Current.{Current, tile_of_line}
-use Rattle.ept_save.specs.Loading.{IsNodeFound, AreFound, HasTile, AreOfLine}
+use Rattle.ept_save.specs.Loading.{HasLine, IsNodeFound, AreFound, HasTile, AreOfLine}
 use Rattle.ept_save.proofs.LoadedLines.{at-line}
 use Rattle.ept_tree.specs.Tree.{Branch, AreNodes}
+use Rattle.ept_phase.specs.LinesLaws.{HaveKeys}
 use Rattle.ept_phase.specs.Lines.{TellsNode, TellNodes, NamesTile, NameTiles}
 use Rattle.ept_phase.proofs.Telling.{either, node-line}
-use Rattle.ept_phase.proofs.Merging.{AreBehind, DoAscend}
+use Rattle.ept_phase.proofs.Merging.{DoAscend}
 
 -- ---- pairs, and files that are told
 
 pub zip-more : {A B : Type 0} (R : A → B → Type 0) (xs : List A) (ys : List B) (x : A) (y : B) → AllZip R xs ys → R x y → AllZip R (xs ++ x ∷ []) (ys ++ y ∷ [])
 zip-more R [] [] x y all r = (r, tt)
 zip-more R [] (b ∷ bs) x y all r = absurd all
-zip-more R (a ∷ as) [] x y all r = absurd all
-zip-more R (a ∷ as) (b ∷ bs) x y all r = (all.0, zip-more R as bs x y all.1 r)
+zip-more R (a ∷ rest) [] x y all r = absurd all
+zip-more R (a ∷ rest) (b ∷ bs) x y all r = (all.0, zip-more R rest bs x y all.1 r)
 
 pub tells-both : (one other both : Files → Type 0) → ((all : Files) → one all → other all → both all) → (files : Option Files) → Tells one files → Tells other files → Tells both files
 tells-both one other both makes None a b = tt
@@ -107,17 +111,16 @@ insert-last {X} (e ∷ es) key x low =
 
 -- ---- the next node
 
+abbrev value_or : {X : Type 0} → X → Option X → X
+value_or x None = x
+value_or x (Some y) = y
+
+pub some-same : {X : Type 0} (a b : X) → Some a ≡ Some b → a ≡ b
+some-same a b is = ap (value_or a) is
+
 pub at-current : (current : Current) (c : Checkpoint) → option_map (λ (at : Letter × Checkpoint). at.1) current ≡ Some c → (at : Letter × Checkpoint) × (current ≡ Some at) × (at.1 ≡ c)
 at-current None c is = absurd (cc)
-at-current (Some at) c is = (at, refl, some_one is)
-  where
-    checkpoint_of : Option Checkpoint → Checkpoint
-    checkpoint_of None = c
-    checkpoint_of (Some d) = d
-
-    some_one : Some at.1 ≡ Some c → at.1 ≡ c
-    unfolding checkpoint_of
-    some_one e = ap checkpoint_of e
+at-current (Some at) c is = (at, refl, some-same at.1 c is)
 
 module _ (current : Current) (c : Checkpoint) (is_current : option_map (λ (at : Letter × Checkpoint). at.1) current ≡ Some c) where
   abbrev lines : List NodeLine
@@ -128,6 +131,13 @@ module _ (current : Current) (c : Checkpoint) (is_current : option_map (λ (at :
 
   found : (line : NodeLine) → IsMember line lines → line_of_key lines line.key ≡ Some line
   found line m = line-here lines line up m
+
+  -- the current checkpoint has a line of the key of each of its lines
+  pub line-there : (line : NodeLine) → IsMember line lines → HasLine current line.key
+  line-there line m =
+      let at = at-current current c is_current in
+      subst (λ (w : Current). HasLine w line.key) (sym at.1)
+      (subst (λ (o : Option NodeLine). IsSome o) (sym (ap (λ (d : Checkpoint). line_of_key d.nodes line.key) at.2 ∙ found line m)) refl)
 
   module _ (line : NodeLine) (m : IsMember line lines) (node : Node) where
     abbrev at : (at : Letter × Checkpoint) × (current ≡ Some at) × (at.1 ≡ c)
@@ -163,3 +173,51 @@ own-more rules [] b own is d (inl at) = subst (λ (w : Branch). (w.1.key ≡ w.0
 own-more rules [] b own is d (inr m) = absurd m
 own-more rules (e ∷ es) b own is d (inl at) = own d (inl at)
 own-more rules (e ∷ es) b own is d (inr m) = own-more rules es b (λ w i. own w (inr i)) is d m
+
+module _ (rules : Rules) (entries more : List Branch) (items : List NodeLine) (i : ℕ) (line : NodeLine) (node : Node) (inserted : more ≡ insert_entry key_cmp entries line.key node) (up : DoAscend items) (inside : i < length items) (is : get_or items i line ≡ line) (told : TellNodes entries (take i items)) where
+  abbrev next : Branch
+  next = (line.key, node)
+
+  last : more ≡ entries ++ next ∷ []
+  last = inserted ∙ insert-last entries line.key node (entries-low entries items i line up inside is told)
+
+  taken : take i items ++ line ∷ [] ≡ take (i + 1) items
+  taken = ap (λ (l : NodeLine). take i items ++ l ∷ []) (sym is) ∙ (sym (take-suc items i line inside) ∙ ap (λ (n : ℕ). take n items) (let after : suc i ≡ i + 1 = omega arith in after))
+
+  pub told-more : TellsNode next line → TellNodes more (take (i + 1) items)
+  told-more tells =
+      subst (λ (w : List Branch). TellNodes w (take (i + 1) items)) (sym last)
+      (subst (λ (ls : List NodeLine). TellNodes (entries ++ next ∷ []) ls) taken (zip-more TellsNode entries (take i items) next line told tells))
+
+  named_more : (files : Files) → NameTiles files entries (take i items) → NamesTile files next line → NameTiles files more (take (i + 1) items)
+  named_more files names name =
+      subst (λ (w : List Branch). NameTiles files w (take (i + 1) items)) (sym last)
+      (subst (λ (ls : List NodeLine). NameTiles files (entries ++ next ∷ []) ls) taken (zip-more (NamesTile files) entries (take i items) next line names name))
+
+  pub tiles-more : (old mid : Option Files) → StepsBy SameFiles old mid → Tells (λ all. NameTiles all entries (take i items)) old → Tells (λ all. NamesTile all next line) mid → Tells (λ all. NameTiles all more (take (i + 1) items)) old
+  tiles-more old mid same names name =
+      tells-both (λ all. NameTiles all entries (take i items)) (λ all. NamesTile all next line) (λ all. NameTiles all more (take (i + 1) items)) named_more old names
+      (tells-back (λ all. NamesTile all next line) (λ all. NamesTile all next line) (λ a b step here. sym (step (tile_of_line line)) ∙ here) old mid same name)
+
+  pub own-next : AreNodes rules entries → (node.key ≡ line.key) × (node.rules ≡ rules) → AreNodes rules more
+  own-next own has = subst (AreNodes rules) (sym last) (own-more rules entries next own has)
+
+  pub one-more : length more ≡ length entries + 1
+  one-more = ap length last ∙ length-append entries (next ∷ [])
+
+-- where it is told of files, so is what follows
+pub tells-more : (one other : Files → Type 0) → ((all : Files) → one all → other all) → (files : Option Files) → Tells one files → Tells other files
+tells-more one other makes None a = tt
+tells-more one other makes (Some all) a = makes all a
+
+-- the keys of a checkpoint's lines are keys
+pub have-keys : (c : Checkpoint) → HaveKeys c.nodes
+have-keys c = λ k line inside. (c.is_checkpoint.lines k line inside).is_key
+
+-- nodes of which some first lines tell are fewer than all lines
+pub told-few : (nodes : List Branch) (lines : List NodeLine) (i : ℕ) → i < length lines → TellNodes nodes (take i lines) → length nodes < length lines
+told-few [] (l ∷ ls) zero inside told = omega arith
+told-few (b ∷ bs) (l ∷ ls) zero inside told = absurd told
+told-few [] (l ∷ ls) (suc i) inside told = omega arith
+told-few (b ∷ bs) (l ∷ ls) (suc i) inside told = let fewer = told-few bs ls i (omega (arith, inside)) told.1 in omega (arith, fewer)
+told-few nodes [] i inside told = absurd (omega (arith, inside))

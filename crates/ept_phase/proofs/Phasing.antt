@@ -1,11 +1,12 @@
 -- An octree becomes the next checkpoint: why that is one, and how the files go on.
 use Rattle.std.proofs.Common.{◌≡◌, ◌∙◌, ◌⊎◌, inl, inr, ⊎_elim, ℕ, zero, suc, ◌+◌, ◌<◌, ◌≤◌, ◌^◌, List, [], ◌∷◌, map, length, get_or, refl, sym, ap, subst, arith, Option, Some, None}
-use Rattle.std.specs.Prelude.{All, Any}
-use Rattle.ept_base.specs.Files.{Files, StepsBy}
+use Rattle.std.specs.Prelude.{All, Any, false, Result, Ok, Err, OnOk}
+use Rattle.ept_base.specs.Files.{Files, Tells}
 use Rattle.ept_base.specs.Moves.{Moves}
 use Rattle.ept_base.proofs.Moving.{moves_weaker, moves_both}
 use Rattle.ept_point.specs.Packed.{tile}
 use Rattle.ept_space.specs.VoxelKey.{VoxelKey, IsKey}
+use Rattle.ept_space.specs.declared.cube.Rules.{Rules}
 use Rattle.ept_config.specs.declared.kept.Kept.{Kept}
 use Rattle.ept_config.specs.declared.source_count.SourceCount.{SourceCount}
 use Rattle.ept_sample.specs.Members.{IsMember}
@@ -19,14 +20,18 @@ use Rattle.ept_ckpt.specs.Octree.{AreNodesOf}
 use Rattle.ept_ckpt.specs.Valid.{IsCheckpoint, IsNode, deepest}
 use Rattle.ept_meta.specs.Output.{rules_of}
 use Rattle.ept_save.specs.Names.{IsSavedName}
-use Rattle.ept_save.specs.Current.{Current, IsCurrent, IsNamed, IsNow, Keeps, Commits, tile_of_line}
-use Rattle.ept_save.specs.View.{View, next_letter, next_generation, next_facts}
+use Rattle.ept_save.specs.Current.{Current, HasCurrent, IsCurrent, IsNamed, IsNow, Keeps, Commits, tile_of_line}
+use Rattle.ept_save.specs.View.{View, StandsFor, next_letter, next_generation, next_facts}
 use Rattle.ept_save.proofs.Keeping.{keeps-both}
-use Rattle.ept_tree.specs.Tree.{Branch, AreNodes}
+use Rattle.ept_save.proofs.Standing.{told_some}
+use Rattle.ept_tree.specs.Tree.{Branch, AreNodes, entry_of, points_in}
+use Rattle.ept_tree.specs.Whole.{AreWhole}
 use Rattle.ept_phase.specs.Lines.{TellsNode, TellNodes, NamesTile, NameTiles}
-use Rattle.ept_phase.specs.Phase.{AreGiven, GoesFurther, IsNext, HasNext, GoesOn}
+use Rattle.ept_phase.specs.LinesLaws.{WholeIsTold}
+use Rattle.ept_phase.specs.Phase.{AreGiven, GoesFurther, IsNext, HasNext, GoesOn, IsSaved}
 use Rattle.ept_phase.specs.Saving.{AreKnown}
 use Rattle.ept_phase.proofs.Telling.{line-node}
+use Rattle.ept_phase.proofs.Lining.{some-same}
 
 -- ---- the next checkpoint
 
@@ -73,7 +78,7 @@ next-valid current kept counts inserted nodes lines given further few told known
 }
 
 module _ (by_facts : CheckpointByFacts) (view : View) (kept : Kept) (counts : List SourceCount) (inserted : ℕ) (nodes : List Branch) (valid : IsCheckpoint (next_generation view.current) kept counts inserted view.lines) (told : TellNodes nodes view.lines) where
-  pub the-next : Checkpoint
+  abbrev pub the-next : Checkpoint
   the-next = record {
     generation = next_generation view.current;
     kept = kept;
@@ -130,3 +135,64 @@ module _ (view : View) (kept : Kept) (counts : List SourceCount) (inserted : ℕ
         is_current = now.is_current;
         tiles = named_tiles start b nodes next.nodes (λ l m. now.tiles (tile_of_line l) (line_named (next_letter view.current) next l m)) names;
       }
+
+-- ---- a whole phase
+
+-- the nodes of a whole octree that were saved are those of a next checkpoint
+pub tree-valid : WholeIsTold → (view : View) (rules : Rules) (kept : Kept) (counts : List SourceCount) (inserted : ℕ) (nodes : List Branch) → AreGiven kept counts inserted → GoesFurther view.current inserted (length kept.inputs) → length nodes < 2 ^ 32 → TellNodes nodes view.lines → AreKnown nodes
+    → AreNodes rules nodes → rules ≡ rules_of kept → AreWhole [] (map entry_of nodes) → length (points_in nodes) ≡ inserted → IsCheckpoint (next_generation view.current) kept counts inserted view.lines
+tree-valid law view rules kept counts inserted nodes given further few told known own is whole holds =
+    next-valid view.current kept counts inserted nodes view.lines given further few told known (subst (λ (r : Rules). AreNodes r nodes) is own)
+    (subst (λ (n : ℕ). AreNodesOf n view.lines) holds (law nodes view.lines told whole))
+
+-- what a store stands for is the current checkpoint of what it tells
+pub stands-current : (view : View) (files : Option Files) (may_leave : Files → Type 0) (all : Files) → StandsFor view files may_leave → files ≡ Some all → HasCurrent view.current all
+stands-current view files may_leave all stands told =
+    subst (HasCurrent view.current) (some-same stands.all all (sym stands.told ∙ told)) stands.has_current
+
+pub on-ok : {T E : Type 0} (one other : Type 0) → (one → other) → (result : Result T E) → OnOk result one → OnOk result other
+on-ok one other makes (Ok t) has = makes has
+on-ok one other makes (Err e) has = tt
+
+module _ (by_facts : CheckpointByFacts) (start view : View) (same : view.current ≡ start.current) (kept : Kept) (counts : List SourceCount) (inserted : ℕ) (nodes : List Branch) (valid : IsCheckpoint (next_generation view.current) kept counts inserted view.lines) (told : TellNodes nodes view.lines) where
+  abbrev its : Checkpoint
+  its = the-next by_facts view kept counts inserted nodes valid told
+
+  from_start : (next : Checkpoint) → IsNext view kept counts inserted nodes next → IsNext start kept counts inserted nodes next
+  from_start next is = record {
+    generation = is.generation ∙ ap next_generation same;
+    kept_is = is.kept_is;
+    counts_are = is.counts_are;
+    inserted_is = is.inserted_is;
+    told = is.told;
+  }
+
+  pub is-saved : (new : View) → ((next : Checkpoint) × (facts next ≡ next_facts view kept counts inserted) × (new ≡ record view { current = Some (next_letter view.current, next); begun = false })) → IsSaved start new kept counts inserted nodes
+  is-saved new committed =
+      let next : Checkpoint = committed.0 in
+      let is = next-is by_facts view kept counts inserted nodes valid told next committed.1 in
+      record {
+        next = next;
+        is_next = from_start next is.1;
+        view_is = committed.2
+            ∙ (ap (λ (current : Current). let v : View = record { current = Some (next_letter current, next); lines = view.lines; begun = false } in v) same
+            ∙ ap (λ (lines : List NodeLine). let v : View = record { current = Some (next_letter start.current, next); lines = lines; begun = false } in v) (sym (ap (λ (c : Checkpoint). c.nodes) is.0)));
+      }
+
+  module _ {D : Type 0} (files : D → Option Files) (may_leave : D → Files → Type 0) (moment : D → ℕ) (image_since : D → ℕ → Files → Type 0) where
+    pub goes-all : (old mid new : D) → Moves files may_leave moment image_since (Keeps start.current) old mid → (stands : StandsFor view (files mid) (may_leave mid)) → Tells (λ all. NameTiles all nodes view.lines) (files mid)
+        → ((next : Checkpoint) → facts next ≡ next_facts view kept counts inserted → (at : StandsFor view (files mid) (may_leave mid)) → Moves files may_leave moment image_since (Commits view.current (next_letter view.current) next at.all) mid new)
+        → Moves files may_leave moment image_since (GoesOn start kept counts inserted nodes) old new
+    goes-all old mid new keeps stands tiles commits =
+        let is = next-is by_facts view kept counts inserted nodes valid told its (its-facts by_facts view kept counts inserted nodes valid told) in
+        let names : NameTiles stands.all nodes its.nodes = told_some (λ all. NameTiles all nodes view.lines) (files mid) stands.all stands.told tiles in
+        let moved = commits its (its-facts by_facts view kept counts inserted nodes valid told) stands in
+        moves_both files may_leave moment image_since (Keeps start.current) (Commits start.current (next_letter start.current) its stands.all) (GoesOn start kept counts inserted nodes)
+        (λ a b c k m. behind-on start kept counts inserted nodes a b c k (commits-on start kept counts inserted nodes its stands.all b c (from_start its is.1) names m))
+        (keeps-on start kept counts inserted nodes) old mid new keeps
+        (subst (λ (current : Current). Moves files may_leave moment image_since (Commits current (next_letter current) its stands.all) mid new) same moved)
+
+module _ {D : Type 0} (files : D → Option Files) (may_leave : D → Files → Type 0) (moment : D → ℕ) (image_since : D → ℕ → Files → Type 0) (start : View) (kept : Kept) (counts : List SourceCount) (inserted : ℕ) (nodes : List Branch) where
+  -- the current checkpoint is kept
+  pub keeps-goes : (old new : D) → Moves files may_leave moment image_since (Keeps start.current) old new → Moves files may_leave moment image_since (GoesOn start kept counts inserted nodes) old new
+  keeps-goes old new = moves_weaker files may_leave moment image_since (Keeps start.current) (GoesOn start kept counts inserted nodes) (keeps-on start kept counts inserted nodes) old new

@@ -25,6 +25,7 @@ use Rattle.ept_tree.specs.Tree.{Branch, tile_of}
 use Rattle.ept_tree.specs.TreeLaws.{AreSampled}
 use Rattle.ept_phase.specs.Lines.{TellsNode, TellNodes, NamesTile, NameTiles}
 use Rattle.ept_phase.proofs.Telling.{node-line}
+use Rattle.ept_phase.proofs.Lining.{some-same}
 
 -- ---- a tile is that of one list of points
 
@@ -36,23 +37,15 @@ same-tile (p ∷ a) (q ∷ b) e =
     let parts = append_same (packed p) (packed q) (tile a) (tile b) (length-packed p ∙ sym (length-packed q)) e in
     ap (λ (w : Point). w ∷ a) (packed_one p q parts.0) ∙ ap (λ (w : List Point). q ∷ w) (same-tile a b parts.1)
 
-one_tile : (files : Files) (name : List ℕ) (a b : List Point) → files name ≡ Some (tile a) → files name ≡ Some (tile b) → a ≡ b
-one_tile files name a b is also = same-tile a b (some_same (sym is ∙ also))
-  where
-    some_of : Option (List ℕ) → List ℕ
-    some_of None = []
-    some_of (Some w) = w
-
-    some_same : Some (tile a) ≡ Some (tile b) → tile a ≡ tile b
-    unfolding some_of
-    some_same e = ap some_of e
+pub one-tile : (files : Files) (name : List ℕ) (a b : List Point) → files name ≡ Some (tile a) → files name ≡ Some (tile b) → a ≡ b
+one-tile files name a b is also = same-tile a b (some-same (tile a) (tile b) (sym is ∙ also))
 
 -- ---- from the lines to the nodes
 
 same_node : (files : Files) (b : Branch) (t : Tile) (l : NodeLine) → TellsNode b l → NamesTile files b l → IsSavedAs files t l → tile_of b ≡ t
 same_node files b t l told names saved =
     let key : b.0 ≡ t.key = sym told.key ∙ saved.key in
-    let points : b.1.points ≡ t.points = one_tile files (tile_of_line l) b.1.points t.points names saved.has_tile in
+    let points : b.1.points ≡ t.points = one-tile files (tile_of_line l) b.1.points t.points names saved.has_tile in
     λ i. record { key = key i; points = points i }
 
 pub same-nodes : (files : Files) (nodes : List Branch) (tiles : List Tile) (lines : List NodeLine) → TellNodes nodes lines → NameTiles files nodes lines → AllZip (IsSavedAs files) tiles lines → map tile_of nodes ≡ tiles

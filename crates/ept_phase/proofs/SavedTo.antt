@@ -1,13 +1,16 @@
 -- How far the saving of an octree's nodes has come.
-use Rattle.std.proofs.Common.{◌≡◌, ◌∙◌, ◌⊎◌, inl, inr, ℕ, ◌≤◌, true, List, [], ◌∷◌, ◌++◌, map, append_assoc, map-append, length, refl, sym, ap, subst, arith, Option, Some, None}
-use Rattle.std.specs.Prelude.{All, AllPairs, IsSomeAnd}
+use Rattle.std.proofs.Common.{◌≡◌, ◌∙◌, ◌⊎◌, inl, inr, ℕ, ◌≤◌, true, List, [], ◌∷◌, ◌++◌, append_assoc, length, refl, sym, ap, subst, Option, Some, None}
+use Rattle.std.specs.Prelude.{All, AllPairs, IsSomeAnd, Result, Ok, Err, OnOk}
+use Rattle.std.proofs.lemmas.List.{map-append}
 use Rattle.std.specs.List.{cons_option}
+use Rattle.std.specs.List.Sorted.{IsStrictlySortedBy}
 use Rattle.std.specs.declared.cmp.Ordering.TheVariants.{Less}
 use Rattle.ept_base.specs.Files.{Files, SameFiles, SameBut, Puts, StepsBy, Tells}
 use Rattle.ept_base.proofs.Changing.{changed_same}
 use Rattle.ept_point.specs.declared.point.Point.{Point}
 use Rattle.ept_point.specs.Packed.{tile}
 use Rattle.ept_space.specs.VoxelKey.{VoxelKey, IsKey, key_cmp}
+use Rattle.ept_core.proofs.Lookups.{sorted-rising}
 use Rattle.ept_config.specs.declared.kept.Kept.{Kept}
 use Rattle.ept_sample.specs.Members.{IsMember}
 use Rattle.ept_sample.proofs.Ascending.{IsRising}
@@ -31,11 +34,11 @@ use Rattle.ept_phase.specs.Lines.{TellsNode, TellNodes, NamesTile, NameTiles}
 use Rattle.ept_phase.specs.Saving.{IsTold, HasNode, StaysLine, ComesLine, SavesNode, keys_in, AreKnown, HasEachNodeOf}
 use Rattle.ept_phase.proofs.Telling.{among-member}
 use Rattle.ept_phase.proofs.Merging.{lines_among, AreBehind, AreBefore, DoAscend, next-lines, all-lines, line-between}
-use Rattle.ept_phase.proofs.Lining.{zip-more, do-ascend, lt_less}
+use Rattle.ept_phase.proofs.Lining.{zip-more, do-ascend, lt_less, some-same}
 
 -- ---- keys that rise
 
-pub Rise : List VoxelKey → Type 0
+abbrev pub Rise : List VoxelKey → Type 0
 Rise [] = Unit {0}
 Rise (k ∷ ks) = ((m : VoxelKey) → IsMember m ks → key_cmp k m ≡ Less) × Rise ks
 
@@ -45,6 +48,9 @@ rise (k ∷ ks) up = (λ m is. lt_less (key_cmp k m) (up.0 m is), rise ks up.1)
 
 pub keys-rise : (keys : List VoxelKey) → AllPairs (λ a b. key_cmp a b ≡ Less) keys → Rise keys
 keys-rise keys all = rise keys (IsRising-AllPairs keys all)
+
+pub sorted-rise : (keys : List VoxelKey) → IsStrictlySortedBy key_cmp keys → Rise keys
+sorted-rise keys sorted = rise keys (sorted-rising keys sorted)
 
 member_last : (key : VoxelKey) (front back : List VoxelKey) → IsMember key (front ++ key ∷ back)
 member_last key [] back = inl refl
@@ -77,24 +83,18 @@ some_line kept (Some line) fact is = (line, refl, is)
 
 pub found-line : (current : Current) (key : VoxelKey) (fact : Kept → NodeLine → Type 0) → OfLine current key fact → (kept : Kept) × (line : NodeLine) × (current_line current key ≡ Some line) × fact kept line
 found-line None key fact is = absurd is
-found-line (Some (letter, c)) key fact is = (c.kept, some_line c.kept (line_of_key c.nodes key) fact is)
+found-line (Some (letter, c)) key fact is =
+    let at = some_line c.kept (line_of_key c.nodes key) fact is in
+    (c.kept, at.0, at.1, at.2)
 
-one_line : (found : Option NodeLine) (a b : NodeLine) → found ≡ Some a → found ≡ Some b → a ≡ b
-one_line found a b is also = some_same (sym is ∙ also)
-  where
-    line_in : Option NodeLine → NodeLine
-    line_in None = a
-    line_in (Some l) = l
-
-    some_same : Some a ≡ Some b → a ≡ b
-    unfolding line_in
-    some_same e = ap line_in e
+pub one_line : (found : Option NodeLine) (a b : NodeLine) → found ≡ Some a → found ≡ Some b → a ≡ b
+one_line found a b is also = some-same a b (sym is ∙ also)
 
 -- the tile of the line that was found
 pub line-tile : (current : Current) (key : VoxelKey) (line : NodeLine) (points : List Point) (files : Files) → current_line current key ≡ Some line → HasTile current key points files → files (tile_of_line line) ≡ Some (tile points)
 line-tile current key line points files is has =
     let at = found-line current key (λ kept l. files (tile_of_line l) ≡ Some (tile points)) has in
-    subst (λ (l : NodeLine). files (tile_of_line l) ≡ Some (tile points)) (one_line (current_line current key) at.1.0 line at.1.1 is) at.1.2
+    subst (λ (l : NodeLine). files (tile_of_line l) ≡ Some (tile points)) (one_line (current_line current key) at.1 line at.2 is) at.3
 
 pub line-is : (current : Current) (key : VoxelKey) (line : NodeLine) → current_line current key ≡ Some line → line.key ≡ key
 line-is None key line is = absurd (cc)
@@ -112,15 +112,15 @@ told_on (Some old) (Some new) was is on same told = on old new same told
 pub stays : (view : View) (key : VoxelKey) (mask : ℕ) (points : List Point) (old new : Option Files) → IsTold view.current key mask points → Tells (HasNode view.current key mask points) old → StepsBy SameFiles old new → SavesNode view view key mask points new
 stays view key mask points old new told has same =
     let at = found-line view.current key (λ kept line. (line.mask ≡ mask) × (line.count ≡ length points)) told in
-    let line : NodeLine = at.1.0 in
-    let is_key : line.key ≡ key = line-is view.current key line at.1.1 in
+    let line : NodeLine = at.1 in
+    let is_key : line.key ≡ key = line-is view.current key line at.2 in
     record {
       line = line;
       is_key = is_key;
-      is_mask = at.1.2.0;
-      is_count = at.1.2.1;
-      comes = inl (refl, ap (current_line view.current) is_key ∙ at.1.1);
-      has_tile = told_on old new (HasNode view.current key mask points) (λ (all : Files). all (tile_of_line line) ≡ Some (tile points)) (λ a b is node. is (tile_of_line line) ∙ line-tile view.current key line points a at.1.1 node.1) same has;
+      is_mask = at.3.0;
+      is_count = at.3.1;
+      comes = inl (refl, ap (current_line view.current) is_key ∙ at.2);
+      has_tile = told_on old new (HasNode view.current key mask points) (λ (all : Files). all (tile_of_line line) ≡ Some (tile points)) (λ a b is node. is (tile_of_line line) ∙ line-tile view.current key line points a at.2 node.1) same has;
     }
 
 put_told : (old new : Option Files) (name bytes : List ℕ) → StepsBy (Puts name bytes) old new → Tells (λ (all : Files). all name ≡ Some bytes) new
@@ -140,6 +140,11 @@ comes old new key mask points letter before after view puts = record {
   comes = inr view;
   has_tile = put_told before after (work_tile_name letter key) (tile points) puts;
 }
+
+pub saved-tile : {T E : Type 0} (result : Result T E) (old new : View) (key : VoxelKey) (mask : ℕ) (points : List Point) (letter : Letter) (before after : Option Files) → OnOk result (new ≡ record old { lines = with_line (record { key = key; count = length points; mask = mask; letter = letter }) old.lines })
+    → OnOk result (StepsBy (Puts (work_tile_name letter key) (tile points)) before after) → OnOk result (SavesNode old new key mask points after)
+saved-tile (Ok t) old new key mask points letter before after line puts = comes old new key mask points letter before after line puts
+saved-tile (Err e) old new key mask points letter before after line puts = tt
 
 -- ---- the nodes, one after another
 
@@ -169,6 +174,10 @@ saved-none start nodes files fresh each = record {
 
     view : start ≡ record start { lines = lines_among (keys_in nodes) (lines_of start.current) }
     view = let same : start.lines ≡ lines_among (keys_in nodes) (lines_of start.current) = fresh ∙ sym among in λ i. record start { lines = same i }
+
+-- nothing but the lines changed
+pub lines-only : (start now : View) (lines : List NodeLine) → now ≡ record start { lines = lines } → now ≡ record start { lines = now.lines }
+lines-only start now lines is = is ∙ ap (λ (w : List NodeLine). record start { lines = w }) (sym (ap (λ (v : View). v.lines) is))
 
 -- in the end all lines are those of the nodes
 pub saved-all : (start now : View) (nodes : List Branch) (files : Option Files) → IsSavedTo start now nodes [] files → TellNodes nodes now.lines × Tells (λ all. NameTiles all nodes now.lines) files

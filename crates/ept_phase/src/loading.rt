@@ -27,7 +27,7 @@ use crate::laws::lines_law;
 use ept_base::Store;
 use ept_ckpt::Checkpoint;
 use ept_grid::Grid;
-use ept_save::{Saved, load_node};
+use ept_save::{Saved, load_node, sound_steps_law};
 use ept_space::{Key, Rules};
 use ept_tree::{Tree, sampled_law};
 use std::alloc::Global;
@@ -144,6 +144,7 @@ fn load_nodes<T: Store>(
     ensures images { SameImages (T.may_leave store.old) (T.may_leave store.new) }
     ensures any_moment { Moves T.files T.may_leave T.moment T.image_since SameFiles store.old store.new }
 {
+    sound_steps_law();
     let mut nodes = BTreeMap::new(alloc);
     for line in checkpoint.nodes.as_slice() {
         if nodes.len() as u64 >= most {

@@ -18,7 +18,7 @@ use crate::saving::save_nodes;
 use ept_base::Store;
 use ept_ckpt::body_once_law;
 use ept_config::{Kept, SourceCount};
-use ept_save::{SaveError, Saved, begin, commit};
+use ept_save::{SaveError, Saved, begin, commit, sound_steps_law};
 use ept_tree::Tree;
 use std::alloc::Global;
 
@@ -67,6 +67,7 @@ pub fn save_tree<T: Store>(
         → StandsFor saved.old (T.files store.old) (T.may_leave store.old) → IfErr result IsStores }
     ensures cause { HasCauseOf SaveError.StoreFault (T.faults store.old) (T.faults store.new) result }
 {
+    sound_steps_law();
     begin(alloc, store, saved)?;
     save_nodes(alloc, store, saved, grown.nodes())?;
     lines_law();

@@ -19,7 +19,7 @@ ghost use Rattle.ept_phase.specs.Saving.{HasNode, IsTold, SavesNode, AreKnown, H
 use ept_base::Store;
 use ept_grid::Grid;
 use ept_point::Point;
-use ept_save::{SaveError, Saved, load_tile, save_tile};
+use ept_save::{SaveError, Saved, load_tile, save_tile, sound_steps_law};
 use ept_space::Key;
 use std::alloc::Global;
 use std::collections::BTreeMap;
@@ -144,6 +144,7 @@ pub(crate) fn save_nodes<T: Store>(
         → HasCurrent saved.old.current all → IfErr result IsStores }
     ensures cause { HasCauseOf SaveError.StoreFault (T.faults store.old) (T.faults store.new) result }
 {
+    sound_steps_law();
     let mut points = Vec::new(alloc);
     for (key, node) in nodes.iter() {
         key.known();
