@@ -1,5 +1,6 @@
 mod Begun
 mod Compared
+pub mod Following
 mod Lining
 mod Merging
 mod Phasing
