@@ -3,6 +3,7 @@ use Rattle.std.proofs.Common.{◌≡◌, ◌∙◌, ℕ, suc, ◌+◌, ◌<◌, 
 use Rattle.std.specs.Prelude.{option_map, count_by}
 use Rattle.std.proofs.lemmas.List.{length-append}
 use Rattle.ept_point.specs.declared.point.Point.{Point}
+use Rattle.ept_sample.proofs.IdLaws.{count_by-cons}
 use Rattle.ept_config.specs.Counts.{total}
 use Rattle.ept_config.specs.declared.kept.Kept.{Kept}
 use Rattle.ept_config.specs.declared.source_count.SourceCount.{SourceCount}
@@ -35,13 +36,13 @@ as-many law c nodes told whole = sym (law nodes c.nodes told whole).counted ∙ 
 
 count_all : (points : List Point) → count_by (λ (p : Point). true) points ≡ length points
 count_all [] = refl
-count_all (p ∷ points) = let more = count_all points in omega (arith, more)
+count_all (p ∷ points) = omega (arith, count_by-cons (λ (q : Point). true) p points, count_all points)
 
 -- and one more after one was brought in
 pub one-more-point : (old new : List Point) (p : Point) → ((test : Point → Bool) → count_by test new ≡ count_by test (p ∷ []) + count_by test old) → length new ≡ length old + 1
 one-more-point old new p together =
     let counts = together (λ (q : Point). true) in
-    omega (arith, counts, count_all new, count_all old)
+    omega (arith, counts, count_all (p ∷ []), count_all new, count_all old)
 
 -- what is given of the inputs stays as it is
 pub given-on : (c : Checkpoint) (kept : Kept) (counts : List SourceCount) (inserted : ℕ) → kept ≡ c.kept → counts ≡ c.counts → inserted ≤ total counts → AreGiven kept counts inserted

@@ -1,6 +1,7 @@
-use Rattle.std.proofs.Common.{◌≡◌, ◌∙◌, List, length, Some, refl, sym, ap, subst, arith, rules}
+use Rattle.std.proofs.Common.{◌≡◌, ◌∙◌, ℕ, ◌+◌, ◌<◌, ◌≤◌, List, length, Some, refl, sym, ap, subst, arith, rules}
 use Rattle.std.specs.Prelude.{option_map}
 use Rattle.std.specs.Option.{option_copied}
+use Rattle.ept_config.specs.Counts.{total}
 use Rattle.ept_config.specs.declared.kept.Kept.{Kept}
 use Rattle.ept_config.specs.declared.source_count.SourceCount.{SourceCount}
 use Rattle.ept_ckpt.specs.declared.letter.Letter.{Letter}
@@ -27,7 +28,8 @@ save_tree-requires c =
     let loaded = c.in_ok-grown.grown in
     let grown = c.insert_all.new.self in
     let kept : c.in_ok-kept.kept ≡ at.kept = c.in_ok-kept.ensures.same in
-    let counts : c.deref-3.result.now ≡ at.counts = search rules in
+    let counts : c.deref-2.result.now ≡ at.counts = c.deref-2.ensures.value ∙ (c.in_ok-counts.ensures.items ∙ c.as_slice.ensures) in
+    let sum : c.total_of.result ≡ total c.deref-2.result.now = c.total_of.ensures ∙ ap (λ (s : List SourceCount). total s) (c.deref.ensures.value ∙ sym c.deref-2.ensures.value) in
     let told : TellNodes (nodes_of loaded) at.nodes = at-this current at (λ (d : Checkpoint). TellNodes (nodes_of loaded) d.nodes) is c.in_ok-grown.ensures.told in
     let stays = c.in_ok-insert_all.ensures.whole c.in_ok-grown.ensures.whole in
     let more : length (points_of grown) ≡ length (points_of loaded) + 1 = one-more-point (points_of loaded) (points_of grown) c.args.next c.in_ok-insert_all.ensures.together in
@@ -37,8 +39,8 @@ save_tree-requires c =
       rest = c.in_ok-insert_all.ensures.rest;
       whole = stays.0;
       rules = c.insert_all.ensures.rules ∙ (c.in_ok-grown.ensures.rules ∙ c.rules_of-rules.ensures.value);
-      holds = more ∙ ap (λ n. n + 1) (as-many c.lines_law.ensures.told at (nodes_of loaded) told c.in_ok-grown.ensures.whole);
+      holds = more ∙ ap (λ (n : ℕ). n + 1) (as-many c.lines_law.ensures.told at (nodes_of loaded) told c.in_ok-grown.ensures.whole);
       few = (let few = c.in_ok-insert_all.ensures.few in omega (arith, few));
-      given = given-on at c.in_ok-kept.kept c.deref-3.result.now _ kept counts ?most;
+      given = given-on at c.in_ok-kept.kept c.deref-2.result.now _ kept counts (omega (arith, c.if-inserted-total_of.false, sum));
       further = goes-further current at _ _ is (ap (λ (k : Kept). length k.inputs) kept) refl;
     }
