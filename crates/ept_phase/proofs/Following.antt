@@ -1,7 +1,6 @@
 -- An octree that follows the current checkpoint's one: what is known of that checkpoint, and one point more.
-use Rattle.std.proofs.Common.{◌≡◌, ◌∙◌, ℕ, suc, ◌+◌, ◌<◌, ◌≤◌, Bool, true, List, [], ◌∷◌, map, length, refl, sym, ap, subst, arith, Option, Some, None}
+use Rattle.std.proofs.Common.{◌≡◌, ◌∙◌, ℕ, ◌+◌, ◌<◌, ◌≤◌, Bool, true, List, [], ◌∷◌, map, length, refl, sym, subst, arith, Some, None}
 use Rattle.std.specs.Prelude.{option_map, count_by}
-use Rattle.std.proofs.lemmas.List.{length-append}
 use Rattle.ept_point.specs.declared.point.Point.{Point}
 use Rattle.ept_sample.proofs.IdLaws.{count_by-cons}
 use Rattle.ept_config.specs.Counts.{total}

@@ -1,5 +1,5 @@
 -- Nodes that are loaded line by line, and put into a map behind those before them.
-use Rattle.std.proofs.Common.{◌≡◌, ◌∙◌, ◌⊎◌, inl, inr, ℕ, zero, suc, ◌+◌, ◌<◌, Bool, true, false, cond, List, [], ◌∷◌, ◌++◌, map, take, length, get_or, refl, sym, ap, subst, arith, Option, Some, None, Ordering}
+use Rattle.std.proofs.Common.{◌≡◌, ◌∙◌, inl, inr, ℕ, zero, suc, ◌+◌, ◌<◌, Bool, true, false, cond, List, [], ◌∷◌, ◌++◌, take, length, get_or, refl, sym, ap, subst, arith, Option, Some, None, Ordering}
 use Rattle.std.specs.Prelude.{AllPairs, IsSome}
 use Rattle.std.proofs.Math.Seq.{take-suc}
 use Rattle.std.specs.List.{AllZip}
@@ -76,8 +76,8 @@ differ a b less =
       | inr other ↦ other
     ]
   where
-  two_ways : (o : Ordering) → o ≡ Less → o ≡ Equal → ⊥
-  two_ways o less equal = absurd (cc)
+    two_ways : (o : Ordering) → o ≡ Less → o ≡ Equal → ⊥
+    two_ways o less equal = absurd (cc)
 
 pub line-here : (lines : List NodeLine) (line : NodeLine) → DoAscend lines → IsMember line lines → line_of_key lines line.key ≡ Some line
 line-here [] line up m = absurd m

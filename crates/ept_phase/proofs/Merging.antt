@@ -1,5 +1,5 @@
 -- Lines in key order: those of the nodes that were saved, and behind them those of the current checkpoint.
-use Rattle.std.proofs.Common.{◌≡◌, ◌∙◌, ◌⊎◌, ℕ, Bool, true, false, cond, inl, inr, List, [], ◌∷◌, ◌++◌, map, refl, sym, ap, subst, Option, Some, None, Ordering}
+use Rattle.std.proofs.Common.{◌≡◌, ◌∙◌, Bool, true, false, cond, inl, inr, List, [], ◌∷◌, ◌++◌, refl, sym, ap, subst, Option, Some, None, Ordering}
 use Rattle.std.specs.Prelude.{◌||◌, filter}
 use Rattle.std.specs.List.{cons_option}
 use Rattle.std.specs.declared.cmp.Ordering.TheVariants.{Less, Equal, Greater}
@@ -9,7 +9,7 @@ use Rattle.std.proofs.lemmas.List.Elements.{filter-append}
 use Rattle.ept_space.specs.VoxelKey.{VoxelKey, same_key, key_cmp}
 use Rattle.ept_space.proofs.Within.{same_key-true}
 use Rattle.ept_sample.specs.Members.{IsMember}
-use Rattle.ept_sample.proofs.KeyOrder.{key-self, key-trans, key-greater}
+use Rattle.ept_sample.proofs.KeyOrder.{key-self, key-trans}
 use Rattle.ept_ckpt.specs.declared.node_line.NodeLine.{NodeLine}
 use Rattle.ept_ckpt.specs.Octree.{is_among}
 use Rattle.ept_ckpt.specs.Lookup.{line_of_key}
@@ -41,8 +41,8 @@ apart a b less =
       | inr other ↦ other
     ]
   where
-  two_ways : (o : Ordering) → o ≡ Less → o ≡ Equal → ⊥
-  two_ways o less equal = absurd (cc)
+    two_ways : (o : Ordering) → o ≡ Less → o ≡ Equal → ⊥
+    two_ways o less equal = absurd (cc)
 
 none_found : (key : VoxelKey) (lines : List NodeLine) → AreBehind key lines → line_of_key lines key ≡ None
 none_found key [] behind = refl
@@ -57,8 +57,8 @@ not_among key keys low =
       | inr other ↦ other
     ]
   where
-  never : key_cmp key key ≡ Less → ⊥
-  never less = let equal = key-self key in absurd (cc)
+    never : key_cmp key key ≡ Less → ⊥
+    never less = let equal = key-self key in absurd (cc)
 
 module _ (key : VoxelKey) (keys : List VoxelKey) (low : (k : VoxelKey) → IsMember k keys → key_cmp key k ≡ Less) (l : NodeLine) (lines : List NodeLine) (behind_l : AreBehind l.key lines) (more : lines_among (key ∷ keys) lines ≡ cons_option (line_of_key lines key) (lines_among keys lines)) where
   -- of the lines behind one that stands at the key or behind it none has the key
@@ -122,13 +122,13 @@ behind key lines = filter (λ (l : NodeLine). is_before key l.key) lines
 not_less : (a b : VoxelKey) → key_cmp a b ≡ Less → is_before b a ≡ false
 not_less a b less = at (key_cmp b a) refl
   where
-  at : (o : Ordering) → key_cmp b a ≡ o → is_lt (key_cmp b a) ≡ false
-  at Less is =
-      let never : key_cmp a a ≡ Less = key-trans a b a less is in
-      let equal = key-self a in
-      absurd (cc)
-  at Equal is = ap is_lt is
-  at Greater is = ap is_lt is
+    at : (o : Ordering) → key_cmp b a ≡ o → is_lt (key_cmp b a) ≡ false
+    at Less is =
+        let never : key_cmp a a ≡ Less = key-trans a b a less is in
+        let equal = key-self a in
+        absurd (cc)
+    at Equal is = ap is_lt is
+    at Greater is = ap is_lt is
 
 keep_before : (key : VoxelKey) (lines : List NodeLine) → AreBefore key lines → (before key lines ≡ lines) × (behind key lines ≡ [])
 keep_before key [] low = (refl, refl)
@@ -165,7 +165,7 @@ line-between line done old lines low at high =
     let one = keep_before line.key done low in
     let two = keep_at line.key old lines at high in
     let front : before line.key (done ++ cons_option old lines) ≡ done =
-        filter-append (λ (l : NodeLine). is_before l.key line.key) done (cons_option old lines) ∙ (ap (λ (w : List NodeLine). w ++ before line.key (cons_option old lines)) one.0 ∙ (ap (λ (w : List NodeLine). done ++ w) two.0 ∙ append-nil done)) in
+    filter-append (λ (l : NodeLine). is_before l.key line.key) done (cons_option old lines) ∙ (ap (λ (w : List NodeLine). w ++ before line.key (cons_option old lines)) one.0 ∙ (ap (λ (w : List NodeLine). done ++ w) two.0 ∙ append-nil done)) in
     let back : behind line.key (done ++ cons_option old lines) ≡ lines =
-        filter-append (λ (l : NodeLine). is_before line.key l.key) done (cons_option old lines) ∙ (ap (λ (w : List NodeLine). w ++ behind line.key (cons_option old lines)) one.1 ∙ two.1) in
+    filter-append (λ (l : NodeLine). is_before line.key l.key) done (cons_option old lines) ∙ (ap (λ (w : List NodeLine). w ++ behind line.key (cons_option old lines)) one.1 ∙ two.1) in
     ap (λ (w : List NodeLine). w ++ line ∷ behind line.key (done ++ cons_option old lines)) front ∙ ap (λ (w : List NodeLine). done ++ line ∷ w) back

@@ -1,10 +1,9 @@
 -- An octree becomes the next checkpoint: why that is one, and how the files go on.
-use Rattle.std.proofs.Common.{◌≡◌, ◌∙◌, ◌⊎◌, inl, inr, ⊎_elim, ℕ, zero, suc, ◌+◌, ◌<◌, ◌≤◌, ◌^◌, List, [], ◌∷◌, map, length, get_or, refl, sym, ap, subst, arith, Option, Some, None}
-use Rattle.std.specs.Prelude.{All, Any, false, Result, Ok, Err, OnOk}
+use Rattle.std.proofs.Common.{◌≡◌, ◌∙◌, inl, inr, ⊎_elim, ℕ, zero, suc, ◌+◌, ◌<◌, ◌≤◌, ◌^◌, List, [], ◌∷◌, map, length, get_or, refl, sym, ap, subst, arith, Option, Some, None}
+use Rattle.std.specs.Prelude.{All, false, Result, Ok, Err, OnOk}
 use Rattle.ept_base.specs.Files.{Files, Tells}
 use Rattle.ept_base.specs.Moves.{Moves}
 use Rattle.ept_base.proofs.Moving.{moves_weaker, moves_both}
-use Rattle.ept_point.specs.Packed.{tile}
 use Rattle.ept_space.specs.VoxelKey.{VoxelKey, IsKey}
 use Rattle.ept_space.specs.declared.cube.Rules.{Rules}
 use Rattle.ept_config.specs.declared.kept.Kept.{Kept}
@@ -19,14 +18,13 @@ use Rattle.ept_ckpt.specs.Laws.{CheckpointByFacts}
 use Rattle.ept_ckpt.specs.Octree.{AreNodesOf}
 use Rattle.ept_ckpt.specs.Valid.{IsCheckpoint, IsNode, deepest}
 use Rattle.ept_meta.specs.Output.{rules_of}
-use Rattle.ept_save.specs.Names.{IsSavedName}
-use Rattle.ept_save.specs.Current.{Current, HasCurrent, IsCurrent, IsNamed, IsNow, Keeps, Commits, tile_of_line}
+use Rattle.ept_save.specs.Current.{Current, HasCurrent, IsNamed, IsNow, Keeps, Commits, tile_of_line}
 use Rattle.ept_save.specs.View.{View, StandsFor, next_letter, next_generation, next_facts}
 use Rattle.ept_save.proofs.Keeping.{keeps-both}
 use Rattle.ept_save.proofs.Standing.{told_some}
 use Rattle.ept_tree.specs.Tree.{Branch, AreNodes, entry_of, points_in}
 use Rattle.ept_tree.specs.Whole.{AreWhole}
-use Rattle.ept_phase.specs.Lines.{TellsNode, TellNodes, NamesTile, NameTiles}
+use Rattle.ept_phase.specs.Lines.{TellNodes, NameTiles}
 use Rattle.ept_phase.specs.LinesLaws.{WholeIsTold}
 use Rattle.ept_phase.specs.Phase.{AreGiven, GoesFurther, IsNext, HasNext, GoesOn, IsSaved}
 use Rattle.ept_phase.specs.Saving.{AreKnown}

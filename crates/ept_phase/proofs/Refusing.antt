@@ -2,7 +2,6 @@
 use Rattle.std.proofs.Common.{◌≡◌, ◌∙◌, ◌⊎◌, inl, inr, sym, ap, subst, Option, Some, None}
 use Rattle.std.specs.Prelude.{Result, Err, IfErr, IsSomeAnd}
 use Rattle.ept_base.specs.Files.{Files, SameFiles, StepsBy, Tells}
-use Rattle.ept_base.specs.Moves.{Moves}
 use Rattle.ept_space.specs.VoxelKey.{VoxelKey}
 use Rattle.ept_ckpt.specs.declared.node_line.NodeLine.{NodeLine}
 use Rattle.ept_ckpt.specs.Lookup.{line_of_key}
@@ -16,7 +15,6 @@ use Rattle.ept_save.specs.Sound.{IsSound}
 use Rattle.ept_save.specs.SoundLaws.{SameIsSound, KeepingKeepsSound}
 use Rattle.ept_save.proofs.Keeping.{keeps-same}
 use Rattle.ept_save.proofs.Standing.{stepped}
-use Rattle.ept_phase.specs.declared.error.LoadError.{LoadError}
 use Rattle.ept_phase.specs.declared.error.LoadError.TheVariants.{Save}
 use Rattle.ept_phase.specs.Loaded.{IsLoadFault}
 use Rattle.ept_phase.specs.Saving.{IsSaveFault}

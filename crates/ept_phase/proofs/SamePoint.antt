@@ -1,5 +1,5 @@
 -- Points are the same exactly where each of their fields is.
-use Rattle.std.proofs.Common.{◌≡◌, ◌∙◌, ℕ, Bool, true, false, eqb, int_eq, refl, sym, ap, subst, Decides}
+use Rattle.std.proofs.Common.{◌≡◌, Bool, true, false, eqb, int_eq, refl, subst, Decides}
 use Rattle.std.specs.Prelude.{◌&&◌}
 use Rattle.std.specs.Cmp.Lexicographic.{pointwise}
 use Rattle.std.proofs.lemmas.Bool.Decides.{Decides-eqb, Decides-int_eq}

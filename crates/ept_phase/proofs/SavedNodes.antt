@@ -1,5 +1,5 @@
 -- Nodes and their tiles: those of a sampling where the lines that tell of them are.
-use Rattle.std.proofs.Common.{◌≡◌, ◌∙◌, ℕ, ◌<◌, ◌++◌, ◌==◌, List, [], ◌∷◌, Option, Some, None, map, refl, sym, ap, subst, arith, length}
+use Rattle.std.proofs.Common.{◌≡◌, ◌∙◌, ℕ, ◌<◌, ◌==◌, List, [], ◌∷◌, Some, map, refl, sym, ap, subst, arith, length}
 use Rattle.std.specs.List.{AllZip}
 use Rattle.std.specs.Int.{bit_at}
 use Rattle.std.proofs.lemmas.List.{length-append}

@@ -1,6 +1,6 @@
 -- How far the saving of an octree's nodes has come.
 use Rattle.std.proofs.Common.{◌≡◌, ◌∙◌, ◌⊎◌, inl, inr, ℕ, ◌≤◌, true, List, [], ◌∷◌, ◌++◌, append_assoc, length, refl, sym, ap, subst, Option, Some, None}
-use Rattle.std.specs.Prelude.{All, AllPairs, IsSomeAnd, Result, Ok, Err, OnOk}
+use Rattle.std.specs.Prelude.{AllPairs, IsSomeAnd, Result, Ok, Err, OnOk}
 use Rattle.std.proofs.lemmas.List.{map-append}
 use Rattle.std.specs.List.{cons_option}
 use Rattle.std.specs.List.Sorted.{IsStrictlySortedBy}
@@ -18,7 +18,6 @@ use Rattle.ept_sample.proofs.Members.{IsMember-filter, all-member}
 use Rattle.ept_sample.proofs.KeyOrder.{key_before, key-self, IsRising-AllPairs}
 use Rattle.ept_ckpt.specs.declared.letter.Letter.{Letter}
 use Rattle.ept_ckpt.specs.declared.node_line.NodeLine.{NodeLine}
-use Rattle.ept_ckpt.specs.declared.checkpoint.Checkpoint.{Checkpoint}
 use Rattle.ept_ckpt.specs.Octree.{is_among}
 use Rattle.ept_ckpt.specs.Lookup.{line_of_key}
 use Rattle.ept_save.specs.Names.{work_tile_name}
@@ -236,14 +235,14 @@ module _ (start now new : View) (done rest : List Branch) (b : Branch) (points :
   new_lines : StaysLine now new saves.line ⊎ ComesLine now new saves.line → new ≡ record start { lines = lines ++ saves.line ∷ behind }
   new_lines (inl stay) =
       let found : line_of_key (lines_of current) key ≡ Some saves.line =
-          sym (line-of-current current key) ∙ (ap (λ (c : Current). current_line c key) (sym same_current) ∙ (ap (current_line now.current) (sym saves.is_key) ∙ stay.1)) in
+      sym (line-of-current current key) ∙ (ap (λ (c : Current). current_line c key) (sym same_current) ∙ (ap (current_line now.current) (sym saves.is_key) ∙ stay.1)) in
       stay.0 ∙ (at.view_is ∙ ap (λ (w : List NodeLine). record start { lines = lines ++ w }) (front ∙ ap (λ (o : Option NodeLine). cons_option o behind) found))
   new_lines (inr come) =
       let at_key : (l : NodeLine) → line_of_key (lines_of current) key ≡ Some l → l.key ≡ saves.line.key =
-          λ l is. line-is current key l (line-of-current current key ∙ is) ∙ sym saves.is_key in
+      λ l is. line-is current key l (line-of-current current key ∙ is) ∙ sym saves.is_key in
       let between : with_line saves.line now.lines ≡ lines ++ saves.line ∷ behind =
-          ap (with_line saves.line) now_lines
-          ∙ line-between saves.line lines (line_of_key (lines_of current) key) behind (subst (λ (k : VoxelKey). AreBefore k lines) (sym saves.is_key) low) at_key (subst (λ (k : VoxelKey). AreBehind k behind) (sym saves.is_key) high) in
+      ap (with_line saves.line) now_lines
+      ∙ line-between saves.line lines (line_of_key (lines_of current) key) behind (subst (λ (k : VoxelKey). AreBefore k lines) (sym saves.is_key) low) at_key (subst (λ (k : VoxelKey). AreBehind k behind) (sym saves.is_key) high) in
       come ∙ (ap (λ (v : View). record v { lines = with_line saves.line now.lines }) at.view_is ∙ ap (λ (w : List NodeLine). record start { lines = w }) between)
 
   -- what was put is no tile of those before

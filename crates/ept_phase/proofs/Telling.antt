@@ -13,7 +13,6 @@ use Rattle.ept_sample.specs.Nodes.{AreAscending}
 use Rattle.ept_sample.proofs.Members.{member-any, any-member, IsMember-map, member-map, all-member, All-members}
 use Rattle.ept_sample.proofs.KeyOrder.{IsRising-AllPairs}
 use Rattle.ept_grid.specs.Mask.{opened}
-use Rattle.ept_grid.specs.Node as grid
 use Rattle.ept_core.specs.declared.node.Node as core
 use Rattle.ept_core.specs.State as state
 use Rattle.ept_core.specs.State.{Entry, node_at, has_node, has_open}

@@ -1,7 +1,6 @@
 -- The octree of a checkpoint, as it is loaded.
 use Rattle.std.specs.Prelude.{◌≡◌, ◌⊎◌, Some, None, ⊤}
 use Rattle.ept_space.specs.VoxelKey.{VoxelKey}
-use Rattle.ept_ckpt.specs.declared.letter.Letter.{Letter}
 use Rattle.ept_ckpt.specs.declared.checkpoint.Checkpoint.{Checkpoint}
 use Rattle.ept_save.specs.declared.error.SaveError.TheVariants.{StoreFault, TileDamaged, Memory}
 use Rattle.ept_save.specs.Current.{Current}

@@ -4,7 +4,6 @@ use Rattle.ept_base.specs.Files.{Files}
 use Rattle.ept_config.specs.declared.kept.Kept.{Kept}
 use Rattle.ept_config.specs.declared.source_count.SourceCount.{SourceCount}
 use Rattle.ept_config.specs.Counts.{total, IsCount}
-use Rattle.ept_ckpt.specs.declared.letter.Letter.{Letter}
 use Rattle.ept_ckpt.specs.declared.checkpoint.Checkpoint.{Checkpoint}
 use Rattle.ept_ckpt.specs.Valid.{ExtentInRange}
 use Rattle.ept_save.specs.Names.{IsSavedName}

@@ -123,7 +123,15 @@ fn save_next(alloc: Global, store: &mut MemStore, next: Point) -> Result<bool, F
     }
     lines_law();
     grown.insert_all(&[next], 9)?;
-    save_tree(alloc, store, &mut saved, &grown, &kept, &counts, inserted + 1)?;
+    save_tree(
+        alloc,
+        store,
+        &mut saved,
+        &grown,
+        &kept,
+        &counts,
+        inserted + 1,
+    )?;
     Ok(true)
 }
 
@@ -159,6 +167,9 @@ fn a_damaged_tile_is_told_by_its_key(rt: HostRuntime) -> Result<(), Fail> {
     let damaged = LoadError::Save(SaveError::TileDamaged { key });
     assert_eq!(rt; loaded(alloc, &mut none, 2)?, Some(Err(damaged)));
     let mut many = store_of(alloc, &[point(1, 0)])?;
-    assert_eq!(rt; loaded(alloc, &mut many, 1)?, Some(Err(LoadError::TooManyNodes)));
+    assert_eq!(rt;
+        loaded(alloc, &mut many, 1)?,
+        Some(Err(LoadError::TooManyNodes))
+    );
     Ok(())
 }

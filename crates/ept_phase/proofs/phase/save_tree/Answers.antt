@@ -1,6 +1,6 @@
-use Rattle.std.proofs.Common.{◌≡◌, ◌∙◌, ℕ, List, length, true, sym, ap, subst, rules}
+use Rattle.std.proofs.Common.{◌≡◌, ◌∙◌, List, length, sym, ap, subst, rules}
 use Rattle.std.specs.Prelude.{Err}
-use Rattle.ept_base.specs.Files.{Files, Tells}
+use Rattle.ept_base.specs.Files.{Tells}
 use Rattle.ept_base.specs.Moves.{Moves}
 use Rattle.ept_ckpt.specs.Valid.{IsCheckpoint}
 use Rattle.ept_save.specs.Current.{Current, HasCurrent, Keeps}
@@ -36,7 +36,7 @@ commit-requires g c =
     let known : AreKnown nodes = subst AreKnown c.nodes.ensures.nodes c.in_ok-save_nodes.ensures.known in
     let further : GoesFurther now.current c.args.inserted (length c.args.kept.now.inputs) = subst (λ (w : Current). GoesFurther w c.args.inserted (length c.args.kept.now.inputs)) (sym same) c.requires.further in
     let valid : IsCheckpoint (next_generation now.current) c.args.kept.now c.args.counts.now c.args.inserted now.lines =
-        tree-valid c.lines_law.ensures.told now (rules_of c.args.grown.now) c.args.kept.now c.args.counts.now c.args.inserted nodes c.requires.given further c.requires.few told known c.requires.rest.own c.requires.rules c.requires.whole c.requires.holds in
+    tree-valid c.lines_law.ensures.told now (rules_of c.args.grown.now) c.args.kept.now c.args.counts.now c.args.inserted nodes c.requires.given further c.requires.few told known c.requires.rest.own c.requires.rules c.requires.whole c.requires.holds in
     record {
       begun = ap (λ (v : View). v.begun) c.save_nodes.ensures.lines ∙ ap (λ (v : View). v.begun) c.in_ok-begin.ensures.begun;
       valid = valid;
@@ -50,7 +50,7 @@ pub returns-in_err-save_nodes-clause-goes_on : goal.returns-in_err-save_nodes-cl
 returns-in_err-save_nodes-clause-goes_on g c = λ stands.
     let start : View = c.args.saved.now in
     let keeps = keeps-then g.T.Store.files g.T.Store.may_leave g.T.Store.moment g.T.Store.image_since start.current c.args.store.now c.begin.new.store c.save_nodes.new.store (c.begin.ensures.keeps stands)
-        (subst (λ (w : Current). Moves g.T.Store.files g.T.Store.may_leave g.T.Store.moment g.T.Store.image_since (Keeps w) c.begin.new.store c.save_nodes.new.store) (ap (λ (v : View). v.current) c.in_ok-begin.ensures.begun) c.save_nodes.ensures.keeps) in
+    (subst (λ (w : Current). Moves g.T.Store.files g.T.Store.may_leave g.T.Store.moment g.T.Store.image_since (Keeps w) c.begin.new.store c.save_nodes.new.store) (ap (λ (v : View). v.current) c.in_ok-begin.ensures.begun) c.save_nodes.ensures.keeps) in
     keeps-goes g.T.Store.files g.T.Store.may_leave g.T.Store.moment g.T.Store.image_since start c.args.kept.now c.args.counts.now c.args.inserted (nodes_of c.args.grown.now) c.args.store.now c.save_nodes.new.store keeps
 
 pub returns-in_err-save_nodes-clause-sound : goal.returns-in_err-save_nodes-clause-sound
@@ -72,11 +72,11 @@ returns-clause-goes_on g c = λ stands.
     let known : AreKnown nodes = subst AreKnown c.nodes.ensures.nodes c.in_ok-save_nodes.ensures.known in
     let further : GoesFurther now.current c.args.inserted (length c.args.kept.now.inputs) = subst (λ (w : Current). GoesFurther w c.args.inserted (length c.args.kept.now.inputs)) (sym same) c.requires.further in
     let valid : IsCheckpoint (next_generation now.current) c.args.kept.now c.args.counts.now c.args.inserted now.lines =
-        tree-valid c.lines_law.ensures.told now (rules_of c.args.grown.now) c.args.kept.now c.args.counts.now c.args.inserted nodes c.requires.given further c.requires.few told known c.requires.rest.own c.requires.rules c.requires.whole c.requires.holds in
+    tree-valid c.lines_law.ensures.told now (rules_of c.args.grown.now) c.args.kept.now c.args.counts.now c.args.inserted nodes c.requires.given further c.requires.few told known c.requires.rest.own c.requires.rules c.requires.whole c.requires.holds in
     let keeps = keeps-then g.T.Store.files g.T.Store.may_leave g.T.Store.moment g.T.Store.image_since start.current c.args.store.now c.begin.new.store c.save_nodes.new.store (c.begin.ensures.keeps stands)
-        (subst (λ (w : Current). Moves g.T.Store.files g.T.Store.may_leave g.T.Store.moment g.T.Store.image_since (Keeps w) c.begin.new.store c.save_nodes.new.store) (ap (λ (v : View). v.current) c.in_ok-begin.ensures.begun) c.save_nodes.ensures.keeps) in
+    (subst (λ (w : Current). Moves g.T.Store.files g.T.Store.may_leave g.T.Store.moment g.T.Store.image_since (Keeps w) c.begin.new.store c.save_nodes.new.store) (ap (λ (v : View). v.current) c.in_ok-begin.ensures.begun) c.save_nodes.ensures.keeps) in
     let tiles : Tells (λ all. NameTiles all nodes now.lines) (g.T.Store.files c.save_nodes.new.store) =
-        subst (λ (w : List Branch). Tells (λ all. NameTiles all w now.lines) (g.T.Store.files c.save_nodes.new.store)) c.nodes.ensures.nodes c.in_ok-save_nodes.ensures.tiles in
+    subst (λ (w : List Branch). Tells (λ all. NameTiles all w now.lines) (g.T.Store.files c.save_nodes.new.store)) c.nodes.ensures.nodes c.in_ok-save_nodes.ensures.tiles in
     goes-all c.body_once_law.ensures.facts start now same c.args.kept.now c.args.counts.now c.args.inserted nodes valid told g.T.Store.files g.T.Store.may_leave g.T.Store.moment g.T.Store.image_since c.args.store.now c.save_nodes.new.store c.commit.new.store keeps (c.save_nodes.ensures.stands (c.in_ok-begin.ensures.stands stands)) tiles c.commit.ensures.commits
 
 pub returns-clause-saved : goal.returns-clause-saved
@@ -89,7 +89,7 @@ returns-clause-saved g c =
     let known : AreKnown nodes = subst AreKnown c.nodes.ensures.nodes c.in_ok-save_nodes.ensures.known in
     let further : GoesFurther now.current c.args.inserted (length c.args.kept.now.inputs) = subst (λ (w : Current). GoesFurther w c.args.inserted (length c.args.kept.now.inputs)) (sym same) c.requires.further in
     let valid : IsCheckpoint (next_generation now.current) c.args.kept.now c.args.counts.now c.args.inserted now.lines =
-        tree-valid c.lines_law.ensures.told now (rules_of c.args.grown.now) c.args.kept.now c.args.counts.now c.args.inserted nodes c.requires.given further c.requires.few told known c.requires.rest.own c.requires.rules c.requires.whole c.requires.holds in
+    tree-valid c.lines_law.ensures.told now (rules_of c.args.grown.now) c.args.kept.now c.args.counts.now c.args.inserted nodes c.requires.given further c.requires.few told known c.requires.rest.own c.requires.rules c.requires.whole c.requires.holds in
     on-ok _ (IsSaved start c.commit.new.saved c.args.kept.now c.args.counts.now c.args.inserted nodes) (is-saved c.body_once_law.ensures.facts start now same c.args.kept.now c.args.counts.now c.args.inserted nodes valid told c.commit.new.saved) c.commit.result c.commit.ensures.current
 
 pub returns-clause-stands : goal.returns-clause-stands

@@ -19,8 +19,8 @@ returns-clause-has g c = λ is.
 pub returns-clause-has_not : goal.returns-clause-has_not
 returns-clause-has_not g c = λ is.
     let differ : c.as_slice.result.now ≢ c.args.points.now = λ same. (
-        let also : c.eq.result ≡ true = (slice_eq-Decides same-point c.as_slice.result.now c.args.points.now c.eq.result c.eq.ensures).1 same in
-        let not_same : c.eq.result ≡ false = search (rules, is) in
-        let wrong : true ≡ false = sym also ∙ not_same in
-        cc) in
+    let also : c.eq.result ≡ true = (slice_eq-Decides same-point c.as_slice.result.now c.args.points.now c.eq.result c.eq.ensures).1 same in
+    let not_same : c.eq.result ≡ false = search (rules, is) in
+    let wrong : true ≡ false = sym also ∙ not_same in
+    cc) in
     found-has_not c.args.saved.now.current c.args.key (g.T.Store.files c.args.store.now) c.new-found.result.items c.load_tile.new.out.items c.as_slice.result.now c.args.points.now c.new-found.ensures.items c.as_slice.ensures.value c.in_ok-load_tile.ensures.appended differ

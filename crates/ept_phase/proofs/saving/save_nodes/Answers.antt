@@ -39,16 +39,16 @@ loop-key-preserved g c =
     let next : c.loop-key.key-iterator ≡ b ∷ rest = rest_more deref_pair c.loop-key.key-iterator rest c.next.result (c.in-Some.key, c.in-Some.node) c.in-Some.is c.next.ensures.steps in
     let begun : c.into_iter-key-iterator.result ≡ c.args.nodes.now.entries = search rules in
     let whole : c.args.nodes.now.entries ≡ done ++ b ∷ rest =
-        sym begun ∙ (rest_so_far deref_pair c.loop-key.yielded c.into_iter-key-iterator.result c.loop-key.key-iterator c.loop-key.yielded_by ∙ ap (λ (w : List Branch). done ++ w) next) in
+    sym begun ∙ (rest_so_far deref_pair c.loop-key.yielded c.into_iter-key-iterator.result c.loop-key.key-iterator c.loop-key.yielded_by ∙ ap (λ (w : List Branch). done ++ w) next) in
     let rises : Rise (keys_in (done ++ b ∷ rest)) = subst (λ (w : List Branch). Rise (keys_in w)) whole (sorted-rise (keys_in c.args.nodes.now.entries) c.iter-key-items.ensures.ordered) in
     let points : List Point = c.deref.result.now in
     let files : Option Files = g.T.Store.files c.loop-key.store in
     let after : Option Files = g.T.Store.files c.save_node.new.store in
     let far : IsSavedTo start c.loop-key.saved done (b ∷ rest) files = subst (λ (w : List Branch). IsSavedTo start c.loop-key.saved done w files) next at.far in
     let saves : SavesNode c.loop-key.saved c.save_node.new.saved b.0 b.1.mask points after =
-        subst (λ (m : ℕ). SavesNode c.loop-key.saved c.save_node.new.saved b.0 m points after) c.open_mask.ensures.mask c.in_ok-save_node.ensures.node in
+    subst (λ (m : ℕ). SavesNode c.loop-key.saved c.save_node.new.saved b.0 m points after) c.open_mask.ensures.mask c.in_ok-save_node.ensures.node in
     let more : IsSavedTo start c.save_node.new.saved (done ++ b ∷ []) rest after =
-        saved-more start c.loop-key.saved c.save_node.new.saved done rest b points files after rises c.known.ensures c.known-in-loop-key.ensures.low far saves (search rules) (free_letter c.loop-key.saved.current c.in-Some.key.now) c.save_node.ensures.one_tile.reads in
+    saved-more start c.loop-key.saved c.save_node.new.saved done rest b points files after rises c.known.ensures c.known-in-loop-key.ensures.low far saves (search rules) (free_letter c.loop-key.saved.current c.in-Some.key.now) c.save_node.ensures.one_tile.reads in
     let yielded : done ++ b ∷ [] ≡ map deref_pair (c.loop-key.yielded ++ (c.in-Some.key, c.in-Some.node) ∷ []) = sym (map-append deref_pair c.loop-key.yielded ((c.in-Some.key, c.in-Some.node) ∷ [])) in
     record {
       far = subst (λ (w : List Branch). IsSavedTo start c.save_node.new.saved w rest after) yielded more;
@@ -82,8 +82,8 @@ returns-clause-told g c =
     let all : map deref_pair c.loop-key.yielded ≡ c.args.nodes.now.entries = search (rules, iter_end) in
     let none : c.loop-key.key-iterator ≡ [] = c.in-None.ensures.steps.0 in
     let far : IsSavedTo c.args.saved.now c.loop-key.saved c.args.nodes.now.entries [] (g.T.Store.files c.loop-key.store) =
-        subst (λ (w : List Branch). IsSavedTo c.args.saved.now c.loop-key.saved c.args.nodes.now.entries w (g.T.Store.files c.loop-key.store)) none
-        (subst (λ (w : List Branch). IsSavedTo c.args.saved.now c.loop-key.saved w c.loop-key.key-iterator (g.T.Store.files c.loop-key.store)) all c.loop-key.invariant.far) in
+    subst (λ (w : List Branch). IsSavedTo c.args.saved.now c.loop-key.saved c.args.nodes.now.entries w (g.T.Store.files c.loop-key.store)) none
+    (subst (λ (w : List Branch). IsSavedTo c.args.saved.now c.loop-key.saved w c.loop-key.key-iterator (g.T.Store.files c.loop-key.store)) all c.loop-key.invariant.far) in
     (saved-all c.args.saved.now c.loop-key.saved c.args.nodes.now.entries (g.T.Store.files c.loop-key.store) far).0
 
 pub returns-clause-tiles : goal.returns-clause-tiles
@@ -91,8 +91,8 @@ returns-clause-tiles g c =
     let all : map deref_pair c.loop-key.yielded ≡ c.args.nodes.now.entries = search (rules, iter_end) in
     let none : c.loop-key.key-iterator ≡ [] = c.in-None.ensures.steps.0 in
     let far : IsSavedTo c.args.saved.now c.loop-key.saved c.args.nodes.now.entries [] (g.T.Store.files c.loop-key.store) =
-        subst (λ (w : List Branch). IsSavedTo c.args.saved.now c.loop-key.saved c.args.nodes.now.entries w (g.T.Store.files c.loop-key.store)) none
-        (subst (λ (w : List Branch). IsSavedTo c.args.saved.now c.loop-key.saved w c.loop-key.key-iterator (g.T.Store.files c.loop-key.store)) all c.loop-key.invariant.far) in
+    subst (λ (w : List Branch). IsSavedTo c.args.saved.now c.loop-key.saved c.args.nodes.now.entries w (g.T.Store.files c.loop-key.store)) none
+    (subst (λ (w : List Branch). IsSavedTo c.args.saved.now c.loop-key.saved w c.loop-key.key-iterator (g.T.Store.files c.loop-key.store)) all c.loop-key.invariant.far) in
     (saved-all c.args.saved.now c.loop-key.saved c.args.nodes.now.entries (g.T.Store.files c.loop-key.store) far).1
 
 pub returns-clause-known : goal.returns-clause-known
