@@ -61,7 +61,7 @@ alike-all count kept given are first = at are.kept_rest refl
     at (a ∷ more) is =
         let kept_is : kept ≡ are.front ++ a ∷ more = are.kept_are ∙ ap (λ (w : List Input). are.front ++ w) is in
         let given_is : are.front ++ are.given_rest ≡ are.front ++ (a ∷ more ++ first.0) =
-            sym are.given_are ∙ (first.1 ∙ (ap (λ (w : List Input). w ++ first.0) kept_is ∙ append_assoc are.front (a ∷ more) first.0)) in
+        sym are.given_are ∙ (first.1 ∙ (ap (λ (w : List Input). w ++ first.0) kept_is ∙ append_assoc are.front (a ∷ more) first.0)) in
         absurd (are.no_more a a more (more ++ first.0) is (tail_same are.front are.given_rest (a ∷ more ++ first.0) given_is) refl)
 
 -- ---- the first that differs

@@ -34,7 +34,11 @@ pub struct Difference {
 
 /// The first difference of what is given from what is kept, if there is one. There may be more inputs given
 /// than are kept.
-pub fn first_difference(alloc: Global, kept: &Kept, given: &Kept) -> Result<Option<Difference>, Memory>
+pub fn first_difference(
+    alloc: Global,
+    kept: &Kept,
+    given: &Kept,
+) -> Result<Option<Difference>, Memory>
     ensures none { result ≡ Ok None → GoesOnFrom kept.now given.now }
     ensures some { IfOk result (λ found. IfSome found (IsDifference kept.now given.now)) }
 {

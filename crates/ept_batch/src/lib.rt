@@ -3,5 +3,7 @@
 
 mod differing;
 mod equal;
+#[cfg(test)]
+mod tests;
 
 pub use differing::{Difference, first_difference};
