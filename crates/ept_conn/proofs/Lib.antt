@@ -7,3 +7,4 @@ pub mod Ending
 pub mod Histories
 pub mod Falling
 pub mod Conversing
+pub mod Unanswered

@@ -12,7 +12,7 @@ ghost use Rattle.ept_conn.specs.Held.{has_turn};
 ghost use Rattle.ept_conn.specs.Answers.{Served, refusal, file_answer, is_json, chunk};
 ghost use Rattle.ept_conn.specs.Served.{IsServed};
 ghost use Rattle.ept_conn.specs.State.{started, want_of, wants_on, feeds};
-ghost use Rattle.ept_conn.specs.Works.{IsTurnsPlan, IsPlanned, Decides, hand_to, out_to, hand_at, end_at, Begins, IsReady, Works, WorksOn, IsBegun, IsOneStep, Stops, IsLastWord, IsDamagedFor, IsDamagedIn};
+ghost use Rattle.ept_conn.specs.Works.{IsTurnsPlan, IsPlanned, HasPlanOf, HasNoTiles, Decides, hand_to, out_to, hand_at, end_at, Begins, IsReady, Works, WorksOn, IsBegun, IsOneStep, Stops, IsLastWord, IsDamagedFor, IsDamagedIn};
 
 use crate::conn::Conn;
 use crate::end::{End, Fault, Want};
@@ -99,6 +99,7 @@ impl Session {
         ensures works { self.new.fault ≡ None → (files : Files) → T.files store.old ≡ Some files
             → (served : Served) → IsServed files served → IsPlanned served self.old.hand → Works served self.old self.new }
         ensures one_step { self.new.fault ≡ None → IsOneStep self.old.hand self.old self.new }
+        ensures plans { (files : Files) → T.files store.old ≡ Some files → HasPlanOf files self.old.hand → HasPlanOf files self.new.hand }
         ensures closed { self.new.closed ≡ self.old.closed }
         ensures stops { IfSome self.new.fault (Stops self.old.hand self.new) }
         ensures damaged { (file : QueryFile) → self.new.fault ≡ Some (Fault.Damaged file)
@@ -175,6 +176,7 @@ impl Session {
         requires ready { IsReady self.old }
         requires due { has_turn self.old.held ≡ true }
         ensures decides { self.new.fault ≡ None → Decides self.old self.new }
+        ensures no_tiles { HasNoTiles self.new.hand }
         ensures closed { self.new.closed ≡ self.old.closed }
         ensures stops { IfSome self.new.fault (Stops Hand.Empty self.new) }
         ensures only { IfSome self.new.fault (λ cause. cause ≡ Fault.Memory) }
@@ -192,6 +194,7 @@ impl Session {
         requires fit { MayBeAsked turn.asked }
         ensures out { self.new.fault ≡ None → self.new.out ≡ out_to turn.asked turn.last }
         ensures hand { self.new.fault ≡ None → self.new.hand ≡ hand_to turn.asked turn }
+        ensures no_tiles { HasNoTiles self.new.hand }
         ensures same { (self.new.held ≡ self.old.held) × (self.new.closed ≡ self.old.closed) }
         ensures stops { IfSome self.new.fault (Stops Hand.Empty self.new) }
         ensures only { IfSome self.new.fault (λ cause. cause ≡ Fault.Memory) }
@@ -228,6 +231,7 @@ impl Session {
         ensures works { self.new.fault ≡ None → (files : Files) → T.files store.old ≡ Some files
             → (served : Served) → IsServed files served → WorksOn served (Hand.Decided turn) self.old self.new }
         ensures one_step { self.new.fault ≡ None → IsOneStep (Hand.Decided turn) self.old self.new }
+        ensures plans { (files : Files) → T.files store.old ≡ Some files → HasPlanOf files self.new.hand }
         ensures closed { self.new.closed ≡ self.old.closed }
         ensures stops { IfSome self.new.fault (Stops (Hand.Decided turn) self.new) }
         ensures damaged { (file : QueryFile) → self.new.fault ≡ Some (Fault.Damaged file)
@@ -291,6 +295,7 @@ impl Session {
             → (served : Served) → IsServed files served
             → Begins turn area.now (served.plan area.now depths.0 depths.1) self.new }
         ensures begun { self.new.fault ≡ None → IsBegun turn self.new.hand }
+        ensures plans { (files : Files) → T.files store.old ≡ Some files → HasPlanOf files self.new.hand }
         ensures same { (self.new.held ≡ self.old.held) × (self.new.closed ≡ self.old.closed) }
         ensures stops { IfSome self.new.fault (Stops (Hand.Decided turn) self.new) }
         ensures damaged { (file : QueryFile) → self.new.fault ≡ Some (Fault.Damaged file)
@@ -311,6 +316,7 @@ impl Session {
         requires ready { IsReady self.old }
         ensures out { self.new.fault ≡ None → self.new.out ≡ head_text (HeadKind.Query turn.last) ++ end_at plan 0 }
         ensures hand { self.new.fault ≡ None → self.new.hand ≡ hand_at turn plan 0 }
+        ensures either { (self.new.hand ≡ Hand.Empty) ⊎ (self.new.hand ≡ Hand.Tiles turn plan 0) }
         ensures begun { self.new.fault ≡ None → IsBegun turn self.new.hand }
         ensures same { (self.new.held ≡ self.old.held) × (self.new.closed ≡ self.old.closed) }
         ensures stops { IfSome self.new.fault (Stops (Hand.Decided turn) self.new) }
@@ -336,6 +342,7 @@ impl Session {
             → (served : Served) → IsServed files served → IsTurnsPlan served turn plan
             → WorksOn served (Hand.Tiles turn plan done) self.old self.new }
         ensures one_step { self.new.fault ≡ None → IsOneStep (Hand.Tiles turn plan done) self.old self.new }
+        ensures either { (self.new.hand ≡ Hand.Empty) ⊎ (self.new.hand ≡ Hand.Tiles turn plan (done + 1)) }
         ensures closed { self.new.closed ≡ self.old.closed }
         ensures stops { IfSome self.new.fault (Stops (Hand.Tiles turn plan done) self.new) }
         ensures damaged { (file : QueryFile) → self.new.fault ≡ Some (Fault.Damaged file)
@@ -357,6 +364,7 @@ impl Session {
         requires within { done < length plan.tiles }
         ensures out { self.new.fault ≡ None → self.new.out ≡ chunk points.now ++ end_at plan (done + 1) }
         ensures hand { self.new.fault ≡ None → self.new.hand ≡ hand_at turn plan (done + 1) }
+        ensures either { (self.new.hand ≡ Hand.Empty) ⊎ (self.new.hand ≡ Hand.Tiles turn plan (done + 1)) }
         ensures same { (self.new.held ≡ self.old.held) × (self.new.closed ≡ self.old.closed) }
         ensures stops { IfSome self.new.fault (Stops (Hand.Tiles turn plan done) self.new) }
         ensures only { IfSome self.new.fault (λ cause. cause ≡ Fault.Memory) }
