@@ -8,3 +8,4 @@ pub mod Histories
 pub mod Falling
 pub mod Conversing
 pub mod Unanswered
+pub mod Undamaged

@@ -163,6 +163,13 @@ IsDamagedIn (Decided turn) found files = IsDamagedFor turn.asked found files
 IsDamagedIn (Tiles turn plan done) found files =
     (found ≡ file.Tile (node_at plan done).0) × HasNoTile files (node_at plan done).0 (node_at plan done).1
 
+-- no file is damaged that is needed for this, or for what is in hand
+abbrev pub IsUndamagedFor : Asked → Files → Type 0
+IsUndamagedFor wanted files = (found : QueryFile) → ¬ IsDamagedFor wanted found files
+
+abbrev pub IsUndamagedIn : Hand → Files → Type 0
+IsUndamagedIn hand files = (found : QueryFile) → ¬ IsDamagedIn hand found files
+
 -- a file of the folder is damaged: for some turn in hand, with the folder's plan for it where there is one
 pub record IsDamaged (found : QueryFile) (files : Files) : Type 0 where
   pub hand : Hand

@@ -12,7 +12,7 @@ ghost use Rattle.ept_conn.specs.Held.{has_turn};
 ghost use Rattle.ept_conn.specs.Answers.{Served, refusal, file_answer, is_json, chunk};
 ghost use Rattle.ept_conn.specs.Served.{IsServed};
 ghost use Rattle.ept_conn.specs.State.{started, want_of, wants_on, feeds};
-ghost use Rattle.ept_conn.specs.Works.{IsTurnsPlan, IsPlanned, HasPlanOf, HasNoTiles, Decides, hand_to, out_to, hand_at, end_at, Begins, IsReady, Works, WorksOn, IsBegun, IsOneStep, Stops, IsLastWord, IsDamagedFor, IsDamagedIn};
+ghost use Rattle.ept_conn.specs.Works.{IsTurnsPlan, IsPlanned, HasPlanOf, HasNoTiles, Decides, hand_to, out_to, hand_at, end_at, Begins, IsReady, Works, WorksOn, IsBegun, IsOneStep, Stops, IsLastWord, IsDamagedFor, IsDamagedIn, IsUndamagedFor, IsUndamagedIn};
 
 use crate::conn::Conn;
 use crate::end::{End, Fault, Want};
@@ -104,6 +104,7 @@ impl Session {
         ensures stops { IfSome self.new.fault (Stops self.old.hand self.new) }
         ensures damaged { (file : QueryFile) → self.new.fault ≡ Some (Fault.Damaged file)
             → Tells (IsDamagedIn self.old.hand file) (T.files store.old) }
+        ensures undamaged { self.new.fault ≡ None → (files : Files) → T.files store.old ≡ Some files → IsUndamagedIn self.old.hand files }
         ensures stores { self.new.fault ≡ Some Fault.Store → Rose (T.faults store.old) (T.faults store.new) }
         ensures later { T.faults store.old ≤ T.faults store.new }
         ensures any_moment { Moves T.files T.may_leave T.moment T.image_since SameFiles store.old store.new }
@@ -236,6 +237,7 @@ impl Session {
         ensures stops { IfSome self.new.fault (Stops (Hand.Decided turn) self.new) }
         ensures damaged { (file : QueryFile) → self.new.fault ≡ Some (Fault.Damaged file)
             → Tells (IsDamagedIn (Hand.Decided turn) file) (T.files store.old) }
+        ensures undamaged { self.new.fault ≡ None → (files : Files) → T.files store.old ≡ Some files → IsUndamagedIn (Hand.Decided turn) files }
         ensures stores { self.new.fault ≡ Some Fault.Store → Rose (T.faults store.old) (T.faults store.new) }
         ensures later { T.faults store.old ≤ T.faults store.new }
         ensures any_moment { Moves T.files T.may_leave T.moment T.image_since SameFiles store.old store.new }
@@ -300,6 +302,7 @@ impl Session {
         ensures stops { IfSome self.new.fault (Stops (Hand.Decided turn) self.new) }
         ensures damaged { (file : QueryFile) → self.new.fault ≡ Some (Fault.Damaged file)
             → Tells (IsDamagedFor turn.asked file) (T.files store.old) }
+        ensures undamaged { self.new.fault ≡ None → (files : Files) → T.files store.old ≡ Some files → IsUndamagedFor turn.asked files }
         ensures stores { self.new.fault ≡ Some Fault.Store → Rose (T.faults store.old) (T.faults store.new) }
         ensures later { T.faults store.old ≤ T.faults store.new }
         ensures any_moment { Moves T.files T.may_leave T.moment T.image_since SameFiles store.old store.new }
@@ -347,6 +350,7 @@ impl Session {
         ensures stops { IfSome self.new.fault (Stops (Hand.Tiles turn plan done) self.new) }
         ensures damaged { (file : QueryFile) → self.new.fault ≡ Some (Fault.Damaged file)
             → Tells (IsDamagedIn (Hand.Tiles turn plan done) file) (T.files store.old) }
+        ensures undamaged { self.new.fault ≡ None → (files : Files) → T.files store.old ≡ Some files → IsUndamagedIn (Hand.Tiles turn plan done) files }
         ensures stores { self.new.fault ≡ Some Fault.Store → Rose (T.faults store.old) (T.faults store.new) }
         ensures later { T.faults store.old ≤ T.faults store.new }
         ensures any_moment { Moves T.files T.may_leave T.moment T.image_since SameFiles store.old store.new }

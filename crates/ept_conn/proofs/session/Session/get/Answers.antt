@@ -1,6 +1,6 @@
 use Rattle.std.proofs.Common.{sym, subst}
 use Rattle.ept_http.specs.declared.asked.Asked.{Asked}
-use Rattle.ept_conn.specs.Works.{Gets, HasPlanOf}
+use Rattle.ept_conn.specs.Works.{Gets, HasPlanOf, IsDamagedFor}
 use Rattle.ept_conn.proofs.session.Session.get.Goals as goal
 
 pub returns-in-Query-clause-works : goal.returns-in-Query-clause-works
@@ -16,3 +16,12 @@ returns-in-File-clause-plans g c = λ files told. subst (HasPlanOf files) (sym c
 
 pub returns-in-Refuse-clause-plans : goal.returns-in-Refuse-clause-plans
 returns-in-Refuse-clause-plans g c = λ files told. subst (HasPlanOf files) (sym c.refuse.ensures.hand) tt
+
+pub returns-in-Query-clause-undamaged : goal.returns-in-Query-clause-undamaged
+returns-in-Query-clause-undamaged g c = λ going files told. c.make_plan.ensures.undamaged going files told
+
+pub returns-in-File-clause-undamaged : goal.returns-in-File-clause-undamaged
+returns-in-File-clause-undamaged g c = λ going files told found damaged. subst (λ (a : Asked). IsDamagedFor a found files) c.in-File.is damaged
+
+pub returns-in-Refuse-clause-undamaged : goal.returns-in-Refuse-clause-undamaged
+returns-in-Refuse-clause-undamaged g c = λ going files told found damaged. subst (λ (a : Asked). IsDamagedFor a found files) c.in-Refuse.is damaged

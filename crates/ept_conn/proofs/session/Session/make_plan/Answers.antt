@@ -7,6 +7,7 @@ use Rattle.ept_conn.specs.Works.{Begins, hand_at, end_at}
 use Rattle.ept_http.specs.declared.asked.Asked.TheVariants as asked
 use Rattle.ept_query.specs.Planning.{IsPlanFor}
 use Rattle.ept_conn.proofs.Plans.{plan-served, tiles-plan}
+use Rattle.ept_conn.proofs.Undamaged.{plan-undamaged, shut-undamaged}
 use Rattle.ept_conn.proofs.session.Session.make_plan.Goals as goal
 
 pub returns-in-Ok-Some-clause-begins : goal.returns-in-Ok-Some-clause-begins
@@ -30,3 +31,14 @@ returns-in-Ok-Some-clause-plans g c = λ files told.
       is_query = c.requires.asked ∙ ap (λ a. asked.Query a c.args.depths.0 c.args.depths.1) (sym area);
       is_plan = subst (λ a. IsPlanFor a c.args.depths.0 c.args.depths.1 plan files) (sym area) found;
     })
+
+pub returns-in-Ok-Some-clause-undamaged : goal.returns-in-Ok-Some-clause-undamaged
+returns-in-Ok-Some-clause-undamaged g c = λ going files told.
+    let plan = c.in-Ok-Some.plan in
+    let found = rw (c.in-Ok-Some.field-0-is, c.in-Ok-Some.plan-is, told) at c.in-Ok-Some.ensures.plan in
+    plan-undamaged files c.args.area.now c.args.depths.0 c.args.depths.1 plan c.args.turn.asked c.requires.asked found
+
+pub returns-in-Ok-None-clause-undamaged : goal.returns-in-Ok-None-clause-undamaged
+returns-in-Ok-None-clause-undamaged g c = λ going files told.
+    let none = rw (c.in-Ok-None.field-0-is, told) at c.in-Ok-None.ensures.plan in
+    shut-undamaged files c.args.area.now c.args.depths.0 c.args.depths.1 c.args.turn.asked c.requires.asked none
