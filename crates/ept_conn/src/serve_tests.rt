@@ -35,10 +35,10 @@ fn store_of(alloc: Global, files: &[File], fails: &[u64]) -> Result<MemStore, Al
     Ok(MemStore::new(alloc, list, Vec::from_slice(alloc, fails)?))
 }
 
-// A link over which these bytes come in pieces of so many.
+// A link over which these bytes come in pieces of so many, of one at least.
 fn link_of(alloc: Global, bytes: &[u8], size: usize, fails: &[u64]) -> Result<MemLink, AllocError> {
     let mut pieces = Vec::new(alloc);
-    for piece in bytes.chunks(size) {
+    for piece in bytes.chunks(size.max(1)) {
         pieces.push(Vec::from_slice(alloc, piece)?)?;
     }
     Ok(MemLink::new(alloc, pieces, Vec::from_slice(alloc, fails)?))
