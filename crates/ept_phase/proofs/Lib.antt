@@ -1,1 +1,11 @@
-mod Telling
+mod Begun
+mod Compared
+pub mod Following
+mod Lining
+mod Merging
+mod Phasing
+mod Refusing
+mod SamePoint
+mod SavedTo
+mod SavedNodes
+pub mod Telling

@@ -1,5 +1,5 @@
 -- Lines and the nodes of which they tell: one is a whole octree where the other is.
-use Rattle.std.proofs.Common.{◌≡◌, ◌∙◌, ◌⊎◌, ℕ, zero, suc, ◌<◌, ◌^◌, ◌==◌, ◌||◌, Bool, true, false, cond, inl, inr, List, [], ◌∷◌, map, refl, sym, ap, subst, arith, length}
+use Rattle.std.proofs.Common.{◌≡◌, ◌∙◌, ◌⊎◌, ℕ, zero, suc, ◌<◌, ◌^◌, ◌==◌, ◌||◌, Bool, true, false, cond, inl, inr, List, [], ◌∷◌, map, refl, sym, ap, subst, arith, length, Some, None}
 use Rattle.std.specs.Prelude.{AllPairs}
 use Rattle.std.specs.Int.{bit_at}
 use Rattle.std.specs.declared.cmp.Ordering.TheVariants.{Less}
@@ -13,38 +13,41 @@ use Rattle.ept_sample.specs.Nodes.{AreAscending}
 use Rattle.ept_sample.proofs.Members.{member-any, any-member, IsMember-map, member-map, all-member, All-members}
 use Rattle.ept_sample.proofs.KeyOrder.{IsRising-AllPairs}
 use Rattle.ept_grid.specs.Mask.{opened}
-use Rattle.ept_grid.specs.Node as grid
 use Rattle.ept_core.specs.declared.node.Node as core
 use Rattle.ept_core.specs.State as state
 use Rattle.ept_core.specs.State.{Entry, node_at, has_node, has_open}
 use Rattle.ept_core.proofs.NodeMap.{node_at-member, has_node-key, key-has_node}
 use Rattle.ept_ckpt.specs.declared.node_line.NodeLine.{NodeLine}
+use Rattle.ept_ckpt.specs.declared.checkpoint.Checkpoint.{Checkpoint}
 use Rattle.ept_ckpt.specs.Octree as ckpt
 use Rattle.ept_ckpt.specs.Octree.{AreWholeOctree, AreNodesOf, TellsChildren, HasParent, is_among}
+use Rattle.ept_save.specs.Current.{Current}
 use Rattle.ept_tree.specs.Tree.{Branch, entry_of, points_in}
-use Rattle.ept_tree.specs.Whole.{IsKnown, IsBelowOpen, AreWhole}
+use Rattle.ept_tree.specs.Whole.{IsKnown, IsBelowOpen, AreWhole, KeepsNodes}
 use Rattle.ept_tree.proofs.Growing.{has_open_then}
 use Rattle.ept_tree.proofs.Wholeness.{blank_open}
 use Rattle.ept_phase.specs.Lines.{TellsNode, TellNodes}
 use Rattle.ept_phase.specs.LinesLaws.{HaveKeys}
+use Rattle.ept_phase.specs.Loaded.{OfCurrent}
+use Rattle.ept_phase.specs.Saving.{keys_in, HasEachNodeOf}
 
 both_ways : (a b : Bool) → (a ≡ true → b ≡ true) → (b ≡ true → a ≡ true) → a ≡ b
 both_ways true b to from = sym (to refl)
 both_ways false true to from = from refl
 both_ways false false to from = refl
 
-either : (b : Bool) → (b ≡ true) ⊎ (b ≡ false)
+pub either : (b : Bool) → (b ≡ true) ⊎ (b ≡ false)
 either true = inl refl
 either false = inr refl
 
 -- ---- keys
 
-among-member : (keys : List VoxelKey) (key : VoxelKey) → is_among keys key ≡ true → IsMember key keys
+pub among-member : (keys : List VoxelKey) (key : VoxelKey) → is_among keys key ≡ true → IsMember key keys
 among-member keys key is =
     let r = member-any (same_key key) keys is in
     subst (λ (k : VoxelKey). IsMember k keys) (sym (same_key-true key r.0 r.2)) r.1
 
-member-among : (keys : List VoxelKey) (key : VoxelKey) → IsMember key keys → is_among keys key ≡ true
+pub member-among : (keys : List VoxelKey) (key : VoxelKey) → IsMember key keys → is_among keys key ≡ true
 member-among keys key m = any-member (same_key key) key keys m (same_key-same key key refl)
 
 keys-told : (nodes : List Branch) (lines : List NodeLine) → TellNodes nodes lines → state.keys_of (map entry_of nodes) ≡ ckpt.keys_of lines
@@ -56,7 +59,7 @@ keys-told (b ∷ nodes) (l ∷ lines) told =
 
 -- ---- pairs
 
-line-node : (nodes : List Branch) (lines : List NodeLine) (l : NodeLine) → TellNodes nodes lines → IsMember l lines → (b : Branch) × IsMember b nodes × TellsNode b l
+pub line-node : (nodes : List Branch) (lines : List NodeLine) (l : NodeLine) → TellNodes nodes lines → IsMember l lines → (b : Branch) × IsMember b nodes × TellsNode b l
 line-node [] [] l told m = absurd m
 line-node [] (x ∷ lines) l told m = absurd told
 line-node (b ∷ nodes) [] l told m = absurd told
@@ -65,7 +68,7 @@ line-node (b ∷ nodes) (x ∷ lines) l told (inr m) =
     let r = line-node nodes lines l told.1 m in
     (r.0, inr r.1, r.2)
 
-node-line : (nodes : List Branch) (lines : List NodeLine) (b : Branch) → TellNodes nodes lines → IsMember b nodes → (l : NodeLine) × IsMember l lines × TellsNode b l
+pub node-line : (nodes : List Branch) (lines : List NodeLine) (b : Branch) → TellNodes nodes lines → IsMember b nodes → (l : NodeLine) × IsMember l lines × TellsNode b l
 node-line [] [] b told m = absurd m
 node-line [] (x ∷ lines) b told m = absurd m
 node-line (c ∷ nodes) [] b told m = absurd told
@@ -256,3 +259,16 @@ module _ (nodes : List Branch) (lines : List NodeLine) (told : TellNodes nodes l
     below_open = below_of;
     open_leads = leads;
   }
+
+-- ---- nodes that stay
+
+keys-in : (nodes : List Branch) → state.keys_of (map entry_of nodes) ≡ keys_in nodes
+keys-in [] = refl
+keys-in (b ∷ bs) = ap (λ (w : List VoxelKey). b.0 ∷ w) (keys-in bs)
+
+pub kept-each : (current : Current) (old new : List Branch) → OfCurrent current (λ (c : Checkpoint). TellNodes old c.nodes) → KeepsNodes (map entry_of old) (map entry_of new) → HasEachNodeOf current new
+kept-each None old new told keeps = λ k line inside. absurd (omega (arith, inside))
+kept-each (Some (letter, c)) old new told keeps = All-members (λ (line : NodeLine). is_among (keys_in new) line.key ≡ true) c.nodes (λ line m.
+    let there : IsMember line.key (state.keys_of (map entry_of old)) = subst (λ (w : List VoxelKey). IsMember line.key w) (sym (keys-told old c.nodes told)) (IsMember-map (λ (l : NodeLine). l.key) line c.nodes m) in
+    let still : IsMember line.key (state.keys_of (map entry_of new)) = has_node-key (map entry_of new) line.key (keeps line.key (key-has_node (map entry_of old) line.key there)) in
+    member-among (keys_in new) line.key (subst (λ (w : List VoxelKey). IsMember line.key w) (keys-in new) still))

@@ -2,10 +2,14 @@
 use Rattle.std.specs.Prelude.{List, [], length, map, All}
 use Rattle.ept_space.specs.VoxelKey.{IsKey}
 use Rattle.ept_ckpt.specs.declared.node_line.NodeLine.{NodeLine}
+use Rattle.ept_ckpt.specs.declared.checkpoint.Checkpoint.{Checkpoint}
 use Rattle.ept_ckpt.specs.Octree.{AreWholeOctree, AreNodesOf}
+use Rattle.ept_save.specs.Current.{Current}
 use Rattle.ept_tree.specs.Tree.{Branch, entry_of, points_in}
-use Rattle.ept_tree.specs.Whole.{AreWhole}
+use Rattle.ept_tree.specs.Whole.{AreWhole, KeepsNodes}
 use Rattle.ept_phase.specs.Lines.{TellNodes}
+use Rattle.ept_phase.specs.Loaded.{OfCurrent}
+use Rattle.ept_phase.specs.Saving.{HasEachNodeOf}
 
 -- the keys of lines are keys
 abbrev pub HaveKeys : List NodeLine → Type 0
@@ -20,3 +24,8 @@ WholeIsTold =
 abbrev pub ToldIsWhole : Type 0
 ToldIsWhole =
     (nodes : List Branch) (lines : List NodeLine) → TellNodes nodes lines → HaveKeys lines → AreWholeOctree lines → AreWhole [] (map entry_of nodes)
+
+-- of nodes of which the current checkpoint's lines tell, each is among those that keep them
+abbrev pub KeptIsEach : Type 0
+KeptIsEach =
+    (current : Current) (old new : List Branch) → OfCurrent current (λ (c : Checkpoint). TellNodes old c.nodes) → KeepsNodes (map entry_of old) (map entry_of new) → HasEachNodeOf current new

@@ -1,6 +1,16 @@
 //! One phase of a build: the octree that a checkpoint tells of, and an octree as the next checkpoint.
 #![tactic(auto)]
 
+mod error;
 mod laws;
+mod loading;
+mod phase;
+mod saving;
+#[cfg(test)]
+mod tests;
 
-pub use laws::lines_law;
+pub use error::LoadError;
+pub use laws::{lines_law, saved_law};
+pub use loading::load_tree;
+pub use phase::save_tree;
+pub use saving::save_node;

@@ -13,6 +13,6 @@ pub mod WorkNames
 pub mod SoundFiles
 mod SampledTiles
 pub mod SoundTiles
-mod ScanCounts
+pub mod ScanCounts
 mod DoneFiles
 mod NextRoot

@@ -55,6 +55,7 @@ pub fn scan<H: Shelf>(
     ensures one_each { IfOk result (λ done. from + length done.counts ≡ length config.now.inputs) }
     ensures sound { IfOk result (λ done. All (IsCount done.bounds) done.counts) }
     ensures ordered { IfOk result (λ done. HasPlace done.bounds) }
+    ensures bounds { IfOk result (λ done. IfSome (limits_of kept config.now.bounds) (λ limits. done.bounds ≡ limits)) }
     ensures far { Tells
         (λ all. ReadsWithin all config.now.scale
         (limits_of kept config.now.bounds) config.now.inputs from (H.given shelf.old) (H.given shelf.new))

@@ -1,0 +1,223 @@
+-- Nodes that are loaded line by line, and put into a map behind those before them.
+use Rattle.std.proofs.Common.{◌≡◌, ◌∙◌, inl, inr, ℕ, zero, suc, ◌+◌, ◌<◌, Bool, true, false, cond, List, [], ◌∷◌, ◌++◌, take, length, get_or, refl, sym, ap, subst, arith, Option, Some, None, Ordering}
+use Rattle.std.specs.Prelude.{AllPairs, IsSome}
+use Rattle.std.proofs.Math.Seq.{take-suc}
+use Rattle.std.specs.List.{AllZip}
+use Rattle.std.specs.Option.{option_map}
+use Rattle.std.specs.BTreeMap.{insert_entry}
+use Rattle.std.specs.declared.cmp.Ordering.TheVariants.{Less, Equal, Greater}
+use Rattle.std.specs.Ordering.{is_lt, match_ordering, ordering_reverse}
+use Rattle.ept_base.specs.Files.{Files, SameFiles, StepsBy, Tells}
+use Rattle.ept_point.specs.Packed.{tile}
+use Rattle.std.proofs.lemmas.List.{length-append}
+use Rattle.ept_space.specs.VoxelKey.{VoxelKey, same_key, key_cmp}
+use Rattle.ept_space.specs.declared.cube.Rules.{Rules}
+use Rattle.ept_space.proofs.KeyOrder.{key_cmp_total}
+use Rattle.ept_space.proofs.Within.{same_key-true, same_key-same}
+use Rattle.ept_sample.specs.Members.{IsMember}
+use Rattle.ept_sample.proofs.Ascending.{IsRising}
+use Rattle.ept_sample.proofs.Members.{IsMember-map}
+use Rattle.ept_sample.proofs.KeyOrder.{key_before, key-self, IsRising-AllPairs}
+use Rattle.ept_grid.specs.Node.{Node, IsNodeOf}
+use Rattle.ept_ckpt.specs.declared.letter.Letter.{Letter}
+use Rattle.ept_ckpt.specs.declared.node_line.NodeLine.{NodeLine}
+use Rattle.ept_ckpt.specs.declared.checkpoint.Checkpoint.{Checkpoint}
+use Rattle.ept_ckpt.specs.Octree.{keys_of}
+use Rattle.ept_ckpt.specs.Lookup.{line_of_key}
+use Rattle.ept_meta.specs.Output.{rules_of}
+use Rattle.ept_save.specs.Current.{Current, tile_of_line}
+use Rattle.ept_save.specs.Loading.{HasLine, IsNodeFound, AreFound, HasTile, AreOfLine}
+use Rattle.ept_save.proofs.LoadedLines.{at-line}
+use Rattle.ept_tree.specs.Tree.{Branch, AreNodes}
+use Rattle.ept_phase.specs.LinesLaws.{HaveKeys}
+use Rattle.ept_phase.specs.Lines.{TellsNode, TellNodes, NamesTile, NameTiles}
+use Rattle.ept_phase.proofs.Telling.{either, node-line}
+use Rattle.ept_phase.proofs.Merging.{DoAscend}
+
+-- ---- pairs, and files that are told
+
+pub zip-more : {A B : Type 0} (R : A → B → Type 0) (xs : List A) (ys : List B) (x : A) (y : B) → AllZip R xs ys → R x y → AllZip R (xs ++ x ∷ []) (ys ++ y ∷ [])
+zip-more R [] [] x y all r = (r, tt)
+zip-more R [] (b ∷ bs) x y all r = absurd all
+zip-more R (a ∷ rest) [] x y all r = absurd all
+zip-more R (a ∷ rest) (b ∷ bs) x y all r = (all.0, zip-more R rest bs x y all.1 r)
+
+pub tells-both : (one other both : Files → Type 0) → ((all : Files) → one all → other all → both all) → (files : Option Files) → Tells one files → Tells other files → Tells both files
+tells-both one other both makes None a b = tt
+tells-both one other both makes (Some all) a b = makes all a b
+
+-- what is told of the files as they are holds of them as they were, where they are the same
+pub tells-back : (was is : Files → Type 0) → ((old new : Files) → SameFiles old new → is new → was old) → (old new : Option Files) → StepsBy SameFiles old new → Tells is new → Tells was old
+tells-back was is back None None same told = tt
+tells-back was is back None (Some new) same told = absurd same
+tells-back was is back (Some old) None same told = absurd same
+tells-back was is back (Some old) (Some new) same told = back old new same told
+
+-- ---- the line of a key
+
+pub lt_less : (o : Ordering) → is_lt o ≡ true → o ≡ Less
+lt_less Less is = refl
+lt_less Equal is = absurd (cc)
+lt_less Greater is = absurd (cc)
+
+by_rising : (lines : List NodeLine) → IsRising key_before (keys_of lines) → DoAscend lines
+by_rising [] up = tt
+by_rising (l ∷ ls) up = (λ m is. lt_less (key_cmp l.key m.key) (up.0 m.key (IsMember-map (λ (x : NodeLine). x.key) m ls is)), by_rising ls up.1)
+
+pub do-ascend : (lines : List NodeLine) → AllPairs (λ a b. key_cmp a b ≡ Less) (keys_of lines) → DoAscend lines
+do-ascend lines all = by_rising lines (IsRising-AllPairs (keys_of lines) all)
+
+differ : (a b : VoxelKey) → key_cmp a b ≡ Less → same_key a b ≡ false
+differ a b less =
+    elim (either (same_key a b)) [
+      | inl same ↦
+          let equal : key_cmp a b ≡ Equal = ap (λ (k : VoxelKey). key_cmp k b) (same_key-true a b same) ∙ key-self b in
+          absurd (two_ways (key_cmp a b) less equal)
+      | inr other ↦ other
+    ]
+  where
+    two_ways : (o : Ordering) → o ≡ Less → o ≡ Equal → ⊥
+    two_ways o less equal = absurd (cc)
+
+pub line-here : (lines : List NodeLine) (line : NodeLine) → DoAscend lines → IsMember line lines → line_of_key lines line.key ≡ Some line
+line-here [] line up m = absurd m
+line-here (l ∷ ls) line up (inl is) =
+    ap (λ (b : Bool). cond b (Some l) (line_of_key ls line.key)) (same_key-same l.key line.key (ap (λ (x : NodeLine). x.key) is)) ∙ ap (λ (x : NodeLine). Some x) is
+line-here (l ∷ ls) line up (inr m) =
+    ap (λ (b : Bool). cond b (Some l) (line_of_key ls line.key)) (differ l.key line.key (up.0 line m)) ∙ line-here ls line up.1 m
+
+pub member-at : (lines : List NodeLine) (i : ℕ) (line : NodeLine) → i < length lines → get_or lines i line ≡ line → IsMember line lines
+member-at [] i line inside is = absurd (omega (arith, inside))
+member-at (l ∷ ls) zero line inside is = inl is
+member-at (l ∷ ls) (suc i) line inside is = inr (member-at ls i line (omega (arith, inside)) is)
+
+-- those in front of a line stand before it
+pub before-next : (lines : List NodeLine) (i : ℕ) (line l : NodeLine) → DoAscend lines → i < length lines → get_or lines i line ≡ line → IsMember l (take i lines) → key_cmp l.key line.key ≡ Less
+before-next [] i line l up inside is m = absurd (omega (arith, inside))
+before-next (x ∷ xs) zero line l up inside is m = absurd m
+before-next (x ∷ xs) (suc i) line l up inside is (inl at) = ap (λ (w : NodeLine). key_cmp w.key line.key) (sym at) ∙ up.0 line (member-at xs i line (omega (arith, inside)) is)
+before-next (x ∷ xs) (suc i) line l up inside is (inr m) = before-next xs i line l up.1 (omega (arith, inside)) is m
+
+-- ---- an entry behind all others
+
+turned : (a b : VoxelKey) → key_cmp a b ≡ Less → key_cmp b a ≡ Greater
+turned a b is = key_cmp_total.antisymm b a ∙ ap ordering_reverse is
+
+pub insert-last : {X : Type 0} (entries : List (VoxelKey × X)) (key : VoxelKey) (x : X) → ((e : VoxelKey × X) → IsMember e entries → key_cmp e.0 key ≡ Less) → insert_entry key_cmp entries key x ≡ entries ++ (key, x) ∷ []
+insert-last [] key x low = refl
+insert-last {X} (e ∷ es) key x low =
+    ap (λ (o : Ordering). match_ordering o ((key, x) ∷ e ∷ es) ((e.0, x) ∷ es) (e ∷ insert_entry key_cmp es key x)) (turned e.0 key (low e (inl refl)))
+    ∙ ap (λ (w : List (VoxelKey × X)). e ∷ w) (insert-last es key x (λ d m. low d (inr m)))
+
+-- ---- the next node
+
+abbrev value_or : {X : Type 0} → X → Option X → X
+value_or x None = x
+value_or x (Some y) = y
+
+pub some-same : {X : Type 0} (a b : X) → Some a ≡ Some b → a ≡ b
+some-same a b is = ap (value_or a) is
+
+pub at-current : (current : Current) (c : Checkpoint) → option_map (λ (at : Letter × Checkpoint). at.1) current ≡ Some c → (at : Letter × Checkpoint) × (current ≡ Some at) × (at.1 ≡ c)
+at-current None c is = absurd (cc)
+at-current (Some at) c is = (at, refl, some-same at.1 c is)
+
+module _ (current : Current) (c : Checkpoint) (is_current : option_map (λ (at : Letter × Checkpoint). at.1) current ≡ Some c) where
+  abbrev lines : List NodeLine
+  lines = c.nodes
+
+  up : DoAscend lines
+  up = do-ascend lines c.is_checkpoint.nodes_are.octree.ascend
+
+  found : (line : NodeLine) → IsMember line lines → line_of_key lines line.key ≡ Some line
+  found line m = line-here lines line up m
+
+  -- the current checkpoint has a line of the key of each of its lines
+  pub line-there : (line : NodeLine) → IsMember line lines → HasLine current line.key
+  line-there line m =
+      let at = at-current current c is_current in
+      subst (λ (w : Current). HasLine w line.key) (sym at.1)
+      (subst (λ (o : Option NodeLine). IsSome o) (sym (ap (λ (d : Checkpoint). line_of_key d.nodes line.key) at.2 ∙ found line m)) refl)
+
+  module _ (line : NodeLine) (m : IsMember line lines) (node : Node) where
+    abbrev at : (at : Letter × Checkpoint) × (current ≡ Some at) × (at.1 ≡ c)
+    at = at-current current c is_current
+
+    found_at : line_of_key at.0.1.nodes line.key ≡ Some line
+    found_at = ap (λ (d : Checkpoint). line_of_key d.nodes line.key) at.2 ∙ found line m
+
+    node_of : IsNodeFound current line.key node → IsNodeOf line.key (rules_of c.kept) line.mask node.points node
+    node_of is = subst (λ (d : Checkpoint). IsNodeOf line.key (rules_of d.kept) line.mask node.points node) at.2 (at-line current line.key at.0 line (λ kept l. IsNodeOf line.key (rules_of kept) l.mask node.points node) at.1 found_at is)
+
+    counted : AreFound current line.key node.points → length node.points ≡ line.count
+    counted are = (at-line current line.key at.0 line (λ kept l. AreOfLine (rules_of kept) l node.points) at.1 found_at are).counted
+
+    pub next-told : IsNodeFound current line.key node → AreFound current line.key node.points → TellsNode (line.key, node) line
+    next-told is are = record { key = refl; mask = sym (node_of is).mask; count = sym (counted are) }
+
+    pub next-own : IsNodeFound current line.key node → (node.key ≡ line.key) × (node.rules ≡ rules_of c.kept)
+    next-own is = let n = node_of is in (n.key, n.rules)
+
+    pub next-named : (files : Files) → HasTile current line.key node.points files → NamesTile files (line.key, node) line
+    next-named files has = at-line current line.key at.0 line (λ kept l. files (tile_of_line l) ≡ Some (tile node.points)) at.1 found_at has
+
+-- the entries before are those of lines in front, so the next one comes behind them
+pub entries-low : (entries : List Branch) (lines : List NodeLine) (i : ℕ) (line : NodeLine) → DoAscend lines → i < length lines → get_or lines i line ≡ line → TellNodes entries (take i lines) → (e : Branch) → IsMember e entries → key_cmp e.0 line.key ≡ Less
+entries-low entries lines i line up inside is told e m =
+    let l = node-line entries (take i lines) e told m in
+    ap (λ (k : VoxelKey). key_cmp k line.key) (sym l.2.key) ∙ before-next lines i line l.0 up inside is l.1
+
+-- each of the nodes has its key and the rules, also with one more
+pub own-more : (rules : _) (entries : List Branch) (b : Branch) → AreNodes rules entries → (b.1.key ≡ b.0) × (b.1.rules ≡ rules) → AreNodes rules (entries ++ b ∷ [])
+own-more rules [] b own is d (inl at) = subst (λ (w : Branch). (w.1.key ≡ w.0) × (w.1.rules ≡ rules)) at is
+own-more rules [] b own is d (inr m) = absurd m
+own-more rules (e ∷ es) b own is d (inl at) = own d (inl at)
+own-more rules (e ∷ es) b own is d (inr m) = own-more rules es b (λ w i. own w (inr i)) is d m
+
+module _ (rules : Rules) (entries more : List Branch) (items : List NodeLine) (i : ℕ) (line : NodeLine) (node : Node) (inserted : more ≡ insert_entry key_cmp entries line.key node) (up : DoAscend items) (inside : i < length items) (is : get_or items i line ≡ line) (told : TellNodes entries (take i items)) where
+  abbrev next : Branch
+  next = (line.key, node)
+
+  last : more ≡ entries ++ next ∷ []
+  last = inserted ∙ insert-last entries line.key node (entries-low entries items i line up inside is told)
+
+  taken : take i items ++ line ∷ [] ≡ take (i + 1) items
+  taken = ap (λ (l : NodeLine). take i items ++ l ∷ []) (sym is) ∙ (sym (take-suc items i line inside) ∙ ap (λ (n : ℕ). take n items) (let after : suc i ≡ i + 1 = omega arith in after))
+
+  pub told-more : TellsNode next line → TellNodes more (take (i + 1) items)
+  told-more tells =
+      subst (λ (w : List Branch). TellNodes w (take (i + 1) items)) (sym last)
+      (subst (λ (ls : List NodeLine). TellNodes (entries ++ next ∷ []) ls) taken (zip-more TellsNode entries (take i items) next line told tells))
+
+  named_more : (files : Files) → NameTiles files entries (take i items) → NamesTile files next line → NameTiles files more (take (i + 1) items)
+  named_more files names name =
+      subst (λ (w : List Branch). NameTiles files w (take (i + 1) items)) (sym last)
+      (subst (λ (ls : List NodeLine). NameTiles files (entries ++ next ∷ []) ls) taken (zip-more (NamesTile files) entries (take i items) next line names name))
+
+  pub tiles-more : (old mid : Option Files) → StepsBy SameFiles old mid → Tells (λ all. NameTiles all entries (take i items)) old → Tells (λ all. NamesTile all next line) mid → Tells (λ all. NameTiles all more (take (i + 1) items)) old
+  tiles-more old mid same names name =
+      tells-both (λ all. NameTiles all entries (take i items)) (λ all. NamesTile all next line) (λ all. NameTiles all more (take (i + 1) items)) named_more old names
+      (tells-back (λ all. NamesTile all next line) (λ all. NamesTile all next line) (λ a b step here. sym (step (tile_of_line line)) ∙ here) old mid same name)
+
+  pub own-next : AreNodes rules entries → (node.key ≡ line.key) × (node.rules ≡ rules) → AreNodes rules more
+  own-next own has = subst (AreNodes rules) (sym last) (own-more rules entries next own has)
+
+  pub one-more : length more ≡ length entries + 1
+  one-more = ap length last ∙ length-append entries (next ∷ [])
+
+-- where it is told of files, so is what follows
+pub tells-more : (one other : Files → Type 0) → ((all : Files) → one all → other all) → (files : Option Files) → Tells one files → Tells other files
+tells-more one other makes None a = tt
+tells-more one other makes (Some all) a = makes all a
+
+-- the keys of a checkpoint's lines are keys
+pub have-keys : (c : Checkpoint) → HaveKeys c.nodes
+have-keys c = λ k line inside. (c.is_checkpoint.lines k line inside).is_key
+
+-- nodes of which some first lines tell are fewer than all lines
+pub told-few : (nodes : List Branch) (lines : List NodeLine) (i : ℕ) → i < length lines → TellNodes nodes (take i lines) → length nodes < length lines
+told-few [] (l ∷ ls) zero inside told = omega arith
+told-few (b ∷ bs) (l ∷ ls) zero inside told = absurd told
+told-few [] (l ∷ ls) (suc i) inside told = omega arith
+told-few (b ∷ bs) (l ∷ ls) (suc i) inside told = let fewer = told-few bs ls i (omega (arith, inside)) told.1 in omega (arith, fewer)
+told-few nodes [] i inside told = absurd (omega (arith, inside))

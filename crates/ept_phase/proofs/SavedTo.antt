@@ -1,0 +1,285 @@
+-- How far the saving of an octree's nodes has come.
+use Rattle.std.proofs.Common.{◌≡◌, ◌∙◌, ◌⊎◌, inl, inr, ℕ, ◌≤◌, true, List, [], ◌∷◌, ◌++◌, append_assoc, length, refl, sym, ap, subst, Option, Some, None}
+use Rattle.std.specs.Prelude.{AllPairs, IsSomeAnd, Result, Ok, Err, OnOk}
+use Rattle.std.proofs.lemmas.List.{map-append}
+use Rattle.std.specs.List.{cons_option}
+use Rattle.std.specs.List.Sorted.{IsStrictlySortedBy}
+use Rattle.std.specs.declared.cmp.Ordering.TheVariants.{Less}
+use Rattle.ept_base.specs.Files.{Files, SameFiles, SameBut, Puts, StepsBy, Tells}
+use Rattle.ept_base.proofs.Changing.{changed_same}
+use Rattle.ept_point.specs.declared.point.Point.{Point}
+use Rattle.ept_point.specs.Packed.{tile}
+use Rattle.ept_space.specs.VoxelKey.{VoxelKey, IsKey, key_cmp}
+use Rattle.ept_core.proofs.Lookups.{sorted-rising}
+use Rattle.ept_config.specs.declared.kept.Kept.{Kept}
+use Rattle.ept_sample.specs.Members.{IsMember}
+use Rattle.ept_sample.proofs.Ascending.{IsRising}
+use Rattle.ept_sample.proofs.Members.{IsMember-filter, all-member}
+use Rattle.ept_sample.proofs.KeyOrder.{key_before, key-self, IsRising-AllPairs}
+use Rattle.ept_ckpt.specs.declared.letter.Letter.{Letter}
+use Rattle.ept_ckpt.specs.declared.node_line.NodeLine.{NodeLine}
+use Rattle.ept_ckpt.specs.Octree.{is_among}
+use Rattle.ept_ckpt.specs.Lookup.{line_of_key}
+use Rattle.ept_save.specs.Names.{work_tile_name}
+use Rattle.ept_save.specs.Current.{Current, tile_of_line}
+use Rattle.ept_save.specs.Lines.{with_line}
+use Rattle.ept_save.specs.Loading.{current_line, OfLine, HasTile}
+use Rattle.ept_save.specs.Opening.{lines_of}
+use Rattle.ept_save.specs.View.{View}
+use Rattle.ept_save.proofs.NamesDiffer.{tile-key}
+use Rattle.ept_save.proofs.LoadedLines.{line-key}
+use Rattle.ept_tree.specs.Tree.{Branch}
+use Rattle.ept_phase.specs.Lines.{TellsNode, TellNodes, NamesTile, NameTiles}
+use Rattle.ept_phase.specs.Saving.{IsTold, HasNode, StaysLine, ComesLine, SavesNode, keys_in, AreKnown, HasEachNodeOf}
+use Rattle.ept_phase.proofs.Telling.{among-member}
+use Rattle.ept_phase.proofs.Merging.{lines_among, AreBehind, AreBefore, DoAscend, next-lines, all-lines, line-between}
+use Rattle.ept_phase.proofs.Lining.{zip-more, do-ascend, lt_less, some-same}
+
+-- ---- keys that rise
+
+abbrev pub Rise : List VoxelKey → Type 0
+Rise [] = Unit {0}
+Rise (k ∷ ks) = ((m : VoxelKey) → IsMember m ks → key_cmp k m ≡ Less) × Rise ks
+
+rise : (keys : List VoxelKey) → IsRising key_before keys → Rise keys
+rise [] up = tt
+rise (k ∷ ks) up = (λ m is. lt_less (key_cmp k m) (up.0 m is), rise ks up.1)
+
+pub keys-rise : (keys : List VoxelKey) → AllPairs (λ a b. key_cmp a b ≡ Less) keys → Rise keys
+keys-rise keys all = rise keys (IsRising-AllPairs keys all)
+
+pub sorted-rise : (keys : List VoxelKey) → IsStrictlySortedBy key_cmp keys → Rise keys
+sorted-rise keys sorted = rise keys (sorted-rising keys sorted)
+
+member_last : (key : VoxelKey) (front back : List VoxelKey) → IsMember key (front ++ key ∷ back)
+member_last key [] back = inl refl
+member_last key (k ∷ front) back = inr (member_last key front back)
+
+pub rise-around : (front : List VoxelKey) (key : VoxelKey) (back : List VoxelKey) → Rise (front ++ key ∷ back) → ((k : VoxelKey) → IsMember k front → key_cmp k key ≡ Less) × ((k : VoxelKey) → IsMember k back → key_cmp key k ≡ Less)
+rise-around [] key back up = (λ k m. absurd m, up.0)
+rise-around (f ∷ front) key back up =
+    let more = rise-around front key back up.1 in
+    (λ k m. by_member k m more.0, more.1)
+  where
+    by_member : (k : VoxelKey) → IsMember k (f ∷ front) → ((j : VoxelKey) → IsMember j front → key_cmp j key ≡ Less) → key_cmp k key ≡ Less
+    by_member k (inl is) low = ap (λ (w : VoxelKey). key_cmp w key) (sym is) ∙ up.0 key (member_last key front back)
+    by_member k (inr m) low = low k m
+
+-- ---- the current checkpoint's line of a key
+
+pub line-of-current : (current : Current) (key : VoxelKey) → current_line current key ≡ line_of_key (lines_of current) key
+line-of-current None key = refl
+line-of-current (Some (letter, c)) key = refl
+
+pub lines-ascend : (current : Current) → DoAscend (lines_of current)
+lines-ascend None = tt
+lines-ascend (Some (letter, c)) = do-ascend c.nodes c.is_checkpoint.nodes_are.octree.ascend
+
+-- of the line of which a fact is told, it is so
+some_line : (kept : Kept) (found : Option NodeLine) (fact : Kept → NodeLine → Type 0) → IsSomeAnd found (fact kept) → (line : NodeLine) × (found ≡ Some line) × fact kept line
+some_line kept None fact is = absurd is
+some_line kept (Some line) fact is = (line, refl, is)
+
+pub found-line : (current : Current) (key : VoxelKey) (fact : Kept → NodeLine → Type 0) → OfLine current key fact → (kept : Kept) × (line : NodeLine) × (current_line current key ≡ Some line) × fact kept line
+found-line None key fact is = absurd is
+found-line (Some (letter, c)) key fact is =
+    let at = some_line c.kept (line_of_key c.nodes key) fact is in
+    (c.kept, at.0, at.1, at.2)
+
+pub one_line : (found : Option NodeLine) (a b : NodeLine) → found ≡ Some a → found ≡ Some b → a ≡ b
+one_line found a b is also = some-same a b (sym is ∙ also)
+
+-- the tile of the line that was found
+pub line-tile : (current : Current) (key : VoxelKey) (line : NodeLine) (points : List Point) (files : Files) → current_line current key ≡ Some line → HasTile current key points files → files (tile_of_line line) ≡ Some (tile points)
+line-tile current key line points files is has =
+    let at = found-line current key (λ kept l. files (tile_of_line l) ≡ Some (tile points)) has in
+    subst (λ (l : NodeLine). files (tile_of_line l) ≡ Some (tile points)) (one_line (current_line current key) at.1 line at.2 is) at.3
+
+pub line-is : (current : Current) (key : VoxelKey) (line : NodeLine) → current_line current key ≡ Some line → line.key ≡ key
+line-is None key line is = absurd (cc)
+line-is (Some (letter, c)) key line is = line-key c.nodes key line is
+
+-- ---- a node is saved
+
+told_on : (old new : Option Files) (was is : Files → Type 0) → ((a b : Files) → SameFiles a b → was a → is b) → StepsBy SameFiles old new → Tells was old → Tells is new
+told_on None None was is on same told = tt
+told_on None (Some new) was is on same told = absurd same
+told_on (Some old) None was is on same told = absurd same
+told_on (Some old) (Some new) was is on same told = on old new same told
+
+-- where the current checkpoint has the node, its line stays
+pub stays : (view : View) (key : VoxelKey) (mask : ℕ) (points : List Point) (old new : Option Files) → IsTold view.current key mask points → Tells (HasNode view.current key mask points) old → StepsBy SameFiles old new → SavesNode view view key mask points new
+stays view key mask points old new told has same =
+    let at = found-line view.current key (λ kept line. (line.mask ≡ mask) × (line.count ≡ length points)) told in
+    let line : NodeLine = at.1 in
+    let is_key : line.key ≡ key = line-is view.current key line at.2 in
+    record {
+      line = line;
+      is_key = is_key;
+      is_mask = at.3.0;
+      is_count = at.3.1;
+      comes = inl (refl, ap (current_line view.current) is_key ∙ at.2);
+      has_tile = told_on old new (HasNode view.current key mask points) (λ (all : Files). all (tile_of_line line) ≡ Some (tile points)) (λ a b is node. is (tile_of_line line) ∙ line-tile view.current key line points a at.2 node.1) same has;
+    }
+
+put_told : (old new : Option Files) (name bytes : List ℕ) → StepsBy (Puts name bytes) old new → Tells (λ (all : Files). all name ≡ Some bytes) new
+put_told None None name bytes puts = tt
+put_told None (Some new) name bytes puts = absurd puts
+put_told (Some old) None name bytes puts = absurd puts
+put_told (Some old) (Some new) name bytes puts = puts name ∙ changed_same old name (Some bytes)
+
+-- where its tile is put, a new line comes
+pub comes : (old new : View) (key : VoxelKey) (mask : ℕ) (points : List Point) (letter : Letter) (before after : Option Files) → new ≡ record old { lines = with_line (record { key = key; count = length points; mask = mask; letter = letter }) old.lines }
+    → StepsBy (Puts (work_tile_name letter key) (tile points)) before after → SavesNode old new key mask points after
+comes old new key mask points letter before after view puts = record {
+  line = record { key = key; count = length points; mask = mask; letter = letter };
+  is_key = refl;
+  is_mask = refl;
+  is_count = refl;
+  comes = inr view;
+  has_tile = put_told before after (work_tile_name letter key) (tile points) puts;
+}
+
+pub saved-tile : {T E : Type 0} (result : Result T E) (old new : View) (key : VoxelKey) (mask : ℕ) (points : List Point) (letter : Letter) (before after : Option Files) → OnOk result (new ≡ record old { lines = with_line (record { key = key; count = length points; mask = mask; letter = letter }) old.lines })
+    → OnOk result (StepsBy (Puts (work_tile_name letter key) (tile points)) before after) → OnOk result (SavesNode old new key mask points after)
+saved-tile (Ok t) old new key mask points letter before after line puts = comes old new key mask points letter before after line puts
+saved-tile (Err e) old new key mask points letter before after line puts = tt
+
+-- ---- the nodes, one after another
+
+-- of the nodes that are done the lines are there, with their tiles; of the rest the current checkpoint's lines stand
+pub record IsSavedTo (start now : View) (done rest : List Branch) (files : Option Files) : Type 0 where
+  pub lines : List NodeLine
+  pub view_is : now ≡ record start { lines = lines ++ lines_among (keys_in rest) (lines_of start.current) }
+  pub told : TellNodes done lines
+  pub tiles : Tells (λ all. NameTiles all done lines) files
+  pub known : AreKnown done
+
+tells_nothing : (files : Option Files) → Tells (λ all. NameTiles all [] []) files
+tells_nothing None = tt
+tells_nothing (Some all) = tt
+
+pub saved-none : (start : View) (nodes : List Branch) (files : Option Files) → start.lines ≡ lines_of start.current → HasEachNodeOf start.current nodes → IsSavedTo start start [] nodes files
+saved-none start nodes files fresh each = record {
+  lines = [];
+  view_is = view;
+  told = tt;
+  tiles = tells_nothing files;
+  known = λ b m. absurd m;
+}
+  where
+    among : lines_among (keys_in nodes) (lines_of start.current) ≡ lines_of start.current
+    among = all-lines (keys_in nodes) (lines_of start.current) (λ l m. all-member (λ (line : NodeLine). is_among (keys_in nodes) line.key ≡ true) l (lines_of start.current) each m)
+
+    view : start ≡ record start { lines = lines_among (keys_in nodes) (lines_of start.current) }
+    view = let same : start.lines ≡ lines_among (keys_in nodes) (lines_of start.current) = fresh ∙ sym among in λ i. record start { lines = same i }
+
+-- nothing but the lines changed
+pub lines-only : (start now : View) (lines : List NodeLine) → now ≡ record start { lines = lines } → now ≡ record start { lines = now.lines }
+lines-only start now lines is = is ∙ ap (λ (w : List NodeLine). record start { lines = w }) (sym (ap (λ (v : View). v.lines) is))
+
+-- in the end all lines are those of the nodes
+pub saved-all : (start now : View) (nodes : List Branch) (files : Option Files) → IsSavedTo start now nodes [] files → TellNodes nodes now.lines × Tells (λ all. NameTiles all nodes now.lines) files
+saved-all start now nodes files at = (subst (TellNodes nodes) lines at.told, subst (λ (w : List NodeLine). Tells (λ all. NameTiles all nodes w) files) lines at.tiles)
+  where
+    none : (ls : List NodeLine) → lines_among [] ls ≡ []
+    none [] = refl
+    none (l ∷ ls) = none ls
+
+    nothing : (ls : List NodeLine) → ls ++ [] ≡ ls
+    nothing [] = refl
+    nothing (l ∷ ls) = ap (λ (w : List NodeLine). l ∷ w) (nothing ls)
+
+    lines : at.lines ≡ now.lines
+    lines = sym (ap (λ (v : View). v.lines) at.view_is ∙ (ap (λ (w : List NodeLine). at.lines ++ w) (none (lines_of start.current)) ∙ nothing at.lines))
+
+module _ (start now new : View) (done rest : List Branch) (b : Branch) (points : List Point) (files after : Option Files) (rises : Rise (keys_in (done ++ b ∷ rest))) (is_key : IsKey b.0) (shallow : b.1.key.depth ≤ b.1.rules.cube.depth) (at : IsSavedTo start now done (b ∷ rest) files) (saves : SavesNode now new b.0 b.1.mask points after) (points_are : points ≡ b.1.points) (letter : Letter) (one : StepsBy (SameBut (work_tile_name letter b.0)) files after) where
+  abbrev key : VoxelKey
+  key = b.0
+
+  abbrev lines : List NodeLine
+  lines = at.lines
+
+  abbrev current : Current
+  current = start.current
+
+  abbrev behind : List NodeLine
+  behind = lines_among (keys_in rest) (lines_of current)
+
+  around : ((k : VoxelKey) → IsMember k (keys_in done) → key_cmp k key ≡ Less) × ((k : VoxelKey) → IsMember k (keys_in rest) → key_cmp key k ≡ Less)
+  around = rise-around (keys_in done) key (keys_in rest) (subst Rise (map-append (λ (c : Branch). c.0) done (b ∷ rest)) rises)
+
+  -- the lines of the rest, this one's first
+  front : lines_among (keys_in (b ∷ rest)) (lines_of current) ≡ cons_option (line_of_key (lines_of current) key) behind
+  front = next-lines key (keys_in rest) (lines_of current) (lines-ascend current) around.1
+
+  same_current : now.current ≡ current
+  same_current = ap (λ (v : View). v.current) at.view_is
+
+  now_lines : now.lines ≡ lines ++ cons_option (line_of_key (lines_of current) key) behind
+  now_lines = ap (λ (v : View). v.lines) at.view_is ∙ ap (λ (w : List NodeLine). lines ++ w) front
+
+  low : AreBefore key lines
+  low l m = in_order done lines at.told around.0 l m
+    where
+      in_order : (nodes : List Branch) (ls : List NodeLine) → TellNodes nodes ls → ((k : VoxelKey) → IsMember k (keys_in nodes) → key_cmp k key ≡ Less) → (x : NodeLine) → IsMember x ls → key_cmp x.key key ≡ Less
+      in_order [] [] told less x m = absurd m
+      in_order [] (y ∷ ys) told less x m = absurd told
+      in_order (n ∷ ns) [] told less x m = absurd m
+      in_order (n ∷ ns) (y ∷ ys) told less x (inl is) = ap (λ (w : NodeLine). key_cmp w.key key) (sym is) ∙ (ap (λ (k : VoxelKey). key_cmp k key) told.0.key ∙ less n.0 (inl refl))
+      in_order (n ∷ ns) (y ∷ ys) told less x (inr m) = in_order ns ys told.1 (λ k i. less k (inr i)) x m
+
+  high : AreBehind key behind
+  high l m = around.1 l.key (among-member (keys_in rest) l.key (IsMember-filter (λ (x : NodeLine). is_among (keys_in rest) x.key) l (lines_of current) m).1)
+
+  new_lines : StaysLine now new saves.line ⊎ ComesLine now new saves.line → new ≡ record start { lines = lines ++ saves.line ∷ behind }
+  new_lines (inl stay) =
+      let found : line_of_key (lines_of current) key ≡ Some saves.line =
+      sym (line-of-current current key) ∙ (ap (λ (c : Current). current_line c key) (sym same_current) ∙ (ap (current_line now.current) (sym saves.is_key) ∙ stay.1)) in
+      stay.0 ∙ (at.view_is ∙ ap (λ (w : List NodeLine). record start { lines = lines ++ w }) (front ∙ ap (λ (o : Option NodeLine). cons_option o behind) found))
+  new_lines (inr come) =
+      let at_key : (l : NodeLine) → line_of_key (lines_of current) key ≡ Some l → l.key ≡ saves.line.key =
+      λ l is. line-is current key l (line-of-current current key ∙ is) ∙ sym saves.is_key in
+      let between : with_line saves.line now.lines ≡ lines ++ saves.line ∷ behind =
+      ap (with_line saves.line) now_lines
+      ∙ line-between saves.line lines (line_of_key (lines_of current) key) behind (subst (λ (k : VoxelKey). AreBefore k lines) (sym saves.is_key) low) at_key (subst (λ (k : VoxelKey). AreBehind k behind) (sym saves.is_key) high) in
+      come ∙ (ap (λ (v : View). record v { lines = with_line saves.line now.lines }) at.view_is ∙ ap (λ (w : List NodeLine). record start { lines = w }) between)
+
+  -- what was put is no tile of those before
+  others : (all then : Files) → SameBut (work_tile_name letter key) all then → (nodes : List Branch) (ls : List NodeLine) → TellNodes nodes ls → AreKnown nodes → AreBefore key ls → NameTiles all nodes ls → NameTiles then nodes ls
+  others all then same [] [] told are less names = tt
+  others all then same [] (y ∷ ys) told are less names = absurd told
+  others all then same (n ∷ ns) [] told are less names = absurd told
+  others all then same (n ∷ ns) (y ∷ ys) told are less names = (
+    same (tile_of_line y) (λ is. apart (tile-key y.letter letter y.key key (subst IsKey (sym told.0.key) (are n (inl refl)).0) is_key is)) ∙ names.0,
+    others all then same ns ys told.1 (λ c m. are c (inr m)) (λ l m. less l (inr m)) names.1,
+  )
+    where
+      apart : y.key ≡ key → ⊥
+      apart is =
+          let less_here : key_cmp y.key key ≡ Less = less y (inl refl) in
+          let equal = ap (λ (k : VoxelKey). key_cmp k key) is ∙ key-self key in
+          absurd (cc)
+
+  tell_tiles : (old new : Option Files) → StepsBy (SameBut (work_tile_name letter key)) old new → Tells (λ all. NameTiles all done lines) old → Tells (λ (all : Files). all (tile_of_line saves.line) ≡ Some (tile points)) new → Tells (λ all. NameTiles all (done ++ b ∷ []) (lines ++ saves.line ∷ [])) new
+  tell_tiles None None step names has = tt
+  tell_tiles None (Some then) step names has = absurd step
+  tell_tiles (Some all) None step names has = absurd step
+  tell_tiles (Some all) (Some then) step names has =
+      zip-more (NamesTile then) done lines b saves.line (others all then step done lines at.told at.known low names)
+      (has ∙ ap (λ (w : List Point). Some (tile w)) points_are)
+
+  known_more : (nodes : List Branch) → AreKnown nodes → AreKnown (nodes ++ b ∷ [])
+  known_more [] are c (inl is) = subst (λ (w : Branch). IsKey w.0 × (w.1.key.depth ≤ w.1.rules.cube.depth)) is (is_key, shallow)
+  known_more [] are c (inr m) = absurd m
+  known_more (n ∷ ns) are c (inl is) = are c (inl is)
+  known_more (n ∷ ns) are c (inr m) = known_more ns (λ d i. are d (inr i)) c m
+
+  pub saved-more : IsSavedTo start new (done ++ b ∷ []) rest after
+  saved-more = record {
+    lines = lines ++ saves.line ∷ [];
+    view_is = new_lines saves.comes ∙ ap (λ (w : List NodeLine). record start { lines = w }) (sym (append_assoc lines (saves.line ∷ []) behind));
+    told = zip-more TellsNode done lines b saves.line at.told (record { key = saves.is_key; mask = saves.is_mask; count = saves.is_count ∙ ap length points_are });
+    tiles = tell_tiles files after one at.tiles saves.has_tile;
+    known = known_more done at.known;
+  }

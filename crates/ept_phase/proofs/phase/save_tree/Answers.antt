@@ -1,0 +1,98 @@
+use Rattle.std.proofs.Common.{◌≡◌, ◌∙◌, List, length, sym, ap, subst, rules}
+use Rattle.std.specs.Prelude.{Err}
+use Rattle.ept_base.specs.Files.{Tells}
+use Rattle.ept_base.specs.Moves.{Moves}
+use Rattle.ept_ckpt.specs.Valid.{IsCheckpoint}
+use Rattle.ept_save.specs.Current.{Current, HasCurrent, Keeps}
+use Rattle.ept_save.specs.Opening.{lines_of}
+use Rattle.ept_save.specs.View.{View, StandsFor, next_generation}
+use Rattle.ept_save.proofs.LoadedLines.{handed-on}
+use Rattle.ept_tree.specs.Grown.{nodes_of, rules_of}
+use Rattle.ept_tree.specs.Tree.{Branch}
+use Rattle.ept_phase.specs.Lines.{TellNodes, NameTiles}
+use Rattle.ept_phase.specs.Phase.{GoesFurther, IsSaved}
+use Rattle.ept_phase.specs.Saving.{AreKnown, HasEachNodeOf}
+use Rattle.ept_phase.proofs.Phasing.{tree-valid, is-saved, goes-all, keeps-goes, on-ok, stands-current}
+use Rattle.ept_phase.proofs.Compared.{keeps-then}
+use Rattle.ept_phase.proofs.Refusing.{keeps-sound}
+use Rattle.ept_phase.proofs.phase.save_tree.Goals as goal
+
+pub save_nodes-requires : goal.save_nodes-requires
+save_nodes-requires g c =
+    let begun = c.in_ok-begin.ensures.begun in
+    record {
+      fresh = ap (λ (v : View). v.lines) begun ∙ (c.requires.fresh ∙ sym (ap (λ (v : View). lines_of v.current) begun));
+      each = subst (λ (w : Current). HasEachNodeOf w c.nodes.result.now.entries) (sym (ap (λ (v : View). v.current) begun))
+          (subst (λ (w : List Branch). HasEachNodeOf c.args.saved.now.current w) (sym c.nodes.ensures.nodes) c.requires.each);
+    }
+
+pub commit-requires : goal.commit-requires
+commit-requires g c =
+    let start : View = c.args.saved.now in
+    let now : View = c.save_nodes.new.saved in
+    let same : now.current ≡ start.current = ap (λ (v : View). v.current) c.save_nodes.ensures.lines ∙ ap (λ (v : View). v.current) c.in_ok-begin.ensures.begun in
+    let nodes : List Branch = nodes_of c.args.grown.now in
+    let told : TellNodes nodes now.lines = subst (λ (w : List Branch). TellNodes w now.lines) c.nodes.ensures.nodes c.in_ok-save_nodes.ensures.told in
+    let known : AreKnown nodes = subst AreKnown c.nodes.ensures.nodes c.in_ok-save_nodes.ensures.known in
+    let further : GoesFurther now.current c.args.inserted (length c.args.kept.now.inputs) = subst (λ (w : Current). GoesFurther w c.args.inserted (length c.args.kept.now.inputs)) (sym same) c.requires.further in
+    let valid : IsCheckpoint (next_generation now.current) c.args.kept.now c.args.counts.now c.args.inserted now.lines =
+    tree-valid c.lines_law.ensures.told now (rules_of c.args.grown.now) c.args.kept.now c.args.counts.now c.args.inserted nodes c.requires.given further c.requires.few told known c.requires.rest.own c.requires.rules c.requires.whole c.requires.holds in
+    record {
+      begun = ap (λ (v : View). v.begun) c.save_nodes.ensures.lines ∙ ap (λ (v : View). v.begun) c.in_ok-begin.ensures.begun;
+      valid = valid;
+    }
+
+pub returns-in_err-begin-clause-goes_on : goal.returns-in_err-begin-clause-goes_on
+returns-in_err-begin-clause-goes_on g c = λ stands.
+    keeps-goes g.T.Store.files g.T.Store.may_leave g.T.Store.moment g.T.Store.image_since c.args.saved.now c.args.kept.now c.args.counts.now c.args.inserted (nodes_of c.args.grown.now) c.args.store.now c.begin.new.store (c.begin.ensures.keeps stands)
+
+pub returns-in_err-save_nodes-clause-goes_on : goal.returns-in_err-save_nodes-clause-goes_on
+returns-in_err-save_nodes-clause-goes_on g c = λ stands.
+    let start : View = c.args.saved.now in
+    let keeps = keeps-then g.T.Store.files g.T.Store.may_leave g.T.Store.moment g.T.Store.image_since start.current c.args.store.now c.begin.new.store c.save_nodes.new.store (c.begin.ensures.keeps stands)
+    (subst (λ (w : Current). Moves g.T.Store.files g.T.Store.may_leave g.T.Store.moment g.T.Store.image_since (Keeps w) c.begin.new.store c.save_nodes.new.store) (ap (λ (v : View). v.current) c.in_ok-begin.ensures.begun) c.save_nodes.ensures.keeps) in
+    keeps-goes g.T.Store.files g.T.Store.may_leave g.T.Store.moment g.T.Store.image_since start c.args.kept.now c.args.counts.now c.args.inserted (nodes_of c.args.grown.now) c.args.store.now c.save_nodes.new.store keeps
+
+pub returns-in_err-save_nodes-clause-sound : goal.returns-in_err-save_nodes-clause-sound
+returns-in_err-save_nodes-clause-sound g c = λ shelf all told sound stands.
+    let start : View = c.args.saved.now in
+    let has : HasCurrent start.current all = stands-current start (g.T.Store.files c.args.store.now) (g.T.Store.may_leave c.args.store.now) all stands told in
+    let at = keeps-sound c.sound_steps_law.ensures.keeping shelf all start.current (g.T.Store.files c.args.store.now) (g.T.Store.files c.begin.new.store) (c.begin.ensures.keeps stands).reads told sound has in
+    let stores = c.save_nodes.ensures.sound shelf at.0 at.1 at.2 (subst (λ (w : Current). HasCurrent w at.0) (sym (ap (λ (v : View). v.current) c.in_ok-begin.ensures.begun)) at.3) in
+    let is : c.from_residual-in_err-save_nodes.result ≡ Err c.in_err-save_nodes.field-0.0 = search rules in
+    handed-on c.save_nodes.result c.from_residual-in_err-save_nodes.result c.in_err-save_nodes.field-0.0 c.in_err-save_nodes.was is stores
+
+pub returns-clause-goes_on : goal.returns-clause-goes_on
+returns-clause-goes_on g c = λ stands.
+    let start : View = c.args.saved.now in
+    let now : View = c.save_nodes.new.saved in
+    let same : now.current ≡ start.current = ap (λ (v : View). v.current) c.save_nodes.ensures.lines ∙ ap (λ (v : View). v.current) c.in_ok-begin.ensures.begun in
+    let nodes : List Branch = nodes_of c.args.grown.now in
+    let told : TellNodes nodes now.lines = subst (λ (w : List Branch). TellNodes w now.lines) c.nodes.ensures.nodes c.in_ok-save_nodes.ensures.told in
+    let known : AreKnown nodes = subst AreKnown c.nodes.ensures.nodes c.in_ok-save_nodes.ensures.known in
+    let further : GoesFurther now.current c.args.inserted (length c.args.kept.now.inputs) = subst (λ (w : Current). GoesFurther w c.args.inserted (length c.args.kept.now.inputs)) (sym same) c.requires.further in
+    let valid : IsCheckpoint (next_generation now.current) c.args.kept.now c.args.counts.now c.args.inserted now.lines =
+    tree-valid c.lines_law.ensures.told now (rules_of c.args.grown.now) c.args.kept.now c.args.counts.now c.args.inserted nodes c.requires.given further c.requires.few told known c.requires.rest.own c.requires.rules c.requires.whole c.requires.holds in
+    let keeps = keeps-then g.T.Store.files g.T.Store.may_leave g.T.Store.moment g.T.Store.image_since start.current c.args.store.now c.begin.new.store c.save_nodes.new.store (c.begin.ensures.keeps stands)
+    (subst (λ (w : Current). Moves g.T.Store.files g.T.Store.may_leave g.T.Store.moment g.T.Store.image_since (Keeps w) c.begin.new.store c.save_nodes.new.store) (ap (λ (v : View). v.current) c.in_ok-begin.ensures.begun) c.save_nodes.ensures.keeps) in
+    let tiles : Tells (λ all. NameTiles all nodes now.lines) (g.T.Store.files c.save_nodes.new.store) =
+    subst (λ (w : List Branch). Tells (λ all. NameTiles all w now.lines) (g.T.Store.files c.save_nodes.new.store)) c.nodes.ensures.nodes c.in_ok-save_nodes.ensures.tiles in
+    goes-all c.body_once_law.ensures.facts start now same c.args.kept.now c.args.counts.now c.args.inserted nodes valid told g.T.Store.files g.T.Store.may_leave g.T.Store.moment g.T.Store.image_since c.args.store.now c.save_nodes.new.store c.commit.new.store keeps (c.save_nodes.ensures.stands (c.in_ok-begin.ensures.stands stands)) tiles c.commit.ensures.commits
+
+pub returns-clause-saved : goal.returns-clause-saved
+returns-clause-saved g c =
+    let start : View = c.args.saved.now in
+    let now : View = c.save_nodes.new.saved in
+    let same : now.current ≡ start.current = ap (λ (v : View). v.current) c.save_nodes.ensures.lines ∙ ap (λ (v : View). v.current) c.in_ok-begin.ensures.begun in
+    let nodes : List Branch = nodes_of c.args.grown.now in
+    let told : TellNodes nodes now.lines = subst (λ (w : List Branch). TellNodes w now.lines) c.nodes.ensures.nodes c.in_ok-save_nodes.ensures.told in
+    let known : AreKnown nodes = subst AreKnown c.nodes.ensures.nodes c.in_ok-save_nodes.ensures.known in
+    let further : GoesFurther now.current c.args.inserted (length c.args.kept.now.inputs) = subst (λ (w : Current). GoesFurther w c.args.inserted (length c.args.kept.now.inputs)) (sym same) c.requires.further in
+    let valid : IsCheckpoint (next_generation now.current) c.args.kept.now c.args.counts.now c.args.inserted now.lines =
+    tree-valid c.lines_law.ensures.told now (rules_of c.args.grown.now) c.args.kept.now c.args.counts.now c.args.inserted nodes c.requires.given further c.requires.few told known c.requires.rest.own c.requires.rules c.requires.whole c.requires.holds in
+    on-ok _ (IsSaved start c.commit.new.saved c.args.kept.now c.args.counts.now c.args.inserted nodes) (is-saved c.body_once_law.ensures.facts start now same c.args.kept.now c.args.counts.now c.args.inserted nodes valid told c.commit.new.saved) c.commit.result c.commit.ensures.current
+
+pub returns-clause-stands : goal.returns-clause-stands
+returns-clause-stands g c =
+    on-ok _ (StandsFor c.args.saved.now (g.T.Store.files c.args.store.now) (g.T.Store.may_leave c.args.store.now) → StandsFor c.commit.new.saved (g.T.Store.files c.commit.new.store) (g.T.Store.may_leave c.commit.new.store))
+    (λ further stands. further (c.save_nodes.ensures.stands (c.in_ok-begin.ensures.stands stands))) c.commit.result c.commit.ensures.stands

@@ -1,0 +1,17 @@
+-- The octree of a checkpoint, as it is loaded.
+use Rattle.std.specs.Prelude.{◌≡◌, ◌⊎◌, Some, None, ⊤}
+use Rattle.ept_space.specs.VoxelKey.{VoxelKey}
+use Rattle.ept_ckpt.specs.declared.checkpoint.Checkpoint.{Checkpoint}
+use Rattle.ept_save.specs.declared.error.SaveError.TheVariants.{StoreFault, TileDamaged, Memory}
+use Rattle.ept_save.specs.Current.{Current}
+use Rattle.ept_phase.specs.declared.error.LoadError.{LoadError}
+use Rattle.ept_phase.specs.declared.error.LoadError.TheVariants.{Save, TooManyNodes}
+
+-- of the current checkpoint, where there is one, this holds
+abbrev pub OfCurrent : Current → (Checkpoint → Type 0) → Type 0
+OfCurrent None fact = ⊤
+OfCurrent (Some (letter, c)) fact = fact c
+
+-- why an octree may not be loaded
+abbrev pub IsLoadFault : LoadError → Type 0
+IsLoadFault e = (e ≡ TooManyNodes) ⊎ (e ≡ Save StoreFault) ⊎ (e ≡ Save Memory) ⊎ ((key : VoxelKey) × (e ≡ Save (TileDamaged key)))

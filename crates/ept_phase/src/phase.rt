@@ -1,0 +1,76 @@
+//! The end of a phase.
+
+ghost use Rattle.std.specs.Prelude.{◌≡◌, ◌<◌, ◌^◌, Some, length, IfErr, OnOk, OnErr};
+ghost use Rattle.ept_base.specs.Causes.{HasCauseOf};
+ghost use Rattle.ept_base.specs.Files.{Files};
+ghost use Rattle.ept_base.specs.Moves.{IsSettled, Moves};
+ghost use Rattle.ept_meta.specs.Output.{rules_of};
+ghost use Rattle.ept_save.specs.Errors.{IsStores};
+ghost use Rattle.ept_save.specs.Opening.{lines_of};
+ghost use Rattle.ept_save.specs.Sound as sound;
+ghost use Rattle.ept_save.specs.View.{StandsFor};
+ghost use Rattle.ept_tree.specs.Grown as tree;
+ghost use Rattle.ept_phase.specs.Phase.{AreGiven, GoesFurther, GoesOn, IsSaved};
+ghost use Rattle.ept_phase.specs.Saving.{HasEachNodeOf, IsSaveFault};
+
+use crate::laws::lines_law;
+use crate::saving::save_nodes;
+use ept_base::Store;
+use ept_ckpt::body_once_law;
+use ept_config::{Kept, SourceCount};
+use ept_save::{SaveError, Saved, begin, commit, sound_steps_law};
+use ept_tree::Tree;
+use std::alloc::Global;
+
+/// Makes an octree the next checkpoint: begins it, saves the nodes that are not as the current checkpoint has
+/// them, and commits. The octree holds as many points as are `inserted`, and no node of the current checkpoint
+/// is gone.
+///
+/// # Errors
+///
+/// Those of [`save_node`](crate::save_node) and of [`commit`]. What is known of the checkpoints is then of no use:
+/// the store is to be opened anew.
+pub fn save_tree<T: Store>(
+    alloc: Global,
+    store: &mut T,
+    saved: &mut Saved,
+    grown: &Tree,
+    kept: &Kept,
+    counts: &[SourceCount],
+    inserted: u64,
+) -> Result<(), SaveError>
+    requires fresh { saved.old.lines ≡ lines_of saved.old.current }
+    requires each { HasEachNodeOf saved.old.current (tree.nodes_of grown.now) }
+    requires rest { tree.IsAtRest grown.now }
+    requires whole { tree.IsWhole grown.now }
+    requires rules { tree.rules_of grown.now ≡ rules_of kept.now }
+    requires holds { length (tree.points_of grown.now) ≡ inserted }
+    requires few { length (tree.nodes_of grown.now) < 2 ^ 32 }
+    requires given { AreGiven kept.now counts.now inserted }
+    requires further { GoesFurther saved.old.current inserted (length kept.now.inputs) }
+    ensures saved { OnOk result
+        (IsSaved saved.old saved.new kept.now counts.now inserted (tree.nodes_of grown.now)) }
+    ensures refused { OnErr result (saved.new.current ≡ saved.old.current) }
+
+    // Whatever the moment, the current checkpoint is kept with its tiles, or the next one is the current one and
+    // names the tiles of the octree's nodes.
+    ensures goes_on { StandsFor saved.old (T.files store.old) (T.may_leave store.old)
+        → Moves T.files T.may_leave T.moment T.image_since
+        (GoesOn saved.old kept.now counts.now inserted (tree.nodes_of grown.now)) store.old store.new }
+    ensures stands { OnOk result (StandsFor saved.old (T.files store.old) (T.may_leave store.old)
+        → StandsFor saved.new (T.files store.new) (T.may_leave store.new)) }
+    ensures settled { OnOk result (IsSettled (T.files store.new) (T.may_leave store.new)) }
+
+    // No tile of sound files is damaged.
+    ensures only { IfErr result IsSaveFault }
+    ensures sound { (shelf all : Files) → T.files store.old ≡ Some all → sound.IsSound shelf all
+        → StandsFor saved.old (T.files store.old) (T.may_leave store.old) → IfErr result IsStores }
+    ensures cause { HasCauseOf SaveError.StoreFault (T.faults store.old) (T.faults store.new) result }
+{
+    sound_steps_law();
+    begin(alloc, store, saved)?;
+    save_nodes(alloc, store, saved, grown.nodes())?;
+    lines_law();
+    body_once_law();
+    commit(alloc, store, saved, kept, counts, inserted)
+}

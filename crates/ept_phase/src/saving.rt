@@ -1,0 +1,157 @@
+//! An octree as the next checkpoint.
+
+ghost use Rattle.std.specs.Prelude.{◌≡◌, ◌⊎◌, true, false, Some, Err, Ok, IfOk, IfErr, OnOk, OnErr, length};
+ghost use Rattle.ept_base.specs.Causes.{HasCauseOf};
+ghost use Rattle.ept_base.specs.Files.{Files, SameFiles, SameBut, Tells};
+ghost use Rattle.ept_base.specs.Moves.{Moves, SameImages};
+ghost use Rattle.ept_save.specs.Names.{work_tile_name};
+ghost use Rattle.ept_save.specs.Current.{HasCurrent, Keeps};
+ghost use Rattle.ept_save.specs.Errors.{IsStores};
+ghost use Rattle.ept_save.specs.Lines.{free_letter};
+ghost use Rattle.ept_save.specs.Loading.{HasLine, HasTile};
+ghost use Rattle.ept_save.specs.Opening.{lines_of};
+ghost use Rattle.ept_save.specs.Sound.{IsSound};
+ghost use Rattle.ept_save.specs.View as view;
+ghost use Rattle.ept_save.specs.View.{StandsFor};
+ghost use Rattle.ept_phase.specs.Lines.{TellNodes, NameTiles};
+ghost use Rattle.ept_phase.specs.Saving.{HasNode, IsTold, SavesNode, AreKnown, HasEachNodeOf, IsSaveFault};
+
+use ept_base::Store;
+use ept_grid::Grid;
+use ept_point::Point;
+use ept_save::{SaveError, Saved, load_tile, save_tile, sound_steps_law};
+use ept_space::Key;
+use std::alloc::Global;
+use std::collections::BTreeMap;
+
+/// Saves a node for the next checkpoint: notes its line and puts its tile, unless the current checkpoint has the
+/// node as it is. Whether it has is found by the number of points and the open octants and, where these are
+/// equal, by the tile.
+///
+/// # Errors
+///
+/// Those of [`load_tile`] and of [`save_tile`].
+pub fn save_node<T: Store>(
+    alloc: Global,
+    store: &mut T,
+    saved: &mut Saved,
+    key: Key,
+    mask: u8,
+    points: &[Point],
+) -> Result<(), SaveError>
+    ensures node { OnOk result (SavesNode saved.old saved.new key mask points.now (T.files store.new)) }
+    ensures unchanged { OnErr result (saved.new ≡ saved.old) }
+
+    // Nothing is put where the current checkpoint has the node as it is. Whatever the moment, no name but a version
+    // of the tile changes, and the current checkpoint stays.
+    ensures no_put { (all : Files) → T.files store.old ≡ Some all → HasNode saved.old.current key mask points.now all
+        → Moves T.files T.may_leave T.moment T.image_since SameFiles store.old store.new }
+    ensures one_tile { Moves T.files T.may_leave T.moment T.image_since
+        (SameBut (work_tile_name (free_letter saved.old.current key) key)) store.old store.new }
+    ensures keeps { Moves T.files T.may_leave T.moment T.image_since
+        (Keeps saved.old.current) store.old store.new }
+    ensures stands { StandsFor saved.old (T.files store.old) (T.may_leave store.old)
+        → StandsFor saved.new (T.files store.new) (T.may_leave store.new) }
+
+    // No tile of sound files is damaged.
+    ensures only { IfErr result (λ e. (e ≡ SaveError.TileDamaged key) ⊎ IsStores e) }
+    ensures sound { (shelf all : Files) → T.files store.old ≡ Some all → IsSound shelf all
+        → HasCurrent saved.old.current all → IfErr result IsStores }
+    ensures cause { HasCauseOf SaveError.StoreFault (T.faults store.old) (T.faults store.new) result }
+{
+    if has_node(alloc, store, saved, key, mask, points)? {
+        return Ok(());
+    }
+    save_tile(alloc, store, saved, key, mask, points)
+}
+
+// Whether the current checkpoint has the node as it is.
+fn has_node<T: Store>(
+    alloc: Global,
+    store: &mut T,
+    saved: &Saved,
+    key: Key,
+    mask: u8,
+    points: &[Point],
+) -> Result<bool, SaveError>
+    ensures told { result ≡ Ok true → IsTold saved.now.current key mask points.now }
+    ensures has { result ≡ Ok true → Tells (HasNode saved.now.current key mask points.now) (T.files store.old) }
+    ensures has_not { result ≡ Ok false → (all : Files) → T.files store.old ≡ Some all
+        → ¬ HasNode saved.now.current key mask points.now all }
+    ensures images { SameImages (T.may_leave store.old) (T.may_leave store.new) }
+    ensures any_moment { Moves T.files T.may_leave T.moment T.image_since SameFiles store.old store.new }
+    ensures stands { (v : view.View) → StandsFor v (T.files store.old) (T.may_leave store.old)
+        → StandsFor v (T.files store.new) (T.may_leave store.new) }
+    ensures only { IfErr result (λ e. (e ≡ SaveError.TileDamaged key) ⊎ IsStores e) }
+    ensures sound { (shelf all : Files) → T.files store.old ≡ Some all → IsSound shelf all
+        → HasCurrent saved.now.current all → IfErr result IsStores }
+    ensures cause { HasCauseOf SaveError.StoreFault (T.faults store.old) (T.faults store.new) result }
+{
+    let Some(line) = saved.line(&key) else {
+        return Ok(false);
+    };
+    if line.mask != mask || line.count != points.len() as u64 {
+        return Ok(false);
+    }
+    has_points(alloc, store, saved, key, points)
+}
+
+// Whether the tile that the current checkpoint names for the key has these points.
+fn has_points<T: Store>(
+    alloc: Global,
+    store: &mut T,
+    saved: &Saved,
+    key: Key,
+    points: &[Point],
+) -> Result<bool, SaveError>
+    requires line { HasLine saved.now.current key }
+    ensures has { result ≡ Ok true → Tells (HasTile saved.now.current key points.now) (T.files store.old) }
+    ensures has_not { result ≡ Ok false → (all : Files) → T.files store.old ≡ Some all
+        → ¬ HasTile saved.now.current key points.now all }
+    ensures images { SameImages (T.may_leave store.old) (T.may_leave store.new) }
+    ensures any_moment { Moves T.files T.may_leave T.moment T.image_since SameFiles store.old store.new }
+    ensures stands { (v : view.View) → StandsFor v (T.files store.old) (T.may_leave store.old)
+        → StandsFor v (T.files store.new) (T.may_leave store.new) }
+    ensures only { IfErr result (λ e. (e ≡ SaveError.TileDamaged key) ⊎ IsStores e) }
+    ensures sound { (shelf all : Files) → T.files store.old ≡ Some all → IsSound shelf all
+        → HasCurrent saved.now.current all → IfErr result IsStores }
+    ensures cause { HasCauseOf SaveError.StoreFault (T.faults store.old) (T.faults store.new) result }
+{
+    let mut found = Vec::new(alloc);
+    load_tile(alloc, store, saved, key, &mut found)?;
+    Ok(found.as_slice() == points)
+}
+
+// Saves the nodes of an octree, among which is each that the current checkpoint has.
+pub(crate) fn save_nodes<T: Store>(
+    alloc: Global,
+    store: &mut T,
+    saved: &mut Saved,
+    nodes: &BTreeMap<Key, Grid>,
+) -> Result<(), SaveError>
+    requires fresh { saved.old.lines ≡ lines_of saved.old.current }
+    requires each { HasEachNodeOf saved.old.current nodes.now.entries }
+    ensures told { OnOk result (TellNodes nodes.now.entries saved.new.lines) }
+    ensures tiles { OnOk result (Tells (λ all. NameTiles all nodes.now.entries saved.new.lines) (T.files store.new)) }
+    ensures known { OnOk result (AreKnown nodes.now.entries) }
+    ensures lines { saved.new ≡ record saved.old { lines = saved.new.lines } }
+    ensures keeps { Moves T.files T.may_leave T.moment T.image_since
+        (Keeps saved.old.current) store.old store.new }
+    ensures stands { StandsFor saved.old (T.files store.old) (T.may_leave store.old)
+        → StandsFor saved.new (T.files store.new) (T.may_leave store.new) }
+    ensures only { IfErr result IsSaveFault }
+    ensures sound { (shelf all : Files) → T.files store.old ≡ Some all → IsSound shelf all
+        → HasCurrent saved.old.current all → IfErr result IsStores }
+    ensures cause { HasCauseOf SaveError.StoreFault (T.faults store.old) (T.faults store.new) result }
+{
+    sound_steps_law();
+    let mut points = Vec::new(alloc);
+    for (key, node) in nodes.iter() {
+        key.known();
+        node.known();
+        points.clear();
+        node.points_into(&mut points)?;
+        save_node(alloc, store, saved, *key, node.open_mask(), &points)?;
+    }
+    Ok(())
+}

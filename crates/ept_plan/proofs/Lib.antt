@@ -1,0 +1,6 @@
+mod Told
+mod Fields
+mod Currents
+mod Scanned
+mod Judged
+mod Steps

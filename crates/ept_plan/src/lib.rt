@@ -1,0 +1,14 @@
+//! What a build is to do: whether its configuration goes on from the current checkpoint, and what the inputs are
+//! that this does not have.
+#![tactic(auto)]
+
+mod error;
+mod extents;
+mod given;
+mod new_inputs;
+mod plan;
+#[cfg(test)]
+mod tests;
+
+pub use error::PlanError;
+pub use plan::{Plan, make_plan};

@@ -1,0 +1,96 @@
+-- Only names of these files change, at every moment.
+use Rattle.std.proofs.Common.{◌≡◌, ◌∙◌, inl, ℕ, ◌<◌, List, length, get_or, [], ◌∷◌, ◌++◌, map, refl, sym, subst, Option}
+use Rattle.std.specs.Prelude.{Contains}
+use Rattle.std.proofs.lemmas.List.{map-append}
+use Rattle.std.proofs.lemmas.List.Elements.{Contains-append_left, Contains-append_right}
+use Rattle.ept_base.specs.Files.{Files, SameFiles, SameBut, StepsBy}
+use Rattle.ept_base.specs.Moves.{Follows, NoMore, Elapses, Moves}
+use Rattle.ept_base.proofs.Moving.{moves_once, moves_weaker, moves_both}
+use Rattle.ept_sample.specs.Members.{IsMember}
+use Rattle.ept_sample.proofs.Members.{IsMember-right, IsMember-map, IsMember-contains, contains-IsMember}
+use Rattle.ept_space.specs.declared.bounds.Bounds.{Bounds}
+use Rattle.ept_sample.specs.declared.tiles.Tile.{Tile}
+use Rattle.ept_config.specs.declared.kept.Kept.{Kept}
+use Rattle.ept_config.specs.declared.source_count.SourceCount.{SourceCount}
+use Rattle.ept_hier.specs.declared.file.HierFile.{HierFile}
+use Rattle.ept_hier.specs.Hierarchy.{hierarchy}
+use Rattle.ept_tree.specs.Tree.{Branch, tile_of}
+use Rattle.ept_meta.specs.EptText.{ept_text}
+use Rattle.ept_meta.specs.ManifestText.{manifest_text}
+use Rattle.ept_meta.specs.BuildText.{build_text}
+use Rattle.ept_meta.specs.Output.{File, tile_name, metadata_name, manifest_name, build_file_name, tile_file, hierarchy_file, counted, files_of, names_of}
+use Rattle.ept_publish.specs.Publishing.{SameButThese}
+
+-- ---- names of files
+
+-- the name of one of the files
+pub has-name : (f : File) (files : List File) → IsMember f files → Contains (names_of files) f.0
+has-name f files m = contains-IsMember f.0 (names_of files) (IsMember-map (λ (g : File). g.0) f files m)
+
+pub names-left : (xs ys : List File) (name : List ℕ) → Contains (names_of xs) name → Contains (names_of (xs ++ ys)) name
+names-left xs ys name has =
+    subst (λ (w : List (List ℕ)). Contains w name) (sym (map-append (λ (f : File). f.0) xs ys)) (Contains-append_left (names_of xs) (names_of ys) name has)
+
+pub names-right : (xs ys : List File) (name : List ℕ) → Contains (names_of ys) name → Contains (names_of (xs ++ ys)) name
+names-right xs ys name has =
+    subst (λ (w : List (List ℕ)). Contains w name) (sym (map-append (λ (f : File). f.0) xs ys)) (Contains-append_right (names_of xs) (names_of ys) name has)
+
+-- an entry after others has its tile among the files
+pub tile-named : (all before after : List Branch) (b : Branch) → all ≡ before ++ b ∷ after → Contains (names_of (map tile_file (map tile_of all))) (tile_name b.0)
+tile-named all before after b is =
+    let m : IsMember b all = subst (λ (w : List Branch). IsMember b w) (sym is) (IsMember-right b before (b ∷ after) (inl refl)) in
+    has-name (tile_file (tile_of b)) (map tile_file (map tile_of all)) (IsMember-map tile_file (tile_of b) (map tile_of all) (IsMember-map tile_of b all m))
+
+-- an item of a list has its file among the files
+pub file-named : {X : Type 0} (f : X → File) (xs : List X) (i : ℕ) (x : X) → i < length xs → x ≡ get_or xs i x → Contains (names_of (map f xs)) (f x).0
+file-named f xs i x low is = has-name (f x) (map f xs) (IsMember-map f x xs (IsMember-contains x xs (i, low, sym is)))
+
+-- ---- the files of the output are in three parts
+
+module _ (kept : Kept) (counts : List SourceCount) (extent : Option Bounds) (n : ℕ) (tiles : List Tile) where
+  abbrev its_hierarchy : List File
+  its_hierarchy = map hierarchy_file (hierarchy kept.step (map counted tiles))
+
+  abbrev its_texts : List File
+  its_texts = (metadata_name, ept_text kept extent n) ∷ (manifest_name, manifest_text kept counts) ∷ (build_file_name, build_text kept) ∷ []
+
+  pub of-tiles : (name : List ℕ) → Contains (names_of (map tile_file tiles)) name → Contains (names_of (files_of kept counts extent n tiles)) name
+  of-tiles name has =
+      names-left (map tile_file tiles ++ its_hierarchy) its_texts name (names-left (map tile_file tiles) its_hierarchy name has)
+
+  pub of-hierarchy : (all : List HierFile) → all ≡ hierarchy kept.step (map counted tiles) → (name : List ℕ) → Contains (names_of (map hierarchy_file all)) name → Contains (names_of (files_of kept counts extent n tiles)) name
+  of-hierarchy all is name has =
+      names-left (map tile_file tiles ++ its_hierarchy) its_texts name (names-right (map tile_file tiles) its_hierarchy name (subst (λ (w : List HierFile). Contains (names_of (map hierarchy_file w)) name) is has))
+
+  pub of-texts : (name : List ℕ) → Contains (metadata_name ∷ manifest_name ∷ build_file_name ∷ []) name → Contains (names_of (files_of kept counts extent n tiles)) name
+  of-texts name has = names-right (map tile_file tiles ++ its_hierarchy) its_texts name has
+
+-- ---- moves
+
+put_widens : (name : List ℕ) (names : List (List ℕ)) → Contains names name → (old new : Files) → SameBut name old new → SameButThese names old new
+put_widens name names has old new same other none =
+    same other (λ here. none (subst (λ (n : List ℕ). Contains names n) (sym here) has))
+
+module _ {D : Type 0} (files : D → Option Files) (may_leave : D → Files → Type 0) (moment : D → ℕ) (image_since : D → ℕ → Files → Type 0) where
+  -- a put
+  pub put-once : (name : List ℕ) (old new : D) → StepsBy (SameBut name) (files old) (files new) → Follows (SameBut name) (may_leave old) (may_leave new) → Elapses (moment old) (moment new) (image_since old) (image_since new) (may_leave new) → Moves files may_leave moment image_since (SameBut name) old new
+  put-once name = moves_once files may_leave moment image_since (SameBut name)
+
+  -- of a name among these
+  pub put-these : (name : List ℕ) (names : List (List ℕ)) → Contains names name → (old new : D) → Moves files may_leave moment image_since (SameBut name) old new → Moves files may_leave moment image_since (SameButThese names) old new
+  put-these name names has = moves_weaker files may_leave moment image_since (SameBut name) (SameButThese names) (put_widens name names has)
+
+  module _ (names : List (List ℕ)) where
+    -- one move, then another
+    pub these-both : (old mid new : D) → Moves files may_leave moment image_since (SameButThese names) old mid → Moves files may_leave moment image_since (SameButThese names) mid new → Moves files may_leave moment image_since (SameButThese names) old new
+    these-both =
+        moves_both files may_leave moment image_since (SameButThese names) (SameButThese names) (SameButThese names) (λ a b c one two name none. two name none ∙ one name none) (λ a b one. one)
+
+    -- names that are among more names
+    pub these-wider : (more : List (List ℕ)) → ((name : List ℕ) → Contains names name → Contains more name) → (old new : D) → Moves files may_leave moment image_since (SameButThese names) old new → Moves files may_leave moment image_since (SameButThese more) old new
+    these-wider more among = moves_weaker files may_leave moment image_since (SameButThese names) (SameButThese more) (λ a b same name none. same name (λ has. none (among name has)))
+
+    -- a sync changes nothing
+    pub sync-these : (old new : D) → StepsBy SameFiles (files old) (files new) → NoMore (may_leave old) (may_leave new) → Elapses (moment old) (moment new) (image_since old) (image_since new) (may_leave new) → Moves files may_leave moment image_since (SameButThese names) old new
+    sync-these old new reads images time =
+        moves_weaker files may_leave moment image_since SameFiles (SameButThese names) (λ a b same name none. same name) old new (moves_once files may_leave moment image_since SameFiles old new reads (λ image is. (image, images image is, λ name. refl)) time)

@@ -1,0 +1,14 @@
+//! The files of the output, put into a store: the tile of each node, the hierarchy, the metadata, the manifest
+//! and the build file.
+#![tactic(auto)]
+
+mod hierarchy;
+mod laws;
+mod publishing;
+#[cfg(test)]
+mod tests;
+mod texts;
+mod tiles;
+
+pub use laws::published_law;
+pub use publishing::publish;
