@@ -161,7 +161,9 @@ fn a_long_head_is_refused_and_a_cut_one_has_no_answer(rt: HostRuntime) -> Result
     let alloc = rt.alloc();
     let head = long_head(alloc, 8193)?;
     assert!(rt; is_closed_with(alloc, &head, TOO_LONG)?);
-    assert!(rt; is_closed_with(alloc, &head[..8191], b"")?);
+    let mut cut = long_head(alloc, 8193)?;
+    cut.truncate(8191);
+    assert!(rt; is_closed_with(alloc, &cut, b"")?);
     assert!(rt; is_closed_with(alloc, b"GET /ept.json HTTP/1.1\r\nHost: a\r\n", b"")?);
     Ok(())
 }
