@@ -10,6 +10,7 @@ use Rattle.ept_base.specs.Links.{Wire, Reads, FailsToRead, Writes}
 use Rattle.ept_base.specs.Moves.{Moves}
 use Rattle.ept_base.proofs.Moving.{moves_both}
 use Rattle.ept_conn.specs.declared.hand.Hand.{Hand}
+use Rattle.ept_query.specs.declared.query_error.QueryFile.{QueryFile}
 use Rattle.ept_conn.specs.declared.hand.Hand.TheVariants.{Empty}
 use Rattle.ept_conn.specs.declared.end.Fault.{Fault}
 use Rattle.ept_conn.specs.declared.end.Fault.TheVariants as fault
@@ -18,6 +19,7 @@ use Rattle.ept_conn.specs.declared.end.Want.TheVariants as want
 use Rattle.ept_conn.specs.Answers.{Served, AreAnswers}
 use Rattle.ept_conn.specs.Served.{IsServed}
 use Rattle.ept_conn.specs.State.{State, started, wants, want_of, feeds}
+use Rattle.ept_conn.specs.Works.{HasPlanOf, IsDamagedIn, IsDamaged}
 use Rattle.ept_conn.specs.SessionCalls.{HasWorked}
 use Rattle.ept_conn.specs.Serving.{IsAnsweredAt, Passes, IsServedOver}
 use Rattle.ept_conn.specs.Conversation.{Converses, HasFailed, HasCauseFor, rank}
@@ -341,3 +343,53 @@ tells-of {X} P o x is told = subst (λ (p : Option X). Tells P p) is told
 pub written-rank : (old new : State) (before now : ℕ) → want_of old ≡ want.Write → (new ≡ record old { out = [] }) ⊎ (HasFailed old new × Rose before now) → rank new < rank old
 written-rank old new before now write (inl is) = written-falls old new write is
 written-rank old new before now write (inr failed) = failed-falls old new (inr write) failed.0
+
+-- ---- damage
+
+pub hand-plan : (files : Files) (old new : Hand) → (new ≡ old) ⊎ (new ≡ Empty) → HasPlanOf files old → HasPlanOf files new
+hand-plan files old new (inl is) has = subst (HasPlanOf files) (sym is) has
+hand-plan files old new (inr is) has = subst (HasPlanOf files) (sym is) tt
+
+pub read-undamaged : (old new : State) (piece : List ℕ) (found : QueryFile) → want_of old ≡ want.Read → (new ≡ feeds old piece) ⊎ (new ≡ record old { fault = Some fault.Memory }) → ¬ (new.fault ≡ Some (fault.Damaged found))
+read-undamaged old new [] found read (inl is) damaged =
+    let going = (read-parts old read).0.going in
+    let same : new.fault ≡ old.fault = ap (λ (s : State). s.fault) is in
+    absurd cc
+read-undamaged old new (b ∷ piece) found read (inl is) damaged =
+    let going = (read-parts old read).0.going in
+    let same : new.fault ≡ old.fault = ap (λ (s : State). s.fault) is in
+    absurd cc
+read-undamaged old new piece found read (inr is) damaged =
+    let same : new.fault ≡ Some fault.Memory = ap (λ (s : State). s.fault) is in
+    absurd cc
+
+pub read-hand : (old new : State) (piece : List ℕ) → (new ≡ feeds old piece) ⊎ (new ≡ record old { fault = Some fault.Memory }) → (new.hand ≡ old.hand) ⊎ (new.hand ≡ Empty)
+read-hand old new [] (inl is) = inl (ap (λ (s : State). s.hand) is)
+read-hand old new (b ∷ piece) (inl is) = inl (ap (λ (s : State). s.hand) is)
+read-hand old new piece (inr is) = inl (ap (λ (s : State). s.hand) is)
+
+pub written-hand : (old new : State) (before now : ℕ) → (new ≡ record old { out = [] }) ⊎ (HasFailed old new × Rose before now) → (new.hand ≡ old.hand) ⊎ (new.hand ≡ Empty)
+written-hand old new before now (inl is) = inl (ap (λ (s : State). s.hand) is)
+written-hand old new before now (inr failed) = inr (ap (λ (s : State). s.hand) failed.0)
+
+pub written-undamaged : (old new : State) (before now : ℕ) (found : QueryFile) → (new ≡ record old { out = [] }) ⊎ (HasFailed old new × Rose before now) → new.fault ≡ Some (fault.Damaged found) → old.fault ≡ Some (fault.Damaged found)
+written-undamaged old new before now found (inl is) damaged = sym (ap (λ (s : State). s.fault) is) ∙ damaged
+written-undamaged old new before now found (inr failed) damaged =
+    let same : new.fault ≡ Some fault.Link = ap (λ (s : State). s.fault) failed.0 in
+    absurd cc
+
+-- what is damaged now was damaged at first
+pub damaged-since : (hand : Hand) (found : QueryFile) (first now : Option Files) → StepsBy SameFiles first now → ((files : Files) → first ≡ Some files → HasPlanOf files hand) → Tells (IsDamagedIn hand found) now → Tells (IsDamaged found) first
+damaged-since hand found None now step has damaged = tt
+damaged-since hand found (Some files) now step has damaged =
+    let told = same-files (Some files) now files refl step in
+    record { hand = hand; planned = has files refl; damaged = tells-of (IsDamagedIn hand found) now files told damaged }
+
+pub damaged-on : (old : State) (found : QueryFile) (first now : Option Files) → StepsBy SameFiles first now → ((files : Files) → first ≡ Some files → HasPlanOf files old.hand) → (old.fault ≡ Some (fault.Damaged found) → Tells (IsDamaged found) first) → (old.fault ≡ Some (fault.Damaged found)) ⊎ Tells (IsDamagedIn old.hand found) now → Tells (IsDamaged found) first
+damaged-on old found first now step has was (inl fixed) = was fixed
+damaged-on old found first now step has was (inr damaged) = damaged-since old.hand found first now step has damaged
+
+pub fresh-undamaged : (state : State) (found : QueryFile) (files : Option Files) → state ≡ started → state.fault ≡ Some (fault.Damaged found) → Tells (IsDamaged found) files
+fresh-undamaged state found files is fixed =
+    let none : state.fault ≡ None = ap (λ (s : State). s.fault) is in
+    absurd cc

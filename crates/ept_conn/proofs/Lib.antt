@@ -7,3 +7,5 @@ pub mod Ending
 pub mod Histories
 pub mod Falling
 pub mod Conversing
+pub mod Unanswered
+pub mod Undamaged

@@ -1,5 +1,5 @@
 -- A folder has one plan of a query, and one part of a tile.
-use Rattle.std.proofs.Common.{◌≡◌, ◌∙◌, ◌<◌, ◌≤◌, ◌↔◌, inl, inr, ℕ, zero, suc, List, [], ◌∷◌, length, get_or, Some, None, refl, sym, ap, arith}
+use Rattle.std.proofs.Common.{◌≡◌, ◌∙◌, ◌<◌, ◌≤◌, ◌⊎◌, ◌↔◌, inl, inr, ℕ, zero, suc, List, [], ◌∷◌, length, get_or, Some, None, refl, sym, ap, subst, arith}
 use Rattle.std.specs.Prelude.{Contains}
 use Rattle.std.proofs.lemmas.List.{get_or_default}
 use Rattle.ept_base.specs.Files.{Files}
@@ -18,7 +18,9 @@ use Rattle.ept_query.specs.Parts.{Plan, node_at, IsPartOf}
 use Rattle.ept_conn.specs.declared.turn.Turn.{Turn}
 use Rattle.ept_conn.specs.Answers.{Served}
 use Rattle.ept_conn.specs.Served.{HasPart, IsOpenTo, IsServed}
-use Rattle.ept_conn.specs.Works.{IsTurnsPlan}
+use Rattle.ept_conn.specs.declared.hand.Hand.{Hand}
+use Rattle.ept_conn.specs.declared.hand.Hand.TheVariants.{Empty, Decided, Tiles}
+use Rattle.ept_conn.specs.Works.{IsTurnsPlan, IsPlanOfTurn, HasPlanOf, HasNoTiles}
 
 -- ---- members
 
@@ -91,3 +93,14 @@ part-served files served turn plan done bytes count (inr is) planned within part
     } in
     let held = part-there files served turn plan done is within planned in
     held.packed part.points has ∙ sym part.bytes_are
+
+-- ---- the plan in hand
+
+pub no-tiles-plan : (files : Files) (hand : Hand) → HasNoTiles hand → HasPlanOf files hand
+no-tiles-plan files Empty none = tt
+no-tiles-plan files (Decided turn) none = tt
+no-tiles-plan files (Tiles turn plan done) none = absurd none
+
+pub tiles-plan : (files : Files) (turn : Turn) (plan : Plan) (done : ℕ) (hand : Hand) → (hand ≡ Empty) ⊎ (hand ≡ Tiles turn plan done) → IsPlanOfTurn files turn plan → HasPlanOf files hand
+tiles-plan files turn plan done hand (inl is) has = subst (HasPlanOf files) (sym is) tt
+tiles-plan files turn plan done hand (inr is) has = subst (HasPlanOf files) (sym is) has

@@ -1,5 +1,5 @@
 -- What a session has sent, call by call.
-use Rattle.std.proofs.Common.{◌≡◌, ◌∙◌, ◌+◌, ◌<◌, ◌≤◌, ℕ, List, [], ◌∷◌, ◌++◌, length, take, get_or, Bool, true, false, ◌||◌, if◌then◌else◌, Option, Some, None, refl, sym, ap, subst, arith, append_assoc, append-nil}
+use Rattle.std.proofs.Common.{◌≡◌, ◌∙◌, ◌+◌, ◌-◌, ◌==◌, ◌<◌, ◌≤◌, ℕ, List, [], ◌∷◌, ◌++◌, length, take, get_or, Bool, true, false, ◌||◌, if◌then◌else◌, Option, Some, None, refl, sym, ap, subst, arith, append_assoc, append-nil}
 use Rattle.std.specs.Prelude.{nat_lt}
 use Rattle.std.specs.List.{flat_map}
 use Rattle.std.proofs.lemmas.List.{take_more, take_all}
@@ -17,7 +17,8 @@ use Rattle.ept_conn.specs.declared.turn.Turn.{Turn}
 use Rattle.ept_conn.specs.declared.hand.Hand.{Hand}
 use Rattle.ept_conn.specs.declared.hand.Hand.TheVariants.{Empty, Decided, Tiles}
 use Rattle.ept_conn.specs.Held.{Held, fresh, fed}
-use Rattle.ept_conn.specs.Turns.{AreDue, IsNext}
+use Rattle.ept_conn.specs.HeadEnd.{Front, Whole, Long, Short, front}
+use Rattle.ept_conn.specs.Turns.{AreDue, IsFirst, IsNext}
 use Rattle.ept_conn.specs.Answers.{Served, chunk, chunks, last_chunk, answer_to, answer, answers, query_answer}
 use Rattle.ept_conn.specs.State.{State, IsFit, started, feeds}
 use Rattle.ept_conn.specs.Works.{IsTurnsPlan, IsPlanned, hand_to, out_to, hand_at, end_at, Begins, Gets, WorksOn, Works}
@@ -59,6 +60,24 @@ last-here (t ∷ before) behind turn last = ap (λ (b : Bool). t.last || b) (las
     or-true true = refl
     or-true false = refl
 
+-- a connection that goes on behind a turn has given fewer than 65,536
+first-room : (behind : ℕ) (bytes : List ℕ) (f : Front) (turn : Turn) → IsFirst behind bytes f turn → turn.last ≡ false → 0 < behind
+first-room behind bytes Short turn first on = absurd first
+first-room behind bytes Long turn first on =
+    let last : turn.last ≡ true = ap (λ (t : Turn). t.last) first in
+    absurd cc
+first-room behind bytes (Whole len) turn first on = some-behind behind first.closes (sym first.ends ∙ on)
+  where
+    some-behind : (n : ℕ) (closes : Bool) → closes || n == 0 ≡ false → 0 < n
+    some-behind n true is = absurd cc
+    some-behind n false is = grind (arith, is)
+
+next-room : (old new : Held) (turn : Turn) → IsNext old turn new → new.ended ≡ false → new.given < 65536
+next-room old new turn next on =
+    let some = first-room (65536 - old.given - 1) old.bytes (front old.bytes) turn next.first (sym next.ended ∙ on) in
+    let given = next.given in
+    omega (arith, some, given)
+
 -- ---- a session that goes on
 
 pub start-goes : (served : Served) → Goes served [] [] started
@@ -66,6 +85,7 @@ start-goes served = record {
   before = [];
   turns = λ more others due. due;
   over = λ ended. absurd cc;
+  room = λ going. omega arith;
   fit = tt;
   planned = tt;
   written = sym (append-nil (answers served []) ∙ answers-none served);
@@ -73,7 +93,7 @@ start-goes served = record {
 
 pub fed-goes : (served : Served) (bytes sent piece : List ℕ) (state : State) → Goes served bytes sent state → Goes served (bytes ++ piece) sent (feeds state piece)
 fed-goes served bytes sent [] state g =
-    let now : Goes served bytes sent (record state { closed = true }) = record { before = g.before; turns = g.turns; over = g.over; fit = g.fit; planned = g.planned; written = g.written } in
+    let now : Goes served bytes sent (record state { closed = true }) = record { before = g.before; turns = g.turns; over = g.over; room = g.room; fit = g.fit; planned = g.planned; written = g.written } in
     subst (λ (w : List ℕ). Goes served w sent (record state { closed = true })) (sym (append-nil bytes)) now
 fed-goes served bytes sent (b ∷ piece) state g = record {
   before = g.before;
@@ -83,6 +103,7 @@ fed-goes served bytes sent (b ∷ piece) state g = record {
       let F : List ℕ → Type 0 = λ w. AreDue (fed fresh w) (g.before ++ (turns_in state.hand ++ others)) in
       subst F (sym (append_assoc bytes (b ∷ piece) more)) (g.turns ((b ∷ piece) ++ more) others behind);
   over = g.over;
+  room = g.room;
   fit = g.fit;
   planned = g.planned;
   written = g.written;
@@ -97,6 +118,7 @@ sent-before served bytes sent old hand g out is =
 record Stands (bytes : List ℕ) (held : Held) (before : List Turn) (turn : Turn) : Type 0 where
   turns : (more : List ℕ) (others : List Turn) → AreDue (fed held more) others → AreDue (fed fresh (bytes ++ more)) (before ++ (turn ∷ others))
   over : held.ended ≡ true → has_last (before ++ turn ∷ []) ≡ true
+  room : held.ended ≡ false → held.given < 65536
 
 -- it was answered
 answered : (served : Served) (bytes sent : List ℕ) (before : List Turn) (turn : Turn) (new : State) → Stands bytes new.held before turn → new.hand ≡ Empty → sent ++ new.out ≡ answers served before ++ answer served turn → Goes served bytes sent new
@@ -108,6 +130,7 @@ answered served bytes sent before turn new stands hand written = record {
   over = λ ended.
       let H : Hand → Type 0 = λ h. has_last ((before ++ turn ∷ []) ++ turns_in h) ≡ true in
       subst H (sym hand) (ap has_last (append-nil (before ++ turn ∷ [])) ∙ stands.over ended);
+  room = stands.room;
   fit = subst IsFit (sym hand) tt;
   planned = subst (IsPlanned served) (sym hand) tt;
   written = written ∙ answers-more served before turn ∙ sym (ap (λ (h : Hand). answers served (before ++ turn ∷ []) ++ begun_of served h) hand ∙ append-nil (answers served (before ++ turn ∷ [])));
@@ -120,6 +143,7 @@ stays served bytes sent before turn new hand stands is one fit planned written =
       before = before;
       turns = λ more others due. subst (λ (ts : List Turn). AreDue (fed fresh (bytes ++ more)) (before ++ (ts ++ others))) (sym turns_now) (stands.turns more others due);
       over = λ ended. ap (λ (ts : List Turn). has_last (before ++ ts)) turns_now ∙ stands.over ended;
+      room = stands.room;
       fit = subst IsFit (sym is) fit;
       planned = subst (IsPlanned served) (sym is) planned;
       written = written ∙ sym (ap (λ (h : Hand). answers served before ++ begun_of served h) is);
@@ -132,6 +156,7 @@ decided-stands served bytes sent old new turn g empty next = record {
       let H : Hand → Type 0 = λ h. AreDue (fed fresh (bytes ++ more)) (g.before ++ (turns_in h ++ (turn ∷ others))) in
       subst H empty (g.turns more (turn ∷ others) (next-due old.held new.held turn next more others due));
   over = λ ended. last-here g.before [] turn (sym next.ended ∙ ended);
+  room = next-room old.held new.held turn next;
 }
 
 -- so does the turn in hand
@@ -141,6 +166,7 @@ hand-stands served bytes sent old new hand turn g is one same =
     let stands : Stands bytes old.held g.before turn = record {
       turns = λ more others due. subst (λ (ts : List Turn). AreDue (fed fresh (bytes ++ more)) (g.before ++ (ts ++ others))) now (g.turns more others due);
       over = λ ended. sym (ap (λ (ts : List Turn). has_last (g.before ++ ts)) now) ∙ g.over ended;
+      room = g.room;
     } in
     subst (λ (h : Held). Stands bytes h g.before turn) (sym same) stands
 
@@ -251,6 +277,7 @@ sent-goes served bytes sent first rest old new g split is =
       before = g.before;
       turns = g.turns;
       over = g.over;
+      room = g.room;
       fit = g.fit;
       planned = g.planned;
       written = append_assoc sent first rest ∙ ap (λ (w : List ℕ). sent ++ w) (sym split) ∙ g.written;

@@ -4,8 +4,6 @@ use Rattle.std.specs.Prelude.{nat_le}
 use Rattle.ept_conn.specs.declared.hand.Hand.{Hand}
 use Rattle.ept_conn.specs.declared.hand.Hand.TheVariants.{Empty, Decided, Tiles}
 use Rattle.ept_conn.specs.declared.end.Fault.{Fault}
-use Rattle.ept_conn.specs.declared.end.Fault.TheVariants as fault
-use Rattle.ept_conn.specs.declared.end.End.TheVariants as end
 use Rattle.ept_conn.specs.declared.end.Want.TheVariants as want
 use Rattle.ept_conn.specs.HeadEnd.{Front, Whole, Long, Short, front_or, front, head_end}
 use Rattle.ept_conn.specs.Held.{Held, begins, has_turn}

@@ -1,5 +1,5 @@
 -- What a session has sent of what it was fed.
-use Rattle.std.specs.Prelude.{◌≡◌, ℕ, List, [], ◌∷◌, ◌++◌, true, take, drop, Option, Some, None}
+use Rattle.std.specs.Prelude.{◌≡◌, ℕ, ◌<◌, List, [], ◌∷◌, ◌++◌, true, false, length, take, drop, Option, Some, None}
 use Rattle.ept_http.specs.declared.answer.HeadKind.TheVariants as head
 use Rattle.ept_http.specs.AnswerHead.{head_text}
 use Rattle.ept_conn.specs.declared.turn.Turn.{Turn}
@@ -37,6 +37,7 @@ pub record Goes (served : Served) (bytes sent : List ℕ) (state : State) : Type
   pub before : List Turn
   pub turns : (more : List ℕ) (others : List Turn) → AreDue (fed state.held more) others → AreDue (fed fresh (bytes ++ more)) (before ++ (turns_in state.hand ++ others))
   pub over : state.held.ended ≡ true → has_last (before ++ turns_in state.hand) ≡ true
+  pub room : state.held.ended ≡ false → state.held.given < 65536
   pub fit : IsFit state.hand
   pub planned : IsPlanned served state.hand
   pub written : sent ++ state.out ≡ answers served before ++ begun_of served state.hand
@@ -53,6 +54,16 @@ HasFor served reason bytes sent state (Some Memory) =
 
 abbrev pub Has : Served → Type 0 → List ℕ → List ℕ → State → Type 0
 Has served reason bytes sent state = HasFor served reason bytes sent state state.fault
+
+-- some turn of the bytes fed is not wholly answered: of its answer, or before it, some bytes were not sent
+pub record IsUnanswered (served : Served) (bytes sent : List ℕ) : Type 0 where
+  pub before : List Turn
+  pub turn : Turn
+  pub others : List Turn
+  pub due : AreDue (fed fresh bytes) (before ++ (turn ∷ others))
+  pub unsent : List ℕ
+  pub some : 0 < length unsent
+  pub text_is : answers served (before ++ turn ∷ []) ≡ sent ++ unsent
 
 -- Owed is what is to be sent now, the rest of the answer in hand, and the answers to the turns that are due of what is held, with more behind it.
 pub record IsOwed (served : Served) (state : State) (more text : List ℕ) : Type 0 where

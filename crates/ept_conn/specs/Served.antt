@@ -34,3 +34,7 @@ pub record IsShutTo (files : Files) (served : Served) : Type 0 where
 -- what is sent of a folder
 abbrev pub IsServed : Files → Served → Type 0
 IsServed files served = IsShutTo files served ⊎ IsOpenTo files served
+
+-- so there is what is sent of a folder whose done gate is not open
+abbrev pub ShutIsServed : Type 0
+ShutIsServed = (files : Files) → ¬ IsDone files → (served : Served) × IsServed files served

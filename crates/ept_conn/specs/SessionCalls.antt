@@ -13,7 +13,7 @@ use Rattle.ept_conn.specs.Served.{IsServed}
 use Rattle.ept_conn.specs.State.{State, started, want_of, feeds}
 use Rattle.ept_conn.specs.Works.{IsPlanned, Works, Stops, IsDamagedIn}
 use Rattle.ept_conn.specs.Ends.{IsEnd}
-use Rattle.ept_conn.specs.History.{Has, IsOwed}
+use Rattle.ept_conn.specs.History.{Has, IsOwed, IsUnanswered}
 
 -- bytes were fed, or the end of the input; work was done; bytes were sent; or the link failed
 pub data SessionCall : Type 0 where
@@ -74,6 +74,11 @@ EndsSo =
 abbrev pub ReadsAnswered : Type 0
 ReadsAnswered =
     (served : Served) (before now : ℕ) (bytes sent : List ℕ) (last : State) → Has served (Rose before now) bytes sent last → want_of last ≡ want.Read → AreAnswers served bytes sent
+
+-- where it wants to work, some turn of the bytes fed is not wholly answered
+abbrev pub WorksUnanswered : Type 0
+WorksUnanswered =
+    (served : Served) (before now : ℕ) (bytes sent : List ℕ) (last : State) → Has served (Rose before now) bytes sent last → want_of last ≡ want.Work → IsUnanswered served bytes sent
 
 -- of a session that goes on, what was sent and what is owed are the answers to all the bytes fed, whatever comes behind
 abbrev pub OwesTheRest : Type 0

@@ -11,6 +11,7 @@ use Rattle.ept_save.specs.Done.{IsDone}
 use Rattle.ept_query.specs.declared.query_error.QueryFile.{QueryFile}
 use Rattle.ept_query.specs.declared.query_error.QueryFile.TheVariants as file
 use Rattle.ept_query.specs.Damage.{HasNoBuild, HasNoTile, IsFirstDamaged}
+use Rattle.ept_query.specs.Planning.{IsPlanFor}
 use Rattle.ept_query.specs.Parts.{Plan, node_at}
 use Rattle.ept_conn.specs.declared.turn.Turn.{Turn}
 use Rattle.ept_conn.specs.declared.hand.Hand.{Hand}
@@ -74,6 +75,24 @@ abbrev pub IsPlanned : Served → Hand → Type 0
 IsPlanned served Empty = ⊤
 IsPlanned served (Decided turn) = ⊤
 IsPlanned served (Tiles turn plan done) = IsTurnsPlan served turn plan
+
+-- the folder has this plan for a turn
+pub record IsPlanOfTurn (files : Files) (turn : Turn) (plan : Plan) : Type 0 where
+  pub first : ℕ
+  pub second : ℕ
+  pub is_query : turn.asked ≡ asked.Query plan.area first second
+  pub is_plan : IsPlanFor plan.area first second plan files
+
+abbrev pub HasPlanOf : Files → Hand → Type 0
+HasPlanOf files Empty = ⊤
+HasPlanOf files (Decided turn) = ⊤
+HasPlanOf files (Tiles turn plan done) = IsPlanOfTurn files turn plan
+
+-- no tiles are in hand
+abbrev pub HasNoTiles : Hand → Type 0
+HasNoTiles Empty = ⊤
+HasNoTiles (Decided turn) = ⊤
+HasNoTiles (Tiles turn plan done) = ⊥
 
 -- one piece of work, by what is in hand
 abbrev pub WorksOn : Served → Hand → State → State → Type 0
@@ -143,3 +162,16 @@ IsDamagedIn Empty found files = ⊥
 IsDamagedIn (Decided turn) found files = IsDamagedFor turn.asked found files
 IsDamagedIn (Tiles turn plan done) found files =
     (found ≡ file.Tile (node_at plan done).0) × HasNoTile files (node_at plan done).0 (node_at plan done).1
+
+-- no file is damaged that is needed for this, or for what is in hand
+abbrev pub IsUndamagedFor : Asked → Files → Type 0
+IsUndamagedFor wanted files = (found : QueryFile) → ¬ IsDamagedFor wanted found files
+
+abbrev pub IsUndamagedIn : Hand → Files → Type 0
+IsUndamagedIn hand files = (found : QueryFile) → ¬ IsDamagedIn hand found files
+
+-- a file of the folder is damaged: for some turn in hand, with the folder's plan for it where there is one
+pub record IsDamaged (found : QueryFile) (files : Files) : Type 0 where
+  pub hand : Hand
+  pub planned : HasPlanOf files hand
+  pub damaged : IsDamagedIn hand found files

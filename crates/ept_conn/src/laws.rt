@@ -1,6 +1,7 @@
 //! What holds of every list of calls. Each law is the contract of a function that does nothing.
 
-ghost use Rattle.ept_conn.specs.SessionCalls.{SendsAnswers, EndsSo, ReadsAnswered, OwesTheRest};
+ghost use Rattle.ept_conn.specs.Served.{ShutIsServed};
+ghost use Rattle.ept_conn.specs.SessionCalls.{SendsAnswers, EndsSo, ReadsAnswered, WorksUnanswered, OwesTheRest};
 ghost use Rattle.ept_conn.specs.Calls.{HoweverCut, AllAreGiven, TurnsAreThere, TurnsAreOne, JudgeGivesTurns, NextIsGiven, TurnsMayBeAsked};
 
 /// Over any list of calls the turns given are, in order, the first turns of all the bytes fed, however these
@@ -27,5 +28,7 @@ pub fn session_law()
     ensures sends { SendsAnswers }
     ensures ends { EndsSo }
     ensures reads { ReadsAnswered }
+    ensures works { WorksUnanswered }
     ensures owes { OwesTheRest }
+    ensures shut { ShutIsServed }
 {}

@@ -2,12 +2,15 @@
 
 ghost use Rattle.std.specs.Prelude.{◌≡◌, ◌≢◌, ◌⊎◌, ◌<◌, ◌≤◌, ℕ, [], Some, IfSome, IfNone, length, drop};
 ghost use Rattle.ept_base.specs.Causes.{Rose};
-ghost use Rattle.ept_base.specs.Files.{Files, SameFiles, StepsBy};
+ghost use Rattle.ept_base.specs.Files.{Files, SameFiles, StepsBy, Tells};
 ghost use Rattle.ept_base.specs.Links.{Wire};
 ghost use Rattle.ept_base.specs.Moves.{Moves};
 ghost use Rattle.ept_conn.specs.Answers.{Served};
 ghost use Rattle.ept_conn.specs.Served.{IsServed};
 ghost use Rattle.ept_conn.specs.State.{want_of};
+ghost use Rattle.ept_query.specs.declared.query_error.QueryFile.{QueryFile};
+ghost use Rattle.ept_conn.specs.declared.hand.Hand.TheVariants.{Empty};
+ghost use Rattle.ept_conn.specs.Works.{HasPlanOf, IsDamagedIn, IsDamaged};
 ghost use Rattle.ept_conn.specs.Serving.{IsServedOver};
 ghost use Rattle.ept_conn.specs.Conversation.{GoesOn, HasFailed, HasCauseFor, rank};
 
@@ -26,6 +29,7 @@ pub fn serve_link<L: Link, T: Store>(alloc: Global, link: &mut L, store: &mut T)
         → StepsBy (IsServedOver served (Rose (T.faults store.old) (T.faults store.new)) result) (L.wire link.old) (L.wire link.new) }
     ensures links { result ≡ End.LinkFault → Rose (L.faults link.old) (L.faults link.new) }
     ensures stores { result ≡ End.StoreFault → Rose (T.faults store.old) (T.faults store.new) }
+    ensures damaged { (file : QueryFile) → result ≡ End.Damaged file → Tells (IsDamaged file) (T.files store.old) }
     ensures any_moment { Moves T.files T.may_leave T.moment T.image_since SameFiles store.old store.new }
 {
     let mut session = Session::new(alloc);
@@ -53,6 +57,9 @@ fn step<L: Link, T: Store>(
     ensures falls { IfNone result (rank session.new < rank session.old) }
     ensures links { HasCauseFor Fault.Link session.old session.new (L.faults link.old) (L.faults link.new) }
     ensures stores { HasCauseFor Fault.Store session.old session.new (T.faults store.old) (T.faults store.new) }
+    ensures plans { (files : Files) → T.files store.old ≡ Some files → HasPlanOf files session.old.hand → HasPlanOf files session.new.hand }
+    ensures damaged { (file : QueryFile) → session.new.fault ≡ Some (Fault.Damaged file)
+        → (session.old.fault ≡ Some (Fault.Damaged file)) ⊎ Tells (IsDamagedIn session.old.hand file) (T.files store.old) }
     ensures any_moment { Moves T.files T.may_leave T.moment T.image_since SameFiles store.old store.new }
     ensures room { length piece.new ≡ length piece.old }
 {
@@ -83,6 +90,8 @@ fn read_piece<L: Link>(session: &mut Session, link: &mut L, piece: &mut [u8])
     ensures falls { rank session.new < rank session.old }
     ensures links { HasCauseFor Fault.Link session.old session.new (L.faults link.old) (L.faults link.new) }
     ensures no_store { session.new.fault ≢ Some Fault.Store }
+    ensures undamaged { (file : QueryFile) → session.new.fault ≢ Some (Fault.Damaged file) }
+    ensures hand { (session.new.hand ≡ session.old.hand) ⊎ (session.new.hand ≡ Empty) }
     ensures room { length piece.new ≡ length piece.old }
 {
     match link.read(piece) {

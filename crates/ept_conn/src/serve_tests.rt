@@ -35,10 +35,10 @@ fn store_of(alloc: Global, files: &[File], fails: &[u64]) -> Result<MemStore, Al
     Ok(MemStore::new(alloc, list, Vec::from_slice(alloc, fails)?))
 }
 
-// A link over which these bytes come in pieces of so many.
+// A link over which these bytes come in pieces of so many, of one at least.
 fn link_of(alloc: Global, bytes: &[u8], size: usize, fails: &[u64]) -> Result<MemLink, AllocError> {
     let mut pieces = Vec::new(alloc);
-    for piece in bytes.chunks(size) {
+    for piece in bytes.chunks(size.max(1)) {
         pieces.push(Vec::from_slice(alloc, piece)?)?;
     }
     Ok(MemLink::new(alloc, pieces, Vec::from_slice(alloc, fails)?))
@@ -161,7 +161,9 @@ fn a_long_head_is_refused_and_a_cut_one_has_no_answer(rt: HostRuntime) -> Result
     let alloc = rt.alloc();
     let head = long_head(alloc, 8193)?;
     assert!(rt; is_closed_with(alloc, &head, TOO_LONG)?);
-    assert!(rt; is_closed_with(alloc, &head[..8191], b"")?);
+    let mut cut = long_head(alloc, 8193)?;
+    cut.truncate(8191);
+    assert!(rt; is_closed_with(alloc, &cut, b"")?);
     assert!(rt; is_closed_with(alloc, b"GET /ept.json HTTP/1.1\r\nHost: a\r\n", b"")?);
     Ok(())
 }

@@ -12,7 +12,7 @@ ghost use Rattle.ept_conn.specs.Held.{has_turn};
 ghost use Rattle.ept_conn.specs.Answers.{Served, refusal, file_answer, is_json, chunk};
 ghost use Rattle.ept_conn.specs.Served.{IsServed};
 ghost use Rattle.ept_conn.specs.State.{started, want_of, wants_on, feeds};
-ghost use Rattle.ept_conn.specs.Works.{IsTurnsPlan, IsPlanned, Decides, hand_to, out_to, hand_at, end_at, Begins, IsReady, Works, WorksOn, IsBegun, IsOneStep, Stops, IsLastWord, IsDamagedFor, IsDamagedIn};
+ghost use Rattle.ept_conn.specs.Works.{IsTurnsPlan, IsPlanned, HasPlanOf, HasNoTiles, Decides, hand_to, out_to, hand_at, end_at, Begins, IsReady, Works, WorksOn, IsBegun, IsOneStep, Stops, IsLastWord, IsDamagedFor, IsDamagedIn, IsUndamagedFor, IsUndamagedIn};
 
 use crate::conn::Conn;
 use crate::end::{End, Fault, Want};
@@ -99,10 +99,12 @@ impl Session {
         ensures works { self.new.fault ≡ None → (files : Files) → T.files store.old ≡ Some files
             → (served : Served) → IsServed files served → IsPlanned served self.old.hand → Works served self.old self.new }
         ensures one_step { self.new.fault ≡ None → IsOneStep self.old.hand self.old self.new }
+        ensures plans { (files : Files) → T.files store.old ≡ Some files → HasPlanOf files self.old.hand → HasPlanOf files self.new.hand }
         ensures closed { self.new.closed ≡ self.old.closed }
         ensures stops { IfSome self.new.fault (Stops self.old.hand self.new) }
         ensures damaged { (file : QueryFile) → self.new.fault ≡ Some (Fault.Damaged file)
             → Tells (IsDamagedIn self.old.hand file) (T.files store.old) }
+        ensures undamaged { self.new.fault ≡ None → (files : Files) → T.files store.old ≡ Some files → IsUndamagedIn self.old.hand files }
         ensures stores { self.new.fault ≡ Some Fault.Store → Rose (T.faults store.old) (T.faults store.new) }
         ensures later { T.faults store.old ≤ T.faults store.new }
         ensures any_moment { Moves T.files T.may_leave T.moment T.image_since SameFiles store.old store.new }
@@ -175,6 +177,7 @@ impl Session {
         requires ready { IsReady self.old }
         requires due { has_turn self.old.held ≡ true }
         ensures decides { self.new.fault ≡ None → Decides self.old self.new }
+        ensures no_tiles { HasNoTiles self.new.hand }
         ensures closed { self.new.closed ≡ self.old.closed }
         ensures stops { IfSome self.new.fault (Stops Hand.Empty self.new) }
         ensures only { IfSome self.new.fault (λ cause. cause ≡ Fault.Memory) }
@@ -192,6 +195,7 @@ impl Session {
         requires fit { MayBeAsked turn.asked }
         ensures out { self.new.fault ≡ None → self.new.out ≡ out_to turn.asked turn.last }
         ensures hand { self.new.fault ≡ None → self.new.hand ≡ hand_to turn.asked turn }
+        ensures no_tiles { HasNoTiles self.new.hand }
         ensures same { (self.new.held ≡ self.old.held) × (self.new.closed ≡ self.old.closed) }
         ensures stops { IfSome self.new.fault (Stops Hand.Empty self.new) }
         ensures only { IfSome self.new.fault (λ cause. cause ≡ Fault.Memory) }
@@ -228,10 +232,12 @@ impl Session {
         ensures works { self.new.fault ≡ None → (files : Files) → T.files store.old ≡ Some files
             → (served : Served) → IsServed files served → WorksOn served (Hand.Decided turn) self.old self.new }
         ensures one_step { self.new.fault ≡ None → IsOneStep (Hand.Decided turn) self.old self.new }
+        ensures plans { (files : Files) → T.files store.old ≡ Some files → HasPlanOf files self.new.hand }
         ensures closed { self.new.closed ≡ self.old.closed }
         ensures stops { IfSome self.new.fault (Stops (Hand.Decided turn) self.new) }
         ensures damaged { (file : QueryFile) → self.new.fault ≡ Some (Fault.Damaged file)
             → Tells (IsDamagedIn (Hand.Decided turn) file) (T.files store.old) }
+        ensures undamaged { self.new.fault ≡ None → (files : Files) → T.files store.old ≡ Some files → IsUndamagedIn (Hand.Decided turn) files }
         ensures stores { self.new.fault ≡ Some Fault.Store → Rose (T.faults store.old) (T.faults store.new) }
         ensures later { T.faults store.old ≤ T.faults store.new }
         ensures any_moment { Moves T.files T.may_leave T.moment T.image_since SameFiles store.old store.new }
@@ -291,10 +297,12 @@ impl Session {
             → (served : Served) → IsServed files served
             → Begins turn area.now (served.plan area.now depths.0 depths.1) self.new }
         ensures begun { self.new.fault ≡ None → IsBegun turn self.new.hand }
+        ensures plans { (files : Files) → T.files store.old ≡ Some files → HasPlanOf files self.new.hand }
         ensures same { (self.new.held ≡ self.old.held) × (self.new.closed ≡ self.old.closed) }
         ensures stops { IfSome self.new.fault (Stops (Hand.Decided turn) self.new) }
         ensures damaged { (file : QueryFile) → self.new.fault ≡ Some (Fault.Damaged file)
             → Tells (IsDamagedFor turn.asked file) (T.files store.old) }
+        ensures undamaged { self.new.fault ≡ None → (files : Files) → T.files store.old ≡ Some files → IsUndamagedFor turn.asked files }
         ensures stores { self.new.fault ≡ Some Fault.Store → Rose (T.faults store.old) (T.faults store.new) }
         ensures later { T.faults store.old ≤ T.faults store.new }
         ensures any_moment { Moves T.files T.may_leave T.moment T.image_since SameFiles store.old store.new }
@@ -311,6 +319,7 @@ impl Session {
         requires ready { IsReady self.old }
         ensures out { self.new.fault ≡ None → self.new.out ≡ head_text (HeadKind.Query turn.last) ++ end_at plan 0 }
         ensures hand { self.new.fault ≡ None → self.new.hand ≡ hand_at turn plan 0 }
+        ensures either { (self.new.hand ≡ Hand.Empty) ⊎ (self.new.hand ≡ Hand.Tiles turn plan 0) }
         ensures begun { self.new.fault ≡ None → IsBegun turn self.new.hand }
         ensures same { (self.new.held ≡ self.old.held) × (self.new.closed ≡ self.old.closed) }
         ensures stops { IfSome self.new.fault (Stops (Hand.Decided turn) self.new) }
@@ -336,10 +345,12 @@ impl Session {
             → (served : Served) → IsServed files served → IsTurnsPlan served turn plan
             → WorksOn served (Hand.Tiles turn plan done) self.old self.new }
         ensures one_step { self.new.fault ≡ None → IsOneStep (Hand.Tiles turn plan done) self.old self.new }
+        ensures either { (self.new.hand ≡ Hand.Empty) ⊎ (self.new.hand ≡ Hand.Tiles turn plan (done + 1)) }
         ensures closed { self.new.closed ≡ self.old.closed }
         ensures stops { IfSome self.new.fault (Stops (Hand.Tiles turn plan done) self.new) }
         ensures damaged { (file : QueryFile) → self.new.fault ≡ Some (Fault.Damaged file)
             → Tells (IsDamagedIn (Hand.Tiles turn plan done) file) (T.files store.old) }
+        ensures undamaged { self.new.fault ≡ None → (files : Files) → T.files store.old ≡ Some files → IsUndamagedIn (Hand.Tiles turn plan done) files }
         ensures stores { self.new.fault ≡ Some Fault.Store → Rose (T.faults store.old) (T.faults store.new) }
         ensures later { T.faults store.old ≤ T.faults store.new }
         ensures any_moment { Moves T.files T.may_leave T.moment T.image_since SameFiles store.old store.new }
@@ -357,6 +368,7 @@ impl Session {
         requires within { done < length plan.tiles }
         ensures out { self.new.fault ≡ None → self.new.out ≡ chunk points.now ++ end_at plan (done + 1) }
         ensures hand { self.new.fault ≡ None → self.new.hand ≡ hand_at turn plan (done + 1) }
+        ensures either { (self.new.hand ≡ Hand.Empty) ⊎ (self.new.hand ≡ Hand.Tiles turn plan (done + 1)) }
         ensures same { (self.new.held ≡ self.old.held) × (self.new.closed ≡ self.old.closed) }
         ensures stops { IfSome self.new.fault (Stops (Hand.Tiles turn plan done) self.new) }
         ensures only { IfSome self.new.fault (λ cause. cause ≡ Fault.Memory) }

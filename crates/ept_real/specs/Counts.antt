@@ -4,6 +4,7 @@ use Rattle.ept_real.specs.declared.source.RealSource.{RealSource}
 use Rattle.ept_real.specs.declared.shelf.RealShelf.{RealShelf}
 use Rattle.ept_real.specs.declared.sink.RealSink.{RealSink}
 use Rattle.ept_real.specs.declared.store.RealStore.{RealStore}
+use Rattle.ept_real.specs.declared.link.RealLink.{RealLink}
 
 -- how often an object has failed
 abbrev pub source_faults : {R F D : Type 0} → RealSource R F D → ℕ
@@ -17,6 +18,9 @@ sink_faults sink = sink.faults
 
 abbrev pub store_faults : {R F D : Type 0} → RealStore R F D → ℕ
 store_faults store = store.faults
+
+abbrev pub link_faults : {S : Type 0} → RealLink S → ℕ
+link_faults link = link.faults
 
 -- how many bytes a source gave, and the sources that a shelf took back
 abbrev pub source_given : {R F D : Type 0} → RealSource R F D → ℕ

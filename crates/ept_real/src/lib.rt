@@ -1,10 +1,11 @@
 //! The outside world over the real machine: the shelf that opens files by their paths and the sources
-//! that it opens, a store in a folder, and a sink over a writer.
+//! that it opens, a store in a folder, a sink over a writer, and a link over a stream.
 //!
 //! What they hold is not told: clauses on contents say nothing of them. Each keeps its counts, of
 //! faults, of bytes given and of gets, in 64 bits, and a count stands still at its last value.
 #![tactic(auto)]
 
+mod link;
 mod path_set;
 mod paths;
 mod shelf;
@@ -13,6 +14,7 @@ mod source;
 mod store;
 mod unsynced;
 
+pub use link::RealLink;
 pub use shelf::RealShelf;
 pub use sink::RealSink;
 pub use source::RealSource;

@@ -1,10 +1,14 @@
 mod flushing;
+mod peers;
 mod writers;
 
 use crate::tests::flushing::Disk;
+use crate::tests::peers::Peer;
 use crate::tests::writers::{Pieces, Unable};
-use crate::{RealShelf, RealSink, RealStore};
-use ept_base::{Failed, GetError, PutError, Shelf, Sink, Source, Store, read_full, write_full};
+use crate::{RealLink, RealShelf, RealSink, RealStore};
+use ept_base::{
+    Failed, GetError, Link, PutError, Shelf, Sink, Source, Store, read_full, write_full,
+};
 use std::alloc::{AllocError, Global};
 use std::cell::{Cell, RefCell};
 use std::test::Fail;
@@ -328,5 +332,30 @@ fn a_sink_writes_to_its_writer(rt: HostRuntime) -> Result<(), Fail> {
     assert_eq!(rt; fs::read(&rt, "said")?.as_slice(), b"points 1\n".as_slice());
     let mut full = RealSink::new(fs::create(&rt, "/dev/full")?);
     assert_eq!(rt; full.write(b"x"), Err(Failed));
+    Ok(())
+}
+
+#[test]
+fn a_link_reads_and_writes_its_stream(rt: HostRuntime) -> Result<(), Fail> {
+    let alloc = rt.alloc();
+    let mut into = [9; 5];
+    let mut link = RealLink::new(Peer::new(alloc, b"abcd", false, 2));
+    assert_eq!(rt; link.read(&mut into[..0]), Ok(0));
+    assert_eq!(rt; (link.read(&mut into), &into), (Ok(3), b"abc\x09\x09"));
+    assert_eq!(rt; (link.read(&mut into), &into), (Ok(1), b"dbc\x09\x09"));
+    assert_eq!(rt; link.read(&mut into), Ok(0));
+    assert_eq!(rt; link.write(b"xyz"), Ok(2));
+    assert_eq!(rt; link.write(b""), Ok(0));
+    assert_eq!(rt; link.stream().writer.taken.as_slice(), b"xy".as_slice());
+    assert_eq!(rt; link.faults, 0);
+    let mut broken = RealLink::new(Peer::new(alloc, b"a", true, 0));
+    assert_eq!(rt; broken.read(&mut into), Ok(1));
+    assert_eq!(rt;
+        (broken.read(&mut into), &into),
+        (Err(Failed), b"abc\x09\x09")
+    );
+    assert_eq!(rt; broken.write(b"x"), Err(Failed));
+    assert_eq!(rt; broken.write(b""), Ok(0));
+    assert_eq!(rt; broken.faults, 2);
     Ok(())
 }

@@ -1,6 +1,7 @@
-use Rattle.std.proofs.Common.{◌≡◌, true}
+use Rattle.std.proofs.Common.{◌≡◌, true, [], None, inl, refl}
 use Rattle.ept_base.specs.Causes.{Rose}
 use Rattle.ept_conn.proofs.Histories.{sends-answers, ends-has, reads-has, owes-has}
+use Rattle.ept_conn.proofs.Unanswered.{works-unanswered}
 use Rattle.ept_conn.proofs.laws.session_law.Goals as goal
 
 pub returns : goal.returns
@@ -8,5 +9,10 @@ returns c = record {
   sends = λ files served before now is. sends-answers files served (Rose before now) is;
   ends = λ served before now bytes sent last has ends is. ends-has served (Rose before now) (last.closed ≡ true) bytes sent last ends (λ closed. closed) has is;
   reads = λ served before now. reads-has served (Rose before now);
+  works = λ served before now. works-unanswered served (Rose before now);
   owes = λ served before now. owes-has served (Rose before now);
+  shut = λ files not. (
+    record { file = λ name. None; plan = λ area first second. None; part = λ area node. [] },
+    inl (record { done = not; file = λ name. refl; plan = λ area first second. refl }),
+  );
 }

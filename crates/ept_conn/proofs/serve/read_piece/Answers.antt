@@ -4,7 +4,7 @@ use Rattle.ept_base.specs.Links.{Wire, Reads, FailsToRead}
 use Rattle.ept_base.proofs.Moving.{steps_weaker}
 use Rattle.ept_conn.specs.Conversation.{GoesOn}
 use Rattle.ept_conn.proofs.Falling.{fed-falls, failed-falls}
-use Rattle.ept_conn.proofs.Conversing.{steps-with, tells-when, taken-none, read-converses, unread-converses, read-no-store}
+use Rattle.ept_conn.proofs.Conversing.{steps-with, tells-when, taken-none, read-converses, unread-converses, read-no-store, read-undamaged, read-hand}
 use Rattle.ept_conn.proofs.serve.read_piece.Goals as goal
 
 pub returns-in-Ok-clause-converses : goal.returns-in-Ok-clause-converses
@@ -29,3 +29,9 @@ returns-in-Err-clause-converses g c = λ served before after.
 
 pub returns-in-Err-clause-falls : goal.returns-in-Err-clause-falls
 returns-in-Err-clause-falls g c = failed-falls c.args.session.now c.fault.new.self (inl c.requires.wanted) c.fault.ensures
+
+pub returns-in-Ok-clause-undamaged : goal.returns-in-Ok-clause-undamaged
+returns-in-Ok-clause-undamaged g c = λ found. read-undamaged c.args.session.now c.feed.new.self _ found c.requires.wanted c.feed.ensures
+
+pub returns-in-Ok-clause-hand : goal.returns-in-Ok-clause-hand
+returns-in-Ok-clause-hand g c = read-hand c.args.session.now c.feed.new.self _ c.feed.ensures

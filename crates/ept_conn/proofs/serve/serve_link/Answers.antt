@@ -4,10 +4,11 @@ use Rattle.ept_base.specs.Links.{Wire}
 use Rattle.ept_base.proofs.Moving.{steps_both, steps_weaker}
 use Rattle.ept_conn.specs.declared.end.Fault.TheVariants as fault
 use Rattle.ept_conn.specs.State.{State}
+use Rattle.ept_conn.specs.Works.{HasPlanOf}
 use Rattle.ept_conn.specs.Serving.{IsServedOver}
 use Rattle.ept_conn.specs.Conversation.{Converses, GoesOn}
-use Rattle.ept_conn.proofs.Histories.{link-end, store-end}
-use Rattle.ept_conn.proofs.Conversing.{CauseSince, steps-same, same-files, start-converses, served-over, no-cause, cause-on, moved-none, moved-twice}
+use Rattle.ept_conn.proofs.Histories.{link-end, store-end, damaged-end}
+use Rattle.ept_conn.proofs.Conversing.{CauseSince, steps-same, same-files, start-converses, served-over, no-cause, cause-on, moved-none, moved-twice, fresh-undamaged, damaged-on}
 use Rattle.ept_conn.proofs.serve.serve_link.Goals as goal
 
 pub loop-end-init : goal.loop-end-init
@@ -18,6 +19,8 @@ loop-end-init g c =
       converses = λ files told served is. steps-same (λ (start now : Wire). Converses served rose start c.new-session.result now) (g.L.Link.wire c.args.link.now) (g.L.Link.wire c.args.link.now) refl (λ wire. subst (λ (s : State). Converses served rose wire s wire) (sym c.new-session.ensures) (start-converses served rose wire));
       links = subst (λ (s : State). CauseSince fault.Link s links links) (sym c.new-session.ensures) (no-cause fault.Link links);
       stores = subst (λ (s : State). CauseSince fault.Store s stores stores) (sym c.new-session.ensures) (no-cause fault.Store stores);
+      plans = λ files told. subst (λ (s : State). HasPlanOf files s.hand) (sym c.new-session.ensures) tt;
+      damaged = λ found fixed. fresh-undamaged c.new-session.result found (g.T.Store.files c.args.store.now) c.new-session.ensures fixed;
       moved = moved-none g.T.Store.files g.T.Store.may_leave g.T.Store.moment g.T.Store.image_since c.args.store.now;
       room = omega arith;
     }
@@ -33,6 +36,11 @@ loop-end-preserved g c =
           steps_both (λ (start wire : Wire). Converses served (Rose first now) start c.loop-end.session wire) (GoesOn served (Rose first now) (Rose first next) c.loop-end.session c.step.new.session) (λ (start wire : Wire). Converses served (Rose first next) start c.step.new.session wire) (λ start a b so_far on. on start so_far) (g.L.Link.wire c.args.link.now) (g.L.Link.wire c.loop-end.link) (g.L.Link.wire c.step.new.link) (was.converses files told served is) (c.step.ensures.converses files told_now served is first was.stores.later);
       links = cause-on fault.Link c.loop-end.session c.step.new.session (g.L.Link.faults c.args.link.now) (g.L.Link.faults c.loop-end.link) (g.L.Link.faults c.step.new.link) was.links c.step.ensures.links;
       stores = cause-on fault.Store c.loop-end.session c.step.new.session first now next was.stores c.step.ensures.stores;
+      plans = λ files told.
+          let told_now = same-files (g.T.Store.files c.args.store.now) (g.T.Store.files c.loop-end.store) files told was.moved.reads in
+          c.step.ensures.plans files told_now (was.plans files told);
+      damaged = λ found fixed.
+          damaged-on c.loop-end.session found (g.T.Store.files c.args.store.now) (g.T.Store.files c.loop-end.store) was.moved.reads was.plans (was.damaged found) (c.step.ensures.damaged found fixed);
       moved = moved-twice g.T.Store.files g.T.Store.may_leave g.T.Store.moment g.T.Store.image_since c.args.store.now c.loop-end.store c.step.new.store was.moved c.step.ensures.any_moment;
       room = subst (λ (n : ℕ). 0 < n) (sym c.step.ensures.room) was.room;
     }
@@ -56,3 +64,9 @@ pub returns-in-Some-clause-stores : goal.returns-in-Some-clause-stores
 returns-in-Some-clause-stores g c = λ same.
     let since = cause-on fault.Store c.loop-end.session c.step.new.session (g.T.Store.faults c.args.store.now) (g.T.Store.faults c.loop-end.store) (g.T.Store.faults c.step.new.store) c.loop-end.invariant.stores c.step.ensures.stores in
     since.rose (store-end c.step.new.session c.in-Some.end same c.in-Some.ensures.end)
+
+pub returns-in-Some-clause-damaged : goal.returns-in-Some-clause-damaged
+returns-in-Some-clause-damaged g c = λ found same.
+    let was = c.loop-end.invariant in
+    let fixed = damaged-end c.step.new.session found c.in-Some.end same c.in-Some.ensures.end in
+    damaged-on c.loop-end.session found (g.T.Store.files c.args.store.now) (g.T.Store.files c.loop-end.store) was.moved.reads was.plans (was.damaged found) (c.step.ensures.damaged found fixed)

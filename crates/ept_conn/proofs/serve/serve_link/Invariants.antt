@@ -1,7 +1,9 @@
 use Rattle.std.proofs.Common.{◌≡◌, ◌<◌, length, Some}
 use Rattle.ept_base.specs.Causes.{Rose}
-use Rattle.ept_base.specs.Files.{Files, SameFiles, StepsBy}
+use Rattle.ept_base.specs.Files.{Files, SameFiles, StepsBy, Tells}
 use Rattle.ept_base.specs.Moves.{Moves}
+use Rattle.ept_query.specs.declared.query_error.QueryFile.{QueryFile}
+use Rattle.ept_conn.specs.Works.{HasPlanOf, IsDamaged}
 use Rattle.ept_conn.specs.declared.end.Fault.TheVariants as fault
 use Rattle.ept_conn.specs.Answers.{Served}
 use Rattle.ept_conn.specs.Served.{IsServed}
@@ -17,6 +19,8 @@ invariant-loop-end g l =
       converses : (files : Files) → g.T.Store.files l.fn.store ≡ Some files → (served : Served) → IsServed files served → StepsBy (λ start now. Converses served (Rose (stores l.fn.store) (stores l.store)) start l.session now) (g.L.Link.wire l.fn.link) (g.L.Link.wire l.link);
       links : CauseSince fault.Link l.session (g.L.Link.faults l.fn.link) (g.L.Link.faults l.link);
       stores : CauseSince fault.Store l.session (stores l.fn.store) (stores l.store);
+      plans : (files : Files) → g.T.Store.files l.fn.store ≡ Some files → HasPlanOf files l.session.hand;
+      damaged : (found : QueryFile) → l.session.fault ≡ Some (fault.Damaged found) → Tells (IsDamaged found) (g.T.Store.files l.fn.store);
       moved : Moves g.T.Store.files g.T.Store.may_leave g.T.Store.moment g.T.Store.image_since SameFiles l.fn.store l.store;
       room : 0 < length l.piece;
     }

@@ -1,9 +1,9 @@
-use Rattle.std.proofs.Common.{◌∙◌, refl, sym}
+use Rattle.std.proofs.Common.{◌∙◌, inl, refl, sym}
 use Rattle.ept_base.specs.Causes.{Rose}
 use Rattle.ept_conn.specs.Works.{IsDamagedIn}
 use Rattle.ept_conn.specs.Conversation.{GoesOn}
 use Rattle.ept_conn.proofs.Falling.{work-falls}
-use Rattle.ept_conn.proofs.Conversing.{steps-same, tells-of, rose-earlier, rose-later, work-converses, written-cause, written-rank}
+use Rattle.ept_conn.proofs.Conversing.{steps-same, tells-of, rose-earlier, rose-later, work-converses, written-cause, written-rank, hand-plan, written-hand, written-undamaged}
 use Rattle.ept_conn.proofs.serve.step.Goals as goal
 
 pub returns-in-Work-clause-converses : goal.returns-in-Work-clause-converses
@@ -30,3 +30,14 @@ returns-in-Write-clause-falls g c =
 pub returns-in-Write-clause-links : goal.returns-in-Write-clause-links
 returns-in-Write-clause-links g c =
     written-cause c.args.session.now c.write_out.new.session (g.L.Link.faults c.args.link.now) (g.L.Link.faults c.write_out.new.link) c.write_out.ensures.later c.write_out.ensures.state
+
+pub returns-in-Read-clause-plans : goal.returns-in-Read-clause-plans
+returns-in-Read-clause-plans g c = λ files told has. hand-plan files c.args.session.now.hand c.read_piece.new.session.hand c.read_piece.ensures.hand has
+
+pub returns-in-Write-clause-plans : goal.returns-in-Write-clause-plans
+returns-in-Write-clause-plans g c = λ files told has.
+    hand-plan files c.args.session.now.hand c.write_out.new.session.hand (written-hand c.args.session.now c.write_out.new.session _ _ c.write_out.ensures.state) has
+
+pub returns-in-Write-clause-damaged : goal.returns-in-Write-clause-damaged
+returns-in-Write-clause-damaged g c = λ found fixed.
+    inl (written-undamaged c.args.session.now c.write_out.new.session _ _ found c.write_out.ensures.state fixed)

@@ -1,9 +1,27 @@
 use Rattle.std.proofs.Common.{sym, subst}
 use Rattle.ept_http.specs.declared.asked.Asked.{Asked}
-use Rattle.ept_conn.specs.Works.{Gets}
+use Rattle.ept_conn.specs.Works.{Gets, HasPlanOf, IsDamagedFor}
 use Rattle.ept_conn.proofs.session.Session.get.Goals as goal
 
 pub returns-in-Query-clause-works : goal.returns-in-Query-clause-works
 returns-in-Query-clause-works g c = λ going files told served is.
     let begins = c.make_plan.ensures.begins going files told served is in
     (c.make_plan.ensures.same.0, subst (λ (a : Asked). Gets served c.args.turn a c.make_plan.new.self) (sym c.in-Query.is) begins)
+
+pub returns-in-Query-clause-plans : goal.returns-in-Query-clause-plans
+returns-in-Query-clause-plans g c = λ files told. c.make_plan.ensures.plans files told
+
+pub returns-in-File-clause-plans : goal.returns-in-File-clause-plans
+returns-in-File-clause-plans g c = λ files told. subst (HasPlanOf files) (sym c.get_file.ensures.hand) tt
+
+pub returns-in-Refuse-clause-plans : goal.returns-in-Refuse-clause-plans
+returns-in-Refuse-clause-plans g c = λ files told. subst (HasPlanOf files) (sym c.refuse.ensures.hand) tt
+
+pub returns-in-Query-clause-undamaged : goal.returns-in-Query-clause-undamaged
+returns-in-Query-clause-undamaged g c = λ going files told. c.make_plan.ensures.undamaged going files told
+
+pub returns-in-File-clause-undamaged : goal.returns-in-File-clause-undamaged
+returns-in-File-clause-undamaged g c = λ going files told found damaged. subst (λ (a : Asked). IsDamagedFor a found files) c.in-File.is damaged
+
+pub returns-in-Refuse-clause-undamaged : goal.returns-in-Refuse-clause-undamaged
+returns-in-Refuse-clause-undamaged g c = λ going files told found damaged. subst (λ (a : Asked). IsDamagedFor a found files) c.in-Refuse.is damaged

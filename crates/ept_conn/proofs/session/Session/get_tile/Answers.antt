@@ -1,7 +1,9 @@
 use Rattle.std.proofs.Common.{◌∙◌, ◌+◌, ◌++◌, List, ℕ, sym, ap}
 use Rattle.ept_conn.specs.Answers.{chunk}
 use Rattle.ept_conn.specs.Works.{end_at}
+use Rattle.ept_query.specs.Parts.{node_at}
 use Rattle.ept_conn.proofs.Plans.{part-served}
+use Rattle.ept_conn.proofs.Undamaged.{part-has-tile}
 use Rattle.ept_conn.proofs.session.Session.get_tile.Goals as goal
 
 pub returns-in-Ok-clause-works : goal.returns-in-Ok-clause-works
@@ -12,3 +14,8 @@ returns-in-Ok-clause-works g c = λ going files told served is planned.
       c.put_tile.ensures.hand going,
       c.put_tile.ensures.out going ∙ ap (λ (w : List ℕ). chunk w ++ end_at c.args.plan (c.args.done + 1)) (c.deref.ensures.value ∙ sym bytes),
     )
+
+pub returns-in-Ok-clause-undamaged : goal.returns-in-Ok-clause-undamaged
+returns-in-Ok-clause-undamaged g c = λ going files told found damaged.
+    let part = rw told at c.in-Ok.ensures.part in
+    part-has-tile files c.args.plan.area (node_at c.args.plan c.args.done) _ _ part damaged.1

@@ -1,0 +1,76 @@
+ghost use Rattle.std.specs.Prelude.{◌≡◌, ◌≤◌};
+ghost use Rattle.ept_base.specs.Causes.{Rose};
+
+use ept_base::{Failed, Link};
+use std::io::{Read, Write};
+
+/// How many bytes one read takes from the stream at most.
+const BLOCK: usize = 8192;
+
+/// A stream to a peer, as a TCP connection.
+///
+/// A stream that takes none of some bytes fails.
+#[derive(Drop)]
+pub struct RealLink<S: Read + Write + Drop> {
+    pub(crate) stream: S,
+    // What a read takes before it is handed on, so that a read that fails changes nothing.
+    block: [u8; 8192],
+    pub(crate) faults: u64,
+}
+
+impl<S: Read + Write + Drop> RealLink<S> {
+    ghost use Rattle.ept_real.specs.Counts.{link_faults};
+
+    /// A link over this stream, without a fault.
+    pub fn new(stream: S) -> Self
+        ensures sound { link_faults result ≡ 0 }
+    {
+        RealLink {
+            stream,
+            block: [0; BLOCK],
+            faults: 0,
+        }
+    }
+
+    /// The stream.
+    pub fn stream(&self) -> &S {
+        &self.stream
+    }
+
+    /// Counts a fault.
+    fn fault(&mut self) -> Failed
+        ensures rose { Rose (link_faults self.old) (link_faults self.new) }
+        ensures later { link_faults self.old ≤ link_faults self.new }
+    {
+        self.faults = self.faults.saturating_add(1);
+        Failed
+    }
+}
+
+impl<S: Read + Write + Drop> Link for RealLink<S> {
+    ghost use Rattle.std.specs.Prelude.{None};
+    ghost use Rattle.ept_real.specs.Counts.{link_faults};
+
+    ghost wire = { λ _. None };
+
+    ghost faults = { λ link. link_faults link };
+
+    fn read(&mut self, into: &mut [u8]) -> Result<usize, Failed> {
+        let most = into.len().min(BLOCK);
+        let block = &mut self.block[..];
+        match self.stream.read(&mut block[..most]) {
+            Ok(count) => {
+                into[..count].copy_from_slice(&block[..count]);
+                Ok(count)
+            }
+            Err(_) => Err(self.fault()),
+        }
+    }
+
+    fn write(&mut self, from: &[u8]) -> Result<usize, Failed> {
+        match self.stream.write(from) {
+            Ok(count) if count > 0 || from.is_empty() => Ok(count),
+            _ => Err(self.fault()),
+        }
+    }
+}

@@ -1,0 +1,67 @@
+//! The connections that a listener accepts, each served in a thread of its own.
+
+use ept_conn::serve_link;
+use ept_real::{RealLink, RealStore};
+use std::io::{self, Read};
+use std::net::{Shutdown, TcpListener, TcpStream};
+use std::sync::Wait;
+use std::thread::{self, Threads};
+use std::time::Duration;
+
+/// How many pieces are read behind the last answer at most.
+const REST: usize = 64;
+
+/// How long the peer may take for each of them, in seconds.
+const REST_SECONDS: u64 = 5;
+
+/// Serves the connections that are accepted, each in a thread of its own and with a store of its own over
+/// the folder `out`: without end, or so many. It returns once all of them have ended.
+///
+/// # Errors
+///
+/// That of an accept that failed.
+pub fn serve_connections<R: Threads + Wait>(
+    rt: &R,
+    host: &HostRuntime,
+    listener: &TcpListener,
+    out: &str,
+    connections: Option<u32>,
+) -> io::Result<()> {
+    let most = connections.map_or(usize::MAX, |count| count as usize);
+    thread::scope(thread::scope_env(), rt, |scope| {
+        for accepted in listener.incoming().take(most) {
+            let stream = accepted?;
+            let serve = move || serve_stream(host, &stream, out);
+            if let Err(refused) = scope.spawn(serve) {
+                (refused.value)();
+            }
+        }
+        Ok(())
+    })
+}
+
+// Serves one connection.
+fn serve_stream(host: &HostRuntime, stream: &TcpStream, out: &str) {
+    let alloc = host.alloc();
+    // Without it small answers may wait for the peer.
+    let _ = stream.set_nodelay(true);
+    let mut store = RealStore::new(alloc, host, out);
+    let mut link = RealLink::new(stream);
+    serve_link(alloc, &mut link, &mut store);
+    let _ = finish(stream);
+}
+
+// Ends the sending side, and reads what the peer still sends, so much at most: a connection that is closed
+// over bytes that were not read may lose its last answer.
+fn finish(stream: &TcpStream) -> io::Result<()> {
+    stream.shutdown(Shutdown::Write)?;
+    stream.set_read_timeout(Some(Duration::from_secs(REST_SECONDS)))?;
+    let mut rest = [0; 8192];
+    let mut reader = stream;
+    for _ in 0..REST {
+        if reader.read(&mut rest)? == 0 {
+            break;
+        }
+    }
+    Ok(())
+}
