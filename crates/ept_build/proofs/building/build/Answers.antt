@@ -1,54 +1,234 @@
-use Rattle.std.proofs.Common.{◌≡◌, ◌∙◌, inr, List, length, ap, rules}
-use Rattle.std.specs.Prelude.{Err}
-use Rattle.ept_tree.specs.Tree.{Branch}
-use Rattle.ept_build.proofs.Causes.{tells-more}
-use Rattle.ept_base.specs.Files.{Files}
-use Rattle.ept_base.proofs.Moving.{moves_weaker}
-use Rattle.ept_save.proofs.Standing.{told_some}
-use Rattle.ept_build.specs.Building.{HasOutput, IsOverOutput}
-use Rattle.ept_build.specs.Octrees.{IsOctree}
-use Rattle.ept_build.proofs.Guarding.{over-none}
-use Rattle.ept_build.proofs.Built.{no-refusal, accepted-too, refusal-too, accepted-told, built-told, over-output}
+use Rattle.std.proofs.Common.{rules, ◌≡◌, ◌≢◌, ◌∙◌, ◌⊎◌, inl, inr, ℕ, Bool, refl, sym, ap, subst, arith, Some}
+use Rattle.std.specs.Prelude.{Result, Ok, Err, IfErr}
+use Rattle.std.proofs.lemmas.Result.{IfOk-weaker, IfErr-weaker, err_from_is_err_and}
+use Rattle.ept_base.specs.Files.{Files, SameFiles, Tells}
+use Rattle.ept_base.specs.Moves.{Moves}
+use Rattle.ept_base.specs.declared.errors.PutError.{PutError}
+use Rattle.ept_base.proofs.Moving.{moves_once}
+use Rattle.ept_scan.specs.Scans.{IsScan}
+use Rattle.ept_save.specs.Names.{done_name}
+use Rattle.ept_save.specs.Current.{Current, HasCurrent}
+use Rattle.ept_save.specs.Done.{IsDone}
+use Rattle.ept_save.specs.Sound.{IsSound}
+use Rattle.ept_save.proofs.Standing.{stepped, told_some, tells_some, same_twice, same-stands}
+use Rattle.ept_plan.specs.Plans.{limits_by, GoesOn, AreRefused}
+use Rattle.ept_build.specs.declared.error.BuildError.{BuildError}
+use Rattle.ept_build.specs.declared.summary.Summary.{Summary}
+use Rattle.ept_build.specs.Errors.{of_plan, of_put}
+use Rattle.ept_build.specs.Building.{HasPoints, IsBuilt, IsRefusedAt, IsRefused, IsEarly}
+use Rattle.ept_build.proofs.Causes.{tells-some}
+use Rattle.ept_plan.specs.declared.error.PlanError.TheVariants as plan
+use Rattle.ept_build.proofs.Judging.{plan-refused, plan-accepted, plan-only, plan-differs, plan-is-ok, built-many, put-not-bad, err-one, stores-fails, built-accepted, store-refused, put-store, put-no-source, put-failed}
+use Rattle.ept_build.proofs.Moved.{moves-then}
+use Rattle.ept_build.proofs.Running.{sound-settled, same-moves}
+use Rattle.ept_build.proofs.Finished.{finished-built, built-from, starts-again, done-all}
 use Rattle.ept_build.proofs.building.build.Goals as goal
 
-pub returns-in_err-octree-clause-accepted : goal.returns-in_err-octree-clause-accepted
-returns-in_err-octree-clause-accepted g c =
-    let is : c.from_residual.result ≡ Err c.in_err-octree.field-0.0 = search rules in
-    accepted-too c.args.config.now c.in_err-octree.field-0.0 c.from_residual.result is (g.H.Shelf.files c.args.shelf.now) c.in_err-octree.ensures.accepted
+pub returns-in_err-saved-clause-sound : goal.returns-in_err-saved-clause-sound
+returns-in_err-saved-clause-sound g c = λ all start begins.
+    same-moves c.sound_steps_law.ensures.same c.sound_law.ensures.published c.sound_steps_law.ensures.guarding all begins.sound.current g.T.Store.files g.T.Store.may_leave g.T.Store.moment g.T.Store.image_since c.args.store.now c.open.new.store (sound-settled c.sound_steps_law.ensures.same c.sound_law.ensures.published c.sound_steps_law.ensures.guarding all begins.sound.current g.T.Store.files g.T.Store.may_leave g.T.Store.moment g.T.Store.image_since c.args.store.now start begins.told begins.settled begins.sound begins.sound.has_current) c.open.ensures.any_moment
 
-pub returns-in_err-octree-clause-refusal_comes : goal.returns-in_err-octree-clause-refusal_comes
-returns-in_err-octree-clause-refusal_comes g c =
-    let is : c.from_residual.result ≡ Err c.in_err-octree.field-0.0 = search rules in
-    refusal-too c.args.config.now c.in_err-octree.field-0.0 c.from_residual.result is (g.H.Shelf.files c.args.shelf.now) c.in_err-octree.ensures.refusal_comes
+pub returns-in_err-plan-clause-sound : goal.returns-in_err-plan-clause-sound
+returns-in_err-plan-clause-sound g c = λ all start begins.
+    same-moves c.sound_steps_law.ensures.same c.sound_law.ensures.published c.sound_steps_law.ensures.guarding all begins.sound.current g.T.Store.files g.T.Store.may_leave g.T.Store.moment g.T.Store.image_since c.args.store.now c.open.new.store (sound-settled c.sound_steps_law.ensures.same c.sound_law.ensures.published c.sound_steps_law.ensures.guarding all begins.sound.current g.T.Store.files g.T.Store.may_leave g.T.Store.moment g.T.Store.image_since c.args.store.now start begins.told begins.settled begins.sound begins.sound.has_current) c.open.ensures.any_moment
 
-pub returns-in_err-finish-clause-puts_accepted : goal.returns-in_err-finish-clause-puts_accepted
-returns-in_err-finish-clause-puts_accepted g c =
-    inr (accepted-told c.args.config.now c.in_ok-octree.octree (g.H.Shelf.files c.args.shelf.now) c.in_ok-octree.ensures.octree)
+pub returns-in_err-plan-clause-refused : goal.returns-in_err-plan-clause-refused
+returns-in_err-plan-clause-refused g c = λ all start begins.
+    let cur = told_some (HasCurrent c.in_ok-saved.saved.current) (g.T.Store.files c.args.store.now) start begins.told c.in_ok-saved.ensures.current in
+    let e = c.in_err-plan.field-0.0 in
+    let is : c.from_residual-in_err-plan.result ≡ Err (of_plan e) = search rules in
+    subst (λ (r : Result Summary BuildError). IfErr r (IsRefused all c.args.config.now start)) (sym is)
+    (record { current = c.in_ok-saved.saved.current; has_current = cur; because = plan-refused all c.args.config.now c.in_ok-saved.saved.current e (tells-some _ (g.H.Shelf.files c.args.shelf.now) all begins.shelf_told c.in_err-plan.ensures.refused) })
+
+pub returns-in_err-plan-clause-accepted : goal.returns-in_err-plan-clause-accepted
+returns-in_err-plan-clause-accepted g c = λ all start begins acc.
+    let cur = told_some (HasCurrent c.in_ok-saved.saved.current) (g.T.Store.files c.args.store.now) start begins.told c.in_ok-saved.ensures.current in
+    let e = c.in_err-plan.field-0.0 in
+    let is : c.from_residual-in_err-plan.result ≡ Err (of_plan e) = search rules in
+    let same : acc.current ≡ c.in_ok-saved.saved.current = c.sound_law.ensures.one start acc.current c.in_ok-saved.saved.current acc.has_current cur in
+    let comes = tells-some _ (g.H.Shelf.files c.args.shelf.now) all begins.shelf_told c.in_err-plan.ensures.accepted in
+    plan-accepted c.from_residual-in_err-plan.result e is
+    (comes acc.points acc.has_points.done (subst (λ (w : Current). GoesOn c.args.config.now w) same acc.goes_on)
+    (subst (λ (w : Current). IsScan all c.args.config.now.scale (limits_by c.args.config.now.bounds w) c.args.config.now.inputs 0 acc.points acc.has_points.done) same acc.has_points.scan))
+
+pub returns-in_err-is_finished-clause-sound : goal.returns-in_err-is_finished-clause-sound
+returns-in_err-is_finished-clause-sound g c = λ all start begins.
+    same-moves c.sound_steps_law.ensures.same c.sound_law.ensures.published c.sound_steps_law.ensures.guarding all begins.sound.current g.T.Store.files g.T.Store.may_leave g.T.Store.moment g.T.Store.image_since c.args.store.now c.is_finished.new.store (sound-settled c.sound_steps_law.ensures.same c.sound_law.ensures.published c.sound_steps_law.ensures.guarding all begins.sound.current g.T.Store.files g.T.Store.may_leave g.T.Store.moment g.T.Store.image_since c.args.store.now start begins.told begins.settled begins.sound begins.sound.has_current) (same_twice g.T.Store.files g.T.Store.may_leave g.T.Store.moment g.T.Store.image_since c.args.store.now c.open.new.store c.is_finished.new.store c.open.ensures.any_moment c.is_finished.ensures.any_moment)
+
+pub returns-in_err-is_finished-clause-done_already : goal.returns-in_err-is_finished-clause-done_already
+returns-in_err-is_finished-clause-done_already g c = λ all start begins done.
+    (same_twice g.T.Store.files g.T.Store.may_leave g.T.Store.moment g.T.Store.image_since c.args.store.now c.open.new.store c.is_finished.new.store c.open.ensures.any_moment c.is_finished.ensures.any_moment)
+
+pub returns-in_err-is_finished-clause-early : goal.returns-in_err-is_finished-clause-early
+returns-in_err-is_finished-clause-early g c =
+    let p = err_from_is_err_and c.from_residual-in_err-is_finished.result c.from_residual-in_err-is_finished.ensures.1 in
+    let is : c.from_residual-in_err-is_finished.result ≡ Err c.in_err-is_finished.field-0.0 = p.1 ∙ ap (λ (w : BuildError). Err w) p.2 in
+    subst (λ (r : Result Summary BuildError). IfErr r (λ f. IsEarly f → Moves g.T.Store.files g.T.Store.may_leave g.T.Store.moment g.T.Store.image_since SameFiles c.args.store.now c.is_finished.new.store)) (sym is) (λ early. (same_twice g.T.Store.files g.T.Store.may_leave g.T.Store.moment g.T.Store.image_since c.args.store.now c.open.new.store c.is_finished.new.store c.open.ensures.any_moment c.is_finished.ensures.any_moment))
+
+pub returns-in_err-is_finished-clause-refused : goal.returns-in_err-is_finished-clause-refused
+returns-in_err-is_finished-clause-refused g c = λ all start begins.
+    let cur = told_some (HasCurrent c.in_ok-saved.saved.current) (g.T.Store.files c.args.store.now) start begins.told c.in_ok-saved.ensures.current in
+    let p = err_from_is_err_and c.from_residual-in_err-is_finished.result c.from_residual-in_err-is_finished.ensures.1 in
+    let is : c.from_residual-in_err-is_finished.result ≡ Err c.in_err-is_finished.field-0.0 = p.1 ∙ ap (λ (w : BuildError). Err w) p.2 in
+    subst (λ (r : Result Summary BuildError). IfErr r (IsRefused all c.args.config.now start)) (sym is)
+    (record { current = c.in_ok-saved.saved.current; has_current = cur; because = store-refused all c.args.config.now c.in_ok-saved.saved.current c.in_err-is_finished.field-0.0 c.in_err-is_finished.ensures.only })
+
+pub returns-in_err-is_finished-clause-accepted : goal.returns-in_err-is_finished-clause-accepted
+returns-in_err-is_finished-clause-accepted g c = λ all start begins acc.
+    let p = err_from_is_err_and c.from_residual-in_err-is_finished.result c.from_residual-in_err-is_finished.ensures.1 in
+    let is : c.from_residual-in_err-is_finished.result ≡ Err c.in_err-is_finished.field-0.0 = p.1 ∙ ap (λ (w : BuildError). Err w) p.2 in
+    inr (stores-fails c.from_residual-in_err-is_finished.result c.in_err-is_finished.field-0.0 is c.in_err-is_finished.ensures.only)
+
+pub returns-in_err-sync-clause-sound : goal.returns-in_err-sync-clause-sound
+returns-in_err-sync-clause-sound g c = λ all start begins.
+    same-moves c.sound_steps_law.ensures.same c.sound_law.ensures.published c.sound_steps_law.ensures.guarding all begins.sound.current g.T.Store.files g.T.Store.may_leave g.T.Store.moment g.T.Store.image_since c.args.store.now c.sync.new.self (sound-settled c.sound_steps_law.ensures.same c.sound_law.ensures.published c.sound_steps_law.ensures.guarding all begins.sound.current g.T.Store.files g.T.Store.may_leave g.T.Store.moment g.T.Store.image_since c.args.store.now start begins.told begins.settled begins.sound begins.sound.has_current) (same_twice g.T.Store.files g.T.Store.may_leave g.T.Store.moment g.T.Store.image_since c.args.store.now c.is_finished.new.store c.sync.new.self (same_twice g.T.Store.files g.T.Store.may_leave g.T.Store.moment g.T.Store.image_since c.args.store.now c.open.new.store c.is_finished.new.store c.open.ensures.any_moment c.is_finished.ensures.any_moment) (moves_once g.T.Store.files g.T.Store.may_leave g.T.Store.moment g.T.Store.image_since SameFiles c.is_finished.new.store c.sync.new.self c.sync.ensures.reads (λ image is. (image, c.sync.ensures.images image is, λ name. refl)) c.sync.ensures.time))
+
+pub returns-in_err-sync-clause-done_already : goal.returns-in_err-sync-clause-done_already
+returns-in_err-sync-clause-done_already g c = λ all start begins done.
+    (same_twice g.T.Store.files g.T.Store.may_leave g.T.Store.moment g.T.Store.image_since c.args.store.now c.is_finished.new.store c.sync.new.self (same_twice g.T.Store.files g.T.Store.may_leave g.T.Store.moment g.T.Store.image_since c.args.store.now c.open.new.store c.is_finished.new.store c.open.ensures.any_moment c.is_finished.ensures.any_moment) (moves_once g.T.Store.files g.T.Store.may_leave g.T.Store.moment g.T.Store.image_since SameFiles c.is_finished.new.store c.sync.new.self c.sync.ensures.reads (λ image is. (image, c.sync.ensures.images image is, λ name. refl)) c.sync.ensures.time))
+
+pub returns-in_err-sync-clause-early : goal.returns-in_err-sync-clause-early
+returns-in_err-sync-clause-early g c =
+    let p = err_from_is_err_and c.from_residual-in_err-sync.result c.from_residual-in_err-sync.ensures.1 in
+    let is : c.from_residual-in_err-sync.result ≡ Err (of_put c.in_err-sync.field-0.0) = p.1 ∙ ap (λ (w : BuildError). Err w) p.2 in
+    subst (λ (r : Result Summary BuildError). IfErr r (λ f. IsEarly f → Moves g.T.Store.files g.T.Store.may_leave g.T.Store.moment g.T.Store.image_since SameFiles c.args.store.now c.sync.new.self)) (sym is) (λ early. (same_twice g.T.Store.files g.T.Store.may_leave g.T.Store.moment g.T.Store.image_since c.args.store.now c.is_finished.new.store c.sync.new.self (same_twice g.T.Store.files g.T.Store.may_leave g.T.Store.moment g.T.Store.image_since c.args.store.now c.open.new.store c.is_finished.new.store c.open.ensures.any_moment c.is_finished.ensures.any_moment) (moves_once g.T.Store.files g.T.Store.may_leave g.T.Store.moment g.T.Store.image_since SameFiles c.is_finished.new.store c.sync.new.self c.sync.ensures.reads (λ image is. (image, c.sync.ensures.images image is, λ name. refl)) c.sync.ensures.time)))
+
+pub returns-in_err-sync-clause-refused : goal.returns-in_err-sync-clause-refused
+returns-in_err-sync-clause-refused g c = λ all start begins.
+    let cur = told_some (HasCurrent c.in_ok-saved.saved.current) (g.T.Store.files c.args.store.now) start begins.told c.in_ok-saved.ensures.current in
+    let p = err_from_is_err_and c.from_residual-in_err-sync.result c.from_residual-in_err-sync.ensures.1 in
+    let is : c.from_residual-in_err-sync.result ≡ Err (of_put c.in_err-sync.field-0.0) = p.1 ∙ ap (λ (w : BuildError). Err w) p.2 in
+    subst (λ (r : Result Summary BuildError). IfErr r (IsRefused all c.args.config.now start)) (sym is)
+    (record { current = c.in_ok-saved.saved.current; has_current = cur; because = store-refused all c.args.config.now c.in_ok-saved.saved.current (of_put c.in_err-sync.field-0.0) (put-store c.in_err-sync.field-0.0) })
+
+pub returns-in_err-sync-clause-accepted : goal.returns-in_err-sync-clause-accepted
+returns-in_err-sync-clause-accepted g c = λ all start begins acc.
+    let p = err_from_is_err_and c.from_residual-in_err-sync.result c.from_residual-in_err-sync.ensures.1 in
+    let is : c.from_residual-in_err-sync.result ≡ Err (of_put c.in_err-sync.field-0.0) = p.1 ∙ ap (λ (w : BuildError). Err w) p.2 in
+    inr (stores-fails c.from_residual-in_err-sync.result (of_put c.in_err-sync.field-0.0) is (put-store c.in_err-sync.field-0.0))
+
+pub returns-in_err-sync-clause-sources : goal.returns-in_err-sync-clause-sources
+returns-in_err-sync-clause-sources g c = record {
+  later = c.make_plan.ensures.cause.later;
+  failed = λ is. absurd (put-no-source c.in_err-sync.field-0.0 (search (rules, is)));
+}
+
+pub returns-in_err-sync-clause-stores : goal.returns-in_err-sync-clause-stores
+returns-in_err-sync-clause-stores g c = record {
+  later = omega (arith, c.open.ensures.cause.later, c.is_finished.ensures.stores.later, c.sync.ensures.cause.later);
+  failed = λ is. omega (arith, c.open.ensures.cause.later, c.is_finished.ensures.stores.later, c.in_err-sync.ensures.cause.failed (ap (λ (w : PutError). Err w) (put-failed c.in_err-sync.field-0.0 (search (rules, is)))));
+}
+
+pub returns-then-branch-clause-built : goal.returns-then-branch-clause-built
+returns-then-branch-clause-built g c = λ all start begins.
+    let cur = told_some (HasCurrent c.in_ok-saved.saved.current) (g.T.Store.files c.args.store.now) start begins.told c.in_ok-saved.ensures.current in
+    let finished = c.in_ok-is_finished.ensures.finished (ap (λ (b : Bool). Ok b) c.if-branch.true) in
+    let at_end = stepped SameFiles (g.T.Store.files c.args.store.now) (g.T.Store.files c.sync.new.self) start begins.told (same_twice g.T.Store.files g.T.Store.may_leave g.T.Store.moment g.T.Store.image_since c.args.store.now c.is_finished.new.store c.sync.new.self (same_twice g.T.Store.files g.T.Store.may_leave g.T.Store.moment g.T.Store.image_since c.args.store.now c.open.new.store c.is_finished.new.store c.open.ensures.any_moment c.is_finished.ensures.any_moment) (moves_once g.T.Store.files g.T.Store.may_leave g.T.Store.moment g.T.Store.image_since SameFiles c.is_finished.new.store c.sync.new.self c.sync.ensures.reads (λ image is. (image, c.sync.ensures.images image is, λ name. refl)) c.sync.ensures.time)).reads in
+    let at_one = stepped SameFiles (g.T.Store.files c.args.store.now) (g.T.Store.files c.open.new.store) start begins.told c.open.ensures.any_moment.reads in
+    let done_one = told_some IsDone (g.T.Store.files c.open.new.store) at_one.0 at_one.1 finished.1 in
+    let done_end : IsDone at_end.0 = at_end.2 done_name ∙ (sym (at_one.2 done_name) ∙ done_one) in
+    tells_some (IsBuilt all c.args.config.now start (record { points = c.in_ok-plan.plan.points; nodes = c.nodes_of.result })) (g.T.Store.files c.sync.new.self) at_end.0 at_end.1
+    (finished-built c.sound_steps_law.ensures.same c.sound_law.ensures.complete all start at_end.0 c.args.config.now c.in_ok-saved.saved.current c.in_ok-plan.plan c.in_ok-plan.ensures.plan cur begins.sound at_end.2 finished.0 done_end c.nodes_of.result c.nodes_of.ensures)
+
+pub returns-then-branch-clause-sound : goal.returns-then-branch-clause-sound
+returns-then-branch-clause-sound g c = λ all start begins.
+    same-moves c.sound_steps_law.ensures.same c.sound_law.ensures.published c.sound_steps_law.ensures.guarding all begins.sound.current g.T.Store.files g.T.Store.may_leave g.T.Store.moment g.T.Store.image_since c.args.store.now c.sync.new.self (sound-settled c.sound_steps_law.ensures.same c.sound_law.ensures.published c.sound_steps_law.ensures.guarding all begins.sound.current g.T.Store.files g.T.Store.may_leave g.T.Store.moment g.T.Store.image_since c.args.store.now start begins.told begins.settled begins.sound begins.sound.has_current) (same_twice g.T.Store.files g.T.Store.may_leave g.T.Store.moment g.T.Store.image_since c.args.store.now c.is_finished.new.store c.sync.new.self (same_twice g.T.Store.files g.T.Store.may_leave g.T.Store.moment g.T.Store.image_since c.args.store.now c.open.new.store c.is_finished.new.store c.open.ensures.any_moment c.is_finished.ensures.any_moment) (moves_once g.T.Store.files g.T.Store.may_leave g.T.Store.moment g.T.Store.image_since SameFiles c.is_finished.new.store c.sync.new.self c.sync.ensures.reads (λ image is. (image, c.sync.ensures.images image is, λ name. refl)) c.sync.ensures.time))
+
+pub returns-then-branch-clause-done_already : goal.returns-then-branch-clause-done_already
+returns-then-branch-clause-done_already g c = λ all start begins done.
+    (same_twice g.T.Store.files g.T.Store.may_leave g.T.Store.moment g.T.Store.image_since c.args.store.now c.is_finished.new.store c.sync.new.self (same_twice g.T.Store.files g.T.Store.may_leave g.T.Store.moment g.T.Store.image_since c.args.store.now c.open.new.store c.is_finished.new.store c.open.ensures.any_moment c.is_finished.ensures.any_moment) (moves_once g.T.Store.files g.T.Store.may_leave g.T.Store.moment g.T.Store.image_since SameFiles c.is_finished.new.store c.sync.new.self c.sync.ensures.reads (λ image is. (image, c.sync.ensures.images image is, λ name. refl)) c.sync.ensures.time))
 
 pub returns-clause-built : goal.returns-clause-built
-returns-clause-built g c =
-    built-told c.args.config.now c.in_ok-octree.octree c.len.result (c.len.ensures.len ∙ ap (λ (w : List Branch). length w) c.nodes.ensures.nodes) (g.T.Store.files c.args.store.now) (g.T.Store.files c.finish.new.store) c.output_names_law.ensures.outside c.in_ok-finish.ensures.puts (g.H.Shelf.files c.args.shelf.now) c.in_ok-octree.ensures.octree
+returns-clause-built g c = λ all start begins.
+    let cur = told_some (HasCurrent c.in_ok-saved.saved.current) (g.T.Store.files c.args.store.now) start begins.told c.in_ok-saved.ensures.current in
+    let at_two = stepped SameFiles (g.T.Store.files c.args.store.now) (g.T.Store.files c.is_finished.new.store) start begins.told (same_twice g.T.Store.files g.T.Store.may_leave g.T.Store.moment g.T.Store.image_since c.args.store.now c.open.new.store c.is_finished.new.store c.open.ensures.any_moment c.is_finished.ensures.any_moment).reads in
+    let told : g.H.Shelf.files c.make_plan.new.shelf ≡ Some all = c.in_ok-plan.ensures.files ∙ begins.shelf_told in
+    let stands = same-stands g.T.Store.files g.T.Store.may_leave g.T.Store.moment g.T.Store.image_since c.in_ok-saved.saved c.open.new.store c.is_finished.new.store c.is_finished.ensures.any_moment (c.in_ok-saved.ensures.stands start begins.told begins.settled) in
+    let starts = starts-again c.sound_steps_law.ensures.same all start at_two.0 c.args.config.now c.in_ok-saved.saved c.in_ok-plan.plan cur begins.sound at_two.2 g.T.Store.files g.T.Store.may_leave g.T.Store.moment g.T.Store.image_since c.args.store.now c.is_finished.new.store begins.told begins.settled at_two.1 (same_twice g.T.Store.files g.T.Store.may_leave g.T.Store.moment g.T.Store.image_since c.args.store.now c.open.new.store c.is_finished.new.store c.open.ensures.any_moment c.is_finished.ensures.any_moment) stands (tells-some _ (g.H.Shelf.files c.args.shelf.now) all begins.shelf_told c.in_ok-plan.ensures.scan) in
+    IfOk-weaker c.built.result _ _ (λ summary. built-from all c.args.config.now start at_two.0 at_two.2 summary (g.T.Store.files c.built.new.store)) (c.built.ensures.built all at_two.0 told starts)
 
-pub returns-clause-refusal_comes : goal.returns-clause-refusal_comes
-returns-clause-refusal_comes g c =
-    tells-more _ _ (λ all comes e definite because. absurd (no-refusal c.in_ok-octree.octree e (comes e definite because))) (g.H.Shelf.files c.args.shelf.now) c.in_ok-octree.ensures.refusal_comes
+pub returns-clause-sound : goal.returns-clause-sound
+returns-clause-sound g c = λ all start begins.
+    let cur = told_some (HasCurrent c.in_ok-saved.saved.current) (g.T.Store.files c.args.store.now) start begins.told c.in_ok-saved.ensures.current in
+    let at_two = stepped SameFiles (g.T.Store.files c.args.store.now) (g.T.Store.files c.is_finished.new.store) start begins.told (same_twice g.T.Store.files g.T.Store.may_leave g.T.Store.moment g.T.Store.image_since c.args.store.now c.open.new.store c.is_finished.new.store c.open.ensures.any_moment c.is_finished.ensures.any_moment).reads in
+    let told : g.H.Shelf.files c.make_plan.new.shelf ≡ Some all = c.in_ok-plan.ensures.files ∙ begins.shelf_told in
+    let stands = same-stands g.T.Store.files g.T.Store.may_leave g.T.Store.moment g.T.Store.image_since c.in_ok-saved.saved c.open.new.store c.is_finished.new.store c.is_finished.ensures.any_moment (c.in_ok-saved.ensures.stands start begins.told begins.settled) in
+    let starts = starts-again c.sound_steps_law.ensures.same all start at_two.0 c.args.config.now c.in_ok-saved.saved c.in_ok-plan.plan cur begins.sound at_two.2 g.T.Store.files g.T.Store.may_leave g.T.Store.moment g.T.Store.image_since c.args.store.now c.is_finished.new.store begins.told begins.settled at_two.1 (same_twice g.T.Store.files g.T.Store.may_leave g.T.Store.moment g.T.Store.image_since c.args.store.now c.open.new.store c.is_finished.new.store c.open.ensures.any_moment c.is_finished.ensures.any_moment) stands (tells-some _ (g.H.Shelf.files c.args.shelf.now) all begins.shelf_told c.in_ok-plan.ensures.scan) in
+    moves-then g.T.Store.files g.T.Store.may_leave g.T.Store.moment g.T.Store.image_since (IsSound all) c.args.store.now c.is_finished.new.store c.built.new.store (same-moves c.sound_steps_law.ensures.same c.sound_law.ensures.published c.sound_steps_law.ensures.guarding all begins.sound.current g.T.Store.files g.T.Store.may_leave g.T.Store.moment g.T.Store.image_since c.args.store.now c.is_finished.new.store (sound-settled c.sound_steps_law.ensures.same c.sound_law.ensures.published c.sound_steps_law.ensures.guarding all begins.sound.current g.T.Store.files g.T.Store.may_leave g.T.Store.moment g.T.Store.image_since c.args.store.now start begins.told begins.settled begins.sound begins.sound.has_current) (same_twice g.T.Store.files g.T.Store.may_leave g.T.Store.moment g.T.Store.image_since c.args.store.now c.open.new.store c.is_finished.new.store c.open.ensures.any_moment c.is_finished.ensures.any_moment)) (c.built.ensures.sound all at_two.0 told starts)
 
-pub returns-clause-puts_accepted : goal.returns-clause-puts_accepted
-returns-clause-puts_accepted g c =
-    inr (accepted-told c.args.config.now c.in_ok-octree.octree (g.H.Shelf.files c.args.shelf.now) c.in_ok-octree.ensures.octree)
+pub returns-clause-done_already : goal.returns-clause-done_already
+returns-clause-done_already g c = λ all start begins done.
+    let cur = told_some (HasCurrent c.in_ok-saved.saved.current) (g.T.Store.files c.args.store.now) start begins.told c.in_ok-saved.ensures.current in
+    let has = done-all c.sound_law.ensures.one c.sound_law.ensures.published all start c.args.config.now c.in_ok-saved.saved.current c.in_ok-plan.plan c.in_ok-plan.ensures.plan cur begins.sound done in
+    let at_one = stepped SameFiles (g.T.Store.files c.args.store.now) (g.T.Store.files c.open.new.store) start begins.told c.open.ensures.any_moment.reads in
+    let undone = told_some (λ f. ¬ IsDone f) (g.T.Store.files c.open.new.store) at_one.0 at_one.1 (c.in_ok-is_finished.ensures.not (ap (λ (b : Bool). Ok b) c.if-branch.false) has) in
+    absurd (undone (at_one.2 done_name ∙ done.done))
 
-pub returns-in_err-octree-clause-guarded : goal.returns-in_err-octree-clause-guarded
-returns-in_err-octree-clause-guarded g c = λ all start shelf told settled.
-    over-none g.T.Store.files g.T.Store.may_leave g.T.Store.moment g.T.Store.image_since (HasOutput all c.args.config.now) start c.args.store.now told settled
+pub returns-clause-refused : goal.returns-clause-refused
+returns-clause-refused g c = λ all start begins.
+    let cur = told_some (HasCurrent c.in_ok-saved.saved.current) (g.T.Store.files c.args.store.now) start begins.told c.in_ok-saved.ensures.current in
+    let at_two = stepped SameFiles (g.T.Store.files c.args.store.now) (g.T.Store.files c.is_finished.new.store) start begins.told (same_twice g.T.Store.files g.T.Store.may_leave g.T.Store.moment g.T.Store.image_since c.args.store.now c.open.new.store c.is_finished.new.store c.open.ensures.any_moment c.is_finished.ensures.any_moment).reads in
+    let told : g.H.Shelf.files c.make_plan.new.shelf ≡ Some all = c.in_ok-plan.ensures.files ∙ begins.shelf_told in
+    let stands = same-stands g.T.Store.files g.T.Store.may_leave g.T.Store.moment g.T.Store.image_since c.in_ok-saved.saved c.open.new.store c.is_finished.new.store c.is_finished.ensures.any_moment (c.in_ok-saved.ensures.stands start begins.told begins.settled) in
+    let starts = starts-again c.sound_steps_law.ensures.same all start at_two.0 c.args.config.now c.in_ok-saved.saved c.in_ok-plan.plan cur begins.sound at_two.2 g.T.Store.files g.T.Store.may_leave g.T.Store.moment g.T.Store.image_since c.args.store.now c.is_finished.new.store begins.told begins.settled at_two.1 (same_twice g.T.Store.files g.T.Store.may_leave g.T.Store.moment g.T.Store.image_since c.args.store.now c.open.new.store c.is_finished.new.store c.open.ensures.any_moment c.is_finished.ensures.any_moment) stands (tells-some _ (g.H.Shelf.files c.args.shelf.now) all begins.shelf_told c.in_ok-plan.ensures.scan) in
+    IfErr-weaker c.built.result (IsRefusedAt all c.args.config.now c.in_ok-saved.saved.current) (IsRefused all c.args.config.now start) (λ e because. record { current = c.in_ok-saved.saved.current; has_current = cur; because = because }) (c.built.ensures.refused all at_two.0 told starts)
 
-pub returns-in_err-finish-clause-guarded : goal.returns-in_err-finish-clause-guarded
-returns-in_err-finish-clause-guarded g c = λ all start shelf told settled.
-    let o = c.in_ok-octree.octree in
-    let is = told_some (λ (w : Files). IsOctree w c.args.config.now o) (g.H.Shelf.files c.args.shelf.now) all shelf c.in_ok-octree.ensures.octree in
-    moves_weaker g.T.Store.files g.T.Store.may_leave g.T.Store.moment g.T.Store.image_since _ (λ (a b : Files). IsOverOutput all c.args.config.now start b) (over-output c.args.config.now o all is c.output_names_law.ensures.outside start) c.args.store.now c.finish.new.store (c.in_err-finish.ensures.guarded start told settled)
+pub returns-clause-accepted : goal.returns-clause-accepted
+returns-clause-accepted g c = λ all start begins acc.
+    let cur = told_some (HasCurrent c.in_ok-saved.saved.current) (g.T.Store.files c.args.store.now) start begins.told c.in_ok-saved.ensures.current in
+    let at_two = stepped SameFiles (g.T.Store.files c.args.store.now) (g.T.Store.files c.is_finished.new.store) start begins.told (same_twice g.T.Store.files g.T.Store.may_leave g.T.Store.moment g.T.Store.image_since c.args.store.now c.open.new.store c.is_finished.new.store c.open.ensures.any_moment c.is_finished.ensures.any_moment).reads in
+    let told : g.H.Shelf.files c.make_plan.new.shelf ≡ Some all = c.in_ok-plan.ensures.files ∙ begins.shelf_told in
+    let stands = same-stands g.T.Store.files g.T.Store.may_leave g.T.Store.moment g.T.Store.image_since c.in_ok-saved.saved c.open.new.store c.is_finished.new.store c.is_finished.ensures.any_moment (c.in_ok-saved.ensures.stands start begins.told begins.settled) in
+    let starts = starts-again c.sound_steps_law.ensures.same all start at_two.0 c.args.config.now c.in_ok-saved.saved c.in_ok-plan.plan cur begins.sound at_two.2 g.T.Store.files g.T.Store.may_leave g.T.Store.moment g.T.Store.image_since c.args.store.now c.is_finished.new.store begins.told begins.settled at_two.1 (same_twice g.T.Store.files g.T.Store.may_leave g.T.Store.moment g.T.Store.image_since c.args.store.now c.open.new.store c.is_finished.new.store c.open.ensures.any_moment c.is_finished.ensures.any_moment) stands (tells-some _ (g.H.Shelf.files c.args.shelf.now) all begins.shelf_told c.in_ok-plan.ensures.scan) in
+    let same : acc.current ≡ c.in_ok-saved.saved.current = c.sound_law.ensures.one start acc.current c.in_ok-saved.saved.current acc.has_current cur in
+    built-accepted c.built.result all c.args.config.now c.in_ok-saved.saved.current c.built.ensures.only (c.built.ensures.refused all at_two.0 told starts) acc.kept acc.points (subst (λ (w : Current). HasPoints all c.args.config.now w acc.kept acc.points) same acc.has_points) acc.few
 
-pub returns-clause-guarded : goal.returns-clause-guarded
-returns-clause-guarded g c = λ all start shelf told settled.
-    let o = c.in_ok-octree.octree in
-    let is = told_some (λ (w : Files). IsOctree w c.args.config.now o) (g.H.Shelf.files c.args.shelf.now) all shelf c.in_ok-octree.ensures.octree in
-    moves_weaker g.T.Store.files g.T.Store.may_leave g.T.Store.moment g.T.Store.image_since _ (λ (a b : Files). IsOverOutput all c.args.config.now start b) (over-output c.args.config.now o all is c.output_names_law.ensures.outside start) c.args.store.now c.finish.new.store (c.in_ok-finish.ensures.guarded start told settled)
+pub returns-in_err-plan-clause-differs_comes : goal.returns-in_err-plan-clause-differs_comes
+returns-in_err-plan-clause-differs_comes g c = λ all start begins current has not_on.
+    let cur = told_some (HasCurrent c.in_ok-saved.saved.current) (g.T.Store.files c.args.store.now) start begins.told c.in_ok-saved.ensures.current in
+    let e = c.in_err-plan.field-0.0 in
+    let is : c.from_residual-in_err-plan.result ≡ Err (of_plan e) = search rules in
+    let same : current ≡ c.in_ok-saved.saved.current = c.sound_law.ensures.one start current c.in_ok-saved.saved.current has cur in
+    plan-differs c.from_residual-in_err-plan.result e is (c.in_err-plan.ensures.differs_comes (subst (λ (w : Current). ¬ GoesOn c.args.config.now w) same not_on))
+
+pub returns-in_err-plan-clause-too_many_comes : goal.returns-in_err-plan-clause-too_many_comes
+returns-in_err-plan-clause-too_many_comes g c = λ all start begins current has on not_done many.
+    let cur = told_some (HasCurrent c.in_ok-saved.saved.current) (g.T.Store.files c.args.store.now) start begins.told c.in_ok-saved.ensures.current in
+    let e = c.in_err-plan.field-0.0 in
+    let is : c.from_residual-in_err-plan.result ≡ Err (of_plan e) = search rules in
+    let same : current ≡ c.in_ok-saved.saved.current = c.sound_law.ensures.one start current c.in_ok-saved.saved.current has cur in
+    let comes = tells-some _ (g.H.Shelf.files c.args.shelf.now) all begins.shelf_told c.in_err-plan.ensures.accepted in
+    inr (plan-only c.from_residual-in_err-plan.result e is
+    (comes many.points many.has_points.done (subst (λ (w : Current). GoesOn c.args.config.now w) same on)
+    (subst (λ (w : Current). IsScan all c.args.config.now.scale (limits_by c.args.config.now.bounds w) c.args.config.now.inputs 0 many.points many.has_points.done) same many.has_points.scan)))
+
+pub returns-in_err-is_finished-clause-too_many_comes : goal.returns-in_err-is_finished-clause-too_many_comes
+returns-in_err-is_finished-clause-too_many_comes g c = λ all start begins current has on not_done many.
+    let p = err_from_is_err_and c.from_residual-in_err-is_finished.result c.from_residual-in_err-is_finished.ensures.1 in
+    let is : c.from_residual-in_err-is_finished.result ≡ Err c.in_err-is_finished.field-0.0 = p.1 ∙ ap (λ (w : BuildError). Err w) p.2 in
+    inr (stores-fails c.from_residual-in_err-is_finished.result c.in_err-is_finished.field-0.0 is c.in_err-is_finished.ensures.only)
+
+pub returns-in_err-sync-clause-bad : goal.returns-in_err-sync-clause-bad
+returns-in_err-sync-clause-bad g c = λ letter told.
+    let p = err_from_is_err_and c.from_residual-in_err-sync.result c.from_residual-in_err-sync.ensures.1 in
+    let is : c.from_residual-in_err-sync.result ≡ Err (of_put c.in_err-sync.field-0.0) = p.1 ∙ ap (λ (w : BuildError). Err w) p.2 in
+    absurd (put-not-bad c.in_err-sync.field-0.0 letter (err-one (sym is ∙ told)))
+
+pub returns-then-branch-clause-refusal_comes : goal.returns-then-branch-clause-refusal_comes
+returns-then-branch-clause-refusal_comes g c = λ all start begins current e has definite refused.
+    let cur = told_some (HasCurrent c.in_ok-saved.saved.current) (g.T.Store.files c.args.store.now) start begins.told c.in_ok-saved.ensures.current in
+    let same : current ≡ c.in_ok-saved.saved.current = c.sound_law.ensures.one start current c.in_ok-saved.saved.current has cur in
+    let comes = tells-some _ (g.H.Shelf.files c.args.shelf.now) all begins.shelf_told c.in_ok-plan.ensures.refusal_comes in
+    absurd (plan-is-ok c.in_ok-plan.plan (plan.Scan e) (comes e (subst (λ (w : Current). GoesOn c.args.config.now w) same refused.0) definite (subst (λ (w : Current). AreRefused all c.args.config.now w e) same refused.1)))
+
+pub returns-clause-too_many_comes : goal.returns-clause-too_many_comes
+returns-clause-too_many_comes g c = λ all start begins current has on not_done many.
+    let cur = told_some (HasCurrent c.in_ok-saved.saved.current) (g.T.Store.files c.args.store.now) start begins.told c.in_ok-saved.ensures.current in
+    let at_two = stepped SameFiles (g.T.Store.files c.args.store.now) (g.T.Store.files c.is_finished.new.store) start begins.told (same_twice g.T.Store.files g.T.Store.may_leave g.T.Store.moment g.T.Store.image_since c.args.store.now c.open.new.store c.is_finished.new.store c.open.ensures.any_moment c.is_finished.ensures.any_moment).reads in
+    let told : g.H.Shelf.files c.make_plan.new.shelf ≡ Some all = c.in_ok-plan.ensures.files ∙ begins.shelf_told in
+    let stands = same-stands g.T.Store.files g.T.Store.may_leave g.T.Store.moment g.T.Store.image_since c.in_ok-saved.saved c.open.new.store c.is_finished.new.store c.is_finished.ensures.any_moment (c.in_ok-saved.ensures.stands start begins.told begins.settled) in
+    let starts = starts-again c.sound_steps_law.ensures.same all start at_two.0 c.args.config.now c.in_ok-saved.saved c.in_ok-plan.plan cur begins.sound at_two.2 g.T.Store.files g.T.Store.may_leave g.T.Store.moment g.T.Store.image_since c.args.store.now c.is_finished.new.store begins.told begins.settled at_two.1 (same_twice g.T.Store.files g.T.Store.may_leave g.T.Store.moment g.T.Store.image_since c.args.store.now c.open.new.store c.is_finished.new.store c.open.ensures.any_moment c.is_finished.ensures.any_moment) stands (tells-some _ (g.H.Shelf.files c.args.shelf.now) all begins.shelf_told c.in_ok-plan.ensures.scan) in
+    let same : current ≡ c.in_ok-saved.saved.current = c.sound_law.ensures.one start current c.in_ok-saved.saved.current has cur in
+    let end = stepped (λ (a b : Files). IsSound all b) (g.T.Store.files c.is_finished.new.store) (g.T.Store.files c.built.new.store) at_two.0 at_two.1 (c.built.ensures.sound all at_two.0 told starts).reads in
+    built-many c.built.result all c.args.config.now c.in_ok-saved.saved.current at_two.0 (g.T.Store.files c.built.new.store) end.0 end.1 c.built.ensures.only (c.built.ensures.refused all at_two.0 told starts) c.built.ensures.few (c.built.ensures.built all at_two.0 told starts)
+    (λ other its. c.sound_law.ensures.one at_two.0 other c.in_ok-saved.saved.current its starts.has_current) many.kept many.points (subst (λ (w : Current). HasPoints all c.args.config.now w many.kept many.points) same many.has_points) many.many
