@@ -1,32 +1,43 @@
 -- Which refusal of a layer below was told.
-use Rattle.std.proofs.Common.{◌≡◌, ℕ, Option, Some, None}
+use Rattle.std.proofs.Common.{◌≡◌, ◌∙◌, ◌⊎◌, inl, inr, ℕ, sym, ap, subst, Option, Some, None}
 use Rattle.ept_base.specs.Files.{Tells}
-use Rattle.ept_scan.specs.declared.read_error.ReadError.{ReadError}
-use Rattle.ept_scan.specs.declared.read_error.ReadError.TheVariants as read
-use Rattle.ept_tree.specs.declared.tree_error.TreeError.{TreeError}
-use Rattle.ept_tree.specs.declared.tree_error.TreeError.TheVariants as tree
-use Rattle.ept_build.specs.declared.error.BuildError.TheVariants.{SourceFault, SourceChanged, TooManyNodes}
-use Rattle.ept_build.specs.Errors.{of_read, of_tree}
+use Rattle.ept_space.specs.VoxelKey.{VoxelKey}
+use Rattle.ept_insert.specs.declared.error.InsertError.{InsertError}
+use Rattle.ept_insert.specs.declared.error.InsertError.TheVariants as insert
+use Rattle.ept_save.specs.declared.error.SaveError.{SaveError}
+use Rattle.ept_save.specs.declared.error.SaveError.TheVariants as save
+use Rattle.ept_save.specs.Errors.{IsStores}
+use Rattle.ept_build.specs.declared.error.BuildError.{BuildError}
+use Rattle.ept_build.specs.declared.error.BuildError.TheVariants.{StoreFault, TileDamaged, SourceChanged, TooManyNodes}
+use Rattle.ept_build.specs.Errors.{of_insert, of_save}
 
-pub was_changed : (e : ReadError) (source number : ℕ) → of_read e ≡ SourceChanged source number → e ≡ read.SourceChanged source number
-was_changed read.SourceFault source number is = absurd (cc)
-was_changed read.Memory source number is = absurd (cc)
-was_changed (read.SourceChanged a b) source number is = cc
+pub inserted-many : (e : InsertError) → of_insert e ≡ TooManyNodes → e ≡ insert.TooManyNodes
+inserted-many insert.TooManyNodes is = cc
+inserted-many insert.SourceFault is = absurd (cc)
+inserted-many insert.Memory is = absurd (cc)
+inserted-many (insert.SourceChanged a b) is = absurd (cc)
 
-pub was_fault : (e : ReadError) → of_read e ≡ SourceFault → e ≡ read.SourceFault
-was_fault read.SourceFault is = cc
-was_fault read.Memory is = absurd (cc)
-was_fault (read.SourceChanged a b) is = absurd (cc)
+pub inserted-changed : (e : InsertError) (source number : ℕ) → of_insert e ≡ SourceChanged source number → e ≡ insert.SourceChanged source number
+inserted-changed insert.TooManyNodes source number is = absurd (cc)
+inserted-changed insert.SourceFault source number is = absurd (cc)
+inserted-changed insert.Memory source number is = absurd (cc)
+inserted-changed (insert.SourceChanged a b) source number is = cc
 
-pub was_many : (e : TreeError) → of_tree e ≡ TooManyNodes → e ≡ tree.TooManyNodes
-was_many tree.TooManyNodes is = cc
-was_many tree.Memory is = absurd (cc)
+-- a refusal of the store tells of no tile
+pub stores-undamaged : (e : SaveError) (key : VoxelKey) → IsStores e → of_save e ≡ TileDamaged key → ⊥
+stores-undamaged e key (inl fault) is = let told : of_save save.StoreFault ≡ TileDamaged key = sym (ap of_save fault) ∙ is in cc
+stores-undamaged e key (inr memory) is = let told : of_save save.Memory ≡ TileDamaged key = sym (ap of_save memory) ∙ is in cc
 
 -- what follows of a told fact is told
 pub tells-more : {X : Type 0} (P Q : X → Type 0) → ((x : X) → P x → Q x) → (o : Option X) → Tells P o → Tells Q o
 tells-more P Q more None told = tt
 tells-more P Q more (Some x) told = more x told
 
-pub tells-both : {X : Type 0} (P Q R : X → Type 0) → ((x : X) → P x → Q x → R x) → (o : Option X) → Tells P o → Tells Q o → Tells R o
-tells-both P Q R more None one two = tt
-tells-both P Q R more (Some x) one two = more x one two
+-- what holds of all is told
+pub tells-all : {X : Type 0} (P : X → Type 0) → ((x : X) → P x) → (o : Option X) → Tells P o
+tells-all P all None = tt
+tells-all P all (Some x) = all x
+
+-- what is told of this
+pub tells-some : {X : Type 0} (P : X → Type 0) (o : Option X) (x : X) → o ≡ Some x → Tells P o → P x
+tells-some {X} P o x is told = subst (λ (w : Option X). Tells P w) is told

@@ -1,8 +1,8 @@
--- What a build of a configuration is of, over a shelf of these files, and why it is refused.
-use Rattle.std.specs.Prelude.{◌≡◌, ◌≢◌, ◌⊎◌, ℕ, ◌<◌, ◌≤◌, List, ◌∷◌, Option, Result, Err, length, ⊤}
-use Rattle.ept_base.specs.Files.{Files, StepsBy}
+-- What a build of a configuration is of, over a shelf and a store with these files, what it leaves, and why it is refused.
+use Rattle.std.specs.Prelude.{◌≡◌, ◌≢◌, ◌⊎◌, ℕ, ◌<◌, ◌≤◌, List, Option, Result, Err, Some, None, length, ⊤}
+use Rattle.ept_base.specs.Files.{Files}
+use Rattle.ept_base.specs.Moves.{IsSettled}
 use Rattle.ept_point.specs.declared.point.Point.{Point}
-use Rattle.ept_space.specs.declared.bounds.Bounds.{Bounds}
 use Rattle.ept_sample.specs.Nodes.{sampled}
 use Rattle.ept_config.specs.declared.config.Config.{Config}
 use Rattle.ept_config.specs.declared.kept.Kept.{Kept}
@@ -10,117 +10,131 @@ use Rattle.ept_config.specs.KeptOf.{IsKeptOf}
 use Rattle.ept_scan.specs.declared.scan_done.ScanDone.{ScanDone}
 use Rattle.ept_scan.specs.declared.scan_error.ScanError.{ScanError}
 use Rattle.ept_scan.specs.declared.scan_error.ScanError.TheVariants as scan
-use Rattle.ept_config.specs.Extents.{HasExtent}
-use Rattle.ept_scan.specs.Scans.{IsScan, ScanIsRefused}
+use Rattle.ept_scan.specs.Scans.{IsScan}
+use Rattle.ept_meta.specs.Output.{rules_of}
+use Rattle.ept_save.specs.Complete.{IsComplete}
+use Rattle.ept_save.specs.Current.{Current, HasCurrent}
+use Rattle.ept_save.specs.Done.{IsDone}
+use Rattle.ept_save.specs.Sound.{IsSound}
+use Rattle.ept_save.specs.View.{View, StandsFor}
+use Rattle.ept_plan.specs.declared.plan.Plan.{Plan}
+use Rattle.ept_plan.specs.Plans.{inputs_by, limits_by, GoesOn, ScansAll, DiffersBy, AreRefused}
 use Rattle.ept_build.specs.declared.error.BuildError.{BuildError}
-use Rattle.ept_build.specs.declared.error.BuildError.TheVariants.{StoreFault, SourceFault, BadLas, OutOfBounds, TooManyPoints, NoBounds, SourceChanged, TooManyNodes, Memory}
+use Rattle.ept_build.specs.declared.error.BuildError.TheVariants.{StoreFault, BadCheckpoint, TileDamaged, Differs, SourceFault, BadLas, OutOfBounds, TooManyPoints, NoBounds, SourceChanged, TooManyNodes, Memory}
 use Rattle.ept_build.specs.declared.summary.Summary.{Summary}
-use Rattle.ept_meta.specs.Output.{rules_of, output}
-use Rattle.ept_save.specs.Done.{IsDone, HasOutputOf}
-use Rattle.ept_save.specs.Complete.{HasAllOf}
-use Rattle.ept_build.specs.Gains.{Gains, done_file}
 
--- The inputs of the configuration have these points, all in order; within the bounds that were found, this is kept of the configuration.
-pub record HasPoints (all : Files) (config : Config) (done : ScanDone) (kept : Kept) (points : List Point) : Type 0 where
-  pub scan : IsScan all config.scale config.bounds config.inputs 0 points done
+-- ---- what a build begins with
+
+-- The shelf and the store tell. The store is settled, and its files are sound for the shelf.
+pub record BeginsWith (shelf files : Option Files) (may_leave : Files → Type 0) (all start : Files) : Type 0 where
+  pub shelf_told : shelf ≡ Some all
+  pub told : files ≡ Some start
+  pub settled : IsSettled files may_leave
+  pub sound : IsSound all start
+
+-- The inputs of the configuration have these points, all in order, within the bounds that the current checkpoint keeps; where there is none, within the given ones, or else within their extent. With the bounds this is kept of the configuration.
+pub record HasPoints (all : Files) (config : Config) (current : Current) (kept : Kept) (points : List Point) : Type 0 where
+  pub done : ScanDone
+  pub scan : IsScan all config.scale (limits_by config.bounds current) config.inputs 0 points done
   pub kept_is : IsKeptOf config done.bounds kept
 
 -- how many nodes the sampling of these points has
 abbrev pub node_count : Kept → List Point → ℕ
 node_count kept points = length (sampled (rules_of kept) points)
 
--- The inputs are accepted: they have points, and the sampling of these has few enough nodes.
-pub record IsAccepted (all : Files) (config : Config) : Type 0 where
-  pub done : ScanDone
-  pub kept : Kept
-  pub points : List Point
-  pub has_points : HasPoints all config done kept points
-  pub few : node_count kept points ≤ config.max_nodes
+-- what is left to be done begins with such files, where the current checkpoint is known and there is a plan
+pub record Starts (all : Files) (config : Config) (view : View) (plan : Plan) (start : Files) (files : Option Files) (may_leave : Files → Type 0) : Type 0 where
+  pub told : files ≡ Some start
+  pub settled : IsSettled files may_leave
+  pub sound : IsSound all start
+  pub has_current : HasCurrent view.current start
+  pub stands : StandsFor view files may_leave
+  pub scans : ScansAll all config view.current plan
 
--- The points of the inputs have few enough nodes; the store has gained the files of their sampling and the open done gate, and this
--- is said of them.
-pub record IsBuilt (all : Files) (config : Config) (summary : Summary) (old new : Option Files) : Type 0 where
-  pub done : ScanDone
+-- ---- what it leaves
+
+-- The files are complete for the points of the inputs, and their numbers are told.
+pub record IsBuilt (all : Files) (config : Config) (start : Files) (summary : Summary) (files : Files) : Type 0 where
+  pub current : Current
+  pub has_current : HasCurrent current start
   pub kept : Kept
   pub points : List Point
-  pub has_points : HasPoints all config done kept points
-  pub few : node_count kept points ≤ config.max_nodes
-  pub extent : Option Bounds
-  pub has_extent : HasExtent points extent
-  pub gains : StepsBy (Gains (done_file ∷ output kept done.counts extent points)) old new
+  pub has_points : HasPoints all config current kept points
+  pub complete : IsComplete kept points files
   pub points_are : summary.points ≡ length points
   pub nodes_are : summary.nodes ≡ node_count kept points
 
--- all files of the output of the inputs' points are there
-pub record HasOutput (all : Files) (config : Config) (files : Files) : Type 0 where
-  pub done : ScanDone
+-- the done gate is open, and the current checkpoint has all inputs of the configuration, with what is kept of it
+pub record IsDoneAlready (config : Config) (start : Files) : Type 0 where
+  pub done : IsDone start
+  pub current : Current
+  pub has_current : HasCurrent current start
+  pub goes_on : GoesOn config current
+  pub no_more : inputs_by current ≡ length config.inputs
+
+-- ---- why it is refused
+
+-- The inputs are accepted: they have points, and the sampling of these has few enough nodes.
+pub record IsAccepted (all : Files) (config : Config) (start : Files) : Type 0 where
+  pub current : Current
+  pub has_current : HasCurrent current start
+  pub goes_on : GoesOn config current
   pub kept : Kept
   pub points : List Point
-  pub has_points : HasPoints all config done kept points
-  pub extent : Option Bounds
-  pub has_extent : HasExtent points extent
-  pub there : HasAllOf (output kept done.counts extent points) files
-
--- where the done gate is open, the files of the output are those of the start, or the output of the inputs' points is all there
-abbrev pub IsOverOutput : Files → Config → Files → Files → Type 0
-IsOverOutput all config start files = IsDone files → HasOutputOf start files ⊎ HasOutput all config files
+  pub has_points : HasPoints all config current kept points
+  pub few : node_count kept points ≤ config.max_nodes
 
 -- the sampling of the inputs' points has more nodes than there may be
-pub record HasTooManyNodes (all : Files) (config : Config) : Type 0 where
-  pub done : ScanDone
+pub record HasTooManyNodes (all : Files) (config : Config) (current : Current) : Type 0 where
   pub kept : Kept
   pub points : List Point
-  pub has_points : HasPoints all config done kept points
+  pub has_points : HasPoints all config current kept points
   pub many : config.max_nodes < node_count kept points
 
--- the inputs are refused for this cause
-abbrev pub InputsAreRefused : Files → Config → ScanError → Type 0
-InputsAreRefused all config error = ScanIsRefused all config.scale config.bounds config.inputs 0 error
+-- the new inputs are refused for this cause
+abbrev pub InputsAreRefused : Files → Config → Current → ScanError → Type 0
+InputsAreRefused all config current error = GoesOn config current × AreRefused all config current error
 
--- Why a build is refused. Faults of devices and want of memory say nothing of the files, and files that are told stay as they are.
-abbrev pub IsRefused : Files → Config → BuildError → Type 0
-IsRefused all config StoreFault = ⊤
-IsRefused all config SourceFault = ⊤
-IsRefused all config Memory = ⊤
-IsRefused all config (BadLas source fault) = InputsAreRefused all config (scan.BadLas source fault)
-IsRefused all config (OutOfBounds source number) = InputsAreRefused all config (scan.OutOfBounds source number)
-IsRefused all config (TooManyPoints source) = InputsAreRefused all config (scan.TooManyPoints source)
-IsRefused all config NoBounds = InputsAreRefused all config scan.NoBounds
-IsRefused all config (SourceChanged source number) = ⊥
-IsRefused all config TooManyNodes = HasTooManyNodes all config
+-- Why a build is refused that began with sound files. Faults of devices and want of memory say nothing of the files, and files that are told stay as they are.
+abbrev pub IsRefusedAt : Files → Config → Current → BuildError → Type 0
+IsRefusedAt all config current StoreFault = ⊤
+IsRefusedAt all config current SourceFault = ⊤
+IsRefusedAt all config current Memory = ⊤
+IsRefusedAt all config current (BadCheckpoint letter) = ⊥
+IsRefusedAt all config current (TileDamaged key) = ⊥
+IsRefusedAt all config current (Differs field kept given) = DiffersBy config current (record { field = field; kept = kept; given = given })
+IsRefusedAt all config current (BadLas source fault) = InputsAreRefused all config current (scan.BadLas source fault)
+IsRefusedAt all config current (OutOfBounds source number) = InputsAreRefused all config current (scan.OutOfBounds source number)
+IsRefusedAt all config current (TooManyPoints source) = InputsAreRefused all config current (scan.TooManyPoints source)
+IsRefusedAt all config current NoBounds = InputsAreRefused all config current scan.NoBounds
+IsRefusedAt all config current (SourceChanged source number) = ⊥
+IsRefusedAt all config current TooManyNodes = HasTooManyNodes all config current
+
+-- so it is with the current checkpoint of the files
+pub record IsRefused (all : Files) (config : Config) (start : Files) (error : BuildError) : Type 0 where
+  pub current : Current
+  pub has_current : HasCurrent current start
+  pub because : IsRefusedAt all config current error
 
 -- a fault of a device, or want of memory
 abbrev pub IsFault : BuildError → Type 0
 IsFault e = (e ≡ StoreFault) ⊎ (e ≡ SourceFault) ⊎ (e ≡ Memory)
 
--- a cause that lies in the inputs
-abbrev pub IsDefinite : BuildError → Type 0
-IsDefinite e = IsFault e → ⊥
-
 -- the answer is a fault of a device, or want of memory
 abbrev pub Fails : Result Summary BuildError → Type 0
 Fails answer = (answer ≡ Err StoreFault) ⊎ (answer ≡ Err SourceFault) ⊎ (answer ≡ Err Memory)
 
--- a cause after which the store may have been written to
-abbrev pub IsLate : BuildError → Type 0
-IsLate e = (e ≡ StoreFault) ⊎ (e ≡ Memory)
-
--- the answer is a fault of a source, or want of memory
-abbrev pub Stops : {T : Type 0} → Result T BuildError → Type 0
-Stops answer = (answer ≡ Err SourceFault) ⊎ (answer ≡ Err Memory)
-
--- a cause that the reading of the inputs and the insertion of their points may have: any but a fault of the store
-abbrev pub IsReading : BuildError → Type 0
-IsReading e = e ≢ StoreFault
-
--- a cause that the second reading and the insertion may have
-abbrev pub IsInsertion : BuildError → Type 0
-IsInsertion SourceFault = ⊤
-IsInsertion (SourceChanged source number) = ⊤
-IsInsertion TooManyNodes = ⊤
-IsInsertion Memory = ⊤
-IsInsertion StoreFault = ⊥
-IsInsertion (BadLas source fault) = ⊥
-IsInsertion (OutOfBounds source number) = ⊥
-IsInsertion (TooManyPoints source) = ⊥
-IsInsertion NoBounds = ⊥
+-- a cause after which nothing was put: what is given is compared and scanned before
+abbrev pub IsEarly : BuildError → Type 0
+IsEarly StoreFault = ⊥
+IsEarly SourceFault = ⊥
+IsEarly Memory = ⊥
+IsEarly (BadCheckpoint letter) = ⊤
+IsEarly (TileDamaged key) = ⊥
+IsEarly (Differs field kept given) = ⊤
+IsEarly (BadLas source fault) = ⊤
+IsEarly (OutOfBounds source number) = ⊤
+IsEarly (TooManyPoints source) = ⊤
+IsEarly NoBounds = ⊤
+IsEarly (SourceChanged source number) = ⊥
+IsEarly TooManyNodes = ⊥

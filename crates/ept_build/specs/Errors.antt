@@ -5,12 +5,16 @@ use Rattle.ept_scan.specs.declared.scan_error.ScanError.{ScanError}
 use Rattle.ept_scan.specs.declared.scan_error.ScanError.TheVariants as scan
 use Rattle.ept_scan.specs.declared.read_error.ReadError.{ReadError}
 use Rattle.ept_scan.specs.declared.read_error.ReadError.TheVariants as read
-use Rattle.ept_tree.specs.declared.tree_error.TreeError.{TreeError}
-use Rattle.ept_tree.specs.declared.tree_error.TreeError.TheVariants as tree
+use Rattle.ept_insert.specs.declared.error.InsertError.{InsertError}
+use Rattle.ept_insert.specs.declared.error.InsertError.TheVariants as insert
 use Rattle.ept_save.specs.declared.error.SaveError.{SaveError}
 use Rattle.ept_save.specs.declared.error.SaveError.TheVariants as save
+use Rattle.ept_phase.specs.declared.error.LoadError.{LoadError}
+use Rattle.ept_phase.specs.declared.error.LoadError.TheVariants as load
+use Rattle.ept_plan.specs.declared.error.PlanError.{PlanError}
+use Rattle.ept_plan.specs.declared.error.PlanError.TheVariants as plan
 use Rattle.ept_build.specs.declared.error.BuildError.{BuildError}
-use Rattle.ept_build.specs.declared.error.BuildError.TheVariants.{StoreFault, SourceFault, BadLas, OutOfBounds, TooManyPoints, NoBounds, SourceChanged, TooManyNodes, Memory}
+use Rattle.ept_build.specs.declared.error.BuildError.TheVariants.{StoreFault, BadCheckpoint, TileDamaged, Differs, SourceFault, BadLas, OutOfBounds, TooManyPoints, NoBounds, SourceChanged, TooManyNodes, Memory}
 
 abbrev pub of_scan : ScanError → BuildError
 of_scan scan.SourceFault = SourceFault
@@ -20,22 +24,31 @@ of_scan (scan.TooManyPoints source) = TooManyPoints source
 of_scan scan.NoBounds = NoBounds
 of_scan scan.Memory = Memory
 
+abbrev pub of_plan : PlanError → BuildError
+of_plan (plan.Differs d) = Differs d.field d.kept d.given
+of_plan (plan.Scan e) = of_scan e
+
 abbrev pub of_read : ReadError → BuildError
 of_read read.SourceFault = SourceFault
 of_read (read.SourceChanged source number) = SourceChanged source number
 of_read read.Memory = Memory
 
+abbrev pub of_insert : InsertError → BuildError
+of_insert insert.SourceFault = SourceFault
+of_insert (insert.SourceChanged source number) = SourceChanged source number
+of_insert insert.TooManyNodes = TooManyNodes
+of_insert insert.Memory = Memory
+
+abbrev pub of_save : SaveError → BuildError
+of_save save.StoreFault = StoreFault
+of_save (save.BadCheckpoint letter) = BadCheckpoint letter
+of_save (save.TileDamaged key) = TileDamaged key
+of_save save.Memory = Memory
+
+abbrev pub of_load : LoadError → BuildError
+of_load (load.Save e) = of_save e
+of_load load.TooManyNodes = TooManyNodes
+
 abbrev pub of_put : PutError → BuildError
 of_put put.Failed = StoreFault
 of_put put.Memory = Memory
-
-abbrev pub of_tree : TreeError → BuildError
-of_tree tree.TooManyNodes = TooManyNodes
-of_tree tree.Memory = Memory
-
--- of the calls on the done gate, which refuse for a fault of the store or want of memory alone
-abbrev pub of_save : SaveError → BuildError
-of_save save.StoreFault = StoreFault
-of_save (save.BadCheckpoint letter) = Memory
-of_save (save.TileDamaged key) = Memory
-of_save save.Memory = Memory

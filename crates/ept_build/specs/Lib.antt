@@ -1,4 +1,3 @@
 pub mod Errors
-pub mod Gains
 pub mod Building
-pub mod Octrees
+pub mod Phases

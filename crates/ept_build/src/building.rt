@@ -1,30 +1,43 @@
 //! A build.
 
-ghost use Rattle.std.specs.Prelude.{◌≡◌, ◌⊎◌, Some, Err, IsOk, IfOk, IfErr, OnOk};
+ghost use Rattle.std.specs.Prelude.{◌≡◌, ◌⊎◌, true, false, Some, Ok, IsOk, IfOk, IfErr, OnOk, length};
 ghost use Rattle.ept_base.specs.Causes.{HasCauseOf};
-ghost use Rattle.ept_base.specs.Files.{Files, Tells};
+ghost use Rattle.ept_base.specs.Files.{Files, SameFiles, Tells};
 ghost use Rattle.ept_base.specs.Moves.{Moves, IsSettled};
-ghost use Rattle.ept_build.specs.Gains.{SameButBuild};
-ghost use Rattle.ept_build.specs.Building.{IsAccepted, IsBuilt, IsRefused, IsDefinite, IsLate, IsOverOutput, Fails};
+ghost use Rattle.ept_save.specs.Done.{IsDone};
+ghost use Rattle.ept_save.specs.Opening.{lines_of};
+ghost use Rattle.ept_save.specs.Sound.{IsSound};
+ghost use Rattle.ept_plan.specs.Plans.{IsPlan};
+ghost use Rattle.ept_build.specs.Building.{BeginsWith, Starts, IsBuilt, IsDoneAlready, IsAccepted, IsRefusedAt, IsRefused, IsEarly, Fails};
+ghost use Rattle.ept_build.specs.Phases.{HasAll, IsPhaseFault, IsStoreFault};
 
 use crate::error::BuildError;
 use crate::finishing::finish;
-use crate::octree::octree_of;
+use crate::growing::{grow, has_all};
+use crate::progress::Progress;
 use crate::summary::Summary;
 use ept_base::{Gate, Room, Shelf, Store};
 use ept_config::Config;
-use ept_meta::output_names_law;
+use ept_meta::{output_names_law, output_once_law, rules_of};
+use ept_phase::{lines_law, load_tree, saved_law};
+use ept_plan::{Plan, make_plan};
+use ept_sample::{node_law, point_law};
+use ept_save::{Saved, close_done, is_done, open, sound_law, sound_steps_law};
+use ept_scan::whole_extent;
 use std::alloc::Global;
 
 /// Builds the octree of the points of all inputs of the configuration, and puts its files into the store: the
-/// tile of each node, the hierarchy, the metadata, the manifest and the build file. Nothing is put before all
-/// points are inserted, so inputs that aren't accepted leave no trace, whatever fails besides. The done gate is
-/// closed before the first file is put, and opened once all are stable.
+/// tile of each node, the hierarchy, the metadata, the manifest and the build file.
+///
+/// It goes on from the current checkpoint of the store: the inputs that this has are not read again but for the
+/// records that are not inserted yet, and after each `checkpoint` records the octree is the next checkpoint. The
+/// done gate is closed meanwhile, and opened once all files of the output are stable. Where the current checkpoint
+/// has all inputs and the gate is open, nothing is put.
 ///
 /// # Errors
 ///
-/// The first cause in the order in which [`BuildError`] tells. After `StoreFault` and `Memory` some of the
-/// output's files may have been put.
+/// The first cause in the order in which [`BuildError`] tells. At any refusal the store can be opened anew and
+/// the build run again.
 pub fn build<H: Shelf, T: Store, R: Room, G: Gate + Sync>(
     alloc: Global,
     config: &Config,
@@ -36,34 +49,122 @@ pub fn build<H: Shelf, T: Store, R: Room, G: Gate + Sync>(
 where
     H::Source: Send,
     R::File: Send,
-    // What it leaves.
-    ensures built { IfOk result (λ summary. Tells
-        (λ all. IsBuilt all config.now summary (T.files store.old) (T.files store.new)) (H.files shelf.old)) }
+    // What it leaves of a settled store with sound files.
+    ensures built { (all start : Files) → BeginsWith (H.files shelf.old) (T.files store.old) (T.may_leave store.old) all start
+        → IfOk result (λ summary. Tells (IsBuilt all config.now start summary) (T.files store.new)) }
     ensures settled { OnOk result (IsSettled (T.files store.new) (T.may_leave store.new)) }
 
+    // Whatever the moment, each image is sound.
+    ensures sound { (all start : Files) → BeginsWith (H.files shelf.old) (T.files store.old) (T.may_leave store.old) all start
+        → Moves T.files T.may_leave T.moment T.image_since (λ (a b : Files). IsSound all b) store.old store.new }
+
+    // Nothing is put where nothing is to be done, and none where the inputs are refused.
+    ensures done_already { (all start : Files) → BeginsWith (H.files shelf.old) (T.files store.old) (T.may_leave store.old) all start
+        → IsDoneAlready config.now start
+        → Moves T.files T.may_leave T.moment T.image_since SameFiles store.old store.new }
+    ensures early { IfErr result (λ e. IsEarly e
+        → Moves T.files T.may_leave T.moment T.image_since SameFiles store.old store.new) }
+
     // Why it is refused, and when.
-    ensures refused { IfErr result (λ e. Tells (λ all. IsRefused all config.now e) (H.files shelf.old)) }
-    ensures refusal_comes { Tells (λ all. (e : BuildError) → IsDefinite e → IsRefused all config.now e
-        → (result ≡ Err e) ⊎ Fails result) (H.files shelf.old) }
-    ensures accepted { Tells (λ all. IsAccepted all config.now → IsOk result ⊎ Fails result) (H.files shelf.old) }
+    ensures refused { (all start : Files) → BeginsWith (H.files shelf.old) (T.files store.old) (T.may_leave store.old) all start
+        → IfErr result (IsRefused all config.now start) }
+    ensures accepted { (all start : Files) → BeginsWith (H.files shelf.old) (T.files store.old) (T.may_leave store.old) all start
+        → IsAccepted all config.now start → IsOk result ⊎ Fails result }
     ensures sources { HasCauseOf BuildError.SourceFault (H.faults shelf.old) (H.faults shelf.new) result }
     ensures stores { HasCauseOf BuildError.StoreFault (T.faults store.old) (T.faults store.new) result }
-
-    // What stays as it was.
-    ensures untouched { IfErr result (λ e. (IsLate e → ⊥) → store.new ≡ store.old) }
-    ensures puts_accepted { (store.new ≡ store.old) ⊎ Tells (λ all. IsAccepted all config.now) (H.files shelf.old) }
-    ensures any_moment { Moves T.files T.may_leave T.moment T.image_since SameButBuild store.old store.new }
-    ensures guarded { (all start : Files) → H.files shelf.old ≡ Some all → T.files store.old ≡ Some start
-        → IsSettled (T.files store.old) (T.may_leave store.old) → Moves T.files T.may_leave T.moment T.image_since
-        (λ (old new : Files). IsOverOutput all config.now start new) store.old store.new }
     ensures files { H.files shelf.new ≡ H.files shelf.old }
     ensures room { _room.new ≡ _room.old }
 {
-    let octree = octree_of(alloc, config, shelf)?;
+    let saved = open(alloc, store)?;
+    let plan = make_plan(alloc, config, shelf, &saved)?;
+    sound_law();
+    sound_steps_law();
+    if is_finished(alloc, store, &saved, &plan)? {
+        store.sync()?;
+        return Ok(Summary {
+            points: plan.points,
+            nodes: nodes_of(&saved),
+        });
+    }
+    built(alloc, config, shelf, store, saved, &plan)
+}
+
+// How many nodes the current checkpoint has.
+fn nodes_of(saved: &Saved) -> u32
+    ensures { result ≡ length (lines_of saved.now.current) }
+{
+    match saved.current() {
+        Some(checkpoint) => checkpoint.nodes.as_slice().len() as u32,
+        None => 0,
+    }
+}
+
+// Whether nothing is to be done: the current checkpoint has all points of all inputs, and the done gate is open.
+fn is_finished<T: Store>(
+    alloc: Global,
+    store: &mut T,
+    saved: &Saved,
+    plan: &Plan,
+) -> Result<bool, BuildError>
+    ensures finished { result ≡ Ok true → HasAll plan.now saved.now.current × Tells IsDone (T.files store.old) }
+    ensures not { result ≡ Ok false → HasAll plan.now saved.now.current → Tells (λ all. ¬ IsDone all) (T.files store.old) }
+    ensures any_moment { Moves T.files T.may_leave T.moment T.image_since SameFiles store.old store.new }
+    ensures only { IfErr result IsStoreFault }
+    ensures stores { HasCauseOf BuildError.StoreFault (T.faults store.old) (T.faults store.new) result }
+{
+    if !has_all(saved, plan) {
+        return Ok(false);
+    }
+    Ok(is_done(alloc, store)?)
+}
+
+// Brings what is left into the octree, and puts the files of the output.
+fn built<H: Shelf, T: Store>(
+    alloc: Global,
+    config: &Config,
+    shelf: &mut H,
+    store: &mut T,
+    saved: Saved,
+    plan: &Plan,
+) -> Result<Summary, BuildError>
+    requires plan { IsPlan config.now saved.current plan.now }
+    requires fresh { saved.lines ≡ lines_of saved.current }
+    ensures built { (all start : Files) → H.files shelf.old ≡ Some all
+        → Starts all config.now saved plan.now start (T.files store.old) (T.may_leave store.old)
+        → IfOk result (λ summary. Tells (IsBuilt all config.now start summary) (T.files store.new)) }
+    ensures settled { OnOk result (IsSettled (T.files store.new) (T.may_leave store.new)) }
+    ensures sound { (all start : Files) → H.files shelf.old ≡ Some all
+        → Starts all config.now saved plan.now start (T.files store.old) (T.may_leave store.old)
+        → Moves T.files T.may_leave T.moment T.image_since (λ (a b : Files). IsSound all b) store.old store.new }
+    ensures only { IfErr result IsPhaseFault }
+    ensures refused { (all start : Files) → H.files shelf.old ≡ Some all
+        → Starts all config.now saved plan.now start (T.files store.old) (T.may_leave store.old)
+        → IfErr result (IsRefusedAt all config.now saved.current) }
+    ensures files { H.files shelf.new ≡ H.files shelf.old }
+    ensures sources { HasCauseOf BuildError.SourceFault (H.faults shelf.old) (H.faults shelf.new) result }
+    ensures stores { HasCauseOf BuildError.StoreFault (T.faults store.old) (T.faults store.new) result }
+{
     output_names_law();
-    finish(alloc, store, &octree)?;
+    output_once_law();
+    saved_law();
+    sound_law();
+    sound_steps_law();
+    point_law();
+    node_law();
+    lines_law();
+    let extent = whole_extent(plan.counts.as_slice());
+    let rules = rules_of(&plan.kept);
+    let grown = load_tree(alloc, store, &saved, &rules, u64::from(config.max_nodes))?;
+    close_done(alloc, store)?;
+    let mut at = Progress {
+        saved,
+        grown,
+        inserted: plan.inserted,
+    };
+    grow(alloc, shelf, store, &mut at, plan, config.checkpoint, config.max_nodes)?;
+    finish(alloc, store, &at, plan, &extent)?;
     Ok(Summary {
-        points: octree.points,
-        nodes: octree.tree.nodes().len() as u32,
+        points: plan.points,
+        nodes: at.grown.nodes().len() as u32,
     })
 }

@@ -1,19 +1,36 @@
 //! Why a build is refused.
 
 use ept_base::PutError;
+use ept_ckpt::Letter;
+use ept_insert::InsertError;
 use ept_las::LasError;
-use ept_point::{Memory as NoMemory, PointNumber};
+use ept_meta::Field;
+use ept_phase::LoadError;
+use ept_plan::PlanError;
+use ept_point::PointNumber;
 use ept_save::SaveError;
 use ept_scan::{ReadError, ScanError};
-use ept_tree::TreeError;
-use std::alloc::{AllocError, AllocFailed};
+use ept_space::Key;
 
-/// Why a build is refused. The causes are looked for in the order of the work: those of the first reading in
-/// the order of [`ScanError`], then of the second reading and the insertion, then of the store.
-#[derive(Clone, Copy, Debug, PartialEq, Eq)]
+/// Why a build is refused. The causes are looked for in the order of the work: what the store holds, then the
+/// configuration, then the inputs, then the nodes.
+#[derive(Debug, Drop)]
 pub enum BuildError {
     /// A call of the store failed: its count of faults rose.
     StoreFault,
+    /// The body of this letter, whose gate is open, is absent or that of no checkpoint, or has the generation of
+    /// the other one.
+    BadCheckpoint { letter: Letter },
+    /// The tile that the current checkpoint names for this key is absent or not the node's.
+    TileDamaged { key: Key },
+    /// This is the first field of the configuration that differs from what an earlier build kept. Both values
+    /// are as the build file has them; of the inputs they are the first that differs, and what is given is
+    /// empty where the list ends before it.
+    Differs {
+        field: Field,
+        kept: Vec<u8>,
+        given: Vec<u8>,
+    },
     /// An input can't be opened or read: the shelf's count of faults rose.
     SourceFault,
     /// The input of this place in the list is no LAS file that can be read.
@@ -31,6 +48,24 @@ pub enum BuildError {
     TooManyNodes,
     /// Memory ran out.
     Memory,
+}
+
+impl From<PlanError> for BuildError {
+    ghost use Rattle.std.specs.Prelude.{◌≡◌};
+    ghost use Rattle.ept_build.specs.Errors.{of_plan};
+
+    ghost from_gives = { λ from e. e ≡ of_plan from };
+
+    fn from(error: PlanError) -> BuildError {
+        match error {
+            PlanError::Differs(difference) => BuildError::Differs {
+                field: difference.field,
+                kept: difference.kept,
+                given: difference.given,
+            },
+            PlanError::Scan(error) => BuildError::from(error),
+        }
+    }
 }
 
 impl From<ScanError> for BuildError {
@@ -68,6 +103,54 @@ impl From<ReadError> for BuildError {
     }
 }
 
+impl From<InsertError> for BuildError {
+    ghost use Rattle.std.specs.Prelude.{◌≡◌};
+    ghost use Rattle.ept_build.specs.Errors.{of_insert};
+
+    ghost from_gives = { λ from e. e ≡ of_insert from };
+
+    fn from(error: InsertError) -> BuildError {
+        match error {
+            InsertError::SourceFault => BuildError::SourceFault,
+            InsertError::SourceChanged { source, number } => {
+                BuildError::SourceChanged { source, number }
+            }
+            InsertError::TooManyNodes => BuildError::TooManyNodes,
+            InsertError::Memory => BuildError::Memory,
+        }
+    }
+}
+
+impl From<SaveError> for BuildError {
+    ghost use Rattle.std.specs.Prelude.{◌≡◌};
+    ghost use Rattle.ept_build.specs.Errors.{of_save};
+
+    ghost from_gives = { λ from e. e ≡ of_save from };
+
+    fn from(error: SaveError) -> BuildError {
+        match error {
+            SaveError::StoreFault => BuildError::StoreFault,
+            SaveError::BadCheckpoint { letter } => BuildError::BadCheckpoint { letter },
+            SaveError::TileDamaged { key } => BuildError::TileDamaged { key },
+            SaveError::Memory => BuildError::Memory,
+        }
+    }
+}
+
+impl From<LoadError> for BuildError {
+    ghost use Rattle.std.specs.Prelude.{◌≡◌};
+    ghost use Rattle.ept_build.specs.Errors.{of_load};
+
+    ghost from_gives = { λ from e. e ≡ of_load from };
+
+    fn from(error: LoadError) -> BuildError {
+        match error {
+            LoadError::Save(error) => BuildError::from(error),
+            LoadError::TooManyNodes => BuildError::TooManyNodes,
+        }
+    }
+}
+
 impl From<PutError> for BuildError {
     ghost use Rattle.std.specs.Prelude.{◌≡◌};
     ghost use Rattle.ept_build.specs.Errors.{of_put};
@@ -79,68 +162,5 @@ impl From<PutError> for BuildError {
             PutError::Failed => BuildError::StoreFault,
             PutError::Memory => BuildError::Memory,
         }
-    }
-}
-
-impl From<SaveError> for BuildError {
-    ghost use Rattle.std.specs.Prelude.{◌≡◌};
-    ghost use Rattle.ept_build.specs.Errors.{of_save};
-
-    ghost from_gives = { λ from e. e ≡ of_save from };
-
-    // The calls on the done gate refuse for no other cause.
-    fn from(error: SaveError) -> BuildError {
-        match error {
-            SaveError::StoreFault => BuildError::StoreFault,
-            SaveError::BadCheckpoint { .. } | SaveError::TileDamaged { .. } | SaveError::Memory =>
-                BuildError::Memory,
-        }
-    }
-}
-
-impl From<TreeError> for BuildError {
-    ghost use Rattle.std.specs.Prelude.{◌≡◌};
-    ghost use Rattle.ept_build.specs.Errors.{of_tree};
-
-    ghost from_gives = { λ from e. e ≡ of_tree from };
-
-    fn from(error: TreeError) -> BuildError {
-        match error {
-            TreeError::TooManyNodes => BuildError::TooManyNodes,
-            TreeError::Memory => BuildError::Memory,
-        }
-    }
-}
-
-impl From<NoMemory> for BuildError {
-    ghost use Rattle.std.specs.Prelude.{◌≡◌};
-    ghost use Rattle.ept_build.specs.declared.error.BuildError.TheVariants.{Memory};
-
-    ghost from_gives = { λ _ e. e ≡ Memory };
-
-    fn from(_error: NoMemory) -> BuildError {
-        BuildError::Memory
-    }
-}
-
-impl From<AllocError> for BuildError {
-    ghost use Rattle.std.specs.Prelude.{◌≡◌};
-    ghost use Rattle.ept_build.specs.declared.error.BuildError.TheVariants.{Memory};
-
-    ghost from_gives = { λ _ e. e ≡ Memory };
-
-    fn from(_error: AllocError) -> BuildError {
-        BuildError::Memory
-    }
-}
-
-impl<T: Drop> From<AllocFailed<T>> for BuildError {
-    ghost use Rattle.std.specs.Prelude.{◌≡◌};
-    ghost use Rattle.ept_build.specs.declared.error.BuildError.TheVariants.{Memory};
-
-    ghost from_gives = { λ _ e. e ≡ Memory };
-
-    fn from(_error: AllocFailed<T>) -> BuildError {
-        BuildError::Memory
     }
 }

@@ -1,46 +1,62 @@
-//! The files of the output, put behind a closed gate.
+//! The end of a build: the files of the output, and the opening of the done gate.
 
-ghost use Rattle.std.specs.Prelude.{◌≡◌, Some, IfErr, OnOk, length, map};
+ghost use Rattle.std.specs.Prelude.{◌≡◌, List, OnOk, IfErr, length};
 ghost use Rattle.ept_base.specs.Causes.{HasCauseOf};
-ghost use Rattle.ept_base.specs.Files.{Files, StepsBy};
+ghost use Rattle.ept_base.specs.Files.{Files, Tells};
 ghost use Rattle.ept_base.specs.Moves.{IsSettled, Moves};
-ghost use Rattle.ept_meta.specs.Output.{files_of};
-ghost use Rattle.ept_tree.specs.Tree.{tile_of};
+ghost use Rattle.ept_point.specs.declared.point.Point.{Point};
+ghost use Rattle.ept_config.specs.Extents.{HasExtent};
+ghost use Rattle.ept_meta.specs.Output.{File, rules_of};
 ghost use Rattle.ept_tree.specs.Grown.{nodes_of};
-ghost use Rattle.ept_build.specs.Building.{IsLate};
-ghost use Rattle.ept_build.specs.Gains.{PutsBehindGate, SameButBuild, IsOverWhole};
+ghost use Rattle.ept_tree.specs.TreeLaws.{AreSampled};
+ghost use Rattle.ept_save.specs.Complete.{IsComplete};
+ghost use Rattle.ept_save.specs.Sound.{IsSound};
+ghost use Rattle.ept_plan.specs.Plans.{IsOf, inserted_by};
+ghost use Rattle.ept_build.specs.Phases.{IsFit, AreOfShelf, IsOnWay, IsStoreFault};
 
 use crate::error::BuildError;
-use crate::octree::Octree;
-use crate::publishing::publish;
+use crate::progress::Progress;
 use ept_base::Store;
-use ept_meta::output_names_law;
-use ept_save::{close_done, open_done};
+use ept_meta::{output_names_law, output_once_law};
+use ept_plan::Plan;
+use ept_publish::{publish, published_law};
+use ept_save::{open_done, sound_law, sound_steps_law};
+use ept_space::Bounds;
 use std::alloc::Global;
 
-/// Closes the done gate, puts the files of the octree, and opens the gate once they are stable.
+/// Puts the files of the output, of which the current checkpoint has all points, and opens the done gate once
+/// they are stable.
 pub(crate) fn finish<T: Store>(
     alloc: Global,
     store: &mut T,
-    octree: &Octree,
+    at: &Progress,
+    plan: &Plan,
+    extent: &Option<Bounds>,
 ) -> Result<(), BuildError>
-    requires { length octree.now.counts ≡ length octree.now.kept.inputs }
-    ensures puts { OnOk result (StepsBy (PutsBehindGate (files_of
-        octree.now.kept octree.now.counts octree.now.extent octree.now.points
-        (map tile_of (nodes_of octree.now.tree)))) (T.files store.old) (T.files store.new)) }
+    requires fit { IsFit plan.now }
+    requires all { IsOf plan.now at.now.saved.current }
+    requires inserted { inserted_by at.now.saved.current ≡ plan.now.points }
+    ensures complete { OnOk result ((shelf : Files) (points : List Point) (output : List File)
+        → AreOfShelf shelf plan.now points output → length points ≡ plan.now.points → HasExtent points extent.now
+        → AreSampled (rules_of plan.now.kept) points (nodes_of at.now.grown)
+        → IsOnWay shelf output at.now.saved (T.files store.old) (T.may_leave store.old)
+        → Tells (IsComplete plan.now.kept points) (T.files store.new)) }
+    ensures sound { (shelf : Files) (points : List Point) (output : List File)
+        → AreOfShelf shelf plan.now points output → length points ≡ plan.now.points → HasExtent points extent.now
+        → AreSampled (rules_of plan.now.kept) points (nodes_of at.now.grown)
+        → IsOnWay shelf output at.now.saved (T.files store.old) (T.may_leave store.old)
+        → Moves T.files T.may_leave T.moment T.image_since (λ (a b : Files). IsSound shelf b) store.old store.new }
     ensures settled { OnOk result (IsSettled (T.files store.new) (T.may_leave store.new)) }
-    ensures any_moment { Moves T.files T.may_leave T.moment T.image_since SameButBuild store.old store.new }
-    ensures guarded { (start : Files) → T.files store.old ≡ Some start
-        → IsSettled (T.files store.old) (T.may_leave store.old) → Moves T.files T.may_leave T.moment T.image_since
-        (λ (old new : Files). IsOverWhole (files_of
-        octree.now.kept octree.now.counts octree.now.extent octree.now.points
-        (map tile_of (nodes_of octree.now.tree))) start new) store.old store.new }
-    ensures late { IfErr result IsLate }
-    ensures cause { HasCauseOf BuildError.StoreFault (T.faults store.old) (T.faults store.new) result }
+    ensures only { IfErr result IsStoreFault }
+    ensures stores { HasCauseOf BuildError.StoreFault (T.faults store.old) (T.faults store.new) result }
 {
+    let counts = plan.counts.as_slice();
+    published_law();
+    sound_law();
+    sound_steps_law();
     output_names_law();
-    close_done(alloc, store)?;
-    publish(alloc, store, octree)?;
+    output_once_law();
+    publish(alloc, store, &plan.kept, counts, extent, plan.points, at.grown.nodes())?;
     open_done(store)?;
     Ok(())
 }

@@ -1,15 +1,17 @@
 //! The builder: from scans on a shelf to the files of an octree of tiles in a store.
 //!
 //! The inputs are read twice: first to find the number of their points and where they lie, then in batches,
-//! whose points are brought into an octree. Once all are there, the files of the output are put.
+//! whose points are brought into an octree. After so many points the octree is the current checkpoint, from
+//! which a later build goes on. Once all points are in it, the files of the output are put.
 #![tactic(auto)]
 
 mod building;
 mod error;
 mod finishing;
 mod growing;
-mod octree;
-mod publishing;
+mod progress;
+#[cfg(test)]
+mod stop_tests;
 mod summary;
 #[cfg(test)]
 mod tests;

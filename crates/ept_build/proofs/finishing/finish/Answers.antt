@@ -1,86 +1,65 @@
-use Rattle.std.proofs.Common.{List}
-use Rattle.std.specs.Prelude.{map}
-use Rattle.ept_meta.specs.Output.{File, files_of}
-use Rattle.ept_tree.specs.Tree.{tile_of}
+use Rattle.std.proofs.Common.{◌≡◌, ◌∙◌, ℕ, List, length, map, refl, sym, ap, subst}
+use Rattle.ept_base.specs.Files.{Files, StepsBy}
+use Rattle.ept_base.specs.Moves.{Moves}
+use Rattle.ept_meta.specs.Output.{File, names_of}
 use Rattle.ept_tree.specs.Grown.{nodes_of}
-use Rattle.ept_build.specs.declared.octree.Octree.{Octree}
-use Rattle.ept_build.proofs.Guarding.{puts-behind, gate-build, output-build, build-both, settled-guarded, over-both, over-closing, over-putting, put-guarded, over-opening}
+use Rattle.ept_publish.specs.Publishing.{PutsAll, SameButThese}
+use Rattle.ept_plan.specs.Plans.{inserted_by}
+use Rattle.ept_build.proofs.Ending.{the-checkpoint, files-same, put-moves, put-guarded, end-moves, ends-complete}
 use Rattle.ept_build.proofs.finishing.finish.Goals as goal
 
--- the files of the octree
-abbrev its_files : Octree → List File
-its_files o = files_of o.kept o.counts o.extent o.points (map tile_of (nodes_of o.tree))
+pub returns-in_err-publish-clause-sound : goal.returns-in_err-publish-clause-sound
+returns-in_err-publish-clause-sound g c = λ shelf points output are number has_extent are_sampled way.
+    let plan = c.args.plan.now in
+    let view = c.args.at.now.saved in
+    let it = the-checkpoint plan view.current c.requires.all in
+    let nodes = nodes_of c.args.at.now.grown in
+    let all_in = sym (ap inserted_by it.2) ∙ c.requires.inserted in
+    let moved = subst (λ (w : List File). Moves g.T.Store.files g.T.Store.may_leave g.T.Store.moment g.T.Store.image_since (SameButThese (names_of w)) c.args.store.now c.publish.new.store) (files-same plan c.args.extent.now c.as_slice-counts.result.now nodes c.nodes.result.now.entries c.as_slice-counts.ensures c.nodes.ensures.nodes) c.publish.ensures.any_moment in
+    put-moves c.output_once_law.ensures.one c.output_names_law.ensures.names c.output_names_law.ensures.outside c.published_law.ensures.there c.sound_steps_law.ensures.putting c.sound_steps_law.ensures.guarding shelf plan points output are number c.args.extent.now has_extent nodes are_sampled it.0 it.1 it.3 all_in
+    g.T.Store.files g.T.Store.may_leave g.T.Store.moment g.T.Store.image_since c.args.store.now (g.met.T.Store.reads_an_image c.args.store.now) view it.2 way c.publish.new.store moved
 
-pub returns-clause-puts : goal.returns-clause-puts
-returns-clause-puts g c =
-    let files = g.T.Store.files in
-    puts-behind (its_files c.args.octree.now) (files c.args.store.now) (files c.close_done.new.store) (files c.publish.new.store) (files c.open_done.new.store)
-    c.in_ok-close_done.ensures.gate.reads c.in_ok-publish.ensures.ok c.in_ok-open_done.ensures.gate.reads c.in_ok-open_done.ensures.opened
+pub returns-in_err-open_done-clause-sound : goal.returns-in_err-open_done-clause-sound
+returns-in_err-open_done-clause-sound g c = λ shelf points output are number has_extent are_sampled way.
+    let plan = c.args.plan.now in
+    let view = c.args.at.now.saved in
+    let it = the-checkpoint plan view.current c.requires.all in
+    let nodes = nodes_of c.args.at.now.grown in
+    let all_in = sym (ap inserted_by it.2) ∙ c.requires.inserted in
+    let same = files-same plan c.args.extent.now c.as_slice-counts.result.now nodes c.nodes.result.now.entries c.as_slice-counts.ensures c.nodes.ensures.nodes in
+    let moved = subst (λ (w : List File). Moves g.T.Store.files g.T.Store.may_leave g.T.Store.moment g.T.Store.image_since (SameButThese (names_of w)) c.args.store.now c.publish.new.store) same c.publish.ensures.any_moment in
+    let puts = subst (λ (w : List File). StepsBy (PutsAll w) (g.T.Store.files c.args.store.now) (g.T.Store.files c.publish.new.store)) same c.in_ok-publish.ensures.puts in
+    let guarded = put-guarded c.output_once_law.ensures.one c.output_names_law.ensures.names c.output_names_law.ensures.outside c.published_law.ensures.there c.sound_steps_law.ensures.putting c.sound_steps_law.ensures.guarding shelf plan points output are number c.args.extent.now has_extent nodes are_sampled it.0 it.1 it.3 all_in
+        g.T.Store.files g.T.Store.may_leave g.T.Store.moment g.T.Store.image_since c.args.store.now (g.met.T.Store.reads_an_image c.args.store.now) view it.2 way c.publish.new.store moved in
+    end-moves c.output_once_law.ensures.one c.output_names_law.ensures.names c.output_names_law.ensures.outside c.published_law.ensures.there c.sound_steps_law.ensures.putting c.sound_steps_law.ensures.guarding shelf plan points output are number c.args.extent.now has_extent nodes are_sampled it.0 it.1 it.3 all_in
+    g.T.Store.files g.T.Store.may_leave g.T.Store.moment g.T.Store.image_since c.args.store.now (g.met.T.Store.reads_an_image c.args.store.now) view it.2 way c.publish.new.store moved puts c.open_done.new.store (c.open_done.ensures.guards guarded)
 
-pub returns-in_err-close_done-clause-any_moment : goal.returns-in_err-close_done-clause-any_moment
-returns-in_err-close_done-clause-any_moment g c =
-    gate-build g.T.Store.files g.T.Store.may_leave g.T.Store.moment g.T.Store.image_since c.args.store.now c.close_done.new.store c.in_err-close_done.ensures.gate
+pub returns-clause-sound : goal.returns-clause-sound
+returns-clause-sound g c = λ shelf points output are number has_extent are_sampled way.
+    let plan = c.args.plan.now in
+    let view = c.args.at.now.saved in
+    let it = the-checkpoint plan view.current c.requires.all in
+    let nodes = nodes_of c.args.at.now.grown in
+    let all_in = sym (ap inserted_by it.2) ∙ c.requires.inserted in
+    let same = files-same plan c.args.extent.now c.as_slice-counts.result.now nodes c.nodes.result.now.entries c.as_slice-counts.ensures c.nodes.ensures.nodes in
+    let moved = subst (λ (w : List File). Moves g.T.Store.files g.T.Store.may_leave g.T.Store.moment g.T.Store.image_since (SameButThese (names_of w)) c.args.store.now c.publish.new.store) same c.publish.ensures.any_moment in
+    let puts = subst (λ (w : List File). StepsBy (PutsAll w) (g.T.Store.files c.args.store.now) (g.T.Store.files c.publish.new.store)) same c.in_ok-publish.ensures.puts in
+    let guarded = put-guarded c.output_once_law.ensures.one c.output_names_law.ensures.names c.output_names_law.ensures.outside c.published_law.ensures.there c.sound_steps_law.ensures.putting c.sound_steps_law.ensures.guarding shelf plan points output are number c.args.extent.now has_extent nodes are_sampled it.0 it.1 it.3 all_in
+        g.T.Store.files g.T.Store.may_leave g.T.Store.moment g.T.Store.image_since c.args.store.now (g.met.T.Store.reads_an_image c.args.store.now) view it.2 way c.publish.new.store moved in
+    end-moves c.output_once_law.ensures.one c.output_names_law.ensures.names c.output_names_law.ensures.outside c.published_law.ensures.there c.sound_steps_law.ensures.putting c.sound_steps_law.ensures.guarding shelf plan points output are number c.args.extent.now has_extent nodes are_sampled it.0 it.1 it.3 all_in
+    g.T.Store.files g.T.Store.may_leave g.T.Store.moment g.T.Store.image_since c.args.store.now (g.met.T.Store.reads_an_image c.args.store.now) view it.2 way c.publish.new.store moved puts c.open_done.new.store (c.open_done.ensures.guards guarded)
 
-pub returns-in_err-publish-clause-any_moment : goal.returns-in_err-publish-clause-any_moment
-returns-in_err-publish-clause-any_moment g c =
-    build-both g.T.Store.files g.T.Store.may_leave g.T.Store.moment g.T.Store.image_since c.args.store.now c.close_done.new.store c.publish.new.store
-    (gate-build g.T.Store.files g.T.Store.may_leave g.T.Store.moment g.T.Store.image_since c.args.store.now c.close_done.new.store c.in_ok-close_done.ensures.gate)
-    (output-build g.T.Store.files g.T.Store.may_leave g.T.Store.moment g.T.Store.image_since c.close_done.new.store c.publish.new.store c.in_err-publish.ensures.any_moment)
-
-pub returns-in_err-open_done-clause-any_moment : goal.returns-in_err-open_done-clause-any_moment
-returns-in_err-open_done-clause-any_moment g c =
-    build-both g.T.Store.files g.T.Store.may_leave g.T.Store.moment g.T.Store.image_since c.args.store.now c.publish.new.store c.open_done.new.store
-    (build-both g.T.Store.files g.T.Store.may_leave g.T.Store.moment g.T.Store.image_since c.args.store.now c.close_done.new.store c.publish.new.store
-    (gate-build g.T.Store.files g.T.Store.may_leave g.T.Store.moment g.T.Store.image_since c.args.store.now c.close_done.new.store c.in_ok-close_done.ensures.gate)
-    (output-build g.T.Store.files g.T.Store.may_leave g.T.Store.moment g.T.Store.image_since c.close_done.new.store c.publish.new.store c.in_ok-publish.ensures.any_moment))
-    (gate-build g.T.Store.files g.T.Store.may_leave g.T.Store.moment g.T.Store.image_since c.publish.new.store c.open_done.new.store c.in_err-open_done.ensures.gate)
-
-pub returns-clause-any_moment : goal.returns-clause-any_moment
-returns-clause-any_moment g c =
-    build-both g.T.Store.files g.T.Store.may_leave g.T.Store.moment g.T.Store.image_since c.args.store.now c.publish.new.store c.open_done.new.store
-    (build-both g.T.Store.files g.T.Store.may_leave g.T.Store.moment g.T.Store.image_since c.args.store.now c.close_done.new.store c.publish.new.store
-    (gate-build g.T.Store.files g.T.Store.may_leave g.T.Store.moment g.T.Store.image_since c.args.store.now c.close_done.new.store c.in_ok-close_done.ensures.gate)
-    (output-build g.T.Store.files g.T.Store.may_leave g.T.Store.moment g.T.Store.image_since c.close_done.new.store c.publish.new.store c.in_ok-publish.ensures.any_moment))
-    (gate-build g.T.Store.files g.T.Store.may_leave g.T.Store.moment g.T.Store.image_since c.publish.new.store c.open_done.new.store c.in_ok-open_done.ensures.gate)
-
-pub returns-in_err-close_done-clause-guarded : goal.returns-in_err-close_done-clause-guarded
-returns-in_err-close_done-clause-guarded g c = λ start told settled.
-    over-closing g.T.Store.files g.T.Store.may_leave g.T.Store.moment g.T.Store.image_since (its_files c.args.octree.now) start c.args.store.now c.close_done.new.store
-    (c.in_err-close_done.ensures.guards (settled-guarded g.T.Store.files g.T.Store.may_leave g.T.Store.moment g.T.Store.image_since c.args.store.now start told settled))
-
-pub returns-in_err-publish-clause-guarded : goal.returns-in_err-publish-clause-guarded
-returns-in_err-publish-clause-guarded g c = λ start told settled.
-    let output = its_files c.args.octree.now in
-    over-both g.T.Store.files g.T.Store.may_leave g.T.Store.moment g.T.Store.image_since output start c.args.store.now c.close_done.new.store c.publish.new.store
-    (over-closing g.T.Store.files g.T.Store.may_leave g.T.Store.moment g.T.Store.image_since output start c.args.store.now c.close_done.new.store
-    (c.in_ok-close_done.ensures.guards (settled-guarded g.T.Store.files g.T.Store.may_leave g.T.Store.moment g.T.Store.image_since c.args.store.now start told settled)))
-    (over-putting g.T.Store.files g.T.Store.may_leave g.T.Store.moment g.T.Store.image_since output start c.output_names_law.ensures.outside c.args.store.now c.close_done.new.store c.publish.new.store told
-    c.in_ok-close_done.ensures.gate.reads c.in_ok-close_done.ensures.closed c.in_ok-close_done.ensures.settled c.in_err-publish.ensures.any_moment)
-
-pub returns-in_err-open_done-clause-guarded : goal.returns-in_err-open_done-clause-guarded
-returns-in_err-open_done-clause-guarded g c = λ start told settled.
-    let output = its_files c.args.octree.now in
-    let outside = c.output_names_law.ensures.outside in
-    let shut = c.in_ok-close_done.ensures in
-    let put = c.in_ok-publish.ensures in
-    over-both g.T.Store.files g.T.Store.may_leave g.T.Store.moment g.T.Store.image_since output start c.args.store.now c.publish.new.store c.open_done.new.store
-    (over-both g.T.Store.files g.T.Store.may_leave g.T.Store.moment g.T.Store.image_since output start c.args.store.now c.close_done.new.store c.publish.new.store
-    (over-closing g.T.Store.files g.T.Store.may_leave g.T.Store.moment g.T.Store.image_since output start c.args.store.now c.close_done.new.store
-    (shut.guards (settled-guarded g.T.Store.files g.T.Store.may_leave g.T.Store.moment g.T.Store.image_since c.args.store.now start told settled)))
-    (over-putting g.T.Store.files g.T.Store.may_leave g.T.Store.moment g.T.Store.image_since output start outside c.args.store.now c.close_done.new.store c.publish.new.store told shut.gate.reads shut.closed shut.settled put.any_moment))
-    (over-opening g.T.Store.files g.T.Store.may_leave g.T.Store.moment g.T.Store.image_since output start outside c.args.store.now c.close_done.new.store c.publish.new.store told shut.gate.reads shut.closed shut.settled put.any_moment c.open_done.new.store put.ok
-    (c.in_err-open_done.ensures.guards (put-guarded g.T.Store.files g.T.Store.may_leave g.T.Store.moment g.T.Store.image_since output start outside c.args.store.now c.close_done.new.store c.publish.new.store told shut.gate.reads shut.closed shut.settled put.any_moment)))
-
-pub returns-clause-guarded : goal.returns-clause-guarded
-returns-clause-guarded g c = λ start told settled.
-    let output = its_files c.args.octree.now in
-    let outside = c.output_names_law.ensures.outside in
-    let shut = c.in_ok-close_done.ensures in
-    let put = c.in_ok-publish.ensures in
-    over-both g.T.Store.files g.T.Store.may_leave g.T.Store.moment g.T.Store.image_since output start c.args.store.now c.publish.new.store c.open_done.new.store
-    (over-both g.T.Store.files g.T.Store.may_leave g.T.Store.moment g.T.Store.image_since output start c.args.store.now c.close_done.new.store c.publish.new.store
-    (over-closing g.T.Store.files g.T.Store.may_leave g.T.Store.moment g.T.Store.image_since output start c.args.store.now c.close_done.new.store
-    (shut.guards (settled-guarded g.T.Store.files g.T.Store.may_leave g.T.Store.moment g.T.Store.image_since c.args.store.now start told settled)))
-    (over-putting g.T.Store.files g.T.Store.may_leave g.T.Store.moment g.T.Store.image_since output start outside c.args.store.now c.close_done.new.store c.publish.new.store told shut.gate.reads shut.closed shut.settled put.any_moment))
-    (over-opening g.T.Store.files g.T.Store.may_leave g.T.Store.moment g.T.Store.image_since output start outside c.args.store.now c.close_done.new.store c.publish.new.store told shut.gate.reads shut.closed shut.settled put.any_moment c.open_done.new.store put.ok
-    (c.in_ok-open_done.ensures.guards (put-guarded g.T.Store.files g.T.Store.may_leave g.T.Store.moment g.T.Store.image_since output start outside c.args.store.now c.close_done.new.store c.publish.new.store told shut.gate.reads shut.closed shut.settled put.any_moment)))
+pub returns-clause-complete : goal.returns-clause-complete
+returns-clause-complete g c = λ shelf points output are number has_extent are_sampled way.
+    let plan = c.args.plan.now in
+    let view = c.args.at.now.saved in
+    let it = the-checkpoint plan view.current c.requires.all in
+    let nodes = nodes_of c.args.at.now.grown in
+    let all_in = sym (ap inserted_by it.2) ∙ c.requires.inserted in
+    let same = files-same plan c.args.extent.now c.as_slice-counts.result.now nodes c.nodes.result.now.entries c.as_slice-counts.ensures c.nodes.ensures.nodes in
+    let moved = subst (λ (w : List File). Moves g.T.Store.files g.T.Store.may_leave g.T.Store.moment g.T.Store.image_since (SameButThese (names_of w)) c.args.store.now c.publish.new.store) same c.publish.ensures.any_moment in
+    let puts = subst (λ (w : List File). StepsBy (PutsAll w) (g.T.Store.files c.args.store.now) (g.T.Store.files c.publish.new.store)) same c.in_ok-publish.ensures.puts in
+    let guarded = put-guarded c.output_once_law.ensures.one c.output_names_law.ensures.names c.output_names_law.ensures.outside c.published_law.ensures.there c.sound_steps_law.ensures.putting c.sound_steps_law.ensures.guarding shelf plan points output are number c.args.extent.now has_extent nodes are_sampled it.0 it.1 it.3 all_in
+        g.T.Store.files g.T.Store.may_leave g.T.Store.moment g.T.Store.image_since c.args.store.now (g.met.T.Store.reads_an_image c.args.store.now) view it.2 way c.publish.new.store moved in
+    ends-complete c.output_once_law.ensures.one c.output_names_law.ensures.names c.output_names_law.ensures.outside c.published_law.ensures.there c.sound_steps_law.ensures.putting c.sound_steps_law.ensures.guarding shelf plan points output are number c.args.extent.now has_extent nodes are_sampled it.0 it.1 it.3 all_in
+    g.T.Store.files g.T.Store.may_leave g.T.Store.moment g.T.Store.image_since c.args.store.now (g.met.T.Store.reads_an_image c.args.store.now) view it.2 way c.publish.new.store moved puts c.open_done.new.store (c.open_done.ensures.guards guarded) c.sound_law.ensures.complete c.in_ok-open_done.ensures.opened

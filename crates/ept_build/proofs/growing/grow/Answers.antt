@@ -1,69 +1,78 @@
-use Rattle.std.proofs.Common.{◌≡◌, ◌∙◌, ◌+◌, ◌<◌, List, ◌++◌, length, drop, ap, subst, arith, rules}
-use Rattle.std.specs.Prelude.{Err}
+use Rattle.std.proofs.Common.{rules, ◌≡◌, ◌≢◌, ◌∙◌, ◌≤◌, ◌<◌, ◌+◌, ℕ, List, length, take, drop, refl, sym, ap, subst, arith}
+use Rattle.std.specs.Prelude.{All}
+use Rattle.ept_base.specs.Files.{Files, Tells}
+use Rattle.ept_base.specs.Moves.{Moves}
 use Rattle.ept_point.specs.declared.point.Point.{Point}
-use Rattle.ept_space.specs.declared.cube.Rules.{Rules}
-use Rattle.ept_sample.specs.Nodes.{sampled}
-use Rattle.ept_scan.specs.Reader.{batch_of, files_of}
-use Rattle.ept_scan.specs.declared.read_error.ReadError.{ReadError}
-use Rattle.ept_tree.specs.declared.tree_error.TreeError.{TreeError}
-use Rattle.ept_tree.specs.Grown.{rules_of, HasTaken}
-use Rattle.ept_build.proofs.Drawn.{batch-inside, batch-front, batch-left, all-taken}
-use Rattle.ept_build.proofs.Causes.{was_changed, was_fault, was_many}
+use Rattle.ept_space.specs.VoxelKey.{VoxelKey}
+use Rattle.ept_sample.specs.SamplingLaws.{CanBeSampled}
+use Rattle.ept_config.specs.declared.source_count.SourceCount.{SourceCount}
+use Rattle.ept_config.specs.Counts.{total}
+use Rattle.ept_scan.specs.Opening.{IsKeptScan, IsFileOf}
+use Rattle.ept_scan.specs.Reader.{files_of, IsRest}
+use Rattle.ept_tree.specs.Grown.{nodes_of}
+use Rattle.ept_tree.specs.TreeLaws.{AreSampled}
+use Rattle.ept_meta.specs.Output.{File, rules_of}
+use Rattle.ept_build.specs.Phases.{IsSoundUndone, AreOfShelf, IsOnWay, AreMany}
+use Rattle.ept_build.specs.declared.error.BuildError.TheVariants.{TileDamaged}
+use Rattle.ept_build.proofs.Causes.{tells-more, tells-all}
+use Rattle.ept_build.proofs.Ground.{kept-number}
+use Rattle.ept_build.proofs.Inside.{lies-in-cube}
+use Rattle.ept_build.proofs.Moved.{moves-none, all-images}
 use Rattle.ept_build.proofs.growing.grow.Goals as goal
 
-pub insert_all-requires-clause-inside : goal.insert_all-requires-clause-inside
-insert_all-requires-clause-inside g c =
-    let i = c.loop-batch in
-    let drawn = c.in_ok-next_batch.ensures.points in
-    batch-inside c.clear.new.self.items c.deref.result.now drawn.0 (files_of g.S.Source.whole i.reader) (files_of g.S.Source.whole c.args.reader.now) c.args.rules.now (rules_of i.grown) c.clear.ensures.items (c.deref.ensures.value ∙ drawn.1) drawn.3 (i.invariant.files ∙ c.allow.ensures.files) i.invariant.rules c.requires.inside
+pub reader-requires-clause-drawn : goal.reader-requires-clause-drawn
+reader-requires-clause-drawn g c = omega (arith, c.requires.inserted, c.requires.fit.points_are, ap total c.as_slice.ensures)
 
-pub loop-batch-preserved : goal.loop-batch-preserved
-loop-batch-preserved g c =
-    let i = c.loop-batch in
-    let next = c.in_ok-next_batch.ensures in
-    let k = batch_of 4096 i.reader in
+pub returns-in_err-reader-clause-sound : goal.returns-in_err-reader-clause-sound
+returns-in_err-reader-clause-sound g c =
+    tells-all _ (λ all points output are sampled way.
+    moves-none g.T.Store.files g.T.Store.may_leave g.T.Store.moment g.T.Store.image_since (IsSoundUndone all) c.args.store.now
+    (all-images g.T.Store.files g.T.Store.may_leave g.T.Store.moment g.T.Store.image_since (IsSoundUndone all) c.args.store.now (g.met.T.Store.reads_an_image c.args.store.now) way.sound))
+    (g.H.Shelf.files c.args.shelf.now)
+
+pub phases-grown-requires-clause-reader : goal.phases-grown-requires-clause-reader
+phases-grown-requires-clause-reader g c =
+    let r = c.in_ok-reader.ensures in
     record {
-      rules = c.in_ok-insert_all.ensures.rules ∙ i.invariant.rules;
-      rest = c.in_ok-insert_all.ensures.rest;
-      few = c.in_ok-insert_all.ensures.few;
-      reader = next.reader;
-      fresh = next.none;
-      allowed = omega (arith, next.allowed, next.left, i.invariant.allowed);
-      counts = omega (arith, next.drawn, next.left, i.invariant.counts);
-      files = next.files ∙ i.invariant.files;
-      taken = λ all rest can. (
-          let t = i.invariant.taken all rest can in
-          let left = t.0 in
-          let drawn = next.rest left t.1 in
-          let front : left ≡ c.deref.result.now ++ drop k left = batch-front c.clear.new.self.items c.deref.result.now left k c.clear.ensures.items (c.deref.ensures.value ∙ drawn.0) in
-          let some = next.points in
-          let size : length (drop k left) + k ≡ length left = batch-left c.clear.new.self.items c.deref.result.now left some.0 k c.clear.ensures.items (c.deref.ensures.value ∙ some.1) some.2 (c.deref.ensures.value ∙ drawn.0) in
-          (drop k left, drawn.1, c.in_ok-insert_all.ensures.taken all (drop k left) (subst (λ (w : List Point). HasTaken all w i.grown) front t.2), omega (arith, size, t.3, next.drawn)));
+      is_reader = r.reader;
+      fresh = r.refusal;
+      drawn = r.drawn;
+      to_come = omega (arith, r.left, c.requires.fit.points_are, ap total c.as_slice.ensures);
+      inside = λ p lies. lies-in-cube c.args.plan.now.kept c.args.plan.now.counts (files_of g.H.Source.Source.whole c.in_ok-reader.reader) (rules_of c.args.plan.now.kept).cube c.requires.of_bounds c.requires.fit.counted (subst (λ (w : List SourceCount). All (IsFileOf c.args.plan.now.kept w) (files_of g.H.Source.Source.whole c.in_ok-reader.reader)) c.as_slice.ensures r.inputs) p lies;
     }
 
-pub returns-in_err-next_batch-clause-no_change : goal.returns-in_err-next_batch-clause-no_change
-returns-in_err-next_batch-clause-no_change g c = λ source number is all rest can.
-    let t = c.loop-batch.invariant.taken all (c.allow.ensures.rest all rest) can in
-    c.in_err-next_batch.ensures.no_change t.0 t.1 c.loop-batch.invariant.fresh source number
-    (ap (λ (e : ReadError). Err e) (was_changed c.in_err-next_batch.field-0.0 source number (search (rules, is))))
+pub returns-clause-sampled : goal.returns-clause-sampled
+returns-clause-sampled g c =
+    let plan = c.args.plan.now in
+    tells-more (λ (all : Files). (points : List Point) → IsKeptScan all c.args.plan.now.kept c.as_slice.result.now points → IsRest g.H.Source.Source.whole c.in_ok-reader.reader (drop c.args.at.now.inserted points)) _ (λ all rest points scan can are. c.phases-grown.ensures.sampled points can (kept-number all plan.kept plan.counts points scan ∙ sym c.requires.fit.points_are) (record { sampled = are; rest = rest points (subst (λ (w : List SourceCount). IsKeptScan all plan.kept w points) (sym c.as_slice.ensures) scan) })) (g.H.Shelf.files c.args.shelf.now) c.in_ok-reader.ensures.rest
 
-pub returns-in_err-next_batch-clause-fault : goal.returns-in_err-next_batch-clause-fault
-returns-in_err-next_batch-clause-fault g c = λ is.
-    c.in_err-next_batch.ensures.fault (ap (λ (e : ReadError). Err e) (was_fault c.in_err-next_batch.field-0.0 (search (rules, is))))
+pub returns-clause-on_way : goal.returns-clause-on_way
+returns-clause-on_way g c =
+    let plan = c.args.plan.now in
+    tells-more (λ (all : Files). (points : List Point) → IsKeptScan all c.args.plan.now.kept c.as_slice.result.now points → IsRest g.H.Source.Source.whole c.in_ok-reader.reader (drop c.args.at.now.inserted points)) _ (λ all rest points output are inserted way. c.phases-grown.ensures.on_way all points output are (record { sampled = inserted; rest = rest points (subst (λ (w : List SourceCount). IsKeptScan all plan.kept w points) (sym c.as_slice.ensures) are.scan) }) way) (g.H.Shelf.files c.args.shelf.now) c.in_ok-reader.ensures.rest
 
-pub returns-in_err-insert_all-clause-too_many : goal.returns-in_err-insert_all-clause-too_many
-returns-in_err-insert_all-clause-too_many g c = λ is all rest can.
-    let i = c.loop-batch in
-    let t = i.invariant.taken all (c.allow.ensures.rest all rest) can in
-    let left = t.0 in
-    let k = batch_of 4096 i.reader in
-    let drawn = c.in_ok-next_batch.ensures.rest left t.1 in
-    let front : left ≡ c.deref.result.now ++ drop k left = batch-front c.clear.new.self.items c.deref.result.now left k c.clear.ensures.items (c.deref.ensures.value ∙ drawn.0) in
-    let many = c.in_err-insert_all.ensures.too_many (ap (λ (e : TreeError). Err e) (was_many c.in_err-insert_all.field-0.0 (search (rules, is)))) all (drop k left) (subst (λ (w : List Point). HasTaken all w i.grown) front t.2) in
-    subst (λ (r : Rules). c.args.most < length (sampled r all)) i.invariant.rules many
+pub returns-clause-sound : goal.returns-clause-sound
+returns-clause-sound g c =
+    let plan = c.args.plan.now in
+    tells-more (λ (all : Files). (points : List Point) → IsKeptScan all c.args.plan.now.kept c.as_slice.result.now points → IsRest g.H.Source.Source.whole c.in_ok-reader.reader (drop c.args.at.now.inserted points)) _ (λ all rest points output are inserted way. c.phases-grown.ensures.sound all points output are (record { sampled = inserted; rest = rest points (subst (λ (w : List SourceCount). IsKeptScan all plan.kept w points) (sym c.as_slice.ensures) are.scan) }) way) (g.H.Shelf.files c.args.shelf.now) c.in_ok-reader.ensures.rest
 
-pub returns-clause-taken : goal.returns-clause-taken
-returns-clause-taken g c = λ all rest count can.
-    let i = c.loop-batch in
-    let t = i.invariant.taken all (c.allow.ensures.rest all rest) can in
-    all-taken i.grown all t.0 (omega (arith, t.3, count, i.invariant.counts, c.loop-batch-test.false, c.drawn.ensures)) t.2
+pub returns-clause-undamaged : goal.returns-clause-undamaged
+returns-clause-undamaged g c =
+    let plan = c.args.plan.now in
+    tells-more (λ (all : Files). (points : List Point) → IsKeptScan all c.args.plan.now.kept c.as_slice.result.now points → IsRest g.H.Source.Source.whole c.in_ok-reader.reader (drop c.args.at.now.inserted points)) _ (λ all rest points output are inserted way. c.phases-grown.ensures.undamaged all points output are (record { sampled = inserted; rest = rest points (subst (λ (w : List SourceCount). IsKeptScan all plan.kept w points) (sym c.as_slice.ensures) are.scan) }) way) (g.H.Shelf.files c.args.shelf.now) c.in_ok-reader.ensures.rest
+
+pub returns-clause-too_many : goal.returns-clause-too_many
+returns-clause-too_many g c = λ is.
+    let plan = c.args.plan.now in
+    tells-more (λ (all : Files). (points : List Point) → IsKeptScan all c.args.plan.now.kept c.as_slice.result.now points → IsRest g.H.Source.Source.whole c.in_ok-reader.reader (drop c.args.at.now.inserted points)) _ (λ all rest points scan can are. c.phases-grown.ensures.too_many is points can (record { sampled = are; rest = rest points (subst (λ (w : List SourceCount). IsKeptScan all plan.kept w points) (sym c.as_slice.ensures) scan) })) (g.H.Shelf.files c.args.shelf.now) c.in_ok-reader.ensures.rest
+
+pub returns-clause-no_change : goal.returns-clause-no_change
+returns-clause-no_change g c = λ source number is.
+    let plan = c.args.plan.now in
+    tells-more (λ (all : Files). (points : List Point) → IsKeptScan all c.args.plan.now.kept c.as_slice.result.now points → IsRest g.H.Source.Source.whole c.in_ok-reader.reader (drop c.args.at.now.inserted points)) _ (λ all rest points scan can are. c.phases-grown.ensures.no_change source number is points can (record { sampled = are; rest = rest points (subst (λ (w : List SourceCount). IsKeptScan all plan.kept w points) (sym c.as_slice.ensures) scan) })) (g.H.Shelf.files c.args.shelf.now) c.in_ok-reader.ensures.rest
+
+pub returns-clause-sources : goal.returns-clause-sources
+returns-clause-sources g c = record {
+  later = omega (arith, c.in_ok-reader.ensures.cause.later, c.retire_all.ensures.later);
+  failed = λ is. omega (arith, c.in_ok-reader.ensures.cause.later, c.retire_all.ensures.failed (c.phases-grown.ensures.fault is));
+}

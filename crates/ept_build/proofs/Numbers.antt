@@ -1,0 +1,61 @@
+-- How many points and nodes a sampling has.
+use Rattle.std.proofs.Common.{◌≡◌, ◌∙◌, ℕ, zero, suc, ◌+◌, ◌<◌, ◌≤◌, List, [], ◌∷◌, ◌++◌, length, take, drop, map, refl, sym, ap, subst, arith, Option, Some, None, length-append}
+use Rattle.std.specs.Prelude.{All, Contains}
+use Rattle.std.specs.List.{flat_map, AllZip}
+use Rattle.std.specs.List.Sorted.{IsPermutation}
+use Rattle.std.proofs.lemmas.List.{take-append-drop, length-map}
+use Rattle.std.proofs.lemmas.List.Elements.{Contains-append_left}
+use Rattle.std.proofs.lemmas.List.Sorted.{length_permutation}
+use Rattle.std.proofs.lemmas.List.Sums.{sum_by-cons}
+use Rattle.ept_point.specs.declared.point.Point.{Point}
+use Rattle.ept_space.specs.declared.cube.Rules.{Rules}
+use Rattle.ept_sample.specs.declared.tiles.Tile.{Tile}
+use Rattle.ept_sample.specs.Nodes.{node_keys, tile_at, sampled}
+use Rattle.ept_sample.specs.SamplingLaws.{CanBeSampled, EachPointIsInOneNode, MorePointsHaveMoreNodes}
+use Rattle.ept_ckpt.specs.declared.node_line.NodeLine.{NodeLine}
+use Rattle.ept_ckpt.specs.Octree as ckpt
+use Rattle.ept_tree.specs.Tree.{Branch, tile_of, points_in}
+use Rattle.ept_tree.specs.TreeLaws.{AreSampled}
+use Rattle.ept_phase.specs.Lines.{TellNodes}
+use Rattle.ept_build.proofs.Fronts.{can-front}
+
+-- ---- points of nodes
+
+same_points : (nodes : List Branch) → points_in nodes ≡ flat_map (λ (t : Tile). t.points) (map tile_of nodes)
+same_points [] = refl
+same_points (b ∷ nodes) = ap (λ (w : List Point). b.1.points ++ w) (same_points nodes)
+
+-- the nodes of a sampling have as many points as it
+pub sampled-number : EachPointIsInOneNode → (rules : Rules) (points : List Point) (nodes : List Branch) → CanBeSampled rules points → AreSampled rules points nodes → length (points_in nodes) ≡ length points
+sampled-number one rules points nodes can are =
+    ap length (same_points nodes ∙ ap (λ (w : List Tile). flat_map (λ (t : Tile). t.points) w) are.tiles) ∙ length_permutation points _ (one rules points can)
+
+-- and so have nodes of which lines tell
+pub told-number : (nodes : List Branch) (lines : List NodeLine) → TellNodes nodes lines → length (points_in nodes) ≡ ckpt.points_in lines
+told-number [] [] told = refl
+told-number [] (l ∷ lines) told = absurd told
+told-number (b ∷ nodes) [] told = absurd told
+told-number (b ∷ nodes) (l ∷ lines) told =
+    omega (arith, length-append b.1.points (points_in nodes), sum_by-cons (λ (line : NodeLine). line.count) l lines, told-number nodes lines told.1, told.0.count)
+
+-- ---- numbers of nodes
+
+sampled_length : (rules : Rules) (points : List Point) → length (sampled rules points) ≡ length (node_keys rules points)
+unfolding sampled
+sampled_length rules points = length-map (node_keys rules points) (tile_at rules points)
+
+-- the first points have no more nodes than all
+pub front-nodes : MorePointsHaveMoreNodes → (rules : Rules) (n : ℕ) (points : List Point) → CanBeSampled rules points → length (sampled rules (take n points)) ≤ length (sampled rules points)
+front-nodes more rules n points can =
+    let joined : take n points ++ drop n points ≡ points = take-append-drop n points in
+    let fewer = more rules (take n points) points (can-front rules n points can).distinct can (λ p among. subst (λ (w : List Point). Contains w p) joined (Contains-append_left (take n points) (drop n points) p among)) in
+    omega (arith, fewer, sampled_length rules (take n points), sampled_length rules points)
+
+pub nodes-number : (rules : Rules) (points : List Point) (nodes : List Branch) → AreSampled rules points nodes → length nodes ≡ length (sampled rules points)
+nodes-number rules points nodes are = sym (length-map nodes tile_of) ∙ ap (λ (w : List Tile). length w) are.tiles
+
+pub lines-number : {X : Type 0} (R : X → NodeLine → Type 0) (xs : List X) (lines : List NodeLine) → AllZip R xs lines → length lines ≡ length xs
+lines-number R [] [] zip = refl
+lines-number R [] (l ∷ lines) zip = absurd zip
+lines-number R (x ∷ xs) [] zip = absurd zip
+lines-number R (x ∷ xs) (l ∷ lines) zip = ap suc (lines-number R xs lines zip.1)

@@ -1,0 +1,137 @@
+-- What a phase leaves: an octree that has each node of its checkpoint.
+use Rattle.std.proofs.Common.{◌≡◌, ◌∙◌, inl, inr, ℕ, ◌+◌, ◌<◌, ◌≤◌, true, false, List, [], ◌∷◌, ◌++◌, ◌-◌, min, length, map, take, drop, refl, sym, ap, subst, arith, Option, Some, None}
+use Rattle.std.specs.Prelude.{All}
+use Rattle.std.proofs.lemmas.Bool.{cases_lt}
+use Rattle.ept_point.specs.declared.point.Point.{Point}
+use Rattle.ept_space.specs.VoxelKey.{VoxelKey}
+use Rattle.ept_space.specs.declared.cube.Rules.{Rules}
+use Rattle.ept_sample.specs.Nodes.{sampled}
+use Rattle.ept_sample.specs.SamplingLaws.{CanBeSampled}
+use Rattle.ept_sample.specs.Members.{IsMember}
+use Rattle.ept_sample.proofs.Members.{All-members, all-member, IsMember-map, member-map}
+use Rattle.ept_core.specs.State.{Entry, has_node, keys_of}
+use Rattle.ept_core.proofs.NodeMap.{has_node-key, key-has_node}
+use Rattle.ept_config.specs.declared.kept.Kept.{Kept}
+use Rattle.ept_config.specs.declared.source_count.SourceCount.{SourceCount}
+use Rattle.ept_ckpt.specs.declared.letter.Letter.{Letter}
+use Rattle.ept_ckpt.specs.declared.checkpoint.Checkpoint.{Checkpoint}
+use Rattle.ept_ckpt.specs.declared.node_line.NodeLine.{NodeLine}
+use Rattle.ept_ckpt.specs.Octree.{is_among}
+use Rattle.ept_tree.specs.Tree.{Branch, entry_of}
+use Rattle.ept_tree.specs.TreeLaws.{AreSampled}
+use Rattle.ept_tree.specs.Whole.{KeepsNodes}
+use Rattle.ept_save.specs.Current.{Current}
+use Rattle.ept_save.specs.Opening.{lines_of}
+use Rattle.ept_save.specs.View.{View, next_letter}
+use Rattle.ept_phase.specs.Lines.{TellsNode, TellNodes}
+use Rattle.ept_phase.specs.Saving.{HasEachNodeOf, keys_in}
+use Rattle.ept_phase.specs.Phase.{AreGiven, GoesFurther, IsNext, IsSaved}
+use Rattle.ept_phase.proofs.Telling.{among-member, member-among}
+use Rattle.ept_plan.specs.declared.plan.Plan.{Plan}
+use Rattle.ept_plan.specs.Plans.{IsOf, inputs_by, inserted_by}
+use Rattle.ept_build.specs.Phases.{IsFit, HasAll}
+use Rattle.ept_build.proofs.Fronts.{front-then, can-front}
+
+-- ---- keys of nodes
+
+key_entry : (nodes : List Branch) (key : VoxelKey) → IsMember key (keys_in nodes) → IsMember key (keys_of (map entry_of nodes))
+key_entry [] key m = absurd m
+key_entry (b ∷ nodes) key (inl is) = inl is
+key_entry (b ∷ nodes) key (inr m) = inr (key_entry nodes key m)
+
+entry_key : (nodes : List Branch) (key : VoxelKey) → IsMember key (keys_of (map entry_of nodes)) → IsMember key (keys_in nodes)
+entry_key [] key m = absurd m
+entry_key (b ∷ nodes) key (inl is) = inl is
+entry_key (b ∷ nodes) key (inr m) = inr (entry_key nodes key m)
+
+-- each node of the checkpoint is still there, where no node is gone
+pub each-stays : (current : Current) (old new : List Branch) → KeepsNodes (map entry_of old) (map entry_of new) → HasEachNodeOf current old → HasEachNodeOf current new
+each-stays current old new keeps each =
+    All-members (λ (line : NodeLine). is_among (keys_in new) line.key ≡ true) (lines_of current) (λ line m.
+    let was = all-member (λ (l : NodeLine). is_among (keys_in old) l.key ≡ true) line (lines_of current) each m in
+    let here : has_node (map entry_of old) line.key ≡ true = key-has_node (map entry_of old) line.key (key_entry old line.key (among-member (keys_in old) line.key was)) in
+    member-among (keys_in new) line.key (entry_key new line.key (has_node-key (map entry_of new) line.key (keeps line.key here))))
+
+-- and each is where its lines tell of the nodes
+told_key : (nodes : List Branch) (lines : List NodeLine) → TellNodes nodes lines → (line : NodeLine) → IsMember line lines → IsMember line.key (keys_in nodes)
+told_key [] [] told line m = absurd m
+told_key [] (l ∷ lines) told line m = absurd told
+told_key (b ∷ nodes) [] told line m = absurd m
+told_key (b ∷ nodes) (l ∷ lines) told line (inl is) = inl (sym (ap (λ (w : NodeLine). w.key) (sym is) ∙ told.0.key))
+told_key (b ∷ nodes) (l ∷ lines) told line (inr m) = inr (told_key nodes lines told.1 line m)
+
+pub each-told : (nodes : List Branch) (letter : Letter) (c : Checkpoint) → TellNodes nodes c.nodes → HasEachNodeOf (Some (letter, c)) nodes
+each-told nodes letter c told =
+    All-members (λ (line : NodeLine). is_among (keys_in nodes) line.key ≡ true) c.nodes (λ line m. member-among (keys_in nodes) line.key (told_key nodes c.nodes told line m))
+
+-- ---- further than the checkpoint
+
+pub goes-further : (current : Current) (inserted inputs : ℕ) → inserted_by current + inputs_by current < inserted + inputs → GoesFurther current inserted inputs
+goes-further None inserted inputs more = tt
+goes-further (Some (letter, c)) inserted inputs more = more
+
+pub given-fit : (plan : Plan) (inserted : ℕ) → IsFit plan → inserted ≤ plan.points → AreGiven plan.kept plan.counts inserted
+given-fit plan inserted fit most = record {
+  each = fit.each;
+  counted = fit.counted;
+  extents = fit.extents;
+  inserted_most = subst (λ (n : ℕ). inserted ≤ n) fit.points_are most;
+}
+
+-- ---- what is noted of it
+
+module _ (plan : Plan) (old new : View) (inserted : ℕ) (nodes : List Branch) (saved : IsSaved old new plan.kept plan.counts inserted nodes) where
+  abbrev its : Current
+  its = Some (next_letter old.current, saved.next)
+
+  now : new.current ≡ its
+  now = ap (λ (v : View). v.current) saved.view_is
+
+  pub saved-fresh : new.lines ≡ lines_of new.current
+  saved-fresh = ap (λ (v : View). v.lines) saved.view_is ∙ ap lines_of (sym now)
+
+  pub saved-each : HasEachNodeOf new.current nodes
+  saved-each = subst (λ (c : Current). HasEachNodeOf c nodes) (sym now) (each-told nodes (next_letter old.current) saved.next saved.is_next.told)
+
+  pub saved-inserted : inserted_by new.current ≡ inserted
+  saved-inserted = ap inserted_by now ∙ saved.is_next.inserted_is
+
+  pub saved-inputs : inputs_by new.current ≡ length plan.kept.inputs
+  saved-inputs = ap inputs_by now ∙ ap (λ (k : Kept). length k.inputs) saved.is_next.kept_is
+
+  pub saved-of : IsOf plan new.current
+  saved-of = subst (IsOf plan) (sym now) (saved.is_next.kept_is, saved.is_next.counts_are)
+
+-- ---- so many points, and the next ones
+
+module _ (own rules : Rules) (same : own ≡ rules) (n k : ℕ) (points : List Point) where
+  abbrev both : List Point
+  both = take n points ++ take k (drop n points)
+
+  pub points-then : CanBeSampled rules points → CanBeSampled own both
+  points-then can = subst (λ (r : Rules). CanBeSampled r both) (sym same) (subst (λ (w : List Point). CanBeSampled rules w) (sym (front-then n k points)) (can-front rules (n + k) points can))
+
+  pub sampled-then : (nodes : List Branch) → AreSampled own both nodes → AreSampled rules (take (n + k) points) nodes
+  sampled-then nodes are = subst (λ (w : List Point). AreSampled rules w nodes) (front-then n k points) (subst (λ (r : Rules). AreSampled r both nodes) same are)
+
+  pub many-then : (most : ℕ) → most < length (sampled own both) → most < length (sampled rules (take (n + k) points))
+  many-then most many = subst (λ (w : List Point). most < length (sampled rules w)) (front-then n k points) (subst (λ (r : Rules). most < length (sampled r both)) same many)
+
+  pub inserted-sampled : (Rest : List Point → Type 0) (old new : List Branch) → ((first left : List Point) → Rest left → CanBeSampled own (first ++ take k left) → AreSampled own first old → AreSampled own (first ++ take k left) new) → CanBeSampled rules points → Rest (drop n points) → AreSampled rules (take n points) old → AreSampled rules (take (n + k) points) new
+  inserted-sampled Rest old new inserted can rest are =
+      sampled-then new (inserted (take n points) (drop n points) rest (points-then can) (subst (λ (r : Rules). AreSampled r (take n points) old) (sym same) are))
+
+-- ---- there is more to be done
+
+pub of-inputs : (plan : Plan) (current : Current) → IsOf plan current → inputs_by current ≡ length plan.kept.inputs
+of-inputs plan None is = absurd is
+of-inputs plan (Some (letter, c)) is = ap (λ (k : Kept). length k.inputs) is.0
+
+pub goes-on : (plan : Plan) (current : Current) (inserted count step : ℕ) → inserted_by current ≡ inserted → inputs_by current ≤ length plan.kept.inputs → inserted ≤ plan.points → 1 ≤ step → count ≡ min step (plan.points - inserted) → ¬ HasAll plan current → inserted_by current + inputs_by current < inserted + count + length plan.kept.inputs
+goes-on plan current inserted count step by least most some is not_all = elim (cases_lt inserted plan.points) [
+  | inl lt ↦ omega (arith, by, least, some, is, lt)
+  | inr past ↦ elim (cases_lt (inputs_by current) (length plan.kept.inputs)) [
+    | inl less ↦ omega (arith, by, less)
+    | inr all ↦ absurd (not_all (record { inserted = omega (arith, by, past, most); inputs = omega (arith, all, least) }))
+  ]
+]

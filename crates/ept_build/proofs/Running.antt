@@ -1,0 +1,144 @@
+-- What is left of a build: the nodes are loaded, the done gate is closed, and all points of the inputs are brought in.
+use Rattle.std.proofs.Common.{◌≡◌, ◌≢◌, ◌∙◌, ◌⊎◌, inl, inr, ℕ, true, ◌+◌, ◌<◌, ◌≤◌, List, [], ◌∷◌, length, take, map, refl, sym, ap, subst, arith, Option, Some, None}
+use Rattle.std.proofs.lemmas.List.Elements.{All-nil}
+use Rattle.ept_base.specs.Files.{Files, SameFiles, StepsBy, Tells}
+use Rattle.ept_base.specs.Moves.{IsSettled, Moves}
+use Rattle.ept_config.specs.declared.config.Config.{Config}
+use Rattle.ept_save.specs.Names.{gate_name, body_name, done_name}
+use Rattle.ept_save.specs.Current.{Current, HasCurrent}
+use Rattle.ept_save.specs.Done.{IsDone, IsGuarded, Guards}
+use Rattle.ept_save.specs.Sound.{IsSound}
+use Rattle.ept_save.specs.SoundLaws.{SameIsSound, DoneIsPublished, GuardingKeepsSound}
+use Rattle.ept_save.specs.View.{View}
+use Rattle.ept_save.proofs.Keeping.{has_current-same}
+use Rattle.ept_save.proofs.NamesDiffer.{done-gate, done-body}
+use Rattle.ept_save.proofs.Standing.{open_or_not, stepped, told_some, settled_some}
+use Rattle.ept_space.specs.declared.cube.Rules.{Rules}
+use Rattle.ept_space.specs.OctreeCube.{IsCube, InCube}
+use Rattle.ept_sample.specs.Place.{place}
+use Rattle.ept_sample.specs.SamplingLaws.{CanBeSampled, EachPointIsInOneNode}
+use Rattle.ept_ckpt.specs.declared.checkpoint.Checkpoint.{Checkpoint}
+use Rattle.ept_ckpt.specs.declared.node_line.NodeLine.{NodeLine}
+use Rattle.ept_ckpt.specs.Octree.{is_among}
+use Rattle.ept_tree.specs.declared.octree.Tree.{Tree}
+use Rattle.ept_tree.specs.Grown as tree
+use Rattle.ept_tree.specs.TreeLaws.{AreSampled}
+use Rattle.ept_meta.specs.Output.{rules_of}
+use Rattle.ept_save.specs.Opening.{lines_of}
+use Rattle.ept_phase.specs.Lines.{TellNodes}
+use Rattle.ept_phase.specs.LinesLaws.{WholeIsTold}
+use Rattle.ept_phase.specs.Loaded.{OfCurrent}
+use Rattle.ept_phase.specs.Saving.{HasEachNodeOf, keys_in}
+use Rattle.ept_plan.specs.declared.plan.Plan.{Plan}
+use Rattle.ept_plan.specs.Plans.{IsPlan, inserted_by}
+use Rattle.ept_build.specs.Phases.{IsTreeOf, IsSoundUndone}
+use Rattle.ept_build.proofs.Fronts.{none-distinct}
+use Rattle.ept_build.proofs.Moved.{AllAre, all-settled, all-after, moves-after}
+use Rattle.ept_build.proofs.Numbers.{sampled-number, told-number}
+use Rattle.ept_build.proofs.Phased.{each-told}
+
+-- sound files with this current checkpoint
+pub record SoundAt (shelf : Files) (current : Current) (files : Files) : Type 0 where
+  pub sound : IsSound shelf files
+  pub has : HasCurrent current files
+
+sound-same : SameIsSound → (shelf : Files) (current : Current) (a b : Files) → SoundAt shelf current a → SameFiles a b → SoundAt shelf current b
+sound-same same_sound shelf current a b at same = record {
+  sound = same_sound shelf a b same at.sound;
+  has = has_current-same current a b (λ l. same (gate_name l)) (λ l. same (body_name l)) at.has;
+}
+
+module _ (same_sound : SameIsSound) (published : DoneIsPublished) (guarding : GuardingKeepsSound) (shelf : Files) (current : Current) {D : Type 0} (files : D → Option Files) (may_leave : D → Files → Type 0) (moment : D → ℕ) (image_since : D → ℕ → Files → Type 0) where
+  abbrev pub AllSound : D → Type 0
+  AllSound = AllAre files may_leave moment image_since (SoundAt shelf current)
+
+  -- a settled store with sound files
+  pub sound-settled : (d : D) (start : Files) → files d ≡ Some start → IsSettled (files d) (may_leave d) → IsSound shelf start → HasCurrent current start → AllSound d
+  sound-settled d start told settled sound has =
+      all-settled files may_leave moment image_since (SoundAt shelf current) (λ a b same at. sound-same same_sound shelf current a b at same) d start told settled (record { sound = sound; has = has })
+
+  -- a call that changes nothing
+  pub same-moves : (old new : D) → AllSound old → Moves files may_leave moment image_since SameFiles old new → Moves files may_leave moment image_since (λ (a b : Files). IsSound shelf b) old new
+  same-moves old new all moved = moves-after files may_leave moment image_since (SoundAt shelf current) SameFiles old new (IsSound shelf) (λ a b at same. same_sound shelf a b same at.sound) all moved
+
+  pub same-all : (old new : D) → AllSound old → Moves files may_leave moment image_since SameFiles old new → AllSound new
+  same-all old new all moved = all-after files may_leave moment image_since (SoundAt shelf current) SameFiles old new (SoundAt shelf current) (λ a b at same. sound-same same_sound shelf current a b at same) all moved
+
+  -- ---- closing the done gate
+
+  module _ (old new : D) (all : AllSound old) (start : Files) (told : files old ≡ Some start) (alike : (image : Files) → may_leave old image → SameFiles start image) (stood_shut : (now : Files) → files old ≡ Some now → ¬ IsDone now → Moves files may_leave moment image_since SameFiles old new) (guards : (guarded : IsGuarded (files old) (may_leave old)) → Moves files may_leave moment image_since (Guards guarded.all) old new) where
+    abbrev guarded : IsGuarded (files old) (may_leave old)
+    guarded = record {
+      all = start;
+      told = told;
+      stable = λ some may done image im name outside. alike image im name;
+    }
+
+    at_start : SoundAt shelf current start
+    at_start = told_some (SoundAt shelf current) (files old) start told all.read
+
+    closes : (a b : Files) → IsDone start → SoundAt shelf current a → Guards start a b → SoundAt shelf current b
+    closes a b done at guard = record {
+      sound = guarding shelf start a b current at.has (published shelf start current at_start.has at_start.sound done) guard at.sound;
+      has = has_current-same current a b (λ l. guard.others (gate_name l) (λ same. done-gate l (sym same))) (λ l. guard.others (body_name l) (λ same. done-body l (sym same))) at.has;
+    }
+
+    pub close-all : AllSound new
+    close-all = by (open_or_not start done_name)
+      where
+        by : IsDone start ⊎ ¬ IsDone start → AllSound new
+        by (inl done) = all-after files may_leave moment image_since (SoundAt shelf current) (Guards start) old new (SoundAt shelf current) (λ a b. closes a b done) all (guards guarded)
+        by (inr undone) = same-all old new all (stood_shut start told undone)
+
+    pub close-moves : Moves files may_leave moment image_since (λ (a b : Files). IsSound shelf b) old new
+    close-moves = by (open_or_not start done_name)
+      where
+        by : IsDone start ⊎ ¬ IsDone start → Moves files may_leave moment image_since (λ (a b : Files). IsSound shelf b) old new
+        by (inl done) = moves-after files may_leave moment image_since (SoundAt shelf current) (Guards start) old new (IsSound shelf) (λ a b at guard. (closes a b done at guard).sound) all (guards guarded)
+        by (inr undone) = same-moves old new all (stood_shut start told undone)
+
+  -- once it is closed, and all is stable, no image has an open one
+  pub closed-images : (d : D) → AllSound d → (now : Files) → files d ≡ Some now → Tells (λ all. ¬ IsDone all) (files d) → IsSettled (files d) (may_leave d) → (image : Files) → may_leave d image → IsSoundUndone shelf image
+  closed-images d all now told closed settled image may = record {
+    sound = (all.images image may).sound;
+    undone = λ done. told_some (λ all. ¬ IsDone all) (files d) now told closed (sym (settled_some (files d) (may_leave d) now told settled image may done_name) ∙ done);
+  }
+
+-- ---- what was loaded
+
+-- an image of a store that changed nothing
+pub settled-on : (start now image : Files) {may : Files → Type 0} → ((some : Files) → may some → SameFiles start some) → SameFiles start now → may image → SameFiles now image
+settled-on start now image settled same is name = settled image is name ∙ sym (same name)
+
+-- of a store that tells, what holds of the current checkpoint
+pub told-current : (current : Current) (fact : Checkpoint → Files → Type 0) (files : Option Files) (start : Files) → files ≡ Some start → OfCurrent current (λ (c : Checkpoint). Tells (fact c) files) → OfCurrent current (λ (c : Checkpoint). fact c start)
+told-current None fact files start told of = tt
+told-current (Some (letter, c)) fact files start told of = told_some (fact c) files start told of
+
+pub few-lines : (most given lines nodes : ℕ) → given ≡ most → given < lines → lines ≤ nodes → most < nodes
+few-lines most given lines nodes is many few = omega (arith, is, many, few)
+
+-- the octree that was loaded is that of the plan
+pub tree-loaded : EachPointIsInOneNode → WholeIsTold → (plan : Plan) (config : Config) (view : View) → IsPlan config view.current plan → view.lines ≡ lines_of view.current → (rules : Rules) → rules ≡ rules_of plan.kept → IsCube rules.cube → (grown : Tree) → tree.rules_of grown ≡ rules → tree.IsAtRest grown → tree.IsWhole grown → (most : ℕ) → length (tree.nodes_of grown) ≤ most
+    → OfCurrent view.current (λ (c : Checkpoint). TellNodes (tree.nodes_of grown) c.nodes) → (view.current ≡ None → AreSampled rules [] (tree.nodes_of grown)) → IsTreeOf plan plan.inserted most grown view
+tree-loaded one_node told_whole plan config view is fresh rules its cube grown own rest whole most few told begun = record {
+  rules = own ∙ its;
+  rest = rest;
+  whole = whole;
+  number = number view.current refl told;
+  few = few;
+  fresh = fresh;
+  each = each view.current told;
+  by_checkpoint = sym is.inserted_is;
+  inputs_least = is.inputs_least;
+}
+  where
+    number : (now : Current) → view.current ≡ now → OfCurrent now (λ (c : Checkpoint). TellNodes (tree.nodes_of grown) c.nodes) → length (tree.points_of grown) ≡ plan.inserted
+    number None same of =
+        let none : CanBeSampled rules [] = record { cube = cube; inside = All-nil (λ p. InCube rules.cube (place p)); distinct = none-distinct } in
+        sampled-number one_node rules [] (tree.nodes_of grown) none (begun same) ∙ sym (is.inserted_is ∙ ap inserted_by same)
+    number (Some (letter, c)) same of = told-number (tree.nodes_of grown) c.nodes of ∙ (c.is_checkpoint.nodes_are.counted ∙ sym (is.inserted_is ∙ ap inserted_by same))
+
+    each : (now : Current) → OfCurrent now (λ (c : Checkpoint). TellNodes (tree.nodes_of grown) c.nodes) → HasEachNodeOf now (tree.nodes_of grown)
+    each None of = All-nil (λ (line : NodeLine). is_among (keys_in (tree.nodes_of grown)) line.key ≡ true)
+    each (Some (letter, c)) of = each-told (tree.nodes_of grown) letter c of

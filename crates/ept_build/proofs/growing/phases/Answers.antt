@@ -1,0 +1,114 @@
+use Rattle.std.proofs.Common.{rules, ◌≡◌, ◌≢◌, ◌∙◌, ◌≤◌, ◌<◌, ◌+◌, ◌-◌, ℕ, List, length, take, refl, sym, ap, subst, arith}
+use Rattle.std.specs.Prelude.{Err}
+use Rattle.ept_base.specs.Files.{Files}
+use Rattle.ept_point.specs.declared.point.Point.{Point}
+use Rattle.ept_tree.specs.Grown.{nodes_of}
+use Rattle.ept_tree.specs.TreeLaws.{AreSampled}
+use Rattle.ept_meta.specs.Output.{rules_of}
+use Rattle.ept_build.specs.Phases.{IsTreeOf, IsSoundUndone}
+use Rattle.ept_build.proofs.Fronts.{all-front}
+use Rattle.ept_build.proofs.Moved.{moves-none, moves-then, all-images}
+use Rattle.ept_build.proofs.Phased.{of-inputs, goes-on}
+use Rattle.ept_build.proofs.growing.phases.Goals as goal
+
+pub loop-alloc-init : goal.loop-alloc-init
+loop-alloc-init g c = record {
+  tree = c.requires.tree;
+  reads = c.requires.reader;
+  same = c.requires.same;
+  later = omega arith;
+  has = λ points can has. has;
+  way = λ shelf points output are has way. way;
+  moves = λ shelf points output are has way.
+      moves-none g.T.Store.files g.T.Store.may_leave g.T.Store.moment g.T.Store.image_since (IsSoundUndone shelf) c.args.store.now
+      (all-images g.T.Store.files g.T.Store.may_leave g.T.Store.moment g.T.Store.image_since (IsSoundUndone shelf) c.args.store.now (g.met.T.Store.reads_an_image c.args.store.now) way.sound);
+}
+
+pub overflow_sub-plan : goal.overflow_sub-plan
+overflow_sub-plan g c = omega (arith, c.loop-alloc.invariant.reads.to_come)
+
+pub phase-requires-clause-tree : goal.phase-requires-clause-tree
+phase-requires-clause-tree g c = c.loop-alloc.invariant.tree
+
+pub phase-requires-clause-reader : goal.phase-requires-clause-reader
+phase-requires-clause-reader g c = c.loop-alloc.invariant.reads
+
+pub phase-requires-clause-count : goal.phase-requires-clause-count
+phase-requires-clause-count g c = omega (arith, c.loop-alloc.invariant.reads.to_come, c.min-count.ensures)
+
+pub phase-requires-clause-further : goal.phase-requires-clause-further
+phase-requires-clause-further g c =
+    let i = c.loop-alloc in
+    goes-on c.args.plan.now i.at.saved.current i.at.inserted c.min-count.result c.args.step i.invariant.tree.by_checkpoint i.invariant.tree.inputs_least (omega (arith, i.invariant.reads.to_come)) c.requires.step c.min-count.ensures (λ all. let yes = c.has_all.ensures.1 all in let no = c.loop-alloc-test.true in cc)
+
+pub loop-alloc-smaller : goal.loop-alloc-smaller
+loop-alloc-smaller g c =
+    let i = c.loop-alloc in
+    let further = goes-on c.args.plan.now i.at.saved.current i.at.inserted c.min-count.result c.args.step i.invariant.tree.by_checkpoint i.invariant.tree.inputs_least (omega (arith, i.invariant.reads.to_come)) c.requires.step c.min-count.ensures (λ all. let yes = c.has_all.ensures.1 all in let no = c.loop-alloc-test.true in cc) in
+    omega (arith, further, c.in_ok-phase.ensures.inserted, c.in_ok-phase.ensures.tree.by_checkpoint, of-inputs c.args.plan.now c.phase.new.at.saved.current c.in_ok-phase.ensures.checkpoint, c.in_ok-phase.ensures.reader.to_come)
+
+pub loop-alloc-preserved : goal.loop-alloc-preserved
+loop-alloc-preserved g c =
+    let i = c.loop-alloc in
+    record {
+      tree = c.in_ok-phase.ensures.tree;
+      reads = c.in_ok-phase.ensures.reader;
+      same = λ all. c.in_ok-phase.ensures.checkpoint;
+      later = omega (arith, i.invariant.later, c.in_ok-phase.ensures.stores.later);
+      has = λ points can has. c.in_ok-phase.ensures.has points can (i.invariant.has points can has);
+      way = λ shelf points output are has way. c.in_ok-phase.ensures.on_way shelf points output are (i.invariant.has points are.can has) (i.invariant.way shelf points output are has way);
+      moves = λ shelf points output are has way.
+          moves-then g.T.Store.files g.T.Store.may_leave g.T.Store.moment g.T.Store.image_since (IsSoundUndone shelf) c.args.store.now i.store c.phase.new.store (i.invariant.moves shelf points output are has way)
+          (c.in_ok-phase.ensures.sound shelf points output are (i.invariant.has points are.can has) (i.invariant.way shelf points output are has way));
+    }
+
+pub returns-in_err-phase-clause-sound : goal.returns-in_err-phase-clause-sound
+returns-in_err-phase-clause-sound g c = λ shelf points output are has way.
+    let i = c.loop-alloc in
+    moves-then g.T.Store.files g.T.Store.may_leave g.T.Store.moment g.T.Store.image_since (IsSoundUndone shelf) c.args.store.now i.store c.phase.new.store (i.invariant.moves shelf points output are has way)
+    (c.in_err-phase.ensures.sound shelf points output are (i.invariant.has points are.can has) (i.invariant.way shelf points output are has way))
+
+pub returns-in_err-phase-clause-undamaged : goal.returns-in_err-phase-clause-undamaged
+returns-in_err-phase-clause-undamaged g c = λ shelf points output are has way key is.
+    let i = c.loop-alloc in
+    c.in_err-phase.ensures.undamaged shelf points output are (i.invariant.way shelf points output are has way) key (search (rules, is))
+
+pub returns-in_err-phase-clause-too_many : goal.returns-in_err-phase-clause-too_many
+returns-in_err-phase-clause-too_many g c = λ is points can has.
+    let i = c.loop-alloc in
+    record { inserted = i.at.inserted + c.min-count.result; many = c.in_err-phase.ensures.too_many (search (rules, is)) points can (i.invariant.has points can has) }
+
+pub returns-in_err-phase-clause-no_change : goal.returns-in_err-phase-clause-no_change
+returns-in_err-phase-clause-no_change g c = λ source number is points can has.
+    c.in_err-phase.ensures.no_change source number (search (rules, is)) points can (c.loop-alloc.invariant.has points can has)
+
+pub returns-in_err-phase-clause-stores : goal.returns-in_err-phase-clause-stores
+returns-in_err-phase-clause-stores g c = record {
+  later = omega (arith, c.loop-alloc.invariant.later, c.in_err-phase.ensures.stores.later);
+  failed = λ is. omega (arith, c.loop-alloc.invariant.later, c.in_err-phase.ensures.stores.failed (search (rules, is)));
+}
+
+pub returns-clause-tree : goal.returns-clause-tree
+returns-clause-tree g c =
+    let i = c.loop-alloc in
+    let all = c.has_all.ensures.0 c.loop-alloc-test.false in
+    subst (λ (n : ℕ). IsTreeOf c.args.plan.now n c.args.most i.at.grown i.at.saved) (sym i.invariant.tree.by_checkpoint ∙ all.inserted) i.invariant.tree
+
+pub returns-clause-all : goal.returns-clause-all
+returns-clause-all g c = c.loop-alloc.invariant.same (c.has_all.ensures.0 c.loop-alloc-test.false).inputs
+
+pub returns-clause-sampled : goal.returns-clause-sampled
+returns-clause-sampled g c = λ points can number has.
+    let i = c.loop-alloc in
+    let all = c.has_all.ensures.0 c.loop-alloc-test.false in
+    let at_end : i.at.inserted ≡ c.args.plan.now.points = sym i.invariant.tree.by_checkpoint ∙ all.inserted in
+    subst (λ (w : List Point). AreSampled (rules_of c.args.plan.now.kept) w (nodes_of i.at.grown)) (ap (λ (n : ℕ). take n points) at_end ∙ all-front points c.args.plan.now.points number) (i.invariant.has points can has).sampled
+
+pub returns-clause-on_way : goal.returns-clause-on_way
+returns-clause-on_way g c = λ shelf points output are has way. c.loop-alloc.invariant.way shelf points output are has way
+
+pub returns-clause-sound : goal.returns-clause-sound
+returns-clause-sound g c = λ shelf points output are has way. c.loop-alloc.invariant.moves shelf points output are has way
+
+pub returns-clause-stores : goal.returns-clause-stores
+returns-clause-stores g c = record { later = c.loop-alloc.invariant.later; failed = λ is. absurd (cc) }

@@ -1,0 +1,117 @@
+-- Where a build stands between two phases.
+use Rattle.std.specs.Prelude.{◌≡◌, ◌⊎◌, ℕ, ◌+◌, ◌<◌, ◌≤◌, List, length, take, drop, Option, Some, None, ⊤, All}
+use Rattle.ept_base.specs.Files.{Files}
+use Rattle.ept_point.specs.declared.point.Point.{Point}
+use Rattle.ept_space.specs.OctreeCube.{InCube}
+use Rattle.ept_sample.specs.Place.{place}
+use Rattle.ept_sample.specs.Nodes.{sampled}
+use Rattle.ept_config.specs.Counts.{IsCount, total}
+use Rattle.ept_ckpt.specs.Valid.{ExtentInRange}
+use Rattle.ept_scan.specs.declared.second_reading.Reader.{Reader}
+use Rattle.ept_scan.specs.Opening.{IsKeptScan}
+use Rattle.ept_scan.specs.Queue.{LiesIn}
+use Rattle.ept_scan.specs.Reader.{drawn_of, left_of, refusal_of, files_of, IsRest, IsReader}
+use Rattle.ept_tree.specs.declared.octree.Tree.{Tree}
+use Rattle.ept_tree.specs.Grown as tree
+use Rattle.ept_tree.specs.TreeLaws.{AreSampled}
+use Rattle.ept_sample.specs.SamplingLaws.{CanBeSampled}
+use Rattle.ept_meta.specs.Output.{File, IsOutput, rules_of, names_of}
+use Rattle.ept_save.specs.Current.{Current}
+use Rattle.ept_save.specs.Done.{IsDone}
+use Rattle.ept_save.specs.Opening.{lines_of}
+use Rattle.ept_save.specs.Sound.{IsSound}
+use Rattle.ept_save.specs.SoundLaws.{HasNamesOf}
+use Rattle.ept_save.specs.View.{View, StandsFor}
+use Rattle.ept_phase.specs.Saving.{HasEachNodeOf}
+use Rattle.ept_plan.specs.declared.plan.Plan.{Plan}
+use Rattle.ept_plan.specs.Plans.{inputs_by, inserted_by}
+use Rattle.ept_build.specs.declared.error.BuildError.{BuildError}
+use Rattle.ept_build.specs.declared.error.BuildError.TheVariants.{StoreFault, BadCheckpoint, TileDamaged, Differs, SourceFault, BadLas, OutOfBounds, TooManyPoints, NoBounds, SourceChanged, TooManyNodes, Memory}
+
+-- ---- the plan
+
+-- there is a count for each input, in range, and these are all the points
+pub record IsFit (plan : Plan) : Type 0 where
+  pub each : length plan.counts ≡ length plan.kept.inputs
+  pub counted : All (IsCount plan.kept.bounds) plan.counts
+  pub extents : All ExtentInRange plan.counts
+  pub points_are : plan.points ≡ total plan.counts
+
+-- the checkpoint is of all inputs, with all their points inserted
+pub record HasAll (plan : Plan) (current : Current) : Type 0 where
+  pub inserted : inserted_by current ≡ plan.points
+  pub inputs : inputs_by current ≡ length plan.kept.inputs
+
+-- ---- the octree, the reader and the checkpoint
+
+-- The octree is a whole one of so many points, under the rules that are kept, and has each node of the checkpoint, which has as many points inserted.
+pub record IsTreeOf (plan : Plan) (inserted most : ℕ) (grown : Tree) (view : View) : Type 0 where
+  pub rules : tree.rules_of grown ≡ rules_of plan.kept
+  pub rest : tree.IsAtRest grown
+  pub whole : tree.IsWhole grown
+  pub number : length (tree.points_of grown) ≡ inserted
+  pub few : length (tree.nodes_of grown) ≤ most
+  pub fresh : view.lines ≡ lines_of view.current
+  pub each : HasEachNodeOf view.current (tree.nodes_of grown)
+  pub by_checkpoint : inserted_by view.current ≡ inserted
+  pub inputs_least : inputs_by view.current ≤ length plan.kept.inputs
+
+-- the reader has the other points to come, which lie in the cube
+pub record ReadsRest {S : Type 0} (whole left : S → Option (List ℕ)) (given faults : S → ℕ) (plan : Plan) (inserted : ℕ) (reader : Reader S) : Type 0 where
+  pub is_reader : IsReader whole left given faults reader
+  pub fresh : refusal_of reader ≡ None
+  pub drawn : drawn_of reader ≡ inserted
+  pub to_come : left_of reader + inserted ≡ plan.points
+  pub inside : (p : Point) → LiesIn (files_of whole reader) p → InCube (rules_of plan.kept).cube (place p)
+
+-- ---- of devices that tell
+
+-- the octree is that of the first points, and the reader has the others
+pub record HasInserted {S : Type 0} (whole : S → Option (List ℕ)) (plan : Plan) (points : List Point) (inserted : ℕ) (reader : Reader S) (grown : Tree) : Type 0 where
+  pub sampled : AreSampled (rules_of plan.kept) (take inserted points) (tree.nodes_of grown)
+  pub rest : IsRest whole reader (drop inserted points)
+
+-- files are sound, and their done gate is closed
+pub record IsSoundUndone (shelf files : Files) : Type 0 where
+  pub sound : IsSound shelf files
+  pub undone : ¬ IsDone files
+
+-- ---- a shelf and a store that tell
+
+-- all inputs have these points, which can be sampled, and this is their output
+pub record AreOfShelf (shelf : Files) (plan : Plan) (points : List Point) (output : List File) : Type 0 where
+  pub scan : IsKeptScan shelf plan.kept plan.counts points
+  pub can : CanBeSampled (rules_of plan.kept) points
+  pub is_output : IsOutput plan.kept points output
+
+-- The store stands for the checkpoint, whose output has no other names; and each image is sound, with a closed done gate.
+pub record IsOnWay (shelf : Files) (output : List File) (view : View) (files : Option Files) (may_leave : Files → Type 0) : Type 0 where
+  pub names : HasNamesOf shelf view.current (names_of output)
+  pub stands : StandsFor view files may_leave
+  pub sound : (image : Files) → may_leave image → IsSoundUndone shelf image
+
+-- ---- why a phase is refused
+
+-- the sampling of so many of the first points has more nodes than there may be
+pub record AreMany (plan : Plan) (most : ℕ) (points : List Point) : Type 0 where
+  pub inserted : ℕ
+  pub many : most < length (sampled (rules_of plan.kept) (take inserted points))
+
+-- a cause that the second reading, the insertion and the saving may have
+abbrev pub IsPhaseFault : BuildError → Type 0
+IsPhaseFault StoreFault = ⊤
+IsPhaseFault (TileDamaged key) = ⊤
+IsPhaseFault SourceFault = ⊤
+IsPhaseFault (SourceChanged source number) = ⊤
+IsPhaseFault TooManyNodes = ⊤
+IsPhaseFault Memory = ⊤
+IsPhaseFault (BadCheckpoint letter) = ⊥
+IsPhaseFault (Differs field kept given) = ⊥
+IsPhaseFault (BadLas source fault) = ⊥
+IsPhaseFault (OutOfBounds source number) = ⊥
+IsPhaseFault (TooManyPoints source) = ⊥
+IsPhaseFault NoBounds = ⊥
+
+-- a fault of the store, or want of memory
+abbrev pub IsStoreFault : BuildError → Type 0
+IsStoreFault e = (e ≡ StoreFault) ⊎ (e ≡ Memory)
