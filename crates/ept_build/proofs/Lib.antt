@@ -8,4 +8,6 @@ mod Phased
 mod Ending
 mod Ground
 mod Refusals
+mod Judging
 mod Running
+mod Finished

@@ -75,10 +75,10 @@ where
     ensures files { H.files shelf.new ≡ H.files shelf.old }
     ensures room { _room.new ≡ _room.old }
 {
-    let saved = open(alloc, store)?;
-    let plan = make_plan(alloc, config, shelf, &saved)?;
     sound_law();
     sound_steps_law();
+    let saved = open(alloc, store)?;
+    let plan = make_plan(alloc, config, shelf, &saved)?;
     if is_finished(alloc, store, &saved, &plan)? {
         store.sync()?;
         return Ok(Summary {

@@ -1,0 +1,183 @@
+use Rattle.std.proofs.Common.{rules, ◌≡◌, ◌≢◌, ◌∙◌, ◌⊎◌, inl, inr, ℕ, Bool, refl, sym, ap, subst, arith, Some}
+use Rattle.std.specs.Prelude.{Result, Ok, Err, IfErr}
+use Rattle.std.proofs.lemmas.Result.{IfOk-weaker, IfErr-weaker, err_from_is_err_and}
+use Rattle.ept_base.specs.Files.{Files, SameFiles, Tells}
+use Rattle.ept_base.specs.Moves.{Moves}
+use Rattle.ept_base.specs.declared.errors.PutError.{PutError}
+use Rattle.ept_base.proofs.Moving.{moves_once}
+use Rattle.ept_scan.specs.Scans.{IsScan}
+use Rattle.ept_save.specs.Names.{done_name}
+use Rattle.ept_save.specs.Current.{Current, HasCurrent}
+use Rattle.ept_save.specs.Done.{IsDone}
+use Rattle.ept_save.specs.Sound.{IsSound}
+use Rattle.ept_save.proofs.Standing.{stepped, told_some, tells_some, same_twice, same-stands}
+use Rattle.ept_plan.specs.Plans.{limits_by, GoesOn}
+use Rattle.ept_build.specs.declared.error.BuildError.{BuildError}
+use Rattle.ept_build.specs.declared.summary.Summary.{Summary}
+use Rattle.ept_build.specs.Errors.{of_plan, of_put}
+use Rattle.ept_build.specs.Building.{HasPoints, IsBuilt, IsRefusedAt, IsRefused, IsEarly}
+use Rattle.ept_build.proofs.Causes.{tells-some}
+use Rattle.ept_build.proofs.Judging.{plan-refused, plan-accepted, stores-fails, built-accepted, store-refused, put-store, put-no-source, put-failed}
+use Rattle.ept_build.proofs.Moved.{moves-then}
+use Rattle.ept_build.proofs.Running.{sound-settled, same-moves}
+use Rattle.ept_build.proofs.Finished.{finished-built, built-from, starts-again, done-all}
+use Rattle.ept_build.proofs.building.build.Goals as goal
+
+pub returns-in_err-saved-clause-sound : goal.returns-in_err-saved-clause-sound
+returns-in_err-saved-clause-sound g c = λ all start begins.
+    same-moves c.sound_steps_law.ensures.same c.sound_law.ensures.published c.sound_steps_law.ensures.guarding all begins.sound.current g.T.Store.files g.T.Store.may_leave g.T.Store.moment g.T.Store.image_since c.args.store.now c.open.new.store (sound-settled c.sound_steps_law.ensures.same c.sound_law.ensures.published c.sound_steps_law.ensures.guarding all begins.sound.current g.T.Store.files g.T.Store.may_leave g.T.Store.moment g.T.Store.image_since c.args.store.now start begins.told begins.settled begins.sound begins.sound.has_current) c.open.ensures.any_moment
+
+pub returns-in_err-plan-clause-sound : goal.returns-in_err-plan-clause-sound
+returns-in_err-plan-clause-sound g c = λ all start begins.
+    same-moves c.sound_steps_law.ensures.same c.sound_law.ensures.published c.sound_steps_law.ensures.guarding all begins.sound.current g.T.Store.files g.T.Store.may_leave g.T.Store.moment g.T.Store.image_since c.args.store.now c.open.new.store (sound-settled c.sound_steps_law.ensures.same c.sound_law.ensures.published c.sound_steps_law.ensures.guarding all begins.sound.current g.T.Store.files g.T.Store.may_leave g.T.Store.moment g.T.Store.image_since c.args.store.now start begins.told begins.settled begins.sound begins.sound.has_current) c.open.ensures.any_moment
+
+pub returns-in_err-plan-clause-refused : goal.returns-in_err-plan-clause-refused
+returns-in_err-plan-clause-refused g c = λ all start begins.
+    let cur = told_some (HasCurrent c.in_ok-saved.saved.current) (g.T.Store.files c.args.store.now) start begins.told c.in_ok-saved.ensures.current in
+    let e = c.in_err-plan.field-0.0 in
+    let is : c.from_residual-in_err-plan.result ≡ Err (of_plan e) = search rules in
+    subst (λ (r : Result Summary BuildError). IfErr r (IsRefused all c.args.config.now start)) (sym is)
+    (record { current = c.in_ok-saved.saved.current; has_current = cur; because = plan-refused all c.args.config.now c.in_ok-saved.saved.current e (tells-some _ (g.H.Shelf.files c.args.shelf.now) all begins.shelf_told c.in_err-plan.ensures.refused) })
+
+pub returns-in_err-plan-clause-accepted : goal.returns-in_err-plan-clause-accepted
+returns-in_err-plan-clause-accepted g c = λ all start begins acc.
+    let cur = told_some (HasCurrent c.in_ok-saved.saved.current) (g.T.Store.files c.args.store.now) start begins.told c.in_ok-saved.ensures.current in
+    let e = c.in_err-plan.field-0.0 in
+    let is : c.from_residual-in_err-plan.result ≡ Err (of_plan e) = search rules in
+    let same : acc.current ≡ c.in_ok-saved.saved.current = c.sound_law.ensures.one start acc.current c.in_ok-saved.saved.current acc.has_current cur in
+    let comes = tells-some _ (g.H.Shelf.files c.args.shelf.now) all begins.shelf_told c.in_err-plan.ensures.accepted in
+    plan-accepted c.from_residual-in_err-plan.result e is
+    (comes acc.points acc.has_points.done (subst (λ (w : Current). GoesOn c.args.config.now w) same acc.goes_on)
+    (subst (λ (w : Current). IsScan all c.args.config.now.scale (limits_by c.args.config.now.bounds w) c.args.config.now.inputs 0 acc.points acc.has_points.done) same acc.has_points.scan))
+
+pub returns-in_err-is_finished-clause-sound : goal.returns-in_err-is_finished-clause-sound
+returns-in_err-is_finished-clause-sound g c = λ all start begins.
+    same-moves c.sound_steps_law.ensures.same c.sound_law.ensures.published c.sound_steps_law.ensures.guarding all begins.sound.current g.T.Store.files g.T.Store.may_leave g.T.Store.moment g.T.Store.image_since c.args.store.now c.is_finished.new.store (sound-settled c.sound_steps_law.ensures.same c.sound_law.ensures.published c.sound_steps_law.ensures.guarding all begins.sound.current g.T.Store.files g.T.Store.may_leave g.T.Store.moment g.T.Store.image_since c.args.store.now start begins.told begins.settled begins.sound begins.sound.has_current) (same_twice g.T.Store.files g.T.Store.may_leave g.T.Store.moment g.T.Store.image_since c.args.store.now c.open.new.store c.is_finished.new.store c.open.ensures.any_moment c.is_finished.ensures.any_moment)
+
+pub returns-in_err-is_finished-clause-done_already : goal.returns-in_err-is_finished-clause-done_already
+returns-in_err-is_finished-clause-done_already g c = λ all start begins done.
+    (same_twice g.T.Store.files g.T.Store.may_leave g.T.Store.moment g.T.Store.image_since c.args.store.now c.open.new.store c.is_finished.new.store c.open.ensures.any_moment c.is_finished.ensures.any_moment)
+
+pub returns-in_err-is_finished-clause-early : goal.returns-in_err-is_finished-clause-early
+returns-in_err-is_finished-clause-early g c = 
+    let p = err_from_is_err_and c.from_residual-in_err-is_finished.result c.from_residual-in_err-is_finished.ensures.1 in
+    let is : c.from_residual-in_err-is_finished.result ≡ Err c.in_err-is_finished.field-0.0 = p.1 ∙ ap (λ (w : BuildError). Err w) p.2 in
+    subst (λ (r : Result Summary BuildError). IfErr r (λ f. IsEarly f → Moves g.T.Store.files g.T.Store.may_leave g.T.Store.moment g.T.Store.image_since SameFiles c.args.store.now c.is_finished.new.store)) (sym is) (λ early. (same_twice g.T.Store.files g.T.Store.may_leave g.T.Store.moment g.T.Store.image_since c.args.store.now c.open.new.store c.is_finished.new.store c.open.ensures.any_moment c.is_finished.ensures.any_moment))
+
+pub returns-in_err-is_finished-clause-refused : goal.returns-in_err-is_finished-clause-refused
+returns-in_err-is_finished-clause-refused g c = λ all start begins.
+    let cur = told_some (HasCurrent c.in_ok-saved.saved.current) (g.T.Store.files c.args.store.now) start begins.told c.in_ok-saved.ensures.current in
+    let p = err_from_is_err_and c.from_residual-in_err-is_finished.result c.from_residual-in_err-is_finished.ensures.1 in
+    let is : c.from_residual-in_err-is_finished.result ≡ Err c.in_err-is_finished.field-0.0 = p.1 ∙ ap (λ (w : BuildError). Err w) p.2 in
+    subst (λ (r : Result Summary BuildError). IfErr r (IsRefused all c.args.config.now start)) (sym is)
+    (record { current = c.in_ok-saved.saved.current; has_current = cur; because = store-refused all c.args.config.now c.in_ok-saved.saved.current c.in_err-is_finished.field-0.0 c.in_err-is_finished.ensures.only })
+
+pub returns-in_err-is_finished-clause-accepted : goal.returns-in_err-is_finished-clause-accepted
+returns-in_err-is_finished-clause-accepted g c = λ all start begins acc.
+    let p = err_from_is_err_and c.from_residual-in_err-is_finished.result c.from_residual-in_err-is_finished.ensures.1 in
+    let is : c.from_residual-in_err-is_finished.result ≡ Err c.in_err-is_finished.field-0.0 = p.1 ∙ ap (λ (w : BuildError). Err w) p.2 in
+    inr (stores-fails c.from_residual-in_err-is_finished.result c.in_err-is_finished.field-0.0 is c.in_err-is_finished.ensures.only)
+
+pub returns-in_err-sync-clause-sound : goal.returns-in_err-sync-clause-sound
+returns-in_err-sync-clause-sound g c = λ all start begins.
+    same-moves c.sound_steps_law.ensures.same c.sound_law.ensures.published c.sound_steps_law.ensures.guarding all begins.sound.current g.T.Store.files g.T.Store.may_leave g.T.Store.moment g.T.Store.image_since c.args.store.now c.sync.new.self (sound-settled c.sound_steps_law.ensures.same c.sound_law.ensures.published c.sound_steps_law.ensures.guarding all begins.sound.current g.T.Store.files g.T.Store.may_leave g.T.Store.moment g.T.Store.image_since c.args.store.now start begins.told begins.settled begins.sound begins.sound.has_current) (same_twice g.T.Store.files g.T.Store.may_leave g.T.Store.moment g.T.Store.image_since c.args.store.now c.is_finished.new.store c.sync.new.self (same_twice g.T.Store.files g.T.Store.may_leave g.T.Store.moment g.T.Store.image_since c.args.store.now c.open.new.store c.is_finished.new.store c.open.ensures.any_moment c.is_finished.ensures.any_moment) (moves_once g.T.Store.files g.T.Store.may_leave g.T.Store.moment g.T.Store.image_since SameFiles c.is_finished.new.store c.sync.new.self c.sync.ensures.reads (λ image is. (image, c.sync.ensures.images image is, λ name. refl)) c.sync.ensures.time))
+
+pub returns-in_err-sync-clause-done_already : goal.returns-in_err-sync-clause-done_already
+returns-in_err-sync-clause-done_already g c = λ all start begins done.
+    (same_twice g.T.Store.files g.T.Store.may_leave g.T.Store.moment g.T.Store.image_since c.args.store.now c.is_finished.new.store c.sync.new.self (same_twice g.T.Store.files g.T.Store.may_leave g.T.Store.moment g.T.Store.image_since c.args.store.now c.open.new.store c.is_finished.new.store c.open.ensures.any_moment c.is_finished.ensures.any_moment) (moves_once g.T.Store.files g.T.Store.may_leave g.T.Store.moment g.T.Store.image_since SameFiles c.is_finished.new.store c.sync.new.self c.sync.ensures.reads (λ image is. (image, c.sync.ensures.images image is, λ name. refl)) c.sync.ensures.time))
+
+pub returns-in_err-sync-clause-early : goal.returns-in_err-sync-clause-early
+returns-in_err-sync-clause-early g c = 
+    let p = err_from_is_err_and c.from_residual-in_err-sync.result c.from_residual-in_err-sync.ensures.1 in
+    let is : c.from_residual-in_err-sync.result ≡ Err (of_put c.in_err-sync.field-0.0) = p.1 ∙ ap (λ (w : BuildError). Err w) p.2 in
+    subst (λ (r : Result Summary BuildError). IfErr r (λ f. IsEarly f → Moves g.T.Store.files g.T.Store.may_leave g.T.Store.moment g.T.Store.image_since SameFiles c.args.store.now c.sync.new.self)) (sym is) (λ early. (same_twice g.T.Store.files g.T.Store.may_leave g.T.Store.moment g.T.Store.image_since c.args.store.now c.is_finished.new.store c.sync.new.self (same_twice g.T.Store.files g.T.Store.may_leave g.T.Store.moment g.T.Store.image_since c.args.store.now c.open.new.store c.is_finished.new.store c.open.ensures.any_moment c.is_finished.ensures.any_moment) (moves_once g.T.Store.files g.T.Store.may_leave g.T.Store.moment g.T.Store.image_since SameFiles c.is_finished.new.store c.sync.new.self c.sync.ensures.reads (λ image is. (image, c.sync.ensures.images image is, λ name. refl)) c.sync.ensures.time)))
+
+pub returns-in_err-sync-clause-refused : goal.returns-in_err-sync-clause-refused
+returns-in_err-sync-clause-refused g c = λ all start begins.
+    let cur = told_some (HasCurrent c.in_ok-saved.saved.current) (g.T.Store.files c.args.store.now) start begins.told c.in_ok-saved.ensures.current in
+    let p = err_from_is_err_and c.from_residual-in_err-sync.result c.from_residual-in_err-sync.ensures.1 in
+    let is : c.from_residual-in_err-sync.result ≡ Err (of_put c.in_err-sync.field-0.0) = p.1 ∙ ap (λ (w : BuildError). Err w) p.2 in
+    subst (λ (r : Result Summary BuildError). IfErr r (IsRefused all c.args.config.now start)) (sym is)
+    (record { current = c.in_ok-saved.saved.current; has_current = cur; because = store-refused all c.args.config.now c.in_ok-saved.saved.current (of_put c.in_err-sync.field-0.0) (put-store c.in_err-sync.field-0.0) })
+
+pub returns-in_err-sync-clause-accepted : goal.returns-in_err-sync-clause-accepted
+returns-in_err-sync-clause-accepted g c = λ all start begins acc.
+    let p = err_from_is_err_and c.from_residual-in_err-sync.result c.from_residual-in_err-sync.ensures.1 in
+    let is : c.from_residual-in_err-sync.result ≡ Err (of_put c.in_err-sync.field-0.0) = p.1 ∙ ap (λ (w : BuildError). Err w) p.2 in
+    inr (stores-fails c.from_residual-in_err-sync.result (of_put c.in_err-sync.field-0.0) is (put-store c.in_err-sync.field-0.0))
+
+pub returns-in_err-sync-clause-sources : goal.returns-in_err-sync-clause-sources
+returns-in_err-sync-clause-sources g c = record {
+  later = c.make_plan.ensures.cause.later;
+  failed = λ is. absurd (put-no-source c.in_err-sync.field-0.0 (search (rules, is)));
+}
+
+pub returns-in_err-sync-clause-stores : goal.returns-in_err-sync-clause-stores
+returns-in_err-sync-clause-stores g c = record {
+  later = omega (arith, c.open.ensures.cause.later, c.is_finished.ensures.stores.later, c.sync.ensures.cause.later);
+  failed = λ is. omega (arith, c.open.ensures.cause.later, c.is_finished.ensures.stores.later, c.in_err-sync.ensures.cause.failed (ap (λ (w : PutError). Err w) (put-failed c.in_err-sync.field-0.0 (search (rules, is)))));
+}
+
+pub returns-then-branch-clause-built : goal.returns-then-branch-clause-built
+returns-then-branch-clause-built g c = λ all start begins.
+    let cur = told_some (HasCurrent c.in_ok-saved.saved.current) (g.T.Store.files c.args.store.now) start begins.told c.in_ok-saved.ensures.current in
+    let finished = c.in_ok-is_finished.ensures.finished (ap (λ (b : Bool). Ok b) c.if-branch.true) in
+    let at_end = stepped SameFiles (g.T.Store.files c.args.store.now) (g.T.Store.files c.sync.new.self) start begins.told (same_twice g.T.Store.files g.T.Store.may_leave g.T.Store.moment g.T.Store.image_since c.args.store.now c.is_finished.new.store c.sync.new.self (same_twice g.T.Store.files g.T.Store.may_leave g.T.Store.moment g.T.Store.image_since c.args.store.now c.open.new.store c.is_finished.new.store c.open.ensures.any_moment c.is_finished.ensures.any_moment) (moves_once g.T.Store.files g.T.Store.may_leave g.T.Store.moment g.T.Store.image_since SameFiles c.is_finished.new.store c.sync.new.self c.sync.ensures.reads (λ image is. (image, c.sync.ensures.images image is, λ name. refl)) c.sync.ensures.time)).reads in
+    let at_one = stepped SameFiles (g.T.Store.files c.args.store.now) (g.T.Store.files c.open.new.store) start begins.told c.open.ensures.any_moment.reads in
+    let done_one = told_some IsDone (g.T.Store.files c.open.new.store) at_one.0 at_one.1 finished.1 in
+    let done_end : IsDone at_end.0 = at_end.2 done_name ∙ (sym (at_one.2 done_name) ∙ done_one) in
+    tells_some (IsBuilt all c.args.config.now start (record { points = c.in_ok-plan.plan.points; nodes = c.nodes_of.result })) (g.T.Store.files c.sync.new.self) at_end.0 at_end.1
+    (finished-built c.sound_steps_law.ensures.same c.sound_law.ensures.complete all start at_end.0 c.args.config.now c.in_ok-saved.saved.current c.in_ok-plan.plan c.in_ok-plan.ensures.plan cur begins.sound at_end.2 finished.0 done_end c.nodes_of.result c.nodes_of.ensures)
+
+pub returns-then-branch-clause-sound : goal.returns-then-branch-clause-sound
+returns-then-branch-clause-sound g c = λ all start begins.
+    same-moves c.sound_steps_law.ensures.same c.sound_law.ensures.published c.sound_steps_law.ensures.guarding all begins.sound.current g.T.Store.files g.T.Store.may_leave g.T.Store.moment g.T.Store.image_since c.args.store.now c.sync.new.self (sound-settled c.sound_steps_law.ensures.same c.sound_law.ensures.published c.sound_steps_law.ensures.guarding all begins.sound.current g.T.Store.files g.T.Store.may_leave g.T.Store.moment g.T.Store.image_since c.args.store.now start begins.told begins.settled begins.sound begins.sound.has_current) (same_twice g.T.Store.files g.T.Store.may_leave g.T.Store.moment g.T.Store.image_since c.args.store.now c.is_finished.new.store c.sync.new.self (same_twice g.T.Store.files g.T.Store.may_leave g.T.Store.moment g.T.Store.image_since c.args.store.now c.open.new.store c.is_finished.new.store c.open.ensures.any_moment c.is_finished.ensures.any_moment) (moves_once g.T.Store.files g.T.Store.may_leave g.T.Store.moment g.T.Store.image_since SameFiles c.is_finished.new.store c.sync.new.self c.sync.ensures.reads (λ image is. (image, c.sync.ensures.images image is, λ name. refl)) c.sync.ensures.time))
+
+pub returns-then-branch-clause-done_already : goal.returns-then-branch-clause-done_already
+returns-then-branch-clause-done_already g c = λ all start begins done.
+    (same_twice g.T.Store.files g.T.Store.may_leave g.T.Store.moment g.T.Store.image_since c.args.store.now c.is_finished.new.store c.sync.new.self (same_twice g.T.Store.files g.T.Store.may_leave g.T.Store.moment g.T.Store.image_since c.args.store.now c.open.new.store c.is_finished.new.store c.open.ensures.any_moment c.is_finished.ensures.any_moment) (moves_once g.T.Store.files g.T.Store.may_leave g.T.Store.moment g.T.Store.image_since SameFiles c.is_finished.new.store c.sync.new.self c.sync.ensures.reads (λ image is. (image, c.sync.ensures.images image is, λ name. refl)) c.sync.ensures.time))
+
+pub returns-clause-built : goal.returns-clause-built
+returns-clause-built g c = λ all start begins.
+    let cur = told_some (HasCurrent c.in_ok-saved.saved.current) (g.T.Store.files c.args.store.now) start begins.told c.in_ok-saved.ensures.current in
+    let at_two = stepped SameFiles (g.T.Store.files c.args.store.now) (g.T.Store.files c.is_finished.new.store) start begins.told (same_twice g.T.Store.files g.T.Store.may_leave g.T.Store.moment g.T.Store.image_since c.args.store.now c.open.new.store c.is_finished.new.store c.open.ensures.any_moment c.is_finished.ensures.any_moment).reads in
+    let told : g.H.Shelf.files c.make_plan.new.shelf ≡ Some all = c.in_ok-plan.ensures.files ∙ begins.shelf_told in
+    let stands = same-stands g.T.Store.files g.T.Store.may_leave g.T.Store.moment g.T.Store.image_since c.in_ok-saved.saved c.open.new.store c.is_finished.new.store c.is_finished.ensures.any_moment (c.in_ok-saved.ensures.stands start begins.told begins.settled) in
+    let starts = starts-again c.sound_steps_law.ensures.same all start at_two.0 c.args.config.now c.in_ok-saved.saved c.in_ok-plan.plan cur begins.sound at_two.2 g.T.Store.files g.T.Store.may_leave g.T.Store.moment g.T.Store.image_since c.args.store.now c.is_finished.new.store begins.told begins.settled at_two.1 (same_twice g.T.Store.files g.T.Store.may_leave g.T.Store.moment g.T.Store.image_since c.args.store.now c.open.new.store c.is_finished.new.store c.open.ensures.any_moment c.is_finished.ensures.any_moment) stands (tells-some _ (g.H.Shelf.files c.args.shelf.now) all begins.shelf_told c.in_ok-plan.ensures.scan) in
+    IfOk-weaker c.built.result _ _ (λ summary. built-from all c.args.config.now start at_two.0 at_two.2 summary (g.T.Store.files c.built.new.store)) (c.built.ensures.built all at_two.0 told starts)
+
+pub returns-clause-sound : goal.returns-clause-sound
+returns-clause-sound g c = λ all start begins.
+    let cur = told_some (HasCurrent c.in_ok-saved.saved.current) (g.T.Store.files c.args.store.now) start begins.told c.in_ok-saved.ensures.current in
+    let at_two = stepped SameFiles (g.T.Store.files c.args.store.now) (g.T.Store.files c.is_finished.new.store) start begins.told (same_twice g.T.Store.files g.T.Store.may_leave g.T.Store.moment g.T.Store.image_since c.args.store.now c.open.new.store c.is_finished.new.store c.open.ensures.any_moment c.is_finished.ensures.any_moment).reads in
+    let told : g.H.Shelf.files c.make_plan.new.shelf ≡ Some all = c.in_ok-plan.ensures.files ∙ begins.shelf_told in
+    let stands = same-stands g.T.Store.files g.T.Store.may_leave g.T.Store.moment g.T.Store.image_since c.in_ok-saved.saved c.open.new.store c.is_finished.new.store c.is_finished.ensures.any_moment (c.in_ok-saved.ensures.stands start begins.told begins.settled) in
+    let starts = starts-again c.sound_steps_law.ensures.same all start at_two.0 c.args.config.now c.in_ok-saved.saved c.in_ok-plan.plan cur begins.sound at_two.2 g.T.Store.files g.T.Store.may_leave g.T.Store.moment g.T.Store.image_since c.args.store.now c.is_finished.new.store begins.told begins.settled at_two.1 (same_twice g.T.Store.files g.T.Store.may_leave g.T.Store.moment g.T.Store.image_since c.args.store.now c.open.new.store c.is_finished.new.store c.open.ensures.any_moment c.is_finished.ensures.any_moment) stands (tells-some _ (g.H.Shelf.files c.args.shelf.now) all begins.shelf_told c.in_ok-plan.ensures.scan) in
+    moves-then g.T.Store.files g.T.Store.may_leave g.T.Store.moment g.T.Store.image_since (IsSound all) c.args.store.now c.is_finished.new.store c.built.new.store (same-moves c.sound_steps_law.ensures.same c.sound_law.ensures.published c.sound_steps_law.ensures.guarding all begins.sound.current g.T.Store.files g.T.Store.may_leave g.T.Store.moment g.T.Store.image_since c.args.store.now c.is_finished.new.store (sound-settled c.sound_steps_law.ensures.same c.sound_law.ensures.published c.sound_steps_law.ensures.guarding all begins.sound.current g.T.Store.files g.T.Store.may_leave g.T.Store.moment g.T.Store.image_since c.args.store.now start begins.told begins.settled begins.sound begins.sound.has_current) (same_twice g.T.Store.files g.T.Store.may_leave g.T.Store.moment g.T.Store.image_since c.args.store.now c.open.new.store c.is_finished.new.store c.open.ensures.any_moment c.is_finished.ensures.any_moment)) (c.built.ensures.sound all at_two.0 told starts)
+
+pub returns-clause-done_already : goal.returns-clause-done_already
+returns-clause-done_already g c = λ all start begins done.
+    let cur = told_some (HasCurrent c.in_ok-saved.saved.current) (g.T.Store.files c.args.store.now) start begins.told c.in_ok-saved.ensures.current in
+    let has = done-all c.sound_law.ensures.one c.sound_law.ensures.published all start c.args.config.now c.in_ok-saved.saved.current c.in_ok-plan.plan c.in_ok-plan.ensures.plan cur begins.sound done in
+    let at_one = stepped SameFiles (g.T.Store.files c.args.store.now) (g.T.Store.files c.open.new.store) start begins.told c.open.ensures.any_moment.reads in
+    let undone = told_some (λ f. ¬ IsDone f) (g.T.Store.files c.open.new.store) at_one.0 at_one.1 (c.in_ok-is_finished.ensures.not (ap (λ (b : Bool). Ok b) c.if-branch.false) has) in
+    absurd (undone (at_one.2 done_name ∙ done.done))
+
+pub returns-clause-refused : goal.returns-clause-refused
+returns-clause-refused g c = λ all start begins.
+    let cur = told_some (HasCurrent c.in_ok-saved.saved.current) (g.T.Store.files c.args.store.now) start begins.told c.in_ok-saved.ensures.current in
+    let at_two = stepped SameFiles (g.T.Store.files c.args.store.now) (g.T.Store.files c.is_finished.new.store) start begins.told (same_twice g.T.Store.files g.T.Store.may_leave g.T.Store.moment g.T.Store.image_since c.args.store.now c.open.new.store c.is_finished.new.store c.open.ensures.any_moment c.is_finished.ensures.any_moment).reads in
+    let told : g.H.Shelf.files c.make_plan.new.shelf ≡ Some all = c.in_ok-plan.ensures.files ∙ begins.shelf_told in
+    let stands = same-stands g.T.Store.files g.T.Store.may_leave g.T.Store.moment g.T.Store.image_since c.in_ok-saved.saved c.open.new.store c.is_finished.new.store c.is_finished.ensures.any_moment (c.in_ok-saved.ensures.stands start begins.told begins.settled) in
+    let starts = starts-again c.sound_steps_law.ensures.same all start at_two.0 c.args.config.now c.in_ok-saved.saved c.in_ok-plan.plan cur begins.sound at_two.2 g.T.Store.files g.T.Store.may_leave g.T.Store.moment g.T.Store.image_since c.args.store.now c.is_finished.new.store begins.told begins.settled at_two.1 (same_twice g.T.Store.files g.T.Store.may_leave g.T.Store.moment g.T.Store.image_since c.args.store.now c.open.new.store c.is_finished.new.store c.open.ensures.any_moment c.is_finished.ensures.any_moment) stands (tells-some _ (g.H.Shelf.files c.args.shelf.now) all begins.shelf_told c.in_ok-plan.ensures.scan) in
+    IfErr-weaker c.built.result (IsRefusedAt all c.args.config.now c.in_ok-saved.saved.current) (IsRefused all c.args.config.now start) (λ e because. record { current = c.in_ok-saved.saved.current; has_current = cur; because = because }) (c.built.ensures.refused all at_two.0 told starts)
+
+pub returns-clause-accepted : goal.returns-clause-accepted
+returns-clause-accepted g c = λ all start begins acc.
+    let cur = told_some (HasCurrent c.in_ok-saved.saved.current) (g.T.Store.files c.args.store.now) start begins.told c.in_ok-saved.ensures.current in
+    let at_two = stepped SameFiles (g.T.Store.files c.args.store.now) (g.T.Store.files c.is_finished.new.store) start begins.told (same_twice g.T.Store.files g.T.Store.may_leave g.T.Store.moment g.T.Store.image_since c.args.store.now c.open.new.store c.is_finished.new.store c.open.ensures.any_moment c.is_finished.ensures.any_moment).reads in
+    let told : g.H.Shelf.files c.make_plan.new.shelf ≡ Some all = c.in_ok-plan.ensures.files ∙ begins.shelf_told in
+    let stands = same-stands g.T.Store.files g.T.Store.may_leave g.T.Store.moment g.T.Store.image_since c.in_ok-saved.saved c.open.new.store c.is_finished.new.store c.is_finished.ensures.any_moment (c.in_ok-saved.ensures.stands start begins.told begins.settled) in
+    let starts = starts-again c.sound_steps_law.ensures.same all start at_two.0 c.args.config.now c.in_ok-saved.saved c.in_ok-plan.plan cur begins.sound at_two.2 g.T.Store.files g.T.Store.may_leave g.T.Store.moment g.T.Store.image_since c.args.store.now c.is_finished.new.store begins.told begins.settled at_two.1 (same_twice g.T.Store.files g.T.Store.may_leave g.T.Store.moment g.T.Store.image_since c.args.store.now c.open.new.store c.is_finished.new.store c.open.ensures.any_moment c.is_finished.ensures.any_moment) stands (tells-some _ (g.H.Shelf.files c.args.shelf.now) all begins.shelf_told c.in_ok-plan.ensures.scan) in
+    let same : acc.current ≡ c.in_ok-saved.saved.current = c.sound_law.ensures.one start acc.current c.in_ok-saved.saved.current acc.has_current cur in
+    built-accepted c.built.result all c.args.config.now c.in_ok-saved.saved.current c.built.ensures.only (c.built.ensures.refused all at_two.0 told starts) acc.kept acc.points (subst (λ (w : Current). HasPoints all c.args.config.now w acc.kept acc.points) same acc.has_points) acc.few
