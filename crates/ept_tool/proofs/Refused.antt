@@ -58,6 +58,17 @@ pub carried_comes : {A B : Type 0} (files : Option Files) (Why : Files → Refus
 carried_comes None Why a b e is_a is_b comes = tt
 carried_comes (Some all) Why a b e is_a is_b comes = λ r definite why. carried a b e r is_a (is_err b e is_b) (comes r definite why)
 
+-- so does one of an answer that is accepted
+no_ok : {A : Type 0} (a : Result A Refusal) (e : Refusal) → a ≡ Err e → IsOk a → ⊥
+no_ok (Ok x) e same ok = differ x e same
+no_ok (Err x) e same ok = cc
+
+pub carried_accepted : {A B : Type 0} (a : Result A Refusal) (b : Result B Refusal) (e : Refusal) → a ≡ Err e → IsErrAnd b (λ x. x ≡ e) → IsOk a ⊎ Fails a → IsOk b ⊎ Fails b
+carried_accepted a b e is_a is_b (inl ok) = absurd (no_ok a e is_a ok)
+carried_accepted {A} a b e is_a is_b (inr (inl fault)) = inr (inl (is_err b e is_b ∙ ap Err (err_same {A = A} e SourceFault (sym is_a ∙ fault))))
+carried_accepted {A} a b e is_a is_b (inr (inr (inl fault))) = inr (inr (inl (is_err b e is_b ∙ ap Err (err_same {A = A} e StoreFault (sym is_a ∙ fault)))))
+carried_accepted {A} a b e is_a is_b (inr (inr (inr lack))) = inr (inr (inr (is_err b e is_b ∙ ap Err (err_same {A = A} e Memory (sym is_a ∙ lack)))))
+
 module _ (all : Files) (path : List ℕ) where
   one_reading : (a b : List ℕ) (x y : Result Facts ConfigError) → all path ≡ Some a → all path ≡ Some b → reading a ≡ x → reading b ≡ y → x ≡ y
   one_reading a b x y left right is_x is_y = sym is_x ∙ ap reading (some_same (all path) a b left right) ∙ is_y
@@ -113,21 +124,21 @@ module _ (all : Files) (path : List ℕ) where
   came_before StoreFault r is definite why = absurd is
 
   -- it has no build
-  pub not_accepted : {A : Type 0} (e : Refusal) (start : Files) → ConfigurationIsRefused all path e → IsAcceptedAt all start path → IsOk {A = A} (Err e) ⊎ Fails {A = A} (Err e)
-  not_accepted (BadConfiguration e) start is asked = absurd (not_both asked.config e asked.configures is)
-  not_accepted SourceFault start is asked = inr (inl refl)
-  not_accepted Memory start is asked = inr (inr (inr refl))
-  not_accepted Usage start is asked = absurd is
-  not_accepted (BadLas source fault) start is asked = absurd is
-  not_accepted (OutOfBounds source number) start is asked = absurd is
-  not_accepted NoBounds start is asked = absurd is
-  not_accepted (SourceChanged source number) start is asked = absurd is
-  not_accepted (TooManyPoints source) start is asked = absurd is
-  not_accepted TooManyNodes start is asked = absurd is
-  not_accepted (Differs field) start is asked = absurd is
-  not_accepted (BadCheckpoint letter) start is asked = absurd is
-  not_accepted (TileDamaged key) start is asked = absurd is
-  not_accepted StoreFault start is asked = absurd is
+  pub not_accepted : {A : Type 0} (answer : Result A Refusal) (e : Refusal) (start : Files) → answer ≡ Err e → ConfigurationIsRefused all path e → IsAcceptedAt all start path → IsOk answer ⊎ Fails answer
+  not_accepted answer (BadConfiguration e) start err is asked = absurd (not_both asked.config e asked.configures is)
+  not_accepted answer SourceFault start err is asked = inr (inl err)
+  not_accepted answer Memory start err is asked = inr (inr (inr err))
+  not_accepted answer Usage start err is asked = absurd is
+  not_accepted answer (BadLas source fault) start err is asked = absurd is
+  not_accepted answer (OutOfBounds source number) start err is asked = absurd is
+  not_accepted answer NoBounds start err is asked = absurd is
+  not_accepted answer (SourceChanged source number) start err is asked = absurd is
+  not_accepted answer (TooManyPoints source) start err is asked = absurd is
+  not_accepted answer TooManyNodes start err is asked = absurd is
+  not_accepted answer (Differs field) start err is asked = absurd is
+  not_accepted answer (BadCheckpoint letter) start err is asked = absurd is
+  not_accepted answer (TileDamaged key) start err is asked = absurd is
+  not_accepted answer StoreFault start err is asked = absurd is
 
   -- why a configuration is refused is why its build is
   pub refused_before : (Begins : Files → Files → Type 0) (e : Refusal) → ConfigurationIsRefused all path e → BuildIsRefused all Begins path e
@@ -173,7 +184,7 @@ module _ (all : Files) (path : List ℕ) where
       refused_as build.SourceFault is = tt
       refused_as (build.BadCheckpoint letter) is = (config, configures, is)
       refused_as (build.TileDamaged key) is = (config, configures, is)
-      refused_as (build.Differs field kept given) is = (kept, given, config, configures, is)
+      refused_as (build.Differs field kept given) is = (kept, given, (config, configures, is))
       refused_as (build.BadLas source fault) is = (config, configures, is)
       refused_as (build.OutOfBounds source number) is = (config, configures, is)
       refused_as (build.TooManyPoints source) is = (config, configures, is)

@@ -117,8 +117,8 @@ impl Refusal {
     ghost use Rattle.ept_tool.specs.Lines.{status_of};
 
     /// The status that the program ends with.
-    pub fn status(self) -> u8
-        ensures { result ≡ status_of self }
+    pub fn status(&self) -> u8
+        ensures { result ≡ status_of self.now }
     {
         match self {
             Refusal::Usage => USAGE,

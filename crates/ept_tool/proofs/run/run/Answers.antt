@@ -1,9 +1,10 @@
-use Rattle.std.proofs.Common.{map, string_bytes, inl, inr}
+use Rattle.std.proofs.Common.{map, string_bytes, refl, sym, inl, inr}
 use Rattle.ept_base.specs.Causes.{Rose}
 use Rattle.ept_las.specs.declared.header.Header.{Header}
 use Rattle.ept_tool.specs.declared.refusal.Refusal.{Refusal}
+use Rattle.ept_tool.specs.declared.refusal.Refusal.TheVariants.{Usage}
 use Rattle.ept_tool.specs.Requests.{IsAcceptedAt, IsDoneAt, HasHeader, IsDefinite}
-use Rattle.ept_tool.specs.Answers.{Yields, YieldsRefusal, AsksInfo, IsFaulty}
+use Rattle.ept_tool.specs.Answers.{Yields, YieldsRefusal, AsksInfo, IsFaulty, IsRefused}
 use Rattle.ept_tool.proofs.Runs.{Carries, never_usage, never_later, is_done, has_risen, is_refused, refusal_yields, accepted_yields, info_yields, usage_yields}
 use Rattle.ept_tool.proofs.Asked.{told_always, of_build, build_or_info, build_carries, info_carries, info_accepted}
 use Rattle.ept_build.specs.Building.{BeginsWith}
@@ -120,6 +121,16 @@ returns-in-Usage-clause-others_put_nothing g c = inr (stays g.T.Store.files g.T.
 
 pub returns-in-Usage-clause-sound : goal.returns-in-Usage-clause-sound
 returns-in-Usage-clause-sound g c = λ config folder is. absurd (c.in-Usage.ensures.not_build config folder is)
+
+pub returns-in-Usage-clause-refused : goal.returns-in-Usage-clause-refused
+returns-in-Usage-clause-refused g c = λ not_ok not_later. inl (record {
+  cause = Usage;
+  status_is = sym c.refuse_usage.ensures.status;
+  has_cause = told_always (λ all. IsRefused (map string_bytes c.args.words.now) all (BeginsWith (g.H.Shelf.files c.args.shelf.now) (g.T.Store.files c.args.store.now) (g.T.Store.may_leave c.args.store.now)) Usage) (g.H.Shelf.files c.args.shelf.now) (λ all. inl (refl, c.in-Usage.ensures));
+  risen = tt;
+  says = c.refuse_usage.ensures.says;
+  early = λ early. stays g.T.Store.files g.T.Store.may_leave g.T.Store.moment g.T.Store.image_since c.args.store.now;
+})
 
 pub returns-in-Usage-clause-refusal_comes : goal.returns-in-Usage-clause-refusal_comes
 returns-in-Usage-clause-refusal_comes g c =
