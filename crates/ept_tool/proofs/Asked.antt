@@ -8,8 +8,8 @@ use Rattle.ept_tool.specs.declared.refusal.Refusal.{Refusal}
 use Rattle.ept_tool.specs.declared.refusal.Refusal.TheVariants.{Usage, SourceFault, StoreFault, Memory}
 use Rattle.ept_tool.specs.Words.{IsBuild, IsInfo}
 use Rattle.ept_tool.specs.Lines.{summary_text, header_text}
-use Rattle.ept_tool.specs.Requests.{HasBuilt, HasTold, IsAcceptedAt, HasHeader, BuildIsRefused, InfoIsRefused, IsOfHeader, IsDefinite, IsLate, Fails}
-use Rattle.ept_tool.specs.Answers.{AsksBuild, AsksInfo, IsAnswer, IsDone, IsRefused}
+use Rattle.ept_tool.specs.Requests.{HasBuilt, HasTold, HasHeader, ConfigurationIsRefused, BuildIsRefused, InfoIsRefused, IsOfHeader, IsDefinite, IsEarly, Fails}
+use Rattle.ept_tool.specs.Answers.{AsksBuild, AsksInfo, IsAnswer, IsDone, IsFaulty, IsRefused}
 use Rattle.ept_tool.proofs.Runs.{Carries}
 
 one_build : (words : List (List ℕ)) (a b c d : List ℕ) → IsBuild words a b → IsBuild words c d → c ≡ a
@@ -47,51 +47,39 @@ err_weaker P Q (Ok a) step p = tt
 err_weaker P Q (Err e) step p = step e p
 
 module _ (words : List (List ℕ)) (path out : List ℕ) (is : IsBuild words path out) where
-  of_build : {P : List ℕ → Type 0} → AsksBuild words P → P path
+  pub of_build : {P : List ℕ → Type 0} → AsksBuild words P → P path
   of_build {P} asks = subst P (one_build words path out asks.path asks.out is asks.words_are) asks.holds
 
   module _ (answer : Result (Vec ℕ Global) Refusal) where
-    build_came : (all : Files) → ((r : Refusal) → IsDefinite r → BuildIsRefused all path r → (answer ≡ Err r) ⊎ Fails answer) → (r : Refusal) → IsDefinite r → IsRefused words all r → (answer ≡ Err r) ⊎ Fails answer
+    build_came : (all : Files) → ((r : Refusal) → IsDefinite r → ConfigurationIsRefused all path r → (answer ≡ Err r) ⊎ Fails answer) → (r : Refusal) → IsDefinite r → IsFaulty words all r → (answer ≡ Err r) ⊎ Fails answer
     build_came all comes r definite (inl usage) = absurd (usage.1.not_build path out is)
-    build_came all comes r definite (inr (inl asks)) = comes r definite (of_build {P = λ p. BuildIsRefused all p r} asks)
+    build_came all comes r definite (inr (inl asks)) = comes r definite (of_build {P = λ p. ConfigurationIsRefused all p r} asks)
     build_came all comes r definite (inr (inr asks)) = absurd (build_or_info words path out asks.path is asks.words_are)
 
-    pub build_carries : (files old new : Option Files) (shelf store same : Type 0)
+    pub build_carries : (files : Option Files) (Begins : Files → Files → Type 0) (new : Option Files) (shelf store same : Type 0)
         → IfOk answer (λ line. (points : ℕ) × (nodes : ℕ) × (line.items ≡ summary_text points nodes))
-        → IfOk answer (λ line. Tells (λ all. HasBuilt all path line.items old new) files)
+        → IfOk answer (λ line. Tells (λ all. HasBuilt all Begins path line.items new) files)
         → IfErr answer (λ r. r ≢ Usage)
-        → IfErr answer (λ r. Tells (λ all. BuildIsRefused all path r) files)
+        → IfErr answer (λ r. Tells (λ all. BuildIsRefused all Begins path r) files)
         → (answer ≡ Err SourceFault → shelf) → (answer ≡ Err StoreFault → store)
-        → IfErr answer (λ r. (IsLate r → ⊥) → same)
-        → Tells (λ all. (r : Refusal) → IsDefinite r → BuildIsRefused all path r → (answer ≡ Err r) ⊎ Fails answer) files
-        → Carries words files old new shelf store same answer
-    build_carries files old new shelf store same said built named refused sources stores untouched comes = record {
+        → IfErr answer (λ r. IsEarly r → same)
+        → Tells (λ all. (r : Refusal) → IsDefinite r → ConfigurationIsRefused all path r → (answer ≡ Err r) ⊎ Fails answer) files
+        → Carries words files Begins new shelf store same answer
+    build_carries files Begins new shelf store same said built named refused sources stores early comes = record {
       is_answer = ok_weaker (λ line. (points : ℕ) × (nodes : ℕ) × (line.items ≡ summary_text points nodes)) (λ line. IsAnswer words line.items) answer
           (λ line text. inl (record { path = path; out = out; words_are = is; holds = text })) said;
-      done = ok_weaker (λ line. Tells (λ all. HasBuilt all path line.items old new) files) (λ line. Tells (λ all. IsDone words all line.items old new) files) answer
-          (λ line has. told_as (λ all. HasBuilt all path line.items old new) (λ all. IsDone words all line.items old new) files (λ all h. inl (record { path = path; out = out; words_are = is; holds = h })) has) built;
+      done = ok_weaker (λ line. Tells (λ all. HasBuilt all Begins path line.items new) files) (λ line. Tells (λ all. IsDone words all Begins line.items new) files) answer
+          (λ line has. told_as (λ all. HasBuilt all Begins path line.items new) (λ all. IsDone words all Begins line.items new) files (λ all h. inl (record { path = path; out = out; words_are = is; holds = h })) has) built;
       named = named;
-      refused = err_weaker (λ r. Tells (λ all. BuildIsRefused all path r) files) (λ r. Tells (λ all. IsRefused words all r) files) answer
-          (λ r why. told_as (λ all. BuildIsRefused all path r) (λ all. IsRefused words all r) files (λ all h. inr (inl (record { path = path; out = out; words_are = is; holds = h }))) why) refused;
-      lacks = told_always (λ all. IsRefused words all Memory) files (λ all. inr (inl (record { path = path; out = out; words_are = is; holds = tt })));
+      refused = err_weaker (λ r. Tells (λ all. BuildIsRefused all Begins path r) files) (λ r. Tells (λ all. IsRefused words all Begins r) files) answer
+          (λ r why. told_as (λ all. BuildIsRefused all Begins path r) (λ all. IsRefused words all Begins r) files (λ all h. inr (inl (record { path = path; out = out; words_are = is; holds = h }))) why) refused;
+      lacks = told_always (λ all. IsRefused words all Begins Memory) files (λ all. inr (inl (record { path = path; out = out; words_are = is; holds = tt })));
       sources = sources;
       stores = stores;
-      untouched = untouched;
-      comes = told_as (λ all. (r : Refusal) → IsDefinite r → BuildIsRefused all path r → (answer ≡ Err r) ⊎ Fails answer) (λ all. (r : Refusal) → IsDefinite r → IsRefused words all r → (answer ≡ Err r) ⊎ Fails answer) files
+      early = early;
+      comes = told_as (λ all. (r : Refusal) → IsDefinite r → ConfigurationIsRefused all path r → (answer ≡ Err r) ⊎ Fails answer) (λ all. (r : Refusal) → IsDefinite r → IsFaulty words all r → (answer ≡ Err r) ⊎ Fails answer) files
           build_came comes;
     }
-
-    pub build_accepted : (files : Option Files) → Tells (λ all. IsAcceptedAt all path → IsOk answer ⊎ Fails answer) files
-        → Tells (λ all. AsksBuild words (IsAcceptedAt all) → IsOk answer ⊎ Fails answer) files
-    build_accepted files accepted =
-        told_as (λ all. IsAcceptedAt all path → IsOk answer ⊎ Fails answer) (λ all. AsksBuild words (IsAcceptedAt all) → IsOk answer ⊎ Fails answer) files
-        (λ all accept asks. accept (of_build {P = IsAcceptedAt all} asks)) accepted
-
-  -- the store stays as it was (same), or the build that is asked for is accepted
-  pub build_puts : (files : Option Files) (same : Type 0) → same ⊎ Tells (λ all. IsAcceptedAt all path) files → same ⊎ Tells (λ all. AsksBuild words (IsAcceptedAt all)) files
-  build_puts files same (inl unchanged) = inl unchanged
-  build_puts files same (inr accepted) =
-      inr (told_as (λ all. IsAcceptedAt all path) (λ all. AsksBuild words (IsAcceptedAt all)) files (λ all h. record { path = path; out = out; words_are = is; holds = h }) accepted)
 
 module _ (words : List (List ℕ)) (path : List ℕ) (is : IsInfo words path) where
   of_info : {P : List ℕ → Type 0} → AsksInfo words P → P path
@@ -101,7 +89,7 @@ module _ (words : List (List ℕ)) (path : List ℕ) (is : IsInfo words path) wh
   named_of r of = (λ same. subst IsOfHeader same of, λ same. subst IsOfHeader same of)
 
   module _ (answer : Result (Vec ℕ Global) Refusal) where
-    info_came : (all : Files) → ((r : Refusal) → IsDefinite r → InfoIsRefused all path r → (answer ≡ Err r) ⊎ Fails answer) → (r : Refusal) → IsDefinite r → IsRefused words all r → (answer ≡ Err r) ⊎ Fails answer
+    info_came : (all : Files) → ((r : Refusal) → IsDefinite r → InfoIsRefused all path r → (answer ≡ Err r) ⊎ Fails answer) → (r : Refusal) → IsDefinite r → IsFaulty words all r → (answer ≡ Err r) ⊎ Fails answer
     info_came all comes r definite (inl usage) = absurd (usage.1.not_info path is)
     info_came all comes r definite (inr (inl asks)) = absurd (build_or_info words asks.path asks.out path asks.words_are is)
     info_came all comes r definite (inr (inr asks)) = comes r definite (of_info {P = λ p. InfoIsRefused all p r} asks)
@@ -109,27 +97,27 @@ module _ (words : List (List ℕ)) (path : List ℕ) (is : IsInfo words path) wh
     no_store : (a : Result (Vec ℕ Global) Refusal) → IfErr a IsOfHeader → a ≡ Err StoreFault → ⊥
     no_store a of fault = subst (λ (b : Result (Vec ℕ Global) Refusal). IfErr b IsOfHeader) fault of
 
-    pub info_carries : (files old new : Option Files) (shelf store same : Type 0) → same
+    pub info_carries : (files : Option Files) (Begins : Files → Files → Type 0) (new : Option Files) (shelf store same : Type 0) → same
         → IfOk answer (λ line. (header : Header) × (line.items ≡ header_text header))
         → IfOk answer (λ line. Tells (λ all. HasTold all path line.items) files)
         → IfErr answer IsOfHeader
         → IfErr answer (λ r. Tells (λ all. InfoIsRefused all path r) files)
         → (answer ≡ Err SourceFault → shelf)
         → Tells (λ all. (r : Refusal) → IsDefinite r → InfoIsRefused all path r → (answer ≡ Err r) ⊎ Fails answer) files
-        → Carries words files old new shelf store same answer
-    info_carries files old new shelf store same unchanged said told of refused sources comes = record {
+        → Carries words files Begins new shelf store same answer
+    info_carries files Begins new shelf store same unchanged said told of refused sources comes = record {
       is_answer = ok_weaker (λ line. (header : Header) × (line.items ≡ header_text header)) (λ line. IsAnswer words line.items) answer
           (λ line text. inr (record { path = path; words_are = is; holds = text })) said;
-      done = ok_weaker (λ line. Tells (λ all. HasTold all path line.items) files) (λ line. Tells (λ all. IsDone words all line.items old new) files) answer
-          (λ line has. told_as (λ all. HasTold all path line.items) (λ all. IsDone words all line.items old new) files (λ all h. inr (record { path = path; words_are = is; holds = h })) has) told;
+      done = ok_weaker (λ line. Tells (λ all. HasTold all path line.items) files) (λ line. Tells (λ all. IsDone words all Begins line.items new) files) answer
+          (λ line has. told_as (λ all. HasTold all path line.items) (λ all. IsDone words all Begins line.items new) files (λ all h. inr (record { path = path; words_are = is; holds = h })) has) told;
       named = err_weaker IsOfHeader (λ r. r ≢ Usage) answer (λ r o. (named_of r o).0) of;
-      refused = err_weaker (λ r. Tells (λ all. InfoIsRefused all path r) files) (λ r. Tells (λ all. IsRefused words all r) files) answer
-          (λ r why. told_as (λ all. InfoIsRefused all path r) (λ all. IsRefused words all r) files (λ all h. inr (inr (record { path = path; words_are = is; holds = h }))) why) refused;
-      lacks = told_always (λ all. IsRefused words all Memory) files (λ all. inr (inr (record { path = path; words_are = is; holds = tt })));
+      refused = err_weaker (λ r. Tells (λ all. InfoIsRefused all path r) files) (λ r. Tells (λ all. IsRefused words all Begins r) files) answer
+          (λ r why. told_as (λ all. InfoIsRefused all path r) (λ all. IsRefused words all Begins r) files (λ all h. inr (inr (record { path = path; words_are = is; holds = h }))) why) refused;
+      lacks = told_always (λ all. IsRefused words all Begins Memory) files (λ all. inr (inr (record { path = path; words_are = is; holds = tt })));
       sources = sources;
       stores = λ fault. absurd (no_store answer of fault);
-      untouched = err_weaker IsOfHeader (λ r. (IsLate r → ⊥) → same) answer (λ r o early. unchanged) of;
-      comes = told_as (λ all. (r : Refusal) → IsDefinite r → InfoIsRefused all path r → (answer ≡ Err r) ⊎ Fails answer) (λ all. (r : Refusal) → IsDefinite r → IsRefused words all r → (answer ≡ Err r) ⊎ Fails answer) files
+      early = err_weaker IsOfHeader (λ r. IsEarly r → same) answer (λ r o early. unchanged) of;
+      comes = told_as (λ all. (r : Refusal) → IsDefinite r → InfoIsRefused all path r → (answer ≡ Err r) ⊎ Fails answer) (λ all. (r : Refusal) → IsDefinite r → IsFaulty words all r → (answer ≡ Err r) ⊎ Fails answer) files
           info_came comes;
     }
 

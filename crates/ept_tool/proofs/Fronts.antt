@@ -11,7 +11,7 @@ use Rattle.ept_config.specs.Configuration.{reading}
 use Rattle.ept_config.specs.Facts.{facts}
 use Rattle.ept_tool.specs.declared.files.TheConstants.{MOST}
 use Rattle.ept_tool.specs.Errors.{of_config}
-use Rattle.ept_tool.specs.Requests.{HasFront, HasConfiguration, BuildIsRefused}
+use Rattle.ept_tool.specs.Requests.{HasFront, HasConfiguration, ConfigurationIsRefused}
 
 too_long : (bytes : List ℕ) → 2 ^ 24 < length bytes → reading bytes ≡ Err config.Long
 unfolding reading
@@ -33,7 +33,7 @@ module _ (files : Option Files) (path : List ℕ) (front : List ℕ) where
     | Some all ↦ λ h. record { bytes = h.bytes; content = h.content; reads = whole all h ∙ reads }
   ] front_of
 
-  bad : (all : Files) (error : ConfigError) → HasFront all path MOST front → (error ≢ config.Memory → reading front ≡ Err error) → BuildIsRefused all path (of_config error)
+  bad : (all : Files) (error : ConfigError) → HasFront all path MOST front → (error ≢ config.Memory → reading front ≡ Err error) → ConfigurationIsRefused all path (of_config error)
   bad all config.Json h reads = record { bytes = h.bytes; content = h.content; refused = whole all h ∙ reads (λ same. cc) }
   bad all config.Unknown h reads = record { bytes = h.bytes; content = h.content; refused = whole all h ∙ reads (λ same. cc) }
   bad all (config.Missing key) h reads = record { bytes = h.bytes; content = h.content; refused = whole all h ∙ reads (λ same. cc) }
@@ -43,8 +43,8 @@ module _ (files : Option Files) (path : List ℕ) (front : List ℕ) where
   bad all config.Long h reads = record { bytes = h.bytes; content = h.content; refused = whole all h ∙ reads (λ same. cc) }
   bad all config.Memory h reads = tt
 
-  pub configuration_refused : (error : ConfigError) → Tells (λ all. HasFront all path MOST front) files → (error ≢ config.Memory → reading front ≡ Err error) → Tells (λ all. BuildIsRefused all path (of_config error)) files
-  configuration_refused error front_of reads = elim files as (λ f. Tells (λ all. HasFront all path MOST front) f → Tells (λ all. BuildIsRefused all path (of_config error)) f) [
+  pub configuration_refused : (error : ConfigError) → Tells (λ all. HasFront all path MOST front) files → (error ≢ config.Memory → reading front ≡ Err error) → Tells (λ all. ConfigurationIsRefused all path (of_config error)) files
+  configuration_refused error front_of reads = elim files as (λ f. Tells (λ all. HasFront all path MOST front) f → Tells (λ all. ConfigurationIsRefused all path (of_config error)) f) [
     | None ↦ λ _. tt
     | Some all ↦ λ h. bad all error h reads
   ] front_of

@@ -11,7 +11,7 @@ use Rattle.ept_query.specs.declared.query_error.QueryError.{QueryError}
 use Rattle.ept_query.specs.declared.query_error.QueryError.TheVariants.{NotComplete, StoreFault, Damaged, SinkFault, Memory}
 use Rattle.ept_tool.specs.declared.refusal.Refusal.{Refusal}
 use Rattle.ept_tool.specs.Words.{bytes_of, IsBuild, IsInfo, IsQuery, IsLater, IsUsage}
-use Rattle.ept_tool.specs.Answers.{AsksBuild, AsksInfo, AsksQuery, IsRefused}
+use Rattle.ept_tool.specs.Answers.{AsksInfo, AsksQuery, IsFaulty}
 use Rattle.ept_tool.specs.Queries.{query_status, EndsQuery}
 
 -- ---- one command
@@ -41,16 +41,22 @@ module _ (words : List (List ℕ)) (out : List ℕ) (area : Box3) (first last : 
   pub query_asked : AsksQuery words
   query_asked = record { folder = out; area = area; first = first; last = last; words_are = is }
 
-  pub query_unrefused : (all : Files) (r : Refusal) → IsRefused words all r → ⊥
+  pub query_unrefused : (all : Files) (r : Refusal) → IsFaulty words all r → ⊥
   query_unrefused all r (inl usage) = usage.1.not_query out area first last is
   query_unrefused all r (inr (inl asks)) = query_or_build asks.path asks.out asks.words_are
   query_unrefused all r (inr (inr asks)) = query_or_info asks.path asks.words_are
 
-  pub query_unbuilt : {Fact : List ℕ → Type 0} → AsksBuild words Fact → ⊥
-  query_unbuilt asks = query_or_build asks.path asks.out asks.words_are
-
   pub query_untold : {Fact : List ℕ → Type 0} → AsksInfo words Fact → ⊥
   query_untold asks = query_or_info asks.path asks.words_are
+
+pub build_or_later : (words : List (List ℕ)) (config out : List ℕ) → IsBuild words config out → IsLater words → ⊥
+build_or_later words config out is other = apart other.first other.others other.named (sym other.words_are ∙ is.words_are)
+  where
+    apart : (head : List ℕ) (others : List (List ℕ)) → head ≡ codes "trial" → head ∷ others ≡ codes "build" ∷ config ∷ out ∷ [] → ⊥
+    apart head others named same =
+        let build : get_or head 0 0 ≡ 98 = ap (λ (ws : List (List ℕ)). get_or (get_or ws 0 []) 0 0) same in
+        let trial : get_or head 0 0 ≡ 116 = ap (λ (w : List ℕ). get_or w 0 0) named in
+        omega (arith, build, trial)
 
 -- words ask for one box and one range
 module _ (one_box : TextHasOneBox) (one_range : TextHasOneRange) (words : List (List ℕ)) where

@@ -1,7 +1,11 @@
 -- A build is refused for what its configuration, or its inputs, are refused for.
-use Rattle.std.proofs.Common.{◌≡◌, ◌⊎◌, inl, inr, ⊎_elim, ℕ, List, Option, Some, None, Ok, Err, refl, sym, ◌∙◌, ap, subst}
-use Rattle.std.specs.Prelude.{Result, IsOk, IsErrAnd}
-use Rattle.ept_base.specs.Files.{Files, Tells}
+use Rattle.std.proofs.Common.{◌≡◌, ◌⊎◌, inl, inr, ⊎_elim, ℕ, List, Option, Some, None, Ok, Err, refl, sym, ◌∙◌, ap, subst, arith}
+use Rattle.std.specs.Prelude.{Result, IsOk, IsErrAnd, IfOk, IfErr}
+use Rattle.ept_base.specs.Files.{Files, SameFiles, StepsBy, Tells}
+use Rattle.ept_base.specs.Moves.{Moves}
+use Rattle.ept_save.specs.Sound.{IsSound}
+use Rattle.ept_save.specs.SoundLaws.{SameIsSound}
+use Rattle.ept_save.proofs.Standing.{settled_some}
 use Rattle.ept_config.specs.declared.config.Config.{Config}
 use Rattle.ept_config.specs.declared.config_error.ConfigError.{ConfigError}
 use Rattle.ept_config.specs.Configuration.{reading}
@@ -11,15 +15,15 @@ use Rattle.ept_build.specs.declared.error.BuildError.TheVariants as build
 use Rattle.ept_build.specs.declared.summary.Summary.{Summary}
 use Rattle.ept_build.specs.Building as building
 use Rattle.ept_tool.specs.declared.refusal.Refusal.{Refusal}
-use Rattle.ept_tool.specs.declared.refusal.Refusal.TheVariants.{Usage, BadConfiguration, BadLas, OutOfBounds, NoBounds, SourceChanged, TooManyPoints, TooManyNodes, SourceFault, StoreFault, Memory}
+use Rattle.ept_tool.specs.declared.refusal.Refusal.TheVariants.{Usage, BadConfiguration, BadLas, OutOfBounds, NoBounds, SourceChanged, TooManyPoints, TooManyNodes, Differs, BadCheckpoint, TileDamaged, SourceFault, StoreFault, Memory}
 use Rattle.ept_tool.specs.Errors.{of_build}
-use Rattle.ept_tool.specs.Requests.{HasConfiguration, HasBadConfiguration, IsAcceptedAt, IsBuiltAt, BuildIsRefused, IsOfConfiguration, IsDefinite, Fails}
+use Rattle.ept_tool.specs.Requests.{HasConfiguration, HasBadConfiguration, IsAcceptedAt, IsDoneAt, IsBuiltAt, ConfigurationIsRefused, BuildIsRefused, IsDefinite, IsEarly, Fails}
 use Rattle.ept_config.proofs.FactsTell.{config_same}
 
--- three facts of one told thing
-pub both_tell : {X : Type 0} (P Q R : X → Type 0) (f g : Option X) → g ≡ f → ((x : X) → P x → Q x → R x) → Tells P f → Tells Q g → Tells R f
-both_tell P Q R None g same step p q = tt
-both_tell {X} P Q R (Some x) g same step p q = step x p (subst (λ (o : Option X). Tells Q o) same q)
+-- a fact of a told thing gives another
+pub tells_as : {X : Type 0} (P Q : X → Type 0) (told : Option X) → ((x : X) → P x → Q x) → Tells P told → Tells Q told
+tells_as P Q None step p = tt
+tells_as P Q (Some x) step p = step x p
 
 -- the refusal of a build as this program's
 abbrev pub told_as : Result Summary BuildError → Result Summary Refusal
@@ -54,6 +58,17 @@ pub carried_comes : {A B : Type 0} (files : Option Files) (Why : Files → Refus
 carried_comes None Why a b e is_a is_b comes = tt
 carried_comes (Some all) Why a b e is_a is_b comes = λ r definite why. carried a b e r is_a (is_err b e is_b) (comes r definite why)
 
+-- so does one of an answer that is accepted
+no_ok : {A : Type 0} (a : Result A Refusal) (e : Refusal) → a ≡ Err e → IsOk a → ⊥
+no_ok (Ok x) e same ok = differ x e same
+no_ok (Err x) e same ok = cc
+
+pub carried_accepted : {A B : Type 0} (a : Result A Refusal) (b : Result B Refusal) (e : Refusal) → a ≡ Err e → IsErrAnd b (λ x. x ≡ e) → IsOk a ⊎ Fails a → IsOk b ⊎ Fails b
+carried_accepted a b e is_a is_b (inl ok) = absurd (no_ok a e is_a ok)
+carried_accepted {A} a b e is_a is_b (inr (inl fault)) = inr (inl (is_err b e is_b ∙ ap Err (err_same {A = A} e SourceFault (sym is_a ∙ fault))))
+carried_accepted {A} a b e is_a is_b (inr (inr (inl fault))) = inr (inr (inl (is_err b e is_b ∙ ap Err (err_same {A = A} e StoreFault (sym is_a ∙ fault)))))
+carried_accepted {A} a b e is_a is_b (inr (inr (inr lack))) = inr (inr (inr (is_err b e is_b ∙ ap Err (err_same {A = A} e Memory (sym is_a ∙ lack)))))
+
 module _ (all : Files) (path : List ℕ) where
   one_reading : (a b : List ℕ) (x y : Result Facts ConfigError) → all path ≡ Some a → all path ≡ Some b → reading a ≡ x → reading b ≡ y → x ≡ y
   one_reading a b x y left right is_x is_y = sym is_x ∙ ap reading (some_same (all path) a b left right) ∙ is_y
@@ -73,53 +88,113 @@ module _ (all : Files) (path : List ℕ) where
 
   -- ---- the configuration is refused
 
-  -- a configuration that is refused has no build
-  no_build : {A : Type 0} (e : ConfigError) (b : BuildError) (r : Refusal) → HasBadConfiguration all path e → (config : Config) × HasConfiguration all path config × building.IsRefused all config b
+  -- one that is refused is refused for this cause alone
+  came_bad : {A : Type 0} (e : ConfigError) (r : Refusal) → HasBadConfiguration all path e → IsDefinite r → ConfigurationIsRefused all path r
       → (◌≡◌ {A = Result A Refusal} (Err (BadConfiguration e)) (Err r)) ⊎ Fails {A = A} (Err (BadConfiguration e))
-  no_build e b r bad asked = absurd (not_both asked.0 e asked.1 bad)
-
-  came_bad : {A : Type 0} (e : ConfigError) (r : Refusal) → HasBadConfiguration all path e → IsDefinite r → BuildIsRefused all path r
-      → (◌≡◌ {A = Result A Refusal} (Err (BadConfiguration e)) (Err r)) ⊎ Fails {A = A} (Err (BadConfiguration e))
-  came_bad e Usage bad definite why = absurd why
   came_bad e (BadConfiguration f) bad definite why = inl (ap (λ x. Err (BadConfiguration x)) (one_error e f bad why))
-  came_bad e (BadLas source fault) bad definite why = no_build e (build.BadLas source fault) (BadLas source fault) bad why
-  came_bad e (OutOfBounds source number) bad definite why = no_build e (build.OutOfBounds source number) (OutOfBounds source number) bad why
-  came_bad e NoBounds bad definite why = no_build e build.NoBounds NoBounds bad why
+  came_bad e Usage bad definite why = absurd why
+  came_bad e (BadLas source fault) bad definite why = absurd why
+  came_bad e (OutOfBounds source number) bad definite why = absurd why
+  came_bad e NoBounds bad definite why = absurd why
   came_bad e (SourceChanged source number) bad definite why = absurd why
-  came_bad e (TooManyPoints source) bad definite why = no_build e (build.TooManyPoints source) (TooManyPoints source) bad why
-  came_bad e TooManyNodes bad definite why = no_build e build.TooManyNodes TooManyNodes bad why
+  came_bad e (TooManyPoints source) bad definite why = absurd why
+  came_bad e TooManyNodes bad definite why = absurd why
+  came_bad e (Differs field) bad definite why = absurd why
+  came_bad e (BadCheckpoint letter) bad definite why = absurd why
+  came_bad e (TileDamaged key) bad definite why = absurd why
   came_bad e SourceFault bad definite why = absurd (definite (inl refl))
-  came_bad e StoreFault bad definite why = absurd (definite (inr (inl refl)))
+  came_bad e StoreFault bad definite why = absurd why
   came_bad e Memory bad definite why = absurd (definite (inr (inr refl)))
 
-  came_before : {A : Type 0} (e r : Refusal) → IsOfConfiguration e → BuildIsRefused all path e → IsDefinite r → BuildIsRefused all path r
+  pub came_before : {A : Type 0} (e r : Refusal) → ConfigurationIsRefused all path e → IsDefinite r → ConfigurationIsRefused all path r
       → (◌≡◌ {A = Result A Refusal} (Err e) (Err r)) ⊎ Fails {A = A} (Err e)
-  came_before (BadConfiguration e) r of is definite why = came_bad e r is definite why
-  came_before SourceFault r of is definite why = inr (inl refl)
-  came_before Memory r of is definite why = inr (inr (inr refl))
-  came_before Usage r of is definite why = absurd of
-  came_before (BadLas source fault) r of is definite why = absurd of
-  came_before (OutOfBounds source number) r of is definite why = absurd of
-  came_before NoBounds r of is definite why = absurd of
-  came_before (SourceChanged source number) r of is definite why = absurd of
-  came_before (TooManyPoints source) r of is definite why = absurd of
-  came_before TooManyNodes r of is definite why = absurd of
-  came_before StoreFault r of is definite why = absurd of
+  came_before (BadConfiguration e) r is definite why = came_bad e r is definite why
+  came_before SourceFault r is definite why = inr (inl refl)
+  came_before Memory r is definite why = inr (inr (inr refl))
+  came_before Usage r is definite why = absurd is
+  came_before (BadLas source fault) r is definite why = absurd is
+  came_before (OutOfBounds source number) r is definite why = absurd is
+  came_before NoBounds r is definite why = absurd is
+  came_before (SourceChanged source number) r is definite why = absurd is
+  came_before (TooManyPoints source) r is definite why = absurd is
+  came_before TooManyNodes r is definite why = absurd is
+  came_before (Differs field) r is definite why = absurd is
+  came_before (BadCheckpoint letter) r is definite why = absurd is
+  came_before (TileDamaged key) r is definite why = absurd is
+  came_before StoreFault r is definite why = absurd is
+
+  -- it has no build
+  pub not_accepted : {A : Type 0} (answer : Result A Refusal) (e : Refusal) (start : Files) → answer ≡ Err e → ConfigurationIsRefused all path e → IsAcceptedAt all start path → IsOk answer ⊎ Fails answer
+  not_accepted answer (BadConfiguration e) start err is asked = absurd (not_both asked.config e asked.configures is)
+  not_accepted answer SourceFault start err is asked = inr (inl err)
+  not_accepted answer Memory start err is asked = inr (inr (inr err))
+  not_accepted answer Usage start err is asked = absurd is
+  not_accepted answer (BadLas source fault) start err is asked = absurd is
+  not_accepted answer (OutOfBounds source number) start err is asked = absurd is
+  not_accepted answer NoBounds start err is asked = absurd is
+  not_accepted answer (SourceChanged source number) start err is asked = absurd is
+  not_accepted answer (TooManyPoints source) start err is asked = absurd is
+  not_accepted answer TooManyNodes start err is asked = absurd is
+  not_accepted answer (Differs field) start err is asked = absurd is
+  not_accepted answer (BadCheckpoint letter) start err is asked = absurd is
+  not_accepted answer (TileDamaged key) start err is asked = absurd is
+  not_accepted answer StoreFault start err is asked = absurd is
+
+  -- why a configuration is refused is why its build is
+  pub refused_before : (Begins : Files → Files → Type 0) (e : Refusal) → ConfigurationIsRefused all path e → BuildIsRefused all Begins path e
+  refused_before Begins (BadConfiguration e) is = is
+  refused_before Begins SourceFault is = tt
+  refused_before Begins Memory is = tt
+  refused_before Begins Usage is = absurd is
+  refused_before Begins (BadLas source fault) is = absurd is
+  refused_before Begins (OutOfBounds source number) is = absurd is
+  refused_before Begins NoBounds is = absurd is
+  refused_before Begins (SourceChanged source number) is = absurd is
+  refused_before Begins (TooManyPoints source) is = absurd is
+  refused_before Begins TooManyNodes is = absurd is
+  refused_before Begins (Differs field) is = absurd is
+  refused_before Begins (BadCheckpoint letter) is = absurd is
+  refused_before Begins (TileDamaged key) is = absurd is
+  refused_before Begins StoreFault is = absurd is
 
   -- ---- the configuration is read, and its build answers
 
   module _ (config : Config) (configures : HasConfiguration all path config) where
-    -- why a build is refused is why the command is
-    refused_as : (e : BuildError) → building.IsRefused all config e → BuildIsRefused all path (of_build e)
-    refused_as build.StoreFault is = tt
-    refused_as build.SourceFault is = tt
-    refused_as (build.BadLas source fault) is = (config, configures, is)
-    refused_as (build.OutOfBounds source number) is = (config, configures, is)
-    refused_as (build.TooManyPoints source) is = (config, configures, is)
-    refused_as build.NoBounds is = (config, configures, is)
-    refused_as (build.SourceChanged source number) is = is
-    refused_as build.TooManyNodes is = (config, configures, is)
-    refused_as build.Memory is = tt
+    -- then it is not refused
+    not_refused : (r : Refusal) → IsDefinite r → ConfigurationIsRefused all path r → ⊥
+    not_refused (BadConfiguration e) definite why = not_both config e configures why
+    not_refused Usage definite why = why
+    not_refused (BadLas source fault) definite why = why
+    not_refused (OutOfBounds source number) definite why = why
+    not_refused NoBounds definite why = why
+    not_refused (SourceChanged source number) definite why = why
+    not_refused (TooManyPoints source) definite why = why
+    not_refused TooManyNodes definite why = why
+    not_refused (Differs field) definite why = why
+    not_refused (BadCheckpoint letter) definite why = why
+    not_refused (TileDamaged key) definite why = why
+    not_refused SourceFault definite why = definite (inl refl)
+    not_refused StoreFault definite why = why
+    not_refused Memory definite why = definite (inr (inr refl))
+
+    module _ (Begins : Files → Files → Type 0) where
+      -- why a build is refused is why the command is
+      refused_as : (e : BuildError) → ((start : Files) → Begins all start → building.IsRefused all config start e) → BuildIsRefused all Begins path (of_build e)
+      refused_as build.StoreFault is = tt
+      refused_as build.SourceFault is = tt
+      refused_as (build.BadCheckpoint letter) is = (config, configures, is)
+      refused_as (build.TileDamaged key) is = (config, configures, is)
+      refused_as (build.Differs field kept given) is = (kept, given, (config, configures, is))
+      refused_as (build.BadLas source fault) is = (config, configures, is)
+      refused_as (build.OutOfBounds source number) is = (config, configures, is)
+      refused_as (build.TooManyPoints source) is = (config, configures, is)
+      refused_as build.NoBounds is = (config, configures, is)
+      refused_as (build.SourceChanged source number) is = (config, configures, is)
+      refused_as build.TooManyNodes is = (config, configures, is)
+      refused_as build.Memory is = tt
+
+    done_as : (start : Files) → IsDoneAt all start path → building.IsDoneAlready config start
+    done_as start asked = subst (λ (c : Config). building.IsDoneAlready c start) (one_config asked.config config asked.configures configures) asked.done
 
     module _ (answer : Result Summary BuildError) where
       fails_as : building.Fails answer → Fails (told_as answer)
@@ -127,67 +202,99 @@ module _ (all : Files) (path : List ℕ) where
       fails_as (inr (inl is)) = inl (ap told_as is)
       fails_as (inr (inr is)) = inr (inr (ap told_as is))
 
-      module _ (comes : (e : BuildError) → building.IsDefinite e → building.IsRefused all config e → (answer ≡ Err e) ⊎ building.Fails answer) where
-        came : (e : BuildError) → building.IsDefinite e → (asked : Config) × HasConfiguration all path asked × building.IsRefused all asked e
-            → (told_as answer ≡ Err (of_build e)) ⊎ Fails (told_as answer)
-        came e definite asked =
-            let mine : building.IsRefused all config e = subst (λ (c : Config). building.IsRefused all c e) (one_config asked.0 config asked.1 configures) asked.2 in
-            ⊎_elim (λ is. inl (ap told_as is)) (λ fails. inr (fails_as fails)) (comes e definite mine)
-
-        came_after : (r : Refusal) → IsDefinite r → BuildIsRefused all path r → (told_as answer ≡ Err r) ⊎ Fails (told_as answer)
-        came_after Usage definite why = absurd why
-        came_after (BadConfiguration e) definite why = absurd (not_both config e configures why)
-        came_after (BadLas source fault) definite why = came (build.BadLas source fault) (λ is. ⊎_elim (λ s. cc) (λ more. ⊎_elim (λ s. cc) (λ s. cc) more) is) why
-        came_after (OutOfBounds source number) definite why = came (build.OutOfBounds source number) (λ is. ⊎_elim (λ s. cc) (λ more. ⊎_elim (λ s. cc) (λ s. cc) more) is) why
-        came_after NoBounds definite why = came build.NoBounds (λ is. ⊎_elim (λ s. cc) (λ more. ⊎_elim (λ s. cc) (λ s. cc) more) is) why
-        came_after (SourceChanged source number) definite why = absurd why
-        came_after (TooManyPoints source) definite why = came (build.TooManyPoints source) (λ is. ⊎_elim (λ s. cc) (λ more. ⊎_elim (λ s. cc) (λ s. cc) more) is) why
-        came_after TooManyNodes definite why = came build.TooManyNodes (λ is. ⊎_elim (λ s. cc) (λ more. ⊎_elim (λ s. cc) (λ s. cc) more) is) why
-        came_after SourceFault definite why = absurd (definite (inl refl))
-        came_after StoreFault definite why = absurd (definite (inr (inl refl)))
-        came_after Memory definite why = absurd (definite (inr (inr refl)))
-
-      accepted_after : (building.IsAccepted all config → IsOk answer ⊎ building.Fails answer)
-          → IsAcceptedAt all path → IsOk (told_as answer) ⊎ Fails (told_as answer)
-      accepted_after accepts asked =
-          let mine : building.IsAccepted all config = subst (λ (c : Config). building.IsAccepted all c) (one_config asked.config config asked.configures configures) asked.accepted in
+      accepted_after : (start : Files) → (building.IsAccepted all config start → IsOk answer ⊎ building.Fails answer)
+          → IsAcceptedAt all start path → IsOk (told_as answer) ⊎ Fails (told_as answer)
+      accepted_after start accepts asked =
+          let mine : building.IsAccepted all config start = subst (λ (c : Config). building.IsAccepted all c start) (one_config asked.config config asked.configures configures) asked.accepted in
           ⊎_elim (λ is. inl (ok_as answer is)) (λ fails. inr (fails_as fails)) (accepts mine)
         where
           ok_as : (a : Result Summary BuildError) → IsOk a → IsOk (told_as a)
           ok_as (Ok summary) is = is
           ok_as (Err e) is = absurd cc
 
+-- ---- after which refusals nothing was put
+
+pub early_as : (e : BuildError) → IsEarly (of_build e) → building.IsEarly e
+early_as build.StoreFault early = early
+early_as build.SourceFault early = early
+early_as (build.BadCheckpoint letter) early = tt
+early_as (build.TileDamaged key) early = early
+early_as (build.Differs field kept given) early = tt
+early_as (build.BadLas source fault) early = tt
+early_as (build.OutOfBounds source number) early = tt
+early_as (build.TooManyPoints source) early = tt
+early_as build.NoBounds early = tt
+early_as (build.SourceChanged source number) early = early
+early_as build.TooManyNodes early = early
+early_as build.Memory early = early
+
 -- ---- the same of a shelf that may tell
 
-module _ (files later : Option Files) (same : later ≡ files) (path : List ℕ) (config : Config) (configures : Tells (λ all. HasConfiguration all path config) files) where
-  pub build_refused : (e : BuildError) → Tells (λ all. building.IsRefused all config e) later → Tells (λ all. BuildIsRefused all path (of_build e)) files
-  build_refused e is =
-      both_tell (λ all. HasConfiguration all path config) (λ all. building.IsRefused all config e) (λ all. BuildIsRefused all path (of_build e)) files later same
-      (λ all has why. refused_as all path config has e why) configures is
+module _ (shelf later : Option Files) (same : later ≡ shelf) (path : List ℕ) (config : Config) (configures : Tells (λ all. HasConfiguration all path config) shelf) (store : Option Files) (may : Files → Type 0) where
+  -- what the build begins with is what the command does
+  begins : (all start : Files) → building.BeginsWith shelf store may all start → building.BeginsWith later store may all start
+  begins all start b = record { shelf_told = same ∙ b.shelf_told; told = b.told; settled = b.settled; sound = b.sound }
+
+  -- a shelf that tells has the configuration
+  known : (all start : Files) → building.BeginsWith shelf store may all start → HasConfiguration all path config
+  known all start b = subst (λ (o : Option Files). Tells (λ all. HasConfiguration all path config) o) b.shelf_told configures
 
   module _ (answer : Result Summary BuildError) where
-    pub build_comes : Tells (λ all. (e : BuildError) → building.IsDefinite e → building.IsRefused all config e → (answer ≡ Err e) ⊎ building.Fails answer) later
-        → Tells (λ all. (r : Refusal) → IsDefinite r → BuildIsRefused all path r → (told_as answer ≡ Err r) ⊎ Fails (told_as answer)) files
-    build_comes comes =
-        both_tell (λ all. HasConfiguration all path config) (λ all. (e : BuildError) → building.IsDefinite e → building.IsRefused all config e → (answer ≡ Err e) ⊎ building.Fails answer)
-        (λ all. (r : Refusal) → IsDefinite r → BuildIsRefused all path r → (told_as answer ≡ Err r) ⊎ Fails (told_as answer)) files later same
-        (λ all has come. came_after all path config has answer come) configures comes
+    pub build_refused : (e : BuildError) → answer ≡ Err e
+        → ((all start : Files) → building.BeginsWith later store may all start → IfErr answer (building.IsRefused all config start))
+        → Tells (λ all. BuildIsRefused all (building.BeginsWith shelf store may) path (of_build e)) shelf
+    build_refused e is refused =
+        tells_as (λ all. HasConfiguration all path config) (λ all. BuildIsRefused all (building.BeginsWith shelf store may) path (of_build e)) shelf
+        (λ all has. refused_as all path config has (building.BeginsWith shelf store may) e (λ start b. subst (λ (a : Result Summary BuildError). IfErr a (building.IsRefused all config start)) is (refused all start (begins all start b)))) configures
 
-    pub build_accepted : Tells (λ all. building.IsAccepted all config → IsOk answer ⊎ building.Fails answer) later
-        → Tells (λ all. IsAcceptedAt all path → IsOk (told_as answer) ⊎ Fails (told_as answer)) files
-    build_accepted accepts =
-        both_tell (λ all. HasConfiguration all path config)
-        (λ all. building.IsAccepted all config → IsOk answer ⊎ building.Fails answer)
-        (λ all. IsAcceptedAt all path → IsOk (told_as answer) ⊎ Fails (told_as answer)) files later same
-        (λ all has accept. accepted_after all path config has answer accept) configures accepts
+    pub built_at : (summary : Summary) (new : Option Files) → answer ≡ Ok summary
+        → ((all start : Files) → building.BeginsWith later store may all start → IfOk answer (λ summary. Tells (building.IsBuilt all config start summary) new))
+        → Tells (λ all. IsBuiltAt all (building.BeginsWith shelf store may) path summary new) shelf
+    built_at summary new is built =
+        tells_as (λ all. HasConfiguration all path config) (λ all. IsBuiltAt all (building.BeginsWith shelf store may) path summary new) shelf
+        (λ all has. record {
+          config = config;
+          configures = has;
+          built = λ start b. subst (λ (a : Result Summary BuildError). IfOk a (λ summary. Tells (building.IsBuilt all config start summary) new)) is (built all start (begins all start b));
+        }) configures
 
-  pub built_at : (summary : Summary) (old new : Option Files) → Tells (λ all. building.IsBuilt all config summary old new) later → Tells (λ all. IsBuiltAt all path summary old new) files
-  built_at summary old new built =
-      both_tell (λ all. HasConfiguration all path config) (λ all. building.IsBuilt all config summary old new) (λ all. IsBuiltAt all path summary old new) files later same
-      (λ all has is. record { config = config; configures = has; built = is }) configures built
+    pub build_accepted : ((all start : Files) → building.BeginsWith later store may all start → building.IsAccepted all config start → IsOk answer ⊎ building.Fails answer)
+        → (all start : Files) → building.BeginsWith shelf store may all start → IsAcceptedAt all start path → IsOk (told_as answer) ⊎ Fails (told_as answer)
+    build_accepted accepts all start b asked = accepted_after all path config (known all start b) answer start (accepts all start (begins all start b)) asked
 
-  -- the store stays as it was (unchanged), or the inputs are accepted
-  pub accepted_at : (same_store : Type 0) → same_store ⊎ Tells (λ all. building.IsAccepted all config) later → same_store ⊎ Tells (λ all. IsAcceptedAt all path) files
-  accepted_at same_store (inl unchanged) = inl unchanged
-  accepted_at same_store (inr accepted) = inr (both_tell (λ all. HasConfiguration all path config) (λ all. building.IsAccepted all config) (λ all. IsAcceptedAt all path) files later same
-      (λ all has is. record { config = config; configures = has; accepted = is }) configures accepted)
+  -- a configuration that is read is refused for nothing
+  pub build_comes : {A : Type 0} (a : Result A Refusal) → Tells (λ all. (r : Refusal) → IsDefinite r → ConfigurationIsRefused all path r → (a ≡ Err r) ⊎ Fails a) shelf
+  build_comes a =
+      tells_as (λ all. HasConfiguration all path config) (λ all. (r : Refusal) → IsDefinite r → ConfigurationIsRefused all path r → (a ≡ Err r) ⊎ Fails a) shelf
+      (λ all has r definite why. absurd (not_refused all path config has r definite why)) configures
+
+  -- what holds of a build that begins with sound files holds of the command
+  pub begun : {M : Files → Type 0} → ((all start : Files) → building.BeginsWith later store may all start → M all) → (all start : Files) → building.BeginsWith shelf store may all start → M all
+  begun holds all start b = holds all start (begins all start b)
+
+  pub begun_done : {M : Type 0} → ((all start : Files) → building.BeginsWith later store may all start → building.IsDoneAlready config start → M)
+      → (all start : Files) → building.BeginsWith shelf store may all start → IsDoneAt all start path → M
+  begun_done holds all start b asked = holds all start (begins all start b) (done_as all path config (known all start b) start asked)
+
+-- ---- a store that is left as it is
+
+module _ {D : Type 0} (files : D → Option Files) (may_leave : D → Files → Type 0) (moment : D → ℕ) (image_since : D → ℕ → Files → Type 0) where
+  pub stays : (d : D) → Moves files may_leave moment image_since SameFiles d d
+  stays d = record {
+    reads = same_reads (files d);
+    leaves = λ image now. (image, now, λ name. refl);
+    later = omega arith;
+    moments = λ t image le since. inl since;
+  }
+    where
+      same_reads : (o : Option Files) → StepsBy SameFiles o o
+      same_reads None = tt
+      same_reads (Some all) = λ name. refl
+
+  pub stays_sound : SameIsSound → (shelf : Option Files) (d : D) (all start : Files) → building.BeginsWith shelf (files d) (may_leave d) all start → Moves files may_leave moment image_since (λ (a b : Files). IsSound all b) d d
+  stays_sound same_sound shelf d all start b = record {
+    reads = subst (λ (o : Option Files). StepsBy (λ (a b : Files). IsSound all b) o o) (sym b.told) b.sound;
+    leaves = λ image now. (image, now, same_sound all start image (settled_some (files d) (may_leave d) start b.told b.settled image now) b.sound);
+    later = omega arith;
+    moments = λ t image le since. inl since;
+  }

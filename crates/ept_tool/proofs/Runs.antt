@@ -7,10 +7,10 @@ use Rattle.ept_base.specs.Files.{Files, Tells}
 use Rattle.ept_las.specs.declared.header.Header.{Header}
 use Rattle.ept_tool.specs.Words.{IsUsage}
 use Rattle.ept_tool.specs.declared.refusal.Refusal.{Refusal}
-use Rattle.ept_tool.specs.declared.refusal.Refusal.TheVariants.{Usage, BadConfiguration, BadLas, OutOfBounds, NoBounds, SourceChanged, TooManyPoints, TooManyNodes, SourceFault, StoreFault, Memory}
+use Rattle.ept_tool.specs.declared.refusal.Refusal.TheVariants.{Usage, BadConfiguration, BadLas, OutOfBounds, NoBounds, SourceChanged, TooManyPoints, TooManyNodes, Differs, BadCheckpoint, TileDamaged, SourceFault, StoreFault, Memory}
 use Rattle.ept_tool.specs.Lines.{status_of, line_of}
-use Rattle.ept_tool.specs.Requests.{IsDefinite, IsLate, Fails}
-use Rattle.ept_tool.specs.Answers.{Yields, YieldsRefusal, AsksBuild, IsAnswer, IsDone, Ends, IsRefused, HasRisen, Says, IsTold, EndsWith, Refuses, IsCut}
+use Rattle.ept_tool.specs.Requests.{IsDefinite, IsEarly, Fails}
+use Rattle.ept_tool.specs.Answers.{Yields, YieldsRefusal, IsAnswer, IsDone, Ends, IsFaulty, IsRefused, HasRisen, Says, IsTold, EndsWith, Refuses, IsCut}
 
 -- ---- statuses
 
@@ -23,6 +23,9 @@ usage_only NoBounds is = absurd (omega (arith, is))
 usage_only (SourceChanged source number) is = absurd (omega (arith, is))
 usage_only (TooManyPoints source) is = absurd (omega (arith, is))
 usage_only TooManyNodes is = absurd (omega (arith, is))
+usage_only (Differs field) is = absurd (omega (arith, is))
+usage_only (BadCheckpoint letter) is = absurd (omega (arith, is))
+usage_only (TileDamaged key) is = absurd (omega (arith, is))
 usage_only SourceFault is = absurd (omega (arith, is))
 usage_only StoreFault is = absurd (omega (arith, is))
 usage_only Memory is = absurd (omega (arith, is))
@@ -36,6 +39,9 @@ device_only NoBounds is = absurd (omega (arith, is))
 device_only (SourceChanged source number) is = absurd (omega (arith, is))
 device_only (TooManyPoints source) is = absurd (omega (arith, is))
 device_only TooManyNodes is = absurd (omega (arith, is))
+device_only (Differs field) is = absurd (omega (arith, is))
+device_only (BadCheckpoint letter) is = absurd (omega (arith, is))
+device_only (TileDamaged key) is = absurd (omega (arith, is))
 device_only SourceFault is = inl refl
 device_only StoreFault is = inr refl
 device_only Memory is = absurd (omega (arith, is))
@@ -50,6 +56,9 @@ neither NoBounds = (omega arith, omega arith)
 neither (SourceChanged source number) = (omega arith, omega arith)
 neither (TooManyPoints source) = (omega arith, omega arith)
 neither TooManyNodes = (omega arith, omega arith)
+neither (Differs field) = (omega arith, omega arith)
+neither (BadCheckpoint letter) = (omega arith, omega arith)
+neither (TileDamaged key) = (omega arith, omega arith)
 neither SourceFault = (omega arith, omega arith)
 neither StoreFault = (omega arith, omega arith)
 neither Memory = (omega arith, omega arith)
@@ -64,23 +73,26 @@ risen_of NoBounds shelf store sources stores = tt
 risen_of (SourceChanged source number) shelf store sources stores = tt
 risen_of (TooManyPoints source) shelf store sources stores = tt
 risen_of TooManyNodes shelf store sources stores = tt
+risen_of (Differs field) shelf store sources stores = tt
+risen_of (BadCheckpoint letter) shelf store sources stores = tt
+risen_of (TileDamaged key) shelf store sources stores = tt
 risen_of SourceFault shelf store sources stores = sources refl
 risen_of StoreFault shelf store sources stores = stores refl
 risen_of Memory shelf store sources stores = tt
 
 -- ---- what a command does
 
--- What is known of a command whose answer is a line or a refusal: shelf and store say that the count of that device rose, and same that the store is as before.
-pub record Carries (words : List (List ℕ)) (files old new : Option Files) (shelf store same : Type 0) (answer : Result (Vec ℕ Global) Refusal) : Type 0 where
+-- What is known of a command whose answer is a line or a refusal: shelf and store say that the count of that device rose, same that nothing was put, and Begins of the shelf's files and the store's that a build begins with them.
+pub record Carries (words : List (List ℕ)) (files : Option Files) (Begins : Files → Files → Type 0) (new : Option Files) (shelf store same : Type 0) (answer : Result (Vec ℕ Global) Refusal) : Type 0 where
   pub is_answer : IfOk answer (λ line. IsAnswer words line.items)
-  pub done : IfOk answer (λ line. Tells (λ all. IsDone words all line.items old new) files)
+  pub done : IfOk answer (λ line. Tells (λ all. IsDone words all Begins line.items new) files)
   pub named : IfErr answer (λ r. r ≢ Usage)
-  pub refused : IfErr answer (λ r. Tells (λ all. IsRefused words all r) files)
-  pub lacks : Tells (λ all. IsRefused words all Memory) files
+  pub refused : IfErr answer (λ r. Tells (λ all. IsRefused words all Begins r) files)
+  pub lacks : Tells (λ all. IsRefused words all Begins Memory) files
   pub sources : answer ≡ Err SourceFault → shelf
   pub stores : answer ≡ Err StoreFault → store
-  pub untouched : IfErr answer (λ r. (IsLate r → ⊥) → same)
-  pub comes : Tells (λ all. (r : Refusal) → IsDefinite r → IsRefused words all r → (answer ≡ Err r) ⊎ Fails answer) files
+  pub early : IfErr answer (λ r. IsEarly r → same)
+  pub comes : Tells (λ all. (r : Refusal) → IsDefinite r → IsFaulty words all r → (answer ≡ Err r) ⊎ Fails answer) files
 
 module _ (status : ℕ) (said_old said_new : Option (List ℕ)) (failed : Type 0) where
   pub never_usage : (answer : Result (Vec ℕ Global) Refusal) → IfErr answer (λ r. r ≢ Usage) → EndsWith answer status said_old said_new failed → status ≡ 2 → ⊥
@@ -117,37 +129,37 @@ module _ (status : ℕ) (said_old said_new : Option (List ℕ)) (failed : Type 0
   ok_yields (Ok line) is (inr device) = inr (inl device.0)
   ok_yields (Err r) is ends = absurd cc
 
-  accepted_yields : (answer : Result (Vec ℕ Global) Refusal) → IsOk answer ⊎ Fails answer → EndsWith answer status said_old said_new failed → Yields 0 status
+  pub accepted_yields : (answer : Result (Vec ℕ Global) Refusal) → IsOk answer ⊎ Fails answer → EndsWith answer status said_old said_new failed → Yields 0 status
   accepted_yields answer (inl is) ends = ok_yields answer is ends
   accepted_yields answer (inr fails) ends = inr (fails_yields answer fails ends)
 
-  module _ (words : List (List ℕ)) (files old new : Option Files) (shelf store same : Type 0) where
-    pub is_done : (answer : Result (Vec ℕ Global) Refusal) → Carries words files old new shelf store same answer → EndsWith answer status said_old said_new failed → status ≡ 0
-        → Ends words files old new (Appends said_old said_new)
+  module _ (words : List (List ℕ)) (files : Option Files) (Begins : Files → Files → Type 0) (new : Option Files) (shelf store same : Type 0) where
+    pub is_done : (answer : Result (Vec ℕ Global) Refusal) → Carries words files Begins new shelf store same answer → EndsWith answer status said_old said_new failed → status ≡ 0
+        → Ends words files Begins new (Appends said_old said_new)
     is_done (Ok line) carries (inl ok) is = record { line = line.items; is_answer = carries.is_answer; done = carries.done; said = ok.1 }
     is_done (Ok line) carries (inr device) is = absurd (omega (arith, device.0, is))
     is_done (Err r) carries ends is = absurd ((neither ends.told).0 (ends.status_is ∙ is))
 
-    pub has_risen : (answer : Result (Vec ℕ Global) Refusal) → Carries words files old new shelf store same answer → EndsWith answer status said_old said_new failed → status ≡ 7 → shelf ⊎ store ⊎ failed
+    pub has_risen : (answer : Result (Vec ℕ Global) Refusal) → Carries words files Begins new shelf store same answer → EndsWith answer status said_old said_new failed → status ≡ 7 → shelf ⊎ store ⊎ failed
     has_risen (Ok line) carries (inl ok) is = absurd (omega (arith, ok.0, is))
     has_risen (Ok line) carries (inr device) is = inr (inr device.1)
     has_risen (Err r) carries ends is =
         ⊎_elim (λ this. ⊎_elim (λ source. inl (carries.sources (ap Err source))) (λ fault. inr (inl (carries.stores (ap Err fault)))) (device_only r (sym this ∙ is)))
         (λ memory. absurd (omega (arith, memory, is))) (told_status r ends)
 
-    pub is_refused : (answer : Result (Vec ℕ Global) Refusal) → Carries words files old new shelf store same answer → EndsWith answer status said_old said_new failed → status ≢ 0
-        → Refuses words files status shelf store failed said_old said_new same ⊎ IsCut words files status old new failed said_old said_new
+    pub is_refused : (answer : Result (Vec ℕ Global) Refusal) → Carries words files Begins new shelf store same answer → EndsWith answer status said_old said_new failed → status ≢ 0
+        → Refuses words files Begins status shelf store failed said_old said_new same ⊎ IsCut words files Begins status new failed said_old said_new
     is_refused (Ok line) carries (inl ok) not_ok = absurd (not_ok ok.0)
     is_refused (Ok line) carries (inr device) not_ok = inr (record { status_is = device.0; risen = device.1; ends = record { line = line.items; is_answer = carries.is_answer; done = carries.done; said = device.2 } })
     is_refused (Err r) carries ends not_ok = inl (record {
       cause = ends.told;
       status_is = ends.status_is;
-      has_cause = ⊎_elim (λ is. subst (λ (x : Refusal). Tells (λ all. IsRefused words all x) files) (sym is) carries.refused)
-          (λ is. subst (λ (x : Refusal). Tells (λ all. IsRefused words all x) files) (sym is) carries.lacks) ends.told_is;
+      has_cause = ⊎_elim (λ is. subst (λ (x : Refusal). Tells (λ all. IsRefused words all Begins x) files) (sym is) carries.refused)
+          (λ is. subst (λ (x : Refusal). Tells (λ all. IsRefused words all Begins x) files) (sym is) carries.lacks) ends.told_is;
       risen = ⊎_elim (λ is. subst (λ (x : Refusal). HasRisen x shelf store) (sym is) (risen_of r shelf store (λ e. carries.sources (ap Err e)) (λ e. carries.stores (ap Err e))))
           (λ is. subst (λ (x : Refusal). HasRisen x shelf store) (sym is) tt) ends.told_is;
       says = ends.says;
-      untouched = λ early. ⊎_elim (λ is. carries.untouched (λ late. early (subst IsLate (sym is) late))) (λ is. absurd (early (inr is))) ends.told_is;
+      early = λ early. ⊎_elim (λ is. carries.early (subst IsEarly is early)) (λ is. absurd (subst IsEarly is early)) ends.told_is;
     })
 
   -- where the shelf tells, an answer that comes is told
@@ -157,10 +169,6 @@ module _ (status : ℕ) (said_old said_new : Option (List ℕ)) (failed : Type 0
   refusal_yields answer None Why ends comes = tt
   refusal_yields answer (Some all) Why ends comes = λ r definite why. comes_yields answer r (comes r definite why) ends
 
-  pub done_yields : (answer : Result (Vec ℕ Global) Refusal) (files : Option Files) (Fact : Files → Type 0) → EndsWith answer status said_old said_new failed
-      → Tells (λ all. Fact all → IsOk answer ⊎ Fails answer) files → Tells (λ all. Fact all → Yields 0 status) files
-  done_yields answer None Fact ends accepted = tt
-  done_yields answer (Some all) Fact ends accepted = λ fact. accepted_yields answer (accepted fact) ends
 
   pub info_yields : (answer : Result (Vec ℕ Global) Refusal) (files : Option Files) (Fact : Files → Header → Type 0) → EndsWith answer status said_old said_new failed
       → Tells (λ all. (header : Header) → Fact all header → IsOk answer ⊎ Fails answer) files → Tells (λ all. (header : Header) → Fact all header → Yields 0 status) files
@@ -169,16 +177,12 @@ module _ (status : ℕ) (said_old said_new : Option (List ℕ)) (failed : Type 0
 
 -- ---- words that are no command ask nothing of the files
 
-pub usage_comes : (files : Option Files) (words : List (List ℕ)) (Fact : Files → List ℕ → Type 0) (status : ℕ) → IsUsage words → Tells (λ all. AsksBuild words (Fact all) → Yields 0 status) files
-usage_comes None words Fact status usage = tt
-usage_comes (Some all) words Fact status usage = λ asks. absurd (usage.not_build asks.path asks.out asks.words_are)
-
 pub usage_yields : (files : Option Files) (words : List (List ℕ)) (status : ℕ) (said_old said_new : Option (List ℕ)) (failed : Type 0) → IsUsage words → status ≡ 2 → Says (line_of Usage) said_old said_new failed
-    → Tells (λ all. (r : Refusal) → IsDefinite r → IsRefused words all r → YieldsRefusal r status said_old said_new failed) files
+    → Tells (λ all. (r : Refusal) → IsDefinite r → IsFaulty words all r → YieldsRefusal r status said_old said_new failed) files
 usage_yields None words status said_old said_new failed usage is says = tt
 usage_yields (Some all) words status said_old said_new failed usage is says = λ r definite why. of r why
   where
-    of : (r : Refusal) → IsRefused words all r → YieldsRefusal r status said_old said_new failed
+    of : (r : Refusal) → IsFaulty words all r → YieldsRefusal r status said_old said_new failed
     of r (inl named) = inl (is ∙ sym (ap status_of named.0), subst (λ (x : Refusal). Says (line_of x) said_old said_new failed) (sym named.0) says)
     of r (inr (inl asks)) = absurd (usage.not_build asks.path asks.out asks.words_are)
     of r (inr (inr asks)) = absurd (usage.not_info asks.path asks.words_are)

@@ -7,10 +7,10 @@ use Rattle.ept_base.specs.Files.{Files, Tells}
 use Rattle.ept_las.specs.declared.header.Header.{Header}
 use Rattle.ept_space.specs.declared.box3.Box3.{Box3}
 use Rattle.ept_tool.specs.declared.refusal.Refusal.{Refusal}
-use Rattle.ept_tool.specs.declared.refusal.Refusal.TheVariants.{Usage, BadConfiguration, BadLas, OutOfBounds, NoBounds, SourceChanged, TooManyPoints, TooManyNodes, SourceFault, StoreFault, Memory}
+use Rattle.ept_tool.specs.declared.refusal.Refusal.TheVariants.{Usage, BadConfiguration, BadLas, OutOfBounds, NoBounds, SourceChanged, TooManyPoints, TooManyNodes, Differs, BadCheckpoint, TileDamaged, SourceFault, StoreFault, Memory}
 use Rattle.ept_tool.specs.Words.{IsBuild, IsInfo, IsQuery, IsUsage}
 use Rattle.ept_tool.specs.Lines.{summary_text, header_text, status_of, line_of}
-use Rattle.ept_tool.specs.Requests.{HasBuilt, HasTold, BuildIsRefused, InfoIsRefused, IsLate}
+use Rattle.ept_tool.specs.Requests.{HasBuilt, HasTold, ConfigurationIsRefused, BuildIsRefused, InfoIsRefused, IsEarly}
 
 -- this status, if no device failed and memory sufficed
 abbrev pub Yields : ℕ → ℕ → Type 0
@@ -47,26 +47,32 @@ IsAnswer words line =
     AsksBuild words (λ _. (points : ℕ) × (nodes : ℕ) × (line ≡ summary_text points nodes))
     ⊎ AsksInfo words (λ _. (header : Header) × (line ≡ header_text header))
 
--- a build has put its output into the store, or a LAS file has a header; and this is the line that tells it
-abbrev pub IsDone : List (List ℕ) → Files → List ℕ → Option Files → Option Files → Type 0
-IsDone words files line old new =
-    AsksBuild words (λ path. HasBuilt files path line old new) ⊎ AsksInfo words (λ path. HasTold files path line)
+-- The store has the output of a build, or a LAS file has a header; and this is the line that tells it. Begins says of the shelf's files and the store's that the build begins with them.
+abbrev pub IsDone : List (List ℕ) → Files → (Files → Files → Type 0) → List ℕ → Option Files → Type 0
+IsDone words files Begins line new =
+    AsksBuild words (λ path. HasBuilt files Begins path line new) ⊎ AsksInfo words (λ path. HasTold files path line)
 
 -- A command is carried out, and so much of its line is said.
-pub record Ends (words : List (List ℕ)) (files : Option Files) (old new : Option Files)
+pub record Ends (words : List (List ℕ)) (files : Option Files) (Begins : Files → Files → Type 0) (new : Option Files)
     (Said : List ℕ → Type 0) : Type 0 where
   pub line : List ℕ
   pub is_answer : IsAnswer words line
-  pub done : Tells (λ all. IsDone words all line old new) files
+  pub done : Tells (λ all. IsDone words all Begins line new) files
   pub said : Said line
 
 -- ---- refusals
 
--- the words, or the files that they name, are refused for this cause
-abbrev pub IsRefused : List (List ℕ) → Files → Refusal → Type 0
-IsRefused words files r =
+-- the words, or the file that they name, are refused for this cause, whatever the store has
+abbrev pub IsFaulty : List (List ℕ) → Files → Refusal → Type 0
+IsFaulty words files r =
     ((r ≡ Usage) × IsUsage words)
-    ⊎ AsksBuild words (λ path. BuildIsRefused files path r) ⊎ AsksInfo words (λ path. InfoIsRefused files path r)
+    ⊎ AsksBuild words (λ path. ConfigurationIsRefused files path r) ⊎ AsksInfo words (λ path. InfoIsRefused files path r)
+
+-- the words, or the files that they name, are refused for this cause
+abbrev pub IsRefused : List (List ℕ) → Files → (Files → Files → Type 0) → Refusal → Type 0
+IsRefused words files Begins r =
+    ((r ≡ Usage) × IsUsage words)
+    ⊎ AsksBuild words (λ path. BuildIsRefused files Begins path r) ⊎ AsksInfo words (λ path. InfoIsRefused files path r)
 
 -- the count of a device rose, where the refusal is that device's fault: of the shelf, or of the store
 abbrev pub HasRisen : Refusal → Type 0 → Type 0 → Type 0
@@ -80,6 +86,9 @@ HasRisen NoBounds shelf store = ⊤
 HasRisen (SourceChanged source number) shelf store = ⊤
 HasRisen (TooManyPoints source) shelf store = ⊤
 HasRisen TooManyNodes shelf store = ⊤
+HasRisen (Differs field) shelf store = ⊤
+HasRisen (BadCheckpoint letter) shelf store = ⊤
+HasRisen (TileDamaged key) shelf store = ⊤
 HasRisen Memory shelf store = ⊤
 
 -- the sink has gained this line, or, where it failed, a prefix of it
@@ -104,22 +113,22 @@ abbrev pub EndsWith : Result (Vec ℕ Global) Refusal → ℕ → Option (List �
 EndsWith (Ok line) status old new failed = IsSaid line.items status old new failed
 EndsWith (Err r) status old new failed = IsTold r status old new failed
 
--- A run is refused for a cause, with its status and its line: the device that it names has failed (shelf, store and out say that the count of that one rose), and the store stays as it was but after a late cause (same).
-pub record Refuses (words : List (List ℕ)) (files : Option Files) (status : ℕ) (shelf store out : Type 0)
+-- A run is refused for a cause, with its status and its line: the device that it names has failed (shelf, store and out say that the count of that one rose), and nothing was put where the cause is an early one (same).
+pub record Refuses (words : List (List ℕ)) (files : Option Files) (Begins : Files → Files → Type 0) (status : ℕ) (shelf store out : Type 0)
     (old new : Option (List ℕ)) (same : Type 0) : Type 0 where
   pub cause : Refusal
   pub status_is : status_of cause ≡ status
-  pub has_cause : Tells (λ all. IsRefused words all cause) files
+  pub has_cause : Tells (λ all. IsRefused words all Begins cause) files
   pub risen : HasRisen cause shelf store
   pub says : Says (line_of cause) old new out
-  pub untouched : (IsLate cause → ⊥) → same
+  pub early : IsEarly cause → same
 
 -- A command is carried out, and its line is cut where the sink failed.
-pub record IsCut (words : List (List ℕ)) (files : Option Files) (status : ℕ) (old new : Option Files)
+pub record IsCut (words : List (List ℕ)) (files : Option Files) (Begins : Files → Files → Type 0) (status : ℕ) (new : Option Files)
     (failed : Type 0) (said_old said_new : Option (List ℕ)) : Type 0 where
   pub status_is : status ≡ 7
   pub risen : failed
-  pub ends : Ends words files old new (AppendsPrefix said_old said_new)
+  pub ends : Ends words files Begins new (AppendsPrefix said_old said_new)
 
 -- this refusal is told, if no device failed and memory sufficed
 abbrev pub YieldsRefusal : Refusal → ℕ → Option (List ℕ) → Option (List ℕ) → Type 0 → Type 0

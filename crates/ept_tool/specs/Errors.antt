@@ -6,7 +6,7 @@ use Rattle.ept_config.specs.declared.config_error.ConfigError.TheVariants as con
 use Rattle.ept_build.specs.declared.error.BuildError.{BuildError}
 use Rattle.ept_build.specs.declared.error.BuildError.TheVariants as build
 use Rattle.ept_tool.specs.declared.refusal.Refusal.{Refusal}
-use Rattle.ept_tool.specs.declared.refusal.Refusal.TheVariants.{BadConfiguration, BadLas, OutOfBounds, NoBounds, SourceChanged, TooManyPoints, TooManyNodes, SourceFault, StoreFault, Memory}
+use Rattle.ept_tool.specs.declared.refusal.Refusal.TheVariants.{BadConfiguration, BadLas, OutOfBounds, NoBounds, SourceChanged, TooManyPoints, TooManyNodes, Differs, BadCheckpoint, TileDamaged, SourceFault, StoreFault, Memory}
 
 -- of a file that is opened and read
 abbrev pub of_get : GetError → Refusal
@@ -27,6 +27,9 @@ of_config config.Memory = Memory
 -- of a build
 abbrev pub of_build : BuildError → Refusal
 of_build build.StoreFault = StoreFault
+of_build (build.BadCheckpoint letter) = BadCheckpoint letter
+of_build (build.TileDamaged key) = TileDamaged key
+of_build (build.Differs field kept given) = Differs field
 of_build build.SourceFault = SourceFault
 of_build (build.BadLas source fault) = BadLas source fault
 of_build (build.OutOfBounds source number) = OutOfBounds source number

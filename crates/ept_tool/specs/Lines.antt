@@ -7,6 +7,11 @@ use Rattle.ept_las.specs.declared.header.Header.{Header}
 use Rattle.ept_las.specs.declared.las_error.LasError.{LasError}
 use Rattle.ept_las.specs.declared.las_error.LasError.TheVariants.{Short, Signature, Version, HeaderSize, Compressed, Format, RecordLength, PointOffset, Expect, Truncated}
 use Rattle.ept_las.specs.LasHeader as las
+use Rattle.ept_space.specs.KeyText as space
+use Rattle.ept_ckpt.specs.declared.letter.Letter.{Letter}
+use Rattle.ept_ckpt.specs.declared.letter.Letter.TheVariants as letter
+use Rattle.ept_meta.specs.declared.fields.Field.{Field}
+use Rattle.ept_meta.specs.declared.fields.Field.TheVariants as field
 use Rattle.ept_tool.specs.declared.refusal.Refusal.{Refusal}
 use Rattle.ept_tool.specs.declared.refusal.Refusal.TheVariants as refusal
 
@@ -30,6 +35,9 @@ status_of refusal.NoBounds = 4
 status_of (refusal.SourceChanged source number) = 4
 status_of (refusal.TooManyPoints source) = 5
 status_of refusal.TooManyNodes = 5
+status_of (refusal.Differs field) = 6
+status_of (refusal.BadCheckpoint letter) = 8
+status_of (refusal.TileDamaged key) = 8
 status_of refusal.SourceFault = 7
 status_of refusal.StoreFault = 7
 status_of refusal.Memory = 9
@@ -64,6 +72,23 @@ unfoldable pub las_text : ℕ → LasError → List ℕ
 las_text source fault =
     codes "error 4 las " ++ decimal (las.code_of fault) ++ codes " source " ++ decimal source ++ number_text fault
 
+-- the name of a field in the build file
+abbrev pub name_of : Field → List ℕ
+name_of field.Scale = codes "scale"
+name_of field.Offset = codes "offset"
+name_of field.Bounds = codes "bounds"
+name_of field.Span = codes "span"
+name_of field.MinNodeSize = codes "minNodeSize"
+name_of field.MaxDepth = codes "maxDepth"
+name_of field.HierarchyStep = codes "hierarchyStep"
+name_of field.Srs = codes "srs"
+name_of field.Input = codes "input"
+
+-- a letter in the name of a checkpoint
+abbrev pub letter_text : Letter → List ℕ
+letter_text letter.A = codes "a"
+letter_text letter.B = codes "b"
+
 -- the line of a refusal, without the line feed that ends it
 unfoldable pub refusal_text : Refusal → List ℕ
 refusal_text refusal.Usage = codes "error 2 usage"
@@ -74,6 +99,9 @@ refusal_text refusal.NoBounds = codes "error 4 nobounds"
 refusal_text (refusal.SourceChanged source number) = codes "error 4 changed source " ++ record_text source number
 refusal_text (refusal.TooManyPoints source) = codes "error 5 points source " ++ decimal source
 refusal_text refusal.TooManyNodes = codes "error 5 nodes"
+refusal_text (refusal.Differs field) = codes "error 6 differs " ++ name_of field
+refusal_text (refusal.BadCheckpoint letter) = codes "error 8 checkpoint " ++ letter_text letter
+refusal_text (refusal.TileDamaged key) = codes "error 8 tile " ++ space.key_text key
 refusal_text refusal.SourceFault = codes "error 7 source"
 refusal_text refusal.StoreFault = codes "error 7 store"
 refusal_text refusal.Memory = codes "error 9 memory"

@@ -1,6 +1,7 @@
 -- What the files of these paths are, on a shelf of these files, and why a command on them is refused.
-use Rattle.std.specs.Prelude.{◌≡◌, ◌≢◌, ◌⊎◌, ℕ, List, Option, None, Some, Result, Ok, Err, take, ⊤}
-use Rattle.ept_base.specs.Files.{Files}
+use Rattle.std.specs.Prelude.{◌≡◌, ◌≢◌, ◌⊎◌, ℕ, List, Vec, Option, None, Some, Result, Ok, Err, take, ⊤}
+use Rattle.std.specs.declared.alloc.Global.{Global}
+use Rattle.ept_base.specs.Files.{Files, Tells}
 use Rattle.ept_config.specs.declared.config.Config.{Config}
 use Rattle.ept_config.specs.declared.config_error.ConfigError.{ConfigError}
 use Rattle.ept_config.specs.Configuration.{reading}
@@ -14,7 +15,7 @@ use Rattle.ept_build.specs.declared.error.BuildError.TheVariants as build
 use Rattle.ept_build.specs.declared.summary.Summary.{Summary}
 use Rattle.ept_build.specs.Building as building
 use Rattle.ept_tool.specs.declared.refusal.Refusal.{Refusal}
-use Rattle.ept_tool.specs.declared.refusal.Refusal.TheVariants.{Usage, BadConfiguration, BadLas, OutOfBounds, NoBounds, SourceChanged, TooManyPoints, TooManyNodes, SourceFault, StoreFault, Memory}
+use Rattle.ept_tool.specs.declared.refusal.Refusal.TheVariants.{Usage, BadConfiguration, BadLas, OutOfBounds, NoBounds, SourceChanged, TooManyPoints, TooManyNodes, Differs, BadCheckpoint, TileDamaged, SourceFault, StoreFault, Memory}
 use Rattle.ept_tool.specs.Lines.{summary_text, header_text}
 
 -- these are the first bytes of the file of this path: so many, or all
@@ -37,43 +38,69 @@ pub record HasBadConfiguration (files : Files) (path : List ℕ) (error : Config
   pub content : files path ≡ Some bytes
   pub refused : reading bytes ≡ Err error
 
--- it is a configuration whose build is refused for this cause
-abbrev pub HasBadBuild : Files → List ℕ → BuildError → Type 0
-HasBadBuild files path error =
-    (config : Config) × HasConfiguration files path config × building.IsRefused files config error
+-- why it can't be read; a fault of the shelf and want of memory say nothing of files
+abbrev pub ConfigurationIsRefused : Files → List ℕ → Refusal → Type 0
+ConfigurationIsRefused files path Usage = ⊥
+ConfigurationIsRefused files path (BadConfiguration error) = HasBadConfiguration files path error
+ConfigurationIsRefused files path (BadLas source fault) = ⊥
+ConfigurationIsRefused files path (OutOfBounds source number) = ⊥
+ConfigurationIsRefused files path NoBounds = ⊥
+ConfigurationIsRefused files path (SourceChanged source number) = ⊥
+ConfigurationIsRefused files path (TooManyPoints source) = ⊥
+ConfigurationIsRefused files path TooManyNodes = ⊥
+ConfigurationIsRefused files path (Differs field) = ⊥
+ConfigurationIsRefused files path (BadCheckpoint letter) = ⊥
+ConfigurationIsRefused files path (TileDamaged key) = ⊥
+ConfigurationIsRefused files path SourceFault = ⊤
+ConfigurationIsRefused files path StoreFault = ⊥
+ConfigurationIsRefused files path Memory = ⊤
 
--- it is a configuration, and its inputs are accepted
-pub record IsAcceptedAt (files : Files) (path : List ℕ) : Type 0 where
+-- The file is a configuration, and its build over a store that begins with sound files is refused for this cause. Begins says of the shelf's files and the store's that the build begins with them.
+abbrev pub HasBadBuild : Files → (Files → Files → Type 0) → List ℕ → BuildError → Type 0
+HasBadBuild files Begins path error =
+    (config : Config) × HasConfiguration files path config × ((start : Files) → Begins files start → building.IsRefused files config start error)
+
+-- it is a configuration, and its build over a store with these files is accepted
+pub record IsAcceptedAt (files start : Files) (path : List ℕ) : Type 0 where
   pub config : Config
   pub configures : HasConfiguration files path config
-  pub accepted : building.IsAccepted files config
+  pub accepted : building.IsAccepted files config start
 
--- it is a configuration, and a store has gained the output of its build
-pub record IsBuiltAt (files : Files) (path : List ℕ) (summary : Summary) (old new : Option Files)
+-- it is a configuration, and nothing of its build is left to be done over a store with these files
+pub record IsDoneAt (files start : Files) (path : List ℕ) : Type 0 where
+  pub config : Config
+  pub configures : HasConfiguration files path config
+  pub done : building.IsDoneAlready config start
+
+-- it is a configuration, and a store that began with sound files has the output of its build
+pub record IsBuiltAt (files : Files) (Begins : Files → Files → Type 0) (path : List ℕ) (summary : Summary) (new : Option Files)
     : Type 0 where
   pub config : Config
   pub configures : HasConfiguration files path config
-  pub built : building.IsBuilt files config summary old new
+  pub built : (start : Files) → Begins files start → Tells (building.IsBuilt files config start summary) new
 
 -- the same, and this line says so
-pub record HasBuilt (files : Files) (path line : List ℕ) (old new : Option Files) : Type 0 where
+pub record HasBuilt (files : Files) (Begins : Files → Files → Type 0) (path line : List ℕ) (new : Option Files) : Type 0 where
   pub summary : Summary
-  pub built : IsBuiltAt files path summary old new
+  pub built : IsBuiltAt files Begins path summary new
   pub line_is : line ≡ summary_text summary.points summary.nodes
 
 -- why a build of the configuration of this path is refused; device faults and want of memory say nothing of files
-abbrev pub BuildIsRefused : Files → List ℕ → Refusal → Type 0
-BuildIsRefused files path Usage = ⊥
-BuildIsRefused files path (BadConfiguration error) = HasBadConfiguration files path error
-BuildIsRefused files path (BadLas source fault) = HasBadBuild files path (build.BadLas source fault)
-BuildIsRefused files path (OutOfBounds source number) = HasBadBuild files path (build.OutOfBounds source number)
-BuildIsRefused files path NoBounds = HasBadBuild files path build.NoBounds
-BuildIsRefused files path (SourceChanged source number) = ⊥
-BuildIsRefused files path (TooManyPoints source) = HasBadBuild files path (build.TooManyPoints source)
-BuildIsRefused files path TooManyNodes = HasBadBuild files path build.TooManyNodes
-BuildIsRefused files path SourceFault = ⊤
-BuildIsRefused files path StoreFault = ⊤
-BuildIsRefused files path Memory = ⊤
+abbrev pub BuildIsRefused : Files → (Files → Files → Type 0) → List ℕ → Refusal → Type 0
+BuildIsRefused files Begins path Usage = ⊥
+BuildIsRefused files Begins path (BadConfiguration error) = HasBadConfiguration files path error
+BuildIsRefused files Begins path (BadLas source fault) = HasBadBuild files Begins path (build.BadLas source fault)
+BuildIsRefused files Begins path (OutOfBounds source number) = HasBadBuild files Begins path (build.OutOfBounds source number)
+BuildIsRefused files Begins path NoBounds = HasBadBuild files Begins path build.NoBounds
+BuildIsRefused files Begins path (SourceChanged source number) = HasBadBuild files Begins path (build.SourceChanged source number)
+BuildIsRefused files Begins path (TooManyPoints source) = HasBadBuild files Begins path (build.TooManyPoints source)
+BuildIsRefused files Begins path TooManyNodes = HasBadBuild files Begins path build.TooManyNodes
+BuildIsRefused files Begins path (Differs field) = (kept : Vec ℕ Global) × (given : Vec ℕ Global) × HasBadBuild files Begins path (build.Differs field kept given)
+BuildIsRefused files Begins path (BadCheckpoint letter) = HasBadBuild files Begins path (build.BadCheckpoint letter)
+BuildIsRefused files Begins path (TileDamaged key) = HasBadBuild files Begins path (build.TileDamaged key)
+BuildIsRefused files Begins path SourceFault = ⊤
+BuildIsRefused files Begins path StoreFault = ⊤
+BuildIsRefused files Begins path Memory = ⊤
 
 -- ---- what is known of a LAS file
 
@@ -105,6 +132,9 @@ InfoIsRefused files path NoBounds = ⊥
 InfoIsRefused files path (SourceChanged source number) = ⊥
 InfoIsRefused files path (TooManyPoints source) = ⊥
 InfoIsRefused files path TooManyNodes = ⊥
+InfoIsRefused files path (Differs field) = ⊥
+InfoIsRefused files path (BadCheckpoint letter) = ⊥
+InfoIsRefused files path (TileDamaged key) = ⊥
 InfoIsRefused files path SourceFault = ⊤
 InfoIsRefused files path StoreFault = ⊥
 InfoIsRefused files path Memory = ⊤
@@ -123,9 +153,22 @@ IsDefinite r = IsFault r → ⊥
 abbrev pub Fails : {A : Type 0} → Result A Refusal → Type 0
 Fails answer = (answer ≡ Err SourceFault) ⊎ (answer ≡ Err StoreFault) ⊎ (answer ≡ Err Memory)
 
--- a cause after which the store may have been written to
-abbrev pub IsLate : Refusal → Type 0
-IsLate r = (r ≡ StoreFault) ⊎ (r ≡ Memory)
+-- a cause after which nothing was put: what is given is read, compared and scanned before
+abbrev pub IsEarly : Refusal → Type 0
+IsEarly Usage = ⊤
+IsEarly (BadConfiguration error) = ⊤
+IsEarly (BadLas source fault) = ⊤
+IsEarly (OutOfBounds source number) = ⊤
+IsEarly NoBounds = ⊤
+IsEarly (SourceChanged source number) = ⊥
+IsEarly (TooManyPoints source) = ⊤
+IsEarly TooManyNodes = ⊥
+IsEarly (Differs field) = ⊤
+IsEarly (BadCheckpoint letter) = ⊤
+IsEarly (TileDamaged key) = ⊥
+IsEarly SourceFault = ⊥
+IsEarly StoreFault = ⊥
+IsEarly Memory = ⊥
 
 -- ---- which causes a step may have, whatever the files are
 
@@ -139,6 +182,9 @@ IsOfConfiguration NoBounds = ⊥
 IsOfConfiguration (SourceChanged source number) = ⊥
 IsOfConfiguration (TooManyPoints source) = ⊥
 IsOfConfiguration TooManyNodes = ⊥
+IsOfConfiguration (Differs field) = ⊥
+IsOfConfiguration (BadCheckpoint letter) = ⊥
+IsOfConfiguration (TileDamaged key) = ⊥
 IsOfConfiguration SourceFault = ⊤
 IsOfConfiguration StoreFault = ⊥
 IsOfConfiguration Memory = ⊤
@@ -153,6 +199,9 @@ IsOfHeader NoBounds = ⊥
 IsOfHeader (SourceChanged source number) = ⊥
 IsOfHeader (TooManyPoints source) = ⊥
 IsOfHeader TooManyNodes = ⊥
+IsOfHeader (Differs field) = ⊥
+IsOfHeader (BadCheckpoint letter) = ⊥
+IsOfHeader (TileDamaged key) = ⊥
 IsOfHeader SourceFault = ⊤
 IsOfHeader StoreFault = ⊥
 IsOfHeader Memory = ⊤

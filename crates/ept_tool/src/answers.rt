@@ -44,13 +44,22 @@ pub(crate) fn refuse<O: Sink>(alloc: Global, out: &mut O, refusal: Refusal) -> u
     match refusal {
         Refusal::Usage => refuse_usage(out),
         Refusal::Memory => refuse_memory(out),
-        _ => match refusal_line(alloc, refusal) {
-            Ok(line) => {
-                write_line(out, &line);
-                refusal.status()
-            }
-            Err(_) => refuse_memory(out),
-        },
+        other => tell(alloc, out, other),
+    }
+}
+
+// Writes the line of a refusal that takes memory, and answers its status.
+fn tell<O: Sink>(alloc: Global, out: &mut O, refusal: Refusal) -> u8
+    ensures { IsTold refusal result (O.written out.old) (O.written out.new)
+        (Rose (O.faults out.old) (O.faults out.new)) }
+{
+    let status = refusal.status();
+    match refusal_line(alloc, refusal) {
+        Ok(line) => {
+            write_line(out, &line);
+            status
+        }
+        Err(_) => refuse_memory(out),
     }
 }
 

@@ -2,18 +2,20 @@
 
 ghost use Rattle.std.specs.Prelude.{◌≡◌, ◌≢◌, ◌⊎◌, ℕ, Err, IsOk, IfOk, IfErr, OnOk};
 ghost use Rattle.ept_base.specs.Causes.{HasCauseOf};
-ghost use Rattle.ept_base.specs.Files.{Tells};
+ghost use Rattle.ept_base.specs.Files.{Files, SameFiles, Tells};
 ghost use Rattle.ept_base.specs.Moves.{Moves, IsSettled};
 ghost use Rattle.ept_las.specs.declared.header.Header as found;
-ghost use Rattle.ept_build.specs.Gains.{SameButBuild};
+ghost use Rattle.ept_save.specs.Sound.{IsSound};
+ghost use Rattle.ept_build.specs.Building.{BeginsWith};
 ghost use Rattle.ept_tool.specs.Lines.{summary_text, header_text};
-ghost use Rattle.ept_tool.specs.Requests.{IsBuiltAt, HasBuilt, IsAcceptedAt, BuildIsRefused, HasTold, HasHeader, InfoIsRefused, IsOfBuild, IsOfHeader, IsDefinite, IsLate, Fails};
+ghost use Rattle.ept_tool.specs.Requests.{IsBuiltAt, HasBuilt, IsAcceptedAt, IsDoneAt, ConfigurationIsRefused, BuildIsRefused, HasTold, HasHeader, InfoIsRefused, IsOfBuild, IsOfHeader, IsDefinite, IsEarly, Fails};
 
 use crate::files::{read_configuration, read_file_header};
 use crate::lines::{header_line, summary_line};
 use crate::refusal::Refusal;
 use ept_base::{Gate, Room, Shelf, Store};
 use ept_build::{Summary, build};
+use ept_save::sound_steps_law;
 use std::alloc::Global;
 
 /// Builds the octree of the configuration of this path, and answers the line that says so.
@@ -34,21 +36,26 @@ where
     H::Source: Send,
     R::File: Send,
     ensures built { IfOk result (λ line. Tells
-        (λ all. HasBuilt all path.now line.items (T.files store.old) (T.files store.new)) (H.files shelf.old)) }
+        (λ all. HasBuilt all (BeginsWith (H.files shelf.old) (T.files store.old) (T.may_leave store.old)) path.now line.items (T.files store.new))
+        (H.files shelf.old)) }
     ensures said { IfOk result (λ line. (points nodes : ℕ) × (line.items ≡ summary_text points nodes)) }
     ensures settled { OnOk result (IsSettled (T.files store.new) (T.may_leave store.new)) }
-    ensures refused { IfErr result (λ r. Tells (λ all. BuildIsRefused all path.now r) (H.files shelf.old)) }
-    ensures refusal_comes { Tells (λ all. (r : Refusal) → IsDefinite r → BuildIsRefused all path.now r
+    ensures refused { IfErr result (λ r. Tells
+        (λ all. BuildIsRefused all (BeginsWith (H.files shelf.old) (T.files store.old) (T.may_leave store.old)) path.now r) (H.files shelf.old)) }
+    ensures refusal_comes { Tells (λ all. (r : Refusal) → IsDefinite r → ConfigurationIsRefused all path.now r
         → (result ≡ Err r) ⊎ Fails result) (H.files shelf.old) }
-    ensures accepted { Tells (λ all. IsAcceptedAt all path.now
-        → IsOk result ⊎ Fails result) (H.files shelf.old) }
+    ensures accepted { (all start : Files) → BeginsWith (H.files shelf.old) (T.files store.old) (T.may_leave store.old) all start
+        → IsAcceptedAt all start path.now → IsOk result ⊎ Fails result }
     ensures causes { IfErr result IsOfBuild }
     ensures sources { HasCauseOf Refusal.SourceFault (H.faults shelf.old) (H.faults shelf.new) result }
     ensures stores { HasCauseOf Refusal.StoreFault (T.faults store.old) (T.faults store.new) result }
-    ensures untouched { IfErr result (λ r. (IsLate r → ⊥) → store.new ≡ store.old) }
-    ensures puts_accepted { (store.new ≡ store.old)
-        ⊎ Tells (λ all. IsAcceptedAt all path.now) (H.files shelf.old) }
-    ensures any_moment { Moves T.files T.may_leave T.moment T.image_since SameButBuild store.old store.new }
+    ensures sound { (all start : Files) → BeginsWith (H.files shelf.old) (T.files store.old) (T.may_leave store.old) all start
+        → Moves T.files T.may_leave T.moment T.image_since (λ (a b : Files). IsSound all b) store.old store.new }
+    ensures done_already { (all start : Files) → BeginsWith (H.files shelf.old) (T.files store.old) (T.may_leave store.old) all start
+        → IsDoneAt all start path.now
+        → Moves T.files T.may_leave T.moment T.image_since SameFiles store.old store.new }
+    ensures early { IfErr result (λ r. IsEarly r
+        → Moves T.files T.may_leave T.moment T.image_since SameFiles store.old store.new) }
     ensures files { H.files shelf.new ≡ H.files shelf.old }
     ensures room { room.new ≡ room.old }
 {
@@ -70,23 +77,29 @@ where
     H::Source: Send,
     R::File: Send,
     ensures built { IfOk result (λ summary. Tells
-        (λ all. IsBuiltAt all path.now summary (T.files store.old) (T.files store.new)) (H.files shelf.old)) }
+        (λ all. IsBuiltAt all (BeginsWith (H.files shelf.old) (T.files store.old) (T.may_leave store.old)) path.now summary (T.files store.new))
+        (H.files shelf.old)) }
     ensures settled { OnOk result (IsSettled (T.files store.new) (T.may_leave store.new)) }
-    ensures refused { IfErr result (λ r. Tells (λ all. BuildIsRefused all path.now r) (H.files shelf.old)) }
-    ensures refusal_comes { Tells (λ all. (r : Refusal) → IsDefinite r → BuildIsRefused all path.now r
+    ensures refused { IfErr result (λ r. Tells
+        (λ all. BuildIsRefused all (BeginsWith (H.files shelf.old) (T.files store.old) (T.may_leave store.old)) path.now r) (H.files shelf.old)) }
+    ensures refusal_comes { Tells (λ all. (r : Refusal) → IsDefinite r → ConfigurationIsRefused all path.now r
         → (result ≡ Err r) ⊎ Fails result) (H.files shelf.old) }
-    ensures accepted { Tells (λ all. IsAcceptedAt all path.now
-        → IsOk result ⊎ Fails result) (H.files shelf.old) }
+    ensures accepted { (all start : Files) → BeginsWith (H.files shelf.old) (T.files store.old) (T.may_leave store.old) all start
+        → IsAcceptedAt all start path.now → IsOk result ⊎ Fails result }
     ensures causes { IfErr result IsOfBuild }
     ensures sources { HasCauseOf Refusal.SourceFault (H.faults shelf.old) (H.faults shelf.new) result }
     ensures stores { HasCauseOf Refusal.StoreFault (T.faults store.old) (T.faults store.new) result }
-    ensures untouched { IfErr result (λ r. (IsLate r → ⊥) → store.new ≡ store.old) }
-    ensures puts_accepted { (store.new ≡ store.old)
-        ⊎ Tells (λ all. IsAcceptedAt all path.now) (H.files shelf.old) }
-    ensures any_moment { Moves T.files T.may_leave T.moment T.image_since SameButBuild store.old store.new }
+    ensures sound { (all start : Files) → BeginsWith (H.files shelf.old) (T.files store.old) (T.may_leave store.old) all start
+        → Moves T.files T.may_leave T.moment T.image_since (λ (a b : Files). IsSound all b) store.old store.new }
+    ensures done_already { (all start : Files) → BeginsWith (H.files shelf.old) (T.files store.old) (T.may_leave store.old) all start
+        → IsDoneAt all start path.now
+        → Moves T.files T.may_leave T.moment T.image_since SameFiles store.old store.new }
+    ensures early { IfErr result (λ r. IsEarly r
+        → Moves T.files T.may_leave T.moment T.image_since SameFiles store.old store.new) }
     ensures files { H.files shelf.new ≡ H.files shelf.old }
     ensures room { room.new ≡ room.old }
 {
+    sound_steps_law();
     let config = read_configuration(alloc, shelf, path)?;
     match build(alloc, &config, shelf, store, room, gate) {
         Ok(summary) => Ok(summary),

@@ -3,7 +3,7 @@
 ghost use Rattle.std.specs.Prelude.{◌≡◌, ◌≤◌, IfOk, IfErr, length, take};
 ghost use Rattle.ept_base.specs.Causes.{HasCause, HasCauseOf};
 ghost use Rattle.ept_base.specs.Files.{Tells};
-ghost use Rattle.ept_tool.specs.Requests.{HasFront, HasConfiguration, BuildIsRefused, IsOfConfiguration, HasHeader, InfoIsRefused, IsOfHeader};
+ghost use Rattle.ept_tool.specs.Requests.{HasFront, HasConfiguration, ConfigurationIsRefused, IsOfConfiguration, HasHeader, InfoIsRefused, IsOfHeader};
 
 use crate::refusal::Refusal;
 use ept_base::{Failed, GetError, Shelf, Source, read_full};
@@ -29,7 +29,7 @@ pub(crate) fn read_configuration<H: Shelf>(
 ) -> Result<Config, Refusal>
     ensures ok { IfOk result (λ config. Tells
         (λ all. HasConfiguration all path.now config) (H.files shelf.old)) }
-    ensures refused { IfErr result (λ r. Tells (λ all. BuildIsRefused all path.now r) (H.files shelf.old)) }
+    ensures refused { IfErr result (λ r. Tells (λ all. ConfigurationIsRefused all path.now r) (H.files shelf.old)) }
     ensures causes { IfErr result IsOfConfiguration }
     ensures files { H.files shelf.new ≡ H.files shelf.old }
     ensures cause { HasCauseOf Refusal.SourceFault (H.faults shelf.old) (H.faults shelf.new) result }

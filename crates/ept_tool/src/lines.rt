@@ -4,13 +4,17 @@ ghost use Rattle.std.specs.Prelude.{◌≡◌, ◌++◌, IfOk, OnOk};
 ghost use Rattle.std.specs.Fmt.{decimal};
 ghost use Rattle.ept_config.specs.Refusals.{code_of, key_text_of};
 ghost use Rattle.ept_las.specs.LasHeader as las;
-ghost use Rattle.ept_tool.specs.Lines.{summary_text, header_text, key_text, config_text, las_text, number_text, record_text, refusal_text, line_of};
+ghost use Rattle.ept_space.specs.KeyText as space;
+ghost use Rattle.ept_tool.specs.Lines.{summary_text, header_text, key_text, config_text, las_text, number_text, record_text, name_of, letter_text, refusal_text, line_of};
 
 use crate::refusal::Refusal;
 use ept_build::Summary;
+use ept_ckpt::Letter;
 use ept_config::ConfigError;
 use ept_las::{Header, LasError};
+use ept_meta::Field;
 use ept_point::PointNumber;
+use ept_space::{Key, key_text};
 use itoa::Buffer;
 use std::alloc::{AllocError, Global};
 
@@ -93,6 +97,11 @@ fn append_refusal(line: &mut Vec<u8>, refusal: Refusal) -> Result<(), AllocError
             append_input(line, b"error 5 points source ", source)
         }
         Refusal::TooManyNodes => append(line, b"error 5 nodes"),
+        Refusal::Differs { field } => append_word(line, b"error 6 differs ", name_of(field)),
+        Refusal::BadCheckpoint { letter } => {
+            append_word(line, b"error 8 checkpoint ", letter_text(letter))
+        }
+        Refusal::TileDamaged { key } => append_tile(line, b"error 8 tile ", &key),
         Refusal::SourceFault => append(line, b"error 7 source"),
         Refusal::StoreFault => append(line, b"error 7 store"),
         Refusal::Memory => append(line, b"error 9 memory"),
@@ -158,4 +167,49 @@ fn append_record(
     append_input(line, word, source)?;
     append_number(line, b" number ", u64::from(number))?;
     Ok(())
+}
+
+// Appends a text behind its word.
+fn append_word(line: &mut Vec<u8>, word: &[u8], text: &[u8]) -> Result<(), AllocError>
+    ensures { OnOk result (line.new.items ≡ line.old.items ++ word.now ++ text.now) }
+{
+    line.extend_from_slice(word)?;
+    line.extend_from_slice(text)?;
+    Ok(())
+}
+
+// Appends the text of a key behind its word.
+fn append_tile(line: &mut Vec<u8>, word: &[u8], key: &Key) -> Result<(), AllocError>
+    ensures { OnOk result (line.new.items ≡ line.old.items ++ word.now ++ space.key_text key.now) }
+{
+    let mut text = [0; 40];
+    let length = key_text(key, &mut text);
+    append_word(line, word, &text[..length])
+}
+
+// The name of a field in the build file.
+fn name_of(field: Field) -> &'static [u8]
+    ensures { result.now ≡ name_of field }
+{
+    match field {
+        Field::Scale => b"scale",
+        Field::Offset => b"offset",
+        Field::Bounds => b"bounds",
+        Field::Span => b"span",
+        Field::MinNodeSize => b"minNodeSize",
+        Field::MaxDepth => b"maxDepth",
+        Field::HierarchyStep => b"hierarchyStep",
+        Field::Srs => b"srs",
+        Field::Input => b"input",
+    }
+}
+
+// A letter, as the name of its checkpoint has it.
+fn letter_text(letter: Letter) -> &'static [u8]
+    ensures { result.now ≡ letter_text letter }
+{
+    match letter {
+        Letter::A => b"a",
+        Letter::B => b"b",
+    }
 }

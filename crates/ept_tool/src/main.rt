@@ -2,6 +2,8 @@
 //! what the header of a LAS file says.
 #![tactic(auto)]
 
+#[cfg(test)]
+mod again_tests;
 mod answers;
 #[cfg(test)]
 mod build_tests;

@@ -60,6 +60,10 @@ error 4 changed source 0 number 0|a.las has changed since it was scanned
 error 4 changed source 1 number 9|flights/b.las has changed since it was scanned, at record 9
 error 5 points source 1|flights/b.las states more than 4294967295 points
 error 5 nodes|the octree has more nodes than `maxNodes` of survey.json allows
+error 6 differs span|out was built with another `span` than that of survey.json
+error 6 differs input|the inputs of survey.json do not begin with those that out was built with
+error 8 checkpoint a|`ept-work/body-a` in out is absent or damaged
+error 8 tile 2-0-1-3|the saved tile of 2-0-1-3 in out is absent or damaged
 error 7 source|flights/b.las could not be opened or read
 error 7 store|a file of out could not be written or flushed
 error 9 memory|out of memory

@@ -1,11 +1,16 @@
 //! Why the words, or the files that they name, are refused.
 
-use crate::status::{BAD_CONFIGURATION, BAD_SCAN, DEVICE, MEMORY, TOO_MANY, USAGE};
+use crate::status::{
+    BAD_CONFIGURATION, BAD_SCAN, DAMAGED, DEVICE, DIFFERS, MEMORY, TOO_MANY, USAGE,
+};
 use ept_base::GetError;
 use ept_build::BuildError;
+use ept_ckpt::Letter;
 use ept_config::ConfigError;
 use ept_las::LasError;
+use ept_meta::Field;
 use ept_point::PointNumber;
+use ept_space::Key;
 use std::alloc::AllocError;
 
 /// Why the words, or the files that they name, are refused. The inputs of a build are numbered from 0, and
@@ -28,6 +33,12 @@ pub enum Refusal {
     TooManyPoints { source: u32 },
     /// The octree has more nodes than there may be.
     TooManyNodes,
+    /// This is the first field of the configuration that differs from what an earlier build kept.
+    Differs { field: Field },
+    /// The checkpoint of this letter is absent or damaged.
+    BadCheckpoint { letter: Letter },
+    /// The tile that the current checkpoint names for this key is absent or not the node's.
+    TileDamaged { key: Key },
     /// A file of the shelf can't be opened or read: the shelf's count of faults rose.
     SourceFault,
     /// A call of the store failed: its count of faults rose.
@@ -73,6 +84,9 @@ impl From<BuildError> for Refusal {
     fn from(error: BuildError) -> Refusal {
         match error {
             BuildError::StoreFault => Refusal::StoreFault,
+            BuildError::BadCheckpoint { letter } => Refusal::BadCheckpoint { letter },
+            BuildError::TileDamaged { key } => Refusal::TileDamaged { key },
+            BuildError::Differs { field, .. } => Refusal::Differs { field },
             BuildError::SourceFault => Refusal::SourceFault,
             BuildError::BadLas { source, fault } => Refusal::BadLas { source, fault },
             BuildError::OutOfBounds { source, number } => Refusal::OutOfBounds { source, number },
@@ -103,8 +117,8 @@ impl Refusal {
     ghost use Rattle.ept_tool.specs.Lines.{status_of};
 
     /// The status that the program ends with.
-    pub fn status(self) -> u8
-        ensures { result ≡ status_of self }
+    pub fn status(&self) -> u8
+        ensures { result ≡ status_of self.now }
     {
         match self {
             Refusal::Usage => USAGE,
@@ -114,6 +128,8 @@ impl Refusal {
             | Refusal::NoBounds
             | Refusal::SourceChanged { .. } => BAD_SCAN,
             Refusal::TooManyPoints { .. } | Refusal::TooManyNodes => TOO_MANY,
+            Refusal::Differs { .. } => DIFFERS,
+            Refusal::BadCheckpoint { .. } | Refusal::TileDamaged { .. } => DAMAGED,
             Refusal::SourceFault | Refusal::StoreFault => DEVICE,
             Refusal::Memory => MEMORY,
         }

@@ -1,17 +1,18 @@
 //! A run of the program.
 
-ghost use Rattle.std.specs.Prelude.{◌≡◌, ◌≢◌, ◌⊎◌, ◌↔◌, ℕ, List};
+ghost use Rattle.std.specs.Prelude.{◌≡◌, ◌≢◌, ◌⊎◌, ◌↔◌, ℕ, List, ⊤};
 ghost use Rattle.std.specs.Io.KnownBytes.{Appends};
 ghost use Rattle.ept_base.specs.Causes.{Rose};
-ghost use Rattle.ept_base.specs.Files.{SameFiles, Tells};
+ghost use Rattle.ept_base.specs.Files.{Files, SameFiles, Tells};
 ghost use Rattle.ept_base.specs.Moves.{Moves, IsSettled};
 ghost use Rattle.ept_las.specs.declared.header.Header as found;
 ghost use Rattle.ept_space.specs.declared.box3.Box3 as space;
-ghost use Rattle.ept_build.specs.Gains.{SameButBuild};
+ghost use Rattle.ept_save.specs.Sound.{IsSound};
+ghost use Rattle.ept_build.specs.Building.{BeginsWith};
 ghost use Rattle.ept_tool.specs.declared.refusal.Refusal as cause;
 ghost use Rattle.ept_tool.specs.Words.{bytes_of, IsBuild, IsInfo, IsQuery, IsUsage, IsLater};
-ghost use Rattle.ept_tool.specs.Requests.{IsAcceptedAt, HasHeader, IsDefinite};
-ghost use Rattle.ept_tool.specs.Answers.{Yields, YieldsRefusal, AsksBuild, AsksInfo, AsksQuery, Ends, IsRefused, Refuses, IsCut};
+ghost use Rattle.ept_tool.specs.Requests.{IsAcceptedAt, IsDoneAt, HasHeader, IsDefinite};
+ghost use Rattle.ept_tool.specs.Answers.{Yields, YieldsRefusal, AsksBuild, AsksInfo, AsksQuery, Ends, IsFaulty, Refuses, IsCut};
 ghost use Rattle.ept_tool.specs.Queries.{EndsQuery};
 
 use crate::answers::{finish, refuse_usage};
@@ -44,8 +45,8 @@ pub fn run<H: Shelf, T: Store, R: Room, O: Sink, G: Gate + Sync>(
 where
     H::Source: Send,
     R::File: Send,
-    // The statuses: 0 done, 2 no command, 3 the configuration, 4 a scan, 5 too many, 6 no complete dataset,
-    // 7 a device, 8 a damaged file, 9 memory, 10 a later command.
+    // The statuses: 0 done, 2 no command, 3 the configuration, 4 a scan, 5 too many, 6 another configuration or no
+    // complete dataset, 7 a device, 8 a damaged file, 9 memory, 10 a later command.
 
     // Words that are no command, and nothing else, are faulty; a later command, and nothing else, is put off.
     ensures usage { (result ≡ 2) ↔ IsUsage (bytes_of words.now) }
@@ -53,15 +54,24 @@ where
 
     // What is done.
     ensures done { result ≡ 0
-        → Ends (bytes_of words.now) (H.files shelf.old) (T.files store.old) (T.files store.new)
+        → Ends (bytes_of words.now) (H.files shelf.old)
+        (BeginsWith (H.files shelf.old) (T.files store.old) (T.may_leave store.old)) (T.files store.new)
         (Appends (O.written out.old) (O.written out.new)) ⊎ AsksQuery (bytes_of words.now) }
     ensures settled { (config folder : List ℕ) → IsBuild (bytes_of words.now) config folder
         → result ≡ 0 → IsSettled (T.files store.new) (T.may_leave store.new) }
-    ensures build_comes { Tells (λ all. AsksBuild (bytes_of words.now) (IsAcceptedAt all) → Yields 0 result)
-        (H.files shelf.old) }
+    ensures build_comes { (all start : Files) → BeginsWith (H.files shelf.old) (T.files store.old) (T.may_leave store.old) all start
+        → AsksBuild (bytes_of words.now) (IsAcceptedAt all start) → Yields 0 result }
+    ensures done_already { (all start : Files) → BeginsWith (H.files shelf.old) (T.files store.old) (T.may_leave store.old) all start
+        → AsksBuild (bytes_of words.now) (IsDoneAt all start)
+        → Moves T.files T.may_leave T.moment T.image_since SameFiles store.old store.new }
     ensures info_comes { Tells (λ all. (header : found.Header)
         → AsksInfo (bytes_of words.now) (λ path. HasHeader all path header) → Yields 0 result)
         (H.files shelf.old) }
+
+    // Whatever a build answers and whenever it stops, each image that is left is sound.
+    ensures sound { (config folder : List ℕ) → IsBuild (bytes_of words.now) config folder
+        → (all start : Files) → BeginsWith (H.files shelf.old) (T.files store.old) (T.may_leave store.old) all start
+        → Moves T.files T.may_leave T.moment T.image_since (λ (a b : Files). IsSound all b) store.old store.new }
 
     // A query ends as the query of its area and depths does, and leaves the store as it was.
     ensures query { (folder : List ℕ) (area : space.Box3) (first last : ℕ) → IsQuery (bytes_of words.now) folder area first last
@@ -72,15 +82,17 @@ where
 
     // Each other refusal has its cause and its line, but where the line of a command that is carried out is cut.
     ensures refused { result ≢ 0 → result ≢ 10
-        → Refuses (bytes_of words.now) (H.files shelf.old) result
+        → Refuses (bytes_of words.now) (H.files shelf.old)
+        (BeginsWith (H.files shelf.old) (T.files store.old) (T.may_leave store.old)) result
         (Rose (H.faults shelf.old) (H.faults shelf.new)) (Rose (T.faults store.old) (T.faults store.new))
         (Rose (O.faults out.old) (O.faults out.new)) (O.written out.old) (O.written out.new)
-        (store.new ≡ store.old)
-        ⊎ IsCut (bytes_of words.now) (H.files shelf.old) result (T.files store.old) (T.files store.new)
+        (Moves T.files T.may_leave T.moment T.image_since SameFiles store.old store.new)
+        ⊎ IsCut (bytes_of words.now) (H.files shelf.old)
+        (BeginsWith (H.files shelf.old) (T.files store.old) (T.may_leave store.old)) result (T.files store.new)
         (Rose (O.faults out.old) (O.faults out.new)) (O.written out.old) (O.written out.new)
         ⊎ AsksQuery (bytes_of words.now) }
     ensures refusal_comes { Tells (λ all. (r : cause.Refusal) → IsDefinite r
-        → IsRefused (bytes_of words.now) all r
+        → IsFaulty (bytes_of words.now) all r
         → YieldsRefusal r result (O.written out.old) (O.written out.new)
         (Rose (O.faults out.old) (O.faults out.new))) (H.files shelf.old) }
     ensures fault { result ≡ 7 → Rose (H.faults shelf.old) (H.faults shelf.new)
@@ -88,11 +100,9 @@ where
 
     // What stays as it was.
     ensures silent { result ≡ 10 → (out.new ≡ out.old) × (store.new ≡ store.old) }
-    ensures puts_accepted { (store.new ≡ store.old)
-        ⊎ Tells (λ all. AsksBuild (bytes_of words.now) (IsAcceptedAt all)) (H.files shelf.old)
-        ⊎ AsksQuery (bytes_of words.now) }
+    ensures others_put_nothing { AsksBuild (bytes_of words.now) (λ _. ⊤)
+        ⊎ Moves T.files T.may_leave T.moment T.image_since SameFiles store.old store.new }
     ensures info_puts_nothing { (las : List ℕ) → IsInfo (bytes_of words.now) las → store.new ≡ store.old }
-    ensures any_moment { Moves T.files T.may_leave T.moment T.image_since SameButBuild store.old store.new }
     ensures files { H.files shelf.new ≡ H.files shelf.old }
     ensures room { room.new ≡ room.old }
 {

@@ -14,6 +14,9 @@ pub(crate) enum Told<'a> {
     Changed { at: Record<'a> },
     Points { at: Record<'a> },
     Nodes,
+    Differs { field: &'a str },
+    Checkpoint { letter: &'a str },
+    Tile { key: &'a str },
     Source,
     Store,
     Memory,
@@ -71,6 +74,9 @@ pub(crate) fn read_line(line: &str) -> Option<Told<'_>> {
             at: record_of(rest)?,
         }),
         "nodes" => Some(Told::Nodes),
+        "differs" => Some(Told::Differs { field: rest }),
+        "checkpoint" => Some(Told::Checkpoint { letter: rest }),
+        "tile" => Some(Told::Tile { key: rest }),
         "source" => Some(Told::Source),
         "store" => Some(Told::Store),
         "memory" => Some(Told::Memory),
@@ -107,6 +113,13 @@ pub(crate) fn sentence(
         Told::Points { .. } => format!(in alloc; "{input} states more than 4294967295 points"),
         Told::Nodes => {
             format!(in alloc; "the octree has more nodes than `maxNodes` of {config} allows")
+        }
+        Told::Differs { field } => of_difference(alloc, field, names),
+        Told::Checkpoint { letter } => {
+            format!(in alloc; "`ept-work/body-{letter}` in {out} is absent or damaged")
+        }
+        Told::Tile { key } => {
+            format!(in alloc; "the saved tile of {key} in {out} is absent or damaged")
         }
         Told::Source => format!(in alloc; "{} could not be opened or read", names.unread),
         Told::Store => format!(in alloc; "a file of {out} could not be written or flushed"),
@@ -191,6 +204,16 @@ fn of_bounds(alloc: Global, number: &str, names: &Names<'_>) -> Result<String, A
         format!(in alloc;
             "record {number} of {input} has a stored coordinate that 32 bits do not hold"
         )
+    }
+}
+
+// Of a configuration that is not that of the folder.
+fn of_difference(alloc: Global, field: &str, names: &Names<'_>) -> Result<String, AllocError> {
+    let Names { config, out, .. } = *names;
+    if field == "input" {
+        format!(in alloc; "the inputs of {config} do not begin with those that {out} was built with")
+    } else {
+        format!(in alloc; "{out} was built with another `{field}` than that of {config}")
     }
 }
 

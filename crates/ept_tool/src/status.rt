@@ -18,10 +18,13 @@ pub const TOO_MANY: u8 = 5;
 /// The folder of a query has no complete dataset.
 pub const NOT_COMPLETE: u8 = 6;
 
+/// The folder of a build was built with another configuration.
+pub const DIFFERS: u8 = 6;
+
 /// A device failed: the shelf, the store or the sink.
 pub const DEVICE: u8 = 7;
 
-/// A file of the dataset is absent, or not of its form.
+/// A file of the dataset, or a checkpoint of a build, is absent, or not of its form.
 pub const DAMAGED: u8 = 8;
 
 /// There was no memory.

@@ -1,49 +1,59 @@
-use Rattle.std.proofs.Common.{◌≡◌, ◌⊎◌, Err, sym, subst, ap, ◌∙◌}
-use Rattle.std.specs.Prelude.{Result, IsOk}
-use Rattle.ept_base.specs.Files.{Tells}
+use Rattle.std.proofs.Common.{◌≡◌, ◌⊎◌, Err, Ok, sym, subst, ap, ◌∙◌}
+use Rattle.std.specs.Prelude.{Result, IsOk, IfErr}
+use Rattle.ept_base.specs.Files.{Files, SameFiles, Tells}
+use Rattle.ept_base.specs.Moves.{Moves}
+use Rattle.ept_save.specs.Sound.{IsSound}
+use Rattle.ept_build.specs.declared.error.BuildError.{BuildError}
 use Rattle.ept_build.specs.declared.summary.Summary.{Summary}
+use Rattle.ept_build.specs.Building.{BeginsWith}
+use Rattle.ept_build.specs.Building as building
 use Rattle.ept_tool.specs.declared.refusal.Refusal.{Refusal}
-use Rattle.ept_tool.specs.Requests.{BuildIsRefused, IsAcceptedAt, IsDefinite, Fails}
-use Rattle.ept_tool.proofs.Refused.{build_refused, build_comes, build_accepted, built_at, accepted_at, told_as}
+use Rattle.ept_tool.specs.Requests.{BuildIsRefused, IsAcceptedAt, IsEarly, Fails}
+use Rattle.ept_tool.proofs.Refused.{build_refused, build_comes, build_accepted, built_at, begun, begun_done, early_as, told_as, stays_sound}
 use Rattle.ept_tool.proofs.commands.carry_out_build.Goals as goal
 
 pub returns-in-Ok-clause-built : goal.returns-in-Ok-clause-built
 returns-in-Ok-clause-built g c =
-    built_at (g.H.Shelf.files c.args.shelf.now) (g.H.Shelf.files c.read_configuration.new.shelf) c.read_configuration.ensures.files c.args.path.now c.in_ok-config.config c.in_ok-config.ensures.ok
-    c.in-Ok.summary (g.T.Store.files c.args.store.now) (g.T.Store.files c.build.new.store) c.in-Ok.ensures.built
+    built_at (g.H.Shelf.files c.args.shelf.now) (g.H.Shelf.files c.read_configuration.new.shelf) c.read_configuration.ensures.files c.args.path.now c.in_ok-config.config c.in_ok-config.ensures.ok (g.T.Store.files c.args.store.now) (g.T.Store.may_leave c.args.store.now) c.build.result c.in-Ok.summary (g.T.Store.files c.build.new.store) c.in-Ok.is c.build.ensures.built
 
 pub returns-in-Ok-clause-refusal_comes : goal.returns-in-Ok-clause-refusal_comes
 returns-in-Ok-clause-refusal_comes g c =
-    let files = g.H.Shelf.files c.args.shelf.now in
-    let comes = build_comes files (g.H.Shelf.files c.read_configuration.new.shelf) c.read_configuration.ensures.files c.args.path.now c.in_ok-config.config c.in_ok-config.ensures.ok c.build.result c.build.ensures.refusal_comes in
-    subst (λ (a : Result Summary Refusal). Tells (λ all. (r : Refusal) → IsDefinite r → BuildIsRefused all c.args.path.now r → (a ≡ Err r) ⊎ Fails a) files) (ap told_as c.in-Ok.is) comes
+    build_comes (g.H.Shelf.files c.args.shelf.now) (g.H.Shelf.files c.read_configuration.new.shelf) c.read_configuration.ensures.files c.args.path.now c.in_ok-config.config c.in_ok-config.ensures.ok (g.T.Store.files c.args.store.now) (g.T.Store.may_leave c.args.store.now) (Ok c.in-Ok.summary)
+
+pub returns-in-Ok-clause-sound : goal.returns-in-Ok-clause-sound
+returns-in-Ok-clause-sound g c =
+    begun (g.H.Shelf.files c.args.shelf.now) (g.H.Shelf.files c.read_configuration.new.shelf) c.read_configuration.ensures.files c.args.path.now c.in_ok-config.config c.in_ok-config.ensures.ok (g.T.Store.files c.args.store.now) (g.T.Store.may_leave c.args.store.now) {M = (λ (all : Files). Moves g.T.Store.files g.T.Store.may_leave g.T.Store.moment g.T.Store.image_since (λ (a b : Files). IsSound all b) c.args.store.now c.build.new.store)} c.build.ensures.sound
+
+pub returns-in-Ok-clause-done_already : goal.returns-in-Ok-clause-done_already
+returns-in-Ok-clause-done_already g c =
+    begun_done (g.H.Shelf.files c.args.shelf.now) (g.H.Shelf.files c.read_configuration.new.shelf) c.read_configuration.ensures.files c.args.path.now c.in_ok-config.config c.in_ok-config.ensures.ok (g.T.Store.files c.args.store.now) (g.T.Store.may_leave c.args.store.now) {M = (Moves g.T.Store.files g.T.Store.may_leave g.T.Store.moment g.T.Store.image_since SameFiles c.args.store.now c.build.new.store)} c.build.ensures.done_already
 
 pub returns-clause-refused : goal.returns-clause-refused
 returns-clause-refused g c =
-    let files = g.H.Shelf.files c.args.shelf.now in
-    let refused = build_refused files (g.H.Shelf.files c.read_configuration.new.shelf) c.read_configuration.ensures.files c.args.path.now c.in_ok-config.config c.in_ok-config.ensures.ok c.in-Err.error c.in-Err.ensures.refused in
-    subst (λ (r : Refusal). Tells (λ all. BuildIsRefused all c.args.path.now r) files) (sym c.from.ensures) refused
+    subst (λ (r : Refusal). Tells (λ all. BuildIsRefused all (BeginsWith (g.H.Shelf.files c.args.shelf.now) (g.T.Store.files c.args.store.now) (g.T.Store.may_leave c.args.store.now)) c.args.path.now r) (g.H.Shelf.files c.args.shelf.now)) (sym c.from.ensures)
+    (build_refused (g.H.Shelf.files c.args.shelf.now) (g.H.Shelf.files c.read_configuration.new.shelf) c.read_configuration.ensures.files c.args.path.now c.in_ok-config.config c.in_ok-config.ensures.ok (g.T.Store.files c.args.store.now) (g.T.Store.may_leave c.args.store.now) c.build.result c.in-Err.error c.in-Err.is c.build.ensures.refused)
 
 pub returns-clause-refusal_comes : goal.returns-clause-refusal_comes
 returns-clause-refusal_comes g c =
-    let files = g.H.Shelf.files c.args.shelf.now in
-    let comes = build_comes files (g.H.Shelf.files c.read_configuration.new.shelf) c.read_configuration.ensures.files c.args.path.now c.in_ok-config.config c.in_ok-config.ensures.ok c.build.result c.build.ensures.refusal_comes in
-    subst (λ (a : Result Summary Refusal). Tells (λ all. (r : Refusal) → IsDefinite r → BuildIsRefused all c.args.path.now r → (a ≡ Err r) ⊎ Fails a) files)
-    (ap told_as c.in-Err.is ∙ ap Err (sym c.from.ensures)) comes
+    build_comes (g.H.Shelf.files c.args.shelf.now) (g.H.Shelf.files c.read_configuration.new.shelf) c.read_configuration.ensures.files c.args.path.now c.in_ok-config.config c.in_ok-config.ensures.ok (g.T.Store.files c.args.store.now) (g.T.Store.may_leave c.args.store.now) (Err c.from.result)
 
 pub returns-clause-accepted : goal.returns-clause-accepted
 returns-clause-accepted g c =
-    let files = g.H.Shelf.files c.args.shelf.now in
-    let accepted = build_accepted files (g.H.Shelf.files c.read_configuration.new.shelf) c.read_configuration.ensures.files c.args.path.now c.in_ok-config.config c.in_ok-config.ensures.ok c.build.result c.build.ensures.accepted in
-    subst (λ (a : Result Summary Refusal). Tells (λ all. IsAcceptedAt all c.args.path.now → IsOk a ⊎ Fails a) files)
-    (ap told_as c.in-Err.is ∙ ap Err (sym c.from.ensures)) accepted
+    λ all start begins asked. subst (λ (a : Result Summary Refusal). IsOk a ⊎ Fails a) (ap told_as c.in-Err.is ∙ ap Err (sym c.from.ensures))
+    (build_accepted (g.H.Shelf.files c.args.shelf.now) (g.H.Shelf.files c.read_configuration.new.shelf) c.read_configuration.ensures.files c.args.path.now c.in_ok-config.config c.in_ok-config.ensures.ok (g.T.Store.files c.args.store.now) (g.T.Store.may_leave c.args.store.now) c.build.result c.build.ensures.accepted all start begins asked)
 
-pub returns-in-Ok-clause-puts_accepted : goal.returns-in-Ok-clause-puts_accepted
-returns-in-Ok-clause-puts_accepted g c =
-    accepted_at (g.H.Shelf.files c.args.shelf.now) (g.H.Shelf.files c.read_configuration.new.shelf) c.read_configuration.ensures.files c.args.path.now c.in_ok-config.config c.in_ok-config.ensures.ok
-    (c.build.new.store ≡ c.args.store.now) c.build.ensures.puts_accepted
+pub returns-clause-sound : goal.returns-clause-sound
+returns-clause-sound g c =
+    begun (g.H.Shelf.files c.args.shelf.now) (g.H.Shelf.files c.read_configuration.new.shelf) c.read_configuration.ensures.files c.args.path.now c.in_ok-config.config c.in_ok-config.ensures.ok (g.T.Store.files c.args.store.now) (g.T.Store.may_leave c.args.store.now) {M = (λ (all : Files). Moves g.T.Store.files g.T.Store.may_leave g.T.Store.moment g.T.Store.image_since (λ (a b : Files). IsSound all b) c.args.store.now c.build.new.store)} c.build.ensures.sound
 
-pub returns-clause-puts_accepted : goal.returns-clause-puts_accepted
-returns-clause-puts_accepted g c =
-    accepted_at (g.H.Shelf.files c.args.shelf.now) (g.H.Shelf.files c.read_configuration.new.shelf) c.read_configuration.ensures.files c.args.path.now c.in_ok-config.config c.in_ok-config.ensures.ok
-    (c.build.new.store ≡ c.args.store.now) c.build.ensures.puts_accepted
+pub returns-clause-done_already : goal.returns-clause-done_already
+returns-clause-done_already g c =
+    begun_done (g.H.Shelf.files c.args.shelf.now) (g.H.Shelf.files c.read_configuration.new.shelf) c.read_configuration.ensures.files c.args.path.now c.in_ok-config.config c.in_ok-config.ensures.ok (g.T.Store.files c.args.store.now) (g.T.Store.may_leave c.args.store.now) {M = (Moves g.T.Store.files g.T.Store.may_leave g.T.Store.moment g.T.Store.image_since SameFiles c.args.store.now c.build.new.store)} c.build.ensures.done_already
+
+pub returns-clause-early : goal.returns-clause-early
+returns-clause-early g c =
+    λ early. subst (λ (a : Result Summary BuildError). IfErr a (λ e. building.IsEarly e → (Moves g.T.Store.files g.T.Store.may_leave g.T.Store.moment g.T.Store.image_since SameFiles c.args.store.now c.build.new.store))) c.in-Err.is c.build.ensures.early (early_as c.in-Err.error (subst IsEarly c.from.ensures early))
+
+pub returns-in_err-config-clause-sound : goal.returns-in_err-config-clause-sound
+returns-in_err-config-clause-sound g c =
+    stays_sound g.T.Store.files g.T.Store.may_leave g.T.Store.moment g.T.Store.image_since c.sound_steps_law.ensures.same (g.H.Shelf.files c.args.shelf.now) c.args.store.now

@@ -3,7 +3,7 @@ use Rattle.ept_base.specs.Files.{Tells}
 use Rattle.ept_config.specs.Configuration.{reading}
 use Rattle.ept_config.specs.Facts.{facts}
 use Rattle.ept_config.specs.declared.config_error.ConfigError.TheVariants.{Memory}
-use Rattle.ept_tool.specs.Requests.{BuildIsRefused}
+use Rattle.ept_tool.specs.Requests.{ConfigurationIsRefused}
 use Rattle.ept_tool.specs.declared.refusal.Refusal.{Refusal}
 use Rattle.ept_tool.proofs.Fronts.{configuration_read, configuration_refused}
 use Rattle.ept_tool.proofs.files.read_configuration.Goals as goal
@@ -17,4 +17,4 @@ pub returns-clause-refused : goal.returns-clause-refused
 returns-clause-refused g c =
     let told = configuration_refused (g.H.Shelf.files c.args.shelf.now) c.args.path.now c.in_ok-text.text.items c.in-Err.error c.in_ok-text.ensures.front
     (subst (λ (l : List ℕ). c.in-Err.error ≢ Memory → reading l ≡ Err c.in-Err.error) c.deref.ensures.value c.in-Err.ensures.refused) in
-    subst (λ (r : Refusal). Tells (λ all. BuildIsRefused all c.args.path.now r) (g.H.Shelf.files c.args.shelf.now)) (sym c.from.ensures) told
+    subst (λ (r : Refusal). Tells (λ all. ConfigurationIsRefused all c.args.path.now r) (g.H.Shelf.files c.args.shelf.now)) (sym c.from.ensures) told

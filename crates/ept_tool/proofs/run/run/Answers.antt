@@ -1,25 +1,27 @@
-use Rattle.std.proofs.Common.{◌≡◌, map, string_bytes, refl, inl, inr}
+use Rattle.std.proofs.Common.{map, string_bytes, refl, sym, inl, inr}
 use Rattle.ept_base.specs.Causes.{Rose}
 use Rattle.ept_las.specs.declared.header.Header.{Header}
 use Rattle.ept_tool.specs.declared.refusal.Refusal.{Refusal}
-use Rattle.ept_tool.specs.Requests.{IsAcceptedAt, HasHeader, IsDefinite}
-use Rattle.ept_tool.specs.Answers.{Yields, YieldsRefusal, AsksBuild, AsksInfo, IsRefused}
-use Rattle.ept_tool.proofs.Runs.{Carries, never_usage, never_later, is_done, has_risen, is_refused, refusal_yields, done_yields, info_yields, usage_comes, usage_yields}
-use Rattle.ept_tool.proofs.Asked.{told_always, build_or_info, build_carries, build_accepted, build_puts, info_carries, info_accepted}
-use Rattle.ept_build.specs.Gains.{SameButBuild}
+use Rattle.ept_tool.specs.declared.refusal.Refusal.TheVariants.{Usage}
+use Rattle.ept_tool.specs.Requests.{IsAcceptedAt, IsDoneAt, HasHeader, IsDefinite}
+use Rattle.ept_tool.specs.Answers.{Yields, YieldsRefusal, AsksInfo, IsFaulty, IsRefused}
+use Rattle.ept_tool.proofs.Runs.{Carries, never_usage, never_later, is_done, has_risen, is_refused, refusal_yields, accepted_yields, info_yields, usage_yields}
+use Rattle.ept_tool.proofs.Asked.{told_always, of_build, build_or_info, build_carries, info_carries, info_accepted}
+use Rattle.ept_build.specs.Building.{BeginsWith}
 use Rattle.ept_base.specs.Files.{SameFiles}
-use Rattle.ept_base.proofs.Moving.{moves_weaker}
-use Rattle.ept_tool.proofs.Queried.{query_or_build, query_or_info, query_or_later, query_asked, query_unrefused, query_unbuilt, query_untold, query_ends, query_not_usage, query_not_later, query_rose, first_two}
+use Rattle.ept_base.specs.Moves.{Moves}
+use Rattle.ept_tool.proofs.Refused.{stays}
+use Rattle.ept_tool.proofs.Queried.{query_or_build, query_or_info, query_or_later, query_asked, query_unrefused, build_or_later, query_untold, query_ends, query_not_usage, query_not_later, query_rose, first_two}
 use Rattle.ept_tool.proofs.run.run.Given as given
 use Rattle.ept_tool.proofs.run.run.Goals as goal
 
 -- ---- build
 
-build_known : (g : given.Over) (c : goal.After-finish g) → Carries (map string_bytes c.args.words.now) (g.H.Shelf.files c.args.shelf.now) (g.T.Store.files c.args.store.now) (g.T.Store.files c.build_line-line.new.store) (Rose (g.H.Shelf.faults c.args.shelf.now) (g.H.Shelf.faults c.build_line-line.new.shelf)) (Rose (g.T.Store.faults c.args.store.now) (g.T.Store.faults c.build_line-line.new.store)) (c.build_line-line.new.store ≡ c.args.store.now) c.build_line-line.result
+build_known : (g : given.Over) (c : goal.After-finish g) → Carries (map string_bytes c.args.words.now) (g.H.Shelf.files c.args.shelf.now) (BeginsWith (g.H.Shelf.files c.args.shelf.now) (g.T.Store.files c.args.store.now) (g.T.Store.may_leave c.args.store.now)) (g.T.Store.files c.build_line-line.new.store) (Rose (g.H.Shelf.faults c.args.shelf.now) (g.H.Shelf.faults c.build_line-line.new.shelf)) (Rose (g.T.Store.faults c.args.store.now) (g.T.Store.faults c.build_line-line.new.store)) (Moves g.T.Store.files g.T.Store.may_leave g.T.Store.moment g.T.Store.image_since SameFiles c.args.store.now c.build_line-line.new.store) c.build_line-line.result
 build_known g c =
-    build_carries (map string_bytes c.args.words.now) c.in-Build.config.now c.in-Build.out.now c.in-Build.ensures c.build_line-line.result (g.H.Shelf.files c.args.shelf.now) (g.T.Store.files c.args.store.now) (g.T.Store.files c.build_line-line.new.store) (Rose (g.H.Shelf.faults c.args.shelf.now) (g.H.Shelf.faults c.build_line-line.new.shelf)) (Rose (g.T.Store.faults c.args.store.now) (g.T.Store.faults c.build_line-line.new.store)) (c.build_line-line.new.store ≡ c.args.store.now)
+    build_carries (map string_bytes c.args.words.now) c.in-Build.config.now c.in-Build.out.now c.in-Build.ensures c.build_line-line.result (g.H.Shelf.files c.args.shelf.now) (BeginsWith (g.H.Shelf.files c.args.shelf.now) (g.T.Store.files c.args.store.now) (g.T.Store.may_leave c.args.store.now)) (g.T.Store.files c.build_line-line.new.store) (Rose (g.H.Shelf.faults c.args.shelf.now) (g.H.Shelf.faults c.build_line-line.new.shelf)) (Rose (g.T.Store.faults c.args.store.now) (g.T.Store.faults c.build_line-line.new.store)) (Moves g.T.Store.files g.T.Store.may_leave g.T.Store.moment g.T.Store.image_since SameFiles c.args.store.now c.build_line-line.new.store)
     c.build_line-line.ensures.said c.build_line-line.ensures.built c.build_line-line.ensures.causes c.build_line-line.ensures.refused c.build_line-line.ensures.sources.failed c.build_line-line.ensures.stores.failed
-    c.build_line-line.ensures.untouched c.build_line-line.ensures.refusal_comes
+    c.build_line-line.ensures.early c.build_line-line.ensures.refusal_comes
 
 pub returns-in-Build-clause-usage : goal.returns-in-Build-clause-usage
 returns-in-Build-clause-usage g c = (
@@ -28,35 +30,42 @@ returns-in-Build-clause-usage g c = (
 )
 
 pub returns-in-Build-clause-done : goal.returns-in-Build-clause-done
-returns-in-Build-clause-done g c = λ ok. inl (is_done c.finish.result (g.O.Sink.written c.args.out.now) (g.O.Sink.written c.finish.new.out) (Rose (g.O.Sink.faults c.args.out.now) (g.O.Sink.faults c.finish.new.out)) (map string_bytes c.args.words.now) (g.H.Shelf.files c.args.shelf.now) (g.T.Store.files c.args.store.now) (g.T.Store.files c.build_line-line.new.store) (Rose (g.H.Shelf.faults c.args.shelf.now) (g.H.Shelf.faults c.build_line-line.new.shelf)) (Rose (g.T.Store.faults c.args.store.now) (g.T.Store.faults c.build_line-line.new.store)) (c.build_line-line.new.store ≡ c.args.store.now) c.build_line-line.result (build_known g c) c.finish.ensures ok)
+returns-in-Build-clause-done g c = λ ok. inl (is_done c.finish.result (g.O.Sink.written c.args.out.now) (g.O.Sink.written c.finish.new.out) (Rose (g.O.Sink.faults c.args.out.now) (g.O.Sink.faults c.finish.new.out)) (map string_bytes c.args.words.now) (g.H.Shelf.files c.args.shelf.now) (BeginsWith (g.H.Shelf.files c.args.shelf.now) (g.T.Store.files c.args.store.now) (g.T.Store.may_leave c.args.store.now)) (g.T.Store.files c.build_line-line.new.store) (Rose (g.H.Shelf.faults c.args.shelf.now) (g.H.Shelf.faults c.build_line-line.new.shelf)) (Rose (g.T.Store.faults c.args.store.now) (g.T.Store.faults c.build_line-line.new.store)) (Moves g.T.Store.files g.T.Store.may_leave g.T.Store.moment g.T.Store.image_since SameFiles c.args.store.now c.build_line-line.new.store) c.build_line-line.result (build_known g c) c.finish.ensures ok)
 
 pub returns-in-Build-clause-refused : goal.returns-in-Build-clause-refused
-returns-in-Build-clause-refused g c = λ not_ok not_later. first_two (is_refused c.finish.result (g.O.Sink.written c.args.out.now) (g.O.Sink.written c.finish.new.out) (Rose (g.O.Sink.faults c.args.out.now) (g.O.Sink.faults c.finish.new.out)) (map string_bytes c.args.words.now) (g.H.Shelf.files c.args.shelf.now) (g.T.Store.files c.args.store.now) (g.T.Store.files c.build_line-line.new.store) (Rose (g.H.Shelf.faults c.args.shelf.now) (g.H.Shelf.faults c.build_line-line.new.shelf)) (Rose (g.T.Store.faults c.args.store.now) (g.T.Store.faults c.build_line-line.new.store)) (c.build_line-line.new.store ≡ c.args.store.now) c.build_line-line.result (build_known g c) c.finish.ensures not_ok)
+returns-in-Build-clause-refused g c = λ not_ok not_later. first_two (is_refused c.finish.result (g.O.Sink.written c.args.out.now) (g.O.Sink.written c.finish.new.out) (Rose (g.O.Sink.faults c.args.out.now) (g.O.Sink.faults c.finish.new.out)) (map string_bytes c.args.words.now) (g.H.Shelf.files c.args.shelf.now) (BeginsWith (g.H.Shelf.files c.args.shelf.now) (g.T.Store.files c.args.store.now) (g.T.Store.may_leave c.args.store.now)) (g.T.Store.files c.build_line-line.new.store) (Rose (g.H.Shelf.faults c.args.shelf.now) (g.H.Shelf.faults c.build_line-line.new.shelf)) (Rose (g.T.Store.faults c.args.store.now) (g.T.Store.faults c.build_line-line.new.store)) (Moves g.T.Store.files g.T.Store.may_leave g.T.Store.moment g.T.Store.image_since SameFiles c.args.store.now c.build_line-line.new.store) c.build_line-line.result (build_known g c) c.finish.ensures not_ok)
 
 pub returns-in-Build-clause-fault : goal.returns-in-Build-clause-fault
 returns-in-Build-clause-fault g c =
-    has_risen c.finish.result (g.O.Sink.written c.args.out.now) (g.O.Sink.written c.finish.new.out) (Rose (g.O.Sink.faults c.args.out.now) (g.O.Sink.faults c.finish.new.out)) (map string_bytes c.args.words.now) (g.H.Shelf.files c.args.shelf.now) (g.T.Store.files c.args.store.now) (g.T.Store.files c.build_line-line.new.store) (Rose (g.H.Shelf.faults c.args.shelf.now) (g.H.Shelf.faults c.build_line-line.new.shelf)) (Rose (g.T.Store.faults c.args.store.now) (g.T.Store.faults c.build_line-line.new.store)) (c.build_line-line.new.store ≡ c.args.store.now) c.build_line-line.result (build_known g c) c.finish.ensures
+    has_risen c.finish.result (g.O.Sink.written c.args.out.now) (g.O.Sink.written c.finish.new.out) (Rose (g.O.Sink.faults c.args.out.now) (g.O.Sink.faults c.finish.new.out)) (map string_bytes c.args.words.now) (g.H.Shelf.files c.args.shelf.now) (BeginsWith (g.H.Shelf.files c.args.shelf.now) (g.T.Store.files c.args.store.now) (g.T.Store.may_leave c.args.store.now)) (g.T.Store.files c.build_line-line.new.store) (Rose (g.H.Shelf.faults c.args.shelf.now) (g.H.Shelf.faults c.build_line-line.new.shelf)) (Rose (g.T.Store.faults c.args.store.now) (g.T.Store.faults c.build_line-line.new.store)) (Moves g.T.Store.files g.T.Store.may_leave g.T.Store.moment g.T.Store.image_since SameFiles c.args.store.now c.build_line-line.new.store) c.build_line-line.result (build_known g c) c.finish.ensures
 
 pub returns-in-Build-clause-refusal_comes : goal.returns-in-Build-clause-refusal_comes
 returns-in-Build-clause-refusal_comes g c =
-    refusal_yields c.finish.result (g.O.Sink.written c.args.out.now) (g.O.Sink.written c.finish.new.out) (Rose (g.O.Sink.faults c.args.out.now) (g.O.Sink.faults c.finish.new.out)) c.build_line-line.result (g.H.Shelf.files c.args.shelf.now) (λ all r. IsRefused (map string_bytes c.args.words.now) all r) c.finish.ensures (build_known g c).comes
+    refusal_yields c.finish.result (g.O.Sink.written c.args.out.now) (g.O.Sink.written c.finish.new.out) (Rose (g.O.Sink.faults c.args.out.now) (g.O.Sink.faults c.finish.new.out)) c.build_line-line.result (g.H.Shelf.files c.args.shelf.now) (λ all r. IsFaulty (map string_bytes c.args.words.now) all r) c.finish.ensures (build_known g c).comes
 
 pub returns-in-Build-clause-silent : goal.returns-in-Build-clause-silent
 returns-in-Build-clause-silent g c = λ is. absurd (never_later c.finish.result (g.O.Sink.written c.args.out.now) (g.O.Sink.written c.finish.new.out) (Rose (g.O.Sink.faults c.args.out.now) (g.O.Sink.faults c.finish.new.out)) c.build_line-line.result c.finish.ensures is)
 
 pub returns-in-Build-clause-build_comes : goal.returns-in-Build-clause-build_comes
-returns-in-Build-clause-build_comes g c =
-    done_yields c.finish.result (g.O.Sink.written c.args.out.now) (g.O.Sink.written c.finish.new.out) (Rose (g.O.Sink.faults c.args.out.now) (g.O.Sink.faults c.finish.new.out)) c.build_line-line.result (g.H.Shelf.files c.args.shelf.now) (λ all. AsksBuild (map string_bytes c.args.words.now) (IsAcceptedAt all)) c.finish.ensures
-    (build_accepted (map string_bytes c.args.words.now) c.in-Build.config.now c.in-Build.out.now c.in-Build.ensures c.build_line-line.result (g.H.Shelf.files c.args.shelf.now) c.build_line-line.ensures.accepted)
+returns-in-Build-clause-build_comes g c = λ all start begins asks.
+    accepted_yields c.finish.result (g.O.Sink.written c.args.out.now) (g.O.Sink.written c.finish.new.out) (Rose (g.O.Sink.faults c.args.out.now) (g.O.Sink.faults c.finish.new.out)) c.build_line-line.result
+    (c.build_line-line.ensures.accepted all start begins (of_build (map string_bytes c.args.words.now) c.in-Build.config.now c.in-Build.out.now c.in-Build.ensures {P = IsAcceptedAt all start} asks)) c.finish.ensures
 
-pub returns-in-Build-clause-puts_accepted : goal.returns-in-Build-clause-puts_accepted
-returns-in-Build-clause-puts_accepted g c = first_two (build_puts (map string_bytes c.args.words.now) c.in-Build.config.now c.in-Build.out.now c.in-Build.ensures (g.H.Shelf.files c.args.shelf.now) (c.build_line-line.new.store ≡ c.args.store.now) c.build_line-line.ensures.puts_accepted)
+pub returns-in-Build-clause-done_already : goal.returns-in-Build-clause-done_already
+returns-in-Build-clause-done_already g c = λ all start begins asks.
+    c.build_line-line.ensures.done_already all start begins (of_build (map string_bytes c.args.words.now) c.in-Build.config.now c.in-Build.out.now c.in-Build.ensures {P = IsDoneAt all start} asks)
+
+pub returns-in-Build-clause-others_put_nothing : goal.returns-in-Build-clause-others_put_nothing
+returns-in-Build-clause-others_put_nothing g c = inl (record { path = c.in-Build.config.now; out = c.in-Build.out.now; words_are = c.in-Build.ensures; holds = tt })
+
+pub returns-in-Build-clause-sound : goal.returns-in-Build-clause-sound
+returns-in-Build-clause-sound g c = λ config folder is. c.build_line-line.ensures.sound
 
 -- ---- info
 
-info_known : (g : given.Over) (c : goal.After-finish-in-Info g) → Carries (map string_bytes c.args.words.now) (g.H.Shelf.files c.args.shelf.now) (g.T.Store.files c.args.store.now) (g.T.Store.files c.args.store.now) (Rose (g.H.Shelf.faults c.args.shelf.now) (g.H.Shelf.faults c.info_line-line.new.shelf)) (Rose (g.T.Store.faults c.args.store.now) (g.T.Store.faults c.args.store.now)) (c.args.store.now ≡ c.args.store.now) c.info_line-line.result
+info_known : (g : given.Over) (c : goal.After-finish-in-Info g) → Carries (map string_bytes c.args.words.now) (g.H.Shelf.files c.args.shelf.now) (BeginsWith (g.H.Shelf.files c.args.shelf.now) (g.T.Store.files c.args.store.now) (g.T.Store.may_leave c.args.store.now)) (g.T.Store.files c.args.store.now) (Rose (g.H.Shelf.faults c.args.shelf.now) (g.H.Shelf.faults c.info_line-line.new.shelf)) (Rose (g.T.Store.faults c.args.store.now) (g.T.Store.faults c.args.store.now)) (Moves g.T.Store.files g.T.Store.may_leave g.T.Store.moment g.T.Store.image_since SameFiles c.args.store.now c.args.store.now) c.info_line-line.result
 info_known g c =
-    info_carries (map string_bytes c.args.words.now) c.in-Info.las.now c.in-Info.ensures c.info_line-line.result (g.H.Shelf.files c.args.shelf.now) (g.T.Store.files c.args.store.now) (g.T.Store.files c.args.store.now) (Rose (g.H.Shelf.faults c.args.shelf.now) (g.H.Shelf.faults c.info_line-line.new.shelf)) (Rose (g.T.Store.faults c.args.store.now) (g.T.Store.faults c.args.store.now)) (c.args.store.now ≡ c.args.store.now) refl
+    info_carries (map string_bytes c.args.words.now) c.in-Info.las.now c.in-Info.ensures c.info_line-line.result (g.H.Shelf.files c.args.shelf.now) (BeginsWith (g.H.Shelf.files c.args.shelf.now) (g.T.Store.files c.args.store.now) (g.T.Store.may_leave c.args.store.now)) (g.T.Store.files c.args.store.now) (Rose (g.H.Shelf.faults c.args.shelf.now) (g.H.Shelf.faults c.info_line-line.new.shelf)) (Rose (g.T.Store.faults c.args.store.now) (g.T.Store.faults c.args.store.now)) (Moves g.T.Store.files g.T.Store.may_leave g.T.Store.moment g.T.Store.image_since SameFiles c.args.store.now c.args.store.now) (stays g.T.Store.files g.T.Store.may_leave g.T.Store.moment g.T.Store.image_since c.args.store.now)
     c.info_line-line.ensures.said c.info_line-line.ensures.told c.info_line-line.ensures.causes c.info_line-line.ensures.refused c.info_line-line.ensures.sources.failed c.info_line-line.ensures.refusal_comes
 
 pub returns-in-Info-clause-usage : goal.returns-in-Info-clause-usage
@@ -66,18 +75,18 @@ returns-in-Info-clause-usage g c = (
 )
 
 pub returns-in-Info-clause-done : goal.returns-in-Info-clause-done
-returns-in-Info-clause-done g c = λ ok. inl (is_done c.finish-in-Info.result (g.O.Sink.written c.args.out.now) (g.O.Sink.written c.finish-in-Info.new.out) (Rose (g.O.Sink.faults c.args.out.now) (g.O.Sink.faults c.finish-in-Info.new.out)) (map string_bytes c.args.words.now) (g.H.Shelf.files c.args.shelf.now) (g.T.Store.files c.args.store.now) (g.T.Store.files c.args.store.now) (Rose (g.H.Shelf.faults c.args.shelf.now) (g.H.Shelf.faults c.info_line-line.new.shelf)) (Rose (g.T.Store.faults c.args.store.now) (g.T.Store.faults c.args.store.now)) (c.args.store.now ≡ c.args.store.now) c.info_line-line.result (info_known g c) c.finish-in-Info.ensures ok)
+returns-in-Info-clause-done g c = λ ok. inl (is_done c.finish-in-Info.result (g.O.Sink.written c.args.out.now) (g.O.Sink.written c.finish-in-Info.new.out) (Rose (g.O.Sink.faults c.args.out.now) (g.O.Sink.faults c.finish-in-Info.new.out)) (map string_bytes c.args.words.now) (g.H.Shelf.files c.args.shelf.now) (BeginsWith (g.H.Shelf.files c.args.shelf.now) (g.T.Store.files c.args.store.now) (g.T.Store.may_leave c.args.store.now)) (g.T.Store.files c.args.store.now) (Rose (g.H.Shelf.faults c.args.shelf.now) (g.H.Shelf.faults c.info_line-line.new.shelf)) (Rose (g.T.Store.faults c.args.store.now) (g.T.Store.faults c.args.store.now)) (Moves g.T.Store.files g.T.Store.may_leave g.T.Store.moment g.T.Store.image_since SameFiles c.args.store.now c.args.store.now) c.info_line-line.result (info_known g c) c.finish-in-Info.ensures ok)
 
 pub returns-in-Info-clause-refused : goal.returns-in-Info-clause-refused
-returns-in-Info-clause-refused g c = λ not_ok not_later. first_two (is_refused c.finish-in-Info.result (g.O.Sink.written c.args.out.now) (g.O.Sink.written c.finish-in-Info.new.out) (Rose (g.O.Sink.faults c.args.out.now) (g.O.Sink.faults c.finish-in-Info.new.out)) (map string_bytes c.args.words.now) (g.H.Shelf.files c.args.shelf.now) (g.T.Store.files c.args.store.now) (g.T.Store.files c.args.store.now) (Rose (g.H.Shelf.faults c.args.shelf.now) (g.H.Shelf.faults c.info_line-line.new.shelf)) (Rose (g.T.Store.faults c.args.store.now) (g.T.Store.faults c.args.store.now)) (c.args.store.now ≡ c.args.store.now) c.info_line-line.result (info_known g c) c.finish-in-Info.ensures not_ok)
+returns-in-Info-clause-refused g c = λ not_ok not_later. first_two (is_refused c.finish-in-Info.result (g.O.Sink.written c.args.out.now) (g.O.Sink.written c.finish-in-Info.new.out) (Rose (g.O.Sink.faults c.args.out.now) (g.O.Sink.faults c.finish-in-Info.new.out)) (map string_bytes c.args.words.now) (g.H.Shelf.files c.args.shelf.now) (BeginsWith (g.H.Shelf.files c.args.shelf.now) (g.T.Store.files c.args.store.now) (g.T.Store.may_leave c.args.store.now)) (g.T.Store.files c.args.store.now) (Rose (g.H.Shelf.faults c.args.shelf.now) (g.H.Shelf.faults c.info_line-line.new.shelf)) (Rose (g.T.Store.faults c.args.store.now) (g.T.Store.faults c.args.store.now)) (Moves g.T.Store.files g.T.Store.may_leave g.T.Store.moment g.T.Store.image_since SameFiles c.args.store.now c.args.store.now) c.info_line-line.result (info_known g c) c.finish-in-Info.ensures not_ok)
 
 pub returns-in-Info-clause-fault : goal.returns-in-Info-clause-fault
 returns-in-Info-clause-fault g c =
-    has_risen c.finish-in-Info.result (g.O.Sink.written c.args.out.now) (g.O.Sink.written c.finish-in-Info.new.out) (Rose (g.O.Sink.faults c.args.out.now) (g.O.Sink.faults c.finish-in-Info.new.out)) (map string_bytes c.args.words.now) (g.H.Shelf.files c.args.shelf.now) (g.T.Store.files c.args.store.now) (g.T.Store.files c.args.store.now) (Rose (g.H.Shelf.faults c.args.shelf.now) (g.H.Shelf.faults c.info_line-line.new.shelf)) (Rose (g.T.Store.faults c.args.store.now) (g.T.Store.faults c.args.store.now)) (c.args.store.now ≡ c.args.store.now) c.info_line-line.result (info_known g c) c.finish-in-Info.ensures
+    has_risen c.finish-in-Info.result (g.O.Sink.written c.args.out.now) (g.O.Sink.written c.finish-in-Info.new.out) (Rose (g.O.Sink.faults c.args.out.now) (g.O.Sink.faults c.finish-in-Info.new.out)) (map string_bytes c.args.words.now) (g.H.Shelf.files c.args.shelf.now) (BeginsWith (g.H.Shelf.files c.args.shelf.now) (g.T.Store.files c.args.store.now) (g.T.Store.may_leave c.args.store.now)) (g.T.Store.files c.args.store.now) (Rose (g.H.Shelf.faults c.args.shelf.now) (g.H.Shelf.faults c.info_line-line.new.shelf)) (Rose (g.T.Store.faults c.args.store.now) (g.T.Store.faults c.args.store.now)) (Moves g.T.Store.files g.T.Store.may_leave g.T.Store.moment g.T.Store.image_since SameFiles c.args.store.now c.args.store.now) c.info_line-line.result (info_known g c) c.finish-in-Info.ensures
 
 pub returns-in-Info-clause-refusal_comes : goal.returns-in-Info-clause-refusal_comes
 returns-in-Info-clause-refusal_comes g c =
-    refusal_yields c.finish-in-Info.result (g.O.Sink.written c.args.out.now) (g.O.Sink.written c.finish-in-Info.new.out) (Rose (g.O.Sink.faults c.args.out.now) (g.O.Sink.faults c.finish-in-Info.new.out)) c.info_line-line.result (g.H.Shelf.files c.args.shelf.now) (λ all r. IsRefused (map string_bytes c.args.words.now) all r) c.finish-in-Info.ensures (info_known g c).comes
+    refusal_yields c.finish-in-Info.result (g.O.Sink.written c.args.out.now) (g.O.Sink.written c.finish-in-Info.new.out) (Rose (g.O.Sink.faults c.args.out.now) (g.O.Sink.faults c.finish-in-Info.new.out)) c.info_line-line.result (g.H.Shelf.files c.args.shelf.now) (λ all r. IsFaulty (map string_bytes c.args.words.now) all r) c.finish-in-Info.ensures (info_known g c).comes
 
 pub returns-in-Info-clause-silent : goal.returns-in-Info-clause-silent
 returns-in-Info-clause-silent g c = λ is. absurd (never_later c.finish-in-Info.result (g.O.Sink.written c.args.out.now) (g.O.Sink.written c.finish-in-Info.new.out) (Rose (g.O.Sink.faults c.args.out.now) (g.O.Sink.faults c.finish-in-Info.new.out)) c.info_line-line.result c.finish-in-Info.ensures is)
@@ -87,10 +96,41 @@ returns-in-Info-clause-info_comes g c =
     info_yields c.finish-in-Info.result (g.O.Sink.written c.args.out.now) (g.O.Sink.written c.finish-in-Info.new.out) (Rose (g.O.Sink.faults c.args.out.now) (g.O.Sink.faults c.finish-in-Info.new.out)) c.info_line-line.result (g.H.Shelf.files c.args.shelf.now) (λ all header. AsksInfo (map string_bytes c.args.words.now) (λ path. HasHeader all path header)) c.finish-in-Info.ensures
     (info_accepted (map string_bytes c.args.words.now) c.in-Info.las.now c.in-Info.ensures c.info_line-line.result (g.H.Shelf.files c.args.shelf.now) c.info_line-line.ensures.accepted)
 
+pub returns-in-Info-clause-build_comes : goal.returns-in-Info-clause-build_comes
+returns-in-Info-clause-build_comes g c = λ all start begins asks. absurd (build_or_info (map string_bytes c.args.words.now) asks.path asks.out c.in-Info.las.now asks.words_are c.in-Info.ensures)
+
+pub returns-in-Info-clause-done_already : goal.returns-in-Info-clause-done_already
+returns-in-Info-clause-done_already g c = λ all start begins asks. stays g.T.Store.files g.T.Store.may_leave g.T.Store.moment g.T.Store.image_since c.args.store.now
+
+pub returns-in-Info-clause-others_put_nothing : goal.returns-in-Info-clause-others_put_nothing
+returns-in-Info-clause-others_put_nothing g c = inr (stays g.T.Store.files g.T.Store.may_leave g.T.Store.moment g.T.Store.image_since c.args.store.now)
+
+pub returns-in-Info-clause-sound : goal.returns-in-Info-clause-sound
+returns-in-Info-clause-sound g c = λ config folder is. absurd (build_or_info (map string_bytes c.args.words.now) config folder c.in-Info.las.now is c.in-Info.ensures)
+
 -- ---- words that are no command
 
 pub returns-in-Usage-clause-build_comes : goal.returns-in-Usage-clause-build_comes
-returns-in-Usage-clause-build_comes g c = usage_comes (g.H.Shelf.files c.args.shelf.now) (map string_bytes c.args.words.now) (λ all. IsAcceptedAt all) c.refuse_usage.result c.in-Usage.ensures
+returns-in-Usage-clause-build_comes g c = λ all start begins asks. absurd (c.in-Usage.ensures.not_build asks.path asks.out asks.words_are)
+
+pub returns-in-Usage-clause-done_already : goal.returns-in-Usage-clause-done_already
+returns-in-Usage-clause-done_already g c = λ all start begins asks. stays g.T.Store.files g.T.Store.may_leave g.T.Store.moment g.T.Store.image_since c.args.store.now
+
+pub returns-in-Usage-clause-others_put_nothing : goal.returns-in-Usage-clause-others_put_nothing
+returns-in-Usage-clause-others_put_nothing g c = inr (stays g.T.Store.files g.T.Store.may_leave g.T.Store.moment g.T.Store.image_since c.args.store.now)
+
+pub returns-in-Usage-clause-sound : goal.returns-in-Usage-clause-sound
+returns-in-Usage-clause-sound g c = λ config folder is. absurd (c.in-Usage.ensures.not_build config folder is)
+
+pub returns-in-Usage-clause-refused : goal.returns-in-Usage-clause-refused
+returns-in-Usage-clause-refused g c = λ not_ok not_later. inl (record {
+  cause = Usage;
+  status_is = sym c.refuse_usage.ensures.status;
+  has_cause = told_always (λ all. IsRefused (map string_bytes c.args.words.now) all (BeginsWith (g.H.Shelf.files c.args.shelf.now) (g.T.Store.files c.args.store.now) (g.T.Store.may_leave c.args.store.now)) Usage) (g.H.Shelf.files c.args.shelf.now) (λ all. inl (refl, c.in-Usage.ensures));
+  risen = tt;
+  says = c.refuse_usage.ensures.says;
+  early = λ early. stays g.T.Store.files g.T.Store.may_leave g.T.Store.moment g.T.Store.image_since c.args.store.now;
+})
 
 pub returns-in-Usage-clause-refusal_comes : goal.returns-in-Usage-clause-refusal_comes
 returns-in-Usage-clause-refusal_comes g c =
@@ -101,6 +141,20 @@ returns-in-Usage-clause-refusal_comes g c =
 
 pub returns-in-Build-clause-info_puts_nothing : goal.returns-in-Build-clause-info_puts_nothing
 returns-in-Build-clause-info_puts_nothing g c = λ las is. absurd (build_or_info (map string_bytes c.args.words.now) c.in-Build.config.now c.in-Build.out.now las c.in-Build.ensures is)
+
+-- ---- a later command
+
+pub returns-in-Later-clause-build_comes : goal.returns-in-Later-clause-build_comes
+returns-in-Later-clause-build_comes g c = λ all start begins asks. absurd (build_or_later (map string_bytes c.args.words.now) asks.path asks.out asks.words_are c.in-Later.ensures)
+
+pub returns-in-Later-clause-done_already : goal.returns-in-Later-clause-done_already
+returns-in-Later-clause-done_already g c = λ all start begins asks. stays g.T.Store.files g.T.Store.may_leave g.T.Store.moment g.T.Store.image_since c.args.store.now
+
+pub returns-in-Later-clause-others_put_nothing : goal.returns-in-Later-clause-others_put_nothing
+returns-in-Later-clause-others_put_nothing g c = inr (stays g.T.Store.files g.T.Store.may_leave g.T.Store.moment g.T.Store.image_since c.args.store.now)
+
+pub returns-in-Later-clause-sound : goal.returns-in-Later-clause-sound
+returns-in-Later-clause-sound g c = λ config folder is. absurd (build_or_later (map string_bytes c.args.words.now) config folder is c.in-Later.ensures)
 
 -- ---- query
 
@@ -123,8 +177,16 @@ pub returns-in-Query-clause-settled : goal.returns-in-Query-clause-settled
 returns-in-Query-clause-settled g c = λ config folder is ok. absurd (query_or_build (map string_bytes c.args.words.now) c.in-Query.out.now c.in-Query.area c.in-Query.depths.0 c.in-Query.depths.1 c.in-Query.ensures config folder is)
 
 pub returns-in-Query-clause-build_comes : goal.returns-in-Query-clause-build_comes
-returns-in-Query-clause-build_comes g c =
-    told_always (λ all. AsksBuild (map string_bytes c.args.words.now) (IsAcceptedAt all) → Yields 0 c.answer_query.result) (g.H.Shelf.files c.args.shelf.now) (λ all asks. absurd (query_unbuilt (map string_bytes c.args.words.now) c.in-Query.out.now c.in-Query.area c.in-Query.depths.0 c.in-Query.depths.1 c.in-Query.ensures asks))
+returns-in-Query-clause-build_comes g c = λ all start begins asks. absurd (query_or_build (map string_bytes c.args.words.now) c.in-Query.out.now c.in-Query.area c.in-Query.depths.0 c.in-Query.depths.1 c.in-Query.ensures asks.path asks.out asks.words_are)
+
+pub returns-in-Query-clause-done_already : goal.returns-in-Query-clause-done_already
+returns-in-Query-clause-done_already g c = λ all start begins asks. c.answer_query.ensures.any_moment
+
+pub returns-in-Query-clause-others_put_nothing : goal.returns-in-Query-clause-others_put_nothing
+returns-in-Query-clause-others_put_nothing g c = inr c.answer_query.ensures.any_moment
+
+pub returns-in-Query-clause-sound : goal.returns-in-Query-clause-sound
+returns-in-Query-clause-sound g c = λ config folder is. absurd (query_or_build (map string_bytes c.args.words.now) c.in-Query.out.now c.in-Query.area c.in-Query.depths.0 c.in-Query.depths.1 c.in-Query.ensures config folder is)
 
 pub returns-in-Query-clause-info_comes : goal.returns-in-Query-clause-info_comes
 returns-in-Query-clause-info_comes g c =
@@ -141,7 +203,7 @@ returns-in-Query-clause-refused g c = λ not_ok not_later. inr (inr (query_asked
 
 pub returns-in-Query-clause-refusal_comes : goal.returns-in-Query-clause-refusal_comes
 returns-in-Query-clause-refusal_comes g c =
-    told_always (λ all. (r : Refusal) → IsDefinite r → IsRefused (map string_bytes c.args.words.now) all r → YieldsRefusal r c.answer_query.result (g.O.Sink.written c.args.out.now) (g.O.Sink.written c.answer_query.new.out) (Rose (g.O.Sink.faults c.args.out.now) (g.O.Sink.faults c.answer_query.new.out))) (g.H.Shelf.files c.args.shelf.now) (λ all r definite refused. absurd (query_unrefused (map string_bytes c.args.words.now) c.in-Query.out.now c.in-Query.area c.in-Query.depths.0 c.in-Query.depths.1 c.in-Query.ensures all r refused))
+    told_always (λ all. (r : Refusal) → IsDefinite r → IsFaulty (map string_bytes c.args.words.now) all r → YieldsRefusal r c.answer_query.result (g.O.Sink.written c.args.out.now) (g.O.Sink.written c.answer_query.new.out) (Rose (g.O.Sink.faults c.args.out.now) (g.O.Sink.faults c.answer_query.new.out))) (g.H.Shelf.files c.args.shelf.now) (λ all r definite refused. absurd (query_unrefused (map string_bytes c.args.words.now) c.in-Query.out.now c.in-Query.area c.in-Query.depths.0 c.in-Query.depths.1 c.in-Query.ensures all r refused))
 
 pub returns-in-Query-clause-fault : goal.returns-in-Query-clause-fault
 returns-in-Query-clause-fault g c = λ is. inr (query_rose c.in-Query.area c.in-Query.depths.0 c.in-Query.depths.1 c.answer_query.result (g.T.Store.files c.args.store.now) (g.O.Sink.written c.args.out.now) (g.O.Sink.written c.answer_query.new.out) (Rose (g.T.Store.faults c.args.store.now) (g.T.Store.faults c.answer_query.new.store)) (Rose (g.O.Sink.faults c.args.out.now) (g.O.Sink.faults c.answer_query.new.out)) c.answer_query.ensures.ends is)
@@ -149,14 +211,8 @@ returns-in-Query-clause-fault g c = λ is. inr (query_rose c.in-Query.area c.in-
 pub returns-in-Query-clause-silent : goal.returns-in-Query-clause-silent
 returns-in-Query-clause-silent g c = λ is. absurd (query_not_later c.in-Query.area c.in-Query.depths.0 c.in-Query.depths.1 c.answer_query.result (g.T.Store.files c.args.store.now) (g.O.Sink.written c.args.out.now) (g.O.Sink.written c.answer_query.new.out) (Rose (g.T.Store.faults c.args.store.now) (g.T.Store.faults c.answer_query.new.store)) (Rose (g.O.Sink.faults c.args.out.now) (g.O.Sink.faults c.answer_query.new.out)) c.answer_query.ensures.ends is)
 
-pub returns-in-Query-clause-puts_accepted : goal.returns-in-Query-clause-puts_accepted
-returns-in-Query-clause-puts_accepted g c = inr (inr (query_asked (map string_bytes c.args.words.now) c.in-Query.out.now c.in-Query.area c.in-Query.depths.0 c.in-Query.depths.1 c.in-Query.ensures))
-
 pub returns-in-Query-clause-info_puts_nothing : goal.returns-in-Query-clause-info_puts_nothing
 returns-in-Query-clause-info_puts_nothing g c = λ las is. absurd (query_or_info (map string_bytes c.args.words.now) c.in-Query.out.now c.in-Query.area c.in-Query.depths.0 c.in-Query.depths.1 c.in-Query.ensures las is)
-
-pub returns-in-Query-clause-any_moment : goal.returns-in-Query-clause-any_moment
-returns-in-Query-clause-any_moment g c = moves_weaker g.T.Store.files g.T.Store.may_leave g.T.Store.moment g.T.Store.image_since SameFiles SameButBuild (λ a b same name outside apart. same name) c.args.store.now c.answer_query.new.store c.answer_query.ensures.any_moment
 
 -- ---- no query
 
