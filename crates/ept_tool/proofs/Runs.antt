@@ -169,7 +169,6 @@ module _ (status : ℕ) (said_old said_new : Option (List ℕ)) (failed : Type 0
   refusal_yields answer None Why ends comes = tt
   refusal_yields answer (Some all) Why ends comes = λ r definite why. comes_yields answer r (comes r definite why) ends
 
-
   pub info_yields : (answer : Result (Vec ℕ Global) Refusal) (files : Option Files) (Fact : Files → Header → Type 0) → EndsWith answer status said_old said_new failed
       → Tells (λ all. (header : Header) → Fact all header → IsOk answer ⊎ Fails answer) files → Tells (λ all. (header : Header) → Fact all header → Yields 0 status) files
   info_yields answer None Fact ends accepted = tt

@@ -211,7 +211,9 @@ fn of_bounds(alloc: Global, number: &str, names: &Names<'_>) -> Result<String, A
 fn of_difference(alloc: Global, field: &str, names: &Names<'_>) -> Result<String, AllocError> {
     let Names { config, out, .. } = *names;
     if field == "input" {
-        format!(in alloc; "the inputs of {config} do not begin with those that {out} was built with")
+        format!(in alloc;
+            "the inputs of {config} do not begin with those that {out} was built with"
+        )
     } else {
         format!(in alloc; "{out} was built with another `{field}` than that of {config}")
     }

@@ -1,4 +1,4 @@
-use Rattle.std.proofs.Common.{◌≡◌, ◌⊎◌, Err, Ok, sym, subst, ap, ◌∙◌}
+use Rattle.std.proofs.Common.{◌⊎◌, Err, Ok, sym, subst, ap, ◌∙◌}
 use Rattle.std.specs.Prelude.{Result, IsOk, IfErr}
 use Rattle.ept_base.specs.Files.{Files, SameFiles, Tells}
 use Rattle.ept_base.specs.Moves.{Moves}
@@ -8,7 +8,7 @@ use Rattle.ept_build.specs.declared.summary.Summary.{Summary}
 use Rattle.ept_build.specs.Building.{BeginsWith}
 use Rattle.ept_build.specs.Building as building
 use Rattle.ept_tool.specs.declared.refusal.Refusal.{Refusal}
-use Rattle.ept_tool.specs.Requests.{BuildIsRefused, IsAcceptedAt, IsEarly, Fails}
+use Rattle.ept_tool.specs.Requests.{BuildIsRefused, IsEarly, Fails}
 use Rattle.ept_tool.proofs.Refused.{build_refused, build_comes, build_accepted, built_at, begun, begun_done, early_as, told_as, stays_sound}
 use Rattle.ept_tool.proofs.commands.carry_out_build.Goals as goal
 
