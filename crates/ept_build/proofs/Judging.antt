@@ -1,8 +1,8 @@
 -- What the inputs of a configuration have is found in one way; and what an answer says of each cause.
 use Rattle.std.proofs.Common.{◌≡◌, ◌≢◌, ◌∙◌, ◌⊎◌, inl, inr, ℕ, ◌<◌, ◌≤◌, List, [], ◌∷◌, length, refl, sym, ap, subst, arith, Option, Some, None}
-use Rattle.std.specs.Prelude.{ℤ, All, Any, Contains, Result, Ok, Err, IsOk, IfErr}
+use Rattle.std.specs.Prelude.{ℤ, All, Any, Contains, Result, Ok, Err, IsOk, IfOk, IfErr}
 use Rattle.std.proofs.lemmas.Int.{ints}
-use Rattle.ept_base.specs.Files.{Files}
+use Rattle.ept_base.specs.Files.{Files, Tells}
 use Rattle.ept_base.specs.declared.errors.PutError.{PutError}
 use Rattle.ept_base.specs.declared.errors.PutError.TheVariants as put
 use Rattle.ept_point.specs.declared.point.Point.{Point}
@@ -21,7 +21,8 @@ use Rattle.ept_scan.specs.declared.scan_error.ScanError.TheVariants as scan
 use Rattle.ept_scan.specs.Scans.{AreBounds}
 use Rattle.ept_scan.proofs.OneScan.{scan_once}
 use Rattle.ept_meta.specs.Output.{rules_of}
-use Rattle.ept_save.specs.Current.{Current}
+use Rattle.ept_ckpt.specs.declared.letter.Letter.{Letter}
+use Rattle.ept_save.specs.Current.{Current, HasCurrent}
 use Rattle.ept_save.specs.Errors.{IsStores}
 use Rattle.ept_save.specs.declared.error.SaveError.{SaveError}
 use Rattle.ept_save.specs.declared.error.SaveError.TheVariants as save
@@ -34,7 +35,7 @@ use Rattle.ept_build.specs.declared.summary.Summary.{Summary}
 use Rattle.ept_build.specs.declared.error.BuildError.{BuildError}
 use Rattle.ept_build.specs.declared.error.BuildError.TheVariants.{StoreFault, BadCheckpoint, TileDamaged, Differs, SourceFault, BadLas, OutOfBounds, TooManyPoints, NoBounds, SourceChanged, TooManyNodes, Memory}
 use Rattle.ept_build.specs.Errors.{of_plan, of_scan, of_save, of_put}
-use Rattle.ept_build.specs.Building.{HasPoints, HasTooManyNodes, IsRefusedAt, IsEarly, Fails, node_count}
+use Rattle.ept_build.specs.Building.{HasPoints, HasTooManyNodes, IsBuilt, IsRefusedAt, TellsDifference, Fails, node_count}
 use Rattle.ept_build.specs.Phases.{IsPhaseFault, IsStoreFault}
 
 -- ---- one way to be found
@@ -156,3 +157,50 @@ put-failed put.Memory is = absurd (cc)
 pub built-accepted : (r : Result Summary BuildError) (all : Files) (config : Config) (current : Current) → IfErr r IsPhaseFault → IfErr r (IsRefusedAt all config current) → (kept : Kept) (points : List Point) → HasPoints all config current kept points → node_count kept points ≤ config.max_nodes → IsOk r ⊎ Fails r
 built-accepted (Ok summary) all config current only refused kept points has few = inl refl
 built-accepted (Err e) all config current only refused kept points has few = inr (phase-accepted (Err e) all config current e refl only refused kept points has few)
+
+-- ---- when a refusal comes
+
+module _ (r : Result Summary BuildError) where
+  pub plan-only : (e : PlanError) → r ≡ Err (of_plan e) → IsOk {T = Plan} {E = PlanError} (Err e) ⊎ plans.Stops {T = Plan} (Err e) → Fails r
+  plan-only e is (inl fine) = absurd (cc)
+  plan-only e is (inr stops) = plan-fails r e is stops
+
+  pub plan-differs : (e : PlanError) → r ≡ Err (of_plan e) → plans.TellsDifference {T = Plan} (Err e) → TellsDifference r ⊎ Fails r
+  plan-differs e is (inl (d, same)) = let told : e ≡ plan.Differs d = cc in inl (d.field, d.kept, d.given, is ∙ ap (λ (w : PlanError). Err (of_plan w)) told)
+  plan-differs e is (inr memory) = let told : e ≡ plan.Scan scan.Memory = cc in inr (inr (inr (is ∙ ap (λ (w : PlanError). Err (of_plan w)) told)))
+
+-- a plan is no refusal
+pub plan-is-ok : (p : Plan) (e : PlanError) → (◌≡◌ {A = Result Plan PlanError} (Ok p) (Err e)) ⊎ plans.Stops {T = Plan} (Ok p) → ⊥
+plan-is-ok p e (inl is) = cc
+plan-is-ok p e (inr (inl is)) = cc
+plan-is-ok p e (inr (inr is)) = cc
+
+pub put-not-bad : (e : PutError) (letter : Letter) → of_put e ≡ BadCheckpoint letter → ⊥
+put-not-bad put.Failed letter is = cc
+put-not-bad put.Memory letter is = cc
+
+-- what is left of the build has too many nodes, or fails
+pub built-many : (r : Result Summary BuildError) (all : Files) (config : Config) (current : Current) (start : Files) (files : Option Files) (now : Files) → files ≡ Some now → IfErr r IsPhaseFault → IfErr r (IsRefusedAt all config current) → IfOk r (λ s. s.nodes ≤ config.max_nodes) → IfOk r (λ s. Tells (IsBuilt all config start s) files) → ((other : Current) → HasCurrent other start → other ≡ current) → (kept : Kept) (points : List Point) → HasPoints all config current kept points → config.max_nodes < node_count kept points → (r ≡ Err TooManyNodes) ⊎ Fails r
+built-many (Ok s) all config current start files now told only refused few built one kept points has many =
+    let is = subst (λ (w : Option Files). Tells (IsBuilt all config start s) w) told built in
+    let its : HasPoints all config current is.kept is.points = subst (λ (w : Current). HasPoints all config w is.kept is.points) (one is.current is.has_current) is.has_points in
+    absurd (omega (arith, few, many, is.nodes_are, count-once all config current is.kept kept is.points points its has))
+built-many (Err e) all config current start files now told only refused few built one kept points has many = by e only refused
+  where
+    by : (e : BuildError) → IsPhaseFault e → IsRefusedAt all config current e → (◌≡◌ {A = Result Summary BuildError} (Err e) (Err TooManyNodes)) ⊎ Fails (Err e)
+    by TooManyNodes only refused = inl refl
+    by StoreFault only refused = inr (inl refl)
+    by SourceFault only refused = inr (inr (inl refl))
+    by Memory only refused = inr (inr (inr refl))
+    by (TileDamaged key) only refused = absurd refused
+    by (SourceChanged source number) only refused = absurd refused
+    by (BadCheckpoint letter) only refused = absurd only
+    by (Differs field one_text other) only refused = absurd only
+    by (BadLas source fault) only refused = absurd only
+    by (OutOfBounds source number) only refused = absurd only
+    by (TooManyPoints source) only refused = absurd only
+    by NoBounds only refused = absurd only
+
+-- equal refusals are of one cause
+pub err-one : {e f : BuildError} → (◌≡◌ {A = Result Summary BuildError} (Err e) (Err f)) → e ≡ f
+err-one same = cc

@@ -1,5 +1,6 @@
 -- What a build of a configuration is of, over a shelf and a store with these files, what it leaves, and why it is refused.
-use Rattle.std.specs.Prelude.{◌≡◌, ◌≢◌, ◌⊎◌, ℕ, ◌<◌, ◌≤◌, List, Option, Result, Err, Some, None, length, ⊤}
+use Rattle.std.specs.Prelude.{◌≡◌, ◌≢◌, ◌⊎◌, ℕ, ◌<◌, ◌≤◌, List, Option, Result, Err, Some, None, Vec, length, ⊤}
+use Rattle.std.specs.declared.alloc.Global.{Global}
 use Rattle.ept_base.specs.Files.{Files}
 use Rattle.ept_base.specs.Moves.{IsSettled}
 use Rattle.ept_point.specs.declared.point.Point.{Point}
@@ -12,6 +13,7 @@ use Rattle.ept_scan.specs.declared.scan_error.ScanError.{ScanError}
 use Rattle.ept_scan.specs.declared.scan_error.ScanError.TheVariants as scan
 use Rattle.ept_scan.specs.Scans.{IsScan}
 use Rattle.ept_meta.specs.Output.{rules_of}
+use Rattle.ept_meta.specs.declared.fields.Field.{Field}
 use Rattle.ept_save.specs.Complete.{IsComplete}
 use Rattle.ept_save.specs.Current.{Current, HasCurrent}
 use Rattle.ept_save.specs.Done.{IsDone}
@@ -123,6 +125,10 @@ IsFault e = (e ≡ StoreFault) ⊎ (e ≡ SourceFault) ⊎ (e ≡ Memory)
 -- the answer is a fault of a device, or want of memory
 abbrev pub Fails : Result Summary BuildError → Type 0
 Fails answer = (answer ≡ Err StoreFault) ⊎ (answer ≡ Err SourceFault) ⊎ (answer ≡ Err Memory)
+
+-- the answer is a field that differs
+abbrev pub TellsDifference : Result Summary BuildError → Type 0
+TellsDifference answer = (field : Field) × (kept : Vec ℕ Global) × (given : Vec ℕ Global) × (answer ≡ Err (Differs field kept given))
 
 -- a cause after which nothing was put: what is given is compared and scanned before
 abbrev pub IsEarly : BuildError → Type 0

@@ -1,14 +1,18 @@
 //! A build.
 
-ghost use Rattle.std.specs.Prelude.{◌≡◌, ◌⊎◌, true, false, Some, Ok, IsOk, IfOk, IfErr, OnOk, length};
+ghost use Rattle.std.specs.Prelude.{◌≡◌, ◌⊎◌, ◌≤◌, true, false, Some, Ok, Err, IsOk, IfOk, IfErr, OnOk, length};
 ghost use Rattle.ept_base.specs.Causes.{HasCauseOf};
 ghost use Rattle.ept_base.specs.Files.{Files, SameFiles, Tells};
 ghost use Rattle.ept_base.specs.Moves.{Moves, IsSettled};
+ghost use Rattle.ept_scan.specs.declared.scan_error.ScanError.{ScanError};
+ghost use Rattle.ept_ckpt.specs.declared.letter.Letter.{Letter};
+ghost use Rattle.ept_save.specs.Current.{Current, HasCurrent};
 ghost use Rattle.ept_save.specs.Done.{IsDone};
-ghost use Rattle.ept_save.specs.Opening.{lines_of};
+ghost use Rattle.ept_save.specs.Opening.{lines_of, IsBad};
 ghost use Rattle.ept_save.specs.Sound.{IsSound};
-ghost use Rattle.ept_plan.specs.Plans.{IsPlan};
-ghost use Rattle.ept_build.specs.Building.{BeginsWith, Starts, IsBuilt, IsDoneAlready, IsAccepted, IsRefusedAt, IsRefused, IsEarly, Fails};
+ghost use Rattle.ept_plan.specs.Plans.{IsPlan, IsDefinite, GoesOn};
+ghost use Rattle.ept_build.specs.Building.{BeginsWith, Starts, InputsAreRefused, HasTooManyNodes, TellsDifference, IsBuilt, IsDoneAlready, IsAccepted, IsRefusedAt, IsRefused, IsEarly, Fails};
+ghost use Rattle.ept_build.specs.Errors.{of_scan};
 ghost use Rattle.ept_build.specs.Phases.{HasAll, IsPhaseFault, IsStoreFault};
 
 use crate::error::BuildError;
@@ -70,6 +74,18 @@ where
         → IfErr result (IsRefused all config.now start) }
     ensures accepted { (all start : Files) → BeginsWith (H.files shelf.old) (T.files store.old) (T.may_leave store.old) all start
         → IsAccepted all config.now start → IsOk result ⊎ Fails result }
+    ensures refusal_comes { (all start : Files) → BeginsWith (H.files shelf.old) (T.files store.old) (T.may_leave store.old) all start
+        → (current : Current) (e : ScanError) → HasCurrent current start → IsDefinite e
+        → InputsAreRefused all config.now current e → (result ≡ Err (of_scan e)) ⊎ Fails result }
+    ensures differs_comes { (all start : Files) → BeginsWith (H.files shelf.old) (T.files store.old) (T.may_leave store.old) all start
+        → (current : Current) → HasCurrent current start → ¬ GoesOn config.now current → TellsDifference result ⊎ Fails result }
+    ensures too_many_comes { (all start : Files) → BeginsWith (H.files shelf.old) (T.files store.old) (T.may_leave store.old) all start
+        → (current : Current) → HasCurrent current start → GoesOn config.now current → ¬ IsDoneAlready config.now start
+        → HasTooManyNodes all config.now current → (result ≡ Err BuildError.TooManyNodes) ⊎ Fails result }
+    ensures bad { (letter : Letter) → result ≡ Err (BuildError.BadCheckpoint letter)
+        → Tells (λ start. IsBad start letter) (T.files store.old) }
+    ensures bad_comes { (letter : Letter) → (start : Files) → T.files store.old ≡ Some start → IsBad start letter
+        → (result ≡ Err (BuildError.BadCheckpoint letter)) ⊎ Fails result }
     ensures sources { HasCauseOf BuildError.SourceFault (H.faults shelf.old) (H.faults shelf.new) result }
     ensures stores { HasCauseOf BuildError.StoreFault (T.faults store.old) (T.faults store.new) result }
     ensures files { H.files shelf.new ≡ H.files shelf.old }
@@ -132,6 +148,7 @@ fn built<H: Shelf, T: Store>(
     ensures built { (all start : Files) → H.files shelf.old ≡ Some all
         → Starts all config.now saved plan.now start (T.files store.old) (T.may_leave store.old)
         → IfOk result (λ summary. Tells (IsBuilt all config.now start summary) (T.files store.new)) }
+    ensures few { IfOk result (λ summary. summary.nodes ≤ config.now.max_nodes) }
     ensures settled { OnOk result (IsSettled (T.files store.new) (T.may_leave store.new)) }
     ensures sound { (all start : Files) → H.files shelf.old ≡ Some all
         → Starts all config.now saved plan.now start (T.files store.old) (T.may_leave store.old)
@@ -161,7 +178,15 @@ fn built<H: Shelf, T: Store>(
         grown,
         inserted: plan.inserted,
     };
-    grow(alloc, shelf, store, &mut at, plan, config.checkpoint, config.max_nodes)?;
+    grow(
+        alloc,
+        shelf,
+        store,
+        &mut at,
+        plan,
+        config.checkpoint,
+        config.max_nodes,
+    )?;
     finish(alloc, store, &at, plan, &extent)?;
     Ok(Summary {
         points: plan.points,

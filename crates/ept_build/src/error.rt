@@ -20,9 +20,13 @@ pub enum BuildError {
     StoreFault,
     /// The body of this letter, whose gate is open, is absent or that of no checkpoint, or has the generation of
     /// the other one.
-    BadCheckpoint { letter: Letter },
+    BadCheckpoint {
+        letter: Letter,
+    },
     /// The tile that the current checkpoint names for this key is absent or not the node's.
-    TileDamaged { key: Key },
+    TileDamaged {
+        key: Key,
+    },
     /// This is the first field of the configuration that differs from what an earlier build kept. Both values
     /// are as the build file has them; of the inputs they are the first that differs, and what is given is
     /// empty where the list ends before it.
@@ -34,16 +38,27 @@ pub enum BuildError {
     /// An input can't be opened or read: the shelf's count of faults rose.
     SourceFault,
     /// The input of this place in the list is no LAS file that can be read.
-    BadLas { source: u32, fault: LasError },
+    BadLas {
+        source: u32,
+        fault: LasError,
+    },
     /// The record of this number of this input is not in stored units, or not within the bounds.
-    OutOfBounds { source: u32, number: PointNumber },
+    OutOfBounds {
+        source: u32,
+        number: PointNumber,
+    },
     /// This input states more points than can be numbered.
-    TooManyPoints { source: u32 },
+    TooManyPoints {
+        source: u32,
+    },
     /// No bounds are given, and no input has a point.
     NoBounds,
     /// This input is not what the first reading has found: its header is not, which is told as record 0, or
     /// the record of this number ends early or lies elsewhere.
-    SourceChanged { source: u32, number: PointNumber },
+    SourceChanged {
+        source: u32,
+        number: PointNumber,
+    },
     /// The octree has more nodes than there may be.
     TooManyNodes,
     /// Memory ran out.

@@ -56,7 +56,15 @@ pub(crate) fn finish<T: Store>(
     sound_steps_law();
     output_names_law();
     output_once_law();
-    publish(alloc, store, &plan.kept, counts, extent, plan.points, at.grown.nodes())?;
+    publish(
+        alloc,
+        store,
+        &plan.kept,
+        counts,
+        extent,
+        plan.points,
+        at.grown.nodes(),
+    )?;
     open_done(store)?;
     Ok(())
 }

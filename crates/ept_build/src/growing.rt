@@ -101,7 +101,13 @@ pub(crate) fn grow<H: Shelf, T: Store>(
     ensures sources { HasCauseOf BuildError.SourceFault (H.faults shelf.old) (H.faults shelf.new) result }
     ensures stores { HasCauseOf BuildError.StoreFault (T.faults store.old) (T.faults store.new) result }
 {
-    let mut reader = reader(alloc, shelf, &plan.kept, plan.counts.as_slice(), at.inserted)?;
+    let mut reader = reader(
+        alloc,
+        shelf,
+        &plan.kept,
+        plan.counts.as_slice(),
+        at.inserted,
+    )?;
     let grown = phases(alloc, &mut reader, store, at, plan, step, most);
     reader.retire_all(shelf);
     grown
@@ -209,6 +215,14 @@ fn phase<S: Source, T: Store>(
     sound_steps_law();
     output_once_law();
     let counts = plan.counts.as_slice();
-    save_tree(alloc, store, &mut at.saved, &at.grown, &plan.kept, counts, at.inserted)?;
+    save_tree(
+        alloc,
+        store,
+        &mut at.saved,
+        &at.grown,
+        &plan.kept,
+        counts,
+        at.inserted,
+    )?;
     Ok(())
 }

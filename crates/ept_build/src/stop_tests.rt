@@ -59,6 +59,7 @@ fn empty(alloc: Global) -> MemStore {
 }
 
 const TWO: &str = "\"a.las\",\"b.las\"";
+
 const THREE: &str = "\"a.las\",\"b.las\",\"c.las\"";
 
 /// Compares the files of the output of two stores.
@@ -80,7 +81,7 @@ fn a_stopped_build_goes_on(rt: HostRuntime) -> Result<(), Fail> {
     let mut whole = empty(alloc);
     assert_eq!(rt; built(alloc, &mut whole, TWO, 2)?, done);
     assert_eq!(rt; whole.file("ept-hierarchy/0-0-0-0.json"), Some(HIERARCHY));
-    let mut through = 0;
+    let mut first = u64::MAX;
     for calls in 0..70 {
         let kinds = if calls % 2 == 0 {
             [Crash::Old, Crash::Junk]
@@ -89,7 +90,8 @@ fn a_stopped_build_goes_on(rt: HostRuntime) -> Result<(), Fail> {
         };
         for how in kinds {
             let mut store = empty(alloc).with_fuse(calls);
-            through += u32::from(built(alloc, &mut store, TWO, 2)?.is_ok());
+            let is_through = built(alloc, &mut store, TWO, 2)?.is_ok();
+            first = if is_through { calls.min(first) } else { first };
             let mut store = store.crash(how);
             let Ok(saved) = open(alloc, &mut store) else {
                 return Err(Fail::from(AllocError));
@@ -100,7 +102,7 @@ fn a_stopped_build_goes_on(rt: HostRuntime) -> Result<(), Fail> {
             compare(&rt, &store, &whole, "again");
         }
     }
-    assert!(rt; 0 < through && through < 60, "{through}");
+    assert!(rt; 30 < first && first < 69, "{first}");
     Ok(())
 }
 
@@ -119,7 +121,12 @@ fn an_input_is_added(rt: HostRuntime) -> Result<(), Fail> {
     assert!(rt; built(alloc, &mut store, TWO, 2)?.is_ok());
     assert_eq!(rt; built(alloc, &mut store, THREE, 2)?, done);
     compare(&rt, &store, &whole, "added");
-    assert_eq!(rt; store.file("ept-data/0-0-0-0.bin").map_or(0, |bytes| bytes.len()), 3 * 49);
+    assert_eq!(rt;
+        store
+            .file("ept-data/0-0-0-0.bin")
+            .map_or(0, |bytes| bytes.len()),
+        3 * 49
+    );
     let differs = Err(Refusal::Differs { field: Field::Span });
     assert_eq!(rt; built(alloc, &mut store, THREE, 4)?, differs);
     let fewer = Err(Refusal::Differs {

@@ -3,8 +3,8 @@
 use crate::{BuildError, Summary, build};
 use ept_base::OpenGate;
 use ept_config::read_config;
-use ept_meta::Field;
 use ept_mem::{MemRoom, MemShelf, MemStore};
+use ept_meta::Field;
 use std::alloc::{AllocError, Global};
 use std::process::Abort;
 use std::test::Fail;
@@ -88,7 +88,11 @@ fn tile(place: [u8; 3], origin: u8) -> [u8; 49] {
     bytes
 }
 
-pub(crate) fn file(alloc: Global, name: &str, bytes: Vec<u8>) -> Result<(String, Vec<u8>), AllocError> {
+pub(crate) fn file(
+    alloc: Global,
+    name: &str,
+    bytes: Vec<u8>,
+) -> Result<(String, Vec<u8>), AllocError> {
     Ok((String::from_str(alloc, name)?, bytes))
 }
 

@@ -11,13 +11,14 @@ use Rattle.ept_save.specs.Current.{Current, HasCurrent}
 use Rattle.ept_save.specs.Done.{IsDone}
 use Rattle.ept_save.specs.Sound.{IsSound}
 use Rattle.ept_save.proofs.Standing.{stepped, told_some, tells_some, same_twice, same-stands}
-use Rattle.ept_plan.specs.Plans.{limits_by, GoesOn}
+use Rattle.ept_plan.specs.Plans.{limits_by, GoesOn, AreRefused}
 use Rattle.ept_build.specs.declared.error.BuildError.{BuildError}
 use Rattle.ept_build.specs.declared.summary.Summary.{Summary}
 use Rattle.ept_build.specs.Errors.{of_plan, of_put}
 use Rattle.ept_build.specs.Building.{HasPoints, IsBuilt, IsRefusedAt, IsRefused, IsEarly}
 use Rattle.ept_build.proofs.Causes.{tells-some}
-use Rattle.ept_build.proofs.Judging.{plan-refused, plan-accepted, stores-fails, built-accepted, store-refused, put-store, put-no-source, put-failed}
+use Rattle.ept_plan.specs.declared.error.PlanError.TheVariants as plan
+use Rattle.ept_build.proofs.Judging.{plan-refused, plan-accepted, plan-only, plan-differs, plan-is-ok, built-many, put-not-bad, err-one, stores-fails, built-accepted, store-refused, put-store, put-no-source, put-failed}
 use Rattle.ept_build.proofs.Moved.{moves-then}
 use Rattle.ept_build.proofs.Running.{sound-settled, same-moves}
 use Rattle.ept_build.proofs.Finished.{finished-built, built-from, starts-again, done-all}
@@ -59,7 +60,7 @@ returns-in_err-is_finished-clause-done_already g c = λ all start begins done.
     (same_twice g.T.Store.files g.T.Store.may_leave g.T.Store.moment g.T.Store.image_since c.args.store.now c.open.new.store c.is_finished.new.store c.open.ensures.any_moment c.is_finished.ensures.any_moment)
 
 pub returns-in_err-is_finished-clause-early : goal.returns-in_err-is_finished-clause-early
-returns-in_err-is_finished-clause-early g c = 
+returns-in_err-is_finished-clause-early g c =
     let p = err_from_is_err_and c.from_residual-in_err-is_finished.result c.from_residual-in_err-is_finished.ensures.1 in
     let is : c.from_residual-in_err-is_finished.result ≡ Err c.in_err-is_finished.field-0.0 = p.1 ∙ ap (λ (w : BuildError). Err w) p.2 in
     subst (λ (r : Result Summary BuildError). IfErr r (λ f. IsEarly f → Moves g.T.Store.files g.T.Store.may_leave g.T.Store.moment g.T.Store.image_since SameFiles c.args.store.now c.is_finished.new.store)) (sym is) (λ early. (same_twice g.T.Store.files g.T.Store.may_leave g.T.Store.moment g.T.Store.image_since c.args.store.now c.open.new.store c.is_finished.new.store c.open.ensures.any_moment c.is_finished.ensures.any_moment))
@@ -87,7 +88,7 @@ returns-in_err-sync-clause-done_already g c = λ all start begins done.
     (same_twice g.T.Store.files g.T.Store.may_leave g.T.Store.moment g.T.Store.image_since c.args.store.now c.is_finished.new.store c.sync.new.self (same_twice g.T.Store.files g.T.Store.may_leave g.T.Store.moment g.T.Store.image_since c.args.store.now c.open.new.store c.is_finished.new.store c.open.ensures.any_moment c.is_finished.ensures.any_moment) (moves_once g.T.Store.files g.T.Store.may_leave g.T.Store.moment g.T.Store.image_since SameFiles c.is_finished.new.store c.sync.new.self c.sync.ensures.reads (λ image is. (image, c.sync.ensures.images image is, λ name. refl)) c.sync.ensures.time))
 
 pub returns-in_err-sync-clause-early : goal.returns-in_err-sync-clause-early
-returns-in_err-sync-clause-early g c = 
+returns-in_err-sync-clause-early g c =
     let p = err_from_is_err_and c.from_residual-in_err-sync.result c.from_residual-in_err-sync.ensures.1 in
     let is : c.from_residual-in_err-sync.result ≡ Err (of_put c.in_err-sync.field-0.0) = p.1 ∙ ap (λ (w : BuildError). Err w) p.2 in
     subst (λ (r : Result Summary BuildError). IfErr r (λ f. IsEarly f → Moves g.T.Store.files g.T.Store.may_leave g.T.Store.moment g.T.Store.image_since SameFiles c.args.store.now c.sync.new.self)) (sym is) (λ early. (same_twice g.T.Store.files g.T.Store.may_leave g.T.Store.moment g.T.Store.image_since c.args.store.now c.is_finished.new.store c.sync.new.self (same_twice g.T.Store.files g.T.Store.may_leave g.T.Store.moment g.T.Store.image_since c.args.store.now c.open.new.store c.is_finished.new.store c.open.ensures.any_moment c.is_finished.ensures.any_moment) (moves_once g.T.Store.files g.T.Store.may_leave g.T.Store.moment g.T.Store.image_since SameFiles c.is_finished.new.store c.sync.new.self c.sync.ensures.reads (λ image is. (image, c.sync.ensures.images image is, λ name. refl)) c.sync.ensures.time)))
@@ -181,3 +182,53 @@ returns-clause-accepted g c = λ all start begins acc.
     let starts = starts-again c.sound_steps_law.ensures.same all start at_two.0 c.args.config.now c.in_ok-saved.saved c.in_ok-plan.plan cur begins.sound at_two.2 g.T.Store.files g.T.Store.may_leave g.T.Store.moment g.T.Store.image_since c.args.store.now c.is_finished.new.store begins.told begins.settled at_two.1 (same_twice g.T.Store.files g.T.Store.may_leave g.T.Store.moment g.T.Store.image_since c.args.store.now c.open.new.store c.is_finished.new.store c.open.ensures.any_moment c.is_finished.ensures.any_moment) stands (tells-some _ (g.H.Shelf.files c.args.shelf.now) all begins.shelf_told c.in_ok-plan.ensures.scan) in
     let same : acc.current ≡ c.in_ok-saved.saved.current = c.sound_law.ensures.one start acc.current c.in_ok-saved.saved.current acc.has_current cur in
     built-accepted c.built.result all c.args.config.now c.in_ok-saved.saved.current c.built.ensures.only (c.built.ensures.refused all at_two.0 told starts) acc.kept acc.points (subst (λ (w : Current). HasPoints all c.args.config.now w acc.kept acc.points) same acc.has_points) acc.few
+
+pub returns-in_err-plan-clause-differs_comes : goal.returns-in_err-plan-clause-differs_comes
+returns-in_err-plan-clause-differs_comes g c = λ all start begins current has not_on.
+    let cur = told_some (HasCurrent c.in_ok-saved.saved.current) (g.T.Store.files c.args.store.now) start begins.told c.in_ok-saved.ensures.current in
+    let e = c.in_err-plan.field-0.0 in
+    let is : c.from_residual-in_err-plan.result ≡ Err (of_plan e) = search rules in
+    let same : current ≡ c.in_ok-saved.saved.current = c.sound_law.ensures.one start current c.in_ok-saved.saved.current has cur in
+    plan-differs c.from_residual-in_err-plan.result e is (c.in_err-plan.ensures.differs_comes (subst (λ (w : Current). ¬ GoesOn c.args.config.now w) same not_on))
+
+pub returns-in_err-plan-clause-too_many_comes : goal.returns-in_err-plan-clause-too_many_comes
+returns-in_err-plan-clause-too_many_comes g c = λ all start begins current has on not_done many.
+    let cur = told_some (HasCurrent c.in_ok-saved.saved.current) (g.T.Store.files c.args.store.now) start begins.told c.in_ok-saved.ensures.current in
+    let e = c.in_err-plan.field-0.0 in
+    let is : c.from_residual-in_err-plan.result ≡ Err (of_plan e) = search rules in
+    let same : current ≡ c.in_ok-saved.saved.current = c.sound_law.ensures.one start current c.in_ok-saved.saved.current has cur in
+    let comes = tells-some _ (g.H.Shelf.files c.args.shelf.now) all begins.shelf_told c.in_err-plan.ensures.accepted in
+    inr (plan-only c.from_residual-in_err-plan.result e is
+    (comes many.points many.has_points.done (subst (λ (w : Current). GoesOn c.args.config.now w) same on)
+    (subst (λ (w : Current). IsScan all c.args.config.now.scale (limits_by c.args.config.now.bounds w) c.args.config.now.inputs 0 many.points many.has_points.done) same many.has_points.scan)))
+
+pub returns-in_err-is_finished-clause-too_many_comes : goal.returns-in_err-is_finished-clause-too_many_comes
+returns-in_err-is_finished-clause-too_many_comes g c = λ all start begins current has on not_done many.
+    let p = err_from_is_err_and c.from_residual-in_err-is_finished.result c.from_residual-in_err-is_finished.ensures.1 in
+    let is : c.from_residual-in_err-is_finished.result ≡ Err c.in_err-is_finished.field-0.0 = p.1 ∙ ap (λ (w : BuildError). Err w) p.2 in
+    inr (stores-fails c.from_residual-in_err-is_finished.result c.in_err-is_finished.field-0.0 is c.in_err-is_finished.ensures.only)
+
+pub returns-in_err-sync-clause-bad : goal.returns-in_err-sync-clause-bad
+returns-in_err-sync-clause-bad g c = λ letter told.
+    let p = err_from_is_err_and c.from_residual-in_err-sync.result c.from_residual-in_err-sync.ensures.1 in
+    let is : c.from_residual-in_err-sync.result ≡ Err (of_put c.in_err-sync.field-0.0) = p.1 ∙ ap (λ (w : BuildError). Err w) p.2 in
+    absurd (put-not-bad c.in_err-sync.field-0.0 letter (err-one (sym is ∙ told)))
+
+pub returns-then-branch-clause-refusal_comes : goal.returns-then-branch-clause-refusal_comes
+returns-then-branch-clause-refusal_comes g c = λ all start begins current e has definite refused.
+    let cur = told_some (HasCurrent c.in_ok-saved.saved.current) (g.T.Store.files c.args.store.now) start begins.told c.in_ok-saved.ensures.current in
+    let same : current ≡ c.in_ok-saved.saved.current = c.sound_law.ensures.one start current c.in_ok-saved.saved.current has cur in
+    let comes = tells-some _ (g.H.Shelf.files c.args.shelf.now) all begins.shelf_told c.in_ok-plan.ensures.refusal_comes in
+    absurd (plan-is-ok c.in_ok-plan.plan (plan.Scan e) (comes e (subst (λ (w : Current). GoesOn c.args.config.now w) same refused.0) definite (subst (λ (w : Current). AreRefused all c.args.config.now w e) same refused.1)))
+
+pub returns-clause-too_many_comes : goal.returns-clause-too_many_comes
+returns-clause-too_many_comes g c = λ all start begins current has on not_done many.
+    let cur = told_some (HasCurrent c.in_ok-saved.saved.current) (g.T.Store.files c.args.store.now) start begins.told c.in_ok-saved.ensures.current in
+    let at_two = stepped SameFiles (g.T.Store.files c.args.store.now) (g.T.Store.files c.is_finished.new.store) start begins.told (same_twice g.T.Store.files g.T.Store.may_leave g.T.Store.moment g.T.Store.image_since c.args.store.now c.open.new.store c.is_finished.new.store c.open.ensures.any_moment c.is_finished.ensures.any_moment).reads in
+    let told : g.H.Shelf.files c.make_plan.new.shelf ≡ Some all = c.in_ok-plan.ensures.files ∙ begins.shelf_told in
+    let stands = same-stands g.T.Store.files g.T.Store.may_leave g.T.Store.moment g.T.Store.image_since c.in_ok-saved.saved c.open.new.store c.is_finished.new.store c.is_finished.ensures.any_moment (c.in_ok-saved.ensures.stands start begins.told begins.settled) in
+    let starts = starts-again c.sound_steps_law.ensures.same all start at_two.0 c.args.config.now c.in_ok-saved.saved c.in_ok-plan.plan cur begins.sound at_two.2 g.T.Store.files g.T.Store.may_leave g.T.Store.moment g.T.Store.image_since c.args.store.now c.is_finished.new.store begins.told begins.settled at_two.1 (same_twice g.T.Store.files g.T.Store.may_leave g.T.Store.moment g.T.Store.image_since c.args.store.now c.open.new.store c.is_finished.new.store c.open.ensures.any_moment c.is_finished.ensures.any_moment) stands (tells-some _ (g.H.Shelf.files c.args.shelf.now) all begins.shelf_told c.in_ok-plan.ensures.scan) in
+    let same : current ≡ c.in_ok-saved.saved.current = c.sound_law.ensures.one start current c.in_ok-saved.saved.current has cur in
+    let end = stepped (λ (a b : Files). IsSound all b) (g.T.Store.files c.is_finished.new.store) (g.T.Store.files c.built.new.store) at_two.0 at_two.1 (c.built.ensures.sound all at_two.0 told starts).reads in
+    built-many c.built.result all c.args.config.now c.in_ok-saved.saved.current at_two.0 (g.T.Store.files c.built.new.store) end.0 end.1 c.built.ensures.only (c.built.ensures.refused all at_two.0 told starts) c.built.ensures.few (c.built.ensures.built all at_two.0 told starts)
+    (λ other its. c.sound_law.ensures.one at_two.0 other c.in_ok-saved.saved.current its starts.has_current) many.kept many.points (subst (λ (w : Current). HasPoints all c.args.config.now w many.kept many.points) same many.has_points) many.many

@@ -206,3 +206,6 @@ returns-clause-sound g c = λ all start shelf_told starts.
     let way_on = tells-some _ (g.H.Shelf.files c.args.shelf.now) all shelf_told c.in_ok-grow.ensures.on_way (points c.output_once_law.ensures.one c.output_once_law.ensures.sampled c.output_names_law.ensures.grow c.saved_law.ensures.loaded all start c.args.config.now c.args.saved.current c.args.plan.now c.requires.plan starts.scans starts.has_current starts.sound c.whole_extent-extent.result found) (out c.output_once_law.ensures.one c.output_once_law.ensures.sampled c.output_names_law.ensures.grow c.saved_law.ensures.loaded all start c.args.config.now c.args.saved.current c.args.plan.now c.requires.plan starts.scans starts.has_current starts.sound c.whole_extent-extent.result found) (are c.output_once_law.ensures.one c.output_once_law.ensures.sampled c.output_names_law.ensures.grow c.saved_law.ensures.loaded all start c.args.config.now c.args.saved.current c.args.plan.now c.requires.plan starts.scans starts.has_current starts.sound c.whole_extent-extent.result found) are_sampled way in
     let grown_sampled = tells-some _ (g.H.Shelf.files c.args.shelf.now) all shelf_told c.in_ok-grow.ensures.sampled (points c.output_once_law.ensures.one c.output_once_law.ensures.sampled c.output_names_law.ensures.grow c.saved_law.ensures.loaded all start c.args.config.now c.args.saved.current c.args.plan.now c.requires.plan starts.scans starts.has_current starts.sound c.whole_extent-extent.result found) (scan c.output_once_law.ensures.one c.output_once_law.ensures.sampled c.output_names_law.ensures.grow c.saved_law.ensures.loaded all start c.args.config.now c.args.saved.current c.args.plan.now c.requires.plan starts.scans starts.has_current starts.sound c.whole_extent-extent.result found) (can c.output_once_law.ensures.one c.output_once_law.ensures.sampled c.output_names_law.ensures.grow c.saved_law.ensures.loaded all start c.args.config.now c.args.saved.current c.args.plan.now c.requires.plan starts.scans starts.has_current starts.sound c.whole_extent-extent.result found) are_sampled in
     moves-then g.T.Store.files g.T.Store.may_leave g.T.Store.moment g.T.Store.image_since (IsSound all) c.args.store.now c.grow.new.store c.finish.new.store three (c.in_ok-finish.ensures.sound all (points c.output_once_law.ensures.one c.output_once_law.ensures.sampled c.output_names_law.ensures.grow c.saved_law.ensures.loaded all start c.args.config.now c.args.saved.current c.args.plan.now c.requires.plan starts.scans starts.has_current starts.sound c.whole_extent-extent.result found) (out c.output_once_law.ensures.one c.output_once_law.ensures.sampled c.output_names_law.ensures.grow c.saved_law.ensures.loaded all start c.args.config.now c.args.saved.current c.args.plan.now c.requires.plan starts.scans starts.has_current starts.sound c.whole_extent-extent.result found) (are c.output_once_law.ensures.one c.output_once_law.ensures.sampled c.output_names_law.ensures.grow c.saved_law.ensures.loaded all start c.args.config.now c.args.saved.current c.args.plan.now c.requires.plan starts.scans starts.has_current starts.sound c.whole_extent-extent.result found) (number c.output_once_law.ensures.one c.output_once_law.ensures.sampled c.output_names_law.ensures.grow c.saved_law.ensures.loaded all start c.args.config.now c.args.saved.current c.args.plan.now c.requires.plan starts.scans starts.has_current starts.sound c.whole_extent-extent.result found) (has-extent c.output_once_law.ensures.one c.output_once_law.ensures.sampled c.output_names_law.ensures.grow c.saved_law.ensures.loaded all start c.args.config.now c.args.saved.current c.args.plan.now c.requires.plan starts.scans starts.has_current starts.sound c.whole_extent-extent.result found) grown_sampled way_on)
+
+pub returns-clause-few : goal.returns-clause-few
+returns-clause-few g c = omega (arith, c.len.ensures, ap (λ (w : List Branch). length w) c.nodes.ensures.nodes, c.in_ok-grow.ensures.tree.few)

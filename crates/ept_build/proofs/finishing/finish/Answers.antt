@@ -30,7 +30,7 @@ returns-in_err-open_done-clause-sound g c = λ shelf points output are number ha
     let moved = subst (λ (w : List File). Moves g.T.Store.files g.T.Store.may_leave g.T.Store.moment g.T.Store.image_since (SameButThese (names_of w)) c.args.store.now c.publish.new.store) same c.publish.ensures.any_moment in
     let puts = subst (λ (w : List File). StepsBy (PutsAll w) (g.T.Store.files c.args.store.now) (g.T.Store.files c.publish.new.store)) same c.in_ok-publish.ensures.puts in
     let guarded = put-guarded c.output_once_law.ensures.one c.output_names_law.ensures.names c.output_names_law.ensures.outside c.published_law.ensures.there c.sound_steps_law.ensures.putting c.sound_steps_law.ensures.guarding shelf plan points output are number c.args.extent.now has_extent nodes are_sampled it.0 it.1 it.3 all_in
-        g.T.Store.files g.T.Store.may_leave g.T.Store.moment g.T.Store.image_since c.args.store.now (g.met.T.Store.reads_an_image c.args.store.now) view it.2 way c.publish.new.store moved in
+    g.T.Store.files g.T.Store.may_leave g.T.Store.moment g.T.Store.image_since c.args.store.now (g.met.T.Store.reads_an_image c.args.store.now) view it.2 way c.publish.new.store moved in
     end-moves c.output_once_law.ensures.one c.output_names_law.ensures.names c.output_names_law.ensures.outside c.published_law.ensures.there c.sound_steps_law.ensures.putting c.sound_steps_law.ensures.guarding shelf plan points output are number c.args.extent.now has_extent nodes are_sampled it.0 it.1 it.3 all_in
     g.T.Store.files g.T.Store.may_leave g.T.Store.moment g.T.Store.image_since c.args.store.now (g.met.T.Store.reads_an_image c.args.store.now) view it.2 way c.publish.new.store moved puts c.open_done.new.store (c.open_done.ensures.guards guarded)
 
@@ -45,7 +45,7 @@ returns-clause-sound g c = λ shelf points output are number has_extent are_samp
     let moved = subst (λ (w : List File). Moves g.T.Store.files g.T.Store.may_leave g.T.Store.moment g.T.Store.image_since (SameButThese (names_of w)) c.args.store.now c.publish.new.store) same c.publish.ensures.any_moment in
     let puts = subst (λ (w : List File). StepsBy (PutsAll w) (g.T.Store.files c.args.store.now) (g.T.Store.files c.publish.new.store)) same c.in_ok-publish.ensures.puts in
     let guarded = put-guarded c.output_once_law.ensures.one c.output_names_law.ensures.names c.output_names_law.ensures.outside c.published_law.ensures.there c.sound_steps_law.ensures.putting c.sound_steps_law.ensures.guarding shelf plan points output are number c.args.extent.now has_extent nodes are_sampled it.0 it.1 it.3 all_in
-        g.T.Store.files g.T.Store.may_leave g.T.Store.moment g.T.Store.image_since c.args.store.now (g.met.T.Store.reads_an_image c.args.store.now) view it.2 way c.publish.new.store moved in
+    g.T.Store.files g.T.Store.may_leave g.T.Store.moment g.T.Store.image_since c.args.store.now (g.met.T.Store.reads_an_image c.args.store.now) view it.2 way c.publish.new.store moved in
     end-moves c.output_once_law.ensures.one c.output_names_law.ensures.names c.output_names_law.ensures.outside c.published_law.ensures.there c.sound_steps_law.ensures.putting c.sound_steps_law.ensures.guarding shelf plan points output are number c.args.extent.now has_extent nodes are_sampled it.0 it.1 it.3 all_in
     g.T.Store.files g.T.Store.may_leave g.T.Store.moment g.T.Store.image_since c.args.store.now (g.met.T.Store.reads_an_image c.args.store.now) view it.2 way c.publish.new.store moved puts c.open_done.new.store (c.open_done.ensures.guards guarded)
 
@@ -60,6 +60,6 @@ returns-clause-complete g c = λ shelf points output are number has_extent are_s
     let moved = subst (λ (w : List File). Moves g.T.Store.files g.T.Store.may_leave g.T.Store.moment g.T.Store.image_since (SameButThese (names_of w)) c.args.store.now c.publish.new.store) same c.publish.ensures.any_moment in
     let puts = subst (λ (w : List File). StepsBy (PutsAll w) (g.T.Store.files c.args.store.now) (g.T.Store.files c.publish.new.store)) same c.in_ok-publish.ensures.puts in
     let guarded = put-guarded c.output_once_law.ensures.one c.output_names_law.ensures.names c.output_names_law.ensures.outside c.published_law.ensures.there c.sound_steps_law.ensures.putting c.sound_steps_law.ensures.guarding shelf plan points output are number c.args.extent.now has_extent nodes are_sampled it.0 it.1 it.3 all_in
-        g.T.Store.files g.T.Store.may_leave g.T.Store.moment g.T.Store.image_since c.args.store.now (g.met.T.Store.reads_an_image c.args.store.now) view it.2 way c.publish.new.store moved in
+    g.T.Store.files g.T.Store.may_leave g.T.Store.moment g.T.Store.image_since c.args.store.now (g.met.T.Store.reads_an_image c.args.store.now) view it.2 way c.publish.new.store moved in
     ends-complete c.output_once_law.ensures.one c.output_names_law.ensures.names c.output_names_law.ensures.outside c.published_law.ensures.there c.sound_steps_law.ensures.putting c.sound_steps_law.ensures.guarding shelf plan points output are number c.args.extent.now has_extent nodes are_sampled it.0 it.1 it.3 all_in
     g.T.Store.files g.T.Store.may_leave g.T.Store.moment g.T.Store.image_since c.args.store.now (g.met.T.Store.reads_an_image c.args.store.now) view it.2 way c.publish.new.store moved puts c.open_done.new.store (c.open_done.ensures.guards guarded) c.sound_law.ensures.complete c.in_ok-open_done.ensures.opened

@@ -26,9 +26,13 @@ returns-in_err-insert-clause-too_many g c = λ is points can has.
     let own = tree.rules_of c.args.at.now.grown in
     let kept = rules_of c.args.plan.now.kept in
     let same : own ≡ kept = c.requires.tree.rules in
-    omega (arith, c.from.ensures, many-then own kept same n k points c.from.result
-    (c.in_err-insert.ensures.too_many (ap (λ (e : InsertError). Err e) (inserted-many c.in_err-insert.field-0.0 (search (rules, is)))) (take n points) (drop n points) has.rest (points-then own kept same n k points can)
-    (subst (λ (r : Rules). AreSampled r (take n points) (tree.nodes_of c.args.at.now.grown)) (sym same) has.sampled)))
+    omega (
+      arith,
+      c.from.ensures,
+      many-then own kept same n k points c.from.result
+          (c.in_err-insert.ensures.too_many (ap (λ (e : InsertError). Err e) (inserted-many c.in_err-insert.field-0.0 (search (rules, is)))) (take n points) (drop n points) has.rest (points-then own kept same n k points can)
+          (subst (λ (r : Rules). AreSampled r (take n points) (tree.nodes_of c.args.at.now.grown)) (sym same) has.sampled)),
+    )
 
 pub returns-in_err-insert-clause-no_change : goal.returns-in_err-insert-clause-no_change
 returns-in_err-insert-clause-no_change g c = λ source number is points can has.
