@@ -3,6 +3,9 @@ use Rattle.std.proofs.Common.{◌≡◌, ◌⊎◌, inl, inr, ⊎_elim, ℕ, Lis
 use Rattle.std.specs.Prelude.{Result, IsOk, IsErrAnd, IfOk, IfErr}
 use Rattle.ept_base.specs.Files.{Files, SameFiles, StepsBy, Tells}
 use Rattle.ept_base.specs.Moves.{Moves}
+use Rattle.ept_ckpt.specs.declared.letter.Letter.{Letter}
+use Rattle.ept_save.specs.Opening.{IsBad}
+use Rattle.ept_save.specs.Current.{Current, HasCurrent}
 use Rattle.ept_save.specs.Sound.{IsSound}
 use Rattle.ept_save.specs.SoundLaws.{SameIsSound}
 use Rattle.ept_save.proofs.Standing.{settled_some}
@@ -14,10 +17,14 @@ use Rattle.ept_build.specs.declared.error.BuildError.{BuildError}
 use Rattle.ept_build.specs.declared.error.BuildError.TheVariants as build
 use Rattle.ept_build.specs.declared.summary.Summary.{Summary}
 use Rattle.ept_build.specs.Building as building
+use Rattle.ept_build.specs.Errors.{of_scan}
+use Rattle.ept_scan.specs.declared.scan_error.ScanError.{ScanError}
+use Rattle.ept_scan.specs.declared.scan_error.ScanError.TheVariants as scan
+use Rattle.ept_plan.specs.Plans as plans
 use Rattle.ept_tool.specs.declared.refusal.Refusal.{Refusal}
 use Rattle.ept_tool.specs.declared.refusal.Refusal.TheVariants.{Usage, BadConfiguration, BadLas, OutOfBounds, NoBounds, SourceChanged, TooManyPoints, TooManyNodes, Differs, BadCheckpoint, TileDamaged, SourceFault, StoreFault, Memory}
 use Rattle.ept_tool.specs.Errors.{of_build}
-use Rattle.ept_tool.specs.Requests.{HasConfiguration, HasBadConfiguration, IsAcceptedAt, IsDoneAt, IsBuiltAt, ConfigurationIsRefused, BuildIsRefused, IsDefinite, IsEarly, Fails}
+use Rattle.ept_tool.specs.Requests.{HasConfiguration, HasBadConfiguration, IsAcceptedAt, IsDoneAt, IsBuiltAt, Comes, ComesAt, DiffersAt, IsConfigured, TellsDifference, ConfigurationIsRefused, BuildIsRefused, IsDefinite, IsEarly, Fails}
 use Rattle.ept_config.proofs.FactsTell.{config_same}
 
 -- a fact of a told thing gives another
@@ -275,6 +282,105 @@ module _ (shelf later : Option Files) (same : later ≡ shelf) (path : List ℕ)
   pub begun_done : {M : Type 0} → ((all start : Files) → building.BeginsWith later store may all start → building.IsDoneAlready config start → M)
       → (all start : Files) → building.BeginsWith shelf store may all start → IsDoneAt all start path → M
   begun_done holds all start b asked = holds all start (begins all start b) (done_as all path config (known all start b) start asked)
+
+  -- why a build comes to a refusal is why the command does
+  module _ (answer : Result Summary BuildError) where
+    pub came_to : ((all start : Files) → building.BeginsWith later store may all start → (current : Current) (e : ScanError) → HasCurrent current start → plans.IsDefinite e → building.InputsAreRefused all config current e → (answer ≡ Err (of_scan e)) ⊎ building.Fails answer)
+        → ((all start : Files) → building.BeginsWith later store may all start → (current : Current) → HasCurrent current start → plans.GoesOn config current → ¬ building.IsDoneAlready config start → building.HasTooManyNodes all config current → (answer ≡ Err build.TooManyNodes) ⊎ building.Fails answer)
+        → (all start : Files) → building.BeginsWith shelf store may all start → (r : Refusal) → ComesAt all start r path → (told_as answer ≡ Err r) ⊎ Fails (told_as answer)
+    came_to inputs many all start b r asked = by r (subst (λ (c : Config). Comes all c start asked.current r) (one_config all path asked.config config asked.configures (known all start b)) asked.because)
+      where
+        of : (e : BuildError) → (answer ≡ Err e) ⊎ building.Fails answer → (told_as answer ≡ Err (of_build e)) ⊎ Fails (told_as answer)
+        of e came = ⊎_elim (λ is. inl (ap told_as is)) (λ fails. inr (fails_as all path config (known all start b) answer fails)) came
+
+        by : (r : Refusal) → Comes all config start asked.current r → (told_as answer ≡ Err r) ⊎ Fails (told_as answer)
+        by Usage why = absurd why
+        by (BadConfiguration e) why = absurd why
+        by (BadLas source fault) why = of (build.BadLas source fault) (inputs all start (begins all start b) asked.current (scan.BadLas source fault) asked.has_current (λ same. cc, λ same. cc) why)
+        by (OutOfBounds source number) why = of (build.OutOfBounds source number) (inputs all start (begins all start b) asked.current (scan.OutOfBounds source number) asked.has_current (λ same. cc, λ same. cc) why)
+        by NoBounds why = of build.NoBounds (inputs all start (begins all start b) asked.current scan.NoBounds asked.has_current (λ same. cc, λ same. cc) why)
+        by (SourceChanged source number) why = absurd why
+        by (TooManyPoints source) why = of (build.TooManyPoints source) (inputs all start (begins all start b) asked.current (scan.TooManyPoints source) asked.has_current (λ same. cc, λ same. cc) why)
+        by TooManyNodes why = of build.TooManyNodes (many all start (begins all start b) asked.current asked.has_current why.0 why.1 why.2)
+        by (Differs field) why = absurd why
+        by (BadCheckpoint letter) why = absurd why
+        by (TileDamaged key) why = absurd why
+        by SourceFault why = absurd why
+        by StoreFault why = absurd why
+        by Memory why = absurd why
+
+    pub differed_to : ((all start : Files) → building.BeginsWith later store may all start → (current : Current) → HasCurrent current start → ¬ plans.GoesOn config current → building.TellsDifference answer ⊎ building.Fails answer)
+        → (all start : Files) → building.BeginsWith shelf store may all start → DiffersAt all start path → TellsDifference (told_as answer) ⊎ Fails (told_as answer)
+    differed_to differs all start b asked =
+        let mine : ¬ plans.GoesOn config asked.current = subst (λ (c : Config). ¬ plans.GoesOn c asked.current) (one_config all path asked.config config asked.configures (known all start b)) asked.differs in
+        ⊎_elim (λ (told : building.TellsDifference answer). inl (told.0, ap told_as told.3)) (λ fails. inr (fails_as all path config (known all start b) answer fails)) (differs all start (begins all start b) asked.current asked.has_current mine)
+
+    pub bad_to : ((letter : Letter) → (start : Files) → store ≡ Some start → IsBad start letter → (answer ≡ Err (build.BadCheckpoint letter)) ⊎ building.Fails answer)
+        → (all start : Files) (letter : Letter) → shelf ≡ Some all → store ≡ Some start → IsBad start letter → IsConfigured all path → (told_as answer ≡ Err (BadCheckpoint letter)) ⊎ Fails (told_as answer)
+    bad_to bad all start letter told stored is asked =
+        ⊎_elim (λ is. inl (ap told_as is)) (λ fails. inr (fails_as all path config asked_config answer fails)) (bad letter start stored is)
+      where
+        asked_config : HasConfiguration all path config
+        asked_config = subst (λ (o : Option Files). Tells (λ all. HasConfiguration all path config) o) told configures
+
+-- ---- of a configuration that is refused
+
+module _ (files : Option Files) (path : List ℕ) {A : Type 0} (answer : Result A Refusal) (e : Refusal) (is : answer ≡ Err e) (refused : Tells (λ all. ConfigurationIsRefused all path e) files) where
+  refused_told : (all : Files) → files ≡ Some all → ConfigurationIsRefused all path e
+  refused_told all told = subst (λ (o : Option Files). Tells (λ all. ConfigurationIsRefused all path e) o) told refused
+
+  -- it is none, so it is refused for want of memory or a fault of the shelf
+  only_fails : (all : Files) (config : Config) → files ≡ Some all → HasConfiguration all path config → Fails answer
+  only_fails all config told has = by e is (refused_told all told)
+    where
+      by : (r : Refusal) → answer ≡ Err r → ConfigurationIsRefused all path r → Fails answer
+      by (BadConfiguration error) same why = absurd (not_both all path config error has why)
+      by SourceFault same why = inl same
+      by Memory same why = inr (inr same)
+      by Usage same why = absurd why
+      by (BadLas source fault) same why = absurd why
+      by (OutOfBounds source number) same why = absurd why
+      by NoBounds same why = absurd why
+      by (SourceChanged source number) same why = absurd why
+      by (TooManyPoints source) same why = absurd why
+      by TooManyNodes same why = absurd why
+      by (Differs field) same why = absurd why
+      by (BadCheckpoint letter) same why = absurd why
+      by (TileDamaged key) same why = absurd why
+      by StoreFault same why = absurd why
+
+  pub never_comes : (store : Option Files) (may : Files → Type 0) (all start : Files) → building.BeginsWith files store may all start → (r : Refusal) → ComesAt all start r path → (answer ≡ Err r) ⊎ Fails answer
+  never_comes store may all start b r asked = inr (only_fails all asked.config b.shelf_told asked.configures)
+
+  pub never_differs : (store : Option Files) (may : Files → Type 0) (all start : Files) → building.BeginsWith files store may all start → DiffersAt all start path → TellsDifference answer ⊎ Fails answer
+  never_differs store may all start b asked = inr (only_fails all asked.config b.shelf_told asked.configures)
+
+  pub never_bad : (store : Option Files) (all start : Files) (letter : Letter) → files ≡ Some all → store ≡ Some start → IsBad start letter → IsConfigured all path → (answer ≡ Err (BadCheckpoint letter)) ⊎ Fails answer
+  never_bad store all start letter told stored bad asked = inr (only_fails all asked.0 told asked.1)
+
+-- a difference that is passed on comes as it came
+pub carried_difference : {A B : Type 0} (a : Result A Refusal) (b : Result B Refusal) (e : Refusal) → a ≡ Err e → IsErrAnd b (λ x. x ≡ e) → TellsDifference a ⊎ Fails a → TellsDifference b ⊎ Fails b
+carried_difference {A} a b e is_a is_b (inl told) = inl (told.0, is_err b e is_b ∙ ap Err (err_same {A = A} e (Differs told.0) (sym is_a ∙ told.1)))
+carried_difference {A} a b e is_a is_b (inr (inl fault)) = inr (inl (is_err b e is_b ∙ ap Err (err_same {A = A} e SourceFault (sym is_a ∙ fault))))
+carried_difference {A} a b e is_a is_b (inr (inr (inl fault))) = inr (inr (inl (is_err b e is_b ∙ ap Err (err_same {A = A} e StoreFault (sym is_a ∙ fault)))))
+carried_difference {A} a b e is_a is_b (inr (inr (inr lack))) = inr (inr (inr (is_err b e is_b ∙ ap Err (err_same {A = A} e Memory (sym is_a ∙ lack)))))
+
+pub carried_one : {A B : Type 0} (a : Result A Refusal) (b : Result B Refusal) (e r : Refusal) → a ≡ Err e → IsErrAnd b (λ x. x ≡ e) → (a ≡ Err r) ⊎ Fails a → (b ≡ Err r) ⊎ Fails b
+carried_one a b e r is_a is_b came = carried a b e r is_a (is_err b e is_b) came
+
+-- an answer that is accepted comes to no refusal
+ok_fails : {A : Type 0} (a : Result A Refusal) (x : A) → a ≡ Ok x → Fails a → ⊥
+ok_fails a x is (inl fault) = differ x SourceFault (sym is ∙ fault)
+ok_fails a x is (inr (inl fault)) = differ x StoreFault (sym is ∙ fault)
+ok_fails a x is (inr (inr lack)) = differ x Memory (sym is ∙ lack)
+
+pub ok_comes : {A : Type 0} (a : Result A Refusal) (x : A) (r : Refusal) → a ≡ Ok x → (a ≡ Err r) ⊎ Fails a → ⊥
+ok_comes a x r is (inl refused) = differ x r (sym is ∙ refused)
+ok_comes a x r is (inr fails) = ok_fails a x is fails
+
+pub ok_differs : {A : Type 0} (a : Result A Refusal) (x : A) → a ≡ Ok x → TellsDifference a ⊎ Fails a → ⊥
+ok_differs a x is (inl told) = differ x (Differs told.0) (sym is ∙ told.1)
+ok_differs a x is (inr fails) = ok_fails a x is fails
 
 -- ---- a store that is left as it is
 

@@ -9,8 +9,8 @@ use Rattle.ept_tool.specs.Words.{IsUsage}
 use Rattle.ept_tool.specs.declared.refusal.Refusal.{Refusal}
 use Rattle.ept_tool.specs.declared.refusal.Refusal.TheVariants.{Usage, BadConfiguration, BadLas, OutOfBounds, NoBounds, SourceChanged, TooManyPoints, TooManyNodes, Differs, BadCheckpoint, TileDamaged, SourceFault, StoreFault, Memory}
 use Rattle.ept_tool.specs.Lines.{status_of, line_of}
-use Rattle.ept_tool.specs.Requests.{IsDefinite, IsEarly, Fails}
-use Rattle.ept_tool.specs.Answers.{Yields, YieldsRefusal, IsAnswer, IsDone, Ends, IsFaulty, IsRefused, HasRisen, Says, IsTold, EndsWith, Refuses, IsCut}
+use Rattle.ept_tool.specs.Requests.{IsDefinite, IsEarly, TellsDifference, Fails}
+use Rattle.ept_tool.specs.Answers.{Yields, YieldsRefusal, YieldsDifference, IsAnswer, IsDone, Ends, IsFaulty, IsRefused, HasRisen, Says, IsTold, EndsWith, Refuses, IsCut}
 
 -- ---- statuses
 
@@ -117,12 +117,16 @@ module _ (status : ℕ) (said_old said_new : Option (List ℕ)) (failed : Type 0
   fails_yields answer (inr (inl is)) ends = told_status StoreFault (told_with answer StoreFault is ends)
   fails_yields answer (inr (inr is)) ends = ⊎_elim (λ memory. inr memory) (λ memory. inr memory) (told_status Memory (told_with answer Memory is ends))
 
-  comes_yields : (answer : Result (Vec ℕ Global) Refusal) (r : Refusal) → (answer ≡ Err r) ⊎ Fails answer → EndsWith answer status said_old said_new failed → YieldsRefusal r status said_old said_new failed
+  pub comes_yields : (answer : Result (Vec ℕ Global) Refusal) (r : Refusal) → (answer ≡ Err r) ⊎ Fails answer → EndsWith answer status said_old said_new failed → YieldsRefusal r status said_old said_new failed
   comes_yields answer r (inr fails) ends = inr (fails_yields answer fails ends)
   comes_yields answer r (inl is) ends =
       let told = told_with answer r is ends in
       ⊎_elim (λ same. inl (sym told.status_is ∙ ap status_of same, subst (λ (x : Refusal). Says (line_of x) said_old said_new failed) same told.says))
       (λ same. inr (inr (sym told.status_is ∙ ap status_of same))) told.told_is
+
+  pub differs_yields : (answer : Result (Vec ℕ Global) Refusal) → TellsDifference answer ⊎ Fails answer → EndsWith answer status said_old said_new failed → YieldsDifference status said_old said_new failed
+  differs_yields answer (inr fails) ends = inr (fails_yields answer fails ends)
+  differs_yields answer (inl told) ends = ⊎_elim (λ said. inl (told.0, said.0, said.1)) (λ other. inr other) (comes_yields answer (Differs told.0) (inl told.1) ends)
 
   ok_yields : (answer : Result (Vec ℕ Global) Refusal) → IsOk answer → EndsWith answer status said_old said_new failed → Yields 0 status
   ok_yields (Ok line) is (inl ok) = inl ok.0

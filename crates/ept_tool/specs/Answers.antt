@@ -6,6 +6,7 @@ use Rattle.ept_base.specs.Devices.{AppendsPrefix}
 use Rattle.ept_base.specs.Files.{Files, Tells}
 use Rattle.ept_las.specs.declared.header.Header.{Header}
 use Rattle.ept_space.specs.declared.box3.Box3.{Box3}
+use Rattle.ept_meta.specs.declared.fields.Field.{Field}
 use Rattle.ept_tool.specs.declared.refusal.Refusal.{Refusal}
 use Rattle.ept_tool.specs.declared.refusal.Refusal.TheVariants.{Usage, BadConfiguration, BadLas, OutOfBounds, NoBounds, SourceChanged, TooManyPoints, TooManyNodes, Differs, BadCheckpoint, TileDamaged, SourceFault, StoreFault, Memory}
 use Rattle.ept_tool.specs.Words.{IsBuild, IsInfo, IsQuery, IsUsage}
@@ -134,3 +135,8 @@ pub record IsCut (words : List (List ℕ)) (files : Option Files) (Begins : File
 abbrev pub YieldsRefusal : Refusal → ℕ → Option (List ℕ) → Option (List ℕ) → Type 0 → Type 0
 YieldsRefusal r status old new failed =
     ((status ≡ status_of r) × Says (line_of r) old new failed) ⊎ (status ≡ 7) ⊎ (status ≡ 9)
+
+-- some field is told as one that differs, if no device failed and memory sufficed
+abbrev pub YieldsDifference : ℕ → Option (List ℕ) → Option (List ℕ) → Type 0 → Type 0
+YieldsDifference status old new failed =
+    ((field : Field) × (status ≡ 6) × Says (line_of (Differs field)) old new failed) ⊎ (status ≡ 7) ⊎ (status ≡ 9)

@@ -10,6 +10,10 @@ use Rattle.ept_las.specs.declared.header.Header.{Header}
 use Rattle.ept_las.specs.declared.las_error.LasError.{LasError}
 use Rattle.ept_las.specs.LasHeader.{HeaderReadsAs}
 use Rattle.ept_scan.specs.LasFile.{head_of}
+use Rattle.ept_scan.specs.declared.scan_error.ScanError.TheVariants as scan
+use Rattle.ept_meta.specs.declared.fields.Field.{Field}
+use Rattle.ept_save.specs.Current.{Current, HasCurrent}
+use Rattle.ept_plan.specs.Plans.{GoesOn}
 use Rattle.ept_build.specs.declared.error.BuildError.{BuildError}
 use Rattle.ept_build.specs.declared.error.BuildError.TheVariants as build
 use Rattle.ept_build.specs.declared.summary.Summary.{Summary}
@@ -65,6 +69,43 @@ pub record IsAcceptedAt (files start : Files) (path : List ℕ) : Type 0 where
   pub config : Config
   pub configures : HasConfiguration files path config
   pub accepted : building.IsAccepted files config start
+
+-- why a build of the configuration over a store with this current checkpoint comes to a refusal
+abbrev pub Comes : Files → Config → Files → Current → Refusal → Type 0
+Comes files config start current Usage = ⊥
+Comes files config start current (BadConfiguration error) = ⊥
+Comes files config start current (BadLas source fault) = building.InputsAreRefused files config current (scan.BadLas source fault)
+Comes files config start current (OutOfBounds source number) = building.InputsAreRefused files config current (scan.OutOfBounds source number)
+Comes files config start current NoBounds = building.InputsAreRefused files config current scan.NoBounds
+Comes files config start current (SourceChanged source number) = ⊥
+Comes files config start current (TooManyPoints source) = building.InputsAreRefused files config current (scan.TooManyPoints source)
+Comes files config start current TooManyNodes = GoesOn config current × (¬ building.IsDoneAlready config start) × building.HasTooManyNodes files config current
+Comes files config start current (Differs field) = ⊥
+Comes files config start current (BadCheckpoint letter) = ⊥
+Comes files config start current (TileDamaged key) = ⊥
+Comes files config start current SourceFault = ⊥
+Comes files config start current StoreFault = ⊥
+Comes files config start current Memory = ⊥
+
+-- it is a configuration, and its build over a store with these files comes to this refusal
+pub record ComesAt (files start : Files) (r : Refusal) (path : List ℕ) : Type 0 where
+  pub config : Config
+  pub configures : HasConfiguration files path config
+  pub current : Current
+  pub has_current : HasCurrent current start
+  pub because : Comes files config start current r
+
+-- it is a configuration that does not go on from what the current checkpoint keeps
+pub record DiffersAt (files start : Files) (path : List ℕ) : Type 0 where
+  pub config : Config
+  pub configures : HasConfiguration files path config
+  pub current : Current
+  pub has_current : HasCurrent current start
+  pub differs : ¬ GoesOn config current
+
+-- it is a configuration
+abbrev pub IsConfigured : Files → List ℕ → Type 0
+IsConfigured files path = (config : Config) × HasConfiguration files path config
 
 -- it is a configuration, and nothing of its build is left to be done over a store with these files
 pub record IsDoneAt (files start : Files) (path : List ℕ) : Type 0 where
@@ -152,6 +193,10 @@ IsDefinite r = IsFault r → ⊥
 -- the answer is a fault of a device, or want of memory
 abbrev pub Fails : {A : Type 0} → Result A Refusal → Type 0
 Fails answer = (answer ≡ Err SourceFault) ⊎ (answer ≡ Err StoreFault) ⊎ (answer ≡ Err Memory)
+
+-- the answer is a field that differs
+abbrev pub TellsDifference : {A : Type 0} → Result A Refusal → Type 0
+TellsDifference answer = (field : Field) × (answer ≡ Err (Differs field))
 
 -- a cause after which nothing was put: what is given is read, compared and scanned before
 abbrev pub IsEarly : Refusal → Type 0

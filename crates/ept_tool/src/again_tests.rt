@@ -30,12 +30,15 @@ const NAMES: [&str; 5] = [
     "ept-build.json",
 ];
 
-/// Builds this configuration of two scans into the store, and answers the status and the line.
-fn build(
-    alloc: Global,
-    store: &mut MemStore,
-    configuration: &str,
-) -> Result<(u8, MemSink), AllocError> {
+/// What a build answers.
+#[derive(Drop)]
+struct Told {
+    status: u8,
+    out: MemSink,
+}
+
+/// Builds this configuration of two scans into the store.
+fn build(alloc: Global, store: &mut MemStore, configuration: &str) -> Result<Told, AllocError> {
     let mut files = Vec::new(alloc);
     files.push(file(alloc, "a.json", configuration.as_bytes())?)?;
     files.push(file(alloc, "a.las", &las(alloc, 1, &[at(1, 2, 3)])?)?)?;
@@ -47,13 +50,10 @@ fn build(
     let status = run(
         alloc, &words, &mut shelf, store, &mut room, &mut out, &OpenGate,
     );
-    if status == 9 {
-        return Err(AllocError);
-    }
-    Ok((status, out))
+    Ok(Told { status, out })
 }
 
-/// Compares the status and the line of a build into the store.
+/// Compares the status and the line of a build into the store. One that may have found no memory is run again.
 fn expect(
     rt: &impl Abort,
     alloc: Global,
@@ -61,15 +61,13 @@ fn expect(
     configuration: &str,
     want: (u8, &str),
 ) -> Result<(), AllocError> {
-    let (status, out) = build(alloc, store, configuration)?;
-    if out.bytes() != want.1.as_bytes() {
-        // The sink has not all of a line where it found no memory.
-        let (status, out) = build(alloc, store, configuration)?;
-        assert_eq!(rt; status, want.0, "{}", want.1);
-        assert_eq!(rt; out.bytes(), want.1.as_bytes());
-        return Ok(());
+    let (status, line) = want;
+    let mut found = build(alloc, store, configuration)?;
+    if found.out.bytes() != line.as_bytes() {
+        found = build(alloc, store, configuration)?;
     }
-    assert_eq!(rt; status, want.0, "{}", want.1);
+    assert_eq!(rt; found.status, status, "{line}");
+    assert_eq!(rt; found.out.bytes(), line.as_bytes(), "{line}");
     Ok(())
 }
 
@@ -117,9 +115,8 @@ fn expect_kept(rt: &impl Abort, alloc: Global) -> Result<(), AllocError> {
         }
     }
     let mut both = MemStore::new(alloc, Vec::new(alloc), Vec::new(alloc));
-    for left in [&mut both, &mut store] {
-        expect(rt, alloc, left, BOTH, (0, "points 2 nodes 1\n"))?;
-    }
+    expect(rt, alloc, &mut both, BOTH, (0, "points 2 nodes 1\n"))?;
+    expect(rt, alloc, &mut store, BOTH, (0, "points 2 nodes 1\n"))?;
     for name in NAMES {
         assert_eq!(rt; store.file(name), both.file(name), "{name}");
     }

@@ -1,14 +1,16 @@
 //! The commands: each answers the line that it ends with, or why it is refused.
 
-ghost use Rattle.std.specs.Prelude.{◌≡◌, ◌≢◌, ◌⊎◌, ℕ, Err, IsOk, IfOk, IfErr, OnOk};
+ghost use Rattle.std.specs.Prelude.{◌≡◌, ◌≢◌, ◌⊎◌, ℕ, Err, Some, IsOk, IfOk, IfErr, OnOk};
 ghost use Rattle.ept_base.specs.Causes.{HasCauseOf};
 ghost use Rattle.ept_base.specs.Files.{Files, SameFiles, Tells};
 ghost use Rattle.ept_base.specs.Moves.{Moves, IsSettled};
 ghost use Rattle.ept_las.specs.declared.header.Header as found;
+ghost use Rattle.ept_ckpt.specs.declared.letter.Letter.{Letter};
+ghost use Rattle.ept_save.specs.Opening.{IsBad};
 ghost use Rattle.ept_save.specs.Sound.{IsSound};
 ghost use Rattle.ept_build.specs.Building.{BeginsWith};
 ghost use Rattle.ept_tool.specs.Lines.{summary_text, header_text};
-ghost use Rattle.ept_tool.specs.Requests.{IsBuiltAt, HasBuilt, IsAcceptedAt, IsDoneAt, ConfigurationIsRefused, BuildIsRefused, HasTold, HasHeader, InfoIsRefused, IsOfBuild, IsOfHeader, IsDefinite, IsEarly, Fails};
+ghost use Rattle.ept_tool.specs.Requests.{IsBuiltAt, HasBuilt, IsAcceptedAt, IsDoneAt, ComesAt, DiffersAt, IsConfigured, TellsDifference, ConfigurationIsRefused, BuildIsRefused, HasTold, HasHeader, InfoIsRefused, IsOfBuild, IsOfHeader, IsDefinite, IsEarly, Fails};
 
 use crate::files::{read_configuration, read_file_header};
 use crate::lines::{header_line, summary_line};
@@ -46,6 +48,13 @@ where
         → (result ≡ Err r) ⊎ Fails result) (H.files shelf.old) }
     ensures accepted { (all start : Files) → BeginsWith (H.files shelf.old) (T.files store.old) (T.may_leave store.old) all start
         → IsAcceptedAt all start path.now → IsOk result ⊎ Fails result }
+    ensures comes { (all start : Files) → BeginsWith (H.files shelf.old) (T.files store.old) (T.may_leave store.old) all start
+        → (r : Refusal) → ComesAt all start r path.now → (result ≡ Err r) ⊎ Fails result }
+    ensures differs_comes { (all start : Files) → BeginsWith (H.files shelf.old) (T.files store.old) (T.may_leave store.old) all start
+        → DiffersAt all start path.now → TellsDifference result ⊎ Fails result }
+    ensures bad_comes { (all start : Files) (letter : Letter) → H.files shelf.old ≡ Some all
+        → T.files store.old ≡ Some start → IsBad start letter → IsConfigured all path.now
+        → (result ≡ Err (Refusal.BadCheckpoint letter)) ⊎ Fails result }
     ensures causes { IfErr result IsOfBuild }
     ensures sources { HasCauseOf Refusal.SourceFault (H.faults shelf.old) (H.faults shelf.new) result }
     ensures stores { HasCauseOf Refusal.StoreFault (T.faults store.old) (T.faults store.new) result }
@@ -86,6 +95,13 @@ where
         → (result ≡ Err r) ⊎ Fails result) (H.files shelf.old) }
     ensures accepted { (all start : Files) → BeginsWith (H.files shelf.old) (T.files store.old) (T.may_leave store.old) all start
         → IsAcceptedAt all start path.now → IsOk result ⊎ Fails result }
+    ensures comes { (all start : Files) → BeginsWith (H.files shelf.old) (T.files store.old) (T.may_leave store.old) all start
+        → (r : Refusal) → ComesAt all start r path.now → (result ≡ Err r) ⊎ Fails result }
+    ensures differs_comes { (all start : Files) → BeginsWith (H.files shelf.old) (T.files store.old) (T.may_leave store.old) all start
+        → DiffersAt all start path.now → TellsDifference result ⊎ Fails result }
+    ensures bad_comes { (all start : Files) (letter : Letter) → H.files shelf.old ≡ Some all
+        → T.files store.old ≡ Some start → IsBad start letter → IsConfigured all path.now
+        → (result ≡ Err (Refusal.BadCheckpoint letter)) ⊎ Fails result }
     ensures causes { IfErr result IsOfBuild }
     ensures sources { HasCauseOf Refusal.SourceFault (H.faults shelf.old) (H.faults shelf.new) result }
     ensures stores { HasCauseOf Refusal.StoreFault (T.faults store.old) (T.faults store.new) result }

@@ -1,18 +1,21 @@
 //! A run of the program.
 
-ghost use Rattle.std.specs.Prelude.{◌≡◌, ◌≢◌, ◌⊎◌, ◌↔◌, ℕ, List, ⊤};
+ghost use Rattle.std.specs.Prelude.{◌≡◌, ◌≢◌, ◌⊎◌, ◌↔◌, ℕ, List, Some, ⊤};
 ghost use Rattle.std.specs.Io.KnownBytes.{Appends};
 ghost use Rattle.ept_base.specs.Causes.{Rose};
 ghost use Rattle.ept_base.specs.Files.{Files, SameFiles, Tells};
 ghost use Rattle.ept_base.specs.Moves.{Moves, IsSettled};
 ghost use Rattle.ept_las.specs.declared.header.Header as found;
 ghost use Rattle.ept_space.specs.declared.box3.Box3 as space;
+ghost use Rattle.ept_ckpt.specs.declared.letter.Letter.{Letter};
+ghost use Rattle.ept_save.specs.Opening.{IsBad};
 ghost use Rattle.ept_save.specs.Sound.{IsSound};
 ghost use Rattle.ept_build.specs.Building.{BeginsWith};
 ghost use Rattle.ept_tool.specs.declared.refusal.Refusal as cause;
+ghost use Rattle.ept_tool.specs.declared.refusal.Refusal.TheVariants.{BadCheckpoint};
 ghost use Rattle.ept_tool.specs.Words.{bytes_of, IsBuild, IsInfo, IsQuery, IsUsage, IsLater};
-ghost use Rattle.ept_tool.specs.Requests.{IsAcceptedAt, IsDoneAt, HasHeader, IsDefinite};
-ghost use Rattle.ept_tool.specs.Answers.{Yields, YieldsRefusal, AsksBuild, AsksInfo, AsksQuery, Ends, IsFaulty, Refuses, IsCut};
+ghost use Rattle.ept_tool.specs.Requests.{IsAcceptedAt, IsDoneAt, ComesAt, DiffersAt, IsConfigured, HasHeader, IsDefinite};
+ghost use Rattle.ept_tool.specs.Answers.{Yields, YieldsRefusal, YieldsDifference, AsksBuild, AsksInfo, AsksQuery, Ends, IsFaulty, Refuses, IsCut};
 ghost use Rattle.ept_tool.specs.Queries.{EndsQuery};
 
 use crate::answers::{finish, refuse_usage};
@@ -95,6 +98,16 @@ where
         → IsFaulty (bytes_of words.now) all r
         → YieldsRefusal r result (O.written out.old) (O.written out.new)
         (Rose (O.faults out.old) (O.faults out.new))) (H.files shelf.old) }
+    ensures build_refusal_comes { (all start : Files) → BeginsWith (H.files shelf.old) (T.files store.old) (T.may_leave store.old) all start
+        → (r : cause.Refusal) → AsksBuild (bytes_of words.now) (ComesAt all start r)
+        → YieldsRefusal r result (O.written out.old) (O.written out.new) (Rose (O.faults out.old) (O.faults out.new)) }
+    ensures differs_comes { (all start : Files) → BeginsWith (H.files shelf.old) (T.files store.old) (T.may_leave store.old) all start
+        → AsksBuild (bytes_of words.now) (DiffersAt all start)
+        → YieldsDifference result (O.written out.old) (O.written out.new) (Rose (O.faults out.old) (O.faults out.new)) }
+    ensures bad_comes { (all start : Files) (letter : Letter) → H.files shelf.old ≡ Some all → T.files store.old ≡ Some start
+        → IsBad start letter → AsksBuild (bytes_of words.now) (IsConfigured all)
+        → YieldsRefusal (BadCheckpoint letter) result (O.written out.old) (O.written out.new)
+        (Rose (O.faults out.old) (O.faults out.new)) }
     ensures fault { result ≡ 7 → Rose (H.faults shelf.old) (H.faults shelf.new)
         ⊎ Rose (T.faults store.old) (T.faults store.new) ⊎ Rose (O.faults out.old) (O.faults out.new) }
 

@@ -8,8 +8,9 @@ use Rattle.ept_build.specs.declared.summary.Summary.{Summary}
 use Rattle.ept_build.specs.Building.{BeginsWith}
 use Rattle.ept_build.specs.Building as building
 use Rattle.ept_tool.specs.declared.refusal.Refusal.{Refusal}
-use Rattle.ept_tool.specs.Requests.{BuildIsRefused, IsAcceptedAt, IsEarly, Fails}
-use Rattle.ept_tool.proofs.Refused.{build_refused, build_comes, build_accepted, built_at, begun, begun_done, early_as, told_as, stays_sound}
+use Rattle.ept_tool.specs.Requests.{BuildIsRefused, IsEarly, Fails, TellsDifference}
+use Rattle.ept_tool.specs.declared.refusal.Refusal.TheVariants.{BadCheckpoint}
+use Rattle.ept_tool.proofs.Refused.{came_to, differed_to, bad_to, build_refused, build_comes, build_accepted, built_at, begun, begun_done, early_as, told_as, stays_sound}
 use Rattle.ept_tool.proofs.commands.carry_out_build.Goals as goal
 
 pub returns-in-Ok-clause-built : goal.returns-in-Ok-clause-built
@@ -57,3 +58,27 @@ returns-clause-early g c =
 pub returns-in_err-config-clause-sound : goal.returns-in_err-config-clause-sound
 returns-in_err-config-clause-sound g c =
     stays_sound g.T.Store.files g.T.Store.may_leave g.T.Store.moment g.T.Store.image_since c.sound_steps_law.ensures.same (g.H.Shelf.files c.args.shelf.now) c.args.store.now
+
+pub returns-in-Ok-clause-comes : goal.returns-in-Ok-clause-comes
+returns-in-Ok-clause-comes g c = λ all start begins r asked. subst (λ (a : Result Summary Refusal). (a ≡ Err r) ⊎ Fails a) (ap told_as c.in-Ok.is)
+    (came_to (g.H.Shelf.files c.args.shelf.now) (g.H.Shelf.files c.read_configuration.new.shelf) c.read_configuration.ensures.files c.args.path.now c.in_ok-config.config c.in_ok-config.ensures.ok (g.T.Store.files c.args.store.now) (g.T.Store.may_leave c.args.store.now) c.build.result c.build.ensures.refusal_comes c.build.ensures.too_many_comes all start begins r asked)
+
+pub returns-in-Ok-clause-differs_comes : goal.returns-in-Ok-clause-differs_comes
+returns-in-Ok-clause-differs_comes g c = λ all start begins asked. subst (λ (a : Result Summary Refusal). TellsDifference a ⊎ Fails a) (ap told_as c.in-Ok.is)
+    (differed_to (g.H.Shelf.files c.args.shelf.now) (g.H.Shelf.files c.read_configuration.new.shelf) c.read_configuration.ensures.files c.args.path.now c.in_ok-config.config c.in_ok-config.ensures.ok (g.T.Store.files c.args.store.now) (g.T.Store.may_leave c.args.store.now) c.build.result c.build.ensures.differs_comes all start begins asked)
+
+pub returns-in-Ok-clause-bad_comes : goal.returns-in-Ok-clause-bad_comes
+returns-in-Ok-clause-bad_comes g c = λ all start letter told stored bad asked. subst (λ (a : Result Summary Refusal). (a ≡ Err (BadCheckpoint letter)) ⊎ Fails a) (ap told_as c.in-Ok.is)
+    (bad_to (g.H.Shelf.files c.args.shelf.now) (g.H.Shelf.files c.read_configuration.new.shelf) c.read_configuration.ensures.files c.args.path.now c.in_ok-config.config c.in_ok-config.ensures.ok (g.T.Store.files c.args.store.now) (g.T.Store.may_leave c.args.store.now) c.build.result c.build.ensures.bad_comes all start letter told stored bad asked)
+
+pub returns-clause-comes : goal.returns-clause-comes
+returns-clause-comes g c = λ all start begins r asked. subst (λ (a : Result Summary Refusal). (a ≡ Err r) ⊎ Fails a) (ap told_as c.in-Err.is ∙ ap Err (sym c.from.ensures))
+    (came_to (g.H.Shelf.files c.args.shelf.now) (g.H.Shelf.files c.read_configuration.new.shelf) c.read_configuration.ensures.files c.args.path.now c.in_ok-config.config c.in_ok-config.ensures.ok (g.T.Store.files c.args.store.now) (g.T.Store.may_leave c.args.store.now) c.build.result c.build.ensures.refusal_comes c.build.ensures.too_many_comes all start begins r asked)
+
+pub returns-clause-differs_comes : goal.returns-clause-differs_comes
+returns-clause-differs_comes g c = λ all start begins asked. subst (λ (a : Result Summary Refusal). TellsDifference a ⊎ Fails a) (ap told_as c.in-Err.is ∙ ap Err (sym c.from.ensures))
+    (differed_to (g.H.Shelf.files c.args.shelf.now) (g.H.Shelf.files c.read_configuration.new.shelf) c.read_configuration.ensures.files c.args.path.now c.in_ok-config.config c.in_ok-config.ensures.ok (g.T.Store.files c.args.store.now) (g.T.Store.may_leave c.args.store.now) c.build.result c.build.ensures.differs_comes all start begins asked)
+
+pub returns-clause-bad_comes : goal.returns-clause-bad_comes
+returns-clause-bad_comes g c = λ all start letter told stored bad asked. subst (λ (a : Result Summary Refusal). (a ≡ Err (BadCheckpoint letter)) ⊎ Fails a) (ap told_as c.in-Err.is ∙ ap Err (sym c.from.ensures))
+    (bad_to (g.H.Shelf.files c.args.shelf.now) (g.H.Shelf.files c.read_configuration.new.shelf) c.read_configuration.ensures.files c.args.path.now c.in_ok-config.config c.in_ok-config.ensures.ok (g.T.Store.files c.args.store.now) (g.T.Store.may_leave c.args.store.now) c.build.result c.build.ensures.bad_comes all start letter told stored bad asked)

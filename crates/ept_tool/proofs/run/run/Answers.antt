@@ -2,10 +2,10 @@ use Rattle.std.proofs.Common.{map, string_bytes, refl, sym, inl, inr}
 use Rattle.ept_base.specs.Causes.{Rose}
 use Rattle.ept_las.specs.declared.header.Header.{Header}
 use Rattle.ept_tool.specs.declared.refusal.Refusal.{Refusal}
-use Rattle.ept_tool.specs.declared.refusal.Refusal.TheVariants.{Usage}
-use Rattle.ept_tool.specs.Requests.{IsAcceptedAt, IsDoneAt, HasHeader, IsDefinite}
+use Rattle.ept_tool.specs.declared.refusal.Refusal.TheVariants.{Usage, BadCheckpoint}
+use Rattle.ept_tool.specs.Requests.{IsAcceptedAt, IsDoneAt, ComesAt, DiffersAt, IsConfigured, HasHeader, IsDefinite}
 use Rattle.ept_tool.specs.Answers.{Yields, YieldsRefusal, AsksInfo, IsFaulty, IsRefused}
-use Rattle.ept_tool.proofs.Runs.{Carries, never_usage, never_later, is_done, has_risen, is_refused, refusal_yields, accepted_yields, info_yields, usage_yields}
+use Rattle.ept_tool.proofs.Runs.{Carries, never_usage, never_later, is_done, has_risen, is_refused, refusal_yields, accepted_yields, comes_yields, differs_yields, info_yields, usage_yields}
 use Rattle.ept_tool.proofs.Asked.{told_always, of_build, build_or_info, build_carries, info_carries, info_accepted}
 use Rattle.ept_build.specs.Building.{BeginsWith}
 use Rattle.ept_base.specs.Files.{SameFiles}
@@ -239,3 +239,53 @@ returns-in-Usage-clause-query g c = λ folder area first last is. absurd (c.in-U
 
 pub returns-in-Usage-clause-query_puts_nothing : goal.returns-in-Usage-clause-query_puts_nothing
 returns-in-Usage-clause-query_puts_nothing g c = λ asks. absurd (c.in-Usage.ensures.not_query asks.folder asks.area asks.first asks.last asks.words_are)
+
+-- ---- a build that is refused
+
+pub returns-in-Build-clause-build_refusal_comes : goal.returns-in-Build-clause-build_refusal_comes
+returns-in-Build-clause-build_refusal_comes g c = λ all start begins r asks.
+    comes_yields c.finish.result (g.O.Sink.written c.args.out.now) (g.O.Sink.written c.finish.new.out) (Rose (g.O.Sink.faults c.args.out.now) (g.O.Sink.faults c.finish.new.out)) c.build_line-line.result r (c.build_line-line.ensures.comes all start begins r (of_build (map string_bytes c.args.words.now) c.in-Build.config.now c.in-Build.out.now c.in-Build.ensures {P = ComesAt all start r} asks)) c.finish.ensures
+
+pub returns-in-Build-clause-differs_comes : goal.returns-in-Build-clause-differs_comes
+returns-in-Build-clause-differs_comes g c = λ all start begins asks.
+    differs_yields c.finish.result (g.O.Sink.written c.args.out.now) (g.O.Sink.written c.finish.new.out) (Rose (g.O.Sink.faults c.args.out.now) (g.O.Sink.faults c.finish.new.out)) c.build_line-line.result (c.build_line-line.ensures.differs_comes all start begins (of_build (map string_bytes c.args.words.now) c.in-Build.config.now c.in-Build.out.now c.in-Build.ensures {P = DiffersAt all start} asks)) c.finish.ensures
+
+pub returns-in-Build-clause-bad_comes : goal.returns-in-Build-clause-bad_comes
+returns-in-Build-clause-bad_comes g c = λ all start letter told stored bad asks.
+    comes_yields c.finish.result (g.O.Sink.written c.args.out.now) (g.O.Sink.written c.finish.new.out) (Rose (g.O.Sink.faults c.args.out.now) (g.O.Sink.faults c.finish.new.out)) c.build_line-line.result (BadCheckpoint letter) (c.build_line-line.ensures.bad_comes all start letter told stored bad (of_build (map string_bytes c.args.words.now) c.in-Build.config.now c.in-Build.out.now c.in-Build.ensures {P = IsConfigured all} asks)) c.finish.ensures
+
+pub returns-in-Usage-clause-build_refusal_comes : goal.returns-in-Usage-clause-build_refusal_comes
+returns-in-Usage-clause-build_refusal_comes g c = λ all start begins r asks. absurd (c.in-Usage.ensures.not_build asks.path asks.out asks.words_are)
+
+pub returns-in-Usage-clause-differs_comes : goal.returns-in-Usage-clause-differs_comes
+returns-in-Usage-clause-differs_comes g c = λ all start begins asks. absurd (c.in-Usage.ensures.not_build asks.path asks.out asks.words_are)
+
+pub returns-in-Usage-clause-bad_comes : goal.returns-in-Usage-clause-bad_comes
+returns-in-Usage-clause-bad_comes g c = λ all start letter told stored bad asks. absurd (c.in-Usage.ensures.not_build asks.path asks.out asks.words_are)
+
+pub returns-in-Info-clause-build_refusal_comes : goal.returns-in-Info-clause-build_refusal_comes
+returns-in-Info-clause-build_refusal_comes g c = λ all start begins r asks. absurd (build_or_info (map string_bytes c.args.words.now) asks.path asks.out c.in-Info.las.now asks.words_are c.in-Info.ensures)
+
+pub returns-in-Info-clause-differs_comes : goal.returns-in-Info-clause-differs_comes
+returns-in-Info-clause-differs_comes g c = λ all start begins asks. absurd (build_or_info (map string_bytes c.args.words.now) asks.path asks.out c.in-Info.las.now asks.words_are c.in-Info.ensures)
+
+pub returns-in-Info-clause-bad_comes : goal.returns-in-Info-clause-bad_comes
+returns-in-Info-clause-bad_comes g c = λ all start letter told stored bad asks. absurd (build_or_info (map string_bytes c.args.words.now) asks.path asks.out c.in-Info.las.now asks.words_are c.in-Info.ensures)
+
+pub returns-in-Later-clause-build_refusal_comes : goal.returns-in-Later-clause-build_refusal_comes
+returns-in-Later-clause-build_refusal_comes g c = λ all start begins r asks. absurd (build_or_later (map string_bytes c.args.words.now) asks.path asks.out asks.words_are c.in-Later.ensures)
+
+pub returns-in-Later-clause-differs_comes : goal.returns-in-Later-clause-differs_comes
+returns-in-Later-clause-differs_comes g c = λ all start begins asks. absurd (build_or_later (map string_bytes c.args.words.now) asks.path asks.out asks.words_are c.in-Later.ensures)
+
+pub returns-in-Later-clause-bad_comes : goal.returns-in-Later-clause-bad_comes
+returns-in-Later-clause-bad_comes g c = λ all start letter told stored bad asks. absurd (build_or_later (map string_bytes c.args.words.now) asks.path asks.out asks.words_are c.in-Later.ensures)
+
+pub returns-in-Query-clause-build_refusal_comes : goal.returns-in-Query-clause-build_refusal_comes
+returns-in-Query-clause-build_refusal_comes g c = λ all start begins r asks. absurd (query_or_build (map string_bytes c.args.words.now) c.in-Query.out.now c.in-Query.area c.in-Query.depths.0 c.in-Query.depths.1 c.in-Query.ensures asks.path asks.out asks.words_are)
+
+pub returns-in-Query-clause-differs_comes : goal.returns-in-Query-clause-differs_comes
+returns-in-Query-clause-differs_comes g c = λ all start begins asks. absurd (query_or_build (map string_bytes c.args.words.now) c.in-Query.out.now c.in-Query.area c.in-Query.depths.0 c.in-Query.depths.1 c.in-Query.ensures asks.path asks.out asks.words_are)
+
+pub returns-in-Query-clause-bad_comes : goal.returns-in-Query-clause-bad_comes
+returns-in-Query-clause-bad_comes g c = λ all start letter told stored bad asks. absurd (query_or_build (map string_bytes c.args.words.now) c.in-Query.out.now c.in-Query.area c.in-Query.depths.0 c.in-Query.depths.1 c.in-Query.ensures asks.path asks.out asks.words_are)
