@@ -37,7 +37,7 @@ use Rattle.ept_publish.specs.Publishing.{PutsAll, SameButThese}
 use Rattle.ept_publish.specs.PublishingLaws.{OutputIsThere}
 use Rattle.ept_plan.specs.declared.plan.Plan.{Plan}
 use Rattle.ept_plan.specs.Plans.{IsOf, inserted_by}
-use Rattle.ept_build.specs.Phases.{IsSoundUndone, AreOfShelf, IsOnWay}
+use Rattle.ept_build.specs.Phases.{IsSoundUndone, IsSoundAt, AreOfShelf, IsOnWay}
 use Rattle.ept_build.proofs.Moved.{AllAre, all-images, all-after, moves-after, moves-then}
 use Rattle.ept_build.proofs.PhaseSound.{scan-of}
 
@@ -117,18 +117,13 @@ module _ (one_output : OutputIsOne) (have_names : FilesHaveOutputNames) (outside
       all_there : HasAllOf out now
       all_there = subst (λ (w : List File). HasAllOf w now) out_is (there plan.kept plan.counts extent points old now are.can (subst (λ (w : List File). PutsAll w old now) is_its puts))
 
-  -- sound files with this current checkpoint
-  pub record IsEnd (files : Files) : Type 0 where
-    pub sound : IsSound shelf files
-    pub has : HasCurrent current files
-
-  pub open-keeps : (now old new : Files) → IsPublished shelf current now → Is old → Guards now old new → IsEnd new
+  pub open-keeps : (now old new : Files) → IsPublished shelf current now → Is old → Guards now old new → IsSoundAt shelf current new
   open-keeps now old new its is guards = record {
     sound = guarding shelf now old new current is.has its guards is.undone.sound;
     has = has_current-same current old new (λ l. guards.others (gate_name l) (λ same. done-gate l (sym same))) (λ l. guards.others (body_name l) (λ same. done-body l (sym same))) is.has;
   }
 
-  pub end-complete : DoneIsComplete → (files : Files) → IsEnd files → IsDone files → IsComplete plan.kept points files
+  pub end-complete : DoneIsComplete → (files : Files) → IsSoundAt shelf current files → IsDone files → IsComplete plan.kept points files
   end-complete complete files is done =
       let it = complete shelf files letter c is.has is.sound done in
       let same : it.0 ≡ points = scan_once shelf c.kept.scale (Some c.kept.bounds) c.kept.inputs 0 it.0 points _ _ it.1 scan in
@@ -147,8 +142,11 @@ module _ (one_output : OutputIsOne) (have_names : FilesHaveOutputNames) (outside
       abbrev pub all_one : AllAre files may_leave moment image_since Is one
       all_one = all-after files may_leave moment image_since Is (SameButThese (names_of put_files)) zero one Is put-keeps all_zero moved
 
-      pub put-moves : Moves files may_leave moment image_since (λ (a b : Files). IsSound shelf b) zero one
-      put-moves = moves-after files may_leave moment image_since Is (SameButThese (names_of put_files)) zero one (IsSound shelf) (λ a b is change. (put-keeps a b is change).undone.sound) all_zero moved
+      at_view : (a : Files) → IsSoundAt shelf current a → IsSoundAt shelf view.current a
+      at_view a is = subst (λ (w : Current). IsSoundAt shelf w a) (sym is_current) is
+
+      pub put-moves : Moves files may_leave moment image_since (λ (a b : Files). IsSoundAt shelf view.current b) zero one
+      put-moves = moves-after files may_leave moment image_since Is (SameButThese (names_of put_files)) zero one (IsSoundAt shelf view.current) (λ a b is change. let its = put-keeps a b is change in at_view b (record { sound = its.undone.sound; has = its.has })) all_zero moved
 
       abbrev pub then : (now : Files) × (files one ≡ Some now) × SameButThese (names_of put_files) way.stands.all now
       then = stepped (SameButThese (names_of put_files)) (files zero) (files one) way.stands.all way.stands.told moved.reads
@@ -170,16 +168,16 @@ module _ (one_output : OutputIsOne) (have_names : FilesHaveOutputNames) (outside
         abbrev pub its_published : IsPublished shelf current then.0
         its_published = published way.stands.all then.0 has_put
 
-        open-moves : Moves files may_leave moment image_since (λ (a b : Files). IsSound shelf b) one two
-        open-moves = moves-after files may_leave moment image_since Is (Guards then.0) one two (IsSound shelf) (λ a b is guards. (open-keeps then.0 a b its_published is guards).sound) all_one opens
+        open-moves : Moves files may_leave moment image_since (λ (a b : Files). IsSoundAt shelf view.current b) one two
+        open-moves = moves-after files may_leave moment image_since Is (Guards then.0) one two (IsSoundAt shelf view.current) (λ a b is guards. at_view b (open-keeps then.0 a b its_published is guards)) all_one opens
 
-        pub end-moves : Moves files may_leave moment image_since (λ (a b : Files). IsSound shelf b) zero two
-        end-moves = moves-then files may_leave moment image_since (IsSound shelf) zero one two put-moves open-moves
+        pub end-moves : Moves files may_leave moment image_since (λ (a b : Files). IsSoundAt shelf view.current b) zero two
+        end-moves = moves-then files may_leave moment image_since (IsSoundAt shelf view.current) zero one two put-moves open-moves
 
         pub ends-complete : DoneIsComplete → Tells IsDone (files two) → Tells (IsComplete plan.kept points) (files two)
-        ends-complete complete done = of (files two) (all-after files may_leave moment image_since Is (Guards then.0) one two IsEnd (λ a b is guards. open-keeps then.0 a b its_published is guards) all_one opens).read done
+        ends-complete complete done = of (files two) (all-after files may_leave moment image_since Is (Guards then.0) one two (IsSoundAt shelf current) (λ a b is guards. open-keeps then.0 a b its_published is guards) all_one opens).read done
           where
-            of : (now : Option Files) → Tells IsEnd now → Tells IsDone now → Tells (IsComplete plan.kept points) now
+            of : (now : Option Files) → Tells (IsSoundAt shelf current) now → Tells IsDone now → Tells (IsComplete plan.kept points) now
             of None is opened = tt
             of (Some now) is opened = end-complete complete now is opened
 

@@ -1,5 +1,5 @@
 -- Where nothing is to be done, and where the rest of a build begins.
-use Rattle.std.proofs.Common.{◌≡◌, ◌≢◌, ◌∙◌, ℕ, ◌<◌, ◌≤◌, List, length, take, refl, sym, ap, subst, arith, Option, Some, None}
+use Rattle.std.proofs.Common.{◌≡◌, ◌≢◌, ◌∙◌, ◌⊎◌, inl, inr, ℕ, ◌<◌, ◌≤◌, List, length, take, refl, sym, ap, subst, arith, Option, Some, None}
 use Rattle.std.specs.List.{AllZip}
 use Rattle.ept_base.specs.Files.{Files, SameFiles, Tells}
 use Rattle.ept_base.specs.Moves.{IsSettled, Moves}
@@ -27,12 +27,13 @@ use Rattle.ept_save.specs.SoundLaws.{CurrentIsOne, SameIsSound, DoneIsComplete, 
 use Rattle.ept_save.specs.View.{View, StandsFor}
 use Rattle.ept_save.proofs.Keeping.{has_current-same}
 use Rattle.ept_save.proofs.SoundFiles.{sound-at}
-use Rattle.ept_save.proofs.Standing.{settled_some}
+use Rattle.ept_save.proofs.Standing.{settled_some, same_twice}
 use Rattle.ept_plan.specs.declared.plan.Plan.{Plan}
 use Rattle.ept_plan.specs.Plans.{IsPlan, IsOf, ScansAll, inputs_by, inserted_by}
 use Rattle.ept_build.specs.declared.summary.Summary.{Summary}
-use Rattle.ept_build.specs.Building.{Starts, IsBuilt, IsDoneAlready, HasPoints}
+use Rattle.ept_build.specs.Building.{Starts, IsBuilt, IsUnderWay, HasTooManyAlready, IsStopped, IsDoneAlready, HasPoints}
 use Rattle.ept_build.specs.Phases.{HasAll}
+use Rattle.ept_build.proofs.Counting.{nothing-needed}
 use Rattle.ept_build.proofs.Fronts.{all-front}
 use Rattle.ept_build.proofs.Ground.{kept-number}
 use Rattle.ept_build.proofs.Numbers.{lines-number}
@@ -62,6 +63,7 @@ module _ (same_sound : SameIsSound) (complete : DoneIsComplete) (all start now :
         points = points;
         has_points = record { done = found; scan = at_inputs; kept_is = kept_is };
         complete = it.3;
+        through = record { now = Some (letter, c); has_now = has_now; through = nothing-needed (Some (letter, c)) config.checkpoint (length points) (length config.inputs) it.2 (ap (λ (w : List Input). length w) kept_is.inputs_is) };
         points_are = sym inserted ∙ it.2;
         nodes_are = counted ∙ (lines ∙ ap (λ (w : List Point). length (sampled (rules_of c.kept) w)) whole);
       }
@@ -81,9 +83,45 @@ built-from all config start now same summary (Some end) is = record {
   points = is.points;
   has_points = is.has_points;
   complete = is.complete;
+  through = is.through;
   points_are = is.points_are;
   nodes_are = is.nodes_are;
 }
+
+pub under-way-from : (all : Files) (config : Config) (start now : Files) → SameFiles start now → (files : Files) → IsUnderWay all config now files → IsUnderWay all config start files
+under-way-from all config start now same files is = record {
+  sound = is.sound;
+  current = is.current;
+  has_current = has_same is.current now start (λ name. sym (same name)) is.has_current;
+  either = is.either;
+}
+
+pub many-already-from : (all : Files) (config : Config) (start now : Files) → SameFiles start now → HasTooManyAlready all config now → HasTooManyAlready all config start
+many-already-from all config start now same is = record {
+  current = is.current;
+  has_current = has_same is.current now start (λ name. sym (same name)) is.has_current;
+  kept = is.kept;
+  points = is.points;
+  has_points = is.has_points;
+  many = is.many;
+}
+
+pub stopped-from : (all : Files) (config : Config) (start now : Files) → SameFiles start now → (files : Option Files) → Tells (IsStopped all config now) files → Tells (IsStopped all config start) files
+stopped-from all config start now same None is = tt
+stopped-from all config start now same (Some end) is = record {
+  current = is.current;
+  has_current = has_same is.current now start (λ name. sym (same name)) is.has_current;
+  kept = is.kept;
+  points = is.points;
+  has_points = is.has_points;
+  reached = is.reached;
+  few = is.few;
+  many = is.many;
+}
+
+pub stops-from : (all : Files) (config : Config) (start now : Files) → SameFiles start now → {D : Type 0} (files : D → Option Files) (may_leave : D → Files → Type 0) (moment : D → ℕ) (image_since : D → ℕ → Files → Type 0) (old mid new : D) → Moves files may_leave moment image_since SameFiles old mid → (HasTooManyAlready all config now × Moves files may_leave moment image_since SameFiles mid new) ⊎ Tells (IsStopped all config now) (files new) → (HasTooManyAlready all config start × Moves files may_leave moment image_since SameFiles old new) ⊎ Tells (IsStopped all config start) (files new)
+stops-from all config start now same files may_leave moment image_since old mid new moved (inl already) = inl (many-already-from all config start now same already.0, same_twice files may_leave moment image_since old mid new moved already.1)
+stops-from all config start now same files may_leave moment image_since old mid new moved (inr stopped) = inr (stopped-from all config start now same (files new) stopped)
 
 -- the rest of a build begins as the build did
 module _ (same_sound : SameIsSound) (all start now : Files) (config : Config) (view : View) (plan : Plan) (has : HasCurrent view.current start) (sound : IsSound all start) (same : SameFiles start now) {D : Type 0} (files : D → Option Files) (may_leave : D → Files → Type 0) (moment : D → ℕ) (image_since : D → ℕ → Files → Type 0) (old new : D) (was : files old ≡ Some start) (settled : IsSettled (files old) (may_leave old)) (told : files new ≡ Some now) (moved : Moves files may_leave moment image_since SameFiles old new) where

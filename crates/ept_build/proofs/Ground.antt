@@ -5,7 +5,7 @@ use Rattle.std.specs.List.{AllZip}
 use Rattle.std.proofs.lemmas.List.{take-take, take-append-drop}
 use Rattle.std.proofs.lemmas.List.Elements.{Contains-append_left}
 use Rattle.std.proofs.lemmas.List.Sums.{sum_by-cons}
-use Rattle.ept_base.specs.Files.{Files}
+use Rattle.ept_base.specs.Files.{Files, Tells}
 use Rattle.ept_point.specs.declared.point.Point.{Point}
 use Rattle.ept_space.specs.declared.bounds.Bounds.{Bounds}
 use Rattle.ept_space.specs.declared.cube.Rules.{Rules}
@@ -28,6 +28,8 @@ use Rattle.ept_scan.proofs.Ascending.{scan_ascends}
 use Rattle.ept_ckpt.specs.declared.letter.Letter.{Letter}
 use Rattle.ept_ckpt.specs.declared.checkpoint.Checkpoint.{Checkpoint}
 use Rattle.ept_tree.specs.Tree.{Branch}
+use Rattle.ept_tree.specs.declared.octree.Tree.{Tree}
+use Rattle.ept_tree.specs.Grown as tree
 use Rattle.ept_tree.specs.TreeLaws.{AreSampled}
 use Rattle.ept_meta.specs.Output.{File, IsOutput, rules_of, names_of, output}
 use Rattle.ept_meta.specs.OutputLaws.{OutputIsOne, PointsCanBeSampled, NamesGrow}
@@ -35,6 +37,7 @@ use Rattle.ept_save.specs.Current.{Current, HasCurrent}
 use Rattle.ept_save.specs.Sound.{HasPointsOf, IsSavedAs, IsSoundFor, IsSound}
 use Rattle.ept_save.specs.SoundLaws.{HasNamesOf}
 use Rattle.ept_save.proofs.SoundFiles.{sound-at}
+use Rattle.ept_save.proofs.Standing.{told_some}
 use Rattle.ept_phase.specs.Lines.{TellNodes, NameTiles}
 use Rattle.ept_phase.specs.Loaded.{OfCurrent}
 use Rattle.ept_phase.specs.SavedLaws.{LoadedIsSampled}
@@ -43,8 +46,8 @@ use Rattle.ept_plan.specs.Plans as plans
 use Rattle.ept_plan.specs.Plans.{IsPlan, ScansAll, HasFirst, limits_by, inserted_by}
 use Rattle.ept_sample.specs.SamplingLaws.{MorePointsHaveMoreNodes}
 use Rattle.ept_save.specs.Opening.{lines_of}
-use Rattle.ept_build.specs.Building.{HasPoints, HasTooManyNodes}
-use Rattle.ept_build.specs.Phases.{AreOfShelf}
+use Rattle.ept_build.specs.Building.{HasPoints, HasCounts, HasTooManyNodes}
+use Rattle.ept_build.specs.Phases.{AreOfShelf, IsLoaded}
 use Rattle.ept_build.proofs.Numbers.{front-nodes, lines-number}
 use Rattle.ept_build.proofs.Ending.{counts-of, extent-of}
 use Rattle.ept_build.proofs.Fronts.{can-front}
@@ -69,52 +72,89 @@ scan-kept shelf config current plan is points has =
     let to_scale = subst (λ (k : ℕ). IsScan shelf k (Some plan.kept.bounds) config.inputs 0 points done) (sym is.kept_is.scale_is) scan in
     subst (λ (w : List Input). IsScan shelf plan.kept.scale (Some plan.kept.bounds) w 0 points done) (sym is.kept_is.inputs_is) to_scale
 
-module _ (one_output : OutputIsOne) (can_be : PointsCanBeSampled) (grow : NamesGrow) (loaded : LoadedIsSampled) (shelf start : Files) (config : Config) (current : Current) (plan : Plan) (is : IsPlan config current plan) (scans : ScansAll shelf config current plan) (has : HasCurrent current start) (sound : IsSound shelf start) (extent : Option Bounds) (found : (lists : List (List Point)) → AllZip IsCountOf lists plan.counts → HasExtent (in_order lists) extent) where
-  -- the points of the inputs that the checkpoint has
-  pub first_of : (now : Current) → IsSoundFor shelf start now → (first : List Point) × HasFirst shelf now first
-  first_of None none = ([], refl)
-  first_of (Some (letter, c)) some = (some.0, some.1.scan)
+-- the points of the inputs that the checkpoint has
+first-of : (shelf start : Files) (now : Current) → IsSoundFor shelf start now → (first : List Point) × HasFirst shelf now first
+first-of shelf start None none = ([], refl)
+first-of shelf start (Some (letter, c)) some = (some.0, some.1.scan)
 
-  abbrev pub its : IsSoundFor shelf start current
+-- the counts of a plan are those of all inputs
+pub has-counts : (shelf start : Files) (config : Config) (current : Current) (plan : Plan) → ScansAll shelf config current plan → HasCurrent current start → IsSound shelf start → HasCounts shelf config current plan.counts
+has-counts shelf start config current plan scans has sound =
+    let first = first-of shelf start current (sound-at shelf start current has sound) in
+    let it = scans first.0 first.1 in
+    (it.0, plan.kept.bounds, it.1)
+
+-- of a store that tells, the tiles of the checkpoint are those at the start
+told-tiles : (current : Current) (grown : Tree) (files : Option Files) (start : Files) → files ≡ Some start → OfCurrent current (λ (c : Checkpoint). Tells (λ all. NameTiles all (tree.nodes_of grown) c.nodes) files) → OfCurrent current (λ (c : Checkpoint). NameTiles start (tree.nodes_of grown) c.nodes)
+told-tiles None grown files start told of = tt
+told-tiles (Some (letter, c)) grown files start told of = told_some (λ (all : Files). NameTiles all (tree.nodes_of grown) c.nodes) files start told of
+
+-- The points of all inputs and their output, and what is known of the octree that was loaded.
+pub record IsGround (shelf start : Files) (config : Config) (current : Current) (plan : Plan) (extent : Option Bounds) : Type 0 where
+  pub points : List Point
+  pub output : List File
+  are : AreOfShelf shelf plan points output
+  number : length points ≡ plan.points
+  names : HasNamesOf shelf current (names_of output)
+  pub has_extent : HasExtent points extent
+  pub has_points : HasPoints shelf config current plan.kept points
+  pub loaded : (grown : Tree) (files : Option Files) (inserted : ℕ) → inserted ≡ plan.inserted → files ≡ Some start → IsLoaded plan current grown files → AreSampled (rules_of plan.kept) (take inserted points) (tree.nodes_of grown)
+  pub lines : length (lines_of current) ≤ length (sampled (rules_of plan.kept) (take plan.inserted points))
+
+-- an extent of counts is one of the same counts
+pub extent-found : (counts given : List SourceCount) (extent : Option Bounds) → given ≡ counts → ((lists : List (List Point)) → AllZip IsCountOf lists given → HasExtent (in_order lists) extent) → (lists : List (List Point)) → AllZip IsCountOf lists counts → HasExtent (in_order lists) extent
+extent-found counts given extent same found lists zip = found lists (subst (λ (w : List SourceCount). AllZip IsCountOf lists w) (sym same) zip)
+
+-- where a part of the points has too many nodes, all have
+pub many-at : MorePointsHaveMoreNodes → (shelf start : Files) (config : Config) (current : Current) (plan : Plan) (extent : Option Bounds) (ground : IsGround shelf start config current plan extent) (n : ℕ) → config.max_nodes < length (sampled (rules_of plan.kept) (take n ground.points)) → HasTooManyNodes shelf config current
+many-at more shelf start config current plan extent ground n many = record {
+  kept = plan.kept;
+  points = ground.points;
+  has_points = ground.has_points;
+  many = omega (arith, many, front-nodes more (rules_of plan.kept) n ground.points ground.are.can);
+}
+
+module _ (one_output : OutputIsOne) (can_be : PointsCanBeSampled) (grow : NamesGrow) (loaded : LoadedIsSampled) (shelf start : Files) (config : Config) (current : Current) (plan : Plan) (is : IsPlan config current plan) (scans : ScansAll shelf config current plan) (has : HasCurrent current start) (sound : IsSound shelf start) (extent : Option Bounds) (found : (lists : List (List Point)) → AllZip IsCountOf lists plan.counts → HasExtent (in_order lists) extent) where
+  abbrev its : IsSoundFor shelf start current
   its = sound-at shelf start current has sound
 
-  abbrev pub first : List Point
-  first = (first_of current its).0
+  abbrev first : List Point
+  first = (first-of shelf start current its).0
 
-  pub has_first : HasFirst shelf current first
-  has_first = (first_of current its).1
+  has_first : HasFirst shelf current first
+  has_first = (first-of shelf start current its).1
 
-  abbrev pub points : List Point
+  abbrev points : List Point
   points = (scans first has_first).0
 
-  pub has-points : plans.HasPoints shelf config current plan points
+  has-points : plans.HasPoints shelf config current plan points
   has-points = (scans first has_first).1
 
   front : take (length first) points ≡ first
   front = (scans first has_first).2
 
-  pub scan : IsKeptScan shelf plan.kept plan.counts points
+  scan : IsKeptScan shelf plan.kept plan.counts points
   scan = scan-kept shelf config current plan is points has-points
 
   pub number : length points ≡ plan.points
   number = kept-number shelf plan.kept plan.counts points scan ∙ sym is.points_are
 
-  pub within : All (IsWithin plan.kept.bounds) points
+  within : All (IsWithin plan.kept.bounds) points
   within = scan_placed shelf plan.kept.scale plan.kept.inputs (Some plan.kept.bounds) 0 points _ scan
 
   distinct_of : (kept : Kept) (counts : List SourceCount) (some : List Point) → IsKeptScan shelf kept counts some → HasDistinctIds some
   distinct_of kept counts some of = HasDistinctIds-IsAscending some (scan_ascends shelf kept.scale (Some kept.bounds) kept.inputs 0 some _ of)
 
-  pub can : CanBeSampled (rules_of plan.kept) points
+  can : CanBeSampled (rules_of plan.kept) points
   can = can_be plan.kept points within (distinct_of plan.kept plan.counts points scan)
 
-  pub has-extent : HasExtent points extent
+  has-extent : HasExtent points extent
   has-extent = extent-of shelf plan points extent scan found
 
-  abbrev pub out : List File
+  abbrev out : List File
   out = output plan.kept plan.counts extent points
 
-  pub is-output : IsOutput plan.kept points out
+  is-output : IsOutput plan.kept points out
   is-output = record { counts = plan.counts; are_counts = counts-of shelf plan points scan; extent = extent; has_extent = has-extent; files_are = refl }
 
   pub are : AreOfShelf shelf plan points out
@@ -139,7 +179,7 @@ module _ (one_output : OutputIsOne) (can_be : PointsCanBeSampled) (grow : NamesG
 
   -- ---- the nodes that are loaded
 
-  pub loaded-sampled : (nodes : List Branch) → OfCurrent current (λ (c : Checkpoint). TellNodes nodes c.nodes) → OfCurrent current (λ (c : Checkpoint). NameTiles start nodes c.nodes) → (current ≡ None → AreSampled (rules_of plan.kept) [] nodes) → AreSampled (rules_of plan.kept) (take plan.inserted points) nodes
+  loaded-sampled : (nodes : List Branch) → OfCurrent current (λ (c : Checkpoint). TellNodes nodes c.nodes) → OfCurrent current (λ (c : Checkpoint). NameTiles start nodes c.nodes) → (current ≡ None → AreSampled (rules_of plan.kept) [] nodes) → AreSampled (rules_of plan.kept) (take plan.inserted points) nodes
   loaded-sampled nodes told tiles begun = at current refl its is.rules_stay told tiles
     where
       at : (now : Current) → current ≡ now → IsSoundFor shelf start now → plans.RulesStay now plan.kept → OfCurrent now (λ (c : Checkpoint). TellNodes nodes c.nodes) → OfCurrent now (λ (c : Checkpoint). NameTiles start nodes c.nodes) → AreSampled (rules_of plan.kept) (take plan.inserted points) nodes
@@ -162,7 +202,7 @@ module _ (one_output : OutputIsOne) (can_be : PointsCanBeSampled) (grow : NamesG
           (subst (λ (r : Rules). AreSampled r (take c.inserted first) nodes) (sym stay.0) are_nodes))
 
   -- the checkpoint has as many lines as the sampling of what is inserted has nodes, or fewer
-  pub lines-few : length (lines_of current) ≤ length (sampled (rules_of plan.kept) (take plan.inserted points))
+  lines-few : length (lines_of current) ≤ length (sampled (rules_of plan.kept) (take plan.inserted points))
   lines-few = at current refl its is.rules_stay
     where
       at : (now : Current) → current ≡ now → IsSoundFor shelf start now → plans.RulesStay now plan.kept → length (lines_of now) ≤ length (sampled (rules_of plan.kept) (take plan.inserted points))
@@ -179,15 +219,19 @@ module _ (one_output : OutputIsOne) (can_be : PointsCanBeSampled) (grow : NamesG
           ap (λ (w : List Point). length (sampled (rules_of c.kept) w)) fronts ∙ ap (λ (r : Rules). length (sampled r (take plan.inserted points))) (sym stay.0) in
           omega (arith, zip, there)
 
-  pub built-points : HasPoints shelf config current plan.kept points
+  built-points : HasPoints shelf config current plan.kept points
   built-points = record { done = record { counts = plan.counts; bounds = plan.kept.bounds }; scan = has-points; kept_is = is.kept_is }
 
-  -- ---- too many nodes
-
-  pub many-at : MorePointsHaveMoreNodes → (n : ℕ) → config.max_nodes < length (sampled (rules_of plan.kept) (take n points)) → HasTooManyNodes shelf config current
-  many-at more n many = record {
-    kept = plan.kept;
+  -- all of this
+  pub ground : IsGround shelf start config current plan extent
+  ground = record {
     points = points;
+    out = out;
+    are = are;
+    number = number;
+    names = names;
+    has_extent = has-extent;
     has_points = built-points;
-    many = omega (arith, many, front-nodes more (rules_of plan.kept) n points can);
+    loaded = λ grown files inserted same told its. subst (λ (n : ℕ). AreSampled (rules_of plan.kept) (take n points) (tree.nodes_of grown)) (sym same) (loaded-sampled (tree.nodes_of grown) its.told (told-tiles current grown files told its.tiles) its.begun);
+    lines = lines-few;
   }

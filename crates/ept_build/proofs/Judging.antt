@@ -204,3 +204,31 @@ built-many (Err e) all config current start files now told only refused few buil
 -- equal refusals are of one cause
 pub err-one : {e f : BuildError} → (◌≡◌ {A = Result Summary BuildError} (Err e) (Err f)) → e ≡ f
 err-one same = cc
+
+-- ---- a cause that is no want of nodes
+
+pub save-not-many : (e : SaveError) → of_save e ≡ TooManyNodes → ⊥
+save-not-many save.StoreFault is = cc
+save-not-many (save.BadCheckpoint letter) is = cc
+save-not-many (save.TileDamaged key) is = cc
+save-not-many save.Memory is = cc
+
+scan-not-many : (e : ScanError) → of_scan e ≡ TooManyNodes → ⊥
+scan-not-many scan.SourceFault is = cc
+scan-not-many (scan.BadLas source fault) is = cc
+scan-not-many (scan.OutOfBounds source number) is = cc
+scan-not-many (scan.TooManyPoints source) is = cc
+scan-not-many scan.NoBounds is = cc
+scan-not-many scan.Memory is = cc
+
+pub plan-not-many : (e : PlanError) → of_plan e ≡ TooManyNodes → ⊥
+plan-not-many (plan.Differs d) is = cc
+plan-not-many (plan.Scan e) is = scan-not-many e is
+
+pub put-not-many : (e : PutError) → of_put e ≡ TooManyNodes → ⊥
+put-not-many put.Failed is = cc
+put-not-many put.Memory is = cc
+
+pub store-not-many : (e : BuildError) → IsStoreFault e → e ≡ TooManyNodes → ⊥
+store-not-many e (inl fault) is = let same : StoreFault ≡ TooManyNodes = sym fault ∙ is in cc
+store-not-many e (inr memory) is = let same : Memory ≡ TooManyNodes = sym memory ∙ is in cc

@@ -5,9 +5,12 @@ mod Moved
 mod Numbers
 mod PhaseSound
 mod Phased
+mod Counting
+mod Asking
 mod Ending
 mod Ground
 mod Refusals
 mod Judging
 mod Running
+mod UnderWay
 mod Finished

@@ -62,3 +62,18 @@ module _ {D : Type 0} (files : D → Option Files) (may_leave : D → Files → 
 
   pub moves-wider : (Has More : Files → Type 0) → ((b : Files) → Has b → More b) → (old new : D) → Moves files may_leave moment image_since (λ (a b : Files). Has b) old new → Moves files may_leave moment image_since (λ (a b : Files). More b) old new
   moves-wider Has More goes = moves_weaker files may_leave moment image_since (λ (a b : Files). Has b) (λ (a b : Files). More b) (λ a b has. goes b has)
+
+  -- each image has both
+  pub moves-two : (One Two : Files → Type 0) (old new : D) → Moves files may_leave moment image_since (λ (a b : Files). One b) old new → Moves files may_leave moment image_since (λ (a b : Files). Two b) old new → Moves files may_leave moment image_since (λ (a b : Files). One b × Two b) old new
+  moves-two One Two old new one two = record {
+    reads = read (files old) (files new) one.reads two.reads;
+    leaves = λ image may. let was = one.leaves image may in (was.0, was.1, (was.2, (two.leaves image may).2));
+    later = one.later;
+    moments = λ t image le since. ⊎_elim (λ past. inl past) (λ (was : (earlier : Files) × may_leave old earlier × One image). ⊎_elim (λ past. inl past) (λ (also : (earlier : Files) × may_leave old earlier × Two image). inr (was.0, was.1, (was.2, also.2))) (two.moments t image le since)) (one.moments t image le since);
+  }
+    where
+      read : (was now : Option Files) → StepsBy (λ (a b : Files). One b) was now → StepsBy (λ (a b : Files). Two b) was now → StepsBy (λ (a b : Files). One b × Two b) was now
+      read None None first second = tt
+      read None (Some b) first second = absurd first
+      read (Some a) None first second = absurd first
+      read (Some a) (Some b) first second = (first, second)

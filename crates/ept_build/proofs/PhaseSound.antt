@@ -21,7 +21,7 @@ use Rattle.ept_save.specs.Names.{done_name}
 use Rattle.ept_save.specs.Current.{Current, HasCurrent, Keeps, Commits}
 use Rattle.ept_save.specs.Sound.{HasPointsOf, IsSavedAs, IsSaved, IsSound}
 use Rattle.ept_save.specs.SoundLaws.{HasNamesOf, KeepingKeepsSound, CommittingKeepsSound}
-use Rattle.ept_save.specs.View.{View, next_letter}
+use Rattle.ept_save.specs.View.{View, StandsFor, next_letter}
 use Rattle.ept_save.proofs.NamesDiffer.{done-apart}
 use Rattle.ept_phase.specs.Phase.{IsNext, HasNext, GoesOn}
 use Rattle.ept_phase.specs.SavedLaws.{SampledIsSaved}
@@ -29,7 +29,9 @@ use Rattle.ept_plan.specs.declared.plan.Plan.{Plan}
 use Rattle.ept_plan.specs.Plans.{IsOf}
 use Rattle.ept_save.proofs.Standing.{told_some, in-images}
 use Rattle.ept_build.specs.Phases.{IsSoundUndone, AreOfShelf, IsOnWay}
-use Rattle.ept_build.proofs.Moved.{AllAre, all-images, all-after, moves-after}
+use Rattle.ept_build.specs.Reached.{HasThisOrNext}
+use Rattle.ept_build.proofs.Moved.{AllAre, all-images, all-after, moves-after, moves-none, moves-wider}
+use Rattle.ept_build.proofs.Counting.{goes-either}
 
 -- what the shelf has of the plan, it has of a checkpoint with the plan's inputs and counts
 pub scan-of : (shelf : Files) (plan : Plan) (points : List Point) (c : Checkpoint) → c.kept ≡ plan.kept → c.counts ≡ plan.counts → IsKeptScan shelf plan.kept plan.counts points → HasPointsOf shelf c points
@@ -98,6 +100,20 @@ module _ (saved : SampledIsSaved) (keeping : KeepingKeepsSound) (committing : Co
 
   pub phase-images : (image : Files) → may_leave new image → IsSoundUndone shelf image
   phase-images = (all-after files may_leave moment image_since (StandsAt shelf view) (GoesOn view plan.kept plan.counts inserted nodes) old new (IsSoundUndone shelf) step (stands-at files may_leave moment image_since shelf output view old reads way) its_goes).images
+
+-- ---- which checkpoint is the current one
+
+module _ {D : Type 0} (files : D → Option Files) (may_leave : D → Files → Type 0) (moment : D → ℕ) (image_since : D → ℕ → Files → Type 0) (view : View) (old : D) (reads : Tells (may_leave old) (files old)) (stands : StandsFor view (files old) (may_leave old)) where
+  pub all-current : AllAre files may_leave moment image_since (HasCurrent view.current) old
+  all-current = all-images files may_leave moment image_since (HasCurrent view.current) old reads (λ image may. (in-images view (files old) (may_leave old) stands).current image may)
+
+  pub either-moves : (kept : Kept) (counts : List SourceCount) (inserted : ℕ) (nodes : List Branch) (new : D) → Moves files may_leave moment image_since (GoesOn view kept counts inserted nodes) old new → Moves files may_leave moment image_since (λ (a b : Files). HasThisOrNext view.current inserted b) old new
+  either-moves kept counts inserted nodes new goes =
+      moves-after files may_leave moment image_since (HasCurrent view.current) (GoesOn view kept counts inserted nodes) old new (HasThisOrNext view.current inserted) (goes-either view kept counts inserted nodes) all-current goes
+
+  -- nothing has moved
+  pub none-moves : (More : Files → Type 0) → ((files : Files) → HasCurrent view.current files → More files) → Moves files may_leave moment image_since (λ (a b : Files). More b) old old
+  none-moves More goes = moves-wider files may_leave moment image_since (HasCurrent view.current) More goes old old (moves-none files may_leave moment image_since (HasCurrent view.current) old all-current)
 
 -- what is read is sound
 pub way-sound : (shelf : Files) (output : List File) (view : View) (files : Option Files) (may_leave : Files → Type 0) → Tells may_leave files → (way : IsOnWay shelf output view files may_leave) → IsSoundUndone shelf way.stands.all

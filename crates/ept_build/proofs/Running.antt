@@ -31,18 +31,13 @@ use Rattle.ept_phase.specs.Loaded.{OfCurrent}
 use Rattle.ept_phase.specs.Saving.{HasEachNodeOf, keys_in}
 use Rattle.ept_plan.specs.declared.plan.Plan.{Plan}
 use Rattle.ept_plan.specs.Plans.{IsPlan, inserted_by}
-use Rattle.ept_build.specs.Phases.{IsTreeOf, IsSoundUndone}
+use Rattle.ept_build.specs.Phases.{IsTreeOf, IsSoundUndone, IsSoundAt}
 use Rattle.ept_build.proofs.Fronts.{none-distinct}
 use Rattle.ept_build.proofs.Moved.{AllAre, all-settled, all-after, moves-after}
 use Rattle.ept_build.proofs.Numbers.{sampled-number, told-number}
 use Rattle.ept_build.proofs.Phased.{each-told}
 
--- sound files with this current checkpoint
-pub record SoundAt (shelf : Files) (current : Current) (files : Files) : Type 0 where
-  pub sound : IsSound shelf files
-  pub has : HasCurrent current files
-
-sound-same : SameIsSound → (shelf : Files) (current : Current) (a b : Files) → SoundAt shelf current a → SameFiles a b → SoundAt shelf current b
+sound-same : SameIsSound → (shelf : Files) (current : Current) (a b : Files) → IsSoundAt shelf current a → SameFiles a b → IsSoundAt shelf current b
 sound-same same_sound shelf current a b at same = record {
   sound = same_sound shelf a b same at.sound;
   has = has_current-same current a b (λ l. same (gate_name l)) (λ l. same (body_name l)) at.has;
@@ -50,19 +45,19 @@ sound-same same_sound shelf current a b at same = record {
 
 module _ (same_sound : SameIsSound) (published : DoneIsPublished) (guarding : GuardingKeepsSound) (shelf : Files) (current : Current) {D : Type 0} (files : D → Option Files) (may_leave : D → Files → Type 0) (moment : D → ℕ) (image_since : D → ℕ → Files → Type 0) where
   abbrev pub AllSound : D → Type 0
-  AllSound = AllAre files may_leave moment image_since (SoundAt shelf current)
+  AllSound = AllAre files may_leave moment image_since (IsSoundAt shelf current)
 
   -- a settled store with sound files
   pub sound-settled : (d : D) (start : Files) → files d ≡ Some start → IsSettled (files d) (may_leave d) → IsSound shelf start → HasCurrent current start → AllSound d
   sound-settled d start told settled sound has =
-      all-settled files may_leave moment image_since (SoundAt shelf current) (λ a b same at. sound-same same_sound shelf current a b at same) d start told settled (record { sound = sound; has = has })
+      all-settled files may_leave moment image_since (IsSoundAt shelf current) (λ a b same at. sound-same same_sound shelf current a b at same) d start told settled (record { sound = sound; has = has })
 
   -- a call that changes nothing
-  pub same-moves : (old new : D) → AllSound old → Moves files may_leave moment image_since SameFiles old new → Moves files may_leave moment image_since (λ (a b : Files). IsSound shelf b) old new
-  same-moves old new all moved = moves-after files may_leave moment image_since (SoundAt shelf current) SameFiles old new (IsSound shelf) (λ a b at same. same_sound shelf a b same at.sound) all moved
+  pub same-moves : (old new : D) → AllSound old → Moves files may_leave moment image_since SameFiles old new → Moves files may_leave moment image_since (λ (a b : Files). IsSoundAt shelf current b) old new
+  same-moves old new all moved = moves-after files may_leave moment image_since (IsSoundAt shelf current) SameFiles old new (IsSoundAt shelf current) (λ a b at same. sound-same same_sound shelf current a b at same) all moved
 
   pub same-all : (old new : D) → AllSound old → Moves files may_leave moment image_since SameFiles old new → AllSound new
-  same-all old new all moved = all-after files may_leave moment image_since (SoundAt shelf current) SameFiles old new (SoundAt shelf current) (λ a b at same. sound-same same_sound shelf current a b at same) all moved
+  same-all old new all moved = all-after files may_leave moment image_since (IsSoundAt shelf current) SameFiles old new (IsSoundAt shelf current) (λ a b at same. sound-same same_sound shelf current a b at same) all moved
 
   -- ---- closing the done gate
 
@@ -74,10 +69,10 @@ module _ (same_sound : SameIsSound) (published : DoneIsPublished) (guarding : Gu
       stable = λ some may done image im name outside. alike image im name;
     }
 
-    at_start : SoundAt shelf current start
-    at_start = told_some (SoundAt shelf current) (files old) start told all.read
+    at_start : IsSoundAt shelf current start
+    at_start = told_some (IsSoundAt shelf current) (files old) start told all.read
 
-    closes : (a b : Files) → IsDone start → SoundAt shelf current a → Guards start a b → SoundAt shelf current b
+    closes : (a b : Files) → IsDone start → IsSoundAt shelf current a → Guards start a b → IsSoundAt shelf current b
     closes a b done at guard = record {
       sound = guarding shelf start a b current at.has (published shelf start current at_start.has at_start.sound done) guard at.sound;
       has = has_current-same current a b (λ l. guard.others (gate_name l) (λ same. done-gate l (sym same))) (λ l. guard.others (body_name l) (λ same. done-body l (sym same))) at.has;
@@ -87,14 +82,14 @@ module _ (same_sound : SameIsSound) (published : DoneIsPublished) (guarding : Gu
     close-all = by (open_or_not start done_name)
       where
         by : IsDone start ⊎ ¬ IsDone start → AllSound new
-        by (inl done) = all-after files may_leave moment image_since (SoundAt shelf current) (Guards start) old new (SoundAt shelf current) (λ a b. closes a b done) all (guards guarded)
+        by (inl done) = all-after files may_leave moment image_since (IsSoundAt shelf current) (Guards start) old new (IsSoundAt shelf current) (λ a b. closes a b done) all (guards guarded)
         by (inr undone) = same-all old new all (stood_shut start told undone)
 
-    pub close-moves : Moves files may_leave moment image_since (λ (a b : Files). IsSound shelf b) old new
+    pub close-moves : Moves files may_leave moment image_since (λ (a b : Files). IsSoundAt shelf current b) old new
     close-moves = by (open_or_not start done_name)
       where
-        by : IsDone start ⊎ ¬ IsDone start → Moves files may_leave moment image_since (λ (a b : Files). IsSound shelf b) old new
-        by (inl done) = moves-after files may_leave moment image_since (SoundAt shelf current) (Guards start) old new (IsSound shelf) (λ a b at guard. (closes a b done at guard).sound) all (guards guarded)
+        by : IsDone start ⊎ ¬ IsDone start → Moves files may_leave moment image_since (λ (a b : Files). IsSoundAt shelf current b) old new
+        by (inl done) = moves-after files may_leave moment image_since (IsSoundAt shelf current) (Guards start) old new (IsSoundAt shelf current) (λ a b. closes a b done) all (guards guarded)
         by (inr undone) = same-moves old new all (stood_shut start told undone)
 
   -- once it is closed, and all is stable, no image has an open one

@@ -1,5 +1,5 @@
 -- What a build of a configuration is of, over a shelf and a store with these files, what it leaves, and why it is refused.
-use Rattle.std.specs.Prelude.{◌≡◌, ◌≢◌, ◌⊎◌, ℕ, ◌<◌, ◌≤◌, List, Option, Result, Err, Some, None, Vec, length, ⊤}
+use Rattle.std.specs.Prelude.{◌≡◌, ◌≢◌, ◌⊎◌, ℕ, ◌+◌, ◌<◌, ◌≤◌, ◌++◌, take, List, Option, Result, Err, Some, None, Vec, length, ⊤}
 use Rattle.std.specs.declared.alloc.Global.{Global}
 use Rattle.ept_base.specs.Files.{Files}
 use Rattle.ept_base.specs.Moves.{IsSettled}
@@ -7,7 +7,10 @@ use Rattle.ept_point.specs.declared.point.Point.{Point}
 use Rattle.ept_sample.specs.Nodes.{sampled}
 use Rattle.ept_config.specs.declared.config.Config.{Config}
 use Rattle.ept_config.specs.declared.kept.Kept.{Kept}
+use Rattle.ept_config.specs.declared.source_count.SourceCount.{SourceCount}
 use Rattle.ept_config.specs.KeptOf.{IsKeptOf}
+use Rattle.ept_space.specs.declared.bounds.Bounds.{Bounds}
+use Rattle.ept_scan.specs.Asking.{AsksFor, paths_left}
 use Rattle.ept_scan.specs.declared.scan_done.ScanDone.{ScanDone}
 use Rattle.ept_scan.specs.declared.scan_error.ScanError.{ScanError}
 use Rattle.ept_scan.specs.declared.scan_error.ScanError.TheVariants as scan
@@ -20,10 +23,11 @@ use Rattle.ept_save.specs.Done.{IsDone}
 use Rattle.ept_save.specs.Sound.{IsSound}
 use Rattle.ept_save.specs.View.{View, StandsFor}
 use Rattle.ept_plan.specs.declared.plan.Plan.{Plan}
-use Rattle.ept_plan.specs.Plans.{inputs_by, limits_by, GoesOn, ScansAll, DiffersBy, AreRefused}
+use Rattle.ept_plan.specs.Plans.{inputs_by, inserted_by, limits_by, new_paths, GoesOn, ScansAll, DiffersBy, AreRefused}
 use Rattle.ept_build.specs.declared.error.BuildError.{BuildError}
 use Rattle.ept_build.specs.declared.error.BuildError.TheVariants.{StoreFault, BadCheckpoint, TileDamaged, Differs, SourceFault, BadLas, OutOfBounds, TooManyPoints, NoBounds, SourceChanged, TooManyNodes, Memory}
 use Rattle.ept_build.specs.declared.summary.Summary.{Summary}
+use Rattle.ept_build.specs.Reached.{HasReached, HasGoneThrough}
 
 -- ---- what a build begins with
 
@@ -55,7 +59,7 @@ pub record Starts (all : Files) (config : Config) (view : View) (plan : Plan) (s
 
 -- ---- what it leaves
 
--- The files are complete for the points of the inputs, and their numbers are told.
+-- The files are complete for the points of the inputs, after as many phases as were needed, and their numbers are told.
 pub record IsBuilt (all : Files) (config : Config) (start : Files) (summary : Summary) (files : Files) : Type 0 where
   pub current : Current
   pub has_current : HasCurrent current start
@@ -63,8 +67,16 @@ pub record IsBuilt (all : Files) (config : Config) (start : Files) (summary : Su
   pub points : List Point
   pub has_points : HasPoints all config current kept points
   pub complete : IsComplete kept points files
+  pub through : HasGoneThrough current config.checkpoint (length points) (length config.inputs) files
   pub points_are : summary.points ≡ length points
   pub nodes_are : summary.nodes ≡ node_count kept points
+
+-- The files are sound, and their current checkpoint is the one that the build began with, or one some phases later.
+pub record IsUnderWay (all : Files) (config : Config) (start files : Files) : Type 0 where
+  pub sound : IsSound all files
+  pub current : Current
+  pub has_current : HasCurrent current start
+  pub either : HasCurrent current files ⊎ ((kept : Kept) × (points : List Point) × HasPoints all config current kept points × HasReached current config.checkpoint (length points) files)
 
 -- the done gate is open, and the current checkpoint has all inputs of the configuration, with what is kept of it
 pub record IsDoneAlready (config : Config) (start : Files) : Type 0 where
@@ -73,6 +85,20 @@ pub record IsDoneAlready (config : Config) (start : Files) : Type 0 where
   pub has_current : HasCurrent current start
   pub goes_on : GoesOn config current
   pub no_more : inputs_by current ≡ length config.inputs
+
+-- ---- what the shelf is asked for
+
+-- so many records the inputs have, which are accepted
+abbrev pub HasCounts : Files → Config → Current → List SourceCount → Type 0
+HasCounts all config current counts =
+    (points : List Point) × (bounds : Bounds) × IsScan all config.scale (limits_by config.bounds current) config.inputs 0 points (record { counts = counts; bounds = bounds })
+
+-- First the new inputs, to be scanned, then those that have records left behind the ones that are inserted, to be read: all of these, in this order, or a front of them. Behind the new ones only where all inputs are accepted.
+pub record AsksInOrder (shelf : Option Files) (config : Config) (start : Files) (current : Current) (old new : Option (List (List ℕ))) : Type 0 where
+  pub counts : List SourceCount
+  pub number : ℕ
+  pub asked : AsksFor (take number (new_paths config current ++ paths_left config.inputs counts (inserted_by current))) old new
+  pub counted : (all : Files) → shelf ≡ Some all → IsSound all start → length (new_paths config current) < number → HasCounts all config current counts
 
 -- ---- why it is refused
 
@@ -92,6 +118,26 @@ pub record HasTooManyNodes (all : Files) (config : Config) (current : Current) :
   pub points : List Point
   pub has_points : HasPoints all config current kept points
   pub many : config.max_nodes < node_count kept points
+
+-- the points that the current checkpoint has inserted have too many already
+pub record HasTooManyAlready (all : Files) (config : Config) (start : Files) : Type 0 where
+  pub current : Current
+  pub has_current : HasCurrent current start
+  pub kept : Kept
+  pub points : List Point
+  pub has_points : HasPoints all config current kept points
+  pub many : config.max_nodes < node_count kept (take (inserted_by current) points)
+
+-- The current checkpoint is one some phases later, whose points have few enough nodes; with those of the next phase they have too many.
+pub record IsStopped (all : Files) (config : Config) (start files : Files) : Type 0 where
+  pub current : Current
+  pub has_current : HasCurrent current start
+  pub kept : Kept
+  pub points : List Point
+  pub has_points : HasPoints all config current kept points
+  pub reached : HasReached current config.checkpoint (length points) files
+  pub few : node_count kept (take (inserted_by reached.now) points) ≤ config.max_nodes
+  pub many : config.max_nodes < node_count kept (take (inserted_by reached.now + config.checkpoint) points)
 
 -- the new inputs are refused for this cause
 abbrev pub InputsAreRefused : Files → Config → Current → ScanError → Type 0

@@ -1,3 +1,4 @@
 pub mod Errors
 pub mod Building
+pub mod Reached
 pub mod Phases

@@ -1,6 +1,6 @@
 -- Where a build stands between two phases.
-use Rattle.std.specs.Prelude.{◌≡◌, ◌⊎◌, ℕ, ◌+◌, ◌<◌, ◌≤◌, List, length, take, drop, Option, Some, None, ⊤, All}
-use Rattle.ept_base.specs.Files.{Files}
+use Rattle.std.specs.Prelude.{◌≡◌, ◌⊎◌, ℕ, ◌+◌, ◌<◌, ◌≤◌, List, [], length, take, drop, Option, Some, None, ⊤, All}
+use Rattle.ept_base.specs.Files.{Files, Tells}
 use Rattle.ept_point.specs.declared.point.Point.{Point}
 use Rattle.ept_space.specs.OctreeCube.{InCube}
 use Rattle.ept_sample.specs.Place.{place}
@@ -22,9 +22,13 @@ use Rattle.ept_save.specs.Opening.{lines_of}
 use Rattle.ept_save.specs.Sound.{IsSound}
 use Rattle.ept_save.specs.SoundLaws.{HasNamesOf}
 use Rattle.ept_save.specs.View.{View, StandsFor}
+use Rattle.ept_ckpt.specs.declared.checkpoint.Checkpoint.{Checkpoint}
+use Rattle.ept_phase.specs.Lines.{TellNodes, NameTiles}
+use Rattle.ept_phase.specs.Loaded.{OfCurrent}
 use Rattle.ept_phase.specs.Saving.{HasEachNodeOf}
 use Rattle.ept_plan.specs.declared.plan.Plan.{Plan}
 use Rattle.ept_plan.specs.Plans.{inputs_by, inserted_by}
+use Rattle.ept_build.specs.Reached.{IsAfter}
 use Rattle.ept_build.specs.declared.error.BuildError.{BuildError}
 use Rattle.ept_build.specs.declared.error.BuildError.TheVariants.{StoreFault, BadCheckpoint, TileDamaged, Differs, SourceFault, BadLas, OutOfBounds, TooManyPoints, NoBounds, SourceChanged, TooManyNodes, Memory}
 
@@ -56,6 +60,12 @@ pub record IsTreeOf (plan : Plan) (inserted most : ℕ) (grown : Tree) (view : V
   pub by_checkpoint : inserted_by view.current ≡ inserted
   pub inputs_least : inputs_by view.current ≤ length plan.kept.inputs
 
+-- The octree is that of the checkpoint: its lines tell of the nodes, and name their tiles. Where there is none, it has no points.
+pub record IsLoaded (plan : Plan) (current : Current) (grown : Tree) (files : Option Files) : Type 0 where
+  pub told : OfCurrent current (λ (c : Checkpoint). TellNodes (tree.nodes_of grown) c.nodes)
+  pub tiles : OfCurrent current (λ (c : Checkpoint). Tells (λ all. NameTiles all (tree.nodes_of grown) c.nodes) files)
+  pub begun : current ≡ None → AreSampled (rules_of plan.kept) [] (tree.nodes_of grown)
+
 -- the reader has the other points to come, which lie in the cube
 pub record ReadsRest {S : Type 0} (whole left : S → Option (List ℕ)) (given faults : S → ℕ) (plan : Plan) (inserted : ℕ) (reader : Reader S) : Type 0 where
   pub is_reader : IsReader whole left given faults reader
@@ -76,6 +86,11 @@ pub record IsSoundUndone (shelf files : Files) : Type 0 where
   pub sound : IsSound shelf files
   pub undone : ¬ IsDone files
 
+-- files are sound, and this is their current checkpoint
+pub record IsSoundAt (shelf : Files) (current : Current) (files : Files) : Type 0 where
+  pub sound : IsSound shelf files
+  pub has : HasCurrent current files
+
 -- ---- a shelf and a store that tell
 
 -- all inputs have these points, which can be sampled, and this is their output
@@ -92,10 +107,12 @@ pub record IsOnWay (shelf : Files) (output : List File) (view : View) (files : O
 
 -- ---- why a phase is refused
 
--- the sampling of so many of the first points has more nodes than there may be
-pub record AreMany (plan : Plan) (most : ℕ) (points : List Point) : Type 0 where
-  pub inserted : ℕ
-  pub many : most < length (sampled (rules_of plan.kept) (take inserted points))
+-- Some phases later, at this checkpoint, the sampling of the points that are inserted has few enough nodes, and with those of the next phase more than there may be.
+pub record AreMany (plan : Plan) (from : Current) (step most : ℕ) (points : List Point) (now : Current) : Type 0 where
+  pub phases : ℕ
+  pub after : IsAfter from step plan.points phases now
+  pub few : length (sampled (rules_of plan.kept) (take (inserted_by now) points)) ≤ most
+  pub many : most < length (sampled (rules_of plan.kept) (take (inserted_by now + step) points))
 
 -- a cause that the second reading, the insertion and the saving may have
 abbrev pub IsPhaseFault : BuildError → Type 0

@@ -1,32 +1,32 @@
 //! A build.
 
-ghost use Rattle.std.specs.Prelude.{◌≡◌, ◌⊎◌, ◌≤◌, true, false, Some, Ok, Err, IsOk, IfOk, IfErr, OnOk, length};
+ghost use Rattle.std.specs.Prelude.{◌≡◌, ◌⊎◌, ◌≤◌, ℕ, take, true, false, Some, Ok, Err, IsOk, IfOk, IfErr, OnOk, length};
 ghost use Rattle.ept_base.specs.Causes.{HasCauseOf};
 ghost use Rattle.ept_base.specs.Files.{Files, SameFiles, Tells};
 ghost use Rattle.ept_base.specs.Moves.{Moves, IsSettled};
 ghost use Rattle.ept_scan.specs.declared.scan_error.ScanError.{ScanError};
+ghost use Rattle.ept_scan.specs.Asking.{AsksFor, paths_left};
 ghost use Rattle.ept_ckpt.specs.declared.letter.Letter.{Letter};
 ghost use Rattle.ept_save.specs.Current.{Current, HasCurrent};
 ghost use Rattle.ept_save.specs.Done.{IsDone};
 ghost use Rattle.ept_save.specs.Opening.{lines_of, IsBad};
-ghost use Rattle.ept_save.specs.Sound.{IsSound};
 ghost use Rattle.ept_plan.specs.Plans.{IsPlan, IsDefinite, GoesOn};
-ghost use Rattle.ept_build.specs.Building.{BeginsWith, Starts, InputsAreRefused, HasTooManyNodes, TellsDifference, IsBuilt, IsDoneAlready, IsAccepted, IsRefusedAt, IsRefused, IsEarly, Fails};
+ghost use Rattle.ept_build.specs.Building.{BeginsWith, Starts, InputsAreRefused, HasTooManyNodes, HasTooManyAlready, TellsDifference, IsBuilt, IsUnderWay, IsStopped, AsksInOrder, IsDoneAlready, IsAccepted, IsRefusedAt, IsRefused, IsEarly, Fails};
 ghost use Rattle.ept_build.specs.Errors.{of_scan};
 ghost use Rattle.ept_build.specs.Phases.{HasAll, IsPhaseFault, IsStoreFault};
 
 use crate::error::BuildError;
 use crate::finishing::finish;
 use crate::growing::{grow, has_all};
-use crate::progress::Progress;
+use crate::starting::take_up;
 use crate::summary::Summary;
 use ept_base::{Gate, Room, Shelf, Store};
 use ept_config::Config;
-use ept_meta::{output_names_law, output_once_law, rules_of};
-use ept_phase::{lines_law, load_tree, saved_law};
+use ept_meta::{output_names_law, output_once_law};
+use ept_phase::saved_law;
 use ept_plan::{Plan, make_plan};
 use ept_sample::{node_law, point_law};
-use ept_save::{Saved, close_done, is_done, open, sound_law, sound_steps_law};
+use ept_save::{Saved, is_done, open, sound_law, sound_steps_law};
 use ept_scan::whole_extent;
 use std::alloc::Global;
 
@@ -58,9 +58,17 @@ where
         → IfOk result (λ summary. Tells (IsBuilt all config.now start summary) (T.files store.new)) }
     ensures settled { OnOk result (IsSettled (T.files store.new) (T.may_leave store.new)) }
 
-    // Whatever the moment, each image is sound.
+    // Whatever the moment, each image is sound, and some phases behind the start.
     ensures sound { (all start : Files) → BeginsWith (H.files shelf.old) (T.files store.old) (T.may_leave store.old) all start
-        → Moves T.files T.may_leave T.moment T.image_since (λ (a b : Files). IsSound all b) store.old store.new }
+        → Moves T.files T.may_leave T.moment T.image_since (λ (a b : Files). IsUnderWay all config.now start b) store.old store.new }
+
+    // What it leaves where there are too many nodes: nothing is put where there were already, or the phases are
+    // kept before the one that has too many.
+    ensures stops { result ≡ Err BuildError.TooManyNodes
+        → (all start : Files) → BeginsWith (H.files shelf.old) (T.files store.old) (T.may_leave store.old) all start
+        → IsSettled (T.files store.new) (T.may_leave store.new)
+        × ((HasTooManyAlready all config.now start × Moves T.files T.may_leave T.moment T.image_since SameFiles store.old store.new)
+        ⊎ Tells (IsStopped all config.now start) (T.files store.new)) }
 
     // Nothing is put where nothing is to be done, and none where the inputs are refused.
     ensures done_already { (all start : Files) → BeginsWith (H.files shelf.old) (T.files store.old) (T.may_leave store.old) all start
@@ -88,6 +96,10 @@ where
         → (result ≡ Err (BuildError.BadCheckpoint letter)) ⊎ Fails result }
     ensures sources { HasCauseOf BuildError.SourceFault (H.faults shelf.old) (H.faults shelf.new) result }
     ensures stores { HasCauseOf BuildError.StoreFault (T.faults store.old) (T.faults store.new) result }
+
+    // What it opens: the new inputs, and then what is left to be read, in order. Files that are told stay.
+    ensures asked { (start : Files) (current : Current) → T.files store.old ≡ Some start → HasCurrent current start
+        → AsksInOrder (H.files shelf.old) config.now start current (H.asked shelf.old) (H.asked shelf.new) }
     ensures files { H.files shelf.new ≡ H.files shelf.old }
     ensures room { _room.new ≡ _room.old }
 {
@@ -152,11 +164,18 @@ fn built<H: Shelf, T: Store>(
     ensures settled { OnOk result (IsSettled (T.files store.new) (T.may_leave store.new)) }
     ensures sound { (all start : Files) → H.files shelf.old ≡ Some all
         → Starts all config.now saved plan.now start (T.files store.old) (T.may_leave store.old)
-        → Moves T.files T.may_leave T.moment T.image_since (λ (a b : Files). IsSound all b) store.old store.new }
+        → Moves T.files T.may_leave T.moment T.image_since (λ (a b : Files). IsUnderWay all config.now start b) store.old store.new }
+    ensures stops { result ≡ Err BuildError.TooManyNodes → (all start : Files) → H.files shelf.old ≡ Some all
+        → Starts all config.now saved plan.now start (T.files store.old) (T.may_leave store.old)
+        → IsSettled (T.files store.new) (T.may_leave store.new)
+        × ((HasTooManyAlready all config.now start × Moves T.files T.may_leave T.moment T.image_since SameFiles store.old store.new)
+        ⊎ Tells (IsStopped all config.now start) (T.files store.new)) }
     ensures only { IfErr result IsPhaseFault }
     ensures refused { (all start : Files) → H.files shelf.old ≡ Some all
         → Starts all config.now saved plan.now start (T.files store.old) (T.may_leave store.old)
         → IfErr result (IsRefusedAt all config.now saved.current) }
+    ensures asked { (n : ℕ) × AsksFor (take n (paths_left plan.now.kept.inputs plan.now.counts plan.now.inserted))
+        (H.asked shelf.old) (H.asked shelf.new) }
     ensures files { H.files shelf.new ≡ H.files shelf.old }
     ensures sources { HasCauseOf BuildError.SourceFault (H.faults shelf.old) (H.faults shelf.new) result }
     ensures stores { HasCauseOf BuildError.StoreFault (T.faults store.old) (T.faults store.new) result }
@@ -165,19 +184,10 @@ fn built<H: Shelf, T: Store>(
     output_once_law();
     saved_law();
     sound_law();
-    sound_steps_law();
     point_law();
     node_law();
-    lines_law();
     let extent = whole_extent(plan.counts.as_slice());
-    let rules = rules_of(&plan.kept);
-    let grown = load_tree(alloc, store, &saved, &rules, u64::from(config.max_nodes))?;
-    close_done(alloc, store)?;
-    let mut at = Progress {
-        saved,
-        grown,
-        inserted: plan.inserted,
-    };
+    let mut at = take_up(alloc, config, store, saved, plan)?;
     grow(
         alloc,
         shelf,

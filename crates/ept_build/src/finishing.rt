@@ -10,9 +10,8 @@ ghost use Rattle.ept_meta.specs.Output.{File, rules_of};
 ghost use Rattle.ept_tree.specs.Grown.{nodes_of};
 ghost use Rattle.ept_tree.specs.TreeLaws.{AreSampled};
 ghost use Rattle.ept_save.specs.Complete.{IsComplete};
-ghost use Rattle.ept_save.specs.Sound.{IsSound};
 ghost use Rattle.ept_plan.specs.Plans.{IsOf, inserted_by};
-ghost use Rattle.ept_build.specs.Phases.{IsFit, AreOfShelf, IsOnWay, IsStoreFault};
+ghost use Rattle.ept_build.specs.Phases.{IsFit, IsSoundAt, AreOfShelf, IsOnWay, IsStoreFault};
 
 use crate::error::BuildError;
 use crate::progress::Progress;
@@ -45,7 +44,7 @@ pub(crate) fn finish<T: Store>(
         → AreOfShelf shelf plan.now points output → length points ≡ plan.now.points → HasExtent points extent.now
         → AreSampled (rules_of plan.now.kept) points (nodes_of at.now.grown)
         → IsOnWay shelf output at.now.saved (T.files store.old) (T.may_leave store.old)
-        → Moves T.files T.may_leave T.moment T.image_since (λ (a b : Files). IsSound shelf b) store.old store.new }
+        → Moves T.files T.may_leave T.moment T.image_since (λ (a b : Files). IsSoundAt shelf at.now.saved.current b) store.old store.new }
     ensures settled { OnOk result (IsSettled (T.files store.new) (T.may_leave store.new)) }
     ensures only { IfErr result IsStoreFault }
     ensures stores { HasCauseOf BuildError.StoreFault (T.faults store.old) (T.faults store.new) result }

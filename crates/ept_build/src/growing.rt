@@ -3,12 +3,13 @@
 ghost use Rattle.std.specs.Prelude.{◌≡◌, ◌≢◌, ◌≤◌, ◌<◌, ◌+◌, ◌↔◌, ℕ, List, Some, Err, IsTrue, OnOk, IfErr, length, take};
 ghost use Rattle.ept_base.specs.Causes.{HasCauseOf};
 ghost use Rattle.ept_base.specs.Files.{Files, Tells};
-ghost use Rattle.ept_base.specs.Moves.{Moves};
+ghost use Rattle.ept_base.specs.Moves.{IsSettled, Moves};
 ghost use Rattle.ept_point.specs.declared.point.Point.{Point};
 ghost use Rattle.ept_space.specs.VoxelKey.{VoxelKey};
 ghost use Rattle.ept_space.specs.CubeOfBounds.{IsCubeOf};
 ghost use Rattle.ept_sample.specs.Nodes.{sampled};
 ghost use Rattle.ept_sample.specs.SamplingLaws.{CanBeSampled};
+ghost use Rattle.ept_scan.specs.Asking.{AsksFor, paths_left};
 ghost use Rattle.ept_scan.specs.Opening.{IsKeptScan};
 ghost use Rattle.ept_scan.specs.Reader.{HasFault};
 ghost use Rattle.ept_tree.specs.Grown.{nodes_of};
@@ -17,6 +18,7 @@ ghost use Rattle.ept_meta.specs.Output.{File, rules_of};
 ghost use Rattle.ept_save.specs.Sound.{IsSound};
 ghost use Rattle.ept_save.specs.View.{StandsFor};
 ghost use Rattle.ept_plan.specs.Plans.{IsOf, inputs_by, inserted_by};
+ghost use Rattle.ept_build.specs.Reached.{IsThrough, HasReached, HasThisOrNext, generation_by};
 ghost use Rattle.ept_build.specs.Phases.{IsFit, IsTreeOf, ReadsRest, HasAll, HasInserted, IsSoundUndone, AreOfShelf, IsOnWay, IsPhaseFault, AreMany};
 
 use crate::error::BuildError;
@@ -62,6 +64,10 @@ pub(crate) fn grow<H: Shelf, T: Store>(
     requires same { inputs_by at.old.saved.current ≡ length plan.now.kept.inputs → IsOf plan.now at.old.saved.current }
     ensures tree { OnOk result (IsTreeOf plan.now plan.now.points most at.new.grown at.new.saved) }
     ensures all { OnOk result (IsOf plan.now at.new.saved.current) }
+    ensures through { OnOk result (IsThrough at.old.saved.current step plan.now.points (length plan.now.kept.inputs) at.new.saved.current) }
+    ensures reached { StandsFor at.old.saved (T.files store.old) (T.may_leave store.old)
+        → Moves T.files T.may_leave T.moment T.image_since
+        (λ (a b : Files). HasReached at.old.saved.current step plan.now.points b) store.old store.new }
 
     // Of devices that tell: the octree is then that of all points, and each image is sound meanwhile.
     ensures sampled { Tells (λ all. (points : List Point) → IsKeptScan all plan.now.kept plan.now.counts points
@@ -91,12 +97,18 @@ pub(crate) fn grow<H: Shelf, T: Store>(
         (λ all. (points : List Point) → IsKeptScan all plan.now.kept plan.now.counts points
         → CanBeSampled (rules_of plan.now.kept) points
         → AreSampled (rules_of plan.now.kept) (take at.old.inserted points) (nodes_of at.old.grown)
-        → AreMany plan.now most points) (H.files shelf.old) }
+        → AreMany plan.now at.old.saved.current step most points at.new.saved.current) (H.files shelf.old) }
+    ensures stands { result ≡ Err BuildError.TooManyNodes → StandsFor at.old.saved (T.files store.old) (T.may_leave store.old)
+        → StandsFor at.new.saved (T.files store.new) (T.may_leave store.new) }
+    ensures settled { result ≡ Err BuildError.TooManyNodes → IsSettled (T.files store.old) (T.may_leave store.old)
+        → IsSettled (T.files store.new) (T.may_leave store.new) }
     ensures no_change { (source number : ℕ) → result ≡ Err (BuildError.SourceChanged source number) → Tells
         (λ all. (points : List Point) → IsKeptScan all plan.now.kept plan.now.counts points
         → CanBeSampled (rules_of plan.now.kept) points
         → AreSampled (rules_of plan.now.kept) (take at.old.inserted points) (nodes_of at.old.grown)
         → ⊥) (H.files shelf.old) }
+    ensures asked { (n : ℕ) × AsksFor (take n (paths_left plan.now.kept.inputs plan.now.counts at.old.inserted))
+        (H.asked shelf.old) (H.asked shelf.new) }
     ensures files { H.files shelf.new ≡ H.files shelf.old }
     ensures sources { HasCauseOf BuildError.SourceFault (H.faults shelf.old) (H.faults shelf.new) result }
     ensures stores { HasCauseOf BuildError.StoreFault (T.faults store.old) (T.faults store.new) result }
@@ -130,6 +142,10 @@ fn phases<S: Source, T: Store>(
     requires reader { ReadsRest S.whole S.left S.given S.faults plan.now at.old.inserted reader.old }
     ensures tree { OnOk result (IsTreeOf plan.now plan.now.points most at.new.grown at.new.saved) }
     ensures all { OnOk result (IsOf plan.now at.new.saved.current) }
+    ensures through { OnOk result (IsThrough at.old.saved.current step plan.now.points (length plan.now.kept.inputs) at.new.saved.current) }
+    ensures reached { StandsFor at.old.saved (T.files store.old) (T.may_leave store.old)
+        → Moves T.files T.may_leave T.moment T.image_since
+        (λ (a b : Files). HasReached at.old.saved.current step plan.now.points b) store.old store.new }
     ensures sampled { (points : List Point) → CanBeSampled (rules_of plan.now.kept) points → length points ≡ plan.now.points
         → HasInserted S.whole plan.now points at.old.inserted reader.old at.old.grown
         → OnOk result (AreSampled (rules_of plan.now.kept) points (nodes_of at.new.grown)) }
@@ -148,8 +164,13 @@ fn phases<S: Source, T: Store>(
         → (key : VoxelKey) → result ≢ Err (BuildError.TileDamaged key) }
     ensures too_many { result ≡ Err BuildError.TooManyNodes → (points : List Point)
         → CanBeSampled (rules_of plan.now.kept) points
+        → length points ≡ plan.now.points
         → HasInserted S.whole plan.now points at.old.inserted reader.old at.old.grown
-        → AreMany plan.now most points }
+        → AreMany plan.now at.old.saved.current step most points at.new.saved.current }
+    ensures stands { result ≡ Err BuildError.TooManyNodes → StandsFor at.old.saved (T.files store.old) (T.may_leave store.old)
+        → StandsFor at.new.saved (T.files store.new) (T.may_leave store.new) }
+    ensures settled { result ≡ Err BuildError.TooManyNodes → IsSettled (T.files store.old) (T.may_leave store.old)
+        → IsSettled (T.files store.new) (T.may_leave store.new) }
     ensures no_change { (source number : ℕ) → result ≡ Err (BuildError.SourceChanged source number) → (points : List Point)
         → CanBeSampled (rules_of plan.now.kept) points
         → HasInserted S.whole plan.now points at.old.inserted reader.old at.old.grown → ⊥ }
@@ -183,6 +204,13 @@ fn phase<S: Source, T: Store>(
     ensures tree { OnOk result (IsTreeOf plan.now at.new.inserted most at.new.grown at.new.saved) }
     ensures reader { OnOk result (ReadsRest S.whole S.left S.given S.faults plan.now at.new.inserted reader.new) }
     ensures checkpoint { OnOk result (IsOf plan.now at.new.saved.current) }
+    ensures generation { OnOk result (generation_by at.new.saved.current ≡ generation_by at.old.saved.current + 1) }
+    ensures either { StandsFor at.old.saved (T.files store.old) (T.may_leave store.old)
+        → Moves T.files T.may_leave T.moment T.image_since
+        (λ (a b : Files). HasThisOrNext at.old.saved.current (at.old.inserted + count) b) store.old store.new }
+    ensures stands { OnOk result (StandsFor at.old.saved (T.files store.old) (T.may_leave store.old)
+        → StandsFor at.new.saved (T.files store.new) (T.may_leave store.new)) }
+    ensures settled { OnOk result (IsSettled (T.files store.new) (T.may_leave store.new)) }
     ensures has { OnOk result ((points : List Point) → CanBeSampled (rules_of plan.now.kept) points
         → HasInserted S.whole plan.now points at.old.inserted reader.old at.old.grown
         → HasInserted S.whole plan.now points at.new.inserted reader.new at.new.grown) }
@@ -202,6 +230,7 @@ fn phase<S: Source, T: Store>(
         → CanBeSampled (rules_of plan.now.kept) points
         → HasInserted S.whole plan.now points at.old.inserted reader.old at.old.grown
         → most < length (sampled (rules_of plan.now.kept) (take (at.old.inserted + count) points)) }
+    ensures untouched { result ≡ Err BuildError.TooManyNodes → (at.new.saved ≡ at.old.saved) × (store.new ≡ store.old) }
     ensures no_change { (source number : ℕ) → result ≡ Err (BuildError.SourceChanged source number) → (points : List Point)
         → CanBeSampled (rules_of plan.now.kept) points
         → HasInserted S.whole plan.now points at.old.inserted reader.old at.old.grown → ⊥ }

@@ -10,6 +10,7 @@ mod error;
 mod finishing;
 mod growing;
 mod progress;
+mod starting;
 #[cfg(test)]
 mod stop_tests;
 mod summary;

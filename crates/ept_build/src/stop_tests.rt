@@ -24,7 +24,7 @@ const NAMES: [&str; 8] = [
 
 const HIERARCHY: &[u8] = b"{\"0-0-0-0\":2,\"1-0-0-0\":2,\"1-1-1-1\":1,\"2-0-0-0\":1}";
 
-/// Three points in each of two inputs, and one in a third.
+/// Three points in each of two inputs, one in a third, and five at one place in a fourth.
 fn shelf(alloc: Global) -> Result<MemShelf, AllocError> {
     let mut files = Vec::new(alloc);
     let first: [&[u8]; 3] = [&at(1, 1, 1), &at(2, 2, 2), &at(3, 3, 3)];
@@ -32,6 +32,9 @@ fn shelf(alloc: Global) -> Result<MemShelf, AllocError> {
     files.push(file(alloc, "a.las", las(alloc, &FIRST, &first)?)?)?;
     files.push(file(alloc, "b.las", las(alloc, &FIRST, &second)?)?)?;
     files.push(file(alloc, "c.las", las(alloc, &FIRST, &[&at(0, 7, 0)])?)?)?;
+    let one = at(1, 1, 1);
+    let five: [&[u8]; 5] = [&one, &one, &one, &one, &one];
+    files.push(file(alloc, "d.las", las(alloc, &FIRST, &five)?)?)?;
     Ok(MemShelf::new(alloc, files, Vec::new(alloc), Vec::new(alloc)))
 }
 
@@ -42,8 +45,19 @@ fn built(
     inputs: &str,
     span: u32,
 ) -> Result<Result<Summary, Refusal>, AllocError> {
+    built_by(alloc, store, inputs, span, 65_536)
+}
+
+/// Builds these inputs, two records a phase, and at most so many nodes.
+fn built_by(
+    alloc: Global,
+    store: &mut MemStore,
+    inputs: &str,
+    span: u32,
+    most: u32,
+) -> Result<Result<Summary, Refusal>, AllocError> {
     let text = format!(in alloc;
-        "{{\"input\":[{inputs}],\"scale\":2,\"bounds\":[0,0,0,7,7,7],\"span\":{span},\"minNodeSize\":0,\"checkpoint\":2}}"
+        "{{\"input\":[{inputs}],\"scale\":2,\"bounds\":[0,0,0,7,7,7],\"span\":{span},\"minNodeSize\":0,\"checkpoint\":2,\"maxNodes\":{most}}}"
     )?;
     let Ok(config) = read_config(alloc, text.as_bytes()) else {
         return Err(AllocError);
@@ -61,6 +75,16 @@ fn empty(alloc: Global) -> MemStore {
 const TWO: &str = "\"a.las\",\"b.las\"";
 
 const THREE: &str = "\"a.las\",\"b.las\",\"c.las\"";
+
+/// How many points the current checkpoint of a store has, and which generation it is.
+fn current(alloc: Global, store: &mut MemStore) -> Result<(u64, u64), AllocError> {
+    let Ok(saved) = open(alloc, store) else {
+        return Err(AllocError);
+    };
+    Ok(saved.current().map_or((0, 0), |checkpoint| {
+        (checkpoint.inserted, checkpoint.generation)
+    }))
+}
 
 /// Compares the files of the output of two stores.
 fn compare(rt: &impl Abort, left: &MemStore, want: &MemStore, context: &str) {
@@ -81,6 +105,7 @@ fn a_stopped_build_goes_on(rt: HostRuntime) -> Result<(), Fail> {
     let mut whole = empty(alloc);
     assert_eq!(rt; built(alloc, &mut whole, TWO, 2)?, done);
     assert_eq!(rt; whole.file("ept-hierarchy/0-0-0-0.json"), Some(HIERARCHY));
+    assert_eq!(rt; current(alloc, &mut whole)?, (6, 3));
     let mut first = u64::MAX;
     for calls in 0..70 {
         let kinds = if calls % 2 == 0 {
@@ -93,11 +118,8 @@ fn a_stopped_build_goes_on(rt: HostRuntime) -> Result<(), Fail> {
             let is_through = built(alloc, &mut store, TWO, 2)?.is_ok();
             first = if is_through { calls.min(first) } else { first };
             let mut store = store.crash(how);
-            let Ok(saved) = open(alloc, &mut store) else {
-                return Err(Fail::from(AllocError));
-            };
-            let inserted = saved.current().map_or(0, |checkpoint| checkpoint.inserted);
-            assert!(rt; inserted <= 6 && inserted % 2 == 0, "{calls} {inserted}");
+            let (inserted, generation) = current(alloc, &mut store)?;
+            assert!(rt; inserted <= 6 && inserted == 2 * generation, "{calls} {inserted}");
             assert_eq!(rt; built(alloc, &mut store, TWO, 2)?, done, "{calls}");
             compare(&rt, &store, &whole, "again");
         }
@@ -121,6 +143,8 @@ fn an_input_is_added(rt: HostRuntime) -> Result<(), Fail> {
     assert!(rt; built(alloc, &mut store, TWO, 2)?.is_ok());
     assert_eq!(rt; built(alloc, &mut store, THREE, 2)?, done);
     compare(&rt, &store, &whole, "added");
+    assert_eq!(rt; current(alloc, &mut whole)?, (7, 4));
+    assert_eq!(rt; current(alloc, &mut store)?, (7, 4));
     assert_eq!(rt;
         store
             .file("ept-data/0-0-0-0.bin")
@@ -135,5 +159,34 @@ fn an_input_is_added(rt: HostRuntime) -> Result<(), Fail> {
     assert_eq!(rt; built(alloc, &mut store, TWO, 2)?, fewer);
     assert_eq!(rt; built(alloc, &mut store, THREE, 2)?, done);
     compare(&rt, &store, &whole, "again");
+    Ok(())
+}
+
+// Each phase is judged: those before the one whose points have too many nodes are kept, and a build that may have more
+// nodes goes on from them. Where there are too many already, all stays.
+#[test]
+fn phases_before_too_many_nodes_are_kept(rt: HostRuntime) -> Result<(), Fail> {
+    let alloc = rt.alloc();
+    let refused = Err(Refusal::Nodes);
+    let done = Ok(Summary {
+        points: 5,
+        nodes: 3,
+    });
+    let mut store = empty(alloc);
+    for (most, answer, left) in [
+        (1, refused, (0, 0)),
+        (2, refused, (2, 1)),
+        (2, refused, (2, 1)),
+        (1, refused, (2, 1)),
+        (3, done, (5, 3)),
+        (1, done, (5, 3)),
+    ] {
+        assert_eq!(rt; built_by(alloc, &mut store, "\"d.las\"", 2, most)?, answer, "{most}");
+        assert_eq!(rt; current(alloc, &mut store)?, left, "{most}");
+    }
+    assert_eq!(rt;
+        store.file("ept-hierarchy/0-0-0-0.json"),
+        Some(b"{\"0-0-0-0\":1,\"1-0-0-0\":1,\"2-0-0-0\":3}".as_slice())
+    );
     Ok(())
 }

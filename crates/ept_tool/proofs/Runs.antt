@@ -4,6 +4,7 @@ use Rattle.std.specs.Prelude.{Result, Vec, IfOk, IfErr, IsOk}
 use Rattle.std.specs.Io.KnownBytes.{Appends}
 use Rattle.std.specs.declared.alloc.Global.{Global}
 use Rattle.ept_base.specs.Files.{Files, Tells}
+use Rattle.ept_config.specs.declared.config_error.ConfigError.{ConfigError}
 use Rattle.ept_las.specs.declared.header.Header.{Header}
 use Rattle.ept_tool.specs.Words.{IsUsage}
 use Rattle.ept_tool.specs.declared.refusal.Refusal.{Refusal}
@@ -45,6 +46,22 @@ device_only (TileDamaged key) is = absurd (omega (arith, is))
 device_only SourceFault is = inl refl
 device_only StoreFault is = inr refl
 device_only Memory is = absurd (omega (arith, is))
+
+configuration_only : (r : Refusal) → status_of r ≡ 3 → (e : ConfigError) × (r ≡ BadConfiguration e)
+configuration_only Usage is = absurd (omega (arith, is))
+configuration_only (BadConfiguration e) is = (e, refl)
+configuration_only (BadLas source fault) is = absurd (omega (arith, is))
+configuration_only (OutOfBounds source number) is = absurd (omega (arith, is))
+configuration_only NoBounds is = absurd (omega (arith, is))
+configuration_only (SourceChanged source number) is = absurd (omega (arith, is))
+configuration_only (TooManyPoints source) is = absurd (omega (arith, is))
+configuration_only TooManyNodes is = absurd (omega (arith, is))
+configuration_only (Differs field) is = absurd (omega (arith, is))
+configuration_only (BadCheckpoint letter) is = absurd (omega (arith, is))
+configuration_only (TileDamaged key) is = absurd (omega (arith, is))
+configuration_only SourceFault is = absurd (omega (arith, is))
+configuration_only StoreFault is = absurd (omega (arith, is))
+configuration_only Memory is = absurd (omega (arith, is))
 
 -- a refusal is neither the work done nor a later command
 neither : (r : Refusal) → (status_of r ≢ 0) × (status_of r ≢ 10)
@@ -105,6 +122,14 @@ module _ (status : ℕ) (said_old said_new : Option (List ℕ)) (failed : Type 0
   never_later (Ok line) (inl ok) is = omega (arith, ok.0, is)
   never_later (Ok line) (inr device) is = omega (arith, device.0, is)
   never_later (Err r) ends is = (neither ends.told).1 (ends.status_is ∙ is)
+
+  -- status 3 is that of a bad configuration
+  pub bad_configuration : (answer : Result (Vec ℕ Global) Refusal) → EndsWith answer status said_old said_new failed → status ≡ 3 → (e : ConfigError) × (answer ≡ Err (BadConfiguration e))
+  bad_configuration (Ok line) (inl ok) is = absurd (omega (arith, ok.0, is))
+  bad_configuration (Ok line) (inr device) is = absurd (omega (arith, device.0, is))
+  bad_configuration (Err r) ends is =
+      let told = configuration_only ends.told (ends.status_is ∙ is) in
+      ⊎_elim (λ same. (told.0, ap (λ (w : Refusal). Err w) (sym same ∙ told.1))) (λ same. absurd (omega (arith, ap status_of same, ends.status_is, is))) ends.told_is
 
   told_status : (r : Refusal) → IsTold r status said_old said_new failed → (status ≡ status_of r) ⊎ (status ≡ 9)
   told_status r ends = ⊎_elim (λ same. inl (sym ends.status_is ∙ ap status_of same)) (λ same. inr (sym ends.status_is ∙ ap status_of same)) ends.told_is

@@ -1,17 +1,18 @@
 -- What a run answers, and what it leaves.
-use Rattle.std.specs.Prelude.{◌≡◌, ◌⊎◌, ℕ, Option, List, Vec, Result, Ok, Err, ⊤}
+use Rattle.std.specs.Prelude.{◌≡◌, ◌⊎◌, ℕ, Option, List, [], ◌∷◌, take, Vec, Result, Ok, Err, ⊤}
 use Rattle.std.specs.Io.KnownBytes.{Appends}
 use Rattle.std.specs.declared.alloc.Global.{Global}
 use Rattle.ept_base.specs.Devices.{AppendsPrefix}
 use Rattle.ept_base.specs.Files.{Files, Tells}
 use Rattle.ept_las.specs.declared.header.Header.{Header}
 use Rattle.ept_space.specs.declared.box3.Box3.{Box3}
+use Rattle.ept_scan.specs.Asking.{AsksFor}
 use Rattle.ept_meta.specs.declared.fields.Field.{Field}
 use Rattle.ept_tool.specs.declared.refusal.Refusal.{Refusal}
 use Rattle.ept_tool.specs.declared.refusal.Refusal.TheVariants.{Usage, BadConfiguration, BadLas, OutOfBounds, NoBounds, SourceChanged, TooManyPoints, TooManyNodes, Differs, BadCheckpoint, TileDamaged, SourceFault, StoreFault, Memory}
 use Rattle.ept_tool.specs.Words.{IsBuild, IsInfo, IsQuery, IsUsage}
 use Rattle.ept_tool.specs.Lines.{summary_text, header_text, status_of, line_of}
-use Rattle.ept_tool.specs.Requests.{HasBuilt, HasTold, ConfigurationIsRefused, BuildIsRefused, InfoIsRefused, IsEarly}
+use Rattle.ept_tool.specs.Requests.{HasBuilt, HasTold, AsksForBuild, ConfigurationIsRefused, BuildIsRefused, InfoIsRefused, IsEarly}
 
 -- this status, if no device failed and memory sufficed
 abbrev pub Yields : ℕ → ℕ → Type 0
@@ -39,6 +40,13 @@ pub record AsksQuery (words : List (List ℕ)) : Type 0 where
   pub first : ℕ
   pub last : ℕ
   pub words_are : IsQuery words folder area first last
+
+-- What the words ask the shelf for, over a store with these files: a build for its configuration, and then for what its build asks for; `info` for its file; all others for nothing.
+abbrev pub IsAskedFor : List (List ℕ) → Option Files → Files → Option (List (List ℕ)) → Option (List (List ℕ)) → Type 0
+IsAskedFor words shelf start old new =
+    AsksBuild words (λ path. AsksForBuild shelf start path old new)
+    ⊎ AsksInfo words (λ path. (n : ℕ) × AsksFor (take n (path ∷ [])) old new)
+    ⊎ (new ≡ old)
 
 -- ---- what is done
 

@@ -1,5 +1,5 @@
 -- What the files of these paths are, on a shelf of these files, and why a command on them is refused.
-use Rattle.std.specs.Prelude.{◌≡◌, ◌≢◌, ◌⊎◌, ℕ, List, Vec, Option, None, Some, Result, Ok, Err, take, ⊤}
+use Rattle.std.specs.Prelude.{◌≡◌, ◌≢◌, ◌⊎◌, ℕ, List, [], ◌∷◌, Vec, Option, None, Some, Result, Ok, Err, take, ⊤}
 use Rattle.std.specs.declared.alloc.Global.{Global}
 use Rattle.ept_base.specs.Files.{Files, Tells}
 use Rattle.ept_config.specs.declared.config.Config.{Config}
@@ -9,6 +9,7 @@ use Rattle.ept_config.specs.Facts.{facts}
 use Rattle.ept_las.specs.declared.header.Header.{Header}
 use Rattle.ept_las.specs.declared.las_error.LasError.{LasError}
 use Rattle.ept_las.specs.LasHeader.{HeaderReadsAs}
+use Rattle.ept_scan.specs.Asking.{AsksFor}
 use Rattle.ept_scan.specs.LasFile.{head_of}
 use Rattle.ept_scan.specs.declared.scan_error.ScanError.TheVariants as scan
 use Rattle.ept_meta.specs.declared.fields.Field.{Field}
@@ -102,6 +103,14 @@ pub record DiffersAt (files start : Files) (path : List ℕ) : Type 0 where
   pub current : Current
   pub has_current : HasCurrent current start
   pub differs : ¬ GoesOn config current
+
+-- What a build of the configuration of this path asks the shelf for: this path, and then, where it is a configuration, what its build asks for over a store with these files.
+abbrev pub AsksForBuild : Option Files → Files → List ℕ → Option (List (List ℕ)) → Option (List (List ℕ)) → Type 0
+AsksForBuild shelf start path old new =
+    ((n : ℕ) × AsksFor (take n (path ∷ [])) old new)
+    ⊎ ((config : Config) × Tells (λ all. HasConfiguration all path config) shelf
+    × (asked : Option (List (List ℕ))) × AsksFor (path ∷ []) old asked
+    × ((current : Current) → HasCurrent current start → building.AsksInOrder shelf config start current asked new))
 
 -- it is a configuration
 abbrev pub IsConfigured : Files → List ℕ → Type 0

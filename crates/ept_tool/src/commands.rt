@@ -1,16 +1,18 @@
 //! The commands: each answers the line that it ends with, or why it is refused.
 
-ghost use Rattle.std.specs.Prelude.{◌≡◌, ◌≢◌, ◌⊎◌, ℕ, Err, Some, IsOk, IfOk, IfErr, OnOk};
+ghost use Rattle.std.specs.Prelude.{◌≡◌, ◌≢◌, ◌⊎◌, ◌≤◌, ◌+◌, ◌^◌, ℕ, [], ◌∷◌, take, Err, Some, IsOk, IfOk, IfErr, OnOk};
 ghost use Rattle.ept_base.specs.Causes.{HasCauseOf};
 ghost use Rattle.ept_base.specs.Files.{Files, SameFiles, Tells};
 ghost use Rattle.ept_base.specs.Moves.{Moves, IsSettled};
+ghost use Rattle.ept_config.specs.declared.config_error.ConfigError.{ConfigError};
+ghost use Rattle.ept_scan.specs.Asking.{AsksFor};
 ghost use Rattle.ept_las.specs.declared.header.Header as found;
 ghost use Rattle.ept_ckpt.specs.declared.letter.Letter.{Letter};
 ghost use Rattle.ept_save.specs.Opening.{IsBad};
 ghost use Rattle.ept_save.specs.Sound.{IsSound};
 ghost use Rattle.ept_build.specs.Building.{BeginsWith};
 ghost use Rattle.ept_tool.specs.Lines.{summary_text, header_text};
-ghost use Rattle.ept_tool.specs.Requests.{IsBuiltAt, HasBuilt, IsAcceptedAt, IsDoneAt, ComesAt, DiffersAt, IsConfigured, TellsDifference, ConfigurationIsRefused, BuildIsRefused, HasTold, HasHeader, InfoIsRefused, IsOfBuild, IsOfHeader, IsDefinite, IsEarly, Fails};
+ghost use Rattle.ept_tool.specs.Requests.{IsBuiltAt, HasBuilt, AsksForBuild, IsAcceptedAt, IsDoneAt, ComesAt, DiffersAt, IsConfigured, TellsDifference, ConfigurationIsRefused, BuildIsRefused, HasTold, HasHeader, InfoIsRefused, IsOfBuild, IsOfHeader, IsDefinite, IsEarly, Fails};
 
 use crate::files::{read_configuration, read_file_header};
 use crate::lines::{header_line, summary_line};
@@ -65,6 +67,10 @@ where
         → Moves T.files T.may_leave T.moment T.image_since SameFiles store.old store.new }
     ensures early { IfErr result (λ r. IsEarly r
         → Moves T.files T.may_leave T.moment T.image_since SameFiles store.old store.new) }
+    ensures asked { (start : Files) → T.files store.old ≡ Some start
+        → AsksForBuild (H.files shelf.old) start path.now (H.asked shelf.old) (H.asked shelf.new) }
+    ensures given { (error : ConfigError) → result ≡ Err (Refusal.BadConfiguration error)
+        → H.given shelf.new ≤ H.given shelf.old + (2 ^ 24 + 1) }
     ensures files { H.files shelf.new ≡ H.files shelf.old }
     ensures room { room.new ≡ room.old }
 {
@@ -112,6 +118,10 @@ where
         → Moves T.files T.may_leave T.moment T.image_since SameFiles store.old store.new }
     ensures early { IfErr result (λ r. IsEarly r
         → Moves T.files T.may_leave T.moment T.image_since SameFiles store.old store.new) }
+    ensures asked { (start : Files) → T.files store.old ≡ Some start
+        → AsksForBuild (H.files shelf.old) start path.now (H.asked shelf.old) (H.asked shelf.new) }
+    ensures given { (error : ConfigError) → result ≡ Err (Refusal.BadConfiguration error)
+        → H.given shelf.new ≤ H.given shelf.old + (2 ^ 24 + 1) }
     ensures files { H.files shelf.new ≡ H.files shelf.old }
     ensures room { room.new ≡ room.old }
 {
@@ -142,6 +152,8 @@ pub(crate) fn info_line<H: Shelf>(
         → IsOk result ⊎ Fails result) (H.files shelf.old) }
     ensures causes { IfErr result IsOfHeader }
     ensures sources { HasCauseOf Refusal.SourceFault (H.faults shelf.old) (H.faults shelf.new) result }
+    ensures asked { (n : ℕ) × AsksFor (take n (path.now ∷ [])) (H.asked shelf.old) (H.asked shelf.new) }
+    ensures given { H.given shelf.new ≤ H.given shelf.old + 375 }
     ensures files { H.files shelf.new ≡ H.files shelf.old }
 {
     let header = read_file_header(shelf, path)?;

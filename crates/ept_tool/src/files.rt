@@ -1,8 +1,9 @@
 //! The files that the words name.
 
-ghost use Rattle.std.specs.Prelude.{◌≡◌, ◌≤◌, IfOk, IfErr, length, take};
+ghost use Rattle.std.specs.Prelude.{◌≡◌, ◌≤◌, ◌+◌, ◌^◌, ℕ, [], ◌∷◌, IfOk, IfErr, OnOk, length, take};
 ghost use Rattle.ept_base.specs.Causes.{HasCause, HasCauseOf};
 ghost use Rattle.ept_base.specs.Files.{Tells};
+ghost use Rattle.ept_scan.specs.Asking.{AsksFor};
 ghost use Rattle.ept_tool.specs.Requests.{HasFront, HasConfiguration, ConfigurationIsRefused, IsOfConfiguration, HasHeader, InfoIsRefused, IsOfHeader};
 
 use crate::refusal::Refusal;
@@ -31,6 +32,9 @@ pub(crate) fn read_configuration<H: Shelf>(
         (λ all. HasConfiguration all path.now config) (H.files shelf.old)) }
     ensures refused { IfErr result (λ r. Tells (λ all. ConfigurationIsRefused all path.now r) (H.files shelf.old)) }
     ensures causes { IfErr result IsOfConfiguration }
+    ensures opened { OnOk result (AsksFor (path.now ∷ []) (H.asked shelf.old) (H.asked shelf.new)) }
+    ensures asked { (n : ℕ) × AsksFor (take n (path.now ∷ [])) (H.asked shelf.old) (H.asked shelf.new) }
+    ensures given { H.given shelf.new ≤ H.given shelf.old + (2 ^ 24 + 1) }
     ensures files { H.files shelf.new ≡ H.files shelf.old }
     ensures cause { HasCauseOf Refusal.SourceFault (H.faults shelf.old) (H.faults shelf.new) result }
 {
@@ -50,6 +54,9 @@ pub(crate) fn read_front<H: Shelf>(
 ) -> Result<Vec<u8>, GetError>
     ensures front { IfOk result (λ front. Tells
         (λ all. HasFront all path.now most front.items) (H.files shelf.old)) }
+    ensures opened { OnOk result (AsksFor (path.now ∷ []) (H.asked shelf.old) (H.asked shelf.new)) }
+    ensures asked { (n : ℕ) × AsksFor (take n (path.now ∷ [])) (H.asked shelf.old) (H.asked shelf.new) }
+    ensures given { H.given shelf.new ≤ H.given shelf.old + most }
     ensures files { H.files shelf.new ≡ H.files shelf.old }
     ensures cause { HasCauseOf GetError.Failed (H.faults shelf.old) (H.faults shelf.new) result }
 {
@@ -63,6 +70,7 @@ pub(crate) fn read_front<H: Shelf>(
 fn read_up_to<S: Source>(alloc: Global, source: &mut S, most: usize) -> Result<Vec<u8>, GetError>
     ensures front { IfOk result (λ front. Tells
         (λ left. front.items ≡ take most left) (S.left source.old)) }
+    ensures given { S.given source.new ≤ S.given source.old + most }
     ensures same { S.whole source.new ≡ S.whole source.old }
     ensures cause { HasCauseOf GetError.Failed (S.faults source.old) (S.faults source.new) result }
 {
@@ -89,6 +97,9 @@ pub(crate) fn read_file_header<H: Shelf>(shelf: &mut H, path: &str) -> Result<He
     ensures ok { IfOk result (λ header. Tells (λ all. HasHeader all path.now header) (H.files shelf.old)) }
     ensures refused { IfErr result (λ r. Tells (λ all. InfoIsRefused all path.now r) (H.files shelf.old)) }
     ensures causes { IfErr result IsOfHeader }
+    ensures opened { OnOk result (AsksFor (path.now ∷ []) (H.asked shelf.old) (H.asked shelf.new)) }
+    ensures asked { (n : ℕ) × AsksFor (take n (path.now ∷ [])) (H.asked shelf.old) (H.asked shelf.new) }
+    ensures given { H.given shelf.new ≤ H.given shelf.old + 375 }
     ensures files { H.files shelf.new ≡ H.files shelf.old }
     ensures cause { HasCauseOf Refusal.SourceFault (H.faults shelf.old) (H.faults shelf.new) result }
 {
@@ -106,6 +117,9 @@ fn read_head<H: Shelf>(shelf: &mut H, path: &str, buffer: &mut [u8]) -> Result<u
         (λ all. HasFront all path.now (length buffer.old) (take count buffer.new)) (H.files shelf.old)) }
     ensures fits { IfOk result (λ count. count ≤ length buffer.new) }
     ensures size { length buffer.new ≡ length buffer.old }
+    ensures opened { OnOk result (AsksFor (path.now ∷ []) (H.asked shelf.old) (H.asked shelf.new)) }
+    ensures asked { (n : ℕ) × AsksFor (take n (path.now ∷ [])) (H.asked shelf.old) (H.asked shelf.new) }
+    ensures given { H.given shelf.new ≤ H.given shelf.old + length buffer.old }
     ensures files { H.files shelf.new ≡ H.files shelf.old }
     ensures cause { HasCauseOf GetError.Failed (H.faults shelf.old) (H.faults shelf.new) result }
 {

@@ -1,6 +1,6 @@
 //! A run of the program.
 
-ghost use Rattle.std.specs.Prelude.{◌≡◌, ◌≢◌, ◌⊎◌, ◌↔◌, ℕ, List, Some, ⊤};
+ghost use Rattle.std.specs.Prelude.{◌≡◌, ◌≢◌, ◌⊎◌, ◌↔◌, ◌≤◌, ◌+◌, ◌^◌, ℕ, List, Some, ⊤};
 ghost use Rattle.std.specs.Io.KnownBytes.{Appends};
 ghost use Rattle.ept_base.specs.Causes.{Rose};
 ghost use Rattle.ept_base.specs.Files.{Files, SameFiles, Tells};
@@ -15,7 +15,7 @@ ghost use Rattle.ept_tool.specs.declared.refusal.Refusal as cause;
 ghost use Rattle.ept_tool.specs.declared.refusal.Refusal.TheVariants.{BadCheckpoint};
 ghost use Rattle.ept_tool.specs.Words.{bytes_of, IsBuild, IsInfo, IsQuery, IsUsage, IsLater};
 ghost use Rattle.ept_tool.specs.Requests.{IsAcceptedAt, IsDoneAt, ComesAt, DiffersAt, IsConfigured, HasHeader, IsDefinite};
-ghost use Rattle.ept_tool.specs.Answers.{Yields, YieldsRefusal, YieldsDifference, AsksBuild, AsksInfo, AsksQuery, Ends, IsFaulty, Refuses, IsCut};
+ghost use Rattle.ept_tool.specs.Answers.{Yields, YieldsRefusal, YieldsDifference, IsAskedFor, AsksBuild, AsksInfo, AsksQuery, Ends, IsFaulty, Refuses, IsCut};
 ghost use Rattle.ept_tool.specs.Queries.{EndsQuery};
 
 use crate::answers::{finish, refuse_usage};
@@ -110,6 +110,14 @@ where
         (Rose (O.faults out.old) (O.faults out.new)) }
     ensures fault { result ≡ 7 → Rose (H.faults shelf.old) (H.faults shelf.new)
         ⊎ Rose (T.faults store.old) (T.faults store.new) ⊎ Rose (O.faults out.old) (O.faults out.new) }
+
+    // What is opened, and how much of a file is read: of a LAS file its first 375 bytes by `info`, and of what is no
+    // configuration at most 16 MiB and one byte.
+    ensures asked { (start : Files) → T.files store.old ≡ Some start
+        → IsAskedFor (bytes_of words.now) (H.files shelf.old) start (H.asked shelf.old) (H.asked shelf.new) }
+    ensures header_given { (las : List ℕ) → IsInfo (bytes_of words.now) las
+        → H.given shelf.new ≤ H.given shelf.old + 375 }
+    ensures configuration_given { result ≡ 3 → H.given shelf.new ≤ H.given shelf.old + (2 ^ 24 + 1) }
 
     // What stays as it was.
     ensures silent { result ≡ 10 → (out.new ≡ out.old) × (store.new ≡ store.old) }

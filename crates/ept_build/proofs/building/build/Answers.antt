@@ -9,28 +9,29 @@ use Rattle.ept_scan.specs.Scans.{IsScan}
 use Rattle.ept_save.specs.Names.{done_name}
 use Rattle.ept_save.specs.Current.{Current, HasCurrent}
 use Rattle.ept_save.specs.Done.{IsDone}
-use Rattle.ept_save.specs.Sound.{IsSound}
 use Rattle.ept_save.proofs.Standing.{stepped, told_some, tells_some, same_twice, same-stands}
-use Rattle.ept_plan.specs.Plans.{limits_by, GoesOn, AreRefused}
+use Rattle.ept_plan.specs.Plans.{limits_by, new_paths, GoesOn, AreRefused}
 use Rattle.ept_build.specs.declared.error.BuildError.{BuildError}
 use Rattle.ept_build.specs.declared.summary.Summary.{Summary}
-use Rattle.ept_build.specs.Errors.{of_plan, of_put}
-use Rattle.ept_build.specs.Building.{HasPoints, IsBuilt, IsRefusedAt, IsRefused, IsEarly}
+use Rattle.ept_build.specs.Errors.{of_plan, of_save, of_put}
+use Rattle.ept_build.specs.Building.{HasPoints, IsBuilt, IsUnderWay, AsksInOrder, IsRefusedAt, IsRefused, IsEarly}
 use Rattle.ept_build.proofs.Causes.{tells-some}
 use Rattle.ept_plan.specs.declared.error.PlanError.TheVariants as plan
-use Rattle.ept_build.proofs.Judging.{plan-refused, plan-accepted, plan-only, plan-differs, plan-is-ok, built-many, put-not-bad, err-one, stores-fails, built-accepted, store-refused, put-store, put-no-source, put-failed}
-use Rattle.ept_build.proofs.Moved.{moves-then}
-use Rattle.ept_build.proofs.Running.{sound-settled, same-moves}
-use Rattle.ept_build.proofs.Finished.{finished-built, built-from, starts-again, done-all}
+use Rattle.ept_build.proofs.Judging.{plan-refused, plan-accepted, plan-only, plan-differs, plan-is-ok, built-many, put-not-bad, err-one, stores-fails, built-accepted, store-refused, put-store, put-no-source, put-failed, save-not-many, plan-not-many, store-not-many, put-not-many}
+use Rattle.ept_build.proofs.Asking.{opens-front, asked-none, asked-scan, asked-read}
+use Rattle.ept_build.proofs.Ground.{has-counts}
+use Rattle.ept_build.proofs.Moved.{moves-then, moves-wider}
+use Rattle.ept_build.proofs.UnderWay.{early-moves}
+use Rattle.ept_build.proofs.Finished.{finished-built, built-from, under-way-from, stops-from, starts-again, done-all}
 use Rattle.ept_build.proofs.building.build.Goals as goal
 
 pub returns-in_err-saved-clause-sound : goal.returns-in_err-saved-clause-sound
 returns-in_err-saved-clause-sound g c = λ all start begins.
-    same-moves c.sound_steps_law.ensures.same c.sound_law.ensures.published c.sound_steps_law.ensures.guarding all begins.sound.current g.T.Store.files g.T.Store.may_leave g.T.Store.moment g.T.Store.image_since c.args.store.now c.open.new.store (sound-settled c.sound_steps_law.ensures.same c.sound_law.ensures.published c.sound_steps_law.ensures.guarding all begins.sound.current g.T.Store.files g.T.Store.may_leave g.T.Store.moment g.T.Store.image_since c.args.store.now start begins.told begins.settled begins.sound begins.sound.has_current) c.open.ensures.any_moment
+    early-moves c.sound_steps_law.ensures.same c.sound_law.ensures.published c.sound_steps_law.ensures.guarding all c.args.config.now start g.T.Store.files g.T.Store.may_leave g.T.Store.moment g.T.Store.image_since c.args.store.now c.open.new.store begins.told begins.settled begins.sound c.open.ensures.any_moment
 
 pub returns-in_err-plan-clause-sound : goal.returns-in_err-plan-clause-sound
 returns-in_err-plan-clause-sound g c = λ all start begins.
-    same-moves c.sound_steps_law.ensures.same c.sound_law.ensures.published c.sound_steps_law.ensures.guarding all begins.sound.current g.T.Store.files g.T.Store.may_leave g.T.Store.moment g.T.Store.image_since c.args.store.now c.open.new.store (sound-settled c.sound_steps_law.ensures.same c.sound_law.ensures.published c.sound_steps_law.ensures.guarding all begins.sound.current g.T.Store.files g.T.Store.may_leave g.T.Store.moment g.T.Store.image_since c.args.store.now start begins.told begins.settled begins.sound begins.sound.has_current) c.open.ensures.any_moment
+    early-moves c.sound_steps_law.ensures.same c.sound_law.ensures.published c.sound_steps_law.ensures.guarding all c.args.config.now start g.T.Store.files g.T.Store.may_leave g.T.Store.moment g.T.Store.image_since c.args.store.now c.open.new.store begins.told begins.settled begins.sound c.open.ensures.any_moment
 
 pub returns-in_err-plan-clause-refused : goal.returns-in_err-plan-clause-refused
 returns-in_err-plan-clause-refused g c = λ all start begins.
@@ -53,7 +54,7 @@ returns-in_err-plan-clause-accepted g c = λ all start begins acc.
 
 pub returns-in_err-is_finished-clause-sound : goal.returns-in_err-is_finished-clause-sound
 returns-in_err-is_finished-clause-sound g c = λ all start begins.
-    same-moves c.sound_steps_law.ensures.same c.sound_law.ensures.published c.sound_steps_law.ensures.guarding all begins.sound.current g.T.Store.files g.T.Store.may_leave g.T.Store.moment g.T.Store.image_since c.args.store.now c.is_finished.new.store (sound-settled c.sound_steps_law.ensures.same c.sound_law.ensures.published c.sound_steps_law.ensures.guarding all begins.sound.current g.T.Store.files g.T.Store.may_leave g.T.Store.moment g.T.Store.image_since c.args.store.now start begins.told begins.settled begins.sound begins.sound.has_current) (same_twice g.T.Store.files g.T.Store.may_leave g.T.Store.moment g.T.Store.image_since c.args.store.now c.open.new.store c.is_finished.new.store c.open.ensures.any_moment c.is_finished.ensures.any_moment)
+    early-moves c.sound_steps_law.ensures.same c.sound_law.ensures.published c.sound_steps_law.ensures.guarding all c.args.config.now start g.T.Store.files g.T.Store.may_leave g.T.Store.moment g.T.Store.image_since c.args.store.now c.is_finished.new.store begins.told begins.settled begins.sound (same_twice g.T.Store.files g.T.Store.may_leave g.T.Store.moment g.T.Store.image_since c.args.store.now c.open.new.store c.is_finished.new.store c.open.ensures.any_moment c.is_finished.ensures.any_moment)
 
 pub returns-in_err-is_finished-clause-done_already : goal.returns-in_err-is_finished-clause-done_already
 returns-in_err-is_finished-clause-done_already g c = λ all start begins done.
@@ -81,7 +82,7 @@ returns-in_err-is_finished-clause-accepted g c = λ all start begins acc.
 
 pub returns-in_err-sync-clause-sound : goal.returns-in_err-sync-clause-sound
 returns-in_err-sync-clause-sound g c = λ all start begins.
-    same-moves c.sound_steps_law.ensures.same c.sound_law.ensures.published c.sound_steps_law.ensures.guarding all begins.sound.current g.T.Store.files g.T.Store.may_leave g.T.Store.moment g.T.Store.image_since c.args.store.now c.sync.new.self (sound-settled c.sound_steps_law.ensures.same c.sound_law.ensures.published c.sound_steps_law.ensures.guarding all begins.sound.current g.T.Store.files g.T.Store.may_leave g.T.Store.moment g.T.Store.image_since c.args.store.now start begins.told begins.settled begins.sound begins.sound.has_current) (same_twice g.T.Store.files g.T.Store.may_leave g.T.Store.moment g.T.Store.image_since c.args.store.now c.is_finished.new.store c.sync.new.self (same_twice g.T.Store.files g.T.Store.may_leave g.T.Store.moment g.T.Store.image_since c.args.store.now c.open.new.store c.is_finished.new.store c.open.ensures.any_moment c.is_finished.ensures.any_moment) (moves_once g.T.Store.files g.T.Store.may_leave g.T.Store.moment g.T.Store.image_since SameFiles c.is_finished.new.store c.sync.new.self c.sync.ensures.reads (λ image is. (image, c.sync.ensures.images image is, λ name. refl)) c.sync.ensures.time))
+    early-moves c.sound_steps_law.ensures.same c.sound_law.ensures.published c.sound_steps_law.ensures.guarding all c.args.config.now start g.T.Store.files g.T.Store.may_leave g.T.Store.moment g.T.Store.image_since c.args.store.now c.sync.new.self begins.told begins.settled begins.sound (same_twice g.T.Store.files g.T.Store.may_leave g.T.Store.moment g.T.Store.image_since c.args.store.now c.is_finished.new.store c.sync.new.self (same_twice g.T.Store.files g.T.Store.may_leave g.T.Store.moment g.T.Store.image_since c.args.store.now c.open.new.store c.is_finished.new.store c.open.ensures.any_moment c.is_finished.ensures.any_moment) (moves_once g.T.Store.files g.T.Store.may_leave g.T.Store.moment g.T.Store.image_since SameFiles c.is_finished.new.store c.sync.new.self c.sync.ensures.reads (λ image is. (image, c.sync.ensures.images image is, λ name. refl)) c.sync.ensures.time))
 
 pub returns-in_err-sync-clause-done_already : goal.returns-in_err-sync-clause-done_already
 returns-in_err-sync-clause-done_already g c = λ all start begins done.
@@ -132,7 +133,7 @@ returns-then-branch-clause-built g c = λ all start begins.
 
 pub returns-then-branch-clause-sound : goal.returns-then-branch-clause-sound
 returns-then-branch-clause-sound g c = λ all start begins.
-    same-moves c.sound_steps_law.ensures.same c.sound_law.ensures.published c.sound_steps_law.ensures.guarding all begins.sound.current g.T.Store.files g.T.Store.may_leave g.T.Store.moment g.T.Store.image_since c.args.store.now c.sync.new.self (sound-settled c.sound_steps_law.ensures.same c.sound_law.ensures.published c.sound_steps_law.ensures.guarding all begins.sound.current g.T.Store.files g.T.Store.may_leave g.T.Store.moment g.T.Store.image_since c.args.store.now start begins.told begins.settled begins.sound begins.sound.has_current) (same_twice g.T.Store.files g.T.Store.may_leave g.T.Store.moment g.T.Store.image_since c.args.store.now c.is_finished.new.store c.sync.new.self (same_twice g.T.Store.files g.T.Store.may_leave g.T.Store.moment g.T.Store.image_since c.args.store.now c.open.new.store c.is_finished.new.store c.open.ensures.any_moment c.is_finished.ensures.any_moment) (moves_once g.T.Store.files g.T.Store.may_leave g.T.Store.moment g.T.Store.image_since SameFiles c.is_finished.new.store c.sync.new.self c.sync.ensures.reads (λ image is. (image, c.sync.ensures.images image is, λ name. refl)) c.sync.ensures.time))
+    early-moves c.sound_steps_law.ensures.same c.sound_law.ensures.published c.sound_steps_law.ensures.guarding all c.args.config.now start g.T.Store.files g.T.Store.may_leave g.T.Store.moment g.T.Store.image_since c.args.store.now c.sync.new.self begins.told begins.settled begins.sound (same_twice g.T.Store.files g.T.Store.may_leave g.T.Store.moment g.T.Store.image_since c.args.store.now c.is_finished.new.store c.sync.new.self (same_twice g.T.Store.files g.T.Store.may_leave g.T.Store.moment g.T.Store.image_since c.args.store.now c.open.new.store c.is_finished.new.store c.open.ensures.any_moment c.is_finished.ensures.any_moment) (moves_once g.T.Store.files g.T.Store.may_leave g.T.Store.moment g.T.Store.image_since SameFiles c.is_finished.new.store c.sync.new.self c.sync.ensures.reads (λ image is. (image, c.sync.ensures.images image is, λ name. refl)) c.sync.ensures.time))
 
 pub returns-then-branch-clause-done_already : goal.returns-then-branch-clause-done_already
 returns-then-branch-clause-done_already g c = λ all start begins done.
@@ -154,7 +155,9 @@ returns-clause-sound g c = λ all start begins.
     let told : g.H.Shelf.files c.make_plan.new.shelf ≡ Some all = c.in_ok-plan.ensures.files ∙ begins.shelf_told in
     let stands = same-stands g.T.Store.files g.T.Store.may_leave g.T.Store.moment g.T.Store.image_since c.in_ok-saved.saved c.open.new.store c.is_finished.new.store c.is_finished.ensures.any_moment (c.in_ok-saved.ensures.stands start begins.told begins.settled) in
     let starts = starts-again c.sound_steps_law.ensures.same all start at_two.0 c.args.config.now c.in_ok-saved.saved c.in_ok-plan.plan cur begins.sound at_two.2 g.T.Store.files g.T.Store.may_leave g.T.Store.moment g.T.Store.image_since c.args.store.now c.is_finished.new.store begins.told begins.settled at_two.1 (same_twice g.T.Store.files g.T.Store.may_leave g.T.Store.moment g.T.Store.image_since c.args.store.now c.open.new.store c.is_finished.new.store c.open.ensures.any_moment c.is_finished.ensures.any_moment) stands (tells-some _ (g.H.Shelf.files c.args.shelf.now) all begins.shelf_told c.in_ok-plan.ensures.scan) in
-    moves-then g.T.Store.files g.T.Store.may_leave g.T.Store.moment g.T.Store.image_since (IsSound all) c.args.store.now c.is_finished.new.store c.built.new.store (same-moves c.sound_steps_law.ensures.same c.sound_law.ensures.published c.sound_steps_law.ensures.guarding all begins.sound.current g.T.Store.files g.T.Store.may_leave g.T.Store.moment g.T.Store.image_since c.args.store.now c.is_finished.new.store (sound-settled c.sound_steps_law.ensures.same c.sound_law.ensures.published c.sound_steps_law.ensures.guarding all begins.sound.current g.T.Store.files g.T.Store.may_leave g.T.Store.moment g.T.Store.image_since c.args.store.now start begins.told begins.settled begins.sound begins.sound.has_current) (same_twice g.T.Store.files g.T.Store.may_leave g.T.Store.moment g.T.Store.image_since c.args.store.now c.open.new.store c.is_finished.new.store c.open.ensures.any_moment c.is_finished.ensures.any_moment)) (c.built.ensures.sound all at_two.0 told starts)
+    moves-then g.T.Store.files g.T.Store.may_leave g.T.Store.moment g.T.Store.image_since (IsUnderWay all c.args.config.now start) c.args.store.now c.is_finished.new.store c.built.new.store
+    (early-moves c.sound_steps_law.ensures.same c.sound_law.ensures.published c.sound_steps_law.ensures.guarding all c.args.config.now start g.T.Store.files g.T.Store.may_leave g.T.Store.moment g.T.Store.image_since c.args.store.now c.is_finished.new.store begins.told begins.settled begins.sound (same_twice g.T.Store.files g.T.Store.may_leave g.T.Store.moment g.T.Store.image_since c.args.store.now c.open.new.store c.is_finished.new.store c.open.ensures.any_moment c.is_finished.ensures.any_moment))
+    (moves-wider g.T.Store.files g.T.Store.may_leave g.T.Store.moment g.T.Store.image_since (IsUnderWay all c.args.config.now at_two.0) (IsUnderWay all c.args.config.now start) (under-way-from all c.args.config.now start at_two.0 at_two.2) c.is_finished.new.store c.built.new.store (c.built.ensures.sound all at_two.0 told starts))
 
 pub returns-clause-done_already : goal.returns-clause-done_already
 returns-clause-done_already g c = λ all start begins done.
@@ -229,6 +232,80 @@ returns-clause-too_many_comes g c = λ all start begins current has on not_done 
     let stands = same-stands g.T.Store.files g.T.Store.may_leave g.T.Store.moment g.T.Store.image_since c.in_ok-saved.saved c.open.new.store c.is_finished.new.store c.is_finished.ensures.any_moment (c.in_ok-saved.ensures.stands start begins.told begins.settled) in
     let starts = starts-again c.sound_steps_law.ensures.same all start at_two.0 c.args.config.now c.in_ok-saved.saved c.in_ok-plan.plan cur begins.sound at_two.2 g.T.Store.files g.T.Store.may_leave g.T.Store.moment g.T.Store.image_since c.args.store.now c.is_finished.new.store begins.told begins.settled at_two.1 (same_twice g.T.Store.files g.T.Store.may_leave g.T.Store.moment g.T.Store.image_since c.args.store.now c.open.new.store c.is_finished.new.store c.open.ensures.any_moment c.is_finished.ensures.any_moment) stands (tells-some _ (g.H.Shelf.files c.args.shelf.now) all begins.shelf_told c.in_ok-plan.ensures.scan) in
     let same : current ≡ c.in_ok-saved.saved.current = c.sound_law.ensures.one start current c.in_ok-saved.saved.current has cur in
-    let end = stepped (λ (a b : Files). IsSound all b) (g.T.Store.files c.is_finished.new.store) (g.T.Store.files c.built.new.store) at_two.0 at_two.1 (c.built.ensures.sound all at_two.0 told starts).reads in
+    let end = stepped (λ (a b : Files). IsUnderWay all c.args.config.now at_two.0 b) (g.T.Store.files c.is_finished.new.store) (g.T.Store.files c.built.new.store) at_two.0 at_two.1 (c.built.ensures.sound all at_two.0 told starts).reads in
     built-many c.built.result all c.args.config.now c.in_ok-saved.saved.current at_two.0 (g.T.Store.files c.built.new.store) end.0 end.1 c.built.ensures.only (c.built.ensures.refused all at_two.0 told starts) c.built.ensures.few (c.built.ensures.built all at_two.0 told starts)
     (λ other its. c.sound_law.ensures.one at_two.0 other c.in_ok-saved.saved.current its starts.has_current) many.kept many.points (subst (λ (w : Current). HasPoints all c.args.config.now w many.kept many.points) same many.has_points) many.many
+
+pub returns-in_err-saved-clause-stops : goal.returns-in_err-saved-clause-stops
+returns-in_err-saved-clause-stops g c = λ is all start begins.
+    let e = c.in_err-saved.field-0.0 in
+    let its : c.from_residual-in_err-saved.result ≡ Err (of_save e) = search rules in
+    absurd (save-not-many e (err-one (sym its ∙ is)))
+
+pub returns-in_err-plan-clause-stops : goal.returns-in_err-plan-clause-stops
+returns-in_err-plan-clause-stops g c = λ is all start begins.
+    let e = c.in_err-plan.field-0.0 in
+    let its : c.from_residual-in_err-plan.result ≡ Err (of_plan e) = search rules in
+    absurd (plan-not-many e (err-one (sym its ∙ is)))
+
+pub returns-in_err-is_finished-clause-stops : goal.returns-in_err-is_finished-clause-stops
+returns-in_err-is_finished-clause-stops g c = λ is all start begins.
+    let p = err_from_is_err_and c.from_residual-in_err-is_finished.result c.from_residual-in_err-is_finished.ensures.1 in
+    let its : c.from_residual-in_err-is_finished.result ≡ Err c.in_err-is_finished.field-0.0 = p.1 ∙ ap (λ (w : BuildError). Err w) p.2 in
+    absurd (store-not-many c.in_err-is_finished.field-0.0 c.in_err-is_finished.ensures.only (err-one (sym its ∙ is)))
+
+pub returns-in_err-sync-clause-stops : goal.returns-in_err-sync-clause-stops
+returns-in_err-sync-clause-stops g c = λ is all start begins.
+    let p = err_from_is_err_and c.from_residual-in_err-sync.result c.from_residual-in_err-sync.ensures.1 in
+    let its : c.from_residual-in_err-sync.result ≡ Err (of_put c.in_err-sync.field-0.0) = p.1 ∙ ap (λ (w : BuildError). Err w) p.2 in
+    absurd (put-not-many c.in_err-sync.field-0.0 (err-one (sym its ∙ is)))
+
+pub returns-clause-stops : goal.returns-clause-stops
+returns-clause-stops g c = λ is all start begins.
+    let cur = told_some (HasCurrent c.in_ok-saved.saved.current) (g.T.Store.files c.args.store.now) start begins.told c.in_ok-saved.ensures.current in
+    let at_two = stepped SameFiles (g.T.Store.files c.args.store.now) (g.T.Store.files c.is_finished.new.store) start begins.told (same_twice g.T.Store.files g.T.Store.may_leave g.T.Store.moment g.T.Store.image_since c.args.store.now c.open.new.store c.is_finished.new.store c.open.ensures.any_moment c.is_finished.ensures.any_moment).reads in
+    let told : g.H.Shelf.files c.make_plan.new.shelf ≡ Some all = c.in_ok-plan.ensures.files ∙ begins.shelf_told in
+    let stands = same-stands g.T.Store.files g.T.Store.may_leave g.T.Store.moment g.T.Store.image_since c.in_ok-saved.saved c.open.new.store c.is_finished.new.store c.is_finished.ensures.any_moment (c.in_ok-saved.ensures.stands start begins.told begins.settled) in
+    let starts = starts-again c.sound_steps_law.ensures.same all start at_two.0 c.args.config.now c.in_ok-saved.saved c.in_ok-plan.plan cur begins.sound at_two.2 g.T.Store.files g.T.Store.may_leave g.T.Store.moment g.T.Store.image_since c.args.store.now c.is_finished.new.store begins.told begins.settled at_two.1 (same_twice g.T.Store.files g.T.Store.may_leave g.T.Store.moment g.T.Store.image_since c.args.store.now c.open.new.store c.is_finished.new.store c.open.ensures.any_moment c.is_finished.ensures.any_moment) stands (tells-some _ (g.H.Shelf.files c.args.shelf.now) all begins.shelf_told c.in_ok-plan.ensures.scan) in
+    let its = c.built.ensures.stops is all at_two.0 told starts in
+    (its.0, stops-from all c.args.config.now start at_two.0 at_two.2 g.T.Store.files g.T.Store.may_leave g.T.Store.moment g.T.Store.image_since c.args.store.now c.is_finished.new.store c.built.new.store (same_twice g.T.Store.files g.T.Store.may_leave g.T.Store.moment g.T.Store.image_since c.args.store.now c.open.new.store c.is_finished.new.store c.open.ensures.any_moment c.is_finished.ensures.any_moment) its.1)
+
+pub returns-in_err-saved-clause-asked : goal.returns-in_err-saved-clause-asked
+returns-in_err-saved-clause-asked g c = λ start current told has. asked-none (g.H.Shelf.files c.args.shelf.now) c.args.config.now start current (g.H.Shelf.asked c.args.shelf.now)
+
+pub returns-in_err-plan-clause-asked : goal.returns-in_err-plan-clause-asked
+returns-in_err-plan-clause-asked g c = λ start current told has.
+    let cur = told_some (HasCurrent c.in_ok-saved.saved.current) (g.T.Store.files c.args.store.now) start told c.in_ok-saved.ensures.current in
+    let same : current ≡ c.in_ok-saved.saved.current = c.sound_law.ensures.one start current c.in_ok-saved.saved.current has cur in
+    subst (λ (w : Current). AsksInOrder (g.H.Shelf.files c.args.shelf.now) c.args.config.now start w (g.H.Shelf.asked c.args.shelf.now) (g.H.Shelf.asked c.make_plan.new.shelf)) (sym same)
+    (asked-scan (g.H.Shelf.files c.args.shelf.now) c.args.config.now start c.in_ok-saved.saved.current (g.H.Shelf.asked c.args.shelf.now) (g.H.Shelf.asked c.make_plan.new.shelf) (opens-front (new_paths c.args.config.now c.in_ok-saved.saved.current) c.make_plan.result (g.H.Shelf.asked c.args.shelf.now) (g.H.Shelf.asked c.make_plan.new.shelf) c.make_plan.ensures.asked))
+
+pub returns-in_err-is_finished-clause-asked : goal.returns-in_err-is_finished-clause-asked
+returns-in_err-is_finished-clause-asked g c = λ start current told has.
+    let cur = told_some (HasCurrent c.in_ok-saved.saved.current) (g.T.Store.files c.args.store.now) start told c.in_ok-saved.ensures.current in
+    let same : current ≡ c.in_ok-saved.saved.current = c.sound_law.ensures.one start current c.in_ok-saved.saved.current has cur in
+    subst (λ (w : Current). AsksInOrder (g.H.Shelf.files c.args.shelf.now) c.args.config.now start w (g.H.Shelf.asked c.args.shelf.now) (g.H.Shelf.asked c.make_plan.new.shelf)) (sym same)
+    (asked-scan (g.H.Shelf.files c.args.shelf.now) c.args.config.now start c.in_ok-saved.saved.current (g.H.Shelf.asked c.args.shelf.now) (g.H.Shelf.asked c.make_plan.new.shelf) (opens-front (new_paths c.args.config.now c.in_ok-saved.saved.current) c.make_plan.result (g.H.Shelf.asked c.args.shelf.now) (g.H.Shelf.asked c.make_plan.new.shelf) c.make_plan.ensures.asked))
+
+pub returns-in_err-sync-clause-asked : goal.returns-in_err-sync-clause-asked
+returns-in_err-sync-clause-asked g c = λ start current told has.
+    let cur = told_some (HasCurrent c.in_ok-saved.saved.current) (g.T.Store.files c.args.store.now) start told c.in_ok-saved.ensures.current in
+    let same : current ≡ c.in_ok-saved.saved.current = c.sound_law.ensures.one start current c.in_ok-saved.saved.current has cur in
+    subst (λ (w : Current). AsksInOrder (g.H.Shelf.files c.args.shelf.now) c.args.config.now start w (g.H.Shelf.asked c.args.shelf.now) (g.H.Shelf.asked c.make_plan.new.shelf)) (sym same)
+    (asked-scan (g.H.Shelf.files c.args.shelf.now) c.args.config.now start c.in_ok-saved.saved.current (g.H.Shelf.asked c.args.shelf.now) (g.H.Shelf.asked c.make_plan.new.shelf) (opens-front (new_paths c.args.config.now c.in_ok-saved.saved.current) c.make_plan.result (g.H.Shelf.asked c.args.shelf.now) (g.H.Shelf.asked c.make_plan.new.shelf) c.make_plan.ensures.asked))
+
+pub returns-then-branch-clause-asked : goal.returns-then-branch-clause-asked
+returns-then-branch-clause-asked g c = λ start current told has.
+    let cur = told_some (HasCurrent c.in_ok-saved.saved.current) (g.T.Store.files c.args.store.now) start told c.in_ok-saved.ensures.current in
+    let same : current ≡ c.in_ok-saved.saved.current = c.sound_law.ensures.one start current c.in_ok-saved.saved.current has cur in
+    subst (λ (w : Current). AsksInOrder (g.H.Shelf.files c.args.shelf.now) c.args.config.now start w (g.H.Shelf.asked c.args.shelf.now) (g.H.Shelf.asked c.make_plan.new.shelf)) (sym same)
+    (asked-scan (g.H.Shelf.files c.args.shelf.now) c.args.config.now start c.in_ok-saved.saved.current (g.H.Shelf.asked c.args.shelf.now) (g.H.Shelf.asked c.make_plan.new.shelf) (opens-front (new_paths c.args.config.now c.in_ok-saved.saved.current) c.make_plan.result (g.H.Shelf.asked c.args.shelf.now) (g.H.Shelf.asked c.make_plan.new.shelf) c.make_plan.ensures.asked))
+
+pub returns-clause-asked : goal.returns-clause-asked
+returns-clause-asked g c = λ start current told has.
+    let cur = told_some (HasCurrent c.in_ok-saved.saved.current) (g.T.Store.files c.args.store.now) start told c.in_ok-saved.ensures.current in
+    let same : current ≡ c.in_ok-saved.saved.current = c.sound_law.ensures.one start current c.in_ok-saved.saved.current has cur in
+    subst (λ (w : Current). AsksInOrder (g.H.Shelf.files c.args.shelf.now) c.args.config.now start w (g.H.Shelf.asked c.args.shelf.now) (g.H.Shelf.asked c.built.new.shelf)) (sym same)
+    (asked-read (g.H.Shelf.files c.args.shelf.now) c.args.config.now start c.in_ok-saved.saved.current c.in_ok-plan.plan c.in_ok-plan.ensures.plan
+    (λ all shelf_told sound. has-counts all start c.args.config.now c.in_ok-saved.saved.current c.in_ok-plan.plan (tells-some _ (g.H.Shelf.files c.args.shelf.now) all shelf_told c.in_ok-plan.ensures.scan) cur sound)
+    (g.H.Shelf.asked c.args.shelf.now) (g.H.Shelf.asked c.make_plan.new.shelf) (g.H.Shelf.asked c.built.new.shelf) c.in_ok-plan.ensures.asked c.built.ensures.asked)

@@ -1,4 +1,4 @@
-use Rattle.std.proofs.Common.{rules, ◌≡◌, ◌≢◌, ◌∙◌, ◌≤◌, ◌<◌, ◌+◌, ℕ, List, [], ◌++◌, length, take, drop, refl, sym, ap, subst, arith}
+use Rattle.std.proofs.Common.{rules, inl, ◌≡◌, ◌≢◌, ◌∙◌, ◌≤◌, ◌<◌, ◌+◌, ℕ, List, [], ◌++◌, length, take, drop, refl, sym, ap, subst, arith}
 use Rattle.std.specs.Prelude.{Err, IfErr}
 use Rattle.ept_base.specs.Files.{Files}
 use Rattle.ept_point.specs.declared.point.Point.{Point}
@@ -6,6 +6,7 @@ use Rattle.ept_space.specs.declared.cube.Rules.{Rules}
 use Rattle.ept_config.specs.declared.source_count.SourceCount.{SourceCount}
 use Rattle.ept_insert.specs.declared.error.InsertError.{InsertError}
 use Rattle.ept_save.specs.Errors.{IsStores}
+use Rattle.ept_save.specs.View.{View}
 use Rattle.ept_save.specs.declared.error.SaveError.{SaveError}
 use Rattle.ept_tree.specs.Grown as tree
 use Rattle.ept_tree.specs.TreeLaws.{AreSampled}
@@ -16,7 +17,9 @@ use Rattle.ept_build.proofs.Causes.{inserted-many, inserted-changed, stores-unda
 use Rattle.ept_build.proofs.Fronts.{front-then, rest-then}
 use Rattle.ept_build.proofs.Moved.{AllAre, all-images, all-after, moves-after}
 use Rattle.ept_build.proofs.Phased.{points-then, inserted-sampled, many-then, each-stays, given-fit, saved-fresh, saved-each, saved-inserted, saved-inputs, saved-of}
-use Rattle.ept_build.proofs.PhaseSound.{phase-moves, phase-images, way-sound, names-of}
+use Rattle.ept_build.proofs.PhaseSound.{phase-moves, phase-images, way-sound, names-of, either-moves, none-moves}
+use Rattle.ept_build.specs.Reached.{HasThisOrNext, generation_by}
+use Rattle.ept_build.proofs.Counting.{next-one}
 use Rattle.ept_build.proofs.growing.phase.Goals as goal
 
 pub returns-in_err-insert-clause-too_many : goal.returns-in_err-insert-clause-too_many
@@ -108,3 +111,19 @@ pub returns-clause-sound : goal.returns-clause-sound
 returns-clause-sound g c = λ shelf points output are has way.
     phase-moves c.saved_law.ensures.saved c.sound_steps_law.ensures.keeping c.sound_steps_law.ensures.committing shelf c.args.plan.now points output are c.args.at.now.saved (c.args.at.now.inserted + c.args.count) (tree.nodes_of c.insert.new.grown) (inserted-sampled (tree.rules_of c.args.at.now.grown) (rules_of c.args.plan.now.kept) c.requires.tree.rules c.args.at.now.inserted c.args.count points (λ w. IsRest g.S.Source.whole c.args.reader.now w) (tree.nodes_of c.args.at.now.grown) (tree.nodes_of c.insert.new.grown) c.in_ok-insert.ensures.sampled are.can has.rest has.sampled) c.as_slice-counts.result.now c.as_slice-counts.ensures
     g.T.Store.files g.T.Store.may_leave g.T.Store.moment g.T.Store.image_since c.args.store.now c.save_tree.new.store (g.met.T.Store.reads_an_image c.args.store.now) way (c.save_tree.ensures.goes_on way.stands)
+
+pub returns-in_err-insert-clause-either : goal.returns-in_err-insert-clause-either
+returns-in_err-insert-clause-either g c = λ stands.
+    none-moves g.T.Store.files g.T.Store.may_leave g.T.Store.moment g.T.Store.image_since c.args.at.now.saved c.args.store.now (g.met.T.Store.reads_an_image c.args.store.now) stands (HasThisOrNext c.args.at.now.saved.current (c.args.at.now.inserted + c.args.count)) (λ files has. inl has)
+
+pub returns-in_err-save_tree-clause-either : goal.returns-in_err-save_tree-clause-either
+returns-in_err-save_tree-clause-either g c = λ stands.
+    either-moves g.T.Store.files g.T.Store.may_leave g.T.Store.moment g.T.Store.image_since c.args.at.now.saved c.args.store.now (g.met.T.Store.reads_an_image c.args.store.now) stands c.args.plan.now.kept c.as_slice-counts.result.now (c.args.at.now.inserted + c.args.count) (tree.nodes_of c.insert.new.grown) c.save_tree.new.store (c.save_tree.ensures.goes_on stands)
+
+pub returns-clause-either : goal.returns-clause-either
+returns-clause-either g c = λ stands.
+    either-moves g.T.Store.files g.T.Store.may_leave g.T.Store.moment g.T.Store.image_since c.args.at.now.saved c.args.store.now (g.met.T.Store.reads_an_image c.args.store.now) stands c.args.plan.now.kept c.as_slice-counts.result.now (c.args.at.now.inserted + c.args.count) (tree.nodes_of c.insert.new.grown) c.save_tree.new.store (c.save_tree.ensures.goes_on stands)
+
+pub returns-clause-generation : goal.returns-clause-generation
+returns-clause-generation g c =
+    ap (λ (v : View). generation_by v.current) c.in_ok-save_tree.ensures.saved.view_is ∙ (c.in_ok-save_tree.ensures.saved.is_next.generation ∙ next-one c.args.at.now.saved.current)

@@ -1,13 +1,21 @@
-use Rattle.std.proofs.Common.{rules, ◌≡◌, ◌≢◌, ◌∙◌, ◌≤◌, ◌<◌, ◌+◌, ◌-◌, ℕ, List, length, take, refl, sym, ap, subst, arith}
+use Rattle.std.proofs.Common.{rules, inl, inr, ◌≡◌, ◌≢◌, ◌∙◌, ◌≤◌, ◌<◌, ◌+◌, ◌-◌, ℕ, List, length, take, refl, sym, ap, subst, arith}
 use Rattle.std.specs.Prelude.{Err}
 use Rattle.ept_base.specs.Files.{Files}
+use Rattle.ept_base.specs.Moves.{IsSettled, Moves}
 use Rattle.ept_point.specs.declared.point.Point.{Point}
 use Rattle.ept_tree.specs.Grown.{nodes_of}
 use Rattle.ept_tree.specs.TreeLaws.{AreSampled}
 use Rattle.ept_meta.specs.Output.{rules_of}
-use Rattle.ept_build.specs.Phases.{IsTreeOf, IsSoundUndone}
+use Rattle.ept_sample.specs.Nodes.{sampled}
+use Rattle.ept_save.specs.View.{View, StandsFor}
+use Rattle.ept_plan.specs.Plans.{inserted_by}
+use Rattle.ept_build.specs.Phases.{IsTreeOf, IsSoundUndone, AreMany}
 use Rattle.ept_build.proofs.Fronts.{all-front}
-use Rattle.ept_build.proofs.Moved.{moves-none, moves-then, all-images}
+use Rattle.ept_build.specs.Reached.{IsAfter, HasReached, HasThisOrNext}
+use Rattle.ept_build.proofs.Counting.{after-none, after-next, reached-now, reached-then, no-fewer-none, no-fewer-next, through, take-most}
+use Rattle.ept_build.proofs.Numbers.{nodes-number}
+use Rattle.ept_build.proofs.PhaseSound.{none-moves}
+use Rattle.ept_build.proofs.Moved.{moves-none, moves-then, moves-wider, all-images}
 use Rattle.ept_build.proofs.Phased.{of-inputs, goes-on}
 use Rattle.ept_build.proofs.growing.phases.Goals as goal
 
@@ -22,6 +30,15 @@ loop-alloc-init g c = record {
   moves = λ shelf points output are has way.
       moves-none g.T.Store.files g.T.Store.may_leave g.T.Store.moment g.T.Store.image_since (IsSoundUndone shelf) c.args.store.now
       (all-images g.T.Store.files g.T.Store.may_leave g.T.Store.moment g.T.Store.image_since (IsSoundUndone shelf) c.args.store.now (g.met.T.Store.reads_an_image c.args.store.now) way.sound);
+  phases = 0;
+  after = after-none c.args.at.now.saved.current c.args.step c.args.plan.now.points (omega (arith, c.requires.tree.by_checkpoint, c.requires.reader.to_come));
+  begun = inl refl;
+  fewest = no-fewer-none _ _ c.args.step;
+  stands = λ stands. stands;
+  settled = λ settled. settled;
+  reached = λ stands.
+      none-moves g.T.Store.files g.T.Store.may_leave g.T.Store.moment g.T.Store.image_since c.args.at.now.saved c.args.store.now (g.met.T.Store.reads_an_image c.args.store.now) stands (HasReached c.args.at.now.saved.current c.args.step c.args.plan.now.points)
+      (reached-now c.args.at.now.saved.current c.args.at.now.saved.current c.args.step c.args.plan.now.points 0 (after-none c.args.at.now.saved.current c.args.step c.args.plan.now.points (omega (arith, c.requires.tree.by_checkpoint, c.requires.reader.to_come))));
 }
 
 pub overflow_sub-plan : goal.overflow_sub-plan
@@ -60,6 +77,20 @@ loop-alloc-preserved g c =
       moves = λ shelf points output are has way.
           moves-then g.T.Store.files g.T.Store.may_leave g.T.Store.moment g.T.Store.image_since (IsSoundUndone shelf) c.args.store.now i.store c.phase.new.store (i.invariant.moves shelf points output are has way)
           (c.in_ok-phase.ensures.sound shelf points output are (i.invariant.has points are.can has) (i.invariant.way shelf points output are has way));
+      phases = i.invariant.phases + 1;
+      after =
+          after-next c.args.at.now.saved.current i.at.saved.current c.args.step c.args.plan.now.points i.invariant.phases i.invariant.after c.phase.new.at.saved.current c.min-count.result c.in_ok-phase.ensures.generation
+          (omega (arith, c.in_ok-phase.ensures.tree.by_checkpoint, c.in_ok-phase.ensures.inserted, i.invariant.tree.by_checkpoint)) (omega (arith, c.min-count.ensures, i.invariant.tree.by_checkpoint));
+      begun = inr c.in_ok-phase.ensures.checkpoint;
+      fewest =
+          no-fewer-next c.args.plan.now c.args.at.now.saved.current i.at.saved.current c.args.step i.invariant.phases i.invariant.after (omega (arith, c.requires.tree.by_checkpoint, c.requires.reader.to_come)) c.requires.tree.inputs_least i.invariant.begun i.invariant.fewest
+          (λ all. let yes = c.has_all.ensures.1 all in let no = c.loop-alloc-test.true in cc);
+      stands = λ stands. c.in_ok-phase.ensures.stands (i.invariant.stands stands);
+      settled = λ settled. c.in_ok-phase.ensures.settled;
+      reached = λ stands.
+          moves-then g.T.Store.files g.T.Store.may_leave g.T.Store.moment g.T.Store.image_since (HasReached c.args.at.now.saved.current c.args.step c.args.plan.now.points) c.args.store.now i.store c.phase.new.store (i.invariant.reached stands)
+          (moves-wider g.T.Store.files g.T.Store.may_leave g.T.Store.moment g.T.Store.image_since (HasThisOrNext i.at.saved.current (i.at.inserted + c.min-count.result)) (HasReached c.args.at.now.saved.current c.args.step c.args.plan.now.points)
+          (reached-then c.args.at.now.saved.current i.at.saved.current c.args.step c.args.plan.now.points i.invariant.phases i.invariant.after i.at.inserted c.min-count.result i.invariant.tree.by_checkpoint c.min-count.ensures) i.store c.phase.new.store (c.in_ok-phase.ensures.either (i.invariant.stands stands)));
     }
 
 pub returns-in_err-phase-clause-sound : goal.returns-in_err-phase-clause-sound
@@ -73,10 +104,38 @@ returns-in_err-phase-clause-undamaged g c = λ shelf points output are has way k
     let i = c.loop-alloc in
     c.in_err-phase.ensures.undamaged shelf points output are (i.invariant.way shelf points output are has way) key (search (rules, is))
 
-pub returns-in_err-phase-clause-too_many : goal.returns-in_err-phase-clause-too_many
-returns-in_err-phase-clause-too_many g c = λ is points can has.
+pub returns-in_err-phase-clause-reached : goal.returns-in_err-phase-clause-reached
+returns-in_err-phase-clause-reached g c = λ stands.
     let i = c.loop-alloc in
-    record { inserted = i.at.inserted + c.min-count.result; many = c.in_err-phase.ensures.too_many (search (rules, is)) points can (i.invariant.has points can has) }
+    moves-then g.T.Store.files g.T.Store.may_leave g.T.Store.moment g.T.Store.image_since (HasReached c.args.at.now.saved.current c.args.step c.args.plan.now.points) c.args.store.now i.store c.phase.new.store (i.invariant.reached stands)
+    (moves-wider g.T.Store.files g.T.Store.may_leave g.T.Store.moment g.T.Store.image_since (HasThisOrNext i.at.saved.current (i.at.inserted + c.min-count.result)) (HasReached c.args.at.now.saved.current c.args.step c.args.plan.now.points)
+    (reached-then c.args.at.now.saved.current i.at.saved.current c.args.step c.args.plan.now.points i.invariant.phases i.invariant.after i.at.inserted c.min-count.result i.invariant.tree.by_checkpoint c.min-count.ensures) i.store c.phase.new.store (c.in_err-phase.ensures.either (i.invariant.stands stands)))
+
+pub returns-in_err-phase-clause-too_many : goal.returns-in_err-phase-clause-too_many
+returns-in_err-phase-clause-too_many g c = λ is points can number has.
+    let i = c.loop-alloc in
+    let plan = c.args.plan.now in
+    let its = i.invariant.has points can has in
+    let by : inserted_by i.at.saved.current ≡ i.at.inserted = i.invariant.tree.by_checkpoint in
+    let many = c.in_err-phase.ensures.too_many (search (rules, is)) points can its in
+    let same = c.in_err-phase.ensures.untouched (search (rules, is)) in
+    let next : take (i.at.inserted + c.min-count.result) points ≡ take (inserted_by i.at.saved.current + c.args.step) points =
+    ap (λ (n : ℕ). take (i.at.inserted + n) points) c.min-count.ensures ∙ (take-most i.at.inserted c.args.step plan.points points number (omega (arith, i.invariant.reads.to_come)) ∙ ap (λ (n : ℕ). take (n + c.args.step) points) (sym by)) in
+    let few : length (sampled (rules_of plan.kept) (take (inserted_by i.at.saved.current) points)) ≤ c.args.most =
+    omega (arith, i.invariant.tree.few, nodes-number (rules_of plan.kept) (take i.at.inserted points) (nodes_of i.at.grown) its.sampled, ap (λ (n : ℕ). length (sampled (rules_of plan.kept) (take n points))) by) in
+    subst (λ (v : View). AreMany plan c.args.at.now.saved.current c.args.step c.args.most points v.current) (sym same.0)
+    (record { phases = i.invariant.phases; after = i.invariant.after; few = few; many = subst (λ (w : List Point). c.args.most < length (sampled (rules_of plan.kept) w)) next many })
+
+pub returns-in_err-phase-clause-stands : goal.returns-in_err-phase-clause-stands
+returns-in_err-phase-clause-stands g c = λ is stands.
+    let same = c.in_err-phase.ensures.untouched (search (rules, is)) in
+    subst (λ (v : View). StandsFor v (g.T.Store.files c.phase.new.store) (g.T.Store.may_leave c.phase.new.store)) (sym same.0)
+    (subst (λ (t : _). StandsFor c.loop-alloc.at.saved (g.T.Store.files t) (g.T.Store.may_leave t)) (sym same.1) (c.loop-alloc.invariant.stands stands))
+
+pub returns-in_err-phase-clause-settled : goal.returns-in_err-phase-clause-settled
+returns-in_err-phase-clause-settled g c = λ is settled.
+    let same = c.in_err-phase.ensures.untouched (search (rules, is)) in
+    subst (λ (t : _). IsSettled (g.T.Store.files t) (g.T.Store.may_leave t)) (sym same.1) (c.loop-alloc.invariant.settled settled)
 
 pub returns-in_err-phase-clause-no_change : goal.returns-in_err-phase-clause-no_change
 returns-in_err-phase-clause-no_change g c = λ source number is points can has.
@@ -112,3 +171,11 @@ returns-clause-sound g c = λ shelf points output are has way. c.loop-alloc.inva
 
 pub returns-clause-stores : goal.returns-clause-stores
 returns-clause-stores g c = record { later = c.loop-alloc.invariant.later; failed = λ is. absurd (cc) }
+
+pub returns-clause-through : goal.returns-clause-through
+returns-clause-through g c =
+    let i = c.loop-alloc in
+    through c.args.plan.now c.args.at.now.saved.current i.at.saved.current c.args.step i.invariant.phases i.invariant.after (omega (arith, c.requires.tree.by_checkpoint, c.requires.reader.to_come)) c.requires.tree.inputs_least i.invariant.begun i.invariant.fewest (c.has_all.ensures.0 c.loop-alloc-test.false)
+
+pub returns-clause-reached : goal.returns-clause-reached
+returns-clause-reached g c = λ stands. c.loop-alloc.invariant.reached stands

@@ -1,4 +1,4 @@
-use Rattle.std.proofs.Common.{◌≡◌, ◌-◌, ◌≤◌, length}
+use Rattle.std.proofs.Common.{◌≡◌, ◌+◌, ◌-◌, ◌≤◌, length}
 use Rattle.std.specs.Io.KnownBytes.{Consumes}
 use Rattle.ept_tool.proofs.files.read_up_to.Given as goal
 
@@ -7,6 +7,7 @@ invariant-loop-piece g l = record {
   fits : length l.front.items ≤ l.most;
   consumed : Consumes (g.S.Source.left l.initial.source) (g.S.Source.left l.source) l.front.items;
   same : g.S.Source.whole l.source ≡ g.S.Source.whole l.initial.source;
+  given : g.S.Source.given l.source ≤ g.S.Source.given l.initial.source + length l.front.items;
   later : g.S.Source.faults l.initial.source ≤ g.S.Source.faults l.source;
 }
 

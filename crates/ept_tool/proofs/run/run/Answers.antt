@@ -5,7 +5,7 @@ use Rattle.ept_tool.specs.declared.refusal.Refusal.{Refusal}
 use Rattle.ept_tool.specs.declared.refusal.Refusal.TheVariants.{Usage, BadCheckpoint}
 use Rattle.ept_tool.specs.Requests.{IsAcceptedAt, IsDoneAt, ComesAt, DiffersAt, IsConfigured, HasHeader, IsDefinite}
 use Rattle.ept_tool.specs.Answers.{Yields, YieldsRefusal, AsksInfo, IsFaulty, IsRefused}
-use Rattle.ept_tool.proofs.Runs.{Carries, never_usage, never_later, is_done, has_risen, is_refused, refusal_yields, accepted_yields, comes_yields, differs_yields, info_yields, usage_yields}
+use Rattle.ept_tool.proofs.Runs.{Carries, never_usage, never_later, is_done, has_risen, is_refused, refusal_yields, accepted_yields, comes_yields, differs_yields, info_yields, usage_yields, bad_configuration}
 use Rattle.ept_tool.proofs.Asked.{told_always, of_build, build_or_info, build_carries, info_carries, info_accepted}
 use Rattle.ept_build.specs.Building.{BeginsWith}
 use Rattle.ept_base.specs.Files.{SameFiles}
@@ -289,3 +289,28 @@ returns-in-Query-clause-differs_comes g c = λ all start begins asks. absurd (qu
 
 pub returns-in-Query-clause-bad_comes : goal.returns-in-Query-clause-bad_comes
 returns-in-Query-clause-bad_comes g c = λ all start letter told stored bad asks. absurd (query_or_build (map string_bytes c.args.words.now) c.in-Query.out.now c.in-Query.area c.in-Query.depths.0 c.in-Query.depths.1 c.in-Query.ensures asks.path asks.out asks.words_are)
+
+-- ---- what is opened, and how much is read
+
+pub returns-in-Build-clause-asked : goal.returns-in-Build-clause-asked
+returns-in-Build-clause-asked g c = λ start told. inl (record { path = c.in-Build.config.now; out = c.in-Build.out.now; words_are = c.in-Build.ensures; holds = c.build_line-line.ensures.asked start told })
+
+pub returns-in-Info-clause-asked : goal.returns-in-Info-clause-asked
+returns-in-Info-clause-asked g c = λ start told. inr (inl (record { path = c.in-Info.las.now; words_are = c.in-Info.ensures; holds = c.info_line-line.ensures.asked }))
+
+pub returns-in-Query-clause-asked : goal.returns-in-Query-clause-asked
+returns-in-Query-clause-asked g c = λ start told. inr (inr refl)
+
+pub returns-in-Later-clause-asked : goal.returns-in-Later-clause-asked
+returns-in-Later-clause-asked g c = λ start told. inr (inr refl)
+
+pub returns-in-Usage-clause-asked : goal.returns-in-Usage-clause-asked
+returns-in-Usage-clause-asked g c = λ start told. inr (inr refl)
+
+pub returns-in-Build-clause-header_given : goal.returns-in-Build-clause-header_given
+returns-in-Build-clause-header_given g c = λ las is. absurd (build_or_info (map string_bytes c.args.words.now) c.in-Build.config.now c.in-Build.out.now las c.in-Build.ensures is)
+
+pub returns-in-Build-clause-configuration_given : goal.returns-in-Build-clause-configuration_given
+returns-in-Build-clause-configuration_given g c = λ is.
+    let bad = bad_configuration c.finish.result (g.O.Sink.written c.args.out.now) (g.O.Sink.written c.finish.new.out) (Rose (g.O.Sink.faults c.args.out.now) (g.O.Sink.faults c.finish.new.out)) c.build_line-line.result c.finish.ensures is in
+    c.build_line-line.ensures.given bad.0 bad.1
