@@ -1,5 +1,5 @@
 -- Which refusal of a layer below was told.
-use Rattle.std.proofs.Common.{◌≡◌, ◌∙◌, ◌⊎◌, inl, inr, ℕ, sym, ap, subst, Option, Some, None}
+use Rattle.std.proofs.Common.{◌≡◌, ◌∙◌, inl, inr, ℕ, sym, ap, subst, Option, Some, None}
 use Rattle.ept_base.specs.Files.{Tells}
 use Rattle.ept_space.specs.VoxelKey.{VoxelKey}
 use Rattle.ept_insert.specs.declared.error.InsertError.{InsertError}
@@ -7,9 +7,10 @@ use Rattle.ept_insert.specs.declared.error.InsertError.TheVariants as insert
 use Rattle.ept_save.specs.declared.error.SaveError.{SaveError}
 use Rattle.ept_save.specs.declared.error.SaveError.TheVariants as save
 use Rattle.ept_save.specs.Errors.{IsStores}
-use Rattle.ept_build.specs.declared.error.BuildError.{BuildError}
-use Rattle.ept_build.specs.declared.error.BuildError.TheVariants.{StoreFault, TileDamaged, SourceChanged, TooManyNodes}
-use Rattle.ept_build.specs.Errors.{of_insert, of_save}
+use Rattle.ept_phase.specs.declared.error.LoadError.{LoadError}
+use Rattle.ept_phase.specs.declared.error.LoadError.TheVariants as load
+use Rattle.ept_build.specs.declared.error.BuildError.TheVariants.{TileDamaged, SourceChanged, TooManyNodes}
+use Rattle.ept_build.specs.Errors.{of_insert, of_save, of_load}
 
 pub inserted-many : (e : InsertError) → of_insert e ≡ TooManyNodes → e ≡ insert.TooManyNodes
 inserted-many insert.TooManyNodes is = cc
@@ -22,6 +23,13 @@ inserted-changed insert.TooManyNodes source number is = absurd (cc)
 inserted-changed insert.SourceFault source number is = absurd (cc)
 inserted-changed insert.Memory source number is = absurd (cc)
 inserted-changed (insert.SourceChanged a b) source number is = cc
+
+pub loaded-damaged : (e : LoadError) (key : VoxelKey) → of_load e ≡ TileDamaged key → e ≡ load.Save (save.TileDamaged key)
+loaded-damaged load.TooManyNodes key is = absurd (cc)
+loaded-damaged (load.Save save.StoreFault) key is = absurd (cc)
+loaded-damaged (load.Save (save.BadCheckpoint letter)) key is = absurd (cc)
+loaded-damaged (load.Save (save.TileDamaged other)) key is = cc
+loaded-damaged (load.Save save.Memory) key is = absurd (cc)
 
 -- a refusal of the store tells of no tile
 pub stores-undamaged : (e : SaveError) (key : VoxelKey) → IsStores e → of_save e ≡ TileDamaged key → ⊥

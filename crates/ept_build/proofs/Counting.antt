@@ -1,5 +1,5 @@
 -- How many phases a build takes, and which checkpoints it makes.
-use Rattle.std.proofs.Common.{◌≡◌, ◌∙◌, ◌⊎◌, inl, inr, ℕ, ◌+◌, ◌-◌, ◌*◌, ◌<◌, ◌≤◌, min, List, length, take, refl, sym, ap, subst, arith, Some, None, add-mul, one-mul, zero-mul}
+use Rattle.std.proofs.Common.{◌≡◌, ◌∙◌, ◌⊎◌, inl, inr, ℕ, ◌+◌, ◌-◌, ◌*◌, ◌<◌, ◌≤◌, min, List, length, take, refl, sym, ap, arith, Some, None, add-mul, one-mul, zero-mul}
 use Rattle.std.proofs.lemmas.Bool.{cases_lt}
 use Rattle.std.proofs.lemmas.List.{take_all}
 use Rattle.ept_base.specs.Files.{Files}
@@ -13,7 +13,7 @@ use Rattle.ept_phase.specs.Phase.{HasNext, GoesOn}
 use Rattle.ept_plan.specs.declared.plan.Plan.{Plan}
 use Rattle.ept_plan.specs.Plans.{IsOf, inputs_by, inserted_by}
 use Rattle.ept_build.specs.Phases.{HasAll}
-use Rattle.ept_build.specs.Reached.{generation_by, IsAfter, HasReached, AreNeeded, IsThrough, HasThisOrNext}
+use Rattle.ept_build.specs.Reached.{generation_by, IsAfter, HasReached, IsThrough, HasThisOrNext}
 use Rattle.ept_build.proofs.Phased.{of-inputs}
 
 -- the next generation is one more
@@ -76,9 +76,9 @@ module _ (plan : Plan) (from now : Current) (step phases : ℕ) (after : IsAfter
   no-fewer-next not_all others enough one = elim (cases_lt phases others) [
     | inl less ↦ omega (arith, less)
     | inr past ↦
-      let same : others ≡ phases = omega (arith, past, fewest others enough one) in
-      let product : others * step ≡ phases * step = ap (λ (n : ℕ). n * step) same in
-      absurd (not_all (record { inserted = omega (arith, after.inserted, enough, product, most); inputs = all_inputs others same one }))
+        let same : others ≡ phases = omega (arith, past, fewest others enough one) in
+        let product : others * step ≡ phases * step = ap (λ (n : ℕ). n * step) same in
+        absurd (not_all (record { inserted = omega (arith, after.inserted, enough, product, most); inputs = all_inputs others same one }))
   ]
 
   -- and once all is done, as many were needed

@@ -1,9 +1,9 @@
 -- The end of a build: the output is put behind the closed done gate, which is then opened.
-use Rattle.std.proofs.Common.{◌≡◌, ◌≢◌, ◌∙◌, inl, inr, ℕ, List, length, map, refl, sym, ap, subst, Option, Some, None}
+use Rattle.std.proofs.Common.{◌≡◌, ◌∙◌, inl, inr, ℕ, List, length, map, refl, sym, ap, subst, Option, Some, None}
 use Rattle.std.specs.Prelude.{All, Contains}
 use Rattle.std.specs.List.{AllZip}
-use Rattle.ept_base.specs.Files.{Files, SameBut, StepsBy, Tells}
-use Rattle.ept_base.specs.Moves.{IsSettled, Moves}
+use Rattle.ept_base.specs.Files.{Files, StepsBy, Tells}
+use Rattle.ept_base.specs.Moves.{Moves}
 use Rattle.ept_point.specs.declared.point.Point.{Point}
 use Rattle.ept_space.specs.declared.bounds.Bounds.{Bounds}
 use Rattle.ept_sample.specs.declared.tiles.Tile.{Tile}
@@ -25,9 +25,9 @@ use Rattle.ept_save.specs.Names.{gate_name, body_name, done_name, IsSavedName}
 use Rattle.ept_save.specs.Current.{Current, HasCurrent}
 use Rattle.ept_save.specs.Complete.{HasAllOf, IsComplete}
 use Rattle.ept_save.specs.Done.{IsDone, IsGuarded, Guards}
-use Rattle.ept_save.specs.Sound.{HasPointsOf, IsWhole, IsSound}
+use Rattle.ept_save.specs.Sound.{HasPointsOf}
 use Rattle.ept_save.specs.SoundLaws.{IsPublished, DoneIsComplete, GuardingKeepsSound, PuttingKeepsSound}
-use Rattle.ept_save.specs.View.{View, StandsFor}
+use Rattle.ept_save.specs.View.{View}
 use Rattle.ept_save.proofs.Keeping.{has_current-same}
 use Rattle.ept_save.proofs.NamesDiffer.{done-gate, done-body}
 use Rattle.ept_save.proofs.ScanCounts.{scan_each, scan_counted}
@@ -36,7 +36,7 @@ use Rattle.ept_save.proofs.WorkNames.{outside-saved, outside-done}
 use Rattle.ept_publish.specs.Publishing.{PutsAll, SameButThese}
 use Rattle.ept_publish.specs.PublishingLaws.{OutputIsThere}
 use Rattle.ept_plan.specs.declared.plan.Plan.{Plan}
-use Rattle.ept_plan.specs.Plans.{IsOf, inserted_by}
+use Rattle.ept_plan.specs.Plans.{IsOf}
 use Rattle.ept_build.specs.Phases.{IsSoundUndone, IsSoundAt, AreOfShelf, IsOnWay}
 use Rattle.ept_build.proofs.Moved.{AllAre, all-images, all-after, moves-after, moves-then}
 use Rattle.ept_build.proofs.PhaseSound.{scan-of}

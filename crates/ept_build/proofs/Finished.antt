@@ -1,6 +1,5 @@
 -- Where nothing is to be done, and where the rest of a build begins.
-use Rattle.std.proofs.Common.{◌≡◌, ◌≢◌, ◌∙◌, ◌⊎◌, inl, inr, ℕ, ◌<◌, ◌≤◌, List, length, take, refl, sym, ap, subst, arith, Option, Some, None}
-use Rattle.std.specs.List.{AllZip}
+use Rattle.std.proofs.Common.{◌≡◌, ◌∙◌, ◌⊎◌, inl, inr, ℕ, List, length, take, sym, ap, subst, Option, Some, None}
 use Rattle.ept_base.specs.Files.{Files, SameFiles, Tells}
 use Rattle.ept_base.specs.Moves.{IsSettled, Moves}
 use Rattle.ept_point.specs.declared.point.Point.{Point}
@@ -8,7 +7,6 @@ use Rattle.ept_sample.specs.Nodes.{sampled}
 use Rattle.ept_config.specs.declared.config.Config.{Config}
 use Rattle.ept_config.specs.declared.input.Input.{Input}
 use Rattle.ept_config.specs.declared.kept.Kept.{Kept}
-use Rattle.ept_config.specs.declared.source_count.SourceCount.{SourceCount}
 use Rattle.ept_config.specs.KeptOf.{IsKeptOf}
 use Rattle.ept_config.specs.Counts.{total}
 use Rattle.ept_scan.specs.declared.scan_done.ScanDone.{ScanDone}
@@ -18,7 +16,6 @@ use Rattle.ept_ckpt.specs.declared.letter.Letter.{Letter}
 use Rattle.ept_ckpt.specs.declared.checkpoint.Checkpoint.{Checkpoint}
 use Rattle.ept_meta.specs.Output.{rules_of}
 use Rattle.ept_save.specs.Names.{gate_name, body_name}
-use Rattle.ept_save.specs.Complete.{IsComplete}
 use Rattle.ept_save.specs.Current.{Current, HasCurrent}
 use Rattle.ept_save.specs.Done.{IsDone}
 use Rattle.ept_save.specs.Opening.{lines_of}
@@ -31,7 +28,7 @@ use Rattle.ept_save.proofs.Standing.{settled_some, same_twice}
 use Rattle.ept_plan.specs.declared.plan.Plan.{Plan}
 use Rattle.ept_plan.specs.Plans.{IsPlan, IsOf, ScansAll, inputs_by, inserted_by}
 use Rattle.ept_build.specs.declared.summary.Summary.{Summary}
-use Rattle.ept_build.specs.Building.{Starts, IsBuilt, IsUnderWay, HasTooManyAlready, IsStopped, IsDoneAlready, HasPoints}
+use Rattle.ept_build.specs.Building.{Starts, IsBuilt, IsUnderWay, HasTooManyAlready, IsStopped, IsDoneAlready}
 use Rattle.ept_build.specs.Phases.{HasAll}
 use Rattle.ept_build.proofs.Counting.{nothing-needed}
 use Rattle.ept_build.proofs.Fronts.{all-front}

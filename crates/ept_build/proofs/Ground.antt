@@ -1,5 +1,5 @@
 -- What a build stands on: the points of all inputs, and of which of them the current checkpoint tells.
-use Rattle.std.proofs.Common.{◌≡◌, ◌≢◌, ◌∙◌, ℕ, ◌+◌, ◌<◌, ◌≤◌, List, [], ◌∷◌, ◌++◌, length, take, drop, refl, sym, ap, subst, arith, Option, Some, None, length-append}
+use Rattle.std.proofs.Common.{◌≡◌, ◌∙◌, ℕ, ◌<◌, ◌≤◌, List, [], ◌∷◌, ◌++◌, length, take, drop, refl, sym, ap, subst, arith, Option, Some, None, length-append}
 use Rattle.std.specs.Prelude.{All, Contains}
 use Rattle.std.specs.List.{AllZip}
 use Rattle.std.proofs.lemmas.List.{take-take, take-append-drop}
@@ -25,7 +25,6 @@ use Rattle.ept_scan.specs.Opening.{IsKeptScan}
 use Rattle.ept_scan.proofs.OneScan.{scan_once}
 use Rattle.ept_scan.proofs.Scanned.{scan_kept, scan_placed}
 use Rattle.ept_scan.proofs.Ascending.{scan_ascends}
-use Rattle.ept_ckpt.specs.declared.letter.Letter.{Letter}
 use Rattle.ept_ckpt.specs.declared.checkpoint.Checkpoint.{Checkpoint}
 use Rattle.ept_tree.specs.Tree.{Branch}
 use Rattle.ept_tree.specs.declared.octree.Tree.{Tree}
@@ -92,10 +91,10 @@ told-tiles (Some (letter, c)) grown files start told of = told_some (λ (all : F
 -- The points of all inputs and their output, and what is known of the octree that was loaded.
 pub record IsGround (shelf start : Files) (config : Config) (current : Current) (plan : Plan) (extent : Option Bounds) : Type 0 where
   pub points : List Point
-  pub output : List File
-  are : AreOfShelf shelf plan points output
-  number : length points ≡ plan.points
-  names : HasNamesOf shelf current (names_of output)
+  pub out : List File
+  pub are : AreOfShelf shelf plan points out
+  pub number : length points ≡ plan.points
+  pub names : HasNamesOf shelf current (names_of out)
   pub has_extent : HasExtent points extent
   pub has_points : HasPoints shelf config current plan.kept points
   pub loaded : (grown : Tree) (files : Option Files) (inserted : ℕ) → inserted ≡ plan.inserted → files ≡ Some start → IsLoaded plan current grown files → AreSampled (rules_of plan.kept) (take inserted points) (tree.nodes_of grown)
@@ -136,7 +135,7 @@ module _ (one_output : OutputIsOne) (can_be : PointsCanBeSampled) (grow : NamesG
   scan : IsKeptScan shelf plan.kept plan.counts points
   scan = scan-kept shelf config current plan is points has-points
 
-  pub number : length points ≡ plan.points
+  number : length points ≡ plan.points
   number = kept-number shelf plan.kept plan.counts points scan ∙ sym is.points_are
 
   within : All (IsWithin plan.kept.bounds) points
@@ -157,7 +156,7 @@ module _ (one_output : OutputIsOne) (can_be : PointsCanBeSampled) (grow : NamesG
   is-output : IsOutput plan.kept points out
   is-output = record { counts = plan.counts; are_counts = counts-of shelf plan points scan; extent = extent; has_extent = has-extent; files_are = refl }
 
-  pub are : AreOfShelf shelf plan points out
+  are : AreOfShelf shelf plan points out
   are = record { scan = scan; can = can; is_output = is-output }
 
   -- the output of the checkpoint has no other names
@@ -167,7 +166,7 @@ module _ (one_output : OutputIsOne) (can_be : PointsCanBeSampled) (grow : NamesG
       joined : first ++ drop (length first) points ≡ points
       joined = ap (λ (w : List Point). w ++ drop (length first) points) (sym front) ∙ take-append-drop (length first) points
 
-  pub names : HasNamesOf shelf current (names_of out)
+  names : HasNamesOf shelf current (names_of out)
   names = names_at current is.rules_stay refl
     where
       names_at : (now : Current) → plans.RulesStay now plan.kept → current ≡ now → HasNamesOf shelf now (names_of out)
@@ -232,6 +231,6 @@ module _ (one_output : OutputIsOne) (can_be : PointsCanBeSampled) (grow : NamesG
     names = names;
     has_extent = has-extent;
     has_points = built-points;
-    loaded = λ grown files inserted same told its. subst (λ (n : ℕ). AreSampled (rules_of plan.kept) (take n points) (tree.nodes_of grown)) (sym same) (loaded-sampled (tree.nodes_of grown) its.told (told-tiles current grown files told its.tiles) its.begun);
+    loaded = λ grown files inserted same told its. subst (λ (n : ℕ). AreSampled (rules_of plan.kept) (take n points) (tree.nodes_of grown)) (sym same) (loaded-sampled (tree.nodes_of grown) its.told (told-tiles current grown files start told its.tiles) its.begun);
     lines = lines-few;
   }

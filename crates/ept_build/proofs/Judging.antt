@@ -1,6 +1,6 @@
 -- What the inputs of a configuration have is found in one way; and what an answer says of each cause.
 use Rattle.std.proofs.Common.{◌≡◌, ◌≢◌, ◌∙◌, ◌⊎◌, inl, inr, ℕ, ◌<◌, ◌≤◌, List, [], ◌∷◌, length, refl, sym, ap, subst, arith, Option, Some, None}
-use Rattle.std.specs.Prelude.{ℤ, All, Any, Contains, Result, Ok, Err, IsOk, IfOk, IfErr}
+use Rattle.std.specs.Prelude.{ℤ, Any, Result, Ok, Err, IsOk, IfOk, IfErr}
 use Rattle.std.proofs.lemmas.Int.{ints}
 use Rattle.ept_base.specs.Files.{Files, Tells}
 use Rattle.ept_base.specs.declared.errors.PutError.{PutError}
@@ -23,7 +23,6 @@ use Rattle.ept_scan.proofs.OneScan.{scan_once}
 use Rattle.ept_meta.specs.Output.{rules_of}
 use Rattle.ept_ckpt.specs.declared.letter.Letter.{Letter}
 use Rattle.ept_save.specs.Current.{Current, HasCurrent}
-use Rattle.ept_save.specs.Errors.{IsStores}
 use Rattle.ept_save.specs.declared.error.SaveError.{SaveError}
 use Rattle.ept_save.specs.declared.error.SaveError.TheVariants as save
 use Rattle.ept_plan.specs.declared.error.PlanError.{PlanError}
@@ -35,7 +34,7 @@ use Rattle.ept_build.specs.declared.summary.Summary.{Summary}
 use Rattle.ept_build.specs.declared.error.BuildError.{BuildError}
 use Rattle.ept_build.specs.declared.error.BuildError.TheVariants.{StoreFault, BadCheckpoint, TileDamaged, Differs, SourceFault, BadLas, OutOfBounds, TooManyPoints, NoBounds, SourceChanged, TooManyNodes, Memory}
 use Rattle.ept_build.specs.Errors.{of_plan, of_scan, of_save, of_put}
-use Rattle.ept_build.specs.Building.{HasPoints, HasTooManyNodes, IsBuilt, IsRefusedAt, TellsDifference, Fails, node_count}
+use Rattle.ept_build.specs.Building.{HasPoints, IsBuilt, IsRefusedAt, TellsDifference, Fails, node_count}
 use Rattle.ept_build.specs.Phases.{IsPhaseFault, IsStoreFault}
 
 -- ---- one way to be found
@@ -202,7 +201,7 @@ built-many (Err e) all config current start files now told only refused few buil
     by NoBounds only refused = absurd only
 
 -- equal refusals are of one cause
-pub err-one : {e f : BuildError} → (◌≡◌ {A = Result Summary BuildError} (Err e) (Err f)) → e ≡ f
+pub err-one : {T : Type 0} {e f : BuildError} → (◌≡◌ {A = Result T BuildError} (Err e) (Err f)) → e ≡ f
 err-one same = cc
 
 -- ---- a cause that is no want of nodes

@@ -1,10 +1,10 @@
 -- What holds of all that a store reads and may leave, from call to call.
-use Rattle.std.proofs.Common.{◌≡◌, ℕ, inl, inr, ⊎_elim, subst, sym, refl, Option, Some, None, arith}
+use Rattle.std.proofs.Common.{◌≡◌, ℕ, inl, inr, ⊎_elim, Option, Some, None, arith}
 use Rattle.ept_base.specs.Files.{Files, SameFiles, StepsBy, Tells}
 use Rattle.ept_base.specs.Moves.{IsSettled, Moves}
 use Rattle.ept_base.proofs.Moving.{moves_weaker, moves_both}
 use Rattle.ept_save.proofs.Moving.{moves_where}
-use Rattle.ept_save.proofs.Standing.{stepped, tells_some, told_some, settled_some}
+use Rattle.ept_save.proofs.Standing.{tells_some, settled_some}
 
 module _ {D : Type 0} (files : D → Option Files) (may_leave : D → Files → Type 0) (moment : D → ℕ) (image_since : D → ℕ → Files → Type 0) where
   -- what is read, and each image, has this

@@ -1,5 +1,5 @@
 -- A phase keeps the files sound.
-use Rattle.std.proofs.Common.{◌≡◌, ◌≢◌, ◌∙◌, ◌⊎◌, inl, inr, ℕ, List, length, take, refl, sym, ap, subst, Option, Some, None}
+use Rattle.std.proofs.Common.{◌≡◌, ◌∙◌, ◌⊎◌, inl, inr, ℕ, List, take, refl, sym, subst, Option, Some, None}
 use Rattle.std.specs.Prelude.{Contains}
 use Rattle.std.specs.List.{AllZip}
 use Rattle.ept_base.specs.Files.{Files, Tells}
@@ -11,14 +11,13 @@ use Rattle.ept_config.specs.declared.source_count.SourceCount.{SourceCount}
 use Rattle.ept_scan.specs.Scans.{IsScan}
 use Rattle.ept_scan.specs.Opening.{IsKeptScan}
 use Rattle.ept_scan.proofs.OneScan.{scan_once}
-use Rattle.ept_ckpt.specs.declared.letter.Letter.{Letter}
 use Rattle.ept_ckpt.specs.declared.checkpoint.Checkpoint.{Checkpoint}
 use Rattle.ept_tree.specs.Tree.{Branch}
 use Rattle.ept_tree.specs.TreeLaws.{AreSampled}
 use Rattle.ept_meta.specs.Output.{File, IsOutput, rules_of, names_of}
 use Rattle.ept_meta.specs.OutputLaws.{OutputIsOne}
 use Rattle.ept_save.specs.Names.{done_name}
-use Rattle.ept_save.specs.Current.{Current, HasCurrent, Keeps, Commits}
+use Rattle.ept_save.specs.Current.{Current, HasCurrent, Keeps}
 use Rattle.ept_save.specs.Sound.{HasPointsOf, IsSavedAs, IsSaved, IsSound}
 use Rattle.ept_save.specs.SoundLaws.{HasNamesOf, KeepingKeepsSound, CommittingKeepsSound}
 use Rattle.ept_save.specs.View.{View, StandsFor, next_letter}

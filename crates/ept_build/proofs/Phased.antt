@@ -1,6 +1,5 @@
 -- What a phase leaves: an octree that has each node of its checkpoint.
-use Rattle.std.proofs.Common.{◌≡◌, ◌∙◌, inl, inr, ℕ, ◌+◌, ◌<◌, ◌≤◌, true, false, List, [], ◌∷◌, ◌++◌, ◌-◌, min, length, map, take, drop, refl, sym, ap, subst, arith, Option, Some, None}
-use Rattle.std.specs.Prelude.{All}
+use Rattle.std.proofs.Common.{◌≡◌, ◌∙◌, inl, inr, ℕ, ◌+◌, ◌<◌, ◌≤◌, true, List, [], ◌∷◌, ◌++◌, ◌-◌, min, length, map, take, drop, sym, ap, subst, arith, Some, None}
 use Rattle.std.proofs.lemmas.Bool.{cases_lt}
 use Rattle.ept_point.specs.declared.point.Point.{Point}
 use Rattle.ept_space.specs.VoxelKey.{VoxelKey}
@@ -8,11 +7,10 @@ use Rattle.ept_space.specs.declared.cube.Rules.{Rules}
 use Rattle.ept_sample.specs.Nodes.{sampled}
 use Rattle.ept_sample.specs.SamplingLaws.{CanBeSampled}
 use Rattle.ept_sample.specs.Members.{IsMember}
-use Rattle.ept_sample.proofs.Members.{All-members, all-member, IsMember-map, member-map}
-use Rattle.ept_core.specs.State.{Entry, has_node, keys_of}
+use Rattle.ept_sample.proofs.Members.{All-members, all-member}
+use Rattle.ept_core.specs.State.{has_node, keys_of}
 use Rattle.ept_core.proofs.NodeMap.{has_node-key, key-has_node}
 use Rattle.ept_config.specs.declared.kept.Kept.{Kept}
-use Rattle.ept_config.specs.declared.source_count.SourceCount.{SourceCount}
 use Rattle.ept_ckpt.specs.declared.letter.Letter.{Letter}
 use Rattle.ept_ckpt.specs.declared.checkpoint.Checkpoint.{Checkpoint}
 use Rattle.ept_ckpt.specs.declared.node_line.NodeLine.{NodeLine}
@@ -23,9 +21,9 @@ use Rattle.ept_tree.specs.Whole.{KeepsNodes}
 use Rattle.ept_save.specs.Current.{Current}
 use Rattle.ept_save.specs.Opening.{lines_of}
 use Rattle.ept_save.specs.View.{View, next_letter}
-use Rattle.ept_phase.specs.Lines.{TellsNode, TellNodes}
+use Rattle.ept_phase.specs.Lines.{TellNodes}
 use Rattle.ept_phase.specs.Saving.{HasEachNodeOf, keys_in}
-use Rattle.ept_phase.specs.Phase.{AreGiven, GoesFurther, IsNext, IsSaved}
+use Rattle.ept_phase.specs.Phase.{AreGiven, GoesFurther, IsSaved}
 use Rattle.ept_phase.proofs.Telling.{among-member, member-among}
 use Rattle.ept_plan.specs.declared.plan.Plan.{Plan}
 use Rattle.ept_plan.specs.Plans.{IsOf, inputs_by, inserted_by}

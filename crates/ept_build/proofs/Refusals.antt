@@ -1,5 +1,5 @@
 -- Why what is left of a build is refused.
-use Rattle.std.proofs.Common.{◌≡◌, ◌≢◌, ◌⊎◌, inl, inr, ℕ, refl}
+use Rattle.std.proofs.Common.{◌≡◌, ◌≢◌, inl, inr, ℕ, refl}
 use Rattle.ept_base.specs.Files.{Files}
 use Rattle.ept_space.specs.VoxelKey.{VoxelKey}
 use Rattle.ept_config.specs.declared.config.Config.{Config}

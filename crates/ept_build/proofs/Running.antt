@@ -1,7 +1,7 @@
 -- What is left of a build: the nodes are loaded, the done gate is closed, and all points of the inputs are brought in.
-use Rattle.std.proofs.Common.{◌≡◌, ◌≢◌, ◌∙◌, ◌⊎◌, inl, inr, ℕ, true, ◌+◌, ◌<◌, ◌≤◌, List, [], ◌∷◌, length, take, map, refl, sym, ap, subst, arith, Option, Some, None}
+use Rattle.std.proofs.Common.{◌≡◌, ◌∙◌, ◌⊎◌, inl, inr, ℕ, true, ◌<◌, ◌≤◌, [], length, refl, sym, ap, arith, Option, Some, None}
 use Rattle.std.proofs.lemmas.List.Elements.{All-nil}
-use Rattle.ept_base.specs.Files.{Files, SameFiles, StepsBy, Tells}
+use Rattle.ept_base.specs.Files.{Files, SameFiles, Tells}
 use Rattle.ept_base.specs.Moves.{IsSettled, Moves}
 use Rattle.ept_config.specs.declared.config.Config.{Config}
 use Rattle.ept_save.specs.Names.{gate_name, body_name, done_name}
@@ -12,7 +12,7 @@ use Rattle.ept_save.specs.SoundLaws.{SameIsSound, DoneIsPublished, GuardingKeeps
 use Rattle.ept_save.specs.View.{View}
 use Rattle.ept_save.proofs.Keeping.{has_current-same}
 use Rattle.ept_save.proofs.NamesDiffer.{done-gate, done-body}
-use Rattle.ept_save.proofs.Standing.{open_or_not, stepped, told_some, settled_some}
+use Rattle.ept_save.proofs.Standing.{open_or_not, told_some, settled_some}
 use Rattle.ept_space.specs.declared.cube.Rules.{Rules}
 use Rattle.ept_space.specs.OctreeCube.{IsCube, InCube}
 use Rattle.ept_sample.specs.Place.{place}

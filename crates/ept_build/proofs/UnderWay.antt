@@ -1,5 +1,5 @@
 -- What lies on the way of a build: sound files, some phases behind the start.
-use Rattle.std.proofs.Common.{◌≡◌, ◌≢◌, ◌∙◌, ◌⊎◌, inl, inr, ℕ, ◌+◌, ◌<◌, ◌≤◌, List, length, take, refl, sym, ap, subst, arith, Option, Some, None}
+use Rattle.std.proofs.Common.{◌≡◌, ◌∙◌, inl, inr, ℕ, ◌<◌, length, take, sym, subst, Option, Some, None}
 use Rattle.ept_base.specs.Files.{Files, SameFiles, StepsBy, Tells}
 use Rattle.ept_base.specs.Moves.{IsSettled, Moves, SameImages}
 use Rattle.ept_space.specs.declared.bounds.Bounds.{Bounds}
@@ -11,7 +11,7 @@ use Rattle.ept_save.specs.Current.{Current, HasCurrent}
 use Rattle.ept_save.specs.Sound.{IsSound}
 use Rattle.ept_save.specs.SoundLaws.{SameIsSound, DoneIsPublished, GuardingKeepsSound}
 use Rattle.ept_save.specs.View.{View, StandsFor}
-use Rattle.ept_save.proofs.Standing.{stepped, tells_some, settled_some}
+use Rattle.ept_save.proofs.Standing.{tells_some, settled_some}
 use Rattle.ept_plan.specs.declared.plan.Plan.{Plan}
 use Rattle.ept_plan.specs.Plans.{inserted_by}
 use Rattle.ept_build.specs.Building.{IsUnderWay, IsBuilt, IsStopped, HasTooManyAlready, node_count}

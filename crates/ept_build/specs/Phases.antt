@@ -1,5 +1,5 @@
 -- Where a build stands between two phases.
-use Rattle.std.specs.Prelude.{◌≡◌, ◌⊎◌, ℕ, ◌+◌, ◌<◌, ◌≤◌, List, [], length, take, drop, Option, Some, None, ⊤, All}
+use Rattle.std.specs.Prelude.{◌≡◌, ◌⊎◌, ℕ, ◌+◌, ◌<◌, ◌≤◌, List, [], length, take, drop, Option, None, ⊤, All}
 use Rattle.ept_base.specs.Files.{Files, Tells}
 use Rattle.ept_point.specs.declared.point.Point.{Point}
 use Rattle.ept_space.specs.OctreeCube.{InCube}
@@ -16,7 +16,7 @@ use Rattle.ept_tree.specs.Grown as tree
 use Rattle.ept_tree.specs.TreeLaws.{AreSampled}
 use Rattle.ept_sample.specs.SamplingLaws.{CanBeSampled}
 use Rattle.ept_meta.specs.Output.{File, IsOutput, rules_of, names_of}
-use Rattle.ept_save.specs.Current.{Current}
+use Rattle.ept_save.specs.Current.{Current, HasCurrent}
 use Rattle.ept_save.specs.Done.{IsDone}
 use Rattle.ept_save.specs.Opening.{lines_of}
 use Rattle.ept_save.specs.Sound.{IsSound}

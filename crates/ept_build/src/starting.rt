@@ -5,7 +5,8 @@ ghost use Rattle.ept_base.specs.Causes.{HasCauseOf};
 ghost use Rattle.ept_base.specs.Files.{Files, SameFiles};
 ghost use Rattle.ept_base.specs.Moves.{IsSettled, Moves, SameImages};
 ghost use Rattle.ept_space.specs.VoxelKey.{VoxelKey};
-ghost use Rattle.ept_meta.specs.Output.{File, names_of};
+ghost use Rattle.ept_space.specs.CubeOfBounds.{IsCubeOf};
+ghost use Rattle.ept_meta.specs.Output.{File, names_of, rules_of};
 ghost use Rattle.ept_save.specs.Opening.{lines_of};
 ghost use Rattle.ept_save.specs.SoundLaws.{HasNamesOf};
 ghost use Rattle.ept_plan.specs.Plans.{IsPlan};
@@ -36,6 +37,8 @@ pub(crate) fn take_up<T: Store>(
     ensures saved { IfOk result (λ at. at.saved ≡ saved) }
     ensures inserted { IfOk result (λ at. at.inserted ≡ plan.now.inserted) }
     ensures tree { IfOk result (λ at. IsTreeOf plan.now at.inserted config.now.max_nodes at.grown at.saved) }
+    ensures of_bounds { OnOk result (IsCubeOf plan.now.kept.bounds plan.now.kept.s plan.now.kept.max_depth
+        (rules_of plan.now.kept).cube) }
     ensures loaded { IfOk result (λ at. IsLoaded plan.now at.saved.current at.grown (T.files store.old)) }
     ensures on_way { IfOk result (λ at. (all start : Files) (output : List File)
         → Starts all config.now saved plan.now start (T.files store.old) (T.may_leave store.old)

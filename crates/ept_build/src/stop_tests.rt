@@ -81,9 +81,11 @@ fn current(alloc: Global, store: &mut MemStore) -> Result<(u64, u64), AllocError
     let Ok(saved) = open(alloc, store) else {
         return Err(AllocError);
     };
-    Ok(saved.current().map_or((0, 0), |checkpoint| {
-        (checkpoint.inserted, checkpoint.generation)
-    }))
+    Ok(
+        saved.current().map_or((0, 0), |checkpoint| {
+            (checkpoint.inserted, checkpoint.generation)
+        }),
+    )
 }
 
 /// Compares the files of the output of two stores.
@@ -119,7 +121,10 @@ fn a_stopped_build_goes_on(rt: HostRuntime) -> Result<(), Fail> {
             first = if is_through { calls.min(first) } else { first };
             let mut store = store.crash(how);
             let (inserted, generation) = current(alloc, &mut store)?;
-            assert!(rt; inserted <= 6 && inserted == 2 * generation, "{calls} {inserted}");
+            assert!(rt;
+                inserted <= 6 && inserted == 2 * generation,
+                "{calls} {inserted}"
+            );
             assert_eq!(rt; built(alloc, &mut store, TWO, 2)?, done, "{calls}");
             compare(&rt, &store, &whole, "again");
         }
@@ -181,7 +186,11 @@ fn phases_before_too_many_nodes_are_kept(rt: HostRuntime) -> Result<(), Fail> {
         (3, done, (5, 3)),
         (1, done, (5, 3)),
     ] {
-        assert_eq!(rt; built_by(alloc, &mut store, "\"d.las\"", 2, most)?, answer, "{most}");
+        assert_eq!(rt;
+            built_by(alloc, &mut store, "\"d.las\"", 2, most)?,
+            answer,
+            "{most}"
+        );
         assert_eq!(rt; current(alloc, &mut store)?, left, "{most}");
     }
     assert_eq!(rt;

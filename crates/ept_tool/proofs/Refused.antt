@@ -37,6 +37,21 @@ abbrev pub told_as : Result Summary BuildError → Result Summary Refusal
 told_as (Ok summary) = Ok summary
 told_as (Err error) = Err (of_build error)
 
+-- no refusal of a build is that of a configuration
+pub never_configured : (e : BuildError) (error : ConfigError) → of_build e ≡ BadConfiguration error → ⊥
+never_configured build.StoreFault error is = cc
+never_configured (build.BadCheckpoint letter) error is = cc
+never_configured (build.TileDamaged key) error is = cc
+never_configured (build.Differs field kept given) error is = cc
+never_configured build.SourceFault error is = cc
+never_configured (build.BadLas source fault) error is = cc
+never_configured (build.OutOfBounds source number) error is = cc
+never_configured (build.TooManyPoints source) error is = cc
+never_configured build.NoBounds error is = cc
+never_configured (build.SourceChanged source number) error is = cc
+never_configured build.TooManyNodes error is = cc
+never_configured build.Memory error is = cc
+
 some_same : {X : Type 0} (o : Option X) (a b : X) → o ≡ Some a → o ≡ Some b → a ≡ b
 some_same o a b left right = cc
 

@@ -1,7 +1,7 @@
-use Rattle.std.proofs.Common.{rules, ◌≡◌, ◌≢◌, ◌∙◌, ◌⊎◌, inl, inr, ℕ, Bool, refl, sym, ap, subst, arith, Some}
+use Rattle.std.proofs.Common.{rules, ◌≡◌, ◌∙◌, inr, Bool, refl, sym, ap, subst, arith, Some}
 use Rattle.std.specs.Prelude.{Result, Ok, Err, IfErr}
 use Rattle.std.proofs.lemmas.Result.{IfOk-weaker, IfErr-weaker, err_from_is_err_and}
-use Rattle.ept_base.specs.Files.{Files, SameFiles, Tells}
+use Rattle.ept_base.specs.Files.{Files, SameFiles}
 use Rattle.ept_base.specs.Moves.{Moves}
 use Rattle.ept_base.specs.declared.errors.PutError.{PutError}
 use Rattle.ept_base.proofs.Moving.{moves_once}
@@ -239,7 +239,7 @@ returns-clause-too_many_comes g c = λ all start begins current has on not_done 
 pub returns-in_err-saved-clause-stops : goal.returns-in_err-saved-clause-stops
 returns-in_err-saved-clause-stops g c = λ is all start begins.
     let e = c.in_err-saved.field-0.0 in
-    let its : c.from_residual-in_err-saved.result ≡ Err (of_save e) = search rules in
+    let its : c.from_residual.result ≡ Err (of_save e) = search rules in
     absurd (save-not-many e (err-one (sym its ∙ is)))
 
 pub returns-in_err-plan-clause-stops : goal.returns-in_err-plan-clause-stops

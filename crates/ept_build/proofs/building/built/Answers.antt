@@ -1,27 +1,26 @@
-use Rattle.std.proofs.Common.{rules, ◌≡◌, ◌≢◌, ◌∙◌, inl, inr, ℕ, ◌<◌, ◌≤◌, List, length, take, refl, sym, ap, subst, arith, Option, Some}
+use Rattle.std.proofs.Common.{rules, ◌≡◌, ◌≢◌, ◌∙◌, inl, inr, ℕ, List, length, refl, sym, ap, subst, arith}
 use Rattle.std.specs.Prelude.{Result, Err, IfErr}
-use Rattle.ept_base.specs.Files.{Files, SameFiles, Tells}
+use Rattle.ept_base.specs.Files.{Files, SameFiles}
 use Rattle.ept_base.specs.Moves.{Moves}
 use Rattle.ept_space.specs.VoxelKey.{VoxelKey}
-use Rattle.ept_sample.specs.Nodes.{sampled}
 use Rattle.ept_tree.specs.Tree.{Branch}
 use Rattle.ept_tree.specs.Grown.{nodes_of}
 use Rattle.ept_config.specs.declared.input.Input.{Input}
 use Rattle.ept_meta.specs.Output.{rules_of}
-use Rattle.ept_save.specs.Complete.{IsComplete}
 use Rattle.ept_save.specs.Current.{HasCurrent}
 use Rattle.ept_save.specs.View.{View}
 use Rattle.ept_save.proofs.Standing.{stepped}
 use Rattle.ept_build.specs.declared.error.BuildError.{BuildError}
 use Rattle.ept_build.specs.declared.summary.Summary.{Summary}
 use Rattle.ept_build.specs.declared.error.BuildError.TheVariants.{TileDamaged, SourceChanged, TooManyNodes}
-use Rattle.ept_build.specs.Building.{IsBuilt, IsUnderWay, IsStopped, HasTooManyNodes, IsRefusedAt}
-use Rattle.ept_build.specs.Reached.{IsThrough, HasGoneThrough}
+use Rattle.ept_build.specs.Building.{IsUnderWay, HasTooManyNodes, IsRefusedAt}
+use Rattle.ept_build.specs.Reached.{IsThrough}
 use Rattle.ept_build.specs.Phases.{IsSoundAt}
 use Rattle.ept_scan.specs.Asking.{paths_left}
 use Rattle.ept_build.proofs.Asking.{AsksFront, front-none}
 use Rattle.ept_build.proofs.Causes.{tells-some}
 use Rattle.ept_build.proofs.Ground.{IsGround, ground as ground-of, extent-found, many-at}
+use Rattle.ept_build.proofs.Judging.{err-one}
 use Rattle.ept_build.proofs.Moved.{moves-then, moves-wider}
 use Rattle.ept_build.proofs.Numbers.{nodes-number}
 use Rattle.ept_build.proofs.Refusals.{phase-refused}
@@ -38,7 +37,7 @@ returns-in_err-at-clause-refused g c = λ all start shelf_told starts.
     let ground : IsGround all start c.args.config.now c.args.saved.current c.args.plan.now c.whole_extent-extent.result =
     ground-of c.output_once_law.ensures.one c.output_once_law.ensures.sampled c.output_names_law.ensures.grow c.saved_law.ensures.loaded all start c.args.config.now c.args.saved.current c.args.plan.now c.requires.plan starts.scans starts.has_current starts.sound c.whole_extent-extent.result (extent-found c.args.plan.now.counts c.as_slice.result.now c.whole_extent-extent.result c.as_slice.ensures c.whole_extent-extent.ensures) in
     let e = c.in_err-at.field-0.0 in
-    let is : c.from_residual-in_err-at.result ≡ Err e = search rules in
+    let is : c.from_residual.result ≡ Err e = search rules in
     let many : e ≡ TooManyNodes → HasTooManyNodes all c.args.config.now c.args.saved.current =
     λ same. many-at c.node_law.ensures.more_nodes all start c.args.config.now c.args.saved.current c.args.plan.now c.whole_extent-extent.result ground c.args.plan.now.inserted (few-lines c.args.config.now.max_nodes c.args.config.now.max_nodes _ _ refl (c.in_err-at.ensures.too_many (ap (λ (w : BuildError). Err w) same)) ground.lines) in
     subst (λ (r : Result Summary BuildError). IfErr r (IsRefusedAt all c.args.config.now c.args.saved.current)) (sym is)
@@ -48,11 +47,14 @@ pub returns-in_err-at-clause-stops : goal.returns-in_err-at-clause-stops
 returns-in_err-at-clause-stops g c = λ is all start shelf_told starts.
     let ground : IsGround all start c.args.config.now c.args.saved.current c.args.plan.now c.whole_extent-extent.result =
     ground-of c.output_once_law.ensures.one c.output_once_law.ensures.sampled c.output_names_law.ensures.grow c.saved_law.ensures.loaded all start c.args.config.now c.args.saved.current c.args.plan.now c.requires.plan starts.scans starts.has_current starts.sound c.whole_extent-extent.result (extent-found c.args.plan.now.counts c.as_slice.result.now c.whole_extent-extent.result c.as_slice.ensures c.whole_extent-extent.ensures) in
-    let its : c.take_up.result ≡ Err TooManyNodes = search (rules, is) in
+    let e = c.in_err-at.field-0.0 in
+    let was : c.from_residual.result ≡ Err e = search rules in
+    let its = ap (λ (w : BuildError). Err w) (err-one (sym was ∙ is)) in
     let untouched = c.in_err-at.ensures.untouched its in
-    let now = stepped SameFiles (g.T.Store.files c.args.store.now) (g.T.Store.files c.take_up.new.store) start starts.told untouched.0.reads in
-    (settled-stays start (g.T.Store.files c.args.store.now) (g.T.Store.files c.take_up.new.store) (g.T.Store.may_leave c.args.store.now) (g.T.Store.may_leave c.take_up.new.store) starts.told starts.settled now.0 now.1 now.2 untouched.1,
-    inl (too-many-already all start c.args.config.now c.args.saved.current c.args.plan.now c.whole_extent-extent.result ground starts.has_current c.requires.plan.inserted_is (few-lines c.args.config.now.max_nodes c.args.config.now.max_nodes _ _ refl (c.in_err-at.ensures.too_many its) ground.lines), untouched.0))
+    let now = stepped SameFiles (g.T.Store.files c.args.store.now) (g.T.Store.files c.take_up.new.store) start starts.told untouched.0.reads in (
+      settled-stays start (g.T.Store.files c.args.store.now) (g.T.Store.files c.take_up.new.store) (g.T.Store.may_leave c.args.store.now) (g.T.Store.may_leave c.take_up.new.store) starts.told starts.settled now.0 now.1 now.2 untouched.1,
+      inl (too-many-already all start c.args.config.now c.args.saved.current c.args.plan.now c.whole_extent-extent.result ground starts.has_current c.requires.plan.inserted_is (few-lines c.args.config.now.max_nodes c.args.config.now.max_nodes _ _ refl (c.in_err-at.ensures.too_many its) ground.lines), untouched.0),
+    )
 
 pub returns-in_err-grow-clause-sound : goal.returns-in_err-grow-clause-sound
 returns-in_err-grow-clause-sound g c = λ all start shelf_told starts.
@@ -94,7 +96,9 @@ returns-in_err-grow-clause-stops g c = λ is all start shelf_told starts.
     let has : HasCurrent c.in_ok-at.at.saved.current start = subst (λ (v : View). HasCurrent v.current start) (sym c.in_ok-at.ensures.saved) starts.has_current in
     let sampled = it.loaded c.in_ok-at.at.grown (g.T.Store.files c.args.store.now) c.in_ok-at.at.inserted c.in_ok-at.ensures.inserted starts.told c.in_ok-at.ensures.loaded in
     let way = c.in_ok-at.ensures.on_way all start it.out starts it.names in
-    let its : c.grow.result ≡ Err TooManyNodes = search (rules, is) in
+    let e = c.in_err-grow.field-0.0 in
+    let was : c.from_residual-in_err-grow.result ≡ Err e = search rules in
+    let its = ap (λ (w : BuildError). Err w) (err-one (sym was ∙ is)) in
     let many = tells-some _ (g.H.Shelf.files c.args.shelf.now) all shelf_told (c.in_err-grow.ensures.too_many its) it.points it.are.scan it.are.can sampled in
     (c.in_err-grow.ensures.settled its c.in_ok-at.ensures.settled, inr (stopped-at all start c.args.config.now c.in_ok-at.at.saved.current c.args.plan.now c.whole_extent-extent.result it has c.grow.new.at.saved (g.T.Store.files c.grow.new.store) (g.T.Store.may_leave c.grow.new.store) (c.in_err-grow.ensures.stands its way.stands) many))
 

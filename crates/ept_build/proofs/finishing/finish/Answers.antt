@@ -1,5 +1,5 @@
-use Rattle.std.proofs.Common.{◌≡◌, ◌∙◌, ℕ, List, length, map, refl, sym, ap, subst}
-use Rattle.ept_base.specs.Files.{Files, StepsBy}
+use Rattle.std.proofs.Common.{◌∙◌, List, sym, ap, subst}
+use Rattle.ept_base.specs.Files.{StepsBy}
 use Rattle.ept_base.specs.Moves.{Moves}
 use Rattle.ept_meta.specs.Output.{File, names_of}
 use Rattle.ept_tree.specs.Grown.{nodes_of}

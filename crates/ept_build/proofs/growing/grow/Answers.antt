@@ -1,19 +1,13 @@
-use Rattle.std.proofs.Common.{rules, ◌≡◌, ◌≢◌, ◌∙◌, ◌≤◌, ◌<◌, ◌+◌, ℕ, List, length, take, drop, refl, sym, ap, subst, arith}
+use Rattle.std.proofs.Common.{◌∙◌, List, drop, sym, ap, subst, arith}
 use Rattle.std.specs.Prelude.{All}
-use Rattle.ept_base.specs.Files.{Files, Tells}
-use Rattle.ept_base.specs.Moves.{Moves}
+use Rattle.ept_base.specs.Files.{Files}
 use Rattle.ept_point.specs.declared.point.Point.{Point}
-use Rattle.ept_space.specs.VoxelKey.{VoxelKey}
-use Rattle.ept_sample.specs.SamplingLaws.{CanBeSampled}
 use Rattle.ept_config.specs.declared.source_count.SourceCount.{SourceCount}
 use Rattle.ept_config.specs.Counts.{total}
 use Rattle.ept_scan.specs.Opening.{IsKeptScan, IsFileOf}
 use Rattle.ept_scan.specs.Reader.{files_of, IsRest}
-use Rattle.ept_tree.specs.Grown.{nodes_of}
-use Rattle.ept_tree.specs.TreeLaws.{AreSampled}
-use Rattle.ept_meta.specs.Output.{File, rules_of}
-use Rattle.ept_build.specs.Phases.{IsSoundUndone, AreOfShelf, IsOnWay, AreMany}
-use Rattle.ept_build.specs.declared.error.BuildError.TheVariants.{TileDamaged}
+use Rattle.ept_meta.specs.Output.{rules_of}
+use Rattle.ept_build.specs.Phases.{IsSoundUndone}
 use Rattle.ept_build.proofs.Causes.{tells-more, tells-all}
 use Rattle.ept_build.proofs.Ground.{kept-number}
 use Rattle.ept_build.proofs.Inside.{lies-in-cube}

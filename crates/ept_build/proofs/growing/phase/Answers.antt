@@ -1,21 +1,18 @@
-use Rattle.std.proofs.Common.{rules, inl, ◌≡◌, ◌≢◌, ◌∙◌, ◌≤◌, ◌<◌, ◌+◌, ℕ, List, [], ◌++◌, length, take, drop, refl, sym, ap, subst, arith}
+use Rattle.std.proofs.Common.{rules, inl, ◌≡◌, ◌∙◌, ◌+◌, List, take, drop, sym, ap, subst, arith}
 use Rattle.std.specs.Prelude.{Err, IfErr}
-use Rattle.ept_base.specs.Files.{Files}
 use Rattle.ept_point.specs.declared.point.Point.{Point}
 use Rattle.ept_space.specs.declared.cube.Rules.{Rules}
 use Rattle.ept_config.specs.declared.source_count.SourceCount.{SourceCount}
 use Rattle.ept_insert.specs.declared.error.InsertError.{InsertError}
 use Rattle.ept_save.specs.Errors.{IsStores}
 use Rattle.ept_save.specs.View.{View}
-use Rattle.ept_save.specs.declared.error.SaveError.{SaveError}
 use Rattle.ept_tree.specs.Grown as tree
 use Rattle.ept_tree.specs.TreeLaws.{AreSampled}
 use Rattle.ept_meta.specs.Output.{rules_of}
-use Rattle.ept_phase.specs.Phase.{AreGiven, IsSaved, GoesOn}
+use Rattle.ept_phase.specs.Phase.{AreGiven, IsSaved}
 use Rattle.ept_scan.specs.Reader.{IsRest}
 use Rattle.ept_build.proofs.Causes.{inserted-many, inserted-changed, stores-undamaged}
-use Rattle.ept_build.proofs.Fronts.{front-then, rest-then}
-use Rattle.ept_build.proofs.Moved.{AllAre, all-images, all-after, moves-after}
+use Rattle.ept_build.proofs.Fronts.{rest-then}
 use Rattle.ept_build.proofs.Phased.{points-then, inserted-sampled, many-then, each-stays, given-fit, saved-fresh, saved-each, saved-inserted, saved-inputs, saved-of}
 use Rattle.ept_build.proofs.PhaseSound.{phase-moves, phase-images, way-sound, names-of, either-moves, none-moves}
 use Rattle.ept_build.specs.Reached.{HasThisOrNext, generation_by}

@@ -1,7 +1,5 @@
-use Rattle.std.proofs.Common.{rules, inl, inr, ◌≡◌, ◌≢◌, ◌∙◌, ◌≤◌, ◌<◌, ◌+◌, ◌-◌, ℕ, List, length, take, refl, sym, ap, subst, arith}
-use Rattle.std.specs.Prelude.{Err}
-use Rattle.ept_base.specs.Files.{Files}
-use Rattle.ept_base.specs.Moves.{IsSettled, Moves}
+use Rattle.std.proofs.Common.{rules, inl, inr, ◌≡◌, ◌∙◌, ◌≤◌, ◌<◌, ◌+◌, ℕ, List, length, take, refl, sym, ap, subst, arith}
+use Rattle.ept_base.specs.Moves.{IsSettled}
 use Rattle.ept_point.specs.declared.point.Point.{Point}
 use Rattle.ept_tree.specs.Grown.{nodes_of}
 use Rattle.ept_tree.specs.TreeLaws.{AreSampled}
@@ -11,7 +9,7 @@ use Rattle.ept_save.specs.View.{View, StandsFor}
 use Rattle.ept_plan.specs.Plans.{inserted_by}
 use Rattle.ept_build.specs.Phases.{IsTreeOf, IsSoundUndone, AreMany}
 use Rattle.ept_build.proofs.Fronts.{all-front}
-use Rattle.ept_build.specs.Reached.{IsAfter, HasReached, HasThisOrNext}
+use Rattle.ept_build.specs.Reached.{HasReached, HasThisOrNext}
 use Rattle.ept_build.proofs.Counting.{after-none, after-next, reached-now, reached-then, no-fewer-none, no-fewer-next, through, take-most}
 use Rattle.ept_build.proofs.Numbers.{nodes-number}
 use Rattle.ept_build.proofs.PhaseSound.{none-moves}

@@ -1,7 +1,12 @@
-use Rattle.std.proofs.Common.{rules, ◌≡◌, ◌∙◌, sym, arith}
+use Rattle.std.proofs.Common.{rules, ◌≡◌, ◌∙◌, sym, ap, arith}
+use Rattle.std.specs.Prelude.{Err}
 use Rattle.ept_base.specs.Files.{Files, SameFiles}
 use Rattle.ept_save.proofs.Standing.{stepped, settled_some}
+use Rattle.ept_phase.specs.declared.error.LoadError.{LoadError}
+use Rattle.ept_build.specs.Errors.{of_load}
 use Rattle.ept_build.specs.Phases.{IsSoundAt}
+use Rattle.ept_build.proofs.Causes.{loaded-damaged}
+use Rattle.ept_build.proofs.Judging.{err-one}
 use Rattle.ept_build.proofs.Moved.{moves-then}
 use Rattle.ept_build.proofs.Running.{sound-settled, same-moves, same-all, close-all, close-moves, closed-images, settled-on, tree-loaded}
 use Rattle.ept_build.proofs.starting.take_up.Goals as goal
@@ -50,3 +55,9 @@ returns-clause-tree g c =
 
 pub returns-in_err-grown-clause-too_many : goal.returns-in_err-grown-clause-too_many
 returns-in_err-grown-clause-too_many g c = λ is. omega (arith, c.from.ensures, c.in_err-grown.ensures.too_many (search (rules, is)))
+
+pub returns-in_err-grown-clause-undamaged : goal.returns-in_err-grown-clause-undamaged
+returns-in_err-grown-clause-undamaged g c = λ all start starts key is.
+    let e = c.in_err-grown.field-0.0 in
+    let its : c.from_residual.result ≡ Err (of_load e) = search rules in
+    c.in_err-grown.ensures.sound all start starts.told starts.sound starts.has_current key (ap (λ (w : LoadError). Err w) (loaded-damaged e key (err-one (sym its ∙ is))))

@@ -1,7 +1,9 @@
-use Rattle.std.proofs.Common.{◌≡◌, ◌⊎◌, Err, Ok, sym, subst, ap, ◌∙◌}
+use Rattle.std.proofs.Common.{rules, ◌≡◌, ◌⊎◌, inl, inr, Option, Err, Ok, sym, subst, ap, ◌∙◌}
 use Rattle.std.specs.Prelude.{Result, IsOk, IfErr}
 use Rattle.ept_base.specs.Files.{Files, SameFiles, Tells}
 use Rattle.ept_base.specs.Moves.{Moves}
+use Rattle.ept_base.proofs.Moving.{moves_weaker}
+use Rattle.ept_save.specs.Current.{Current, HasCurrent}
 use Rattle.ept_save.specs.Sound.{IsSound}
 use Rattle.ept_build.specs.declared.error.BuildError.{BuildError}
 use Rattle.ept_build.specs.declared.summary.Summary.{Summary}
@@ -10,7 +12,7 @@ use Rattle.ept_build.specs.Building as building
 use Rattle.ept_tool.specs.declared.refusal.Refusal.{Refusal}
 use Rattle.ept_tool.specs.Requests.{BuildIsRefused, IsEarly, Fails, TellsDifference}
 use Rattle.ept_tool.specs.declared.refusal.Refusal.TheVariants.{BadCheckpoint}
-use Rattle.ept_tool.proofs.Refused.{came_to, differed_to, bad_to, build_refused, build_comes, build_accepted, built_at, begun, begun_done, early_as, told_as, stays_sound}
+use Rattle.ept_tool.proofs.Refused.{came_to, differed_to, bad_to, build_refused, build_comes, build_accepted, built_at, begun, begun_done, early_as, told_as, stays_sound, never_configured}
 use Rattle.ept_tool.proofs.commands.carry_out_build.Goals as goal
 
 pub returns-in-Ok-clause-built : goal.returns-in-Ok-clause-built
@@ -23,7 +25,7 @@ returns-in-Ok-clause-refusal_comes g c =
 
 pub returns-in-Ok-clause-sound : goal.returns-in-Ok-clause-sound
 returns-in-Ok-clause-sound g c =
-    begun (g.H.Shelf.files c.args.shelf.now) (g.H.Shelf.files c.read_configuration.new.shelf) c.read_configuration.ensures.files c.args.path.now c.in_ok-config.config c.in_ok-config.ensures.ok (g.T.Store.files c.args.store.now) (g.T.Store.may_leave c.args.store.now) {M = (λ (all : Files). Moves g.T.Store.files g.T.Store.may_leave g.T.Store.moment g.T.Store.image_since (λ (a b : Files). IsSound all b) c.args.store.now c.build.new.store)} c.build.ensures.sound
+    begun (g.H.Shelf.files c.args.shelf.now) (g.H.Shelf.files c.read_configuration.new.shelf) c.read_configuration.ensures.files c.args.path.now c.in_ok-config.config c.in_ok-config.ensures.ok (g.T.Store.files c.args.store.now) (g.T.Store.may_leave c.args.store.now) {M = (λ (all : Files). Moves g.T.Store.files g.T.Store.may_leave g.T.Store.moment g.T.Store.image_since (λ (a b : Files). IsSound all b) c.args.store.now c.build.new.store)} (λ all start begins. moves_weaker g.T.Store.files g.T.Store.may_leave g.T.Store.moment g.T.Store.image_since (λ (a b : Files). building.IsUnderWay all c.in_ok-config.config start b) (λ (a b : Files). IsSound all b) (λ a b at. at.sound) c.args.store.now c.build.new.store (c.build.ensures.sound all start begins))
 
 pub returns-in-Ok-clause-done_already : goal.returns-in-Ok-clause-done_already
 returns-in-Ok-clause-done_already g c =
@@ -45,7 +47,7 @@ returns-clause-accepted g c =
 
 pub returns-clause-sound : goal.returns-clause-sound
 returns-clause-sound g c =
-    begun (g.H.Shelf.files c.args.shelf.now) (g.H.Shelf.files c.read_configuration.new.shelf) c.read_configuration.ensures.files c.args.path.now c.in_ok-config.config c.in_ok-config.ensures.ok (g.T.Store.files c.args.store.now) (g.T.Store.may_leave c.args.store.now) {M = (λ (all : Files). Moves g.T.Store.files g.T.Store.may_leave g.T.Store.moment g.T.Store.image_since (λ (a b : Files). IsSound all b) c.args.store.now c.build.new.store)} c.build.ensures.sound
+    begun (g.H.Shelf.files c.args.shelf.now) (g.H.Shelf.files c.read_configuration.new.shelf) c.read_configuration.ensures.files c.args.path.now c.in_ok-config.config c.in_ok-config.ensures.ok (g.T.Store.files c.args.store.now) (g.T.Store.may_leave c.args.store.now) {M = (λ (all : Files). Moves g.T.Store.files g.T.Store.may_leave g.T.Store.moment g.T.Store.image_since (λ (a b : Files). IsSound all b) c.args.store.now c.build.new.store)} (λ all start begins. moves_weaker g.T.Store.files g.T.Store.may_leave g.T.Store.moment g.T.Store.image_since (λ (a b : Files). building.IsUnderWay all c.in_ok-config.config start b) (λ (a b : Files). IsSound all b) (λ a b at. at.sound) c.args.store.now c.build.new.store (c.build.ensures.sound all start begins))
 
 pub returns-clause-done_already : goal.returns-clause-done_already
 returns-clause-done_already g c =
@@ -82,3 +84,27 @@ returns-clause-differs_comes g c = λ all start begins asked. subst (λ (a : Res
 pub returns-clause-bad_comes : goal.returns-clause-bad_comes
 returns-clause-bad_comes g c = λ all start letter told stored bad asked. subst (λ (a : Result Summary Refusal). (a ≡ Err (BadCheckpoint letter)) ⊎ Fails a) (ap told_as c.in-Err.is ∙ ap Err (sym c.from.ensures))
     (bad_to (g.H.Shelf.files c.args.shelf.now) (g.H.Shelf.files c.read_configuration.new.shelf) c.read_configuration.ensures.files c.args.path.now c.in_ok-config.config c.in_ok-config.ensures.ok (g.T.Store.files c.args.store.now) (g.T.Store.may_leave c.args.store.now) c.build.result c.build.ensures.bad_comes all start letter told stored bad asked)
+
+pub returns-in_err-config-clause-asked : goal.returns-in_err-config-clause-asked
+returns-in_err-config-clause-asked g c = λ start told. inl c.read_configuration.ensures.asked
+
+pub returns-in-Ok-clause-asked : goal.returns-in-Ok-clause-asked
+returns-in-Ok-clause-asked g c = λ start told. inr (
+  c.in_ok-config.config,
+  c.in_ok-config.ensures.ok,
+  g.H.Shelf.asked c.read_configuration.new.shelf,
+  c.in_ok-config.ensures.opened,
+  λ (current : Current) (has : HasCurrent current start). subst (λ (w : Option Files). building.AsksInOrder w c.in_ok-config.config start current (g.H.Shelf.asked c.read_configuration.new.shelf) (g.H.Shelf.asked c.build.new.shelf)) c.read_configuration.ensures.files (c.build.ensures.asked start current told has),
+)
+
+pub returns-clause-asked : goal.returns-clause-asked
+returns-clause-asked g c = λ start told. inr (
+  c.in_ok-config.config,
+  c.in_ok-config.ensures.ok,
+  g.H.Shelf.asked c.read_configuration.new.shelf,
+  c.in_ok-config.ensures.opened,
+  λ (current : Current) (has : HasCurrent current start). subst (λ (w : Option Files). building.AsksInOrder w c.in_ok-config.config start current (g.H.Shelf.asked c.read_configuration.new.shelf) (g.H.Shelf.asked c.build.new.shelf)) c.read_configuration.ensures.files (c.build.ensures.asked start current told has),
+)
+
+pub returns-clause-given : goal.returns-clause-given
+returns-clause-given g c = λ error is. absurd (never_configured c.in-Err.error error (search (rules, is)))
