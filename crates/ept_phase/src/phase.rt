@@ -10,6 +10,7 @@ ghost use Rattle.ept_save.specs.Opening.{lines_of};
 ghost use Rattle.ept_save.specs.Sound as sound;
 ghost use Rattle.ept_save.specs.View.{StandsFor};
 ghost use Rattle.ept_tree.specs.Grown as tree;
+ghost use Rattle.ept_phase.specs.Loaded.{HasNoDamage};
 ghost use Rattle.ept_phase.specs.Phase.{AreGiven, GoesFurther, GoesOn, IsSaved};
 ghost use Rattle.ept_phase.specs.Saving.{HasEachNodeOf, IsSaveFault};
 
@@ -61,8 +62,11 @@ pub fn save_tree<T: Store>(
         → StandsFor saved.new (T.files store.new) (T.may_leave store.new)) }
     ensures settled { OnOk result (IsSettled (T.files store.new) (T.may_leave store.new)) }
 
-    // No tile of sound files is damaged.
+    // Where no tile that the current checkpoint names is damaged, it is refused only for the store itself. No tile of
+    // sound files is damaged.
     ensures only { IfErr result IsSaveFault }
+    ensures undamaged { (all : Files) → T.files store.old ≡ Some all → HasNoDamage saved.old.current all
+        → IfErr result IsStores }
     ensures sound { (shelf all : Files) → T.files store.old ≡ Some all → sound.IsSound shelf all
         → StandsFor saved.old (T.files store.old) (T.may_leave store.old) → IfErr result IsStores }
     ensures cause { HasCauseOf SaveError.StoreFault (T.faults store.old) (T.faults store.new) result }

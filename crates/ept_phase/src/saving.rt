@@ -14,6 +14,7 @@ ghost use Rattle.ept_save.specs.Sound.{IsSound};
 ghost use Rattle.ept_save.specs.View as view;
 ghost use Rattle.ept_save.specs.View.{StandsFor};
 ghost use Rattle.ept_phase.specs.Lines.{TellNodes, NameTiles};
+ghost use Rattle.ept_phase.specs.Loaded.{HasNoDamage};
 ghost use Rattle.ept_phase.specs.Saving.{HasNode, IsTold, SavesNode, AreKnown, HasEachNodeOf, IsSaveFault};
 
 use ept_base::Store;
@@ -53,8 +54,11 @@ pub fn save_node<T: Store>(
     ensures stands { StandsFor saved.old (T.files store.old) (T.may_leave store.old)
         → StandsFor saved.new (T.files store.new) (T.may_leave store.new) }
 
-    // No tile of sound files is damaged.
+    // Where no tile that the current checkpoint names is damaged, it is refused only for the store itself. No tile of
+    // sound files is damaged.
     ensures only { IfErr result (λ e. (e ≡ SaveError.TileDamaged key) ⊎ IsStores e) }
+    ensures undamaged { (all : Files) → T.files store.old ≡ Some all → HasNoDamage saved.old.current all
+        → IfErr result IsStores }
     ensures sound { (shelf all : Files) → T.files store.old ≡ Some all → IsSound shelf all
         → HasCurrent saved.old.current all → IfErr result IsStores }
     ensures cause { HasCauseOf SaveError.StoreFault (T.faults store.old) (T.faults store.new) result }
@@ -83,6 +87,8 @@ fn has_node<T: Store>(
     ensures stands { (v : view.View) → StandsFor v (T.files store.old) (T.may_leave store.old)
         → StandsFor v (T.files store.new) (T.may_leave store.new) }
     ensures only { IfErr result (λ e. (e ≡ SaveError.TileDamaged key) ⊎ IsStores e) }
+    ensures undamaged { (all : Files) → T.files store.old ≡ Some all → HasNoDamage saved.now.current all
+        → IfErr result IsStores }
     ensures sound { (shelf all : Files) → T.files store.old ≡ Some all → IsSound shelf all
         → HasCurrent saved.now.current all → IfErr result IsStores }
     ensures cause { HasCauseOf SaveError.StoreFault (T.faults store.old) (T.faults store.new) result }
@@ -113,6 +119,8 @@ fn has_points<T: Store>(
     ensures stands { (v : view.View) → StandsFor v (T.files store.old) (T.may_leave store.old)
         → StandsFor v (T.files store.new) (T.may_leave store.new) }
     ensures only { IfErr result (λ e. (e ≡ SaveError.TileDamaged key) ⊎ IsStores e) }
+    ensures undamaged { (all : Files) → T.files store.old ≡ Some all → HasNoDamage saved.now.current all
+        → IfErr result IsStores }
     ensures sound { (shelf all : Files) → T.files store.old ≡ Some all → IsSound shelf all
         → HasCurrent saved.now.current all → IfErr result IsStores }
     ensures cause { HasCauseOf SaveError.StoreFault (T.faults store.old) (T.faults store.new) result }
@@ -140,6 +148,8 @@ pub(crate) fn save_nodes<T: Store>(
     ensures stands { StandsFor saved.old (T.files store.old) (T.may_leave store.old)
         → StandsFor saved.new (T.files store.new) (T.may_leave store.new) }
     ensures only { IfErr result IsSaveFault }
+    ensures undamaged { (all : Files) → T.files store.old ≡ Some all → HasNoDamage saved.old.current all
+        → IfErr result IsStores }
     ensures sound { (shelf all : Files) → T.files store.old ≡ Some all → IsSound shelf all
         → HasCurrent saved.old.current all → IfErr result IsStores }
     ensures cause { HasCauseOf SaveError.StoreFault (T.faults store.old) (T.faults store.new) result }

@@ -5,7 +5,7 @@ use Rattle.ept_base.specs.Moves.{Moves}
 use Rattle.ept_ckpt.specs.Valid.{IsCheckpoint}
 use Rattle.ept_save.specs.Current.{Current, HasCurrent, Keeps}
 use Rattle.ept_save.specs.Opening.{lines_of}
-use Rattle.ept_save.specs.View.{View, StandsFor, next_generation}
+use Rattle.ept_save.specs.View.{View, StandsFor, next_letter, next_generation}
 use Rattle.ept_save.proofs.LoadedLines.{handed-on}
 use Rattle.ept_tree.specs.Grown.{nodes_of, rules_of}
 use Rattle.ept_tree.specs.Tree.{Branch}
@@ -14,7 +14,9 @@ use Rattle.ept_phase.specs.Phase.{GoesFurther, IsSaved}
 use Rattle.ept_phase.specs.Saving.{AreKnown, HasEachNodeOf}
 use Rattle.ept_phase.proofs.Phasing.{tree-valid, is-saved, goes-all, keeps-goes, on-ok, stands-current}
 use Rattle.ept_phase.proofs.Compared.{keeps-then}
+use Rattle.ept_phase.specs.Loaded.{HasNoDamage}
 use Rattle.ept_phase.proofs.Refusing.{keeps-sound}
+use Rattle.ept_phase.proofs.Undamaged.{gate-undamaged}
 use Rattle.ept_phase.proofs.phase.save_tree.Goals as goal
 
 pub save_nodes-requires : goal.save_nodes-requires
@@ -59,6 +61,14 @@ returns-in_err-save_nodes-clause-sound g c = λ shelf all told sound stands.
     let has : HasCurrent start.current all = stands-current start (g.T.Store.files c.args.store.now) (g.T.Store.may_leave c.args.store.now) all stands told in
     let at = keeps-sound c.sound_steps_law.ensures.keeping shelf all start.current (g.T.Store.files c.args.store.now) (g.T.Store.files c.begin.new.store) (c.begin.ensures.keeps stands).reads told sound has in
     let stores = c.save_nodes.ensures.sound shelf at.0 at.1 at.2 (subst (λ (w : Current). HasCurrent w at.0) (sym (ap (λ (v : View). v.current) c.in_ok-begin.ensures.begun)) at.3) in
+    let is : c.from_residual-in_err-save_nodes.result ≡ Err c.in_err-save_nodes.field-0.0 = search rules in
+    handed-on c.save_nodes.result c.from_residual-in_err-save_nodes.result c.in_err-save_nodes.field-0.0 c.in_err-save_nodes.was is stores
+
+pub returns-in_err-save_nodes-clause-undamaged : goal.returns-in_err-save_nodes-clause-undamaged
+returns-in_err-save_nodes-clause-undamaged g c = λ all told none.
+    let start : View = c.args.saved.now in
+    let at = gate-undamaged start.current (next_letter start.current) all (g.T.Store.files c.args.store.now) (g.T.Store.files c.begin.new.store) c.begin.ensures.gate.reads told none in
+    let stores = c.save_nodes.ensures.undamaged at.0 at.1 (subst (λ (w : Current). HasNoDamage w at.0) (sym (ap (λ (v : View). v.current) c.in_ok-begin.ensures.begun)) at.2) in
     let is : c.from_residual-in_err-save_nodes.result ≡ Err c.in_err-save_nodes.field-0.0 = search rules in
     handed-on c.save_nodes.result c.from_residual-in_err-save_nodes.result c.in_err-save_nodes.field-0.0 c.in_err-save_nodes.was is stores
 

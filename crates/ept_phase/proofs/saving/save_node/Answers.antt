@@ -20,6 +20,11 @@ returns-in_err-has_node-clause-sound g c = λ shelf all told sound has.
     let is : c.from_residual.result ≡ Err c.in_err-has_node.field-0.0 = search rules in
     handed-on c.has_node.result c.from_residual.result c.in_err-has_node.field-0.0 c.in_err-has_node.was is (c.has_node.ensures.sound shelf all told sound has)
 
+pub returns-in_err-has_node-clause-undamaged : goal.returns-in_err-has_node-clause-undamaged
+returns-in_err-has_node-clause-undamaged g c = λ all told none.
+    let is : c.from_residual.result ≡ Err c.in_err-has_node.field-0.0 = search rules in
+    handed-on c.has_node.result c.from_residual.result c.in_err-has_node.field-0.0 c.in_err-has_node.was is (c.has_node.ensures.undamaged all told none)
+
 pub returns-then-branch-clause-node : goal.returns-then-branch-clause-node
 returns-then-branch-clause-node g c =
     let is : c.has_node.result ≡ Ok true = search rules in

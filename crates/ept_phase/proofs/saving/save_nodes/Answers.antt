@@ -15,7 +15,9 @@ use Rattle.ept_tree.specs.Tree.{Branch}
 use Rattle.ept_phase.specs.Saving.{SavesNode, keys_in, AreKnown}
 use Rattle.ept_phase.proofs.SavedTo.{IsSavedTo, Rise, sorted-rise, saved-none, saved-more, saved-all}
 use Rattle.ept_phase.proofs.Compared.{keeps-none, keeps-then}
+use Rattle.ept_phase.specs.Loaded.{HasNoDamage}
 use Rattle.ept_phase.proofs.Refusing.{keeps-sound, save-fault}
+use Rattle.ept_phase.proofs.Undamaged.{keeps-undamaged}
 use Rattle.ept_phase.proofs.saving.save_nodes.Goals as goal
 
 pub loop-key-init : goal.loop-key-init
@@ -74,6 +76,14 @@ returns-in_err-save_node-clause-sound g c = λ shelf all told sound has.
     let at = c.loop-key.invariant in
     let there = keeps-sound c.sound_steps_law.ensures.keeping shelf all c.args.saved.now.current (g.T.Store.files c.args.store.now) (g.T.Store.files c.loop-key.store) at.keeps.reads told sound has in
     let stores = c.save_node.ensures.sound shelf there.0 there.1 there.2 (subst (λ (w : Current). HasCurrent w there.0) (sym (ap (λ (v : View). v.current) at.far.view_is)) there.3) in
+    let is : c.from_residual-in_err-save_node.result ≡ Err c.in_err-save_node.field-0.0 = search rules in
+    handed-on c.save_node.result c.from_residual-in_err-save_node.result c.in_err-save_node.field-0.0 c.in_err-save_node.was is stores
+
+pub returns-in_err-save_node-clause-undamaged : goal.returns-in_err-save_node-clause-undamaged
+returns-in_err-save_node-clause-undamaged g c = λ all told none.
+    let at = c.loop-key.invariant in
+    let there = keeps-undamaged c.args.saved.now.current all (g.T.Store.files c.args.store.now) (g.T.Store.files c.loop-key.store) at.keeps.reads told none in
+    let stores = c.save_node.ensures.undamaged there.0 there.1 (subst (λ (w : Current). HasNoDamage w there.0) (sym (ap (λ (v : View). v.current) at.far.view_is)) there.2) in
     let is : c.from_residual-in_err-save_node.result ≡ Err c.in_err-save_node.field-0.0 = search rules in
     handed-on c.save_node.result c.from_residual-in_err-save_node.result c.in_err-save_node.field-0.0 c.in_err-save_node.was is stores
 
