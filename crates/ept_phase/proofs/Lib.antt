@@ -9,4 +9,4 @@ mod SamePoint
 mod SavedTo
 mod SavedNodes
 pub mod Telling
-mod Undamaged
+pub mod Undamaged

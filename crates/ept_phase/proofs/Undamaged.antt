@@ -38,7 +38,7 @@ line-named (Some (letter, c)) key line found =
     (at.0, line, at.1, at.2, refl)
 
 -- where its tile reads as before, it is damaged as before
-damaged-before : (current : Current) (key : VoxelKey) (old new : Files) → ((line : NodeLine) → current_line current key ≡ Some line → new (tile_of_line line) ≡ old (tile_of_line line)) → IsDamaged current key new → IsDamaged current key old
+pub damaged-before : (current : Current) (key : VoxelKey) (old new : Files) → ((line : NodeLine) → current_line current key ≡ Some line → new (tile_of_line line) ≡ old (tile_of_line line)) → IsDamaged current key new → IsDamaged current key old
 damaged-before None key old new same is = absurd is
 damaged-before (Some (letter, c)) key old new same is = at (line_of_key c.nodes key) refl is
   where
@@ -113,7 +113,7 @@ none-named current (Some all) is = λ key has damaged. subst (λ (c : Current). 
 
 -- ---- from call to call
 
-undamaged_where : (current : Current) (old new : Files) → ((line : NodeLine) → IsNamed current (tile_of_line line) → new (tile_of_line line) ≡ old (tile_of_line line)) → HasNoDamage current old → HasNoDamage current new
+pub undamaged_where : (current : Current) (old new : Files) → ((line : NodeLine) → IsNamed current (tile_of_line line) → new (tile_of_line line) ≡ old (tile_of_line line)) → HasNoDamage current old → HasNoDamage current new
 undamaged_where current old new same none key has damaged =
     none key has (damaged-before current key old new (λ line found. same line (line-named current key line found)) damaged)
 

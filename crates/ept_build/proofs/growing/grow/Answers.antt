@@ -55,11 +55,6 @@ returns-clause-sound g c =
     let plan = c.args.plan.now in
     tells-more (λ (all : Files). (points : List Point) → IsKeptScan all c.args.plan.now.kept c.as_slice.result.now points → IsRest g.H.Source.Source.whole c.in_ok-reader.reader (drop c.args.at.now.inserted points)) _ (λ all rest points output are inserted way. c.phases-grown.ensures.sound all points output are (record { sampled = inserted; rest = rest points (subst (λ (w : List SourceCount). IsKeptScan all plan.kept w points) (sym c.as_slice.ensures) are.scan) }) way) (g.H.Shelf.files c.args.shelf.now) c.in_ok-reader.ensures.rest
 
-pub returns-clause-undamaged : goal.returns-clause-undamaged
-returns-clause-undamaged g c =
-    let plan = c.args.plan.now in
-    tells-more (λ (all : Files). (points : List Point) → IsKeptScan all c.args.plan.now.kept c.as_slice.result.now points → IsRest g.H.Source.Source.whole c.in_ok-reader.reader (drop c.args.at.now.inserted points)) _ (λ all rest points output are inserted way. c.phases-grown.ensures.undamaged all points output are (record { sampled = inserted; rest = rest points (subst (λ (w : List SourceCount). IsKeptScan all plan.kept w points) (sym c.as_slice.ensures) are.scan) }) way) (g.H.Shelf.files c.args.shelf.now) c.in_ok-reader.ensures.rest
-
 pub returns-clause-too_many : goal.returns-clause-too_many
 returns-clause-too_many g c = λ is.
     let plan = c.args.plan.now in

@@ -64,9 +64,8 @@ returns-in_err-save_tree-clause-sound g c = λ shelf points output are has way.
     g.T.Store.files g.T.Store.may_leave g.T.Store.moment g.T.Store.image_since c.args.store.now c.save_tree.new.store (g.met.T.Store.reads_an_image c.args.store.now) way (c.save_tree.ensures.goes_on way.stands)
 
 pub returns-in_err-save_tree-clause-undamaged : goal.returns-in_err-save_tree-clause-undamaged
-returns-in_err-save_tree-clause-undamaged g c = λ shelf points output are way key is.
-    let sound = (way-sound shelf output c.args.at.now.saved (g.T.Store.files c.args.store.now) (g.T.Store.may_leave c.args.store.now) (g.met.T.Store.reads_an_image c.args.store.now) way).sound in
-    let stores = c.save_tree.ensures.sound shelf way.stands.all way.stands.told sound way.stands in
+returns-in_err-save_tree-clause-undamaged g c = λ all told none key is.
+    let stores = c.save_tree.ensures.undamaged all told none in
     stores-undamaged c.in_err-save_tree.field-0.0 key (subst (λ (r : _). IfErr r IsStores) c.in_err-save_tree.was stores) (search (rules, is))
 
 pub returns-clause-tree : goal.returns-clause-tree
