@@ -1,7 +1,8 @@
-use Rattle.std.proofs.Common.{◌≡◌, ◌∙◌, List, length, sym, ap, subst, rules}
+use Rattle.std.proofs.Common.{◌≡◌, ◌∙◌, List, length, Option, sym, ap, subst, rules}
 use Rattle.std.specs.Prelude.{Err}
-use Rattle.ept_base.specs.Files.{Tells}
+use Rattle.ept_base.specs.Files.{Files, Tells}
 use Rattle.ept_base.specs.Moves.{Moves}
+use Rattle.ept_ckpt.specs.declared.checkpoint.Checkpoint.{Checkpoint}
 use Rattle.ept_ckpt.specs.Valid.{IsCheckpoint}
 use Rattle.ept_save.specs.Current.{Current, HasCurrent, Keeps}
 use Rattle.ept_save.specs.Opening.{lines_of}
@@ -12,9 +13,10 @@ use Rattle.ept_tree.specs.Tree.{Branch}
 use Rattle.ept_phase.specs.Lines.{TellNodes, NameTiles}
 use Rattle.ept_phase.specs.Phase.{GoesFurther, IsSaved}
 use Rattle.ept_phase.specs.Saving.{AreKnown, HasEachNodeOf}
-use Rattle.ept_phase.proofs.Phasing.{tree-valid, is-saved, goes-all, keeps-goes, on-ok, stands-current}
+use Rattle.ept_phase.proofs.Phasing.{tree-valid, is-saved, names-saved, goes-all, keeps-goes, on-ok, stands-current}
 use Rattle.ept_phase.proofs.Compared.{keeps-then}
-use Rattle.ept_phase.specs.Loaded.{HasNoDamage}
+use Rattle.ept_phase.specs.Loaded.{OfCurrent, HasNoDamage}
+use Rattle.ept_phase.proofs.NextTiles.{still-named, saved-undamaged}
 use Rattle.ept_phase.proofs.Refusing.{keeps-sound}
 use Rattle.ept_phase.proofs.Undamaged.{gate-undamaged}
 use Rattle.ept_phase.proofs.phase.save_tree.Goals as goal
@@ -101,6 +103,48 @@ returns-clause-saved g c =
     let valid : IsCheckpoint (next_generation now.current) c.args.kept.now c.args.counts.now c.args.inserted now.lines =
     tree-valid c.lines_law.ensures.told now (rules_of c.args.grown.now) c.args.kept.now c.args.counts.now c.args.inserted nodes c.requires.given further c.requires.few told known c.requires.rest.own c.requires.rules c.requires.whole c.requires.holds in
     on-ok _ (IsSaved start c.commit.new.saved c.args.kept.now c.args.counts.now c.args.inserted nodes) (is-saved c.body_once_law.ensures.facts start now same c.args.kept.now c.args.counts.now c.args.inserted nodes valid told c.commit.new.saved) c.commit.result c.commit.ensures.current
+
+pub returns-clause-tiles : goal.returns-clause-tiles
+returns-clause-tiles g c =
+    let start : View = c.args.saved.now in
+    let now : View = c.save_nodes.new.saved in
+    let same : now.current ≡ start.current = ap (λ (v : View). v.current) c.save_nodes.ensures.lines ∙ ap (λ (v : View). v.current) c.in_ok-begin.ensures.begun in
+    let nodes : List Branch = nodes_of c.args.grown.now in
+    let told : TellNodes nodes now.lines = subst (λ (w : List Branch). TellNodes w now.lines) c.nodes.ensures.nodes c.in_ok-save_nodes.ensures.told in
+    let known : AreKnown nodes = subst AreKnown c.nodes.ensures.nodes c.in_ok-save_nodes.ensures.known in
+    let further : GoesFurther now.current c.args.inserted (length c.args.kept.now.inputs) = subst (λ (w : Current). GoesFurther w c.args.inserted (length c.args.kept.now.inputs)) (sym same) c.requires.further in
+    let valid : IsCheckpoint (next_generation now.current) c.args.kept.now c.args.counts.now c.args.inserted now.lines =
+    tree-valid c.lines_law.ensures.told now (rules_of c.args.grown.now) c.args.kept.now c.args.counts.now c.args.inserted nodes c.requires.given further c.requires.few told known c.requires.rest.own c.requires.rules c.requires.whole c.requires.holds in
+    let mid : Option Files = g.T.Store.files c.save_nodes.new.store in
+    let after : Option Files = g.T.Store.files c.commit.new.store in
+    let new : View = c.commit.new.saved in
+    let tiles : Tells (λ all. NameTiles all nodes now.lines) mid =
+    subst (λ (w : List Branch). Tells (λ all. NameTiles all w now.lines) mid) c.nodes.ensures.nodes c.in_ok-save_nodes.ensures.tiles in
+    let still : Tells (λ all. NameTiles all nodes now.lines) after = still-named (next_letter now.current) nodes now.lines mid after c.commit.ensures.names.reads tiles in
+    on-ok _ (Tells (λ all. OfCurrent new.current (λ (d : Checkpoint). NameTiles all nodes d.nodes)) after)
+    (λ committed. names-saved c.body_once_law.ensures.facts start now same c.args.kept.now c.args.counts.now c.args.inserted nodes valid told new committed after still) c.commit.result c.commit.ensures.current
+
+pub returns-clause-intact : goal.returns-clause-intact
+returns-clause-intact g c = λ points can are.
+    let start : View = c.args.saved.now in
+    let now : View = c.save_nodes.new.saved in
+    let same : now.current ≡ start.current = ap (λ (v : View). v.current) c.save_nodes.ensures.lines ∙ ap (λ (v : View). v.current) c.in_ok-begin.ensures.begun in
+    let nodes : List Branch = nodes_of c.args.grown.now in
+    let told : TellNodes nodes now.lines = subst (λ (w : List Branch). TellNodes w now.lines) c.nodes.ensures.nodes c.in_ok-save_nodes.ensures.told in
+    let known : AreKnown nodes = subst AreKnown c.nodes.ensures.nodes c.in_ok-save_nodes.ensures.known in
+    let further : GoesFurther now.current c.args.inserted (length c.args.kept.now.inputs) = subst (λ (w : Current). GoesFurther w c.args.inserted (length c.args.kept.now.inputs)) (sym same) c.requires.further in
+    let valid : IsCheckpoint (next_generation now.current) c.args.kept.now c.args.counts.now c.args.inserted now.lines =
+    tree-valid c.lines_law.ensures.told now (rules_of c.args.grown.now) c.args.kept.now c.args.counts.now c.args.inserted nodes c.requires.given further c.requires.few told known c.requires.rest.own c.requires.rules c.requires.whole c.requires.holds in
+    let mid : Option Files = g.T.Store.files c.save_nodes.new.store in
+    let after : Option Files = g.T.Store.files c.commit.new.store in
+    let new : View = c.commit.new.saved in
+    let tiles : Tells (λ all. NameTiles all nodes now.lines) mid =
+    subst (λ (w : List Branch). Tells (λ all. NameTiles all w now.lines) mid) c.nodes.ensures.nodes c.in_ok-save_nodes.ensures.tiles in
+    let still : Tells (λ all. NameTiles all nodes now.lines) after = still-named (next_letter now.current) nodes now.lines mid after c.commit.ensures.names.reads tiles in
+    on-ok _ (Tells (HasNoDamage new.current) after)
+    (λ committed. saved-undamaged c.tile_once_law.ensures.once start new c.args.kept.now c.args.counts.now c.args.inserted nodes points can are known after
+    (is-saved c.body_once_law.ensures.facts start now same c.args.kept.now c.args.counts.now c.args.inserted nodes valid told new committed)
+    (names-saved c.body_once_law.ensures.facts start now same c.args.kept.now c.args.counts.now c.args.inserted nodes valid told new committed after still)) c.commit.result c.commit.ensures.current
 
 pub returns-clause-stands : goal.returns-clause-stands
 returns-clause-stands g c =

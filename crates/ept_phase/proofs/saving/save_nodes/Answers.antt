@@ -1,4 +1,4 @@
-use Rattle.std.proofs.Common.{◌≡◌, ◌∙◌, ℕ, List, [], ◌∷◌, ◌++◌, map, sym, ap, subst, arith, rules, Option}
+use Rattle.std.proofs.Common.{◌≡◌, ◌∙◌, ℕ, ◌<◌, ◌^◌, List, [], ◌∷◌, ◌++◌, map, sym, ap, subst, arith, rules, Option}
 use Rattle.std.specs.Prelude.{Err}
 use Rattle.std.specs.Map.Iter.{deref_pair}
 use Rattle.std.proofs.lemmas.List.{map-append}
@@ -49,8 +49,9 @@ loop-key-preserved g c =
     let far : IsSavedTo start c.loop-key.saved done (b ∷ rest) files = subst (λ (w : List Branch). IsSavedTo start c.loop-key.saved done w files) next at.far in
     let saves : SavesNode c.loop-key.saved c.save_node.new.saved b.0 b.1.mask points after =
     subst (λ (m : ℕ). SavesNode c.loop-key.saved c.save_node.new.saved b.0 m points after) c.open_mask.ensures.mask c.in_ok-save_node.ensures.node in
+    let byte : b.1.mask < 2 ^ 8 = omega (arith, c.open_mask.ensures.mask) in
     let more : IsSavedTo start c.save_node.new.saved (done ++ b ∷ []) rest after =
-    saved-more start c.loop-key.saved c.save_node.new.saved done rest b points files after rises c.known.ensures c.known-in-loop-key.ensures.low far saves (search rules) (free_letter c.loop-key.saved.current c.in-Some.key.now) c.save_node.ensures.one_tile.reads in
+    saved-more start c.loop-key.saved c.save_node.new.saved done rest b points files after rises c.known.ensures c.known-in-loop-key.ensures.low byte far saves (search rules) (free_letter c.loop-key.saved.current c.in-Some.key.now) c.save_node.ensures.one_tile.reads in
     let yielded : done ++ b ∷ [] ≡ map deref_pair (c.loop-key.yielded ++ (c.in-Some.key, c.in-Some.node) ∷ []) = sym (map-append deref_pair c.loop-key.yielded ((c.in-Some.key, c.in-Some.node) ∷ [])) in
     record {
       far = subst (λ (w : List Branch). IsSavedTo start c.save_node.new.saved w rest after) yielded more;
