@@ -1,23 +1,17 @@
 -- Which tiles of the current checkpoint are damaged, from call to call.
-use Rattle.std.proofs.Common.{◌≡◌, ◌≢◌, ◌∙◌, ◌⊎◌, inl, inr, ℕ, ◌<◌, ◌≤◌, List, length, refl, sym, ap, subst, arith, Option, Some, None}
-use Rattle.std.specs.Prelude.{Result, Ok, Err, IsOk, IfErr}
-use Rattle.ept_base.specs.Files.{Files, SameFiles, SameBut, StepsBy, Tells}
+use Rattle.std.proofs.Common.{◌≡◌, ◌≢◌, ◌∙◌, ◌⊎◌, inl, inr, ℕ, ◌<◌, length, refl, sym, ap, subst, arith, Option, Some, None}
+use Rattle.std.specs.Prelude.{Result, Err}
+use Rattle.ept_base.specs.Files.{Files, SameFiles, StepsBy, Tells}
 use Rattle.ept_space.specs.VoxelKey.{VoxelKey}
-use Rattle.ept_ckpt.specs.declared.letter.Letter.{Letter}
-use Rattle.ept_ckpt.specs.declared.node_line.NodeLine.{NodeLine}
-use Rattle.ept_save.specs.Names.{done_name, IsSavedName, work_tile_name}
-use Rattle.ept_save.specs.Current.{Current, IsNamed, tile_of_line}
+use Rattle.ept_save.specs.Current.{Current, HasCurrent, Keeps, tile_of_line}
 use Rattle.ept_config.specs.declared.config.Config.{Config}
 use Rattle.ept_save.specs.Done.{IsDone}
 use Rattle.ept_save.specs.Loading.{HasLine, IsDamaged}
-use Rattle.ept_save.specs.Opening.{lines_of}
+use Rattle.ept_save.specs.Errors.{IsStores}
 use Rattle.ept_save.specs.View.{View, StandsFor}
 use Rattle.ept_save.specs.declared.error.SaveError.{SaveError}
 use Rattle.ept_save.specs.declared.error.SaveError.TheVariants as save
-use Rattle.ept_save.proofs.NamesDiffer.{done-apart}
-use Rattle.ept_save.proofs.Standing.{told_some}
-use Rattle.ept_phase.specs.Loaded.{HasNoDamage}
-use Rattle.ept_phase.proofs.Undamaged.{damaged-before, undamaged_where}
+use Rattle.ept_phase.proofs.Undamaged.{damaged-before}
 use Rattle.ept_plan.specs.Plans.{inputs_by}
 use Rattle.ept_build.specs.declared.error.BuildError.{BuildError}
 use Rattle.ept_build.specs.declared.error.BuildError.TheVariants.{StoreFault, BadCheckpoint, TileDamaged, Differs, SourceFault, BadLas, OutOfBounds, TooManyPoints, NoBounds, SourceChanged, TooManyNodes, Memory}
@@ -28,27 +22,35 @@ use Rattle.ept_scan.specs.declared.scan_error.ScanError.{ScanError}
 use Rattle.ept_scan.specs.declared.scan_error.ScanError.TheVariants as scan
 use Rattle.ept_plan.specs.declared.error.PlanError.{PlanError}
 use Rattle.ept_plan.specs.declared.error.PlanError.TheVariants as plan
-use Rattle.ept_build.specs.Errors.{of_save, of_scan, of_plan, of_put}
+use Rattle.ept_insert.specs.declared.error.InsertError.{InsertError}
+use Rattle.ept_insert.specs.declared.error.InsertError.TheVariants as insert
+use Rattle.ept_scan.specs.declared.read_error.ReadError.{ReadError}
+use Rattle.ept_scan.specs.declared.read_error.ReadError.TheVariants as read
+use Rattle.ept_build.specs.Errors.{of_save, of_scan, of_plan, of_put, of_insert, of_read}
 use Rattle.ept_build.specs.Building.{TellsDamage, Fails}
-use Rattle.ept_build.specs.Phases.{IsPhaseFault, IsStoreFault}
-
--- the name of a tile is not that of the done gate
-tile_not_done : (line : NodeLine) → tile_of_line line ≢ done_name
-tile_not_done line is = done-apart (subst IsSavedName is (inr (inr (line.letter, line.key, refl))))
+use Rattle.ept_build.specs.Phases.{HasDamage, IsPhaseFault, IsStoreFault}
 
 -- a tile is damaged as before
 pub damaged-same : (current : Current) (key : VoxelKey) (old new : Files) → SameFiles old new → IsDamaged current key new → IsDamaged current key old
 damaged-same current key old new same = damaged-before current key old new (λ line found. same (tile_of_line line))
 
--- no tile is damaged where the nodes were loaded, and the done gate was closed behind that
-pub undamaged-closed : (current : Current) (one two three : Option Files) → StepsBy SameFiles one two → StepsBy (SameBut done_name) two three → Tells (HasNoDamage current) one → Tells (HasNoDamage current) three
-undamaged-closed current None None None same closes none = tt
-undamaged-closed current None None (Some c) same closes none = absurd closes
-undamaged-closed current None (Some b) three same closes none = absurd same
-undamaged-closed current (Some a) None three same closes none = absurd same
-undamaged-closed current (Some a) (Some b) None same closes none = absurd closes
-undamaged-closed current (Some a) (Some b) (Some c) same closes none =
-    undamaged_where current b c (λ line named. closes (tile_of_line line) (tile_not_done line)) (undamaged_where current a b (λ line named. same (tile_of_line line)) none)
+-- where the current checkpoint is kept, it is that of what is left
+pub kept-damage : (view : View) (key : VoxelKey) (old new : Option Files) {may : Files → Type 0} → StandsFor view old may → StepsBy (Keeps view.current) old new → HasLine view.current key → Tells (IsDamaged view.current key) new → HasDamage view.current key new
+kept-damage view key old None stands keeps line damaged = (line, tt)
+kept-damage view key None (Some b) stands keeps line damaged = absurd keeps
+kept-damage view key (Some a) (Some b) stands keeps line damaged = (line, (keeps.same (subst (HasCurrent view.current) (some-one (sym stands.told)) stands.has_current), damaged))
+  where
+    some-one : {x y : Files} → Some x ≡ Some y → x ≡ y
+    some-one is = cc
+
+-- and where the files are as they were
+pub same-damage : (view : View) (key : VoxelKey) (old new : Option Files) {may : Files → Type 0} → StandsFor view new may → StepsBy SameFiles old new → HasLine view.current key → Tells (IsDamaged view.current key) old → HasDamage view.current key new
+same-damage view key old None stands same line damaged = (line, tt)
+same-damage view key None (Some b) stands same line damaged = absurd same
+same-damage view key (Some a) (Some b) stands same line damaged = (line, (subst (HasCurrent view.current) (some-one (sym stands.told)) stands.has_current, damaged-same view.current key b a (λ name. sym (same name)) damaged))
+  where
+    some-one : {x y : Files} → Some x ≡ Some y → x ≡ y
+    some-one is = cc
 
 -- ---- a refusal where a tile is damaged
 
@@ -69,11 +71,9 @@ module _ (r : Result Summary BuildError) where
   loading-tells NoBounds is only source same many = absurd only
 
   -- the checkpoints are not opened
-  pub opening-fails : (e : SaveError) → r ≡ Err (of_save e) → ((letter : Letter) → e ≢ save.BadCheckpoint letter) → ((key : VoxelKey) → e ≢ save.TileDamaged key) → Fails r
-  opening-fails save.StoreFault is bad none = inl is
-  opening-fails save.Memory is bad none = inr (inr is)
-  opening-fails (save.BadCheckpoint letter) is bad none = absurd (bad letter refl)
-  opening-fails (save.TileDamaged key) is bad none = absurd (none key refl)
+  pub opening-fails : (e : SaveError) → r ≡ Err (of_save e) → IsStores e → Fails r
+  opening-fails e is (inl fault) = inl (is ∙ ap (λ (w : SaveError). Err (of_save w)) fault)
+  opening-fails e is (inr memory) = inr (inr (is ∙ ap (λ (w : SaveError). Err (of_save w)) memory))
 
 -- ---- a refusal that tells of no tile
 
@@ -108,3 +108,16 @@ store-no-tile e key (inr memory) is = let same : Memory ≡ TileDamaged key = sy
 pub nothing-left : {r : Result Summary BuildError} (config : Config) (start : Files) (current : Current) → (¬ IsDone start) ⊎ (inputs_by current < length config.inputs) → IsDone start → inputs_by current ≡ length config.inputs → TellsDamage r ⊎ Fails r
 nothing-left config start current (inl undone) done all = absurd (undone done)
 nothing-left config start current (inr less) done all = absurd (omega (arith, less, all))
+
+-- ---- why a phase tells of a tile
+
+pub inserted-no-tile : (e : InsertError) (key : VoxelKey) → of_insert e ≡ TileDamaged key → ⊥
+inserted-no-tile insert.SourceFault key is = cc
+inserted-no-tile (insert.SourceChanged source number) key is = cc
+inserted-no-tile insert.TooManyNodes key is = cc
+inserted-no-tile insert.Memory key is = cc
+
+pub read-no-tile : (e : ReadError) (key : VoxelKey) → of_read e ≡ TileDamaged key → ⊥
+read-no-tile read.SourceFault key is = cc
+read-no-tile (read.SourceChanged source number) key is = cc
+read-no-tile read.Memory key is = cc

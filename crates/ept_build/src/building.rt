@@ -16,7 +16,7 @@ ghost use Rattle.ept_save.specs.View.{StandsFor};
 ghost use Rattle.ept_plan.specs.Plans.{IsPlan, IsDefinite, GoesOn};
 ghost use Rattle.ept_build.specs.Building.{BeginsWith, Starts, InputsAreRefused, HasTooManyNodes, HasTooManyAlready, TellsDifference, IsBuilt, IsUnderWay, IsStopped, AsksInOrder, ComesToDamage, TellsDamage, IsDoneAlready, IsAccepted, IsRefusedAt, IsRefused, IsEarly, Fails};
 ghost use Rattle.ept_build.specs.Errors.{of_scan};
-ghost use Rattle.ept_build.specs.Phases.{HasAll, IsPhaseFault, IsStoreFault};
+ghost use Rattle.ept_build.specs.Phases.{HasAll, HasDamage, IsPhaseFault, IsStoreFault};
 
 use crate::error::BuildError;
 use crate::finishing::finish;
@@ -93,9 +93,9 @@ where
     ensures too_many_comes { (all start : Files) → BeginsWith (H.files shelf.old) (T.files store.old) (T.may_leave store.old) all start
         → (current : Current) → HasCurrent current start → GoesOn config.now current → ¬ IsDoneAlready config.now start
         → HasTooManyNodes all config.now current → (result ≡ Err BuildError.TooManyNodes) ⊎ Fails result }
-    ensures damaged { (key : VoxelKey) → result ≡ Err (BuildError.TileDamaged key) → (start : Files) (current : Current)
-        → T.files store.old ≡ Some start → IsSettled (T.files store.old) (T.may_leave store.old) → HasCurrent current start
-        → HasLine current key × IsDamaged current key start }
+    ensures damaged { (key : VoxelKey) → result ≡ Err (BuildError.TileDamaged key) → (start : Files) → T.files store.old ≡ Some start
+        → IsSettled (T.files store.old) (T.may_leave store.old)
+        → (current : Current) × HasDamage current key (T.files store.new) }
     ensures damaged_comes { (all start : Files) (current : Current) → H.files shelf.old ≡ Some all → T.files store.old ≡ Some start
         → HasCurrent current start → ComesToDamage all config.now start current → TellsDamage result ⊎ Fails result }
     ensures bad { (letter : Letter) → result ≡ Err (BuildError.BadCheckpoint letter)
@@ -179,9 +179,9 @@ fn built<H: Shelf, T: Store>(
         × ((HasTooManyAlready all config.now start × Moves T.files T.may_leave T.moment T.image_since SameFiles store.old store.new)
         ⊎ Tells (IsStopped all config.now start) (T.files store.new)) }
     ensures only { IfErr result IsPhaseFault }
-    ensures damaged { StandsFor saved (T.files store.old) (T.may_leave store.old)
-        → (key : VoxelKey) → result ≡ Err (BuildError.TileDamaged key)
-        → HasLine saved.current key × Tells (IsDamaged saved.current key) (T.files store.old) }
+    ensures damaged { (key : VoxelKey) → result ≡ Err (BuildError.TileDamaged key)
+        → StandsFor saved (T.files store.old) (T.may_leave store.old)
+        → (current : Current) × HasDamage current key (T.files store.new) }
     ensures damaged_comes { (start : Files) (key : VoxelKey) → T.files store.old ≡ Some start → HasLine saved.current key
         → IsDamaged saved.current key start → length (lines_of saved.current) ≤ config.now.max_nodes
         → TellsDamage result ⊎ Fails result }

@@ -1,6 +1,6 @@
 -- Tiles of the current checkpoint that are not damaged, from call to call.
-use Rattle.std.proofs.Common.{◌≡◌, ◌∙◌, ◌⊎◌, inl, inr, ℕ, ◌+◌, ◌<◌, List, [], ◌∷◌, ◌++◌, take, length, get_or, sym, subst, refl, Option, Some, None}
-use Rattle.std.specs.Prelude.{Result, Ok, Err, IsSomeAnd}
+use Rattle.std.proofs.Common.{◌≡◌, ◌∙◌, ◌⊎◌, inl, inr, ℕ, ◌+◌, ◌<◌, List, [], ◌∷◌, ◌++◌, take, length, get_or, sym, subst, refl, Option, Some, None, ap}
+use Rattle.std.specs.Prelude.{Result, Ok, Err, IfErr, IsSomeAnd}
 use Rattle.std.specs.Option.{option_map}
 use Rattle.ept_base.specs.Files.{Files, SameFiles, SameBut, StepsBy, Tells}
 use Rattle.ept_space.specs.VoxelKey.{VoxelKey, same_key}
@@ -12,6 +12,7 @@ use Rattle.ept_ckpt.specs.Lookup.{line_of_key}
 use Rattle.ept_meta.specs.Output.{rules_of}
 use Rattle.ept_save.specs.declared.error.SaveError.{SaveError}
 use Rattle.ept_save.specs.declared.error.SaveError.TheVariants.{StoreFault, TileDamaged, Memory}
+use Rattle.ept_save.specs.Errors.{IsStores}
 use Rattle.ept_save.specs.Names.{gate_name}
 use Rattle.ept_save.specs.Current.{Current, IsNamed, Keeps, tile_of_line}
 use Rattle.ept_save.specs.Loading.{current_line, IsDamaged, IsDamagedLine}
@@ -128,3 +129,35 @@ pub gate-undamaged : (current : Current) (letter : Letter) (all : Files) (old mi
 gate-undamaged current letter all old mid same told none =
     let at = stepped (SameBut (gate_name letter)) old mid all told same in
     (at.0, at.1, undamaged_where current all at.0 (λ line named. at.2 (tile_of_line line) (λ e. gate-tile letter line.letter line.key (sym e))) none)
+
+-- ---- a tile that is told as damaged
+
+-- where the current checkpoint is kept, its tile stays damaged
+pub damaged-kept : (current : Current) (key : VoxelKey) (old new : Option Files) → StepsBy (Keeps current) old new → Tells (IsDamaged current key) old → Tells (IsDamaged current key) new
+damaged-kept current key None None keeps is = tt
+damaged-kept current key None (Some b) keeps is = absurd keeps
+damaged-kept current key (Some a) None keeps is = absurd keeps
+damaged-kept current key (Some a) (Some b) keeps is =
+    damaged-before current key b a (λ line found. sym (keeps.tiles (tile_of_line line) (line-named current key line found))) is
+
+-- refusals that are handed on are one
+pub one-refusal : {T U : Type 0} (a : Result T SaveError) (b : Result U SaveError) (e f : SaveError) → a ≡ Err e → b ≡ Err e → b ≡ Err f → a ≡ Err f
+one-refusal {T} {U} a b e f is also told = is ∙ ap (λ (w : SaveError). Err w) (same (sym also ∙ told))
+  where
+    same : (◌≡◌ {A = Result U SaveError} (Err e) (Err f)) → e ≡ f
+    same both = cc
+
+-- a refusal of the store tells of no tile
+pub stores-no-tile : {T : Type 0} (r : Result T SaveError) (key : VoxelKey) → IfErr r IsStores → r ≡ Err (TileDamaged key) → ⊥
+stores-no-tile (Ok t) key only is = cc
+stores-no-tile (Err e) key (inl fault) is = let same : Err e ≡ Err (TileDamaged key) = is in let also : e ≡ StoreFault = fault in cc
+stores-no-tile (Err e) key (inr memory) is = let same : Err e ≡ Err (TileDamaged key) = is in let also : e ≡ Memory = memory in cc
+
+-- and of the tiles it tells of one
+pub one-tile : {T : Type 0} (r : Result T SaveError) (key other : VoxelKey) → IfErr r (λ e. (e ≡ TileDamaged key) ⊎ IsStores e) → r ≡ Err (TileDamaged other) → (r ≡ Err (TileDamaged key)) × (key ≡ other)
+one-tile (Ok t) key other only is = absurd (cc)
+one-tile {T} (Err e) key other (inl tile) is = (ap (λ (w : SaveError). Err w) tile, (let same : TileDamaged key ≡ TileDamaged other = sym tile ∙ given is in cc))
+  where
+    given : (◌≡◌ {A = Result T SaveError} (Err e) (Err (TileDamaged other))) → e ≡ TileDamaged other
+    given both = cc
+one-tile {T} (Err e) key other (inr stores) is = absurd (stores-no-tile {T = T} (Err e) other stores is)

@@ -2,13 +2,16 @@
 
 ghost use Rattle.std.specs.Prelude.{◌≡◌, ◌<◌, ◌^◌, List, Some, length, IfErr, OnOk, OnErr};
 ghost use Rattle.ept_base.specs.Causes.{HasCauseOf};
-ghost use Rattle.ept_base.specs.Files.{Files, Tells};
+ghost use Rattle.ept_base.specs.Files.{Files, StepsBy, Tells};
 ghost use Rattle.ept_base.specs.Moves.{IsSettled, Moves};
 ghost use Rattle.ept_ckpt.specs.declared.checkpoint.Checkpoint as c;
 ghost use Rattle.ept_meta.specs.Output.{rules_of};
 ghost use Rattle.ept_point.specs.declared.point.Point as p;
 ghost use Rattle.ept_sample.specs.SamplingLaws.{CanBeSampled};
+ghost use Rattle.ept_space.specs.VoxelKey.{VoxelKey};
+ghost use Rattle.ept_save.specs.Current.{Keeps};
 ghost use Rattle.ept_save.specs.Errors.{IsStores};
+ghost use Rattle.ept_save.specs.Loading.{HasLine, IsDamaged};
 ghost use Rattle.ept_save.specs.Opening.{lines_of};
 ghost use Rattle.ept_save.specs.Sound as sound;
 ghost use Rattle.ept_save.specs.View.{StandsFor};
@@ -76,9 +79,13 @@ pub fn save_tree<T: Store>(
         → StandsFor saved.new (T.files store.new) (T.may_leave store.new)) }
     ensures settled { OnOk result (IsSettled (T.files store.new) (T.may_leave store.new)) }
 
-    // Where no tile that the current checkpoint names is damaged, it is refused only for the store itself. No tile of
-    // sound files is damaged.
+    // A tile is told as damaged only where the current checkpoint, which is kept, names it, and it is one. Where none
+    // is, it is refused only for the store itself; no tile of sound files is damaged.
     ensures only { IfErr result IsSaveFault }
+    ensures damaged { (key : VoxelKey) → result ≡ Err (SaveError.TileDamaged key)
+        → StandsFor saved.old (T.files store.old) (T.may_leave store.old)
+        → StepsBy (Keeps saved.old.current) (T.files store.old) (T.files store.new)
+        × HasLine saved.old.current key × Tells (IsDamaged saved.old.current key) (T.files store.new) }
     ensures undamaged { (all : Files) → T.files store.old ≡ Some all → HasNoDamage saved.old.current all
         → IfErr result IsStores }
     ensures sound { (shelf all : Files) → T.files store.old ≡ Some all → sound.IsSound shelf all

@@ -4,11 +4,12 @@ ghost use Rattle.std.specs.Prelude.{◌≡◌, ◌⊎◌, true, false, Some, Err
 ghost use Rattle.ept_base.specs.Causes.{HasCauseOf};
 ghost use Rattle.ept_base.specs.Files.{Files, SameFiles, SameBut, Tells};
 ghost use Rattle.ept_base.specs.Moves.{Moves, SameImages};
+ghost use Rattle.ept_space.specs.VoxelKey.{VoxelKey};
 ghost use Rattle.ept_save.specs.Names.{work_tile_name};
 ghost use Rattle.ept_save.specs.Current.{HasCurrent, Keeps};
 ghost use Rattle.ept_save.specs.Errors.{IsStores};
 ghost use Rattle.ept_save.specs.Lines.{free_letter};
-ghost use Rattle.ept_save.specs.Loading.{HasLine, HasTile};
+ghost use Rattle.ept_save.specs.Loading.{HasLine, HasTile, IsDamaged};
 ghost use Rattle.ept_save.specs.Opening.{lines_of};
 ghost use Rattle.ept_save.specs.Sound.{IsSound};
 ghost use Rattle.ept_save.specs.View as view;
@@ -57,6 +58,8 @@ pub fn save_node<T: Store>(
     // Where no tile that the current checkpoint names is damaged, it is refused only for the store itself. No tile of
     // sound files is damaged.
     ensures only { IfErr result (λ e. (e ≡ SaveError.TileDamaged key) ⊎ IsStores e) }
+    ensures damaged { result ≡ Err (SaveError.TileDamaged key)
+        → HasLine saved.old.current key × Tells (IsDamaged saved.old.current key) (T.files store.old) }
     ensures undamaged { (all : Files) → T.files store.old ≡ Some all → HasNoDamage saved.old.current all
         → IfErr result IsStores }
     ensures sound { (shelf all : Files) → T.files store.old ≡ Some all → IsSound shelf all
@@ -87,6 +90,8 @@ fn has_node<T: Store>(
     ensures stands { (v : view.View) → StandsFor v (T.files store.old) (T.may_leave store.old)
         → StandsFor v (T.files store.new) (T.may_leave store.new) }
     ensures only { IfErr result (λ e. (e ≡ SaveError.TileDamaged key) ⊎ IsStores e) }
+    ensures damaged { result ≡ Err (SaveError.TileDamaged key)
+        → HasLine saved.now.current key × Tells (IsDamaged saved.now.current key) (T.files store.old) }
     ensures undamaged { (all : Files) → T.files store.old ≡ Some all → HasNoDamage saved.now.current all
         → IfErr result IsStores }
     ensures sound { (shelf all : Files) → T.files store.old ≡ Some all → IsSound shelf all
@@ -119,6 +124,8 @@ fn has_points<T: Store>(
     ensures stands { (v : view.View) → StandsFor v (T.files store.old) (T.may_leave store.old)
         → StandsFor v (T.files store.new) (T.may_leave store.new) }
     ensures only { IfErr result (λ e. (e ≡ SaveError.TileDamaged key) ⊎ IsStores e) }
+    ensures damaged { result ≡ Err (SaveError.TileDamaged key)
+        → HasLine saved.now.current key × Tells (IsDamaged saved.now.current key) (T.files store.old) }
     ensures undamaged { (all : Files) → T.files store.old ≡ Some all → HasNoDamage saved.now.current all
         → IfErr result IsStores }
     ensures sound { (shelf all : Files) → T.files store.old ≡ Some all → IsSound shelf all
@@ -148,6 +155,8 @@ pub(crate) fn save_nodes<T: Store>(
     ensures stands { StandsFor saved.old (T.files store.old) (T.may_leave store.old)
         → StandsFor saved.new (T.files store.new) (T.may_leave store.new) }
     ensures only { IfErr result IsSaveFault }
+    ensures damaged { (key : VoxelKey) → result ≡ Err (SaveError.TileDamaged key)
+        → HasLine saved.old.current key × Tells (IsDamaged saved.old.current key) (T.files store.new) }
     ensures undamaged { (all : Files) → T.files store.old ≡ Some all → HasNoDamage saved.old.current all
         → IfErr result IsStores }
     ensures sound { (shelf all : Files) → T.files store.old ≡ Some all → IsSound shelf all

@@ -11,7 +11,6 @@ use Rattle.ept_save.specs.Current.{Current, HasCurrent}
 use Rattle.ept_save.specs.Done.{IsDone}
 use Rattle.ept_save.specs.Loading.{HasLine, IsDamaged}
 use Rattle.ept_save.specs.Opening.{lines_of}
-use Rattle.ept_save.specs.declared.error.SaveError.{SaveError}
 use Rattle.ept_config.specs.declared.input.Input.{Input}
 use Rattle.ept_save.proofs.Standing.{stepped, told_some, tells_some, same_twice, same-stands}
 use Rattle.ept_plan.specs.Plans.{limits_by, inputs_by, new_paths, GoesOn, AreRefused}
@@ -316,7 +315,7 @@ returns-clause-asked g c = λ start current told has.
     (g.H.Shelf.asked c.args.shelf.now) (g.H.Shelf.asked c.make_plan.new.shelf) (g.H.Shelf.asked c.built.new.shelf) c.in_ok-plan.ensures.asked c.built.ensures.asked)
 
 pub returns-in_err-saved-clause-damaged : goal.returns-in_err-saved-clause-damaged
-returns-in_err-saved-clause-damaged g c = λ key is start current told settled has.
+returns-in_err-saved-clause-damaged g c = λ key is start told settled.
     let e = c.in_err-saved.field-0.0 in
     let its : c.from_residual.result ≡ Err (of_save e) = search rules in
     absurd (c.in_err-saved.ensures.no_tile key (saved-damaged e key (err-one (sym its ∙ is))))
@@ -325,10 +324,10 @@ pub returns-in_err-saved-clause-damaged_comes : goal.returns-in_err-saved-clause
 returns-in_err-saved-clause-damaged_comes g c = λ all start current shelf_told told has comes.
     let e = c.in_err-saved.field-0.0 in
     let its : c.from_residual.result ≡ Err (of_save e) = search rules in
-    inr (opening-fails c.from_residual.result e its (λ letter same. c.in_err-saved.ensures.none_bad current start told has letter (ap (λ (w : SaveError). Err w) same)) c.in_err-saved.ensures.no_tile)
+    inr (opening-fails c.from_residual.result e its (c.in_err-saved.ensures.none_bad current start told has))
 
 pub returns-in_err-plan-clause-damaged : goal.returns-in_err-plan-clause-damaged
-returns-in_err-plan-clause-damaged g c = λ key is start current told settled has.
+returns-in_err-plan-clause-damaged g c = λ key is start told settled.
     let e = c.in_err-plan.field-0.0 in
     let its : c.from_residual-in_err-plan.result ≡ Err (of_plan e) = search rules in
     absurd (plan-no-tile e key (err-one (sym its ∙ is)))
@@ -345,7 +344,7 @@ returns-in_err-plan-clause-damaged_comes g c = λ all start current shelf_told t
     (subst (λ (w : Current). IsScan all c.args.config.now.scale (limits_by c.args.config.now.bounds w) c.args.config.now.inputs 0 comes.points comes.done) same comes.scan)))
 
 pub returns-in_err-is_finished-clause-damaged : goal.returns-in_err-is_finished-clause-damaged
-returns-in_err-is_finished-clause-damaged g c = λ key is start current told settled has.
+returns-in_err-is_finished-clause-damaged g c = λ key is start told settled.
     let p = err_from_is_err_and c.from_residual-in_err-is_finished.result c.from_residual-in_err-is_finished.ensures.1 in
     let its : c.from_residual-in_err-is_finished.result ≡ Err c.in_err-is_finished.field-0.0 = p.1 ∙ ap (λ (w : BuildError). Err w) p.2 in
     absurd (store-no-tile c.in_err-is_finished.field-0.0 key c.in_err-is_finished.ensures.only (err-one (sym its ∙ is)))
@@ -357,7 +356,7 @@ returns-in_err-is_finished-clause-damaged_comes g c = λ all start current shelf
     inr (stores-fails c.from_residual-in_err-is_finished.result c.in_err-is_finished.field-0.0 its c.in_err-is_finished.ensures.only)
 
 pub returns-in_err-sync-clause-damaged : goal.returns-in_err-sync-clause-damaged
-returns-in_err-sync-clause-damaged g c = λ key is start current told settled has.
+returns-in_err-sync-clause-damaged g c = λ key is start told settled.
     let p = err_from_is_err_and c.from_residual-in_err-sync.result c.from_residual-in_err-sync.ensures.1 in
     let its : c.from_residual-in_err-sync.result ≡ Err (of_put c.in_err-sync.field-0.0) = p.1 ∙ ap (λ (w : BuildError). Err w) p.2 in
     absurd (put-no-tile c.in_err-sync.field-0.0 key (err-one (sym its ∙ is)))
@@ -378,14 +377,8 @@ returns-then-branch-clause-damaged_comes g c = λ all start current shelf_told t
     nothing-left c.args.config.now start current comes.left (sym (at_one.2 done_name) ∙ opened) (ap inputs_by same ∙ (finished.0.inputs ∙ ap (λ (w : List Input). length w) c.in_ok-plan.ensures.plan.kept_is.inputs_is))
 
 pub returns-clause-damaged : goal.returns-clause-damaged
-returns-clause-damaged g c = λ key is start current told settled has.
-    let cur = told_some (HasCurrent c.in_ok-saved.saved.current) (g.T.Store.files c.args.store.now) start told c.in_ok-saved.ensures.current in
-    let same : current ≡ c.in_ok-saved.saved.current = c.sound_law.ensures.one start current c.in_ok-saved.saved.current has cur in
-    let at_two = stepped SameFiles (g.T.Store.files c.args.store.now) (g.T.Store.files c.is_finished.new.store) start told (same_twice g.T.Store.files g.T.Store.may_leave g.T.Store.moment g.T.Store.image_since c.args.store.now c.open.new.store c.is_finished.new.store c.open.ensures.any_moment c.is_finished.ensures.any_moment).reads in
-    let stands = same-stands g.T.Store.files g.T.Store.may_leave g.T.Store.moment g.T.Store.image_since c.in_ok-saved.saved c.open.new.store c.is_finished.new.store c.is_finished.ensures.any_moment (c.in_ok-saved.ensures.stands start told settled) in
-    let its = c.built.ensures.damaged stands key is in
-    subst (λ (w : Current). HasLine w key × IsDamaged w key start) (sym same)
-    (its.0, damaged-same c.in_ok-saved.saved.current key start at_two.0 at_two.2 (told_some (IsDamaged c.in_ok-saved.saved.current key) (g.T.Store.files c.is_finished.new.store) at_two.0 at_two.1 its.1))
+returns-clause-damaged g c = λ key is start told settled.
+    c.built.ensures.damaged key is (same-stands g.T.Store.files g.T.Store.may_leave g.T.Store.moment g.T.Store.image_since c.in_ok-saved.saved c.open.new.store c.is_finished.new.store c.is_finished.ensures.any_moment (c.in_ok-saved.ensures.stands start told settled))
 
 pub returns-clause-damaged_comes : goal.returns-clause-damaged_comes
 returns-clause-damaged_comes g c = λ all start current shelf_told told has comes.

@@ -21,7 +21,7 @@ use Rattle.ept_scan.specs.Asking.{paths_left}
 use Rattle.ept_build.proofs.Asking.{AsksFront, front-none}
 use Rattle.ept_build.proofs.Causes.{tells-some}
 use Rattle.ept_build.proofs.Ground.{IsGround, ground as ground-of, extent-found, many-at}
-use Rattle.ept_build.proofs.Damage.{loading-tells}
+use Rattle.ept_build.proofs.Damage.{loading-tells, store-no-tile}
 use Rattle.ept_build.proofs.Judging.{err-one}
 use Rattle.ept_build.proofs.Moved.{moves-then, moves-wider}
 use Rattle.ept_build.proofs.Numbers.{nodes-number}
@@ -82,8 +82,7 @@ returns-in_err-grow-clause-refused g c = λ all start shelf_told starts.
     let way = c.in_ok-at.ensures.on_way all start it.out starts it.names in
     let e = c.in_err-grow.field-0.0 in
     let is : c.from_residual-in_err-grow.result ≡ Err e = search rules in
-    let intact = c.in_ok-at.ensures.intact starts.stands in
-    let damaged : (key : VoxelKey) → e ≢ TileDamaged key = λ key same. c.in_err-grow.ensures.undamaged intact.0 intact.1 key (ap (λ (w : BuildError). Err w) same) in
+    let damaged : (key : VoxelKey) → e ≢ TileDamaged key = λ key same. tells-some _ (g.H.Shelf.files c.args.shelf.now) all shelf_told c.in_err-grow.ensures.undamaged it.points it.out it.are sampled way key (ap (λ (w : BuildError). Err w) same) in
     let changed : (source number : ℕ) → e ≢ SourceChanged source number = λ source number same. tells-some _ (g.H.Shelf.files c.args.shelf.now) all shelf_told (c.in_err-grow.ensures.no_change source number (ap (λ (w : BuildError). Err w) same)) it.points it.are.scan it.are.can sampled in
     let many : e ≡ TooManyNodes → HasTooManyNodes all c.args.config.now c.in_ok-at.at.saved.current =
     λ same. (let some = tells-some _ (g.H.Shelf.files c.args.shelf.now) all shelf_told (c.in_err-grow.ensures.too_many (ap (λ (w : BuildError). Err w) same)) it.points it.are.scan it.are.can sampled in many-at c.node_law.ensures.more_nodes all start c.args.config.now c.in_ok-at.at.saved.current c.args.plan.now c.whole_extent-extent.result it _ some.many) in
@@ -175,17 +174,22 @@ pub returns-in_err-at-clause-asked : goal.returns-in_err-at-clause-asked
 returns-in_err-at-clause-asked g c = front-none (paths_left c.args.plan.now.kept.inputs c.args.plan.now.counts c.args.plan.now.inserted) (g.H.Shelf.asked c.args.shelf.now) (g.H.Shelf.asked c.args.shelf.now) refl
 
 pub returns-in_err-at-clause-damaged : goal.returns-in_err-at-clause-damaged
-returns-in_err-at-clause-damaged g c = λ stands key is.
+returns-in_err-at-clause-damaged g c = λ key is stands.
     let e = c.in_err-at.field-0.0 in
     let was : c.from_residual.result ≡ Err e = search rules in
-    c.in_err-at.ensures.damaged key (ap (λ (w : BuildError). Err w) (err-one (sym was ∙ is)))
+    (c.args.saved.current, c.in_err-at.ensures.damaged key (ap (λ (w : BuildError). Err w) (err-one (sym was ∙ is))) stands)
 
 pub returns-in_err-grow-clause-damaged : goal.returns-in_err-grow-clause-damaged
-returns-in_err-grow-clause-damaged g c = λ stands key is.
+returns-in_err-grow-clause-damaged g c = λ key is stands.
     let e = c.in_err-grow.field-0.0 in
     let was : c.from_residual-in_err-grow.result ≡ Err e = search rules in
-    let intact = c.in_ok-at.ensures.intact stands in
-    absurd (c.in_err-grow.ensures.undamaged intact.0 intact.1 key (ap (λ (w : BuildError). Err w) (err-one (sym was ∙ is))))
+    c.in_err-grow.ensures.damaged key (ap (λ (w : BuildError). Err w) (err-one (sym was ∙ is))) (c.in_ok-at.ensures.stands stands)
+
+pub returns-in_err-finish-clause-damaged : goal.returns-in_err-finish-clause-damaged
+returns-in_err-finish-clause-damaged g c = λ key is stands.
+    let e = c.in_err-finish.field-0.0 in
+    let was : c.from_residual-in_err-finish.result ≡ Err e = search rules in
+    absurd (store-no-tile e key c.in_err-finish.ensures.only (err-one (sym was ∙ is)))
 
 pub returns-in_err-at-clause-damaged_comes : goal.returns-in_err-at-clause-damaged_comes
 returns-in_err-at-clause-damaged_comes g c = λ start key told has damaged few.

@@ -6,8 +6,6 @@ use Rattle.ept_tree.specs.TreeLaws.{AreSampled}
 use Rattle.ept_meta.specs.Output.{rules_of}
 use Rattle.ept_sample.specs.Nodes.{sampled}
 use Rattle.ept_save.specs.View.{View, StandsFor}
-use Rattle.ept_save.proofs.Standing.{told_some}
-use Rattle.ept_phase.specs.Loaded.{HasNoDamage}
 use Rattle.ept_plan.specs.Plans.{inserted_by}
 use Rattle.ept_build.specs.Phases.{IsTreeOf, IsSoundUndone, AreMany}
 use Rattle.ept_build.proofs.Fronts.{all-front}
@@ -35,7 +33,6 @@ loop-alloc-init g c = record {
   begun = inl refl;
   fewest = no-fewer-none _ _ c.args.step;
   stands = λ stands. stands;
-  intact = λ stands none. none;
   settled = λ settled. settled;
   reached = λ stands.
       none-moves g.T.Store.files g.T.Store.may_leave g.T.Store.moment g.T.Store.image_since c.args.at.now.saved c.args.store.now (g.met.T.Store.reads_an_image c.args.store.now) stands (HasReached c.args.at.now.saved.current c.args.step c.args.plan.now.points)
@@ -87,7 +84,6 @@ loop-alloc-preserved g c =
           no-fewer-next c.args.plan.now c.args.at.now.saved.current i.at.saved.current c.args.step i.invariant.phases i.invariant.after (omega (arith, c.requires.tree.by_checkpoint, c.requires.reader.to_come)) c.requires.tree.inputs_least i.invariant.begun i.invariant.fewest
           (λ all. let yes = c.has_all.ensures.1 all in let no = c.loop-alloc-test.true in cc);
       stands = λ stands. c.in_ok-phase.ensures.stands (i.invariant.stands stands);
-      intact = λ stands none. c.in_ok-phase.ensures.intact (i.invariant.stands stands);
       settled = λ settled. c.in_ok-phase.ensures.settled;
       reached = λ stands.
           moves-then g.T.Store.files g.T.Store.may_leave g.T.Store.moment g.T.Store.image_since (HasReached c.args.at.now.saved.current c.args.step c.args.plan.now.points) c.args.store.now i.store c.phase.new.store (i.invariant.reached stands)
@@ -102,10 +98,9 @@ returns-in_err-phase-clause-sound g c = λ shelf points output are has way.
     (c.in_err-phase.ensures.sound shelf points output are (i.invariant.has points are.can has) (i.invariant.way shelf points output are has way))
 
 pub returns-in_err-phase-clause-undamaged : goal.returns-in_err-phase-clause-undamaged
-returns-in_err-phase-clause-undamaged g c = λ stands none key is.
+returns-in_err-phase-clause-undamaged g c = λ shelf points output are has way key is.
     let i = c.loop-alloc in
-    let now = i.invariant.stands stands in
-    c.in_err-phase.ensures.undamaged now.all now.told (told_some (HasNoDamage i.at.saved.current) (g.T.Store.files i.store) now.all now.told (i.invariant.intact stands none)) key (search (rules, is))
+    c.in_err-phase.ensures.undamaged shelf points output are (i.invariant.way shelf points output are has way) key (search (rules, is))
 
 pub returns-in_err-phase-clause-reached : goal.returns-in_err-phase-clause-reached
 returns-in_err-phase-clause-reached g c = λ stands.
@@ -182,3 +177,6 @@ returns-clause-through g c =
 
 pub returns-clause-reached : goal.returns-clause-reached
 returns-clause-reached g c = λ stands. c.loop-alloc.invariant.reached stands
+
+pub returns-in_err-phase-clause-damaged : goal.returns-in_err-phase-clause-damaged
+returns-in_err-phase-clause-damaged g c = λ key is stands. (c.loop-alloc.at.saved.current, c.in_err-phase.ensures.damaged key (search (rules, is)) (c.loop-alloc.invariant.stands stands))

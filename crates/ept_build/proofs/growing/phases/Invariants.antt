@@ -1,5 +1,5 @@
 use Rattle.std.proofs.Common.{◌≡◌, ◌⊎◌, ◌≤◌, ◌+◌, ◌-◌, ℕ, List, length}
-use Rattle.ept_base.specs.Files.{Files, Tells}
+use Rattle.ept_base.specs.Files.{Files}
 use Rattle.ept_base.specs.Moves.{IsSettled, Moves}
 use Rattle.ept_point.specs.declared.point.Point.{Point}
 use Rattle.ept_sample.specs.SamplingLaws.{CanBeSampled}
@@ -7,7 +7,6 @@ use Rattle.ept_meta.specs.Output.{File, rules_of}
 use Rattle.ept_plan.specs.Plans.{IsOf, inputs_by, inserted_by}
 use Rattle.ept_build.specs.Phases.{IsTreeOf, ReadsRest, HasInserted, IsSoundUndone, AreOfShelf, IsOnWay}
 use Rattle.ept_save.specs.View.{StandsFor}
-use Rattle.ept_phase.specs.Loaded.{HasNoDamage}
 use Rattle.ept_build.specs.Reached.{IsAfter, HasReached}
 use Rattle.ept_build.proofs.Counting.{NoFewer}
 use Rattle.ept_build.proofs.growing.phases.Given as goal
@@ -28,7 +27,6 @@ invariant-loop-alloc g l = record {
   begun : (phases ≡ 0) ⊎ IsOf l.plan l.at.saved.current;
   fewest : NoFewer (l.plan.points - inserted_by l.initial.at.saved.current) (length l.plan.kept.inputs - inputs_by l.initial.at.saved.current) l.step phases;
   stands : StandsFor l.initial.at.saved (g.T.Store.files l.initial.store) (g.T.Store.may_leave l.initial.store) → StandsFor l.at.saved (g.T.Store.files l.store) (g.T.Store.may_leave l.store);
-  intact : StandsFor l.initial.at.saved (g.T.Store.files l.initial.store) (g.T.Store.may_leave l.initial.store) → Tells (HasNoDamage l.initial.at.saved.current) (g.T.Store.files l.initial.store) → Tells (HasNoDamage l.at.saved.current) (g.T.Store.files l.store);
   settled : IsSettled (g.T.Store.files l.initial.store) (g.T.Store.may_leave l.initial.store) → IsSettled (g.T.Store.files l.store) (g.T.Store.may_leave l.store);
   reached : StandsFor l.initial.at.saved (g.T.Store.files l.initial.store) (g.T.Store.may_leave l.initial.store)
       → Moves g.T.Store.files g.T.Store.may_leave g.T.Store.moment g.T.Store.image_since (λ (a b : Files). HasReached l.initial.at.saved.current l.step l.plan.points b) l.initial.store l.store;

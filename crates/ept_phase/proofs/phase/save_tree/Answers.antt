@@ -19,6 +19,9 @@ use Rattle.ept_phase.specs.Loaded.{OfCurrent, HasNoDamage}
 use Rattle.ept_phase.proofs.NextTiles.{still-named, saved-undamaged}
 use Rattle.ept_phase.proofs.Refusing.{keeps-sound}
 use Rattle.ept_phase.proofs.Undamaged.{gate-undamaged}
+use Rattle.ept_save.specs.declared.error.SaveError.TheVariants.{TileDamaged}
+use Rattle.ept_save.specs.Loading.{HasLine, IsDamaged}
+use Rattle.ept_phase.proofs.Undamaged.{one-refusal, stores-no-tile}
 use Rattle.ept_phase.proofs.phase.save_tree.Goals as goal
 
 pub save_nodes-requires : goal.save_nodes-requires
@@ -150,3 +153,22 @@ pub returns-clause-stands : goal.returns-clause-stands
 returns-clause-stands g c =
     on-ok _ (StandsFor c.args.saved.now (g.T.Store.files c.args.store.now) (g.T.Store.may_leave c.args.store.now) → StandsFor c.commit.new.saved (g.T.Store.files c.commit.new.store) (g.T.Store.may_leave c.commit.new.store))
     (λ further stands. further (c.save_nodes.ensures.stands (c.in_ok-begin.ensures.stands stands))) c.commit.result c.commit.ensures.stands
+
+pub returns-in_err-begin-clause-damaged : goal.returns-in_err-begin-clause-damaged
+returns-in_err-begin-clause-damaged g c = λ key is stands.
+    let also : c.from_residual.result ≡ Err c.in_err-begin.field-0.0 = search rules in
+    absurd (stores-no-tile c.begin.result key c.begin.ensures.only (one-refusal c.begin.result c.from_residual.result c.in_err-begin.field-0.0 (TileDamaged key) c.in_err-begin.was also is))
+
+pub returns-in_err-save_nodes-clause-damaged : goal.returns-in_err-save_nodes-clause-damaged
+returns-in_err-save_nodes-clause-damaged g c = λ key is stands.
+    let start : View = c.args.saved.now in
+    let same : c.begin.new.saved.current ≡ start.current = ap (λ (v : View). v.current) c.in_ok-begin.ensures.begun in
+    let also : c.from_residual-in_err-save_nodes.result ≡ Err c.in_err-save_nodes.field-0.0 = search rules in
+    let told = one-refusal c.save_nodes.result c.from_residual-in_err-save_nodes.result c.in_err-save_nodes.field-0.0 (TileDamaged key) c.in_err-save_nodes.was also is in
+    let keeps = keeps-then g.T.Store.files g.T.Store.may_leave g.T.Store.moment g.T.Store.image_since start.current c.args.store.now c.begin.new.store c.save_nodes.new.store (c.begin.ensures.keeps stands)
+    (subst (λ (w : Current). Moves g.T.Store.files g.T.Store.may_leave g.T.Store.moment g.T.Store.image_since (Keeps w) c.begin.new.store c.save_nodes.new.store) same c.save_nodes.ensures.keeps) in
+    let damaged = subst (λ (w : Current). HasLine w key × Tells (IsDamaged w key) (g.T.Store.files c.save_nodes.new.store)) same (c.save_nodes.ensures.damaged key told) in
+    (keeps.reads, damaged.0, damaged.1)
+
+pub returns-clause-damaged : goal.returns-clause-damaged
+returns-clause-damaged g c = λ key is stands. absurd (stores-no-tile c.commit.result key c.commit.ensures.only is)

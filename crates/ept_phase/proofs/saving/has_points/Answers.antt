@@ -4,6 +4,8 @@ use Rattle.std.proofs.lemmas.Slice.Eq.{slice_eq-Decides}
 use Rattle.ept_save.proofs.LoadedLines.{handed-on, sound-only}
 use Rattle.ept_phase.proofs.SamePoint.{same-point}
 use Rattle.ept_phase.proofs.Compared.{found-has, found-has_not}
+use Rattle.ept_save.specs.declared.error.SaveError.TheVariants.{TileDamaged}
+use Rattle.ept_phase.proofs.Undamaged.{one-refusal}
 use Rattle.ept_phase.proofs.saving.has_points.Goals as goal
 
 pub returns-in_err-load_tile-clause-sound : goal.returns-in_err-load_tile-clause-sound
@@ -30,3 +32,8 @@ returns-clause-has_not g c = λ is.
     let wrong : true ≡ false = sym also ∙ not_same in
     cc) in
     found-has_not c.args.saved.now.current c.args.key (g.T.Store.files c.args.store.now) c.new-found.result.items c.load_tile.new.out.items c.as_slice.result.now c.args.points.now c.new-found.ensures.items c.as_slice.ensures.value c.in_ok-load_tile.ensures.appended differ
+
+pub returns-in_err-load_tile-clause-damaged : goal.returns-in_err-load_tile-clause-damaged
+returns-in_err-load_tile-clause-damaged g c = λ is.
+    let also : c.from_residual.result ≡ Err c.in_err-load_tile.field-0.0 = search rules in
+    (c.requires.line, c.load_tile.ensures.refused (one-refusal c.load_tile.result c.from_residual.result c.in_err-load_tile.field-0.0 (TileDamaged c.args.key) c.in_err-load_tile.was also is))

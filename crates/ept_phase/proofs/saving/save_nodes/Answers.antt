@@ -4,7 +4,7 @@ use Rattle.std.specs.Map.Iter.{deref_pair}
 use Rattle.std.proofs.lemmas.List.{map-append}
 use Rattle.std.proofs.lemmas.Result.{err_from_is_err_and}
 use Rattle.std.proofs.lemmas.Map.Iter.{rest_so_far, rest_more, iter_end}
-use Rattle.ept_base.specs.Files.{Files}
+use Rattle.ept_base.specs.Files.{Files, Tells}
 use Rattle.ept_point.specs.declared.point.Point.{Point}
 use Rattle.ept_base.specs.Moves.{Moves}
 use Rattle.ept_save.specs.Current.{Current, HasCurrent, Keeps}
@@ -18,6 +18,10 @@ use Rattle.ept_phase.proofs.Compared.{keeps-none, keeps-then}
 use Rattle.ept_phase.specs.Loaded.{HasNoDamage}
 use Rattle.ept_phase.proofs.Refusing.{keeps-sound, save-fault}
 use Rattle.ept_phase.proofs.Undamaged.{keeps-undamaged}
+use Rattle.ept_save.specs.declared.error.SaveError.TheVariants.{TileDamaged}
+use Rattle.ept_save.specs.Loading.{HasLine, IsDamaged}
+use Rattle.ept_space.specs.VoxelKey.{VoxelKey}
+use Rattle.ept_phase.proofs.Undamaged.{one-refusal, one-tile, damaged-kept}
 use Rattle.ept_phase.proofs.saving.save_nodes.Goals as goal
 
 pub loop-key-init : goal.loop-key-init
@@ -110,3 +114,14 @@ pub returns-clause-known : goal.returns-clause-known
 returns-clause-known g c =
     let all : map deref_pair c.loop-key.yielded ≡ c.args.nodes.now.entries = search (rules, iter_end) in
     subst AreKnown all c.loop-key.invariant.far.known
+
+pub returns-in_err-save_node-clause-damaged : goal.returns-in_err-save_node-clause-damaged
+returns-in_err-save_node-clause-damaged g c = λ key is.
+    let also : c.from_residual-in_err-save_node.result ≡ Err c.in_err-save_node.field-0.0 = search rules in
+    let told = one-refusal c.save_node.result c.from_residual-in_err-save_node.result c.in_err-save_node.field-0.0 (TileDamaged key) c.in_err-save_node.was also is in
+    let its = one-tile c.save_node.result c.in-Some.key.now key c.save_node.ensures.only told in
+    let damaged = c.save_node.ensures.damaged its.0 in
+    let same : c.loop-key.saved.current ≡ c.args.saved.now.current = ap (λ (v : View). v.current) c.loop-key.invariant.far.view_is in
+    subst (λ (w : Current). HasLine w key × Tells (IsDamaged w key) (g.T.Store.files c.save_node.new.store)) same
+    (subst (λ (k : VoxelKey). HasLine c.loop-key.saved.current k × Tells (IsDamaged c.loop-key.saved.current k) (g.T.Store.files c.save_node.new.store)) its.1
+    (damaged.0, damaged-kept c.loop-key.saved.current c.in-Some.key.now (g.T.Store.files c.loop-key.store) (g.T.Store.files c.save_node.new.store) c.save_node.ensures.keeps.reads damaged.1))
