@@ -13,4 +13,5 @@ mod Refusals
 mod Judging
 mod Running
 mod UnderWay
+mod Damage
 mod Finished

@@ -10,6 +10,7 @@ use Rattle.ept_config.specs.declared.kept.Kept.{Kept}
 use Rattle.ept_config.specs.declared.source_count.SourceCount.{SourceCount}
 use Rattle.ept_config.specs.KeptOf.{IsKeptOf}
 use Rattle.ept_space.specs.declared.bounds.Bounds.{Bounds}
+use Rattle.ept_space.specs.VoxelKey.{VoxelKey}
 use Rattle.ept_scan.specs.Asking.{AsksFor, paths_left}
 use Rattle.ept_scan.specs.declared.scan_done.ScanDone.{ScanDone}
 use Rattle.ept_scan.specs.declared.scan_error.ScanError.{ScanError}
@@ -20,6 +21,8 @@ use Rattle.ept_meta.specs.declared.fields.Field.{Field}
 use Rattle.ept_save.specs.Complete.{IsComplete}
 use Rattle.ept_save.specs.Current.{Current, HasCurrent}
 use Rattle.ept_save.specs.Done.{IsDone}
+use Rattle.ept_save.specs.Loading.{HasLine, IsDamaged}
+use Rattle.ept_save.specs.Opening.{lines_of}
 use Rattle.ept_save.specs.Sound.{IsSound}
 use Rattle.ept_save.specs.View.{View, StandsFor}
 use Rattle.ept_plan.specs.declared.plan.Plan.{Plan}
@@ -139,6 +142,18 @@ pub record IsStopped (all : Files) (config : Config) (start files : Files) : Typ
   pub few : node_count kept (take (inserted_by reached.now) points) ≤ config.max_nodes
   pub many : config.max_nodes < node_count kept (take (inserted_by reached.now + config.checkpoint) points)
 
+-- The build comes to the octree of the current checkpoint: this goes on, and the inputs are accepted; the done gate is not open, or an input is new; and the checkpoint has few enough nodes. Of these the tile of a key is damaged.
+pub record ComesToDamage (all : Files) (config : Config) (start : Files) (current : Current) : Type 0 where
+  pub goes_on : GoesOn config current
+  pub points : List Point
+  pub done : ScanDone
+  pub scan : IsScan all config.scale (limits_by config.bounds current) config.inputs 0 points done
+  pub left : ¬ IsDone start ⊎ (inputs_by current < length config.inputs)
+  pub few : length (lines_of current) ≤ config.max_nodes
+  pub key : VoxelKey
+  pub has_line : HasLine current key
+  pub damaged : IsDamaged current key start
+
 -- the new inputs are refused for this cause
 abbrev pub InputsAreRefused : Files → Config → Current → ScanError → Type 0
 InputsAreRefused all config current error = GoesOn config current × AreRefused all config current error
@@ -175,6 +190,10 @@ Fails answer = (answer ≡ Err StoreFault) ⊎ (answer ≡ Err SourceFault) ⊎ 
 -- the answer is a field that differs
 abbrev pub TellsDifference : Result Summary BuildError → Type 0
 TellsDifference answer = (field : Field) × (kept : Vec ℕ Global) × (given : Vec ℕ Global) × (answer ≡ Err (Differs field kept given))
+
+-- the answer is a damaged tile
+abbrev pub TellsDamage : Result Summary BuildError → Type 0
+TellsDamage answer = (key : VoxelKey) × (answer ≡ Err (TileDamaged key))
 
 -- a cause after which nothing was put: what is given is compared and scanned before
 abbrev pub IsEarly : BuildError → Type 0

@@ -3,6 +3,7 @@ use Rattle.std.specs.Prelude.{◌≡◌, ◌⊎◌, ℕ, ◌+◌, ◌<◌, ◌�
 use Rattle.ept_base.specs.Files.{Files, Tells}
 use Rattle.ept_point.specs.declared.point.Point.{Point}
 use Rattle.ept_space.specs.OctreeCube.{InCube}
+use Rattle.ept_space.specs.VoxelKey.{VoxelKey}
 use Rattle.ept_sample.specs.Place.{place}
 use Rattle.ept_sample.specs.Nodes.{sampled}
 use Rattle.ept_config.specs.Counts.{IsCount, total}
@@ -18,6 +19,7 @@ use Rattle.ept_sample.specs.SamplingLaws.{CanBeSampled}
 use Rattle.ept_meta.specs.Output.{File, IsOutput, rules_of, names_of}
 use Rattle.ept_save.specs.Current.{Current, HasCurrent}
 use Rattle.ept_save.specs.Done.{IsDone}
+use Rattle.ept_save.specs.Loading.{HasLine, IsDamaged}
 use Rattle.ept_save.specs.Opening.{lines_of}
 use Rattle.ept_save.specs.Sound.{IsSound}
 use Rattle.ept_save.specs.SoundLaws.{HasNamesOf}
@@ -106,6 +108,10 @@ pub record IsOnWay (shelf : Files) (output : List File) (view : View) (files : O
   pub sound : (image : Files) → may_leave image → IsSoundUndone shelf image
 
 -- ---- why a phase is refused
+
+-- The current checkpoint of the files names a tile for the key, which is damaged.
+abbrev pub HasDamage : Current → VoxelKey → Option Files → Type 0
+HasDamage current key files = HasLine current key × Tells (λ all. HasCurrent current all × IsDamaged current key all) files
 
 -- Some phases later, at this checkpoint, the sampling of the points that are inserted has few enough nodes, and with those of the next phase more than there may be.
 pub record AreMany (plan : Plan) (from : Current) (step most : ℕ) (points : List Point) (now : Current) : Type 0 where

@@ -4,16 +4,19 @@ ghost use Rattle.std.specs.Prelude.{◌≡◌, ◌⊎◌, ◌≤◌, ℕ, take, 
 ghost use Rattle.ept_base.specs.Causes.{HasCauseOf};
 ghost use Rattle.ept_base.specs.Files.{Files, SameFiles, Tells};
 ghost use Rattle.ept_base.specs.Moves.{Moves, IsSettled};
+ghost use Rattle.ept_space.specs.VoxelKey.{VoxelKey};
 ghost use Rattle.ept_scan.specs.declared.scan_error.ScanError.{ScanError};
 ghost use Rattle.ept_scan.specs.Asking.{AsksFor, paths_left};
 ghost use Rattle.ept_ckpt.specs.declared.letter.Letter.{Letter};
 ghost use Rattle.ept_save.specs.Current.{Current, HasCurrent};
 ghost use Rattle.ept_save.specs.Done.{IsDone};
+ghost use Rattle.ept_save.specs.Loading.{HasLine, IsDamaged};
 ghost use Rattle.ept_save.specs.Opening.{lines_of, IsBad};
+ghost use Rattle.ept_save.specs.View.{StandsFor};
 ghost use Rattle.ept_plan.specs.Plans.{IsPlan, IsDefinite, GoesOn};
-ghost use Rattle.ept_build.specs.Building.{BeginsWith, Starts, InputsAreRefused, HasTooManyNodes, HasTooManyAlready, TellsDifference, IsBuilt, IsUnderWay, IsStopped, AsksInOrder, IsDoneAlready, IsAccepted, IsRefusedAt, IsRefused, IsEarly, Fails};
+ghost use Rattle.ept_build.specs.Building.{BeginsWith, Starts, InputsAreRefused, HasTooManyNodes, HasTooManyAlready, TellsDifference, IsBuilt, IsUnderWay, IsStopped, AsksInOrder, ComesToDamage, TellsDamage, IsDoneAlready, IsAccepted, IsRefusedAt, IsRefused, IsEarly, Fails};
 ghost use Rattle.ept_build.specs.Errors.{of_scan};
-ghost use Rattle.ept_build.specs.Phases.{HasAll, IsPhaseFault, IsStoreFault};
+ghost use Rattle.ept_build.specs.Phases.{HasAll, HasDamage, IsPhaseFault, IsStoreFault};
 
 use crate::error::BuildError;
 use crate::finishing::finish;
@@ -90,6 +93,11 @@ where
     ensures too_many_comes { (all start : Files) → BeginsWith (H.files shelf.old) (T.files store.old) (T.may_leave store.old) all start
         → (current : Current) → HasCurrent current start → GoesOn config.now current → ¬ IsDoneAlready config.now start
         → HasTooManyNodes all config.now current → (result ≡ Err BuildError.TooManyNodes) ⊎ Fails result }
+    ensures damaged { (key : VoxelKey) → result ≡ Err (BuildError.TileDamaged key) → (start : Files) → T.files store.old ≡ Some start
+        → IsSettled (T.files store.old) (T.may_leave store.old)
+        → (current : Current) × HasDamage current key (T.files store.new) }
+    ensures damaged_comes { (all start : Files) (current : Current) → H.files shelf.old ≡ Some all → T.files store.old ≡ Some start
+        → HasCurrent current start → ComesToDamage all config.now start current → TellsDamage result ⊎ Fails result }
     ensures bad { (letter : Letter) → result ≡ Err (BuildError.BadCheckpoint letter)
         → Tells (λ start. IsBad start letter) (T.files store.old) }
     ensures bad_comes { (letter : Letter) → (start : Files) → T.files store.old ≡ Some start → IsBad start letter
@@ -171,6 +179,12 @@ fn built<H: Shelf, T: Store>(
         × ((HasTooManyAlready all config.now start × Moves T.files T.may_leave T.moment T.image_since SameFiles store.old store.new)
         ⊎ Tells (IsStopped all config.now start) (T.files store.new)) }
     ensures only { IfErr result IsPhaseFault }
+    ensures damaged { (key : VoxelKey) → result ≡ Err (BuildError.TileDamaged key)
+        → StandsFor saved (T.files store.old) (T.may_leave store.old)
+        → (current : Current) × HasDamage current key (T.files store.new) }
+    ensures damaged_comes { (start : Files) (key : VoxelKey) → T.files store.old ≡ Some start → HasLine saved.current key
+        → IsDamaged saved.current key start → length (lines_of saved.current) ≤ config.now.max_nodes
+        → TellsDamage result ⊎ Fails result }
     ensures refused { (all start : Files) → H.files shelf.old ≡ Some all
         → Starts all config.now saved plan.now start (T.files store.old) (T.may_leave store.old)
         → IfErr result (IsRefusedAt all config.now saved.current) }

@@ -15,11 +15,12 @@ ghost use Rattle.ept_scan.specs.Reader.{HasFault};
 ghost use Rattle.ept_tree.specs.Grown.{nodes_of};
 ghost use Rattle.ept_tree.specs.TreeLaws.{AreSampled};
 ghost use Rattle.ept_meta.specs.Output.{File, rules_of};
+ghost use Rattle.ept_save.specs.Current.{Current};
 ghost use Rattle.ept_save.specs.Sound.{IsSound};
 ghost use Rattle.ept_save.specs.View.{StandsFor};
 ghost use Rattle.ept_plan.specs.Plans.{IsOf, inputs_by, inserted_by};
 ghost use Rattle.ept_build.specs.Reached.{IsThrough, HasReached, HasThisOrNext, generation_by};
-ghost use Rattle.ept_build.specs.Phases.{IsFit, IsTreeOf, ReadsRest, HasAll, HasInserted, IsSoundUndone, AreOfShelf, IsOnWay, IsPhaseFault, AreMany};
+ghost use Rattle.ept_build.specs.Phases.{IsFit, IsTreeOf, ReadsRest, HasAll, HasInserted, IsSoundUndone, AreOfShelf, IsOnWay, HasDamage, IsPhaseFault, AreMany};
 
 use crate::error::BuildError;
 use crate::progress::Progress;
@@ -88,6 +89,9 @@ pub(crate) fn grow<H: Shelf, T: Store>(
 
     // Why it is refused.
     ensures only { IfErr result IsPhaseFault }
+    ensures damaged { (key : VoxelKey) → result ≡ Err (BuildError.TileDamaged key)
+        → StandsFor at.old.saved (T.files store.old) (T.may_leave store.old)
+        → (current : Current) × HasDamage current key (T.files store.new) }
     ensures undamaged { Tells (λ all. (points : List Point) (output : List File)
         → AreOfShelf all plan.now points output
         → AreSampled (rules_of plan.now.kept) (take at.old.inserted points) (nodes_of at.old.grown)
@@ -158,6 +162,9 @@ fn phases<S: Source, T: Store>(
         → IsOnWay shelf output at.old.saved (T.files store.old) (T.may_leave store.old)
         → Moves T.files T.may_leave T.moment T.image_since (λ (a b : Files). IsSoundUndone shelf b) store.old store.new }
     ensures only { IfErr result IsPhaseFault }
+    ensures damaged { (key : VoxelKey) → result ≡ Err (BuildError.TileDamaged key)
+        → StandsFor at.old.saved (T.files store.old) (T.may_leave store.old)
+        → (current : Current) × HasDamage current key (T.files store.new) }
     ensures undamaged { (shelf : Files) (points : List Point) (output : List File) → AreOfShelf shelf plan.now points output
         → HasInserted S.whole plan.now points at.old.inserted reader.old at.old.grown
         → IsOnWay shelf output at.old.saved (T.files store.old) (T.may_leave store.old)
@@ -223,6 +230,9 @@ fn phase<S: Source, T: Store>(
         → IsOnWay shelf output at.old.saved (T.files store.old) (T.may_leave store.old)
         → Moves T.files T.may_leave T.moment T.image_since (λ (a b : Files). IsSoundUndone shelf b) store.old store.new }
     ensures only { IfErr result IsPhaseFault }
+    ensures damaged { (key : VoxelKey) → result ≡ Err (BuildError.TileDamaged key)
+        → StandsFor at.old.saved (T.files store.old) (T.may_leave store.old)
+        → HasDamage at.old.saved.current key (T.files store.new) }
     ensures undamaged { (shelf : Files) (points : List Point) (output : List File) → AreOfShelf shelf plan.now points output
         → IsOnWay shelf output at.old.saved (T.files store.old) (T.may_leave store.old)
         → (key : VoxelKey) → result ≢ Err (BuildError.TileDamaged key) }

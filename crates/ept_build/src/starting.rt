@@ -2,16 +2,18 @@
 
 ghost use Rattle.std.specs.Prelude.{◌≡◌, ◌≢◌, ◌<◌, ℕ, List, Err, IfOk, IfErr, OnOk, length};
 ghost use Rattle.ept_base.specs.Causes.{HasCauseOf};
-ghost use Rattle.ept_base.specs.Files.{Files, SameFiles};
+ghost use Rattle.ept_base.specs.Files.{Files, SameFiles, Tells};
 ghost use Rattle.ept_base.specs.Moves.{IsSettled, Moves, SameImages};
 ghost use Rattle.ept_space.specs.VoxelKey.{VoxelKey};
 ghost use Rattle.ept_space.specs.CubeOfBounds.{IsCubeOf};
 ghost use Rattle.ept_meta.specs.Output.{File, names_of, rules_of};
 ghost use Rattle.ept_save.specs.Opening.{lines_of};
 ghost use Rattle.ept_save.specs.SoundLaws.{HasNamesOf};
+ghost use Rattle.ept_save.specs.View.{StandsFor};
+ghost use Rattle.ept_phase.specs.Loaded.{HasNoDamage};
 ghost use Rattle.ept_plan.specs.Plans.{IsPlan};
 ghost use Rattle.ept_build.specs.Building.{Starts};
-ghost use Rattle.ept_build.specs.Phases.{IsTreeOf, IsLoaded, IsOnWay, IsSoundAt, IsPhaseFault};
+ghost use Rattle.ept_build.specs.Phases.{IsTreeOf, IsLoaded, IsOnWay, IsSoundAt, HasDamage, IsPhaseFault};
 
 use crate::error::BuildError;
 use crate::progress::Progress;
@@ -44,6 +46,8 @@ pub(crate) fn take_up<T: Store>(
         → Starts all config.now saved plan.now start (T.files store.old) (T.may_leave store.old)
         → HasNamesOf all at.saved.current (names_of output)
         → IsOnWay all output at.saved (T.files store.new) (T.may_leave store.new)) }
+    ensures stands { IfOk result (λ at. StandsFor saved (T.files store.old) (T.may_leave store.old)
+        → StandsFor at.saved (T.files store.new) (T.may_leave store.new)) }
     ensures settled { OnOk result (IsSettled (T.files store.new) (T.may_leave store.new)) }
     ensures sound { (all start : Files)
         → Starts all config.now saved plan.now start (T.files store.old) (T.may_leave store.old)
@@ -56,6 +60,9 @@ pub(crate) fn take_up<T: Store>(
     ensures untouched { result ≡ Err BuildError.TooManyNodes
         → Moves T.files T.may_leave T.moment T.image_since SameFiles store.old store.new
         × SameImages (T.may_leave store.old) (T.may_leave store.new) }
+    ensures damaged { (key : VoxelKey) → result ≡ Err (BuildError.TileDamaged key)
+        → StandsFor saved (T.files store.old) (T.may_leave store.old) → HasDamage saved.current key (T.files store.new) }
+    ensures damaged_comes { OnOk result (Tells (HasNoDamage saved.current) (T.files store.old)) }
     ensures undamaged { (all start : Files)
         → Starts all config.now saved plan.now start (T.files store.old) (T.may_leave store.old)
         → (key : VoxelKey) → result ≢ Err (BuildError.TileDamaged key) }

@@ -174,6 +174,11 @@ own-more rules [] b own is d (inr m) = absurd m
 own-more rules (e ∷ es) b own is d (inl at) = own d (inl at)
 own-more rules (e ∷ es) b own is d (inr m) = own-more rules es b (λ w i. own w (inr i)) is d m
 
+-- the first lines, with the next one behind them
+pub take-next : (lines : List NodeLine) (i : ℕ) (line : NodeLine) → i < length lines → get_or lines i line ≡ line → take i lines ++ line ∷ [] ≡ take (i + 1) lines
+take-next lines i line inside is =
+    ap (λ (l : NodeLine). take i lines ++ l ∷ []) (sym is) ∙ (sym (take-suc lines i line inside) ∙ ap (λ (n : ℕ). take n lines) (let after : suc i ≡ i + 1 = omega arith in after))
+
 module _ (rules : Rules) (entries more : List Branch) (items : List NodeLine) (i : ℕ) (line : NodeLine) (node : Node) (inserted : more ≡ insert_entry key_cmp entries line.key node) (up : DoAscend items) (inside : i < length items) (is : get_or items i line ≡ line) (told : TellNodes entries (take i items)) where
   abbrev next : Branch
   next = (line.key, node)
@@ -182,7 +187,7 @@ module _ (rules : Rules) (entries more : List Branch) (items : List NodeLine) (i
   last = inserted ∙ insert-last entries line.key node (entries-low entries items i line up inside is told)
 
   taken : take i items ++ line ∷ [] ≡ take (i + 1) items
-  taken = ap (λ (l : NodeLine). take i items ++ l ∷ []) (sym is) ∙ (sym (take-suc items i line inside) ∙ ap (λ (n : ℕ). take n items) (let after : suc i ≡ i + 1 = omega arith in after))
+  taken = take-next items i line inside is
 
   pub told-more : TellsNode next line → TellNodes more (take (i + 1) items)
   told-more tells =

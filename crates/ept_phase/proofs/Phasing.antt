@@ -26,6 +26,7 @@ use Rattle.ept_tree.specs.Tree.{Branch, AreNodes, entry_of, points_in}
 use Rattle.ept_tree.specs.Whole.{AreWhole}
 use Rattle.ept_phase.specs.Lines.{TellNodes, NameTiles}
 use Rattle.ept_phase.specs.LinesLaws.{WholeIsTold}
+use Rattle.ept_phase.specs.Loaded.{OfCurrent}
 use Rattle.ept_phase.specs.Phase.{AreGiven, GoesFurther, IsNext, HasNext, GoesOn, IsSaved}
 use Rattle.ept_phase.specs.Saving.{AreKnown}
 use Rattle.ept_phase.proofs.Telling.{line-node}
@@ -99,7 +100,7 @@ module _ (by_facts : CheckpointByFacts) (view : View) (kept : Kept) (counts : Li
 
 -- ---- the files go on
 
-named_tiles : (start now : Files) (nodes : List Branch) (lines : List NodeLine) → ((l : NodeLine) → IsMember l lines → now (tile_of_line l) ≡ start (tile_of_line l)) → NameTiles start nodes lines → NameTiles now nodes lines
+pub named_tiles : (start now : Files) (nodes : List Branch) (lines : List NodeLine) → ((l : NodeLine) → IsMember l lines → now (tile_of_line l) ≡ start (tile_of_line l)) → NameTiles start nodes lines → NameTiles now nodes lines
 named_tiles start now [] [] same names = tt
 named_tiles start now [] (l ∷ ls) same names = absurd names
 named_tiles start now (b ∷ bs) [] same names = absurd names
@@ -176,6 +177,15 @@ module _ (by_facts : CheckpointByFacts) (start view : View) (same : view.current
             ∙ (ap (λ (current : Current). let v : View = record { current = Some (next_letter current, next); lines = view.lines; begun = false } in v) same
             ∙ ap (λ (lines : List NodeLine). let v : View = record { current = Some (next_letter start.current, next); lines = lines; begun = false } in v) (sym (ap (λ (c : Checkpoint). c.nodes) is.0)));
       }
+
+  -- and it names the tiles that the lines named
+  pub names-saved : (new : View) → ((next : Checkpoint) × (facts next ≡ next_facts view kept counts inserted) × (new ≡ record view { current = Some (next_letter view.current, next); begun = false })) → (files : Option Files) → Tells (λ all. NameTiles all nodes view.lines) files
+      → Tells (λ all. OfCurrent new.current (λ (c : Checkpoint). NameTiles all nodes c.nodes)) files
+  names-saved new committed files tiles =
+      let next : Checkpoint = committed.0 in
+      let is = next-is by_facts view kept counts inserted nodes valid told next committed.1 in
+      subst (λ (current : Current). Tells (λ all. OfCurrent current (λ (c : Checkpoint). NameTiles all nodes c.nodes)) files) (sym (ap (λ (v : View). v.current) committed.2))
+      (subst (λ (c : Checkpoint). Tells (λ all. NameTiles all nodes c.nodes) files) (sym is.0) tiles)
 
   module _ {D : Type 0} (files : D → Option Files) (may_leave : D → Files → Type 0) (moment : D → ℕ) (image_since : D → ℕ → Files → Type 0) where
     pub goes-all : (old mid new : D) → Moves files may_leave moment image_since (Keeps start.current) old mid → (stands : StandsFor view (files mid) (may_leave mid)) → Tells (λ all. NameTiles all nodes view.lines) (files mid)

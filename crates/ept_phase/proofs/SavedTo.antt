@@ -1,5 +1,5 @@
 -- How far the saving of an octree's nodes has come.
-use Rattle.std.proofs.Common.{◌≡◌, ◌∙◌, ◌⊎◌, inl, inr, ℕ, ◌≤◌, true, List, [], ◌∷◌, ◌++◌, append_assoc, length, refl, sym, ap, subst, Option, Some, None}
+use Rattle.std.proofs.Common.{◌≡◌, ◌∙◌, ◌⊎◌, inl, inr, ℕ, ◌<◌, ◌≤◌, ◌^◌, true, List, [], ◌∷◌, ◌++◌, append_assoc, length, refl, sym, ap, subst, Option, Some, None}
 use Rattle.std.specs.Prelude.{AllPairs, IsSomeAnd, Result, Ok, Err, OnOk}
 use Rattle.std.proofs.lemmas.List.{map-append}
 use Rattle.std.specs.List.{cons_option}
@@ -193,7 +193,7 @@ saved-all start now nodes files at = (subst (TellNodes nodes) lines at.told, sub
     lines : at.lines ≡ now.lines
     lines = sym (ap (λ (v : View). v.lines) at.view_is ∙ (ap (λ (w : List NodeLine). at.lines ++ w) (none (lines_of start.current)) ∙ nothing at.lines))
 
-module _ (start now new : View) (done rest : List Branch) (b : Branch) (points : List Point) (files after : Option Files) (rises : Rise (keys_in (done ++ b ∷ rest))) (is_key : IsKey b.0) (shallow : b.1.key.depth ≤ b.1.rules.cube.depth) (at : IsSavedTo start now done (b ∷ rest) files) (saves : SavesNode now new b.0 b.1.mask points after) (points_are : points ≡ b.1.points) (letter : Letter) (one : StepsBy (SameBut (work_tile_name letter b.0)) files after) where
+module _ (start now new : View) (done rest : List Branch) (b : Branch) (points : List Point) (files after : Option Files) (rises : Rise (keys_in (done ++ b ∷ rest))) (is_key : IsKey b.0) (shallow : b.1.key.depth ≤ b.1.rules.cube.depth) (byte : b.1.mask < 2 ^ 8) (at : IsSavedTo start now done (b ∷ rest) files) (saves : SavesNode now new b.0 b.1.mask points after) (points_are : points ≡ b.1.points) (letter : Letter) (one : StepsBy (SameBut (work_tile_name letter b.0)) files after) where
   abbrev key : VoxelKey
   key = b.0
 
@@ -270,7 +270,7 @@ module _ (start now new : View) (done rest : List Branch) (b : Branch) (points :
       (has ∙ ap (λ (w : List Point). Some (tile w)) points_are)
 
   known_more : (nodes : List Branch) → AreKnown nodes → AreKnown (nodes ++ b ∷ [])
-  known_more [] are c (inl is) = subst (λ (w : Branch). IsKey w.0 × (w.1.key.depth ≤ w.1.rules.cube.depth)) is (is_key, shallow)
+  known_more [] are c (inl is) = subst (λ (w : Branch). IsKey w.0 × (w.1.key.depth ≤ w.1.rules.cube.depth) × (w.1.mask < 2 ^ 8)) is (is_key, shallow, byte)
   known_more [] are c (inr m) = absurd m
   known_more (n ∷ ns) are c (inl is) = are c (inl is)
   known_more (n ∷ ns) are c (inr m) = known_more ns (λ d i. are d (inr i)) c m

@@ -1,5 +1,5 @@
 -- Saving the nodes of an octree for the next checkpoint.
-use Rattle.std.specs.Prelude.{◌≡◌, ◌⊎◌, ℕ, ◌≤◌, true, List, length, map, Option, Some, All}
+use Rattle.std.specs.Prelude.{◌≡◌, ◌⊎◌, ℕ, ◌<◌, ◌≤◌, ◌^◌, true, List, length, map, Option, Some, All}
 use Rattle.ept_base.specs.Files.{Files, Tells}
 use Rattle.ept_point.specs.declared.point.Point.{Point}
 use Rattle.ept_point.specs.Packed.{tile}
@@ -46,9 +46,9 @@ pub record SavesNode (old new : View) (key : VoxelKey) (mask : ℕ) (points : Li
 abbrev pub keys_in : List Branch → List VoxelKey
 keys_in nodes = map (λ (b : Branch). b.0) nodes
 
--- what each node of a tree keeps: its key is one, and no deeper than may be
+-- what each node of a tree keeps: its key is one, and no deeper than may be, and its open octants are the bits of a byte
 abbrev pub AreKnown : List Branch → Type 0
-AreKnown nodes = (b : Branch) → IsMember b nodes → IsKey b.0 × (b.1.key.depth ≤ b.1.rules.cube.depth)
+AreKnown nodes = (b : Branch) → IsMember b nodes → IsKey b.0 × (b.1.key.depth ≤ b.1.rules.cube.depth) × (b.1.mask < 2 ^ 8)
 
 -- each node of the current checkpoint is one of these
 abbrev pub HasEachNodeOf : Current → List Branch → Type 0

@@ -1,6 +1,6 @@
 //! The octree of the current checkpoint.
 
-ghost use Rattle.std.specs.Prelude.{◌≡◌, ◌≢◌, ◌≤◌, ◌<◌, [], Some, None, Err, IfOk, IfErr, length};
+ghost use Rattle.std.specs.Prelude.{◌≡◌, ◌≢◌, ◌≤◌, ◌<◌, [], Some, None, Err, IfOk, IfErr, OnOk, length};
 ghost use Rattle.std.specs.Option.{option_map};
 ghost use Rattle.ept_base.specs.Causes.{HasCauseOf};
 ghost use Rattle.ept_base.specs.Files.{Files, SameFiles, Tells};
@@ -19,7 +19,7 @@ ghost use Rattle.ept_save.specs.View.{StandsFor};
 ghost use Rattle.ept_tree.specs.Tree.{AreNodes};
 ghost use Rattle.ept_tree.specs.Grown as tree;
 ghost use Rattle.ept_tree.specs.TreeLaws.{AreSampled};
-ghost use Rattle.ept_phase.specs.Loaded.{OfCurrent, IsLoadFault};
+ghost use Rattle.ept_phase.specs.Loaded.{OfCurrent, HasNoDamage, IsLoadFault};
 ghost use Rattle.ept_phase.specs.Lines.{TellNodes, NameTiles};
 
 use crate::error::LoadError;
@@ -62,10 +62,12 @@ pub fn load_tree<T: Store>(
     ensures begun { saved.now.current ≡ None → IfOk result (λ loaded.
         AreSampled rules.now [] (tree.nodes_of loaded)) }
 
-    // Why it is refused. No tile of sound files is damaged.
+    // Why it is refused. A tile is told as damaged only where it is one, and where some is, there is no octree.
+    // No tile of sound files is damaged.
     ensures too_many { result ≡ Err LoadError.TooManyNodes → most < length (lines_of saved.now.current) }
     ensures damaged { (key : VoxelKey) → result ≡ Err (LoadError.Save (save.TileDamaged key))
         → HasLine saved.now.current key × Tells (IsDamaged saved.now.current key) (T.files store.old) }
+    ensures undamaged { OnOk result (Tells (HasNoDamage saved.now.current) (T.files store.old)) }
     ensures only { IfErr result IsLoadFault }
     ensures sound { (shelf all : Files) → T.files store.old ≡ Some all → IsSound shelf all
         → HasCurrent saved.now.current all → (key : VoxelKey) → result ≢ Err (LoadError.Save (save.TileDamaged key)) }
@@ -108,6 +110,7 @@ fn loaded_tree<T: Store>(
     ensures too_many { result ≡ Err LoadError.TooManyNodes → most < length checkpoint.now.nodes }
     ensures damaged { (key : VoxelKey) → result ≡ Err (LoadError.Save (save.TileDamaged key))
         → HasLine saved.now.current key × Tells (IsDamaged saved.now.current key) (T.files store.old) }
+    ensures undamaged { OnOk result (Tells (HasNoDamage saved.now.current) (T.files store.old)) }
     ensures only { IfErr result IsLoadFault }
     ensures sound { (shelf all : Files) → T.files store.old ≡ Some all → IsSound shelf all
         → HasCurrent saved.now.current all → (key : VoxelKey) → result ≢ Err (LoadError.Save (save.TileDamaged key)) }
@@ -137,6 +140,7 @@ fn load_nodes<T: Store>(
     ensures too_many { result ≡ Err LoadError.TooManyNodes → most < length checkpoint.now.nodes }
     ensures damaged { (key : VoxelKey) → result ≡ Err (LoadError.Save (save.TileDamaged key))
         → HasLine saved.now.current key × Tells (IsDamaged saved.now.current key) (T.files store.old) }
+    ensures undamaged { OnOk result (Tells (HasNoDamage saved.now.current) (T.files store.old)) }
     ensures only { IfErr result IsLoadFault }
     ensures sound { (shelf all : Files) → T.files store.old ≡ Some all → IsSound shelf all
         → HasCurrent saved.now.current all → (key : VoxelKey) → result ≢ Err (LoadError.Save (save.TileDamaged key)) }

@@ -1,15 +1,24 @@
 //! The end of a phase.
 
-ghost use Rattle.std.specs.Prelude.{◌≡◌, ◌<◌, ◌^◌, Some, length, IfErr, OnOk, OnErr};
+ghost use Rattle.std.specs.Prelude.{◌≡◌, ◌<◌, ◌^◌, List, Some, length, IfErr, OnOk, OnErr};
 ghost use Rattle.ept_base.specs.Causes.{HasCauseOf};
-ghost use Rattle.ept_base.specs.Files.{Files};
+ghost use Rattle.ept_base.specs.Files.{Files, StepsBy, Tells};
 ghost use Rattle.ept_base.specs.Moves.{IsSettled, Moves};
+ghost use Rattle.ept_ckpt.specs.declared.checkpoint.Checkpoint as c;
 ghost use Rattle.ept_meta.specs.Output.{rules_of};
+ghost use Rattle.ept_point.specs.declared.point.Point as p;
+ghost use Rattle.ept_sample.specs.SamplingLaws.{CanBeSampled};
+ghost use Rattle.ept_space.specs.VoxelKey.{VoxelKey};
+ghost use Rattle.ept_save.specs.Current.{Keeps};
 ghost use Rattle.ept_save.specs.Errors.{IsStores};
+ghost use Rattle.ept_save.specs.Loading.{HasLine, IsDamaged};
 ghost use Rattle.ept_save.specs.Opening.{lines_of};
 ghost use Rattle.ept_save.specs.Sound as sound;
 ghost use Rattle.ept_save.specs.View.{StandsFor};
 ghost use Rattle.ept_tree.specs.Grown as tree;
+ghost use Rattle.ept_tree.specs.TreeLaws.{AreSampled};
+ghost use Rattle.ept_phase.specs.Lines.{NameTiles};
+ghost use Rattle.ept_phase.specs.Loaded.{OfCurrent, HasNoDamage};
 ghost use Rattle.ept_phase.specs.Phase.{AreGiven, GoesFurther, GoesOn, IsSaved};
 ghost use Rattle.ept_phase.specs.Saving.{HasEachNodeOf, IsSaveFault};
 
@@ -18,6 +27,7 @@ use crate::saving::save_nodes;
 use ept_base::Store;
 use ept_ckpt::body_once_law;
 use ept_config::{Kept, SourceCount};
+use ept_point::tile_once_law;
 use ept_save::{SaveError, Saved, begin, commit, sound_steps_law};
 use ept_tree::Tree;
 use std::alloc::Global;
@@ -52,6 +62,14 @@ pub fn save_tree<T: Store>(
         (IsSaved saved.old saved.new kept.now counts.now inserted (tree.nodes_of grown.now)) }
     ensures refused { OnErr result (saved.new.current ≡ saved.old.current) }
 
+    // At Ok the checkpoint names the tiles of the octree's nodes; and where these are the nodes of some points'
+    // sampling, none of its tiles is damaged.
+    ensures tiles { OnOk result (Tells (λ all. OfCurrent saved.new.current
+        (λ (c : c.Checkpoint). NameTiles all (tree.nodes_of grown.now) c.nodes)) (T.files store.new)) }
+    ensures intact { (points : List p.Point) → CanBeSampled (rules_of kept.now) points
+        → AreSampled (rules_of kept.now) points (tree.nodes_of grown.now)
+        → OnOk result (Tells (HasNoDamage saved.new.current) (T.files store.new)) }
+
     // Whatever the moment, the current checkpoint is kept with its tiles, or the next one is the current one and
     // names the tiles of the octree's nodes.
     ensures goes_on { StandsFor saved.old (T.files store.old) (T.may_leave store.old)
@@ -61,8 +79,15 @@ pub fn save_tree<T: Store>(
         → StandsFor saved.new (T.files store.new) (T.may_leave store.new)) }
     ensures settled { OnOk result (IsSettled (T.files store.new) (T.may_leave store.new)) }
 
-    // No tile of sound files is damaged.
+    // A tile is told as damaged only where the current checkpoint, which is kept, names it, and it is one. Where none
+    // is, it is refused only for the store itself; no tile of sound files is damaged.
     ensures only { IfErr result IsSaveFault }
+    ensures damaged { (key : VoxelKey) → result ≡ Err (SaveError.TileDamaged key)
+        → StandsFor saved.old (T.files store.old) (T.may_leave store.old)
+        → StepsBy (Keeps saved.old.current) (T.files store.old) (T.files store.new)
+        × HasLine saved.old.current key × Tells (IsDamaged saved.old.current key) (T.files store.new) }
+    ensures undamaged { (all : Files) → T.files store.old ≡ Some all → HasNoDamage saved.old.current all
+        → IfErr result IsStores }
     ensures sound { (shelf all : Files) → T.files store.old ≡ Some all → sound.IsSound shelf all
         → StandsFor saved.old (T.files store.old) (T.may_leave store.old) → IfErr result IsStores }
     ensures cause { HasCauseOf SaveError.StoreFault (T.faults store.old) (T.faults store.new) result }
@@ -72,5 +97,6 @@ pub fn save_tree<T: Store>(
     save_nodes(alloc, store, saved, grown.nodes())?;
     lines_law();
     body_once_law();
+    tile_once_law();
     commit(alloc, store, saved, kept, counts, inserted)
 }

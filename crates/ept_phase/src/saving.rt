@@ -4,16 +4,18 @@ ghost use Rattle.std.specs.Prelude.{◌≡◌, ◌⊎◌, true, false, Some, Err
 ghost use Rattle.ept_base.specs.Causes.{HasCauseOf};
 ghost use Rattle.ept_base.specs.Files.{Files, SameFiles, SameBut, Tells};
 ghost use Rattle.ept_base.specs.Moves.{Moves, SameImages};
+ghost use Rattle.ept_space.specs.VoxelKey.{VoxelKey};
 ghost use Rattle.ept_save.specs.Names.{work_tile_name};
 ghost use Rattle.ept_save.specs.Current.{HasCurrent, Keeps};
 ghost use Rattle.ept_save.specs.Errors.{IsStores};
 ghost use Rattle.ept_save.specs.Lines.{free_letter};
-ghost use Rattle.ept_save.specs.Loading.{HasLine, HasTile};
+ghost use Rattle.ept_save.specs.Loading.{HasLine, HasTile, IsDamaged};
 ghost use Rattle.ept_save.specs.Opening.{lines_of};
 ghost use Rattle.ept_save.specs.Sound.{IsSound};
 ghost use Rattle.ept_save.specs.View as view;
 ghost use Rattle.ept_save.specs.View.{StandsFor};
 ghost use Rattle.ept_phase.specs.Lines.{TellNodes, NameTiles};
+ghost use Rattle.ept_phase.specs.Loaded.{HasNoDamage};
 ghost use Rattle.ept_phase.specs.Saving.{HasNode, IsTold, SavesNode, AreKnown, HasEachNodeOf, IsSaveFault};
 
 use ept_base::Store;
@@ -53,8 +55,13 @@ pub fn save_node<T: Store>(
     ensures stands { StandsFor saved.old (T.files store.old) (T.may_leave store.old)
         → StandsFor saved.new (T.files store.new) (T.may_leave store.new) }
 
-    // No tile of sound files is damaged.
+    // Where no tile that the current checkpoint names is damaged, it is refused only for the store itself. No tile of
+    // sound files is damaged.
     ensures only { IfErr result (λ e. (e ≡ SaveError.TileDamaged key) ⊎ IsStores e) }
+    ensures damaged { result ≡ Err (SaveError.TileDamaged key)
+        → HasLine saved.old.current key × Tells (IsDamaged saved.old.current key) (T.files store.old) }
+    ensures undamaged { (all : Files) → T.files store.old ≡ Some all → HasNoDamage saved.old.current all
+        → IfErr result IsStores }
     ensures sound { (shelf all : Files) → T.files store.old ≡ Some all → IsSound shelf all
         → HasCurrent saved.old.current all → IfErr result IsStores }
     ensures cause { HasCauseOf SaveError.StoreFault (T.faults store.old) (T.faults store.new) result }
@@ -83,6 +90,10 @@ fn has_node<T: Store>(
     ensures stands { (v : view.View) → StandsFor v (T.files store.old) (T.may_leave store.old)
         → StandsFor v (T.files store.new) (T.may_leave store.new) }
     ensures only { IfErr result (λ e. (e ≡ SaveError.TileDamaged key) ⊎ IsStores e) }
+    ensures damaged { result ≡ Err (SaveError.TileDamaged key)
+        → HasLine saved.now.current key × Tells (IsDamaged saved.now.current key) (T.files store.old) }
+    ensures undamaged { (all : Files) → T.files store.old ≡ Some all → HasNoDamage saved.now.current all
+        → IfErr result IsStores }
     ensures sound { (shelf all : Files) → T.files store.old ≡ Some all → IsSound shelf all
         → HasCurrent saved.now.current all → IfErr result IsStores }
     ensures cause { HasCauseOf SaveError.StoreFault (T.faults store.old) (T.faults store.new) result }
@@ -113,6 +124,10 @@ fn has_points<T: Store>(
     ensures stands { (v : view.View) → StandsFor v (T.files store.old) (T.may_leave store.old)
         → StandsFor v (T.files store.new) (T.may_leave store.new) }
     ensures only { IfErr result (λ e. (e ≡ SaveError.TileDamaged key) ⊎ IsStores e) }
+    ensures damaged { result ≡ Err (SaveError.TileDamaged key)
+        → HasLine saved.now.current key × Tells (IsDamaged saved.now.current key) (T.files store.old) }
+    ensures undamaged { (all : Files) → T.files store.old ≡ Some all → HasNoDamage saved.now.current all
+        → IfErr result IsStores }
     ensures sound { (shelf all : Files) → T.files store.old ≡ Some all → IsSound shelf all
         → HasCurrent saved.now.current all → IfErr result IsStores }
     ensures cause { HasCauseOf SaveError.StoreFault (T.faults store.old) (T.faults store.new) result }
@@ -140,6 +155,10 @@ pub(crate) fn save_nodes<T: Store>(
     ensures stands { StandsFor saved.old (T.files store.old) (T.may_leave store.old)
         → StandsFor saved.new (T.files store.new) (T.may_leave store.new) }
     ensures only { IfErr result IsSaveFault }
+    ensures damaged { (key : VoxelKey) → result ≡ Err (SaveError.TileDamaged key)
+        → HasLine saved.old.current key × Tells (IsDamaged saved.old.current key) (T.files store.new) }
+    ensures undamaged { (all : Files) → T.files store.old ≡ Some all → HasNoDamage saved.old.current all
+        → IfErr result IsStores }
     ensures sound { (shelf all : Files) → T.files store.old ≡ Some all → IsSound shelf all
         → HasCurrent saved.old.current all → IfErr result IsStores }
     ensures cause { HasCauseOf SaveError.StoreFault (T.faults store.old) (T.faults store.new) result }

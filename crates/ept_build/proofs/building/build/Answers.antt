@@ -1,4 +1,4 @@
-use Rattle.std.proofs.Common.{rules, ◌≡◌, ◌∙◌, inr, Bool, refl, sym, ap, subst, arith, Some}
+use Rattle.std.proofs.Common.{rules, ◌≡◌, ◌∙◌, inr, Bool, refl, sym, ap, subst, arith, Some, ◌≤◌, List, length}
 use Rattle.std.specs.Prelude.{Result, Ok, Err, IfErr}
 use Rattle.std.proofs.lemmas.Result.{IfOk-weaker, IfErr-weaker, err_from_is_err_and}
 use Rattle.ept_base.specs.Files.{Files, SameFiles}
@@ -9,8 +9,11 @@ use Rattle.ept_scan.specs.Scans.{IsScan}
 use Rattle.ept_save.specs.Names.{done_name}
 use Rattle.ept_save.specs.Current.{Current, HasCurrent}
 use Rattle.ept_save.specs.Done.{IsDone}
+use Rattle.ept_save.specs.Loading.{HasLine, IsDamaged}
+use Rattle.ept_save.specs.Opening.{lines_of}
+use Rattle.ept_config.specs.declared.input.Input.{Input}
 use Rattle.ept_save.proofs.Standing.{stepped, told_some, tells_some, same_twice, same-stands}
-use Rattle.ept_plan.specs.Plans.{limits_by, new_paths, GoesOn, AreRefused}
+use Rattle.ept_plan.specs.Plans.{limits_by, inputs_by, new_paths, GoesOn, AreRefused}
 use Rattle.ept_build.specs.declared.error.BuildError.{BuildError}
 use Rattle.ept_build.specs.declared.summary.Summary.{Summary}
 use Rattle.ept_build.specs.Errors.{of_plan, of_save, of_put}
@@ -18,6 +21,7 @@ use Rattle.ept_build.specs.Building.{HasPoints, IsBuilt, IsUnderWay, AsksInOrder
 use Rattle.ept_build.proofs.Causes.{tells-some}
 use Rattle.ept_plan.specs.declared.error.PlanError.TheVariants as plan
 use Rattle.ept_build.proofs.Judging.{plan-refused, plan-accepted, plan-only, plan-differs, plan-is-ok, built-many, put-not-bad, err-one, stores-fails, built-accepted, store-refused, put-store, put-no-source, put-failed, save-not-many, plan-not-many, store-not-many, put-not-many}
+use Rattle.ept_build.proofs.Damage.{damaged-same, nothing-left, opening-fails, saved-damaged, plan-no-tile, put-no-tile, store-no-tile}
 use Rattle.ept_build.proofs.Asking.{opens-front, asked-none, asked-scan, asked-read}
 use Rattle.ept_build.proofs.Ground.{has-counts}
 use Rattle.ept_build.proofs.Moved.{moves-then, moves-wider}
@@ -309,3 +313,78 @@ returns-clause-asked g c = λ start current told has.
     (asked-read (g.H.Shelf.files c.args.shelf.now) c.args.config.now start c.in_ok-saved.saved.current c.in_ok-plan.plan c.in_ok-plan.ensures.plan
     (λ all shelf_told sound. has-counts all start c.args.config.now c.in_ok-saved.saved.current c.in_ok-plan.plan (tells-some _ (g.H.Shelf.files c.args.shelf.now) all shelf_told c.in_ok-plan.ensures.scan) cur sound)
     (g.H.Shelf.asked c.args.shelf.now) (g.H.Shelf.asked c.make_plan.new.shelf) (g.H.Shelf.asked c.built.new.shelf) c.in_ok-plan.ensures.asked c.built.ensures.asked)
+
+pub returns-in_err-saved-clause-damaged : goal.returns-in_err-saved-clause-damaged
+returns-in_err-saved-clause-damaged g c = λ key is start told settled.
+    let e = c.in_err-saved.field-0.0 in
+    let its : c.from_residual.result ≡ Err (of_save e) = search rules in
+    absurd (c.in_err-saved.ensures.no_tile key (saved-damaged e key (err-one (sym its ∙ is))))
+
+pub returns-in_err-saved-clause-damaged_comes : goal.returns-in_err-saved-clause-damaged_comes
+returns-in_err-saved-clause-damaged_comes g c = λ all start current shelf_told told has comes.
+    let e = c.in_err-saved.field-0.0 in
+    let its : c.from_residual.result ≡ Err (of_save e) = search rules in
+    inr (opening-fails c.from_residual.result e its (c.in_err-saved.ensures.none_bad current start told has))
+
+pub returns-in_err-plan-clause-damaged : goal.returns-in_err-plan-clause-damaged
+returns-in_err-plan-clause-damaged g c = λ key is start told settled.
+    let e = c.in_err-plan.field-0.0 in
+    let its : c.from_residual-in_err-plan.result ≡ Err (of_plan e) = search rules in
+    absurd (plan-no-tile e key (err-one (sym its ∙ is)))
+
+pub returns-in_err-plan-clause-damaged_comes : goal.returns-in_err-plan-clause-damaged_comes
+returns-in_err-plan-clause-damaged_comes g c = λ all start current shelf_told told has comes.
+    let cur = told_some (HasCurrent c.in_ok-saved.saved.current) (g.T.Store.files c.args.store.now) start told c.in_ok-saved.ensures.current in
+    let same : current ≡ c.in_ok-saved.saved.current = c.sound_law.ensures.one start current c.in_ok-saved.saved.current has cur in
+    let e = c.in_err-plan.field-0.0 in
+    let its : c.from_residual-in_err-plan.result ≡ Err (of_plan e) = search rules in
+    let accepted = tells-some _ (g.H.Shelf.files c.args.shelf.now) all shelf_told c.in_err-plan.ensures.accepted in
+    inr (plan-only c.from_residual-in_err-plan.result e its
+    (accepted comes.points comes.done (subst (λ (w : Current). GoesOn c.args.config.now w) same comes.goes_on)
+    (subst (λ (w : Current). IsScan all c.args.config.now.scale (limits_by c.args.config.now.bounds w) c.args.config.now.inputs 0 comes.points comes.done) same comes.scan)))
+
+pub returns-in_err-is_finished-clause-damaged : goal.returns-in_err-is_finished-clause-damaged
+returns-in_err-is_finished-clause-damaged g c = λ key is start told settled.
+    let p = err_from_is_err_and c.from_residual-in_err-is_finished.result c.from_residual-in_err-is_finished.ensures.1 in
+    let its : c.from_residual-in_err-is_finished.result ≡ Err c.in_err-is_finished.field-0.0 = p.1 ∙ ap (λ (w : BuildError). Err w) p.2 in
+    absurd (store-no-tile c.in_err-is_finished.field-0.0 key c.in_err-is_finished.ensures.only (err-one (sym its ∙ is)))
+
+pub returns-in_err-is_finished-clause-damaged_comes : goal.returns-in_err-is_finished-clause-damaged_comes
+returns-in_err-is_finished-clause-damaged_comes g c = λ all start current shelf_told told has comes.
+    let p = err_from_is_err_and c.from_residual-in_err-is_finished.result c.from_residual-in_err-is_finished.ensures.1 in
+    let its : c.from_residual-in_err-is_finished.result ≡ Err c.in_err-is_finished.field-0.0 = p.1 ∙ ap (λ (w : BuildError). Err w) p.2 in
+    inr (stores-fails c.from_residual-in_err-is_finished.result c.in_err-is_finished.field-0.0 its c.in_err-is_finished.ensures.only)
+
+pub returns-in_err-sync-clause-damaged : goal.returns-in_err-sync-clause-damaged
+returns-in_err-sync-clause-damaged g c = λ key is start told settled.
+    let p = err_from_is_err_and c.from_residual-in_err-sync.result c.from_residual-in_err-sync.ensures.1 in
+    let its : c.from_residual-in_err-sync.result ≡ Err (of_put c.in_err-sync.field-0.0) = p.1 ∙ ap (λ (w : BuildError). Err w) p.2 in
+    absurd (put-no-tile c.in_err-sync.field-0.0 key (err-one (sym its ∙ is)))
+
+pub returns-in_err-sync-clause-damaged_comes : goal.returns-in_err-sync-clause-damaged_comes
+returns-in_err-sync-clause-damaged_comes g c = λ all start current shelf_told told has comes.
+    let p = err_from_is_err_and c.from_residual-in_err-sync.result c.from_residual-in_err-sync.ensures.1 in
+    let its : c.from_residual-in_err-sync.result ≡ Err (of_put c.in_err-sync.field-0.0) = p.1 ∙ ap (λ (w : BuildError). Err w) p.2 in
+    inr (stores-fails c.from_residual-in_err-sync.result (of_put c.in_err-sync.field-0.0) its (put-store c.in_err-sync.field-0.0))
+
+pub returns-then-branch-clause-damaged_comes : goal.returns-then-branch-clause-damaged_comes
+returns-then-branch-clause-damaged_comes g c = λ all start current shelf_told told has comes.
+    let cur = told_some (HasCurrent c.in_ok-saved.saved.current) (g.T.Store.files c.args.store.now) start told c.in_ok-saved.ensures.current in
+    let same : current ≡ c.in_ok-saved.saved.current = c.sound_law.ensures.one start current c.in_ok-saved.saved.current has cur in
+    let finished = c.in_ok-is_finished.ensures.finished (ap (λ (b : Bool). Ok b) c.if-branch.true) in
+    let at_one = stepped SameFiles (g.T.Store.files c.args.store.now) (g.T.Store.files c.open.new.store) start told c.open.ensures.any_moment.reads in
+    let opened = told_some IsDone (g.T.Store.files c.open.new.store) at_one.0 at_one.1 finished.1 in
+    nothing-left c.args.config.now start current comes.left (sym (at_one.2 done_name) ∙ opened) (ap inputs_by same ∙ (finished.0.inputs ∙ ap (λ (w : List Input). length w) c.in_ok-plan.ensures.plan.kept_is.inputs_is))
+
+pub returns-clause-damaged : goal.returns-clause-damaged
+returns-clause-damaged g c = λ key is start told settled.
+    c.built.ensures.damaged key is (same-stands g.T.Store.files g.T.Store.may_leave g.T.Store.moment g.T.Store.image_since c.in_ok-saved.saved c.open.new.store c.is_finished.new.store c.is_finished.ensures.any_moment (c.in_ok-saved.ensures.stands start told settled))
+
+pub returns-clause-damaged_comes : goal.returns-clause-damaged_comes
+returns-clause-damaged_comes g c = λ all start current shelf_told told has comes.
+    let cur = told_some (HasCurrent c.in_ok-saved.saved.current) (g.T.Store.files c.args.store.now) start told c.in_ok-saved.ensures.current in
+    let same : current ≡ c.in_ok-saved.saved.current = c.sound_law.ensures.one start current c.in_ok-saved.saved.current has cur in
+    let at_two = stepped SameFiles (g.T.Store.files c.args.store.now) (g.T.Store.files c.is_finished.new.store) start told (same_twice g.T.Store.files g.T.Store.may_leave g.T.Store.moment g.T.Store.image_since c.args.store.now c.open.new.store c.is_finished.new.store c.open.ensures.any_moment c.is_finished.ensures.any_moment).reads in
+    c.built.ensures.damaged_comes at_two.0 comes.key at_two.1 (subst (λ (w : Current). HasLine w comes.key) same comes.has_line)
+    (damaged-same c.in_ok-saved.saved.current comes.key at_two.0 start (λ name. sym (at_two.2 name)) (subst (λ (w : Current). IsDamaged w comes.key start) same comes.damaged))
+    (subst (λ (w : Current). length (lines_of w) ≤ c.args.config.now.max_nodes) same comes.few)

@@ -9,7 +9,8 @@ use Rattle.ept_config.specs.declared.input.Input.{Input}
 use Rattle.ept_meta.specs.Output.{rules_of}
 use Rattle.ept_save.specs.Current.{HasCurrent}
 use Rattle.ept_save.specs.View.{View}
-use Rattle.ept_save.proofs.Standing.{stepped}
+use Rattle.ept_save.proofs.Standing.{stepped, told_some}
+use Rattle.ept_phase.specs.Loaded.{HasNoDamage}
 use Rattle.ept_build.specs.declared.error.BuildError.{BuildError}
 use Rattle.ept_build.specs.declared.summary.Summary.{Summary}
 use Rattle.ept_build.specs.declared.error.BuildError.TheVariants.{TileDamaged, SourceChanged, TooManyNodes}
@@ -20,6 +21,7 @@ use Rattle.ept_scan.specs.Asking.{paths_left}
 use Rattle.ept_build.proofs.Asking.{AsksFront, front-none}
 use Rattle.ept_build.proofs.Causes.{tells-some}
 use Rattle.ept_build.proofs.Ground.{IsGround, ground as ground-of, extent-found, many-at}
+use Rattle.ept_build.proofs.Damage.{loading-tells, store-no-tile}
 use Rattle.ept_build.proofs.Judging.{err-one}
 use Rattle.ept_build.proofs.Moved.{moves-then, moves-wider}
 use Rattle.ept_build.proofs.Numbers.{nodes-number}
@@ -170,3 +172,37 @@ returns-clause-asked g c =
 
 pub returns-in_err-at-clause-asked : goal.returns-in_err-at-clause-asked
 returns-in_err-at-clause-asked g c = front-none (paths_left c.args.plan.now.kept.inputs c.args.plan.now.counts c.args.plan.now.inserted) (g.H.Shelf.asked c.args.shelf.now) (g.H.Shelf.asked c.args.shelf.now) refl
+
+pub returns-in_err-at-clause-damaged : goal.returns-in_err-at-clause-damaged
+returns-in_err-at-clause-damaged g c = λ key is stands.
+    let e = c.in_err-at.field-0.0 in
+    let was : c.from_residual.result ≡ Err e = search rules in
+    (c.args.saved.current, c.in_err-at.ensures.damaged key (ap (λ (w : BuildError). Err w) (err-one (sym was ∙ is))) stands)
+
+pub returns-in_err-grow-clause-damaged : goal.returns-in_err-grow-clause-damaged
+returns-in_err-grow-clause-damaged g c = λ key is stands.
+    let e = c.in_err-grow.field-0.0 in
+    let was : c.from_residual-in_err-grow.result ≡ Err e = search rules in
+    c.in_err-grow.ensures.damaged key (ap (λ (w : BuildError). Err w) (err-one (sym was ∙ is))) (c.in_ok-at.ensures.stands stands)
+
+pub returns-in_err-finish-clause-damaged : goal.returns-in_err-finish-clause-damaged
+returns-in_err-finish-clause-damaged g c = λ key is stands.
+    let e = c.in_err-finish.field-0.0 in
+    let was : c.from_residual-in_err-finish.result ≡ Err e = search rules in
+    absurd (store-no-tile e key c.in_err-finish.ensures.only (err-one (sym was ∙ is)))
+
+pub returns-in_err-at-clause-damaged_comes : goal.returns-in_err-at-clause-damaged_comes
+returns-in_err-at-clause-damaged_comes g c = λ start key told has damaged few.
+    let e = c.in_err-at.field-0.0 in
+    let was : c.from_residual.result ≡ Err e = search rules in
+    loading-tells c.from_residual.result e was c.in_err-at.ensures.only (λ same. c.in_err-at.ensures.no_source (ap (λ (w : BuildError). Err w) same)) (λ source number same. c.in_err-at.ensures.no_change source number (ap (λ (w : BuildError). Err w) same))
+    (λ same. let more = c.in_err-at.ensures.too_many (ap (λ (w : BuildError). Err w) same) in omega (arith, more, few))
+
+pub returns-in_err-grow-clause-damaged_comes : goal.returns-in_err-grow-clause-damaged_comes
+returns-in_err-grow-clause-damaged_comes g c = λ start key told has damaged few. absurd (told_some (HasNoDamage c.args.saved.current) (g.T.Store.files c.args.store.now) start told c.in_ok-at.ensures.damaged_comes key has damaged)
+
+pub returns-in_err-finish-clause-damaged_comes : goal.returns-in_err-finish-clause-damaged_comes
+returns-in_err-finish-clause-damaged_comes g c = λ start key told has damaged few. absurd (told_some (HasNoDamage c.args.saved.current) (g.T.Store.files c.args.store.now) start told c.in_ok-at.ensures.damaged_comes key has damaged)
+
+pub returns-clause-damaged_comes : goal.returns-clause-damaged_comes
+returns-clause-damaged_comes g c = λ start key told has damaged few. absurd (told_some (HasNoDamage c.args.saved.current) (g.T.Store.files c.args.store.now) start told c.in_ok-at.ensures.damaged_comes key has damaged)

@@ -1,4 +1,4 @@
-use Rattle.std.proofs.Common.{◌∙◌, List, drop, sym, ap, subst, arith}
+use Rattle.std.proofs.Common.{rules, ◌∙◌, List, drop, sym, ap, subst, arith}
 use Rattle.std.specs.Prelude.{All}
 use Rattle.ept_base.specs.Files.{Files}
 use Rattle.ept_point.specs.declared.point.Point.{Point}
@@ -17,6 +17,7 @@ use Rattle.ept_build.proofs.Asking.{AsksFront, opens-front}
 use Rattle.ept_build.proofs.Counting.{after-none, reached-now}
 use Rattle.ept_build.proofs.PhaseSound.{none-moves}
 use Rattle.ept_build.proofs.Moved.{moves-none, all-images}
+use Rattle.ept_build.proofs.Damage.{read-no-tile}
 use Rattle.ept_build.proofs.growing.grow.Goals as goal
 
 pub reader-requires-clause-drawn : goal.reader-requires-clause-drawn
@@ -91,3 +92,6 @@ returns-clause-asked g c =
     subst (λ (w : List SourceCount). AsksFront (paths_left c.args.plan.now.kept.inputs w c.args.at.now.inserted) (g.H.Shelf.asked c.args.shelf.now) (g.H.Shelf.asked c.retire_all.new.shelf)) c.as_slice.ensures
     (subst (λ (w : _). AsksFront (paths_left c.args.plan.now.kept.inputs c.as_slice.result.now c.args.at.now.inserted) (g.H.Shelf.asked c.args.shelf.now) w) (sym c.retire_all.ensures.asked)
     (opens-front (paths_left c.args.plan.now.kept.inputs c.as_slice.result.now c.args.at.now.inserted) c.reader.result (g.H.Shelf.asked c.args.shelf.now) (g.H.Shelf.asked c.reader.new.shelf) c.reader.ensures.asked))
+
+pub returns-in_err-reader-clause-damaged : goal.returns-in_err-reader-clause-damaged
+returns-in_err-reader-clause-damaged g c = λ key is stands. absurd (read-no-tile c.in_err-reader.field-0.0 key (search (rules, is)))

@@ -4,6 +4,7 @@ use Rattle.ept_point.specs.declared.point.Point.{Point}
 use Rattle.ept_space.specs.declared.cube.Rules.{Rules}
 use Rattle.ept_config.specs.declared.source_count.SourceCount.{SourceCount}
 use Rattle.ept_insert.specs.declared.error.InsertError.{InsertError}
+use Rattle.ept_save.specs.declared.error.SaveError.{SaveError}
 use Rattle.ept_save.specs.Errors.{IsStores}
 use Rattle.ept_save.specs.View.{View}
 use Rattle.ept_tree.specs.Grown as tree
@@ -17,6 +18,7 @@ use Rattle.ept_build.proofs.Phased.{points-then, inserted-sampled, many-then, ea
 use Rattle.ept_build.proofs.PhaseSound.{phase-moves, phase-images, way-sound, names-of, either-moves, none-moves}
 use Rattle.ept_build.specs.Reached.{HasThisOrNext, generation_by}
 use Rattle.ept_build.proofs.Counting.{next-one}
+use Rattle.ept_build.proofs.Damage.{inserted-no-tile, saved-damaged, kept-damage}
 use Rattle.ept_build.proofs.growing.phase.Goals as goal
 
 pub returns-in_err-insert-clause-too_many : goal.returns-in_err-insert-clause-too_many
@@ -124,3 +126,11 @@ returns-clause-either g c = λ stands.
 pub returns-clause-generation : goal.returns-clause-generation
 returns-clause-generation g c =
     ap (λ (v : View). generation_by v.current) c.in_ok-save_tree.ensures.saved.view_is ∙ (c.in_ok-save_tree.ensures.saved.is_next.generation ∙ next-one c.args.at.now.saved.current)
+
+pub returns-in_err-insert-clause-damaged : goal.returns-in_err-insert-clause-damaged
+returns-in_err-insert-clause-damaged g c = λ key is stands. absurd (inserted-no-tile c.in_err-insert.field-0.0 key (search (rules, is)))
+
+pub returns-in_err-save_tree-clause-damaged : goal.returns-in_err-save_tree-clause-damaged
+returns-in_err-save_tree-clause-damaged g c = λ key is stands.
+    let damaged = c.in_err-save_tree.ensures.damaged key (ap (λ (e : SaveError). Err e) (saved-damaged c.in_err-save_tree.field-0.0 key (search (rules, is)))) stands in
+    kept-damage c.args.at.now.saved key (g.T.Store.files c.args.store.now) (g.T.Store.files c.save_tree.new.store) stands damaged.0 damaged.1 damaged.2

@@ -177,3 +177,6 @@ returns-clause-through g c =
 
 pub returns-clause-reached : goal.returns-clause-reached
 returns-clause-reached g c = λ stands. c.loop-alloc.invariant.reached stands
+
+pub returns-in_err-phase-clause-damaged : goal.returns-in_err-phase-clause-damaged
+returns-in_err-phase-clause-damaged g c = λ key is stands. (c.loop-alloc.at.saved.current, c.in_err-phase.ensures.damaged key (search (rules, is)) (c.loop-alloc.invariant.stands stands))

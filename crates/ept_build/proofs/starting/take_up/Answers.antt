@@ -3,9 +3,10 @@ use Rattle.std.specs.Prelude.{Err}
 use Rattle.ept_base.specs.Files.{Files, SameFiles}
 use Rattle.ept_save.proofs.Standing.{stepped, settled_some}
 use Rattle.ept_phase.specs.declared.error.LoadError.{LoadError}
-use Rattle.ept_build.specs.Errors.{of_load}
+use Rattle.ept_build.specs.Errors.{of_load, of_save}
 use Rattle.ept_build.specs.Phases.{IsSoundAt}
-use Rattle.ept_build.proofs.Causes.{loaded-damaged}
+use Rattle.ept_build.proofs.Causes.{loaded-damaged, stores-undamaged}
+use Rattle.ept_build.proofs.Damage.{same-damage}
 use Rattle.ept_build.proofs.Judging.{err-one}
 use Rattle.ept_build.proofs.Moved.{moves-then}
 use Rattle.ept_build.proofs.Running.{sound-settled, same-moves, same-all, close-all, close-moves, closed-images, settled-on, tree-loaded}
@@ -61,3 +62,19 @@ returns-in_err-grown-clause-undamaged g c = λ all start starts key is.
     let e = c.in_err-grown.field-0.0 in
     let its : c.from_residual.result ≡ Err (of_load e) = search rules in
     c.in_err-grown.ensures.sound all start starts.told starts.sound starts.has_current key (ap (λ (w : LoadError). Err w) (loaded-damaged e key (err-one (sym its ∙ is))))
+
+pub returns-in_err-grown-clause-damaged : goal.returns-in_err-grown-clause-damaged
+returns-in_err-grown-clause-damaged g c = λ key is stands.
+    let e = c.in_err-grown.field-0.0 in
+    let its : c.from_residual.result ≡ Err (of_load e) = search rules in
+    let damaged = c.in_err-grown.ensures.damaged key (ap (λ (w : LoadError). Err w) (loaded-damaged e key (err-one (sym its ∙ is)))) in
+    same-damage c.args.saved key (g.T.Store.files c.args.store.now) (g.T.Store.files c.load_tree.new.store) (c.load_tree.ensures.stands c.args.saved stands) c.load_tree.ensures.any_moment.reads damaged.0 damaged.1
+
+pub returns-in_err-close_done-clause-damaged : goal.returns-in_err-close_done-clause-damaged
+returns-in_err-close_done-clause-damaged g c = λ key is stands.
+    let e = c.in_err-close_done.field-0.0 in
+    let its : c.from_residual-in_err-close_done.result ≡ Err (of_save e) = search rules in
+    absurd (stores-undamaged e key c.in_err-close_done.ensures.only (err-one (sym its ∙ is)))
+
+pub returns-clause-stands : goal.returns-clause-stands
+returns-clause-stands g c = λ stands. c.in_ok-close_done.ensures.stands c.args.saved (c.load_tree.ensures.stands c.args.saved stands)

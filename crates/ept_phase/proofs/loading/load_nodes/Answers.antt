@@ -1,6 +1,8 @@
-use Rattle.std.proofs.Common.{◌≡◌, ◌∙◌, ℕ, ◌<◌, ◌≤◌, List, length, get_or, sym, ap, subst, arith, rules}
+use Rattle.std.proofs.Common.{◌≡◌, ◌∙◌, ℕ, ◌<◌, ◌≤◌, List, length, get_or, take, sym, ap, subst, arith, rules}
 use Rattle.std.specs.Prelude.{Err}
+use Rattle.std.proofs.lemmas.List.{take_all}
 use Rattle.std.proofs.lemmas.Result.{err_from_is_err_and}
+use Rattle.ept_base.specs.Files.{Tells}
 use Rattle.ept_sample.specs.Members.{IsMember}
 use Rattle.ept_ckpt.specs.declared.node_line.NodeLine.{NodeLine}
 use Rattle.ept_ckpt.specs.declared.checkpoint.Checkpoint.{Checkpoint}
@@ -12,9 +14,11 @@ use Rattle.ept_save.specs.Loading.{HasLine, HasTile}
 use Rattle.ept_save.proofs.Standing.{same_twice}
 use Rattle.ept_tree.specs.Tree.{Branch}
 use Rattle.ept_phase.specs.Lines.{NamesTile}
+use Rattle.ept_phase.specs.Loaded.{HasNoDamage}
 use Rattle.ept_phase.proofs.Merging.{DoAscend}
 use Rattle.ept_phase.proofs.Lining.{do-ascend, member-at, line-there, next-told, next-own, next-named, told-more, tiles-more, own-next, one-more, tells-more, told-few}
 use Rattle.ept_phase.proofs.Compared.{images-then}
+use Rattle.ept_phase.proofs.Undamaged.{AreIntact, intact-next, loaded-whole, all-intact}
 use Rattle.ept_phase.proofs.Refusing.{was-save, damaged-told, none-damaged, load-fault, stays-sound}
 use Rattle.ept_phase.proofs.loading.load_nodes.Goals as goal
 
@@ -53,7 +57,21 @@ loop-line-preserved g c =
       told = told-more (rules_of at.kept) entries more items i line node inserted up inside is invariant.told (next-told current at c.requires.current line there node found.node found.points);
       tiles = tiles-more (rules_of at.kept) entries more items i line node inserted up inside is invariant.told (g.T.Store.files c.args.store.now) (g.T.Store.files c.loop-line.store) invariant.moves.reads invariant.tiles
           (tells-more (HasTile current line.key node.points) (λ all. NamesTile all (line.key, node) line) (next-named current at c.requires.current line there node) (g.T.Store.files c.loop-line.store) found.tile);
+      intact = intact-next current items i line inside is (g.T.Store.files c.args.store.now) (g.T.Store.files c.loop-line.store) invariant.moves.reads invariant.intact
+          (loaded-whole c.load_node.result node c.in_ok-node.was current line.key (g.T.Store.files c.loop-line.store) c.load_node.ensures.refusal_comes);
     }
+
+pub returns-clause-undamaged : goal.returns-clause-undamaged
+returns-clause-undamaged g c =
+    let at : Checkpoint = c.args.checkpoint.now in
+    let current : Current = c.args.saved.now.current in
+    let files = g.T.Store.files c.args.store.now in
+    let items : List NodeLine = c.as_slice-line-items.result.now in
+    let i : ℕ = c.loop-line.line-index in
+    let end : length items ≤ i = omega (arith, c.loop-line-test.false) in
+    let all : take i items ≡ at.nodes = take_all i items end ∙ c.as_slice-line-items.ensures in
+    tells-more (AreIntact current at.nodes) (HasNoDamage current) (all-intact current at c.requires.current) files
+    (subst (λ (w : List NodeLine). Tells (AreIntact current w) files) all c.loop-line.invariant.intact)
 
 pub returns-in_err-node-clause-any_moment : goal.returns-in_err-node-clause-any_moment
 returns-in_err-node-clause-any_moment g c =

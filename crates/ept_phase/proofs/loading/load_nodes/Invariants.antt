@@ -4,6 +4,7 @@ use Rattle.ept_base.specs.Moves.{Moves, SameImages}
 use Rattle.ept_meta.specs.Output.{rules_of}
 use Rattle.ept_tree.specs.Tree.{AreNodes}
 use Rattle.ept_phase.specs.Lines.{TellNodes, NameTiles}
+use Rattle.ept_phase.proofs.Undamaged.{AreIntact}
 use Rattle.ept_phase.proofs.loading.load_nodes.Given as goal
 
 abbrev pub invariant-loop-line : goal.invariant-loop-line
@@ -15,4 +16,5 @@ invariant-loop-line g l = record {
   few : length l.nodes.entries ≤ l.most;
   told : TellNodes l.nodes.entries (take l.line-index l.line-items);
   tiles : Tells (λ all. NameTiles all l.nodes.entries (take l.line-index l.line-items)) (g.T.Store.files l.initial.store);
+  intact : Tells (AreIntact l.saved.current (take l.line-index l.line-items)) (g.T.Store.files l.initial.store);
 }

@@ -5,6 +5,8 @@ use Rattle.ept_save.specs.Names.{work_tile_name}
 use Rattle.ept_save.proofs.LoadedLines.{handed-on}
 use Rattle.ept_phase.proofs.Compared.{same-but, same-keeps, but-then, keeps-then}
 use Rattle.ept_phase.proofs.SavedTo.{stays, saved-tile}
+use Rattle.ept_save.specs.declared.error.SaveError.TheVariants.{TileDamaged}
+use Rattle.ept_phase.proofs.Undamaged.{one-refusal, stores-no-tile}
 use Rattle.ept_phase.proofs.saving.save_node.Goals as goal
 
 pub returns-in_err-has_node-clause-one_tile : goal.returns-in_err-has_node-clause-one_tile
@@ -19,6 +21,11 @@ pub returns-in_err-has_node-clause-sound : goal.returns-in_err-has_node-clause-s
 returns-in_err-has_node-clause-sound g c = λ shelf all told sound has.
     let is : c.from_residual.result ≡ Err c.in_err-has_node.field-0.0 = search rules in
     handed-on c.has_node.result c.from_residual.result c.in_err-has_node.field-0.0 c.in_err-has_node.was is (c.has_node.ensures.sound shelf all told sound has)
+
+pub returns-in_err-has_node-clause-undamaged : goal.returns-in_err-has_node-clause-undamaged
+returns-in_err-has_node-clause-undamaged g c = λ all told none.
+    let is : c.from_residual.result ≡ Err c.in_err-has_node.field-0.0 = search rules in
+    handed-on c.has_node.result c.from_residual.result c.in_err-has_node.field-0.0 c.in_err-has_node.was is (c.has_node.ensures.undamaged all told none)
 
 pub returns-then-branch-clause-node : goal.returns-then-branch-clause-node
 returns-then-branch-clause-node g c =
@@ -45,3 +52,11 @@ pub returns-clause-keeps : goal.returns-clause-keeps
 returns-clause-keeps g c =
     keeps-then g.T.Store.files g.T.Store.may_leave g.T.Store.moment g.T.Store.image_since c.args.saved.now.current c.args.store.now c.has_node.new.store c.save_tile.new.store
     (same-keeps g.T.Store.files g.T.Store.may_leave g.T.Store.moment g.T.Store.image_since c.args.saved.now.current c.args.store.now c.has_node.new.store c.has_node.ensures.any_moment) c.save_tile.ensures.keeps
+
+pub returns-in_err-has_node-clause-damaged : goal.returns-in_err-has_node-clause-damaged
+returns-in_err-has_node-clause-damaged g c = λ is.
+    let also : c.from_residual.result ≡ Err c.in_err-has_node.field-0.0 = search rules in
+    c.has_node.ensures.damaged (one-refusal c.has_node.result c.from_residual.result c.in_err-has_node.field-0.0 (TileDamaged c.args.key) c.in_err-has_node.was also is)
+
+pub returns-clause-damaged : goal.returns-clause-damaged
+returns-clause-damaged g c = λ is. absurd (stores-no-tile c.save_tile.result c.args.key c.save_tile.ensures.only is)
