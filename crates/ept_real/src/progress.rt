@@ -1,5 +1,7 @@
 //! How far a build is, told on standard error.
 
+ghost use Rattle.std.specs.Prelude.{◌≡◌};
+
 use std::fmt;
 use std::io::{self, Write};
 use std::sync::atomic::{AtomicBool, AtomicU64, Ordering};
@@ -28,7 +30,8 @@ pub enum Telling {
     Lines,
 }
 
-/// How far a build is: what was read of its files, put and flushed, as [`SeenFiles`](crate::SeenFiles) sees it.
+/// The machine, and how far a build is: what was read of its files, put and flushed, as
+/// [`SeenFiles`](crate::SeenFiles) sees it.
 ///
 /// It is told on standard error. A clock that can't be read tells nothing, and a line that can't be written
 /// changes nothing.
@@ -54,8 +57,12 @@ pub struct Progress<R: Clock + Eprint + Drop> {
 }
 
 impl<R: Clock + Eprint + Drop> Progress<R> {
-    /// A build by the program of this name, which begins now.
-    pub fn new(machine: R, program: &'static str, telling: Telling) -> Self {
+    ghost use Rattle.ept_real.specs.Machines.{machine_of};
+
+    /// A build on this machine by the program of this name, which begins now.
+    pub fn new(machine: R, program: &'static str, telling: Telling) -> Self
+        ensures { machine_of result ≡ machine }
+    {
         Progress {
             began: Instant::now(&machine).ok(),
             machine,
@@ -71,6 +78,13 @@ impl<R: Clock + Eprint + Drop> Progress<R> {
             put: AtomicU64::new(0),
             flushed: AtomicU64::new(0),
         }
+    }
+
+    /// The machine.
+    pub fn machine(&self) -> &R
+        ensures { result.now ≡ machine_of self.now }
+    {
+        &self.machine
     }
 
     /// A file was asked for.

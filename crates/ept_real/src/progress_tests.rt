@@ -150,9 +150,8 @@ fn a_build_tells_how_far_it_is(rt: HostRuntime) -> Result<(), Fail> {
     let seen = Seen::new(alloc);
     seen.step.set(10_000);
     let disk = Disk::new(&rt, &seen);
-    let machine = &disk;
-    let progress = Progress::new(machine, "test", Telling::Lines);
-    let files = SeenFiles::new(&machine, &progress, "out");
+    let progress = Progress::new(&disk, "test", Telling::Lines);
+    let files = SeenFiles::new(&progress, "out");
     let mut shelf = RealShelf::new(alloc, &files);
     let mut store = RealStore::new(alloc, &files, "out");
     for (call, want) in CALLS {
@@ -173,9 +172,8 @@ fn a_build_goes_on_where_nothing_is_told(rt: HostRuntime) -> Result<(), Fail> {
         seen.step.set(10_000);
         seen.is_mute.set(is_mute);
         let disk = Disk::new(&rt, &seen);
-        let machine = &disk;
-        let progress = Progress::new(machine, "test", telling);
-        let files = SeenFiles::new(&machine, &progress, "out");
+        let progress = Progress::new(&disk, "test", telling);
+        let files = SeenFiles::new(&progress, "out");
         let mut shelf = RealShelf::new(alloc, &files);
         let mut store = RealStore::new(alloc, &files, "out");
         for (call, _) in CALLS {

@@ -11,19 +11,19 @@ use std::time::Clock;
 /// folder.
 #[derive(Drop)]
 pub struct SeenFiles<'a, R: Files + Clock + Eprint + Drop> {
-    files: &'a R,
     progress: &'a Progress<R>,
     folder: &'a str,
 }
 
 impl<'a, R: Files + Clock + Eprint + Drop> SeenFiles<'a, R> {
-    /// These files, as the progress of a build into this folder sees them.
-    pub fn new(files: &'a R, progress: &'a Progress<R>, folder: &'a str) -> Self {
-        SeenFiles {
-            files,
-            progress,
-            folder,
-        }
+    /// The files of the machine of this progress, as that of a build into this folder.
+    pub fn new(progress: &'a Progress<R>, folder: &'a str) -> Self {
+        SeenFiles { progress, folder }
+    }
+
+    /// The machine.
+    fn machine(&self) -> &R {
+        self.progress.machine()
     }
 }
 
@@ -45,7 +45,7 @@ impl<'a, R: Files + Clock + Eprint + Drop> Files for SeenFiles<'a, R> {
         let role = role_of(self.folder, path);
         self.progress.note_opened(role);
         Ok(SeenFile {
-            file: self.files.open_file(how, path)?,
+            file: self.machine().open_file(how, path)?,
             role,
             is_put: false,
             progress: self.progress,
@@ -53,39 +53,39 @@ impl<'a, R: Files + Clock + Eprint + Drop> Files for SeenFiles<'a, R> {
     }
 
     fn open_dir(&self, path: &str) -> io::Result<R::Dir> {
-        self.files.open_dir(path)
+        self.machine().open_dir(path)
     }
 
     fn metadata(&self, path: &str) -> io::Result<Metadata> {
-        self.files.metadata(path)
+        self.machine().metadata(path)
     }
 
     fn symlink_metadata(&self, path: &str) -> io::Result<Metadata> {
-        self.files.symlink_metadata(path)
+        self.machine().symlink_metadata(path)
     }
 
     fn copy(&self, from: &str, to: &str) -> io::Result<u64> {
-        self.files.copy(from, to)
+        self.machine().copy(from, to)
     }
 
     fn rename(&self, from: &str, to: &str) -> io::Result<()> {
-        self.files.rename(from, to)
+        self.machine().rename(from, to)
     }
 
     fn remove_file(&self, path: &str) -> io::Result<()> {
-        self.files.remove_file(path)
+        self.machine().remove_file(path)
     }
 
     fn create_dir(&self, path: &str) -> io::Result<()> {
-        self.files.create_dir(path)
+        self.machine().create_dir(path)
     }
 
     fn remove_dir(&self, path: &str) -> io::Result<()> {
-        self.files.remove_dir(path)
+        self.machine().remove_dir(path)
     }
 
     fn remove_dir_all<B: Allocator>(&self, alloc: B, path: &str) -> io::Result<()> {
-        self.files.remove_dir_all(alloc, path)
+        self.machine().remove_dir_all(alloc, path)
     }
 }
 

@@ -44,7 +44,6 @@ use std::alloc::Global;
 use std::env;
 use std::io::{ErrorKind, IsTerminal, writer};
 use std::process::ExitCode;
-use std::rt::Files;
 
 fn main(rt: HostRuntime) -> ExitCode {
     let alloc = rt.alloc();
@@ -52,22 +51,20 @@ fn main(rt: HostRuntime) -> ExitCode {
         Ok(words) => (words, None),
         Err(refusal) => (Vec::new(alloc), Some(refusal)),
     };
-    let machine = &rt;
-    let progress = Progress::new(machine, "ept_tool", telling_of(machine, &words));
-    let mut out = Heard::new(
-        alloc,
-        RealSink::new(Ending::new(&progress, writer(machine))),
-    );
+    let telling = telling_of(&rt, &words);
+    let progress = Progress::new(rt, "ept_tool", telling);
+    let rt = progress.machine();
+    let mut out = Heard::new(alloc, RealSink::new(Ending::new(&progress, writer(rt))));
     let ended = match refusal {
         None => {
-            let files = SeenFiles::new(&machine, &progress, folder_of(&words));
+            let files = SeenFiles::new(&progress, folder_of(&words));
             start(alloc, &files, &words, &mut out)
         }
         Some(refusal) => Ended::with(refuse(alloc, &mut out, refusal)),
     };
     progress.end();
     if ended.status != OK {
-        tell(machine, &words, &ended, out.line());
+        tell(rt, &words, &ended, out.line());
     }
     ExitCode::from(ended.status)
 }
@@ -115,10 +112,12 @@ fn given_words(rt: &HostRuntime) -> Result<Vec<String>, Refusal> {
 
 // Runs the words over these files, and over the folder that they name. A command that names none has a store
 // in memory.
-fn start<F: Files + Sync, O: Sink>(alloc: Global, files: &F, words: &[String], out: &mut O) -> Ended
-where
-    F::File: Send,
-{
+fn start<'a, O: Sink>(
+    alloc: Global,
+    files: &'a SeenFiles<'a, HostRuntime>,
+    words: &'a [String],
+    out: &mut O,
+) -> Ended {
     let mut room = MemRoom::new(alloc, Vec::new(alloc), Vec::new(alloc));
     let mut shelf = RealShelf::new(alloc, files);
     let mut got = None;
@@ -155,7 +154,7 @@ where
 }
 
 // Says on standard error what was wrong: what the line says, in words, or else what the status says.
-fn tell(rt: &HostRuntime, words: &[String], ended: &Ended, line: &str) {
+fn tell<'a>(rt: &'a HostRuntime, words: &'a [String], ended: &'a Ended, line: &str) {
     let alloc = rt.alloc();
     let status = ended.status;
     let folder = folder_of(words);
