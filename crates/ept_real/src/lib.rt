@@ -1,5 +1,6 @@
 //! The outside world over the real machine: the shelf that opens files by their paths and the sources
-//! that it opens, a store in a folder, a sink over a writer, and a link over a stream.
+//! that it opens, a store in a folder, a sink over a writer, a link over a stream, and the machine as one that
+//! tells how far a build is.
 //!
 //! What they hold is not told: clauses on contents say nothing of them. Each keeps its counts, of
 //! faults, of bytes given and of gets, in 64 bits, and a count stands still at its last value.
@@ -8,6 +9,10 @@
 mod link;
 mod path_set;
 mod paths;
+mod progress;
+#[cfg(test)]
+mod progress_tests;
+mod seen_files;
 mod shelf;
 mod sink;
 mod source;
@@ -15,6 +20,8 @@ mod store;
 mod unsynced;
 
 pub use link::RealLink;
+pub use progress::{Ending, Progress, Telling};
+pub use seen_files::{SeenFile, SeenFiles};
 pub use shelf::RealShelf;
 pub use sink::RealSink;
 pub use source::RealSource;

@@ -20,10 +20,12 @@ pub struct RealLink<S: Read + Write + Drop> {
 
 impl<S: Read + Write + Drop> RealLink<S> {
     ghost use Rattle.ept_real.specs.Counts.{link_faults};
+    ghost use Rattle.ept_real.specs.Streams.{link_stream};
 
     /// A link over this stream, without a fault.
     pub fn new(stream: S) -> Self
         ensures sound { link_faults result ≡ 0 }
+        ensures over { link_stream result ≡ stream }
     {
         RealLink {
             stream,
@@ -33,7 +35,9 @@ impl<S: Read + Write + Drop> RealLink<S> {
     }
 
     /// The stream.
-    pub fn stream(&self) -> &S {
+    pub fn stream(&self) -> &S
+        ensures { result.now ≡ link_stream self.now }
+    {
         &self.stream
     }
 

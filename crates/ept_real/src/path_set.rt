@@ -1,4 +1,4 @@
-ghost use Rattle.std.specs.Prelude.{◌≡◌, ◌⊎◌, ◌↔◌, ℕ, List, [], Contains, IsTrue, OnOk};
+ghost use Rattle.std.specs.Prelude.{◌≡◌, ◌⊎◌, ◌↔◌, ℕ, List, [], Contains, IsTrue, OnOk, map, string_bytes};
 ghost use Rattle.ept_real.specs.Ways.{Keeps, KeepsBut};
 
 use std::alloc::{AllocError, Global};
@@ -77,7 +77,9 @@ impl PathSet {
     }
 
     /// The paths, in order.
-    pub(crate) fn paths(&self) -> &BTreeSet<String> {
+    pub(crate) fn paths(&self) -> &BTreeSet<String>
+        ensures { map string_bytes result.now.keys ≡ self.now }
+    {
         &self.paths
     }
 }

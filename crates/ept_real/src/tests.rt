@@ -1,8 +1,8 @@
-mod flushing;
+pub(crate) mod flushing;
 mod peers;
-mod writers;
+pub(crate) mod writers;
 
-use crate::tests::flushing::Disk;
+use crate::tests::flushing::{Disk, Seen};
 use crate::tests::peers::Peer;
 use crate::tests::writers::{Pieces, Unable};
 use crate::{RealLink, RealShelf, RealSink, RealStore};
@@ -10,12 +10,11 @@ use ept_base::{
     Failed, GetError, Link, PutError, Shelf, Sink, Source, Store, read_full, write_full,
 };
 use std::alloc::{AllocError, Global};
-use std::cell::{Cell, RefCell};
 use std::test::Fail;
 use std::{env, fs};
 
 // Puts a test into an empty folder of its own.
-fn enter(rt: &HostRuntime, name: &str) -> Result<(), Fail> {
+pub(crate) fn enter(rt: &HostRuntime, name: &str) -> Result<(), Fail> {
     let folder = format!(in rt.alloc(); "out/tests/{name}")?;
     let _absent = fs::remove_dir_all(rt, folder.as_str());
     fs::create_dir_all(rt, folder.as_str())?;
@@ -24,7 +23,7 @@ fn enter(rt: &HostRuntime, name: &str) -> Result<(), Fail> {
 }
 
 // Bytes in which no block of 64 KiB is like the next.
-fn pattern(alloc: Global, length: u32) -> Result<Vec<u8>, AllocError> {
+pub(crate) fn pattern(alloc: Global, length: u32) -> Result<Vec<u8>, AllocError> {
     let mut bytes = Vec::new(alloc);
     for i in 0..length {
         bytes.push((i % 251) as u8)?;
@@ -33,7 +32,11 @@ fn pattern(alloc: Global, length: u32) -> Result<Vec<u8>, AllocError> {
 }
 
 // What a source gives up to its end, by reads of this many bytes.
-fn read_by<S: Source>(alloc: Global, source: &mut S, size: usize) -> Result<Vec<u8>, Fail> {
+pub(crate) fn read_by<S: Source>(
+    alloc: Global,
+    source: &mut S,
+    size: usize,
+) -> Result<Vec<u8>, Fail> {
     let mut all = Vec::new(alloc);
     let mut into = vec![in alloc; 0u8; size]?;
     for _ in 0..u64::MAX {
@@ -181,13 +184,12 @@ fn a_store_refuses_names_that_can_not_be(rt: HostRuntime) -> Result<(), Fail> {
 // What a sync flushes after this file was put into a store in this folder.
 fn flushed_for(rt: &HostRuntime, folder: &str, name: &str) -> Result<String, Fail> {
     let alloc = rt.alloc();
-    let flushed = RefCell::new(String::new(alloc));
-    let to_fault = Cell::new(0);
-    let disk = Disk::new(rt, &flushed, &to_fault);
+    let seen = Seen::new(alloc);
+    let disk = Disk::new(rt, &seen);
     let mut store = RealStore::new(alloc, &disk, folder);
     store.put(name, b"one")?;
     store.sync()?;
-    Ok(flushed.try_replace(String::new(alloc))?)
+    Ok(seen.flushed.try_replace(String::new(alloc))?)
 }
 
 #[test]
@@ -221,9 +223,8 @@ fn a_sync_flushes_the_way_to_a_file(rt: HostRuntime) -> Result<(), Fail> {
 fn each_file_is_flushed_once(rt: HostRuntime) -> Result<(), Fail> {
     enter(&rt, "once")?;
     let alloc = rt.alloc();
-    let flushed = RefCell::new(String::new(alloc));
-    let to_fault = Cell::new(0);
-    let disk = Disk::new(&rt, &flushed, &to_fault);
+    let seen = Seen::new(alloc);
+    let disk = Disk::new(&rt, &seen);
     let mut store = RealStore::new(alloc, &disk, "out");
     for name in ["a/one", "two", "a/one", "gone"] {
         assert_eq!(rt; store.put(name, b"x"), Ok(()), "at {name}");
@@ -231,12 +232,15 @@ fn each_file_is_flushed_once(rt: HostRuntime) -> Result<(), Fail> {
     assert_eq!(rt; store.remove("gone"), Ok(()));
     for want in ["out/a/one\nout/two\n.\nout/\nout/a\n", ""] {
         assert_eq!(rt; store.sync(), Ok(()));
-        assert_eq!(rt; flushed.try_replace(String::new(alloc))?.as_str(), want);
+        assert_eq!(rt;
+            seen.flushed.try_replace(String::new(alloc))?.as_str(),
+            want
+        );
     }
     assert_eq!(rt; store.remove("a/one"), Ok(()));
     assert_eq!(rt; store.sync(), Ok(()));
     assert_eq!(rt;
-        flushed.try_replace(String::new(alloc))?.as_str(),
+        seen.flushed.try_replace(String::new(alloc))?.as_str(),
         ".\nout/\nout/a\n"
     );
     Ok(())
@@ -248,9 +252,8 @@ fn what_was_read_is_flushed(rt: HostRuntime) -> Result<(), Fail> {
     let alloc = rt.alloc();
     fs::create_dir_all(&rt, "out/a")?;
     fs::write(&rt, "out/a/one", "by another")?;
-    let flushed = RefCell::new(String::new(alloc));
-    let to_fault = Cell::new(0);
-    let disk = Disk::new(&rt, &flushed, &to_fault);
+    let seen = Seen::new(alloc);
+    let disk = Disk::new(&rt, &seen);
     let mut store = RealStore::new(alloc, &disk, "out");
     let mut into = Vec::new(alloc);
     let whole = "out/a/one\n.\nout/\nout/a\n";
@@ -263,7 +266,7 @@ fn what_was_read_is_flushed(rt: HostRuntime) -> Result<(), Fail> {
         assert_eq!(rt; store.get("a/none", &mut into), Ok(false));
         assert_eq!(rt; store.sync(), Ok(()));
         assert_eq!(rt;
-            flushed.try_replace(String::new(alloc))?.as_str(),
+            seen.flushed.try_replace(String::new(alloc))?.as_str(),
             want,
             "{puts}"
         );
@@ -277,9 +280,9 @@ fn a_sync_is_refused_for_good(rt: HostRuntime) -> Result<(), Fail> {
     let alloc = rt.alloc();
     // The flush of a file fails, and that of a folder; nothing is flushed from then on.
     for (nth, want) in [(2, "out/a/one\n"), (4, "out/a/one\nout/two\n.\n")] {
-        let flushed = RefCell::new(String::new(alloc));
-        let to_fault = Cell::new(nth);
-        let disk = Disk::new(&rt, &flushed, &to_fault);
+        let seen = Seen::new(alloc);
+        seen.to_fault.set(nth);
+        let disk = Disk::new(&rt, &seen);
         let mut store = RealStore::new(alloc, &disk, "out");
         assert_eq!(rt; store.put("a/one", b"x"), Ok(()));
         assert_eq!(rt; store.put("two", b"x"), Ok(()));
@@ -288,7 +291,10 @@ fn a_sync_is_refused_for_good(rt: HostRuntime) -> Result<(), Fail> {
             assert_eq!(rt; store.faults, faults, "at {nth}");
             assert_eq!(rt; store.put("three", b"x"), Ok(()), "at {nth}");
         }
-        assert_eq!(rt; flushed.try_replace(String::new(alloc))?.as_str(), want);
+        assert_eq!(rt;
+            seen.flushed.try_replace(String::new(alloc))?.as_str(),
+            want
+        );
     }
     Ok(())
 }

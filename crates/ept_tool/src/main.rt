@@ -8,6 +8,7 @@ mod answers;
 #[cfg(test)]
 mod build_tests;
 mod commands;
+mod differences;
 mod files;
 mod heard;
 mod lines;
@@ -38,37 +39,63 @@ use crate::watched::Watched;
 use crate::words::{Command, command_of};
 use ept_base::{OpenGate, Sink};
 use ept_mem::{MemRoom, MemStore};
-use ept_real::{RealShelf, RealSink, RealStore};
+use ept_real::{Ending, Progress, RealShelf, RealSink, RealStore, SeenFiles, Telling};
+use std::alloc::Global;
 use std::env;
-use std::io::{ErrorKind, writer};
+use std::io::{ErrorKind, IsTerminal, writer};
 use std::process::ExitCode;
 
 fn main(rt: HostRuntime) -> ExitCode {
     let alloc = rt.alloc();
-    let mut shelf = RealShelf::new(alloc, &rt);
-    let mut out = Heard::new(alloc, RealSink::new(writer(&rt)));
-    let (words, ended) = match given_words(&rt) {
-        Ok(words) => {
-            let ended = start(&rt, &words, &mut shelf, &mut out);
-            (words, ended)
-        }
-        Err(refusal) => {
-            let status = refuse(alloc, &mut out, refusal);
-            (Vec::new(alloc), Ended { status, got: None })
-        }
+    let (words, refusal) = match given_words(&rt) {
+        Ok(words) => (words, None),
+        Err(refusal) => (Vec::new(alloc), Some(refusal)),
     };
+    let telling = telling_of(&rt, &words);
+    let progress = Progress::new(rt, "ept_tool", telling);
+    let rt = progress.machine();
+    let mut out = Heard::new(alloc, RealSink::new(Ending::new(&progress, writer(rt))));
+    let ended = match refusal {
+        None => {
+            let files = SeenFiles::new(&progress, folder_of(&words));
+            start(alloc, &files, &words, &mut out)
+        }
+        Some(refusal) => Ended::with(refuse(alloc, &mut out, refusal)),
+    };
+    progress.end();
     if ended.status != OK {
-        let unread = shelf.refused().unwrap_or("a file");
-        tell(&rt, &words, &ended, out.line(), unread);
+        tell(rt, &words, &ended, out.line());
     }
     ExitCode::from(ended.status)
 }
 
-// How a run ended, and of a query the file of the folder that was got last.
+// Where the progress of these words is told: of a build on standard error, of nothing else.
+fn telling_of(rt: &HostRuntime, words: &[String]) -> Telling {
+    match command_of(words) {
+        Command::Build { .. } if rt.stderr().is_terminal() => Telling::Terminal,
+        Command::Build { .. } => Telling::Lines,
+        _ => Telling::Silent,
+    }
+}
+
+// How a run ended: the file that could not be opened or read, and of a query the file of the folder that was
+// got last.
 #[derive(Drop)]
 struct Ended {
     status: u8,
+    unread: Option<String>,
     got: Option<String>,
+}
+
+impl Ended {
+    // A run that got to no file.
+    fn with(status: u8) -> Self {
+        Ended {
+            status,
+            unread: None,
+            got: None,
+        }
+    }
 }
 
 // The words behind the program's name. Words that are not text are faulty ones.
@@ -83,58 +110,77 @@ fn given_words(rt: &HostRuntime) -> Result<Vec<String>, Refusal> {
     }
 }
 
-// Runs the words over the machine's files, and over the folder that they name. A command that names none
-// has a store in memory.
-fn start<O: Sink>(
-    rt: &HostRuntime,
-    words: &[String],
-    shelf: &mut RealShelf<'_, HostRuntime>,
+// Runs the words over these files, and over the folder that they name. A command that names none has a store
+// in memory.
+fn start<'a, O: Sink>(
+    alloc: Global,
+    files: &'a SeenFiles<'a, HostRuntime>,
+    words: &'a [String],
     out: &mut O,
 ) -> Ended {
-    let alloc = rt.alloc();
     let mut room = MemRoom::new(alloc, Vec::new(alloc), Vec::new(alloc));
-    match command_of(words) {
+    let mut shelf = RealShelf::new(alloc, files);
+    let mut got = None;
+    let status = match command_of(words) {
         Command::Build { out: folder, .. } => {
-            let mut store = RealStore::new(alloc, rt, folder);
-            let status = run(alloc, words, shelf, &mut store, &mut room, out, &OpenGate);
-            Ended { status, got: None }
+            let mut store = RealStore::new(alloc, files, folder);
+            run(
+                alloc, words, &mut shelf, &mut store, &mut room, out, &OpenGate,
+            )
         }
         Command::Query { out: folder, .. } => {
-            let mut store = Watched::new(alloc, RealStore::new(alloc, rt, folder));
-            let status = run(alloc, words, shelf, &mut store, &mut room, out, &OpenGate);
-            let got = String::from_str(alloc, store.name()).ok();
-            Ended { status, got }
+            let mut store = Watched::new(alloc, RealStore::new(alloc, files, folder));
+            let status = run(
+                alloc, words, &mut shelf, &mut store, &mut room, out, &OpenGate,
+            );
+            got = String::from_str(alloc, store.name()).ok();
+            status
         }
         _ => {
             let mut store = MemStore::new(alloc, Vec::new(alloc), Vec::new(alloc));
-            let status = run(alloc, words, shelf, &mut store, &mut room, out, &OpenGate);
-            Ended { status, got: None }
+            run(
+                alloc, words, &mut shelf, &mut store, &mut room, out, &OpenGate,
+            )
         }
+    };
+    let unread = shelf
+        .refused()
+        .and_then(|path| String::from_str(alloc, path).ok());
+    Ended {
+        status,
+        unread,
+        got,
     }
 }
 
 // Says on standard error what was wrong: what the line says, in words, or else what the status says.
-fn tell(rt: &HostRuntime, words: &[String], ended: &Ended, line: &str, unread: &str) {
+fn tell<'a>(rt: &'a HostRuntime, words: &'a [String], ended: &'a Ended, line: &str) {
     let alloc = rt.alloc();
     let status = ended.status;
+    let folder = folder_of(words);
+    let unread = ended.unread.as_deref().unwrap_or("a file");
     let mut shelf = RealShelf::new(alloc, rt);
+    let mut store = RealStore::new(alloc, rt, folder);
     // A message that can't be written changes no status.
-    let _ = match (&ended.got, message(alloc, words, line, unread, &mut shelf)) {
+    let _ = match (
+        &ended.got,
+        message(alloc, words, line, unread, &mut shelf, &mut store),
+    ) {
         (Some(got), _) if status == DAMAGED => {
             eprintln!(rt; "ept_tool: {got} is absent or not of its form")
         }
         (Some(_), _) if status == NOT_COMPLETE => {
-            eprintln!(rt; "ept_tool: {} has no complete dataset", folder_of(words))
+            eprintln!(rt; "ept_tool: {folder} has no complete dataset")
         }
         (_, Ok(Some(sentence))) => eprintln!(rt; "ept_tool: {sentence}"),
         _ => eprintln!(rt; "ept_tool: {}", plain(status)),
     };
 }
 
-// The folder of a query, as it is named.
+// The folder of a build or of a query, as it is named; empty for other words.
 fn folder_of(words: &[String]) -> &str {
     match command_of(words) {
-        Command::Query { out, .. } => out,
-        _ => "the folder",
+        Command::Build { out, .. } | Command::Query { out, .. } => out,
+        _ => "",
     }
 }

@@ -1,8 +1,12 @@
 //! The sentences of refusals: each line, and what is said of it.
 
+use crate::differences::{Differing, difference_sentence};
 use crate::messages::message;
-use crate::tests::{file, texts};
-use ept_mem::MemShelf;
+use crate::run::run;
+use crate::sentences::Names;
+use crate::tests::{at, file, las, texts};
+use ept_base::OpenGate;
+use ept_mem::{MemRoom, MemShelf, MemSink, MemStore};
 use std::alloc::{AllocError, Global};
 use std::process::Abort;
 use std::test::Fail;
@@ -22,7 +26,40 @@ const BUILD: &[&str] = &["build", "survey.json", "out"];
 
 const INFO: &[&str] = &["info", "flights/b.las"];
 
-// Compares the sentence of these words over this configuration that end with this line.
+// A shelf with this configuration and two scans.
+fn shelf_of(alloc: Global, configuration: &str) -> Result<MemShelf, AllocError> {
+    let mut files = Vec::new(alloc);
+    files.push(file(alloc, "survey.json", configuration.as_bytes())?)?;
+    files.push(file(alloc, "a.las", &las(alloc, 1, &[at(1, 2, 3)])?)?)?;
+    files.push(file(alloc, "flights/b.las", &las(alloc, 1, &[at(5, 5, 5)])?)?)?;
+    Ok(MemShelf::new(alloc, files, Vec::new(alloc), Vec::new(alloc)))
+}
+
+// A store without a file.
+fn empty_store(alloc: Global) -> MemStore {
+    MemStore::new(alloc, Vec::new(alloc), Vec::new(alloc))
+}
+
+// Compares the sentence of these words over this configuration and this store that end with this line.
+fn expect_over(
+    rt: &impl Abort,
+    alloc: Global,
+    store: &mut MemStore,
+    words: &[&str],
+    configuration: &str,
+    row: (&str, Option<&str>),
+) -> Result<(), AllocError> {
+    let words = texts(alloc, words)?;
+    let mut shelf = shelf_of(alloc, configuration)?;
+    let (line, want) = row;
+    let Ok(found) = message(alloc, &words, line, "flights/b.las", &mut shelf, store) else {
+        return Err(AllocError);
+    };
+    assert_eq!(rt; found.as_ref().map(|text| text.as_str()), want, "{line}");
+    Ok(())
+}
+
+// The same over a store without a file.
 fn expect(
     rt: &impl Abort,
     alloc: Global,
@@ -30,16 +67,8 @@ fn expect(
     configuration: &str,
     row: (&str, Option<&str>),
 ) -> Result<(), AllocError> {
-    let words = texts(alloc, words)?;
-    let mut files = Vec::new(alloc);
-    files.push(file(alloc, "survey.json", configuration.as_bytes())?)?;
-    let mut shelf = MemShelf::new(alloc, files, Vec::new(alloc), Vec::new(alloc));
-    let (line, want) = row;
-    let Ok(found) = message(alloc, &words, line, "flights/b.las", &mut shelf) else {
-        return Err(AllocError);
-    };
-    assert_eq!(rt; found.as_ref().map(|text| text.as_str()), want, "{line}");
-    Ok(())
+    let mut store = empty_store(alloc);
+    expect_over(rt, alloc, &mut store, words, configuration, row)
 }
 
 // A line, and its sentence.
@@ -120,6 +149,201 @@ fn expect_sentences(rt: &impl Abort, alloc: Global) -> Result<(), AllocError> {
         ),
     ] {
         expect(rt, alloc, words, configuration, (line, want))?;
+    }
+    Ok(())
+}
+
+// What is kept of an input.
+const KEPT: &str = r#"{"path":"a.las","scale":2,"shift":[0,0,0],"expect":"00ff"}"#;
+
+// A well-known text as it is kept, and one that has a long front in common with it.
+const LONG: &str =
+    r#"{"wkt":"PROJCS[\"ETRS89 / UTM zone 32N\",GEOGCS[\"ETRS89\",DATUM[\"European_Terrestrial\"]]]"}"#;
+
+const OTHER: &str =
+    r#"{"wkt":"PROJCS[\"ETRS89 / UTM zone 32N\",GEOGCS[\"ETRS89\",DATUM[\"WGS_1984\"]]]"}"#;
+
+// What is advised where a value is another, and where the inputs are others.
+const VALUE: &str = ": build into a new folder, or give the old value back";
+
+const INPUTS: &str = ": build into a new folder, or list the old inputs first, in their order";
+
+// A field, what is kept and what is given of it, the sentence, and the advice behind it.
+const OF_DIFFERENCES: [(&str, &str, &str, &str, &str); 12] = [
+    (
+        "span",
+        "128",
+        "64",
+        "out was built with `span` 128, and survey.json has 64",
+        VALUE,
+    ),
+    (
+        "bounds",
+        "[0,0,0,7,7,7]",
+        "[0,0,0,7,7,8]",
+        "out was built with `bounds` [0,0,0,7,7,7], and survey.json has [0,0,0,7,7,8]",
+        VALUE,
+    ),
+    (
+        "srs",
+        "{}",
+        LONG,
+        r#"out was built with `srs` {}, and survey.json has {"wkt":"PROJCS[\"ETRS89 / UTM zone 32N\",GEOGCS[\"ETRS89\",D.."#,
+        VALUE,
+    ),
+    (
+        "srs",
+        LONG,
+        OTHER,
+        r#"out was built with `srs` ..[\"ETRS89\",DATUM[\"European_Terrestrial\"]]]"}, and survey.json has ..[\"ETRS89\",DATUM[\"WGS_1984\"]]]"}"#,
+        VALUE,
+    ),
+    (
+        "srs",
+        "{\"wkt\":\"\u{1b}[2J\u{7f}\"}",
+        "{\"wkt\":\"\u{202e}\"}",
+        r#"out was built with `srs` {"wkt":"\u{1b}[2J\u{7f}"}, and survey.json has {"wkt":"\u{202e}"}"#,
+        VALUE,
+    ),
+    (
+        "input",
+        KEPT,
+        "",
+        r#"the inputs of survey.json end before "a.las", with which out was built"#,
+        INPUTS,
+    ),
+    (
+        "input",
+        r#"{"path":"Müller.las","scale":2,"shift":[0,0,0]}"#,
+        r#"{"path":"b.las","scale":1,"shift":[0,0,0]}"#,
+        r#"out was built with "Müller.las" where the inputs of survey.json have "b.las""#,
+        INPUTS,
+    ),
+    (
+        "input",
+        KEPT,
+        r#"{"path":"a.las","scale":1,"shift":[0,0,5]}"#,
+        r#"out was built with `scale` 2 of "a.las", and survey.json has 1"#,
+        VALUE,
+    ),
+    (
+        "input",
+        KEPT,
+        r#"{"path":"a.las","scale":2,"shift":[0,0,5]}"#,
+        r#"out was built with `shift` [0,0,0] of "a.las", and survey.json has [0,0,5]"#,
+        VALUE,
+    ),
+    (
+        "input",
+        KEPT,
+        r#"{"path":"a.las","scale":2,"shift":[0,0,0]}"#,
+        r#"out was built with `expect` "00ff" of "a.las", and survey.json has none"#,
+        VALUE,
+    ),
+    (
+        "input",
+        "{",
+        "[",
+        "out was built with `input` {, and survey.json has [",
+        VALUE,
+    ),
+    (
+        "input",
+        "{",
+        "",
+        "the inputs of survey.json end before none, with which out was built",
+        INPUTS,
+    ),
+];
+
+#[test]
+fn both_values_of_a_difference_are_told(rt: HostRuntime) -> Result<(), Fail> {
+    let alloc = rt.alloc();
+    let names = Names {
+        config: "survey.json",
+        out: "out",
+        ..Names::default()
+    };
+    for (field, kept, given, sentence, advice) in OF_DIFFERENCES {
+        let differing = Differing {
+            field,
+            kept: kept.as_bytes(),
+            given: given.as_bytes(),
+        };
+        let found = difference_sentence(alloc, &differing, &names)?;
+        let want = format!(in alloc; "{sentence}{advice}")?;
+        assert_eq!(rt; found, want, "{field}");
+    }
+    // Bytes that are no text.
+    let differing = Differing {
+        field: "srs",
+        kept: b"\"M\xc3\xbcller\"",
+        given: b"\"M\xfcller\xc3\"",
+    };
+    let found = difference_sentence(alloc, &differing, &names)?;
+    let want = format!(in alloc;
+        "out was built with `srs` \"Müller\", and survey.json has \"M\\xfcller\\xc3\"{VALUE}"
+    )?;
+    assert_eq!(rt; found, want);
+    Ok(())
+}
+
+// Configurations beside one that the store was built with: another span, another list of inputs, and the same.
+const AGAIN: [(&str, &str, &str); 4] = [
+    (
+        "{\"input\":[\"a.las\",\"flights/b.las\"],\"scale\":2,\"bounds\":[0,0,0,7,7,7],\"span\":4}",
+        "error 6 differs span",
+        "out was built with `span` 128, and survey.json has 4: build into a new folder, or give the old value back",
+    ),
+    (
+        "{\"input\":[\"flights/b.las\"],\"scale\":2,\"bounds\":[0,0,0,7,7,7]}",
+        "error 6 differs input",
+        "out was built with \"a.las\" where the inputs of survey.json have \"flights/b.las\": build into a new folder, or list the old inputs first, in their order",
+    ),
+    (
+        "{\"input\":\"a.las\",\"scale\":2,\"bounds\":[0,0,0,7,7,7]}",
+        "error 6 differs input",
+        "the inputs of survey.json end before \"flights/b.las\", with which out was built: build into a new folder, or list the old inputs first, in their order",
+    ),
+    (
+        BOUNDED,
+        "error 6 differs span",
+        "out was built with another `span` than that of survey.json",
+    ),
+];
+
+// A store with what a build of the bounded configuration leaves.
+fn built(rt: &impl Abort, alloc: Global) -> Result<MemStore, AllocError> {
+    let words = texts(alloc, BUILD)?;
+    let mut store = empty_store(alloc);
+    let mut shelf = shelf_of(alloc, BOUNDED)?;
+    let mut room = MemRoom::new(alloc, Vec::new(alloc), Vec::new(alloc));
+    let mut out = MemSink::new(alloc, 9, Vec::new(alloc));
+    let status = run(
+        alloc, &words, &mut shelf, &mut store, &mut room, &mut out, &OpenGate,
+    );
+    if status == 9 {
+        return Err(AllocError);
+    }
+    assert_eq!(rt; status, 0);
+    Ok(store)
+}
+
+// The values are those of the folder and of the configuration.
+#[test]
+fn a_difference_is_read_again(rt: HostRuntime) -> Result<(), Fail> {
+    let alloc = rt.alloc();
+    if expect_differences(&rt, alloc).is_err() {
+        expect_differences(&rt, alloc)?;
+    }
+    Ok(())
+}
+
+fn expect_differences(rt: &impl Abort, alloc: Global) -> Result<(), AllocError> {
+    let mut store = built(rt, alloc)?;
+    for (configuration, line, want) in AGAIN {
+        let row = (line, Some(want));
+        expect_over(rt, alloc, &mut store, BUILD, configuration, row)?;
     }
     Ok(())
 }

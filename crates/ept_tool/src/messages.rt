@@ -1,5 +1,6 @@
 //! The message of a run that is refused: the sentence of its line, with the names that it takes.
 
+use crate::differences::{Differing, difference_sentence};
 use crate::files::{MOST, read_configuration, read_front};
 use crate::refusal::Refusal;
 use crate::sentences::{MEMORY_SENTENCE, Names, Record, Told, USAGE_SENTENCE, read_line, sentence};
@@ -7,8 +8,11 @@ use crate::status::{
     BAD_CONFIGURATION, BAD_SCAN, DAMAGED, DEVICE, MEMORY, NOT_BUILT, NOT_COMPLETE, TOO_MANY, USAGE,
 };
 use crate::words::{Command, command_of};
-use ept_base::Shelf;
+use ept_base::{Shelf, Store};
 use ept_config::{Config, ConfigKey};
+use ept_mem::MemShelf;
+use ept_plan::{PlanError, make_plan};
+use ept_save::open;
 use serde_json::Value;
 use std::alloc::Global;
 
@@ -30,14 +34,16 @@ const KEYS: [ConfigKey; 13] = [
 ];
 
 /// Why these words did not end with status 0, after this line was written, or was to be. `unread` is the
-/// file that could not be opened or read, or what stands for it. The configuration is read again where an input or a key of
-/// it is to be named. Nothing is answered where there is nothing to say but what the status says.
-pub(crate) fn message<'x, H: Shelf>(
+/// file that could not be opened or read, or what stands for it. The configuration is read again where an input,
+/// a key or a value of it is to be named, and so is the checkpoint in the store, the folder of a build, where it
+/// differs from what that keeps. Nothing is answered where there is nothing to say but what the status says.
+pub(crate) fn message<'x, H: Shelf, T: Store>(
     alloc: Global,
     words: &'x [String],
     line: &str,
     unread: &'x str,
     shelf: &mut H,
+    store: &mut T,
 ) -> Result<Option<String>, Refusal> {
     let command = command_of(words);
     if let Command::Query { .. } = command {
@@ -55,7 +61,7 @@ pub(crate) fn message<'x, H: Shelf>(
                 unread,
                 ..Names::default()
             };
-            of_build(alloc, told, names, shelf)
+            of_build(alloc, told, names, shelf, store)
         }
         Command::Info { las } => {
             let names = Names {
@@ -79,13 +85,21 @@ fn unsaid(alloc: Global, line: &str) -> Result<Option<String>, Refusal> {
 }
 
 // Of a build. The configuration is read again for what is not in the words.
-fn of_build<H: Shelf>(
+fn of_build<H: Shelf, T: Store>(
     alloc: Global,
     told: Told<'_>,
     names: Names<'_>,
     shelf: &mut H,
+    store: &mut T,
 ) -> Result<Option<String>, Refusal> {
     match told {
+        Told::Differs { field } => {
+            let config = read_configuration(alloc, shelf, names.config)?;
+            match values_of(alloc, &config, store) {
+                Some(values) => of_difference(alloc, field, names, &values),
+                None => Ok(Some(sentence(alloc, told, &names)?)),
+            }
+        }
         Told::Las { at, .. } | Told::Bounds { at } | Told::Changed { at } | Told::Points { at } => {
             let config = read_configuration(alloc, shelf, names.config)?;
             of_input(alloc, told, at, names, &config)
@@ -96,6 +110,42 @@ fn of_build<H: Shelf>(
         }
         _ => Ok(Some(sentence(alloc, told, &names)?)),
     }
+}
+
+// What is kept of the first field that differs, and what is given.
+#[derive(Drop)]
+struct Values {
+    kept: Vec<u8>,
+    given: Vec<u8>,
+}
+
+// Both values of the first field that differs from what the current checkpoint keeps, if one does. No input is
+// opened where a field differs, so a shelf without files serves.
+fn values_of<T: Store>(alloc: Global, config: &Config, store: &mut T) -> Option<Values> {
+    let saved = open(alloc, store).ok()?;
+    let mut shelf = MemShelf::new(alloc, Vec::new(alloc), Vec::new(alloc), Vec::new(alloc));
+    match make_plan(alloc, config, &mut shelf, &saved) {
+        Err(PlanError::Differs(found)) => Some(Values {
+            kept: found.kept,
+            given: found.given,
+        }),
+        _ => None,
+    }
+}
+
+// With both values of the field that differs.
+fn of_difference(
+    alloc: Global,
+    field: &str,
+    names: Names<'_>,
+    values: &Values,
+) -> Result<Option<String>, Refusal> {
+    let differing = Differing {
+        field,
+        kept: &values.kept,
+        given: &values.given,
+    };
+    Ok(Some(difference_sentence(alloc, &differing, &names)?))
 }
 
 // With the path of the input.

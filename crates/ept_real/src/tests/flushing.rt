@@ -1,16 +1,50 @@
-use std::alloc::Allocator;
+use std::alloc::{Allocator, Global};
 use std::cell::{Cell, RefCell};
+use std::fmt::{Display, Write as _};
 use std::fs::{File, Metadata, OpenFile, OpenOptions};
 use std::io::{self, ErrorKind, Read, Seek, SeekFrom, Write};
 use std::rt::Files;
+use std::time::{Clock, Duration};
 
-// The machine's files, with a record of what was flushed, and how many flushes there are to one that
-// fails; none fails where this is 0.
+// What was flushed of a disk, and what was said; how many flushes there are to one that fails, where it is
+// not 0; the time in milliseconds, and by how much it goes on whenever it is asked for.
+#[derive(Drop)]
+pub(crate) struct Seen {
+    pub(crate) flushed: RefCell<String>,
+    pub(crate) said: RefCell<String>,
+    pub(crate) to_fault: Cell<u32>,
+    pub(crate) is_mute: Cell<bool>,
+    pub(crate) now: Cell<u64>,
+    pub(crate) step: Cell<u64>,
+}
+
+impl Seen {
+    pub(crate) fn new(alloc: Global) -> Self {
+        Seen {
+            flushed: RefCell::new(String::new(alloc)),
+            said: RefCell::new(String::new(alloc)),
+            to_fault: Cell::new(0),
+            is_mute: Cell::new(false),
+            now: Cell::new(0),
+            step: Cell::new(0),
+        }
+    }
+}
+
+// Writes this behind a text.
+fn append<D: Display>(text: &RefCell<String>, value: &D) -> io::Result<()> {
+    let Ok(mut text) = text.try_borrow_mut() else {
+        return Err(io::Error::from(ErrorKind::ResourceBusy));
+    };
+    write!(text, "{value}")?;
+    Ok(())
+}
+
+// The machine's files, and what is seen of them, with a clock and a standard error of its own.
 #[derive(Drop)]
 pub(crate) struct Disk<'a> {
     rt: &'a HostRuntime,
-    flushed: &'a RefCell<String>,
-    to_fault: &'a Cell<u32>,
+    seen: &'a Seen,
 }
 
 // A file of such a disk.
@@ -18,21 +52,38 @@ pub(crate) struct Disk<'a> {
 pub(crate) struct DiskFile<'a> {
     file: File,
     path: String,
-    flushed: &'a RefCell<String>,
-    to_fault: &'a Cell<u32>,
+    seen: &'a Seen,
 }
 
 impl<'a> Disk<'a> {
-    pub(crate) fn new(
-        rt: &'a HostRuntime,
-        flushed: &'a RefCell<String>,
-        to_fault: &'a Cell<u32>,
-    ) -> Self {
-        Disk {
-            rt,
-            flushed,
-            to_fault,
+    pub(crate) fn new(rt: &'a HostRuntime, seen: &'a Seen) -> Self {
+        Disk { rt, seen }
+    }
+}
+
+impl<'a> Clock for Disk<'a> {
+    fn monotonic(&self) -> io::Result<Duration> {
+        let now = self.seen.now.get().saturating_add(self.seen.step.get());
+        self.seen.now.set(now);
+        Ok(Duration::from_millis(now))
+    }
+
+    fn since_1970(&self) -> io::Result<Duration> {
+        self.monotonic()
+    }
+}
+
+impl<'a> Eprint for Disk<'a> {
+    fn eprint<D: Display + Drop>(&self, value: D) -> io::Result<()> {
+        if self.seen.is_mute.get() {
+            return Err(io::Error::from(ErrorKind::BrokenPipe));
         }
+        append(&self.seen.said, &value)
+    }
+
+    fn eprintln<D: Display + Drop>(&self, value: D) -> io::Result<()> {
+        self.eprint(value)?;
+        self.eprint('\n')
     }
 }
 
@@ -45,8 +96,7 @@ impl<'a> Files for Disk<'a> {
         Ok(DiskFile {
             file: self.rt.open_file(how, path)?,
             path: String::from_str(self.rt.alloc(), path)?,
-            flushed: self.flushed,
-            to_fault: self.to_fault,
+            seen: self.seen,
         })
     }
 
@@ -90,17 +140,13 @@ impl<'a> Files for Disk<'a> {
 impl<'a> DiskFile<'a> {
     // Writes down that this file is flushed, unless it is to fail.
     fn count_flush(&self) -> io::Result<()> {
-        let left = self.to_fault.get();
-        self.to_fault.set(left.saturating_sub(1));
+        let left = self.seen.to_fault.get();
+        self.seen.to_fault.set(left.saturating_sub(1));
         if left == 1 {
             return Err(io::Error::from(ErrorKind::Other));
         }
-        let Ok(mut flushed) = self.flushed.try_borrow_mut() else {
-            return Err(io::Error::from(ErrorKind::ResourceBusy));
-        };
-        flushed.push_str(self.path.as_str())?;
-        flushed.push('\n')?;
-        Ok(())
+        append(&self.seen.flushed, &self.path)?;
+        append(&self.seen.flushed, &'\n')
     }
 }
 

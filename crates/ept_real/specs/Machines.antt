@@ -1,0 +1,6 @@
+-- The machine on which a build goes on.
+use Rattle.ept_real.specs.declared.progress.Progress.{Progress}
+
+-- the machine whose progress is told
+abbrev pub machine_of : {R : Type 0} → Progress R → R
+machine_of progress = progress.machine

@@ -1,0 +1,319 @@
+//! How far a build is, told on standard error.
+
+ghost use Rattle.std.specs.Prelude.{◌≡◌};
+
+use std::fmt;
+use std::io::{self, Write};
+use std::sync::atomic::{AtomicBool, AtomicU64, Ordering};
+use std::time::{Clock, Instant};
+
+/// After how many milliseconds a terminal is told at first, and how often from then on.
+const FIRST: u64 = 2_000;
+
+const NEXT: u64 = 250;
+
+/// After how many milliseconds a line comes elsewhere.
+const APART: u64 = 10_000;
+
+/// Blanks over a line of a terminal of 80 columns.
+const BLANK: &str =
+    "                                                                               ";
+
+/// Where the progress of a run is told.
+#[derive(Clone, Copy, Debug, PartialEq, Eq)]
+pub enum Telling {
+    /// Nowhere.
+    Silent,
+    /// On a terminal: one line from two seconds on, which is written over.
+    Terminal,
+    /// Elsewhere: a line every ten seconds.
+    Lines,
+}
+
+/// The machine, and how far a build is: what was read of its files, put and flushed, as
+/// [`SeenFiles`](crate::SeenFiles) sees it.
+///
+/// It is told on standard error. A clock that can't be read tells nothing, and a line that can't be written
+/// changes nothing.
+///
+/// What is read of a file outside of the folder is of the inputs: of their first reading until the done gate is
+/// asked for, which a build closes before it puts anything, and of the second from then on.
+#[derive(Drop)]
+pub struct Progress<R: Clock + Eprint + Drop> {
+    machine: R,
+    program: &'static str,
+    telling: Telling,
+    began: Option<Instant>,
+    // When the next line is due, in milliseconds from the start; at the greatest number none is.
+    due: AtomicU64,
+    is_told: AtomicBool,
+    is_second: AtomicBool,
+    scanned: AtomicU64,
+    loaded: AtomicU64,
+    inserted: AtomicU64,
+    checkpoints: AtomicU64,
+    put: AtomicU64,
+    flushed: AtomicU64,
+}
+
+impl<R: Clock + Eprint + Drop> Progress<R> {
+    ghost use Rattle.ept_real.specs.Machines.{machine_of};
+
+    /// A build on this machine by the program of this name, which begins now.
+    pub fn new(machine: R, program: &'static str, telling: Telling) -> Self
+        ensures { machine_of result ≡ machine }
+    {
+        Progress {
+            began: Instant::now(&machine).ok(),
+            machine,
+            program,
+            telling,
+            due: AtomicU64::new(first_due(telling)),
+            is_told: AtomicBool::new(false),
+            is_second: AtomicBool::new(false),
+            scanned: AtomicU64::new(0),
+            loaded: AtomicU64::new(0),
+            inserted: AtomicU64::new(0),
+            checkpoints: AtomicU64::new(0),
+            put: AtomicU64::new(0),
+            flushed: AtomicU64::new(0),
+        }
+    }
+
+    /// The machine.
+    pub fn machine(&self) -> &R
+        ensures { result.now ≡ machine_of self.now }
+    {
+        &self.machine
+    }
+
+    /// A file was asked for.
+    pub(crate) fn note_opened(&self, role: Role) {
+        if role == Role::Done {
+            self.is_second.store(true, Ordering::SeqCst);
+        }
+    }
+
+    /// So many bytes of a file were read.
+    pub(crate) fn count_read(&self, role: Role, bytes: u64) {
+        let stage = stage_of_read(role, self.is_second.load(Ordering::SeqCst));
+        let total = match stage {
+            Stage::Scanning => &self.scanned,
+            Stage::Inserting => &self.inserted,
+            _ => &self.loaded,
+        };
+        total.fetch_add(bytes, Ordering::SeqCst);
+        self.tell(stage);
+    }
+
+    /// A file was put.
+    pub(crate) fn count_put(&self, role: Role) {
+        if role == Role::Body {
+            self.checkpoints.fetch_add(1, Ordering::SeqCst);
+        }
+        self.put.fetch_add(1, Ordering::SeqCst);
+        self.tell(stage_of_put(role));
+    }
+
+    /// A file was flushed.
+    pub(crate) fn count_flushed(&self, role: Role) {
+        self.flushed.fetch_add(1, Ordering::SeqCst);
+        self.tell(stage_of_put(role));
+    }
+
+    /// Tells nothing from now on, and clears the line on a terminal.
+    pub fn end(&self) {
+        self.due.store(u64::MAX, Ordering::SeqCst);
+        if self.telling == Telling::Terminal && self.is_told.swap(false, Ordering::SeqCst) {
+            let _ = eprint!(self.machine; "\r{BLANK}\r");
+        }
+    }
+
+    /// Tells how far the build is, where that is due.
+    fn tell(&self, stage: Stage) {
+        let due = self.due.load(Ordering::SeqCst);
+        let Some(now) = self.milliseconds() else {
+            return;
+        };
+        if now < due {
+            return;
+        }
+        let next = now.saturating_add(next_due(self.telling));
+        let is_mine = self
+            .due
+            .compare_exchange(due, next, Ordering::SeqCst, Ordering::SeqCst)
+            .is_ok();
+        if is_mine {
+            self.is_told.store(true, Ordering::SeqCst);
+            self.write_line(self.line(stage));
+        }
+    }
+
+    /// How long the build has lasted.
+    fn milliseconds(&self) -> Option<u64> {
+        let elapsed = self.began?.elapsed(&self.machine).ok()?;
+        u64::try_from(elapsed.as_millis()).ok()
+    }
+
+    /// What is to be told at this stage.
+    fn line(&self, stage: Stage) -> Line {
+        let bytes = match stage {
+            Stage::Scanning => &self.scanned,
+            Stage::Loading => &self.loaded,
+            _ => &self.inserted,
+        };
+        Line {
+            stage,
+            megabytes: bytes.load(Ordering::SeqCst) / 1_000_000,
+            checkpoints: self.checkpoints.load(Ordering::SeqCst),
+            put: self.put.load(Ordering::SeqCst),
+            flushed: self.flushed.load(Ordering::SeqCst),
+        }
+    }
+
+    /// Writes the line; one that can't be written is left out.
+    fn write_line(&self, line: Line) {
+        let program = self.program;
+        let _ = if self.telling == Telling::Terminal {
+            eprint!(self.machine; "\r{BLANK}\r{program}: {line}")
+        } else {
+            eprintln!(self.machine; "{program}: {line}")
+        };
+    }
+}
+
+/// After how many milliseconds the first line is due.
+fn first_due(telling: Telling) -> u64 {
+    match telling {
+        Telling::Silent => u64::MAX,
+        Telling::Terminal => FIRST,
+        Telling::Lines => APART,
+    }
+}
+
+/// After how many milliseconds the next line is due.
+fn next_due(telling: Telling) -> u64 {
+    match telling {
+        Telling::Terminal => NEXT,
+        _ => APART,
+    }
+}
+
+/// What a file is to a build.
+#[derive(Clone, Copy, Debug, PartialEq, Eq)]
+pub(crate) enum Role {
+    /// The configuration or an input: no file of the folder.
+    Input,
+    /// The body of a checkpoint.
+    Body,
+    /// The done gate.
+    Done,
+    /// Another work file.
+    Work,
+    /// A file of the output.
+    Output,
+}
+
+/// What the file of this path is to a build into this folder. The names are those of the format of folders.
+pub(crate) fn role_of(folder: &str, path: &str) -> Role {
+    match name_in(folder, path) {
+        None => Role::Input,
+        Some("ept-work/done") => Role::Done,
+        Some("ept-work/body-a" | "ept-work/body-b") => Role::Body,
+        Some(name) if name.starts_with("ept-work/") => Role::Work,
+        Some(_) => Role::Output,
+    }
+}
+
+/// The name of a path in a folder, if it lies below it.
+fn name_in<'p>(folder: &str, path: &'p str) -> Option<&'p str> {
+    path.strip_prefix(folder)?.strip_prefix('/')
+}
+
+/// What a build is at.
+#[derive(Clone, Copy, Debug, PartialEq, Eq)]
+enum Stage {
+    Scanning,
+    Loading,
+    Inserting,
+    Saving,
+    Publishing,
+}
+
+/// What a build is at that reads a file. Behind the first reading it reads a tile only to compare it.
+fn stage_of_read(role: Role, is_second: bool) -> Stage {
+    match (role, is_second) {
+        (Role::Input, false) => Stage::Scanning,
+        (Role::Input, true) => Stage::Inserting,
+        (_, false) => Stage::Loading,
+        (_, true) => Stage::Saving,
+    }
+}
+
+/// What a build is at that puts a file or flushes one.
+fn stage_of_put(role: Role) -> Stage {
+    match role {
+        Role::Output => Stage::Publishing,
+        _ => Stage::Saving,
+    }
+}
+
+impl fmt::Display for Stage {
+    fn fmt<W: fmt::Write>(&self, f: &mut fmt::Formatter<W>) -> fmt::Result {
+        f.write_str(match self {
+            Stage::Scanning => "reading 1",
+            Stage::Loading => "loading",
+            Stage::Inserting => "reading 2",
+            Stage::Saving => "saving",
+            Stage::Publishing => "publishing",
+        })
+    }
+}
+
+/// What is told: the stage, the megabytes of the reading, how many checkpoints were made, and how many files
+/// were put and flushed.
+#[derive(Drop)]
+struct Line {
+    stage: Stage,
+    megabytes: u64,
+    checkpoints: u64,
+    put: u64,
+    flushed: u64,
+}
+
+impl fmt::Display for Line {
+    fn fmt<W: fmt::Write>(&self, f: &mut fmt::Formatter<W>) -> fmt::Result {
+        let (stage, megabytes, checkpoints) = (self.stage, self.megabytes, self.checkpoints);
+        let (put, flushed) = (self.put, self.flushed);
+        write!(
+            f,
+            "{stage}, {megabytes} MB; checkpoints {checkpoints}; files put {put}, flushed {flushed}"
+        )
+    }
+}
+
+/// A writer that ends a progress with its first write, so that what is written does not stand behind the line of
+/// a terminal.
+#[derive(Drop)]
+pub struct Ending<'a, R: Clock + Eprint + Drop, W: Write + Drop> {
+    progress: &'a Progress<R>,
+    out: W,
+}
+
+impl<'a, R: Clock + Eprint + Drop, W: Write + Drop> Ending<'a, R, W> {
+    /// Writes to this writer, and ends this progress first.
+    pub fn new(progress: &'a Progress<R>, out: W) -> Self {
+        Ending { progress, out }
+    }
+}
+
+impl<'a, R: Clock + Eprint + Drop, W: Write + Drop> Write for Ending<'a, R, W> {
+    fn write(&mut self, buf: &[u8]) -> io::Result<usize> {
+        self.progress.end();
+        self.out.write(buf)
+    }
+
+    fn flush(&mut self) -> io::Result<()> {
+        self.out.flush()
+    }
+}

@@ -1,0 +1,140 @@
+//! The machine's files, as a progress sees them.
+
+use crate::progress::{Progress, Role, role_of};
+use std::alloc::Allocator;
+use std::fs::{Metadata, OpenFile, OpenOptions};
+use std::io::{self, Read, Seek, SeekFrom, Write};
+use std::rt::Files;
+use std::time::Clock;
+
+/// The machine's files, of which each call that reads, puts or flushes one counts as progress of a build into a
+/// folder.
+#[derive(Drop)]
+pub struct SeenFiles<'a, R: Files + Clock + Eprint + Drop> {
+    progress: &'a Progress<R>,
+    folder: &'a str,
+}
+
+impl<'a, R: Files + Clock + Eprint + Drop> SeenFiles<'a, R> {
+    /// The files of the machine of this progress, as that of a build into this folder.
+    pub fn new(progress: &'a Progress<R>, folder: &'a str) -> Self {
+        SeenFiles { progress, folder }
+    }
+
+    /// The machine.
+    fn machine(&self) -> &R {
+        self.progress.machine()
+    }
+}
+
+/// A file of the machine that counts as progress.
+#[derive(Drop)]
+pub struct SeenFile<'a, R: Files + Clock + Eprint + Drop> {
+    file: R::File,
+    role: Role,
+    is_put: bool,
+    progress: &'a Progress<R>,
+}
+
+impl<'a, R: Files + Clock + Eprint + Drop> Files for SeenFiles<'a, R> {
+    type File = SeenFile<'a, R>;
+
+    type Dir = R::Dir;
+
+    fn open_file(&self, how: &OpenOptions, path: &str) -> io::Result<SeenFile<'a, R>> {
+        let role = role_of(self.folder, path);
+        self.progress.note_opened(role);
+        Ok(SeenFile {
+            file: self.machine().open_file(how, path)?,
+            role,
+            is_put: false,
+            progress: self.progress,
+        })
+    }
+
+    fn open_dir(&self, path: &str) -> io::Result<R::Dir> {
+        self.machine().open_dir(path)
+    }
+
+    fn metadata(&self, path: &str) -> io::Result<Metadata> {
+        self.machine().metadata(path)
+    }
+
+    fn symlink_metadata(&self, path: &str) -> io::Result<Metadata> {
+        self.machine().symlink_metadata(path)
+    }
+
+    fn copy(&self, from: &str, to: &str) -> io::Result<u64> {
+        self.machine().copy(from, to)
+    }
+
+    fn rename(&self, from: &str, to: &str) -> io::Result<()> {
+        self.machine().rename(from, to)
+    }
+
+    fn remove_file(&self, path: &str) -> io::Result<()> {
+        self.machine().remove_file(path)
+    }
+
+    fn create_dir(&self, path: &str) -> io::Result<()> {
+        self.machine().create_dir(path)
+    }
+
+    fn remove_dir(&self, path: &str) -> io::Result<()> {
+        self.machine().remove_dir(path)
+    }
+
+    fn remove_dir_all<B: Allocator>(&self, alloc: B, path: &str) -> io::Result<()> {
+        self.machine().remove_dir_all(alloc, path)
+    }
+}
+
+impl<'a, R: Files + Clock + Eprint + Drop> OpenFile for SeenFile<'a, R> {
+    fn metadata(&self) -> io::Result<Metadata> {
+        self.file.metadata()
+    }
+
+    fn set_len(&self, size: u64) -> io::Result<()> {
+        self.file.set_len(size)
+    }
+
+    /// Flushes a folder, which counts as no file.
+    fn sync_all(&self) -> io::Result<()> {
+        self.file.sync_all()
+    }
+
+    fn sync_data(&self) -> io::Result<()> {
+        self.file.sync_data()?;
+        self.progress.count_flushed(self.role);
+        Ok(())
+    }
+}
+
+impl<'a, R: Files + Clock + Eprint + Drop> Read for SeenFile<'a, R> {
+    fn read(&mut self, buf: &mut [u8]) -> io::Result<usize> {
+        let count = self.file.read(buf)?;
+        self.progress.count_read(self.role, count as u64);
+        Ok(count)
+    }
+}
+
+impl<'a, R: Files + Clock + Eprint + Drop> Write for SeenFile<'a, R> {
+    fn write(&mut self, buf: &[u8]) -> io::Result<usize> {
+        let count = self.file.write(buf)?;
+        if !self.is_put {
+            self.is_put = true;
+            self.progress.count_put(self.role);
+        }
+        Ok(count)
+    }
+
+    fn flush(&mut self) -> io::Result<()> {
+        self.file.flush()
+    }
+}
+
+impl<'a, R: Files + Clock + Eprint + Drop> Seek for SeenFile<'a, R> {
+    fn seek(&mut self, to: SeekFrom) -> io::Result<u64> {
+        self.file.seek(to)
+    }
+}
