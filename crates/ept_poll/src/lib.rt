@@ -2,11 +2,13 @@
 #![tactic(auto)]
 
 mod conn;
+mod laws;
 mod link;
 mod mem;
 #[cfg(test)]
 mod tests;
 
 pub use conn::PollConn;
+pub use laws::polls_law;
 pub use link::PollLink;
 pub use mem::MemPollLink;

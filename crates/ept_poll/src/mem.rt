@@ -1,6 +1,8 @@
 //! A link in memory that is polled.
 
-ghost use Rattle.std.specs.Prelude.{◌≡◌, [], ◌↔◌, ◌-◌, ◌^◌, min, IsTrue, Contains, ◌+◌};
+ghost use Rattle.std.specs.Prelude.{◌≡◌, ◌≢◌, ◌↔◌, ◌≤◌, [], Contains};
+ghost use Rattle.ept_base.specs.Causes.{Rose};
+ghost use Rattle.ept_base.specs.Devices.{counts_on};
 
 use crate::link::PollLink;
 use ept_base::{Failed, Link};
@@ -22,6 +24,7 @@ pub struct MemPollLink {
 }
 
 // What is to come of a call.
+#[derive(Clone, Copy)]
 enum Course {
     Wait,
     Fail,
@@ -30,11 +33,11 @@ enum Course {
 
 impl MemPollLink {
     ghost use Rattle.ept_mem.specs.Cut.{bytes_of_all};
+    ghost use Rattle.ept_poll.specs.Memory.{link_wire, link_faults, link_read_waits, link_write_waits, link_calls, link_pending, link_fails, IsToWait, IsToFail};
 
     /// A link over which these pieces come, one after another, whose calls of the first numbers wait and whose
     /// calls of the second fail. It takes no memory.
-    pub fn new(alloc: Global, pieces: Vec<Vec<u8>>, pending: Vec<u64>, fails: Vec<u64>) -> Self
-    {
+    pub fn new(alloc: Global, pieces: Vec<Vec<u8>>, pending: Vec<u64>, fails: Vec<u64>) -> Self {
         MemPollLink {
             link: MemLink::new(alloc, pieces, Vec::new(alloc)),
             pending,
@@ -47,14 +50,12 @@ impl MemPollLink {
     }
 
     /// The bytes written.
-    pub fn written(&self) -> &[u8]
-    {
+    pub fn written(&self) -> &[u8] {
         self.link.written()
     }
 
     // Counts a call, and tells what is to come of it.
-    fn next(&mut self) -> Course
-    {
+    fn next(&mut self) -> Course {
         let call = self.calls;
         self.calls = call.saturating_add(1);
         if self.pending.contains(&call) {
@@ -67,16 +68,20 @@ impl MemPollLink {
     }
 
     // Counts a fault.
-    fn fault(&mut self) -> Failed
-    {
+    fn fault(&mut self) -> Failed {
         self.faults = self.faults.saturating_add(1);
         Failed
     }
 }
 
 impl PollLink for MemPollLink {
-    ghost use Rattle.std.specs.Prelude.{Some};
-    ghost use Rattle.ept_poll.specs.Memory.{link_wire, link_faults, link_read_waits, link_write_waits};
+    ghost use Rattle.std.specs.Prelude.{Some, ◌<◌, IfOk, length, min, take};
+    ghost use Rattle.std.specs.Io.{ReadsAtMost, WritesAtMost};
+    ghost use Rattle.futures.specs.Poll.{IfReady, OnPending};
+    ghost use Rattle.futures.specs.Task.{Keeps};
+    ghost use Rattle.ept_base.specs.Links.{Reads, FailsToRead, Writes};
+    ghost use Rattle.ept_poll.specs.Links.{IfReadyOk, OnReadyErr, Waits};
+    ghost use Rattle.ept_poll.specs.Memory.{link_wire, link_piece, link_faults, link_read_waits, link_write_waits, IsToWait, IsToFail, IsOneCallMore};
 
     ghost wire = { λ link. Some (link_wire link) };
 
@@ -86,7 +91,23 @@ impl PollLink for MemPollLink {
 
     ghost write_waits = { link_write_waits };
 
-    fn poll_read(&mut self, cx: &mut Context<'_>, into: &mut [u8]) -> Poll<Result<usize, Failed>> {
+    fn poll_read(&mut self, cx: &mut Context<'_>, into: &mut [u8]) -> Poll<Result<usize, Failed>>
+        ensures bound { IfReady result (λ read. ReadsAtMost read into.new) }
+        ensures ok { IfReadyOk result (λ n. Reads (take n into.new) (link_wire self.old) (link_wire self.new)) }
+        ensures end { IfReadyOk result (λ n. n ≡ 0 → 0 < length into.new → (link_wire self.new).left ≡ []) }
+        ensures failed { OnReadyErr result (FailsToRead (link_wire self.old) (link_wire self.new)) }
+        ensures unchanged { OnReadyErr result (into.new ≡ into.old) }
+        ensures cause { OnReadyErr result (Rose (link_faults self.old) (link_faults self.new)) }
+        ensures pending { OnPending result (Waits (link_read_waits self.old) (link_read_waits self.new) (Some (link_wire self.old)) (Some (link_wire self.new)) cx.new) }
+        ensures kept { Keeps cx.old cx.new }
+        ensures later { link_faults self.old ≤ link_faults self.new }
+        ensures later_reads { link_read_waits self.old ≤ link_read_waits self.new }
+        ensures later_writes { link_write_waits self.old ≤ link_write_waits self.new }
+        ensures to_wait { result ≡ Poll.Pending ↔ IsToWait self.old }
+        ensures to_fail { IsToFail self.old → IfReadyOk result (λ _. ⊥) }
+        ensures most { IfReadyOk result (λ n. n ≡ min (length into.new) (length (link_piece self.old))) }
+        ensures numbered { IsOneCallMore self.old self.new }
+    {
         match self.next() {
             Course::Wait => {
                 self.read_waits = self.read_waits.saturating_add(1);
@@ -100,7 +121,22 @@ impl PollLink for MemPollLink {
         }
     }
 
-    fn poll_write(&mut self, cx: &mut Context<'_>, from: &[u8]) -> Poll<Result<usize, Failed>> {
+    fn poll_write(&mut self, cx: &mut Context<'_>, from: &[u8]) -> Poll<Result<usize, Failed>>
+        ensures bound { IfReady result (λ written. WritesAtMost written from.now) }
+        ensures some { IfReadyOk result (λ n. 0 < length from.now → 0 < n) }
+        ensures ok { IfReadyOk result (λ n. Writes (take n from.now) (link_wire self.old) (link_wire self.new)) }
+        ensures unchanged { OnReadyErr result (Some (link_wire self.new) ≡ Some (link_wire self.old)) }
+        ensures cause { OnReadyErr result (Rose (link_faults self.old) (link_faults self.new)) }
+        ensures pending { OnPending result (Waits (link_write_waits self.old) (link_write_waits self.new) (Some (link_wire self.old)) (Some (link_wire self.new)) cx.new) }
+        ensures kept { Keeps cx.old cx.new }
+        ensures later { link_faults self.old ≤ link_faults self.new }
+        ensures later_reads { link_read_waits self.old ≤ link_read_waits self.new }
+        ensures later_writes { link_write_waits self.old ≤ link_write_waits self.new }
+        ensures to_wait { result ≡ Poll.Pending ↔ IsToWait self.old }
+        ensures to_fail { IsToFail self.old → IfReadyOk result (λ _. ⊥) }
+        ensures most { IfReadyOk result (λ n. n ≡ length from.now) }
+        ensures numbered { IsOneCallMore self.old self.new }
+    {
         match self.next() {
             Course::Wait => {
                 self.write_waits = self.write_waits.saturating_add(1);

@@ -1,0 +1,4 @@
+pub mod Standing
+pub mod Causing
+pub mod Answering
+pub mod Running
