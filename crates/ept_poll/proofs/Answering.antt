@@ -21,18 +21,16 @@ use Rattle.ept_conn.proofs.Wanting.{write-some}
 use Rattle.ept_conn.proofs.TurnLemmas.{due-once, some-due}
 use Rattle.ept_conn.proofs.Histories.{failed-has, ends-has, reads-has, owes-has}
 use Rattle.ept_poll.specs.Units.{Seen}
-use Rattle.ept_poll.specs.Polls.{unused, Told, Stands, IsFront, IsEndOver, IsAnswered, IsNotAnswered, IsReadAnswered, IsWell}
+use Rattle.ept_poll.specs.Polls.{unused, Told, HasPassed, Stands, IsFront, IsEndOver, IsAnswered, IsNotAnswered, IsReadAnswered, IsWell}
 use Rattle.ept_poll.proofs.Standing.{tells-weaker}
+use Rattle.ept_poll.proofs.Passing.{by-passed, passed-unanswered}
 
--- what holds by what was read and written holds of all that passed over the link
-by-passed : (P : List ℕ → List ℕ → Type 0) (served : Served) (reason : Type 0) (state : State) (wire : Wire) → (c : Converses served reason unused state wire) → P c.bytes c.text → P wire.taken wire.written
-by-passed P served reason state wire c holds =
-    let bytes : P wire.taken c.text = subst (λ (w : List ℕ). P w c.text) (sym c.passes.taken) holds in
-    subst (P wire.taken) (sym c.passes.written) bytes
+passed-by : (first : ℕ) (now : Seen) (P : Served → Wire → Type 0) → Stands first now → ((served : Served) (wire : Wire) → HasPassed served (Rose first now.store_faults) now.state wire → P served wire) → Told now P
+passed-by first now P s f = λ files told served is.
+    tells-weaker (λ wire. HasPassed served (Rose first now.store_faults) now.state wire) (P served) now.wire (s.passed files told served is) (λ wire p. f served wire p)
 
 told-by : (first : ℕ) (now : Seen) (P : Served → Wire → Type 0) → Stands first now → ((served : Served) (wire : Wire) → Converses served (Rose first now.store_faults) unused now.state wire → P served wire) → Told now P
-told-by first now P s f = λ files told served is.
-    tells-weaker (λ wire. Converses served (Rose first now.store_faults) unused now.state wire) (P served) now.wire (s.converses files told served is) (λ wire c. f served wire c)
+told-by first now P s f = passed-by first now P s (λ served wire p. f served wire p.converses)
 
 -- ---- at any time
 
@@ -75,31 +73,9 @@ stands-answered first now s is =
     told-by first now IsAnswered s (λ served wire c.
     by-passed (AreAnswers served) served (Rose first now.store_faults) now.state wire c (reads-has served (Rose first now.store_faults) c.bytes c.text now.state c.has is))
 
--- bytes have one list of answers
-answers-once : (served : Served) (bytes a b : List ℕ) → AreAnswers served bytes a → AreAnswers served bytes b → a ≡ b
-answers-once served bytes a b one two =
-    one.text_is ∙ ap (answers served) (due-once (fed fresh bytes) one.turns two.turns one.due two.due) ∙ sym two.text_is
-
-no-more : (sent more : List ℕ) → sent ≡ sent ++ more → ¬ (0 < length more)
-no-more sent more same some =
-    let len : length sent ≡ length sent + length more = ap length same ∙ length-append sent more in
-    omega (arith, len, some)
-
--- a session that goes on and has bytes to be sent has not sent all answers
-going-unanswered : (served : Served) (reason : Type 0) (bytes sent : List ℕ) (state : State) → Has served reason bytes sent state → state.fault ≡ None → want_of state ≡ want.Write → ¬ AreAnswers served bytes sent
-going-unanswered served reason bytes sent state has going is answered =
-    let due = some-due (fed state.held []) in
-    let text = state.out ++ (rest_of served state.hand ++ answers served due.0) in
-    let owed : IsOwed served state [] text = record { turns = due.0; due = due.1; text_is = refl } in
-    let all : AreAnswers served bytes (sent ++ text) = subst (λ (w : List ℕ). AreAnswers served w (sent ++ text)) (append-nil bytes) (owes-has served reason bytes sent state has going [] text owed) in
-    let some = write-some state is in
-    let len : length text ≡ length state.out + length (rest_of served state.hand ++ answers served due.0) = length-append state.out (rest_of served state.hand ++ answers served due.0) in
-    no-more sent text (answers-once served bytes sent (sent ++ text) answered all) (omega (arith, some, len))
-
-pub stands-unanswered : (first : ℕ) (now : Seen) → Stands first now → want_of now.state ≡ want.Write → now.state.fault ≡ None → Told now IsNotAnswered
-stands-unanswered first now s is going =
-    told-by first now IsNotAnswered s (λ served wire c.
-    by-passed (λ bytes text. ¬ AreAnswers served bytes text) served (Rose first now.store_faults) now.state wire c (going-unanswered served (Rose first now.store_faults) c.bytes c.text now.state c.has going is))
+pub stands-unanswered : (first : ℕ) (now : Seen) → Stands first now → want_of now.state ≡ want.Write → Told now IsNotAnswered
+stands-unanswered first now s is =
+    passed-by first now IsNotAnswered s (λ served wire p. passed-unanswered served (Rose first now.store_faults) now.state wire p is)
 
 -- ---- without a fault
 

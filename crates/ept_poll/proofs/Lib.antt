@@ -1,3 +1,5 @@
+mod Statuses
+mod Passing
 pub mod Standing
 pub mod Causing
 pub mod Answering

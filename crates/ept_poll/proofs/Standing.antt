@@ -1,6 +1,5 @@
 -- What stands of a connection still stands behind units of a poll.
 use Rattle.std.proofs.Common.{◌≡◌, ◌∙◌, ◌<◌, ◌≤◌, ◌⊎◌, inl, inr, ℕ, List, [], ◌∷◌, ◌++◌, length, take, drop, Option, Some, None, refl, sym, ap, subst, arith, length-append}
-use Rattle.std.proofs.lemmas.List.{take_at, drop_at}
 use Rattle.std.proofs.Math.Path.{fun_ext}
 use Rattle.ept_base.specs.Causes.{Rose}
 use Rattle.ept_base.specs.Files.{Files, SameFiles, StepsBy, Tells}
@@ -16,12 +15,12 @@ use Rattle.ept_conn.specs.State.{State, started, want_of, feeds}
 use Rattle.ept_conn.specs.Works.{HasPlanOf, Stops, IsDamagedIn, IsDamaged}
 use Rattle.ept_conn.specs.SessionCalls.{SessionCall, Fed, Worked, Sent, Failed}
 use Rattle.ept_conn.specs.Conversation.{Converses, HasCauseFor}
-use Rattle.ept_conn.proofs.Conversing.{steps-same, tells-of, start-converses, read-converses, unread-converses, work-converses, write-converses, unwritten-converses, read-no-store, read-undamaged, read-hand, rose-earlier, rose-later, damaged-since, same-files}
-use Rattle.ept_conn.proofs.Wanting.{read-parts, work-parts}
+use Rattle.ept_conn.proofs.Conversing.{steps-same, tells-of, start-converses, read-hand, rose-earlier, rose-later, damaged-since}
 use Rattle.ept_poll.specs.Links.{ReadsOn}
 use Rattle.ept_poll.specs.Units.{Seen, IsAs, IsOverLink, IsOverStore, IsUnit, AreUnits}
-use Rattle.ept_poll.specs.Polls.{unused, Told, Stands}
+use Rattle.ept_poll.specs.Polls.{unused, Told, HasPassed, Stands}
 use Rattle.ept_poll.specs.Runs.{IsUnused}
+use Rattle.ept_poll.proofs.Passing.{read-passed, unread-passed, work-passed, write-passed, unwritten-passed}
 
 -- ---- what is told
 
@@ -48,9 +47,9 @@ same-told (Some a) (Some b) step = ap Some (fun_ext step)
 pub start-stands : (now : Seen) → now.state ≡ started → Tells IsUnused now.wire → Stands now.store_faults now
 start-stands now is fresh = record {
   later = omega arith;
-  converses = λ files told served served_is.
-      tells-weaker IsUnused (λ w. Converses served (Rose now.store_faults now.store_faults) unused now.state w) now.wire fresh (λ w none.
-      subst (λ (s : State). Converses served (Rose now.store_faults now.store_faults) unused s w) (sym is) (fresh-converses served (Rose now.store_faults now.store_faults) w none));
+  passed = λ files told served served_is.
+      tells-weaker IsUnused (λ w. HasPassed served (Rose now.store_faults now.store_faults) now.state w) now.wire fresh (λ w none.
+      subst (λ (s : State). HasPassed served (Rose now.store_faults now.store_faults) s w) (sym is) (fresh-passed served (Rose now.store_faults now.store_faults) w none));
   plans = λ files told. subst (λ (s : State). HasPlanOf files s.hand) (sym is) tt;
   damaged = λ found fixed. absurd (none-fixed (fault.Damaged found) fixed);
   stores = λ fixed. absurd (none-fixed fault.Store fixed);
@@ -61,14 +60,17 @@ start-stands now is fresh = record {
         let none : now.state.fault ≡ None = ap (λ (s : State). s.fault) is in
         absurd cc
 
-    fresh-converses : (served : Served) (reason : Type 0) (w : Wire) → IsUnused w → Converses served reason unused started w
-    fresh-converses served reason w none =
+    fresh-passed : (served : Served) (reason : Type 0) (w : Wire) → IsUnused w → HasPassed served reason started w
+    fresh-passed served reason w none =
         let c = start-converses served reason unused in record {
-          bytes = [];
-          text = [];
-          passes = record { taken = none.taken; written = none.written; reads = []; reads_are = none.reads; each = tt };
-          has = c.has;
-          closed = λ closed. absurd cc;
+          converses = record {
+            bytes = [];
+            text = [];
+            passes = record { taken = none.taken; written = none.written; reads = []; reads_are = none.reads; each = tt };
+            has = c.has;
+            closed = λ closed. absurd cc;
+          };
+          refusing = λ write. inl refl;
         }
 
 -- ---- unit by unit
@@ -76,11 +78,11 @@ start-stands now is fresh = record {
 pub as-stands : (first : ℕ) (old new : Seen) → IsAs old new → Stands first old → Stands first new
 as-stands first old new is s = record {
   later = subst (λ (n : ℕ). first ≤ n) (sym is.store_faults) s.later;
-  converses = λ files told served served_is.
-      let was = s.converses files (sym is.files ∙ told) served served_is in
-      let faults = subst (λ (n : ℕ). Tells (λ w. Converses served (Rose first n) unused old.state w) old.wire) (sym is.store_faults) was in
-      let state = subst (λ (t : State). Tells (λ w. Converses served (Rose first new.store_faults) unused t w) old.wire) (sym is.state) faults in
-      subst (λ (o : Option Wire). Tells (λ w. Converses served (Rose first new.store_faults) unused new.state w) o) (sym is.wire) state;
+  passed = λ files told served served_is.
+      let was = s.passed files (sym is.files ∙ told) served served_is in
+      let faults = subst (λ (n : ℕ). Tells (λ w. HasPassed served (Rose first n) old.state w) old.wire) (sym is.store_faults) was in
+      let state = subst (λ (t : State). Tells (λ w. HasPassed served (Rose first new.store_faults) t w) old.wire) (sym is.state) faults in
+      subst (λ (o : Option Wire). Tells (λ w. HasPassed served (Rose first new.store_faults) new.state w) o) (sym is.wire) state;
   plans = λ files told. subst (λ (t : State). HasPlanOf files t.hand) (sym is.state) (s.plans files (sym is.files ∙ told));
   damaged = λ found fixed. subst (λ (o : Option Files). Tells (IsDamaged found) o) (sym is.files) (s.damaged found (ap (λ (t : State). t.fault) (sym is.state) ∙ fixed));
   stores = λ fixed. subst (λ (n : ℕ). Rose first n) (sym is.store_faults) (s.stores (ap (λ (t : State). t.fault) (sym is.state) ∙ fixed));
@@ -88,14 +90,14 @@ as-stands first old new is s = record {
 
 -- the link was called: what is said of the bytes is all that is new
 over-link-stands : (first : ℕ) (old new : Seen) → IsOverLink old new → Stands first old
-    → ((served : Served) → Tells (λ w. Converses served (Rose first old.store_faults) unused old.state w) old.wire → Tells (λ w. Converses served (Rose first old.store_faults) unused new.state w) new.wire)
+    → ((served : Served) → Tells (λ w. HasPassed served (Rose first old.store_faults) old.state w) old.wire → Tells (λ w. HasPassed served (Rose first old.store_faults) new.state w) new.wire)
     → ((new.state.hand ≡ old.state.hand) ⊎ (new.state.hand ≡ Empty))
     → ((cause : Fault) → new.state.fault ≡ Some cause → (old.state.fault ≡ Some cause) ⊎ ((cause ≡ fault.Link) ⊎ (cause ≡ fault.Memory)))
     → Stands first new
 over-link-stands first old new is s passes hand fixes = record {
   later = subst (λ (n : ℕ). first ≤ n) (sym is.store_faults) s.later;
-  converses = λ files told served served_is.
-      subst (λ (n : ℕ). Tells (λ w. Converses served (Rose first n) unused new.state w) new.wire) (sym is.store_faults) (passes served (s.converses files (sym is.files ∙ told) served served_is));
+  passed = λ files told served served_is.
+      subst (λ (n : ℕ). Tells (λ w. HasPassed served (Rose first n) new.state w) new.wire) (sym is.store_faults) (passes served (s.passed files (sym is.files ∙ told) served served_is));
   plans = λ files told. planned files (s.plans files (sym is.files ∙ told)) hand;
   damaged = λ found fixed. subst (λ (o : Option Files). Tells (IsDamaged found) o) (sym is.files) (s.damaged found (was (fault.Damaged found) (λ same. absurd cc) (λ same. absurd cc) (fixes (fault.Damaged found) fixed)));
   stores = λ fixed. subst (λ (n : ℕ). Rose first n) (sym is.store_faults) (s.stores (was fault.Store (λ same. absurd cc) (λ same. absurd cc) (fixes fault.Store fixed)));
@@ -132,19 +134,16 @@ failed-fixes old new cause is fixed =
 fed-stands : (first : ℕ) (old new : Seen) (piece : List ℕ) → IsUnit old (Fed piece) new → Stands first old → Stands first new
 fed-stands first old new piece unit s =
     over-link-stands first old new unit.1 s
-    (λ served so_far. tells-step (ReadsOn piece) (λ w. Converses served (Rose first old.store_faults) unused old.state w) (λ w. Converses served (Rose first old.store_faults) unused new.state w) old.wire new.wire unit.2 so_far (λ a b reads was.
-    read-converses served (Rose first old.store_faults) unused a b old.state new.state piece was unit.0 reads.reads reads.at_end unit.3))
+    (λ served so_far. tells-step (ReadsOn piece) (λ w. HasPassed served (Rose first old.store_faults) old.state w) (λ w. HasPassed served (Rose first old.store_faults) new.state w) old.wire new.wire unit.2 so_far (λ a b reads was.
+    read-passed served (Rose first old.store_faults) a b old.state new.state piece was unit.0 reads.reads reads.at_end unit.3))
     (read-hand old.state new.state piece unit.3)
     (λ cause fixed. fed-fixes old.state new.state piece cause unit.3 fixed)
 
 sent-stands : (first : ℕ) (old new : Seen) (bytes : List ℕ) → IsUnit old (Sent bytes) new → Stands first old → Stands first new
 sent-stands first old new bytes unit s =
-    let front : take (length bytes) old.state.out ≡ bytes = ap (take (length bytes)) unit.4 ∙ take_at bytes new.state.out (length bytes) refl in
-    let rest : drop (length bytes) old.state.out ≡ new.state.out = ap (drop (length bytes)) unit.4 ∙ drop_at bytes new.state.out (length bytes) refl in
-    let is : new.state ≡ record old.state { out = drop (length bytes) old.state.out } = unit.5 ∙ ap (λ (w : List ℕ). record old.state { out = w }) (sym rest) in
     over-link-stands first old new unit.1 s
-    (λ served so_far. tells-step (Writes bytes) (λ w. Converses served (Rose first old.store_faults) unused old.state w) (λ w. Converses served (Rose first old.store_faults) unused new.state w) old.wire new.wire unit.2 so_far (λ a b writes was.
-    write-converses served (Rose first old.store_faults) unused a b old.state new.state (length bytes) was unit.0 (subst (λ (w : List ℕ). Writes w a b) (sym front) writes) is))
+    (λ served so_far. tells-step (Writes bytes) (λ w. HasPassed served (Rose first old.store_faults) old.state w) (λ w. HasPassed served (Rose first old.store_faults) new.state w) old.wire new.wire unit.2 so_far (λ a b writes was.
+    write-passed served (Rose first old.store_faults) a b old.state new.state bytes was unit.0 writes unit.4 unit.5))
     (inl (ap (λ (t : State). t.hand) unit.5))
     (λ cause fixed. inl (sym (ap (λ (t : State). t.fault) unit.5) ∙ fixed))
 
@@ -152,25 +151,25 @@ failed-stands : (first : ℕ) (old new : Seen) → IsUnit old Failed new → Sta
 failed-stands first old new unit s =
     over-link-stands first old new unit.1 s (λ served so_far. failed served so_far unit.0) (inr (ap (λ (t : State). t.hand) unit.3)) (λ cause fixed. inr (inl (failed-fixes old.state new.state cause unit.3 fixed)))
   where
-    failed : (served : Served) → Tells (λ w. Converses served (Rose first old.store_faults) unused old.state w) old.wire → ((want_of old.state ≡ want.Read) × StepsBy FailsToRead old.wire new.wire) ⊎ ((want_of old.state ≡ want.Write) × (new.wire ≡ old.wire)) → Tells (λ w. Converses served (Rose first old.store_faults) unused new.state w) new.wire
+    failed : (served : Served) → Tells (λ w. HasPassed served (Rose first old.store_faults) old.state w) old.wire → ((want_of old.state ≡ want.Read) × StepsBy FailsToRead old.wire new.wire) ⊎ ((want_of old.state ≡ want.Write) × (new.wire ≡ old.wire)) → Tells (λ w. HasPassed served (Rose first old.store_faults) new.state w) new.wire
     failed served so_far (inl read) =
-        tells-step FailsToRead (λ w. Converses served (Rose first old.store_faults) unused old.state w) (λ w. Converses served (Rose first old.store_faults) unused new.state w) old.wire new.wire read.1 so_far (λ a b fails was.
-        unread-converses served (Rose first old.store_faults) unused a b old.state new.state was read.0 fails unit.3)
+        tells-step FailsToRead (λ w. HasPassed served (Rose first old.store_faults) old.state w) (λ w. HasPassed served (Rose first old.store_faults) new.state w) old.wire new.wire read.1 so_far (λ a b fails was.
+        unread-passed served (Rose first old.store_faults) a b old.state new.state was read.0 fails unit.3)
     failed served so_far (inr write) =
-        subst (λ (o : Option Wire). Tells (λ w. Converses served (Rose first old.store_faults) unused new.state w) o) (sym write.1)
-        (tells-weaker (λ w. Converses served (Rose first old.store_faults) unused old.state w) (λ w. Converses served (Rose first old.store_faults) unused new.state w) old.wire so_far (λ w was.
-        unwritten-converses served (Rose first old.store_faults) unused w w old.state new.state was refl unit.3))
+        subst (λ (o : Option Wire). Tells (λ w. HasPassed served (Rose first old.store_faults) new.state w) o) (sym write.1)
+        (tells-weaker (λ w. HasPassed served (Rose first old.store_faults) old.state w) (λ w. HasPassed served (Rose first old.store_faults) new.state w) old.wire so_far (λ w was.
+        unwritten-passed served (Rose first old.store_faults) w old.state new.state was unit.3))
 
 worked-stands : (first : ℕ) (old new : Seen) → IsUnit old Worked new → Stands first old → Stands first new
 worked-stands first old new unit s =
     let over = unit.1 in
     let one : new.files ≡ old.files = same-told old.files new.files over.files in record {
       later = (let up = s.later in let on = over.later in omega (arith, up, on));
-      converses = λ files told served served_is.
+      passed = λ files told served served_is.
           let told_old = sym one ∙ told in
-          subst (λ (o : Option Wire). Tells (λ w. Converses served (Rose first new.store_faults) unused new.state w) o) (sym over.wire)
-          (tells-weaker (λ w. Converses served (Rose first old.store_faults) unused old.state w) (λ w. Converses served (Rose first new.store_faults) unused new.state w) old.wire (s.converses files told_old served served_is) (λ w was.
-          work-converses files served (Rose first old.store_faults) (Rose first new.store_faults) unused w old.state new.state served_is (λ rose. rose-later first old.store_faults new.store_faults rose over.later) was unit.0 over.closed
+          subst (λ (o : Option Wire). Tells (λ w. HasPassed served (Rose first new.store_faults) new.state w) o) (sym over.wire)
+          (tells-weaker (λ w. HasPassed served (Rose first old.store_faults) old.state w) (λ w. HasPassed served (Rose first new.store_faults) new.state w) old.wire (s.passed files told_old served served_is) (λ w was.
+          work-passed files served (Rose first old.store_faults) (Rose first new.store_faults) w old.state new.state served_is (λ rose. rose-later first old.store_faults new.store_faults rose over.later) was unit.0 over.closed
           (record {
             works = λ going planned. over.works going files told_old served served_is planned;
             stops = over.stops;

@@ -1,5 +1,5 @@
 -- What polls of a connection do.
-use Rattle.std.specs.Prelude.{◌≡◌, ◌≢◌, ◌⊎◌, ℕ, ◌<◌, ◌≤◌, ⊤, List, [], length, take, true, Option, Some, None}
+use Rattle.std.specs.Prelude.{◌≡◌, ◌≢◌, ◌⊎◌, ℕ, ◌<◌, ◌≤◌, ⊤, List, [], ◌∷◌, ◌++◌, length, take, true, Option, Some, None}
 use Rattle.std.specs.List.{AllByRecursion}
 use Rattle.futures.specs.declared.task.Poll.{Poll}
 use Rattle.futures.specs.declared.task.context.Context.{Context}
@@ -13,7 +13,10 @@ use Rattle.ept_conn.specs.declared.end.Fault.TheVariants as fault
 use Rattle.ept_conn.specs.declared.end.End.{End}
 use Rattle.ept_conn.specs.declared.end.End.TheVariants as end
 use Rattle.ept_conn.specs.declared.end.Want.TheVariants as want
-use Rattle.ept_conn.specs.Answers.{Served, AreAnswers}
+use Rattle.ept_conn.specs.declared.turn.Turn.{Turn}
+use Rattle.ept_conn.specs.Held.{fresh, fed}
+use Rattle.ept_conn.specs.Turns.{AreDue}
+use Rattle.ept_conn.specs.Answers.{Served, refusal, answers, AreAnswers}
 use Rattle.ept_conn.specs.Served.{IsServed}
 use Rattle.ept_conn.specs.State.{State, want_of}
 use Rattle.ept_conn.specs.Works.{HasPlanOf, IsDamaged}
@@ -49,10 +52,25 @@ unused = record { taken = []; left = []; written = []; reads = [] }
 abbrev pub Told : Seen → (Served → Wire → Type 0) → Type 0
 Told now fact = (files : Files) → now.files ≡ Some files → (served : Served) → IsServed files served → Tells (fact served) now.wire
 
+-- a status is sent in place of the answer to a turn: of it these bytes have gone out, and the others are to be sent
+pub record IsRefusing (served : Served) (bytes sent out : List ℕ) : Type 0 where
+  pub before : List Turn
+  pub turn : Turn
+  pub others : List Turn
+  pub due : AreDue (fed fresh bytes) (before ++ (turn ∷ others))
+  pub gone : List ℕ
+  pub text_is : sent ≡ answers served before ++ gone
+  pub status : (gone ++ out ≡ refusal 503 true) ⊎ (gone ++ out ≡ refusal 507 true)
+
+-- a session was fed what a link gave and what it put out was written, since nothing had passed; where it has bytes to be sent after its end was fixed, they are a status
+pub record HasPassed (served : Served) (reason : Type 0) (state : State) (wire : Wire) : Type 0 where
+  pub converses : Converses served reason unused state wire
+  pub refusing : want_of state ≡ want.Write → (state.fault ≡ None) ⊎ IsRefusing served wire.taken wire.written state.out
+
 -- Of a connection that was made over a link over which nothing had passed: what its link and its session did since. The store's count of faults was `first` then.
 pub record Stands (first : ℕ) (now : Seen) : Type 0 where
   pub later : first ≤ now.store_faults
-  pub converses : Told now (λ served wire. Converses served (Rose first now.store_faults) unused now.state wire)
+  pub passed : Told now (λ served wire. HasPassed served (Rose first now.store_faults) now.state wire)
   pub plans : (files : Files) → now.files ≡ Some files → HasPlanOf files now.state.hand
   pub damaged : (found : QueryFile) → now.state.fault ≡ Some (fault.Damaged found) → Tells (IsDamaged found) now.files
   pub stores : now.state.fault ≡ Some fault.Store → Rose first now.store_faults
