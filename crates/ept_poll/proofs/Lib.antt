@@ -4,3 +4,4 @@ pub mod Standing
 pub mod Causing
 pub mod Answering
 pub mod Running
+pub mod Polling

@@ -109,21 +109,23 @@ refused-digit status last more (inr (inr (inr (inl is)))) =
 refused-digit status last more (inr (inr (inr (inr is)))) =
     subst (λ (s : ℕ). IsOther (refusal s last ++ more)) (sym is) (other-digit 53 (refusal 505 last ++ more) refl (λ same. absurd cc) (λ same. absurd cc))
 
+content-digit : (json last : Bool) (content more : List ℕ) → IsOther (file_answer json last (Some content) ++ more)
+unfolding head_text status_line
+content-digit json last content more =
+    other-digit 48 (file_answer json last (Some content) ++ more) refl (λ same. absurd cc) (λ same. absurd cc)
+
 file-digit : (json last : Bool) (content : Option (List ℕ)) (more : List ℕ) → IsOther (file_answer json last content ++ more)
 file-digit json last None more = refused-digit 404 last more (inr (inl refl))
-file-digit json last (Some content) more = found json last content more
-  where
-    found : (json last : Bool) (content more : List ℕ) → IsOther (file_answer json last (Some content) ++ more)
-    unfolding head_text status_line
-    found json last content more = other-digit 48 (file_answer json last (Some content) ++ more) refl (λ same. absurd cc) (λ same. absurd cc)
+file-digit json last (Some content) more = content-digit json last content more
+
+nodes-digit : (served : Served) (area : Box3) (last : Bool) (nodes : List Node) (more : List ℕ) → IsOther (query_answer served area last (Some nodes) ++ more)
+unfolding head_text status_line
+nodes-digit served area last nodes more =
+    other-digit 48 (query_answer served area last (Some nodes) ++ more) refl (λ same. absurd cc) (λ same. absurd cc)
 
 query-digit : (served : Served) (area : Box3) (last : Bool) (nodes : Option (List Node)) (more : List ℕ) → IsOther (query_answer served area last nodes ++ more)
 query-digit served area last None more = refused-digit 404 last more (inr (inl refl))
-query-digit served area last (Some nodes) more = found served area last nodes more
-  where
-    found : (served : Served) (area : Box3) (last : Bool) (nodes : List Node) (more : List ℕ) → IsOther (query_answer served area last (Some nodes) ++ more)
-    unfolding head_text status_line
-    found served area last nodes more = other-digit 48 (query_answer served area last (Some nodes) ++ more) refl (λ same. absurd cc) (λ same. absurd cc)
+query-digit served area last (Some nodes) more = nodes-digit served area last nodes more
 
 answer-digit : (served : Served) (wanted : Asked) (last : Bool) (more : List ℕ) → IsPlain wanted → IsOther (answer_to served wanted last ++ more)
 answer-digit served (asked.File name) last more is = file-digit (is_json name) last (served.file name) more

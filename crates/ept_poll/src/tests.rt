@@ -1,6 +1,11 @@
 //! Connections that are polled, over a link in memory, from a folder in memory whose files are written out by
 //! hand.
 
+ghost use Rattle.std.specs.Prelude.{IfOk};
+ghost use Rattle.ept_poll.specs.Memory.{link_wire};
+ghost use Rattle.ept_poll.specs.Polls.{IsPollable};
+ghost use Rattle.ept_poll.specs.Runs.{IsUnused};
+
 use crate::{MemPollLink, PollConn};
 use ept_conn::End;
 use ept_mem::MemStore;
@@ -38,26 +43,53 @@ fn store_of(alloc: Global, fails: &[u64]) -> Result<MemStore, AllocError> {
     Ok(MemStore::new(alloc, list, Vec::from_slice(alloc, fails)?))
 }
 
-// A request for the tile and one for its point by its box, and what is sent for them.
-const REQUESTS: &[u8] =
-    b"GET /ept-data/0-0-0-0.bin HTTP/1.1\r\nHost: a\r\n\r\nGET /query?box=0,0,0,7,7,7&depths=0,2 HTTP/1.1\r\nHost: a\r\n\r\n";
-
-const ANSWERS: [&[u8]; 7] = [
-    b"HTTP/1.1 200 OK\r\nContent-Type: application/octet-stream\r\nContent-Length: 49\r\n\r\n",
-    TILE,
-    b"HTTP/1.1 200 OK\r\nContent-Type: application/octet-stream\r\nTransfer-Encoding: chunked\r\n\r\n",
-    b"31\r\n",
-    TILE,
-    b"\r\n",
-    b"0\r\n\r\n",
+// Requests, each with the parts of its answer: the tile; the point by its box; no method that is answered; a
+// tile that is not there; an old version, behind which the connection ends.
+const TABLE: [(&[u8], &[&[u8]]); 5] = [
+    (
+        b"GET /ept-data/0-0-0-0.bin HTTP/1.1\r\nHost: a\r\n\r\n",
+        &[
+            b"HTTP/1.1 200 OK\r\nContent-Type: application/octet-stream\r\nContent-Length: 49\r\n\r\n",
+            TILE,
+        ],
+    ),
+    (
+        b"GET /query?box=0,0,0,7,7,7&depths=0,2 HTTP/1.1\r\nHost: a\r\n\r\n",
+        &[
+            b"HTTP/1.1 200 OK\r\nContent-Type: application/octet-stream\r\nTransfer-Encoding: chunked\r\n\r\n",
+            b"31\r\n",
+            TILE,
+            b"\r\n",
+            b"0\r\n\r\n",
+        ],
+    ),
+    (
+        b"POST / HTTP/1.1\r\nHost: a\r\n\r\n",
+        &[b"HTTP/1.1 405 Method Not Allowed\r\nAllow: GET\r\nContent-Length: 0\r\n\r\n"],
+    ),
+    (
+        b"GET /ept-data/1-0-0-0.bin HTTP/1.1\r\nHost: a\r\n\r\n",
+        &[b"HTTP/1.1 404 Not Found\r\nContent-Length: 0\r\n\r\n"],
+    ),
+    (
+        b"GET /ept.json HTTP/1.0\r\nHost: a\r\n\r\n",
+        &[
+            b"HTTP/1.1 505 HTTP Version Not Supported\r\nConnection: close\r\nContent-Length: 0\r\n\r\n",
+        ],
+    ),
 ];
 
-fn answers_of(alloc: Global) -> Result<Vec<u8>, AllocError> {
-    let mut bytes = Vec::new(alloc);
-    for part in ANSWERS {
-        bytes.extend_from_slice(part)?;
+// So many of the requests behind one another, and their answers.
+fn first_of(alloc: Global, count: usize) -> Result<(Vec<u8>, Vec<u8>), AllocError> {
+    let mut requests = Vec::new(alloc);
+    let mut answers = Vec::new(alloc);
+    for (request, parts) in TABLE.iter().take(count) {
+        requests.extend_from_slice(request)?;
+        for part in *parts {
+            answers.extend_from_slice(part)?;
+        }
     }
-    Ok(bytes)
+    Ok((requests, answers))
 }
 
 // The numbers of every second call, from the first on: each call is pending once, and then moves.
@@ -69,34 +101,109 @@ fn every_second(alloc: Global) -> Result<Vec<u64>, AllocError> {
     Ok(numbers)
 }
 
-// A connection over which the requests come in pieces of so many bytes, of one at least.
-fn conn_of(
+// A link over which these bytes come in pieces of so many, of one at least.
+fn link_of(
     alloc: Global,
+    bytes: &[u8],
     size: usize,
-    turns: u32,
     pending: Vec<u64>,
     fails: &[u64],
-) -> Result<PollConn<MemPollLink, MemStore>, AllocError> {
+) -> Result<MemPollLink, AllocError>
+    ensures { IfOk result (λ link. IsUnused (link_wire link)) }
+{
     let mut pieces = Vec::new(alloc);
-    for piece in REQUESTS.chunks(size.max(1)) {
+    for piece in bytes.chunks(size.max(1)) {
         pieces.push(Vec::from_slice(alloc, piece)?)?;
     }
-    let link = MemPollLink::new(alloc, pieces, pending, Vec::from_slice(alloc, fails)?);
-    Ok(PollConn::new(alloc, link, store_of(alloc, &[])?, turns))
+    let fails = Vec::from_slice(alloc, fails)?;
+    Ok(MemPollLink::new(alloc, pieces, pending, fails))
 }
 
-// How the requests are cut, and how many units a poll does.
-const CASES: [(usize, u32); 6] = [(1, 1), (1, 64), (7, 3), (1000, 1), (1000, 2), (1000, 64)];
+// How many requests come, how they are cut, and how many units a poll does.
+const CASES: [(usize, usize, u32); 6] = [
+    (1, 1, 1),
+    (1, 1, 64),
+    (1, 1000, 1),
+    (5, 1, 1),
+    (5, 7, 3),
+    (5, 1000, 64),
+];
 
 #[test]
 fn requests_are_answered_under_block_on(rt: HostRuntime) -> Result<(), Fail> {
     let alloc = rt.alloc();
-    let answers = answers_of(alloc)?;
-    for (size, turns) in CASES {
-        let mut conn = conn_of(alloc, size, turns, every_second(alloc)?, &[])?;
-        assert_eq!(rt; block_on(&rt, &mut conn)?, End::Closed);
-        let (link, _store) = conn.into_parts();
-        assert_eq!(rt; link.written(), answers.as_slice());
+    for (count, size, turns) in CASES {
+        let (requests, answers) = first_of(alloc, count)?;
+        for pending in [Vec::new(alloc), every_second(alloc)?] {
+            let link = link_of(alloc, &requests, size, pending, &[])?;
+            let mut conn = PollConn::new(alloc, link, store_of(alloc, &[])?, turns.max(1));
+            assert_eq!(rt; block_on(&rt, &mut conn)?, End::Closed);
+            let (link, _store) = conn.into_parts();
+            assert_eq!(rt; link.written(), answers.as_slice());
+        }
+    }
+    Ok(())
+}
+
+const UNAVAILABLE: &[u8] =
+    b"HTTP/1.1 503 Service Unavailable\r\nConnection: close\r\nContent-Length: 0\r\n\r\n";
+
+// How the first request is cut, which calls of the link and of the store fail, the end, and the answer. Each call
+// of the link waits once before.
+type Failing = (usize, &'static [u64], &'static [u64], End, &'static [u8]);
+
+const FAILING: [Failing; 5] = [
+    (1, &[1], &[], End::LinkFault, b""),
+    (1, &[3], &[], End::LinkFault, b""),
+    (1000, &[3], &[], End::LinkFault, b""),
+    (1000, &[], &[0], End::StoreFault, UNAVAILABLE),
+    (1000, &[3], &[0], End::LinkFault, b""),
+];
+
+#[test]
+fn a_fault_ends_the_connection(rt: HostRuntime) -> Result<(), Fail> {
+    let alloc = rt.alloc();
+    let (request, _answer) = first_of(alloc, 1)?;
+    for (size, fails, store_fails, end, answer) in FAILING {
+        for turns in [1, 64] {
+            let link = link_of(alloc, &request, size, every_second(alloc)?, fails)?;
+            let mut conn = PollConn::new(alloc, link, store_of(alloc, store_fails)?, turns);
+            assert_eq!(rt; block_on(&rt, &mut conn)?, end);
+            let (link, _store) = conn.into_parts();
+            assert_eq!(rt; link.written(), answer);
+        }
+    }
+    Ok(())
+}
+
+// Polls by hand up to the end, and answers how many polls there were. None where a pending poll has not asked for
+// the next one.
+fn polls_to_end(task: &MockTask, conn: &mut PollConn<MemPollLink, MemStore>) -> Option<(u64, End)>
+    requires { IsPollable conn.old.turns conn.old.session }
+{
+    for count in 1..1000u64 {
+        match task.poll(conn) {
+            Poll::Ready(end) => return Some((count, end)),
+            Poll::Pending if task.is_woken() => {}
+            Poll::Pending => return None,
+        }
+    }
+    None
+}
+
+// How many units a poll does, and how many polls the first request takes in one piece without a wait. It has five
+// units: it is read, decided, its file is got, the answer is written, and the end of the input is read.
+const POLLS: [(u32, u64); 5] = [(1, 5), (2, 3), (4, 2), (5, 1), (64, 1)];
+
+#[test]
+fn a_poll_does_so_many_units(rt: HostRuntime) -> Result<(), Fail> {
+    let alloc = rt.alloc();
+    let (request, _answer) = first_of(alloc, 1)?;
+    let task = MockTask::new(&rt)?;
+    for (turns, polls) in POLLS {
+        let link = link_of(alloc, &request, 1000, Vec::new(alloc), &[])?;
+        let mut conn = PollConn::new(alloc, link, store_of(alloc, &[])?, turns.max(1));
+        assert_eq!(rt; polls_to_end(&task, &mut conn), Some((polls, End::Closed)));
     }
     Ok(())
 }
