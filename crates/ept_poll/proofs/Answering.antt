@@ -47,8 +47,8 @@ stands-front first now s =
 
 read-answered : (served : Served) (bytes text : List ℕ) (at : ℕ × ℕ) → IsAnsweredAt served unused bytes text at → AreAnswers served (take at.0 bytes) (take at.1 text)
 read-answered served bytes text at is =
-    let came : at.0 ≡ is.came = is.taken in
-    let went : at.1 ≡ is.went = is.written in
+    let came : at.0 ≡ is.came = (let is_at = is.taken in omega (arith, is_at)) in
+    let went : at.1 ≡ is.went = (let is_at = is.written in omega (arith, is_at)) in
     subst (λ (n : ℕ). AreAnswers served (take n bytes) (take at.1 text)) (sym came) (subst (λ (n : ℕ). AreAnswers served (take is.came bytes) (take n text)) (sym went) is.answers)
 
 reads-answered : (served : Served) (bytes text : List ℕ) (reads : List (ℕ × ℕ)) → AllByRecursion (IsAnsweredAt served unused bytes text) reads → AllByRecursion (λ (at : ℕ × ℕ). AreAnswers served (take at.0 bytes) (take at.1 text)) reads

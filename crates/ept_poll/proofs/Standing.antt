@@ -15,7 +15,8 @@ use Rattle.ept_conn.specs.State.{State, started, want_of, feeds}
 use Rattle.ept_conn.specs.Works.{HasPlanOf, Stops, IsDamagedIn, IsDamaged}
 use Rattle.ept_conn.specs.SessionCalls.{SessionCall, Fed, Worked, Sent, Failed}
 use Rattle.ept_conn.specs.Conversation.{Converses, HasCauseFor}
-use Rattle.ept_conn.proofs.Conversing.{steps-same, tells-of, start-converses, read-hand, rose-earlier, rose-later, damaged-since}
+use Rattle.ept_conn.proofs.Histories.{start-has}
+use Rattle.ept_conn.proofs.Conversing.{steps-same, tells-of, read-hand, rose-earlier, rose-later, damaged-since}
 use Rattle.ept_poll.specs.Links.{ReadsOn}
 use Rattle.ept_poll.specs.Units.{Seen, IsAs, IsOverLink, IsOverStore, IsUnit, AreUnits}
 use Rattle.ept_poll.specs.Polls.{unused, Told, HasPassed, Stands}
@@ -61,17 +62,16 @@ start-stands now is fresh = record {
         absurd cc
 
     fresh-passed : (served : Served) (reason : Type 0) (w : Wire) → IsUnused w → HasPassed served reason started w
-    fresh-passed served reason w none =
-        let c = start-converses served reason unused in record {
-          converses = record {
-            bytes = [];
-            text = [];
-            passes = record { taken = none.taken; written = none.written; reads = []; reads_are = none.reads; each = tt };
-            has = c.has;
-            closed = λ closed. absurd cc;
-          };
-          refusing = λ write. inl refl;
-        }
+    fresh-passed served reason w none = record {
+      converses = record {
+        bytes = [];
+        text = [];
+        passes = record { taken = none.taken; written = none.written; reads = []; reads_are = none.reads; each = tt };
+        has = start-has served reason;
+        closed = λ closed. absurd cc;
+      };
+      refusing = λ write. inl refl;
+    }
 
 -- ---- unit by unit
 

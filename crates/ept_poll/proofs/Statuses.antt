@@ -1,7 +1,8 @@
 -- The head of status 503 or 507 is no front of an answer.
-use Rattle.std.proofs.Common.{◌≡◌, ◌∙◌, ◌<◌, ◌⊎◌, inl, inr, ℕ, zero, suc, List, [], ◌∷◌, ◌++◌, take, drop, Bool, true, false, not, if◌then◌else◌, MatchBool, Option, Some, None, MatchOption, refl, sym, ap, subst, append_assoc}
+use Rattle.std.proofs.Common.{◌≡◌, ◌∙◌, ◌<◌, ◌⊎◌, inl, inr, ℕ, zero, suc, List, [], ◌∷◌, ◌++◌, take, drop, Bool, true, false, not, if◌then◌else◌, MatchBool, Option, Some, None, MatchOption, refl, sym, ap, subst, arith}
 use Rattle.std.specs.Prelude.{⊤}
 use Rattle.std.specs.List.{AllByRecursion}
+use Rattle.std.specs.Fmt.{digits}
 use Rattle.ept_hier.specs.Hierarchy.{Node}
 use Rattle.ept_space.specs.declared.box3.Box3.{Box3}
 use Rattle.httparse.specs.Grammar.{RequestHead}
@@ -79,7 +80,7 @@ all-behind P (y ∷ before) x behind all = all-behind P before x behind all.1
 
 -- ---- the last digit of the status
 
-digit_of : List ℕ → List ℕ
+abbrev digit_of : List ℕ → List ℕ
 digit_of text = take 1 (drop 11 text)
 
 -- it is no 3, and no 7
@@ -97,20 +98,20 @@ other-digit digit text is three seven = record {
     one a b same = cc
 
 refused-digit : (status : ℕ) (last : Bool) (more : List ℕ) → IsEarly status → IsOther (refusal status last ++ more)
-unfolding head_text status_line
+unfolding head_text status_line digits
 refused-digit status last more (inl is) =
-    subst (λ (s : ℕ). IsOther (refusal s last ++ more)) (sym is) (other-digit 48 (refusal 400 last ++ more) refl (λ same. absurd cc) (λ same. absurd cc))
+    subst (λ (s : ℕ). IsOther (refusal s last ++ more)) (sym is) (other-digit 48 (refusal 400 last ++ more) refl (λ same. omega (arith, same)) (λ same. omega (arith, same)))
 refused-digit status last more (inr (inl is)) =
-    subst (λ (s : ℕ). IsOther (refusal s last ++ more)) (sym is) (other-digit 52 (refusal 404 last ++ more) refl (λ same. absurd cc) (λ same. absurd cc))
+    subst (λ (s : ℕ). IsOther (refusal s last ++ more)) (sym is) (other-digit 52 (refusal 404 last ++ more) refl (λ same. omega (arith, same)) (λ same. omega (arith, same)))
 refused-digit status last more (inr (inr (inl is))) =
-    subst (λ (s : ℕ). IsOther (refusal s last ++ more)) (sym is) (other-digit 53 (refusal 405 last ++ more) refl (λ same. absurd cc) (λ same. absurd cc))
+    subst (λ (s : ℕ). IsOther (refusal s last ++ more)) (sym is) (other-digit 53 (refusal 405 last ++ more) refl (λ same. omega (arith, same)) (λ same. omega (arith, same)))
 refused-digit status last more (inr (inr (inr (inl is)))) =
-    subst (λ (s : ℕ). IsOther (refusal s last ++ more)) (sym is) (other-digit 49 (refusal 431 last ++ more) refl (λ same. absurd cc) (λ same. absurd cc))
+    subst (λ (s : ℕ). IsOther (refusal s last ++ more)) (sym is) (other-digit 49 (refusal 431 last ++ more) refl (λ same. omega (arith, same)) (λ same. omega (arith, same)))
 refused-digit status last more (inr (inr (inr (inr is)))) =
-    subst (λ (s : ℕ). IsOther (refusal s last ++ more)) (sym is) (other-digit 53 (refusal 505 last ++ more) refl (λ same. absurd cc) (λ same. absurd cc))
+    subst (λ (s : ℕ). IsOther (refusal s last ++ more)) (sym is) (other-digit 53 (refusal 505 last ++ more) refl (λ same. omega (arith, same)) (λ same. omega (arith, same)))
 
 content-digit : (json last : Bool) (content more : List ℕ) → IsOther (file_answer json last (Some content) ++ more)
-unfolding head_text status_line
+unfolding head_text status_line digits
 content-digit json last content more =
     other-digit 48 (file_answer json last (Some content) ++ more) refl (λ same. absurd cc) (λ same. absurd cc)
 
@@ -119,7 +120,7 @@ file-digit json last None more = refused-digit 404 last more (inr (inl refl))
 file-digit json last (Some content) more = content-digit json last content more
 
 nodes-digit : (served : Served) (area : Box3) (last : Bool) (nodes : List Node) (more : List ℕ) → IsOther (query_answer served area last (Some nodes) ++ more)
-unfolding head_text status_line
+unfolding head_text status_line digits
 nodes-digit served area last nodes more =
     other-digit 48 (query_answer served area last (Some nodes) ++ more) refl (λ same. absurd cc) (λ same. absurd cc)
 
@@ -133,11 +134,11 @@ answer-digit served (asked.Query area first second) last more is = query-digit s
 answer-digit served (asked.Refuse status) last more is = refused-digit status last more is
 
 three-digit : digit_of (refusal 503 true) ≡ 51 ∷ []
-unfolding head_text status_line
+unfolding head_text status_line digits
 three-digit = refl
 
 seven-digit : digit_of (refusal 507 true) ≡ 55 ∷ []
-unfolding head_text status_line
+unfolding head_text status_line digits
 seven-digit = refl
 
 -- the answer to a turn and more is no head of status 503 or 507

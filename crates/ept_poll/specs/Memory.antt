@@ -25,13 +25,13 @@ link_write_waits link = link.write_waits
 
 -- how many calls there were, and the numbers of those that are to wait and of those that are to fail
 abbrev pub link_calls : MemPollLink → ℕ
-link_calls link = link.calls
+link_calls link = link.script.calls
 
 abbrev pub link_pending : MemPollLink → List ℕ
-link_pending link = link.pending.items
+link_pending link = link.script.pending.items
 
 abbrev pub link_fails : MemPollLink → List ℕ
-link_fails link = link.fails.items
+link_fails link = link.script.fails.items
 
 -- the next call is to wait
 abbrev pub IsToWait : MemPollLink → Type 0

@@ -167,11 +167,17 @@ fn read_piece<L: PollLink>(
     ensures later_writes { L.write_waits link.old ≤ L.write_waits link.new }
 {
     let mut piece = [0; PIECE];
-    match ready!(link.poll_read(cx, &mut piece)) {
-        Ok(count) => session.feed(&piece[..count]),
-        Err(Failed) => session.fault(),
+    match link.poll_read(cx, &mut piece) {
+        Poll::Ready(Ok(count)) => {
+            session.feed(&piece[..count]);
+            Poll::Ready(None)
+        }
+        Poll::Ready(Err(Failed)) => {
+            session.fault();
+            Poll::Ready(None)
+        }
+        Poll::Pending => Poll::Pending,
     }
-    Poll::Ready(None)
 }
 
 // Writes of what is to be sent as much as the link takes at once.
@@ -191,9 +197,15 @@ fn write_some<L: PollLink>(
     ensures later_reads { L.read_waits link.old ≤ L.read_waits link.new }
     ensures later_writes { L.write_waits link.old ≤ L.write_waits link.new }
 {
-    match ready!(link.poll_write(cx, session.out())) {
-        Ok(count) => session.sent(count),
-        Err(Failed) => session.fault(),
+    match link.poll_write(cx, session.out()) {
+        Poll::Ready(Ok(count)) => {
+            session.sent(count);
+            Poll::Ready(None)
+        }
+        Poll::Ready(Err(Failed)) => {
+            session.fault();
+            Poll::Ready(None)
+        }
+        Poll::Pending => Poll::Pending,
     }
-    Poll::Ready(None)
 }

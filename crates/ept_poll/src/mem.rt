@@ -10,17 +10,12 @@ use ept_mem::MemLink;
 use futures::task::{Context, Poll};
 use std::alloc::Global;
 
-/// A link in memory over which bytes come in pieces. Its calls are numbered from 0: those that are listed to
-/// wait are pending, and of the others those that are listed to fail do so.
+// Which calls are to wait and which to fail, and how many there were.
 #[derive(Debug, Drop)]
-pub struct MemPollLink {
-    link: MemLink,
-    pending: Vec<u64>,
-    fails: Vec<u64>,
-    calls: u64,
-    faults: u64,
-    read_waits: u64,
-    write_waits: u64,
+pub(crate) struct Script {
+    pub(crate) pending: Vec<u64>,
+    pub(crate) fails: Vec<u64>,
+    pub(crate) calls: u64,
 }
 
 // What is to come of a call.
@@ -31,31 +26,16 @@ enum Course {
     Move,
 }
 
-impl MemPollLink {
-    ghost use Rattle.ept_mem.specs.Cut.{bytes_of_all};
-    ghost use Rattle.ept_poll.specs.Memory.{link_wire, link_faults, link_read_waits, link_write_waits, link_calls, link_pending, link_fails, IsToWait, IsToFail};
-
-    /// A link over which these pieces come, one after another, whose calls of the first numbers wait and whose
-    /// calls of the second fail. It takes no memory.
-    pub fn new(alloc: Global, pieces: Vec<Vec<u8>>, pending: Vec<u64>, fails: Vec<u64>) -> Self {
-        MemPollLink {
-            link: MemLink::new(alloc, pieces, Vec::new(alloc)),
-            pending,
-            fails,
-            calls: 0,
-            faults: 0,
-            read_waits: 0,
-            write_waits: 0,
-        }
-    }
-
-    /// The bytes written.
-    pub fn written(&self) -> &[u8] {
-        self.link.written()
-    }
-
+impl Script {
     // Counts a call, and tells what is to come of it.
-    fn next(&mut self) -> Course {
+    fn next(&mut self) -> Course
+        ensures wait { result ≡ Course.Wait ↔ Contains self.old.pending.items self.old.calls }
+        ensures fail { result ≡ Course.Fail → Contains self.old.fails.items self.old.calls }
+        ensures moves { result ≡ Course.Move → ¬ Contains self.old.fails.items self.old.calls }
+        ensures counted { self.new.calls ≡ counts_on self.old.calls 1 }
+        ensures pending { self.new.pending.items ≡ self.old.pending.items }
+        ensures fails { self.new.fails.items ≡ self.old.fails.items }
+    {
         let call = self.calls;
         self.calls = call.saturating_add(1);
         if self.pending.contains(&call) {
@@ -66,11 +46,63 @@ impl MemPollLink {
             Course::Move
         }
     }
+}
 
-    // Counts a fault.
-    fn fault(&mut self) -> Failed {
-        self.faults = self.faults.saturating_add(1);
-        Failed
+// Counts a fault.
+fn fault(faults: &mut u64) -> Failed
+    ensures rose { Rose faults.old faults.new }
+    ensures later { faults.old ≤ faults.new }
+{
+    *faults = faults.saturating_add(1);
+    Failed
+}
+
+/// A link in memory over which bytes come in pieces. Its calls are numbered from 0: those that are listed to
+/// wait are pending, and of the others those that are listed to fail do so.
+#[derive(Debug, Drop)]
+pub struct MemPollLink {
+    link: MemLink,
+    script: Script,
+    faults: u64,
+    read_waits: u64,
+    write_waits: u64,
+}
+
+impl MemPollLink {
+    ghost use Rattle.ept_mem.specs.Cut.{bytes_of_all};
+    ghost use Rattle.ept_poll.specs.Memory.{link_wire, link_faults, link_read_waits, link_write_waits, link_calls, link_pending, link_fails};
+
+    /// A link over which these pieces come, one after another, whose calls of the first numbers wait and whose
+    /// calls of the second fail. It takes no memory.
+    pub fn new(alloc: Global, pieces: Vec<Vec<u8>>, pending: Vec<u64>, fails: Vec<u64>) -> Self
+        ensures left { (link_wire result).left ≡ bytes_of_all pieces.items }
+        ensures untaken { (link_wire result).taken ≡ [] }
+        ensures unwritten { (link_wire result).written ≡ [] }
+        ensures unread { (link_wire result).reads ≡ [] }
+        ensures sound { link_faults result ≡ 0 }
+        ensures unwaited { (link_read_waits result ≡ 0) × (link_write_waits result ≡ 0) }
+        ensures pending { link_pending result ≡ pending.items }
+        ensures fails { link_fails result ≡ fails.items }
+        ensures unused { link_calls result ≡ 0 }
+    {
+        MemPollLink {
+            link: MemLink::new(alloc, pieces, Vec::new(alloc)),
+            script: Script {
+                pending,
+                fails,
+                calls: 0,
+            },
+            faults: 0,
+            read_waits: 0,
+            write_waits: 0,
+        }
+    }
+
+    /// The bytes written.
+    pub fn written(&self) -> &[u8]
+        ensures { result.now ≡ (link_wire self.now).written }
+    {
+        self.link.written()
     }
 }
 
@@ -108,15 +140,15 @@ impl PollLink for MemPollLink {
         ensures most { IfReadyOk result (λ n. n ≡ min (length into.new) (length (link_piece self.old))) }
         ensures numbered { IsOneCallMore self.old self.new }
     {
-        match self.next() {
+        match self.script.next() {
             Course::Wait => {
                 self.read_waits = self.read_waits.saturating_add(1);
                 cx.yield_now()
             }
-            Course::Fail => Poll::Ready(Err(self.fault())),
+            Course::Fail => Poll::Ready(Err(fault(&mut self.faults))),
             Course::Move => Poll::Ready(match self.link.read(into) {
                 Ok(count) => Ok(count),
-                Err(Failed) => Err(self.fault()),
+                Err(Failed) => Err(fault(&mut self.faults)),
             }),
         }
     }
@@ -137,15 +169,15 @@ impl PollLink for MemPollLink {
         ensures most { IfReadyOk result (λ n. n ≡ length from.now) }
         ensures numbered { IsOneCallMore self.old self.new }
     {
-        match self.next() {
+        match self.script.next() {
             Course::Wait => {
                 self.write_waits = self.write_waits.saturating_add(1);
                 cx.yield_now()
             }
-            Course::Fail => Poll::Ready(Err(self.fault())),
+            Course::Fail => Poll::Ready(Err(fault(&mut self.faults))),
             Course::Move => Poll::Ready(match self.link.write(from) {
                 Ok(count) => Ok(count),
-                Err(Failed) => Err(self.fault()),
+                Err(Failed) => Err(fault(&mut self.faults)),
             }),
         }
     }
