@@ -5,3 +5,4 @@ pub mod Causing
 pub mod Answering
 pub mod Running
 pub mod Polling
+pub mod Calling

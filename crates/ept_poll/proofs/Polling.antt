@@ -1,5 +1,5 @@
 -- What holds behind a poll: so many units, and a last call of the link that may have waited.
-use Rattle.std.proofs.Common.{◌≡◌, ◌≢◌, ◌∙◌, ◌<◌, ◌≤◌, ◌⊎◌, inl, inr, ℕ, List, Option, Some, None, refl, sym, ap, subst, arith}
+use Rattle.std.proofs.Common.{◌≡◌, ◌≢◌, ◌∙◌, ◌<◌, ◌≤◌, ◌⊎◌, inl, inr, ℕ, List, length, Option, Some, None, refl, sym, ap, subst, arith}
 use Rattle.futures.specs.declared.task.Poll.{Poll}
 use Rattle.futures.specs.declared.task.Poll.TheVariants.{Ready, Pending}
 use Rattle.ept_base.specs.Causes.{Rose}
@@ -15,9 +15,10 @@ use Rattle.ept_conn.specs.SessionCalls.{SessionCall}
 use Rattle.ept_conn.proofs.Conversing.{rose-earlier}
 use Rattle.ept_conn.proofs.Histories.{link-end, store-end, damaged-end}
 use Rattle.ept_poll.specs.Units.{Seen, IsAs, AreUnits}
+use Rattle.ept_poll.specs.Steps.{IsWaitFor}
 use Rattle.ept_poll.specs.Polls.{Told, Stands, Since, IsFront, IsEndOver, IsAnswered, IsNotAnswered, IsReadAnswered, IsWell, IsReading, IsWriting, IsPollable}
 use Rattle.ept_poll.proofs.Standing.{as-stands, units-stand}
-use Rattle.ept_poll.proofs.Causing.{IsClear, polled-links, polled-stores, polled-clear, goes-on-clear}
+use Rattle.ept_poll.proofs.Causing.{IsClear, as-once, polled-links, polled-stores, polled-clear, goes-on-clear}
 use Rattle.ept_poll.proofs.Answering.{stands-front, stands-reads, stands-end, stands-answered, stands-unanswered, stands-well}
 
 -- a poll's units and its rest
@@ -26,6 +27,9 @@ pub record HasDone (old new : Seen) : Type 0 where
   pub last : Seen
   pub units : AreUnits old calls last
   pub rest : IsAs last new
+
+pub all-done : (n : ℕ) (old now : Seen) → (calls : List SessionCall) × (length calls ≡ n) × AreUnits old calls now → HasDone old now
+all-done n old now units = record { calls = units.0; last = now; units = units.2; rest = as-once now }
 
 pub stands-on : (old new : Seen) → HasDone old new → Since old (λ first. Stands first new)
 stands-on old new d = λ first s. as-stands first d.last new d.rest (units-stand first d.calls old d.last d.units s)
@@ -93,3 +97,17 @@ pollable-on turns old new d p on = record {
   some = p.some;
   clear = goes-on-clear new.state (polled-clear d.calls old d.last new d.units d.rest (none-clear old.state p.clear)) on;
 }
+
+-- ---- a last call of the link waited
+
+pub waiting-on : (old new : Seen) (Yields : Type 0) (read now_read reads write now_write writes : ℕ) → HasDone old new → read ≤ now_read → write ≤ now_write → IsWaitFor new.state (Rose now_read reads) (Rose now_write writes) → IsReading old new (Rose read reads) ⊎ (IsWriting old new (Rose write writes) ⊎ Yields)
+waiting-on old new Yields read now_read reads write now_write writes d later_reads later_writes (inl why) =
+    inl (reading-on old new read now_read reads d later_reads why.0 why.1)
+waiting-on old new Yields read now_read reads write now_write writes d later_reads later_writes (inr why) =
+    inr (inl (writing-on old new write now_write writes d later_writes why.0 why.1))
+
+pub waiting-goes : (state : State) (reads writes : Type 0) → IsWaitFor state reads writes → (ends : End) → want_of state ≢ want.End ends
+waiting-goes state reads writes (inl why) ends same =
+    let wanted = why.1 in absurd cc
+waiting-goes state reads writes (inr why) ends same =
+    let wanted = why.1 in absurd cc

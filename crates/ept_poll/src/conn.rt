@@ -16,8 +16,8 @@ ghost use Rattle.ept_poll.specs.Steps.{beside, IsSomeUnit, IsUnitOrEnd, IsWaitFo
 use crate::link::PollLink;
 use ept_base::{Failed, Store};
 use ept_conn::{End, Fault, Session, Want};
+use futures::Future;
 use futures::task::{Context, Poll};
-use futures::{Future, ready};
 use std::alloc::Global;
 
 /// How many bytes one read takes at most.
@@ -101,13 +101,10 @@ impl<L: PollLink + Drop, T: Store + Drop> Future for PollConn<L, T> {
         ensures any_moment { Moves T.files T.may_leave T.moment T.image_since SameFiles self.old.store self.new.store }
     {
         for _ in 0..self.turns {
-            if let Some(end) = ready!(unit(
-                &mut self.session,
-                &mut self.link,
-                &mut self.store,
-                cx
-            )) {
-                return Poll::Ready(end);
+            match unit(&mut self.session, &mut self.link, &mut self.store, cx) {
+                Poll::Ready(None) => {}
+                Poll::Ready(Some(end)) => return Poll::Ready(end),
+                Poll::Pending => return Poll::Pending,
             }
         }
         match self.session.want() {
