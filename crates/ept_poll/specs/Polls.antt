@@ -1,0 +1,139 @@
+-- What polls of a connection do.
+use Rattle.std.specs.Prelude.{◌≡◌, ◌≢◌, ◌⊎◌, ℕ, ◌<◌, ◌≤◌, ⊤, List, [], ◌∷◌, ◌++◌, length, take, true, Option, Some, None}
+use Rattle.std.specs.List.{AllByRecursion}
+use Rattle.futures.specs.declared.task.Poll.{Poll}
+use Rattle.futures.specs.declared.task.context.Context.{Context}
+use Rattle.futures.specs.Poll.{OnPending}
+use Rattle.ept_base.specs.Causes.{Rose}
+use Rattle.ept_base.specs.Files.{Files, Tells}
+use Rattle.ept_base.specs.Links.{Wire}
+use Rattle.ept_base.specs.declared.store.Store.{Ghosts as StoreOf}
+use Rattle.ept_query.specs.declared.query_error.QueryFile.{QueryFile}
+use Rattle.ept_conn.specs.declared.end.Fault.TheVariants as fault
+use Rattle.ept_conn.specs.declared.end.End.{End}
+use Rattle.ept_conn.specs.declared.end.End.TheVariants as end
+use Rattle.ept_conn.specs.declared.end.Want.TheVariants as want
+use Rattle.ept_conn.specs.declared.turn.Turn.{Turn}
+use Rattle.ept_conn.specs.Held.{fresh, fed}
+use Rattle.ept_conn.specs.Turns.{AreDue}
+use Rattle.ept_conn.specs.Answers.{Served, refusal, answers, AreAnswers}
+use Rattle.ept_conn.specs.Served.{IsServed}
+use Rattle.ept_conn.specs.State.{State, want_of}
+use Rattle.ept_conn.specs.Works.{HasPlanOf, IsDamaged}
+use Rattle.ept_conn.specs.Ends.{IsBroken, IsEnd}
+use Rattle.ept_conn.specs.SessionCalls.{SessionCall}
+use Rattle.ept_conn.specs.Conversation.{Converses}
+use Rattle.ept_poll.specs.declared.link.PollLink.{Ghosts as LinkOf}
+use Rattle.ept_poll.specs.declared.conn.PollConn.{PollConn}
+use Rattle.ept_poll.specs.Units.{Seen, IsAs, AreUnits}
+
+-- what is seen of a connection
+abbrev pub seen : {L T : Type 0} → LinkOf L → StoreOf T → PollConn L T → Seen
+seen link store conn = record {
+  wire = link.wire conn.link;
+  faults = link.faults conn.link;
+  files = store.files conn.store;
+  store_faults = store.faults conn.store;
+  state = conn.session;
+}
+
+-- it may be polled: a poll does one unit at least, and none has told a fault of the link
+pub record IsPollable (turns : ℕ) (state : State) : Type 0 where
+  pub some : 0 < turns
+  pub clear : state.fault ≢ Some fault.Link
+
+-- ---- since a connection was made
+
+-- a link over which nothing has passed
+abbrev pub unused : Wire
+unused = record { taken = []; left = []; written = []; reads = [] }
+
+-- what the link tells, by what is sent of a folder
+abbrev pub Told : Seen → (Served → Wire → Type 0) → Type 0
+Told now fact = (files : Files) → now.files ≡ Some files → (served : Served) → IsServed files served → Tells (fact served) now.wire
+
+-- a status is sent in place of the answer to a turn: of it these bytes have gone out, and the others are to be sent
+pub record IsRefusing (served : Served) (bytes sent out : List ℕ) : Type 0 where
+  pub before : List Turn
+  pub turn : Turn
+  pub others : List Turn
+  pub due : AreDue (fed fresh bytes) (before ++ (turn ∷ others))
+  pub gone : List ℕ
+  pub text_is : sent ≡ answers served before ++ gone
+  pub status : (gone ++ out ≡ refusal 503 true) ⊎ (gone ++ out ≡ refusal 507 true)
+
+-- a session was fed what a link gave and what it put out was written, since nothing had passed; where it has bytes to be sent after its end was fixed, they are a status
+pub record HasPassed (served : Served) (reason : Type 0) (state : State) (wire : Wire) : Type 0 where
+  pub converses : Converses served reason unused state wire
+  pub refusing : want_of state ≡ want.Write → (state.fault ≡ None) ⊎ IsRefusing served wire.taken wire.written state.out
+
+-- Of a connection that was made over a link over which nothing had passed: what its link and its session did since. The store's count of faults was `first` then.
+pub record Stands (first : ℕ) (now : Seen) : Type 0 where
+  pub later : first ≤ now.store_faults
+  pub passed : Told now (λ served wire. HasPassed served (Rose first now.store_faults) now.state wire)
+  pub plans : (files : Files) → now.files ≡ Some files → HasPlanOf files now.state.hand
+  pub damaged : (found : QueryFile) → now.state.fault ≡ Some (fault.Damaged found) → Tells (IsDamaged found) now.files
+  pub stores : now.state.fault ≡ Some fault.Store → Rose first now.store_faults
+
+-- a fact of a connection, for each way in which it can have come to be as it was
+abbrev pub Since : Seen → (ℕ → Type 0) → Type 0
+Since old fact = (first : ℕ) → Stands first old → fact first
+
+-- ---- what has gone out
+
+-- the bytes that have gone out are a front of what may be sent of those that came; status 503 only for this reason
+abbrev pub IsFront : Type 0 → Served → Wire → Type 0
+IsFront reason served wire = IsBroken served reason wire.taken wire.written
+
+-- they are what is sent at this end
+abbrev pub IsEndOver : Type 0 → End → Served → Wire → Type 0
+IsEndOver reason ends served wire = IsEnd served reason (wire.left ≡ []) wire.taken wire.written ends
+
+-- they answer every turn of those that came
+abbrev pub IsAnswered : Served → Wire → Type 0
+IsAnswered served wire = AreAnswers served wire.taken wire.written
+
+-- some turn is not wholly answered
+abbrev pub IsNotAnswered : Served → Wire → Type 0
+IsNotAnswered served wire = ¬ AreAnswers served wire.taken wire.written
+
+-- at each read, every turn of the bytes that had come was answered
+abbrev pub IsReadAnswered : Served → Wire → Type 0
+IsReadAnswered served wire =
+    AllByRecursion (λ (at : ℕ × ℕ). AreAnswers served (take at.0 wire.taken) (take at.1 wire.written)) wire.reads
+
+-- no device failed, and no file is damaged
+abbrev pub IsWell : End → Type 0
+IsWell end.Closed = ⊤
+IsWell end.LinkFault = ⊥
+IsWell end.StoreFault = ⊥
+IsWell (end.Damaged found) = ⊥
+IsWell end.Memory = ⊤
+
+-- ---- one poll
+
+-- a read waits, and every turn is answered
+pub record IsReading (old new : Seen) (reads : Type 0) : Type 0 where
+  pub rose : reads
+  pub wanted : want_of new.state ≡ want.Read
+  pub answered : Since old (λ first. Told new IsAnswered)
+
+-- a write waits, and some turn is not
+pub record IsWriting (old new : Seen) (writes : Type 0) : Type 0 where
+  pub rose : writes
+  pub wanted : want_of new.state ≡ want.Write
+  pub unanswered : Since old (λ first. Told new IsNotAnswered)
+
+-- so many units were done as may be, and the task is to be polled again
+pub record HasYielded (turns : ℕ) (calls : List SessionCall) (cx : Context) : Type 0 where
+  pub all : length calls ≡ turns
+  pub woken : cx.is_woken ≡ true
+
+-- a poll did these units, as many as the turns at most; behind them it called the link at most once more, which waited. Pending has one of three causes.
+pub record Polls (turns : ℕ) (old : Seen) (answer : Poll End) (new : Seen) (reads writes : Type 0) (cx : Context) : Type 0 where
+  pub calls : List SessionCall
+  pub few : length calls ≤ turns
+  pub last : Seen
+  pub units : AreUnits old calls last
+  pub rest : IsAs last new
+  pub pending : OnPending answer (IsReading old new reads ⊎ (IsWriting old new writes ⊎ HasYielded turns calls cx))

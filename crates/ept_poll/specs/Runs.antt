@@ -1,0 +1,48 @@
+-- Lists of polls of one connection. Each statement stands on the contract of a function of `laws`.
+use Rattle.std.specs.Prelude.{◌≡◌, ℕ, List, [], ◌∷◌}
+use Rattle.ept_base.specs.Causes.{Rose}
+use Rattle.ept_base.specs.Files.{Tells}
+use Rattle.ept_base.specs.Links.{Wire}
+use Rattle.ept_conn.specs.declared.end.End.{End}
+use Rattle.ept_conn.specs.declared.end.Want.TheVariants as want
+use Rattle.ept_conn.specs.State.{started, want_of}
+use Rattle.ept_conn.specs.SessionCalls.{SessionCall}
+use Rattle.ept_poll.specs.Units.{Seen, IsAs, AreUnits}
+use Rattle.ept_poll.specs.Polls.{Told, Stands, IsFront, IsEndOver, IsReadAnswered}
+
+-- nothing has passed over a link
+pub record IsUnused (wire : Wire) : Type 0 where
+  pub taken : wire.taken ≡ []
+  pub written : wire.written ≡ []
+  pub reads : wire.reads ≡ []
+
+-- a connection as it is made: its session was fed nothing, and where its link tells, nothing has passed over it
+pub record IsNew (conn : Seen) : Type 0 where
+  pub fresh : conn.state ≡ started
+  pub unused : Tells IsUnused conn.wire
+
+-- poll after poll, each by the units that it did
+abbrev pub HavePolled : Seen → List (List SessionCall) → Seen → Type 0
+HavePolled old [] now = now ≡ old
+HavePolled old (calls ∷ polls) now =
+    (last : Seen) × (next : Seen) × AreUnits old calls last × IsAs last next × HavePolled next polls now
+
+-- after any list of polls, what has gone out is a front of what may be sent of the bytes that came; status 503 is only where the store's count of faults rose since the connection was made
+abbrev pub SendsFronts : Type 0
+SendsFronts =
+    (polls : List (List SessionCall)) (old now : Seen) → IsNew old → HavePolled old polls now → Told now (IsFront (Rose old.store_faults now.store_faults))
+
+-- no turn waited for bytes behind it
+abbrev pub AnswersAtReads : Type 0
+AnswersAtReads =
+    (polls : List (List SessionCall)) (old now : Seen) → IsNew old → HavePolled old polls now → Told now IsReadAnswered
+
+-- where its session is at its end, it is what is sent at that end
+abbrev pub EndsAsServed : Type 0
+EndsAsServed =
+    (polls : List (List SessionCall)) (old now : Seen) (ends : End) → IsNew old → HavePolled old polls now → want_of now.state ≡ want.End ends → Told now (IsEndOver (Rose old.store_faults now.store_faults) ends)
+
+-- so what the clauses of a poll ask for stands after any list of polls
+abbrev pub StandsOn : Type 0
+StandsOn =
+    (polls : List (List SessionCall)) (old now : Seen) → IsNew old → HavePolled old polls now → Stands old.store_faults now

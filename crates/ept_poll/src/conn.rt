@@ -1,0 +1,208 @@
+//! A connection that is polled.
+
+ghost use Rattle.std.specs.Prelude.{◌≡◌, ◌⊎◌, ◌<◌, ◌≤◌, ℕ, Option, Some, None};
+ghost use Rattle.futures.specs.Poll.{IfReady, OnPending};
+ghost use Rattle.futures.specs.Task.{Covers, IsArmed, Keeps};
+ghost use Rattle.ept_base.specs.Causes.{Rose};
+ghost use Rattle.ept_base.specs.Files.{Files, SameFiles, Tells};
+ghost use Rattle.ept_base.specs.Moves.{Moves};
+ghost use Rattle.ept_query.specs.declared.query_error.QueryFile.{QueryFile};
+ghost use Rattle.ept_conn.specs.State.{started, want_of};
+ghost use Rattle.ept_conn.specs.Works.{IsDamaged};
+ghost use Rattle.ept_poll.specs.Links.{Waits};
+ghost use Rattle.ept_poll.specs.Units.{IsAs};
+ghost use Rattle.ept_poll.specs.Steps.{beside, IsSomeUnit, IsUnitOrEnd, IsWaitFor};
+
+use crate::link::PollLink;
+use ept_base::{Failed, Store};
+use ept_conn::{End, Fault, Session, Want};
+use futures::Future;
+use futures::task::{Context, Poll};
+use std::alloc::Global;
+
+/// How many bytes one read takes at most.
+const PIECE: usize = 8192;
+
+/// A connection over a link and a folder, served poll by poll. One poll does so many units at most: a unit is
+/// one call of the link that moved a byte, met the end of the input or failed, or one piece of work.
+#[derive(Drop)]
+pub struct PollConn<L, T> {
+    pub(crate) link: L,
+    pub(crate) store: T,
+    pub(crate) session: Session,
+    pub(crate) turns: u32,
+}
+
+impl<L: PollLink + Drop, T: Store + Drop> PollConn<L, T> {
+    ghost use Rattle.ept_poll.specs.Polls.{seen, Stands};
+    ghost use Rattle.ept_poll.specs.Runs.{IsUnused};
+
+    /// A connection of which nothing has come and nothing was sent. It takes no memory.
+    pub fn new(alloc: Global, link: L, store: T, turns: u32) -> PollConn<L, T>
+        requires some { 0 < turns }
+        requires unused { Tells IsUnused (L.wire link) }
+        ensures made { result ≡ record { link = link; store = store; session = started; turns = turns } }
+        ensures stands { Stands (T.faults store) (seen L.PollLink T.Store result) }
+    {
+        PollConn {
+            link,
+            store,
+            session: Session::new(alloc),
+            turns,
+        }
+    }
+
+    /// The link and the store.
+    pub fn into_parts(self) -> (L, T)
+        ensures { result ≡ (self.link, self.store) }
+    {
+        let PollConn {
+            link,
+            store,
+            session: _,
+            turns: _,
+        } = self;
+        (link, store)
+    }
+}
+
+impl<L: PollLink + Drop, T: Store + Drop> Future for PollConn<L, T> {
+    ghost use Rattle.ept_poll.specs.Polls.{seen, IsPollable, Told, Stands, Since, Polls, IsFront, IsEndOver, IsReadAnswered, IsWell};
+
+    type Output = End;
+
+    ghost can_poll = { λ conn. IsPollable conn.turns conn.session };
+
+    /// Does as many units as the connection's turns at most. It is ready with the end of the connection, and
+    /// pending where the link waits, or where it did that many units: then it is to be polled again.
+    fn poll(&mut self, cx: &mut Context<'_>) -> Poll<End>
+        requires { IsPollable self.old.turns self.old.session }
+        ensures again { OnPending result (IsPollable self.new.turns self.new.session) }
+        ensures registered { OnPending result (Covers cx.new (λ _. ⊥)) }
+        ensures kept { Keeps cx.old cx.new }
+        ensures polls { Polls self.old.turns (seen L.PollLink T.Store self.old) result (seen L.PollLink T.Store self.new)
+            (Rose (L.read_waits self.old.link) (L.read_waits self.new.link))
+            (Rose (L.write_waits self.old.link) (L.write_waits self.new.link)) cx.new }
+        ensures stands { Since (seen L.PollLink T.Store self.old) (λ first. Stands first (seen L.PollLink T.Store self.new)) }
+        ensures sends { Since (seen L.PollLink T.Store self.old)
+            (λ first. Told (seen L.PollLink T.Store self.new) (IsFront (Rose first (T.faults self.new.store)))) }
+        ensures reads { Since (seen L.PollLink T.Store self.old) (λ first. Told (seen L.PollLink T.Store self.new) IsReadAnswered) }
+        ensures ends { IfReady result (λ ends. Since (seen L.PollLink T.Store self.old)
+            (λ first. Told (seen L.PollLink T.Store self.new) (IsEndOver (Rose first (T.faults self.new.store)) ends))) }
+        ensures links { result ≡ Poll.Ready End.LinkFault → Rose (L.faults self.old.link) (L.faults self.new.link) }
+        ensures stores { result ≡ Poll.Ready End.StoreFault
+            → (self.old.session.fault ≡ Some Fault.Store) ⊎ Rose (T.faults self.old.store) (T.faults self.new.store) }
+        ensures damaged { (found : QueryFile) → result ≡ Poll.Ready (End.Damaged found)
+            → Since (seen L.PollLink T.Store self.old) (λ _. Tells (IsDamaged found) (T.files self.new.store)) }
+        ensures complete { IfReady result (λ ends. Since (seen L.PollLink T.Store self.old)
+            (λ first. Told (seen L.PollLink T.Store self.new)
+            (λ _ _. (¬ Rose (L.faults self.old.link) (L.faults self.new.link)) → (¬ Rose first (T.faults self.new.store)) → IsWell ends))) }
+        ensures turns { self.new.turns ≡ self.old.turns }
+        ensures any_moment { Moves T.files T.may_leave T.moment T.image_since SameFiles self.old.store self.new.store }
+    {
+        for _ in 0..self.turns {
+            match unit(&mut self.session, &mut self.link, &mut self.store, cx) {
+                Poll::Ready(None) => {}
+                Poll::Ready(Some(end)) => return Poll::Ready(end),
+                Poll::Pending => return Poll::Pending,
+            }
+        }
+        match self.session.want() {
+            Want::End(end) => Poll::Ready(end),
+            _ => cx.yield_now(),
+        }
+    }
+}
+
+// Does one unit; the end of the session, where it wants no more. Pending, where the link waits.
+fn unit<L: PollLink, T: Store>(
+    session: &mut Session,
+    link: &mut L,
+    store: &mut T,
+    cx: &mut Context<'_>,
+) -> Poll<Option<End>>
+    ensures unit { IfReady result (λ ended. IsUnitOrEnd ended
+        (beside L.PollLink link.old session.old (T.files store.old) (T.faults store.old))
+        (beside L.PollLink link.new session.new (T.files store.new) (T.faults store.new))) }
+    ensures waits { OnPending result (IsAs
+        (beside L.PollLink link.old session.old (T.files store.old) (T.faults store.old))
+        (beside L.PollLink link.new session.new (T.files store.new) (T.faults store.new))) }
+    ensures why { OnPending result (IsWaitFor session.new
+        (Rose (L.read_waits link.old) (L.read_waits link.new)) (Rose (L.write_waits link.old) (L.write_waits link.new))) }
+    ensures armed { OnPending result (IsArmed cx.new) }
+    ensures kept { Keeps cx.old cx.new }
+    ensures later_reads { L.read_waits link.old ≤ L.read_waits link.new }
+    ensures later_writes { L.write_waits link.old ≤ L.write_waits link.new }
+    ensures any_moment { Moves T.files T.may_leave T.moment T.image_since SameFiles store.old store.new }
+{
+    match session.want() {
+        Want::Read => read_piece(session, link, cx),
+        Want::Work => {
+            session.work(store);
+            Poll::Ready(None)
+        }
+        Want::Write => write_some(session, link, cx),
+        Want::End(end) => Poll::Ready(Some(end)),
+    }
+}
+
+// Reads a piece, and feeds it.
+fn read_piece<L: PollLink>(
+    session: &mut Session,
+    link: &mut L,
+    cx: &mut Context<'_>,
+) -> Poll<Option<End>>
+    requires { want_of session.old ≡ Want.Read }
+    ensures none { IfReady result (λ ended. ended ≡ None) }
+    ensures unit { IfReady result (λ _. (files : Option Files) (faults : ℕ)
+        → IsSomeUnit (beside L.PollLink link.old session.old files faults) (beside L.PollLink link.new session.new files faults)) }
+    ensures waits { OnPending result (Waits (L.read_waits link.old) (L.read_waits link.new) (L.wire link.old) (L.wire link.new) cx.new) }
+    ensures same { OnPending result (session.new ≡ session.old) }
+    ensures kept { Keeps cx.old cx.new }
+    ensures later { L.faults link.old ≤ L.faults link.new }
+    ensures later_reads { L.read_waits link.old ≤ L.read_waits link.new }
+    ensures later_writes { L.write_waits link.old ≤ L.write_waits link.new }
+{
+    let mut piece = [0; PIECE];
+    match link.poll_read(cx, &mut piece) {
+        Poll::Ready(Ok(count)) => {
+            session.feed(&piece[..count]);
+            Poll::Ready(None)
+        }
+        Poll::Ready(Err(Failed)) => {
+            session.fault();
+            Poll::Ready(None)
+        }
+        Poll::Pending => Poll::Pending,
+    }
+}
+
+// Writes of what is to be sent as much as the link takes at once.
+fn write_some<L: PollLink>(
+    session: &mut Session,
+    link: &mut L,
+    cx: &mut Context<'_>,
+) -> Poll<Option<End>>
+    requires { want_of session.old ≡ Want.Write }
+    ensures none { IfReady result (λ ended. ended ≡ None) }
+    ensures unit { IfReady result (λ _. (files : Option Files) (faults : ℕ)
+        → IsSomeUnit (beside L.PollLink link.old session.old files faults) (beside L.PollLink link.new session.new files faults)) }
+    ensures waits { OnPending result (Waits (L.write_waits link.old) (L.write_waits link.new) (L.wire link.old) (L.wire link.new) cx.new) }
+    ensures same { OnPending result (session.new ≡ session.old) }
+    ensures kept { Keeps cx.old cx.new }
+    ensures later { L.faults link.old ≤ L.faults link.new }
+    ensures later_reads { L.read_waits link.old ≤ L.read_waits link.new }
+    ensures later_writes { L.write_waits link.old ≤ L.write_waits link.new }
+{
+    match link.poll_write(cx, session.out()) {
+        Poll::Ready(Ok(count)) => {
+            session.sent(count);
+            Poll::Ready(None)
+        }
+        Poll::Ready(Err(Failed)) => {
+            session.fault();
+            Poll::Ready(None)
+        }
+        Poll::Pending => Poll::Pending,
+    }
+}
