@@ -8,6 +8,16 @@ use std::sync::Wait;
 use std::thread::{self, Threads};
 use std::time::Duration;
 
+/// How long a peer may send nothing, or take nothing, before its connection is given up, in seconds.
+const IDLE_SECONDS: u64 = 60;
+
+/// How long an accept waits behind one that failed, in milliseconds: a connection that ends meanwhile gives a
+/// descriptor back.
+const PAUSE: u64 = 100;
+
+/// How many accepts may fail one after the other.
+const MOST_FAILED: u32 = 600;
+
 /// How many pieces are read behind the last answer at most.
 const REST: usize = 64;
 
@@ -15,11 +25,12 @@ const REST: usize = 64;
 const REST_SECONDS: u64 = 5;
 
 /// Serves the connections that are accepted, each in a thread of its own and with a store of its own over
-/// the folder `out`: without end, or so many. It returns once all of them have ended.
+/// the folder `out`: without end, or so many. It returns once all of them have ended. An accept that fails is
+/// tried again, since it may have failed for want of descriptors, or for a peer that was gone.
 ///
 /// # Errors
 ///
-/// That of an accept that failed.
+/// That of an accept, where none has succeeded for a minute.
 pub fn serve_connections<R: Threads + Wait>(
     rt: &R,
     host: &HostRuntime,
@@ -27,13 +38,27 @@ pub fn serve_connections<R: Threads + Wait>(
     out: &str,
     connections: Option<u32>,
 ) -> io::Result<()> {
-    let most = connections.map_or(usize::MAX, |count| count as usize);
+    let mut left = connections;
     thread::scope(thread::scope_env(), rt, |scope| {
-        for accepted in listener.incoming().take(most) {
-            let stream = accepted?;
-            let serve = move || serve_stream(host, &stream, out);
-            if let Err(refused) = scope.spawn(serve) {
-                (refused.value)();
+        let mut failed = 0;
+        for accepted in listener.incoming() {
+            match accepted {
+                Ok(stream) => {
+                    failed = 0;
+                    let serve = move || serve_stream(host, &stream, out);
+                    if let Err(refused) = scope.spawn(serve) {
+                        (refused.value)();
+                    }
+                    left = left.map(|count| count.saturating_sub(1));
+                }
+                Err(error) if failed == MOST_FAILED => return Err(error),
+                Err(_) => {
+                    failed += 1;
+                    thread::sleep(host, Duration::from_millis(PAUSE));
+                }
+            }
+            if left == Some(0) {
+                break;
             }
         }
         Ok(())
@@ -45,6 +70,9 @@ fn serve_stream(host: &HostRuntime, stream: &TcpStream, out: &str) {
     let alloc = host.alloc();
     // Without it small answers may wait for the peer.
     let _ = stream.set_nodelay(true);
+    let idle = Some(Duration::from_secs(IDLE_SECONDS));
+    let _ = stream.set_read_timeout(idle);
+    let _ = stream.set_write_timeout(idle);
     let mut store = RealStore::new(alloc, host, out);
     let mut link = RealLink::new(stream);
     serve_link(alloc, &mut link, &mut store);
