@@ -20,7 +20,7 @@ mod store;
 mod unsynced;
 
 pub use link::RealLink;
-pub use progress::{Ending, Progress, Telling};
+pub use progress::{Ending, Telling};
 pub use seen_files::{SeenFile, SeenFiles};
 pub use shelf::RealShelf;
 pub use sink::RealSink;

@@ -1,9 +1,11 @@
 //! How far a build is, told on standard error.
 
-ghost use Rattle.std.specs.Prelude.{◌≡◌};
+ghost use Rattle.std.specs.Prelude.{◌≡◌, IfOk};
 
+use std::alloc::{AllocError, Global};
 use std::fmt;
 use std::io::{self, Write};
+use std::sync::Arc;
 use std::sync::atomic::{AtomicBool, AtomicU64, Ordering};
 use std::time::{Clock, Instant};
 
@@ -39,9 +41,9 @@ pub enum Telling {
 /// What is read of a file outside of the folder is of the inputs: of their first reading until the done gate is
 /// asked for, which a build closes before it puts anything, and of the second from then on.
 #[derive(Drop)]
-pub struct Progress<R: Clock + Eprint + Drop> {
+pub(crate) struct Progress<R: Clock + Eprint + Drop> {
     machine: R,
-    program: &'static str,
+    program: String,
     telling: Telling,
     began: Option<Instant>,
     // When the next line is due, in milliseconds from the start; at the greatest number none is.
@@ -60,10 +62,16 @@ impl<R: Clock + Eprint + Drop> Progress<R> {
     ghost use Rattle.ept_real.specs.Machines.{machine_of};
 
     /// A build on this machine by the program of this name, which begins now.
-    pub fn new(machine: R, program: &'static str, telling: Telling) -> Self
-        ensures { machine_of result ≡ machine }
+    pub(crate) fn new(
+        alloc: Global,
+        machine: R,
+        program: &str,
+        telling: Telling,
+    ) -> Result<Self, AllocError>
+        ensures { IfOk result (λ progress. machine_of progress ≡ machine) }
     {
-        Progress {
+        let program = String::from_str(alloc, program)?;
+        Ok(Progress {
             began: Instant::now(&machine).ok(),
             machine,
             program,
@@ -77,11 +85,11 @@ impl<R: Clock + Eprint + Drop> Progress<R> {
             checkpoints: AtomicU64::new(0),
             put: AtomicU64::new(0),
             flushed: AtomicU64::new(0),
-        }
+        })
     }
 
     /// The machine.
-    pub fn machine(&self) -> &R
+    pub(crate) fn machine(&self) -> &R
         ensures { result.now ≡ machine_of self.now }
     {
         &self.machine
@@ -122,7 +130,7 @@ impl<R: Clock + Eprint + Drop> Progress<R> {
     }
 
     /// Tells nothing from now on, and clears the line on a terminal.
-    pub fn end(&self) {
+    pub(crate) fn end(&self) {
         self.due.store(u64::MAX, Ordering::SeqCst);
         if self.telling == Telling::Terminal && self.is_told.swap(false, Ordering::SeqCst) {
             let _ = eprint!(self.machine; "\r{BLANK}\r");
@@ -173,7 +181,7 @@ impl<R: Clock + Eprint + Drop> Progress<R> {
 
     /// Writes the line; one that can't be written is left out.
     fn write_line(&self, line: Line) {
-        let program = self.program;
+        let program = &self.program;
         let _ = if self.telling == Telling::Terminal {
             eprint!(self.machine; "\r{BLANK}\r{program}: {line}")
         } else {
@@ -292,22 +300,15 @@ impl fmt::Display for Line {
     }
 }
 
-/// A writer that ends a progress with its first write, so that what is written does not stand behind the line of
-/// a terminal.
+/// A writer that ends the progress of a build with its first write, so that what is written does not stand behind
+/// the line of a terminal.
 #[derive(Drop)]
-pub struct Ending<'a, R: Clock + Eprint + Drop, W: Write + Drop> {
-    progress: &'a Progress<R>,
-    out: W,
+pub struct Ending<R: Clock + Eprint + Drop, W: Write + Drop> {
+    pub(crate) progress: Arc<Progress<R>>,
+    pub(crate) out: W,
 }
 
-impl<'a, R: Clock + Eprint + Drop, W: Write + Drop> Ending<'a, R, W> {
-    /// Writes to this writer, and ends this progress first.
-    pub fn new(progress: &'a Progress<R>, out: W) -> Self {
-        Ending { progress, out }
-    }
-}
-
-impl<'a, R: Clock + Eprint + Drop, W: Write + Drop> Write for Ending<'a, R, W> {
+impl<R: Clock + Eprint + Drop, W: Write + Drop> Write for Ending<R, W> {
     fn write(&mut self, buf: &[u8]) -> io::Result<usize> {
         self.progress.end();
         self.out.write(buf)

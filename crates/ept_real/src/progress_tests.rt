@@ -1,13 +1,14 @@
 //! What is told of a build, and when.
 
-use crate::progress::{Role, role_of};
+use crate::progress::{Ending, Progress, Role, Telling, role_of};
 use crate::tests::flushing::{Disk, Seen};
 use crate::tests::writers::Pieces;
 use crate::tests::{enter, pattern, read_by};
-use crate::{Ending, Progress, RealShelf, RealSink, RealStore, SeenFiles, Telling};
+use crate::{RealShelf, RealSink, RealStore, SeenFiles};
 use ept_base::{Shelf, Sink, Store};
 use std::alloc::{AllocError, Global};
 use std::fs;
+use std::sync::Arc;
 use std::test::Fail;
 
 // What a path is to a build into a folder.
@@ -150,8 +151,7 @@ fn a_build_tells_how_far_it_is(rt: HostRuntime) -> Result<(), Fail> {
     let seen = Seen::new(alloc);
     seen.step.set(10_000);
     let disk = Disk::new(&rt, &seen);
-    let progress = Progress::new(&disk, "test", Telling::Lines);
-    let files = SeenFiles::new(&progress, "out");
+    let files = SeenFiles::new(alloc, &disk, "test", "out", Telling::Lines)?;
     let mut shelf = RealShelf::new(alloc, &files);
     let mut store = RealStore::new(alloc, &files, "out");
     for (call, want) in CALLS {
@@ -172,14 +172,13 @@ fn a_build_goes_on_where_nothing_is_told(rt: HostRuntime) -> Result<(), Fail> {
         seen.step.set(10_000);
         seen.is_mute.set(is_mute);
         let disk = Disk::new(&rt, &seen);
-        let progress = Progress::new(&disk, "test", telling);
-        let files = SeenFiles::new(&progress, "out");
+        let files = SeenFiles::new(alloc, &disk, "test", "out", telling)?;
         let mut shelf = RealShelf::new(alloc, &files);
         let mut store = RealStore::new(alloc, &files, "out");
         for (call, _) in CALLS {
             make(alloc, &mut shelf, &mut store, call)?;
         }
-        progress.end();
+        files.end();
         let said = seen.said.try_replace(String::new(alloc))?;
         assert_eq!(rt; said.as_str(), "", "{is_mute}");
         assert_eq!(rt;
@@ -200,14 +199,17 @@ fn told(rt: &HostRuntime, telling: Telling) -> Result<String, Fail> {
     let alloc = rt.alloc();
     let seen = Seen::new(alloc);
     let disk = Disk::new(rt, &seen);
-    let progress = Progress::new(&disk, "test", telling);
+    let progress = Arc::new(alloc, Progress::new(alloc, &disk, "test", telling)?)?;
     for now in [
         1_999, 2_000, 2_249, 2_250, 9_999, 10_000, 10_001, 19_999, 20_500,
     ] {
         seen.now.set(now);
         progress.count_read(Role::Input, 1_000_000);
     }
-    let mut sink = RealSink::new(Ending::new(&progress, Pieces::new(alloc, 9)));
+    let mut sink = RealSink::new(Ending {
+        progress: progress.clone()?,
+        out: Pieces::new(alloc, 9),
+    });
     sink.write(b"points")?;
     sink.write(b"\n")?;
     seen.now.set(90_000);

@@ -1,24 +1,47 @@
 //! The machine's files, as a progress sees them.
 
-use crate::progress::{Progress, Role, role_of};
-use std::alloc::Allocator;
+use crate::progress::{Ending, Progress, Role, Telling, role_of};
+use std::alloc::{AllocError, Allocator, Global};
 use std::fs::{Metadata, OpenFile, OpenOptions};
 use std::io::{self, Read, Seek, SeekFrom, Write};
 use std::rt::Files;
+use std::sync::Arc;
 use std::time::Clock;
 
 /// The machine's files, of which each call that reads, puts or flushes one counts as progress of a build into a
-/// folder.
+/// folder, which is told on standard error.
 #[derive(Drop)]
-pub struct SeenFiles<'a, R: Files + Clock + Eprint + Drop> {
-    progress: &'a Progress<R>,
-    folder: &'a str,
+pub struct SeenFiles<R: Files + Clock + Eprint + Drop> {
+    progress: Arc<Progress<R>>,
+    folder: String,
 }
 
-impl<'a, R: Files + Clock + Eprint + Drop> SeenFiles<'a, R> {
-    /// The files of the machine of this progress, as that of a build into this folder.
-    pub fn new(progress: &'a Progress<R>, folder: &'a str) -> Self {
-        SeenFiles { progress, folder }
+impl<R: Files + Clock + Eprint + Drop> SeenFiles<R> {
+    /// The files of this machine, as a build into this folder by the program of this name sees them. The build
+    /// begins now.
+    pub fn new(
+        alloc: Global,
+        machine: R,
+        program: &str,
+        folder: &str,
+        telling: Telling,
+    ) -> Result<Self, AllocError> {
+        let folder = String::from_str(alloc, folder)?;
+        let progress = Arc::new(alloc, Progress::new(alloc, machine, program, telling)?)?;
+        Ok(SeenFiles { progress, folder })
+    }
+
+    /// Writes to this writer, and ends the progress first.
+    pub fn ending<W: Write + Drop>(&self, out: W) -> Result<Ending<R, W>, AllocError> {
+        Ok(Ending {
+            progress: self.progress.clone()?,
+            out,
+        })
+    }
+
+    /// Tells nothing from now on, and clears the line on a terminal.
+    pub fn end(&self) {
+        self.progress.end();
     }
 
     /// The machine.
@@ -29,26 +52,26 @@ impl<'a, R: Files + Clock + Eprint + Drop> SeenFiles<'a, R> {
 
 /// A file of the machine that counts as progress.
 #[derive(Drop)]
-pub struct SeenFile<'a, R: Files + Clock + Eprint + Drop> {
+pub struct SeenFile<R: Files + Clock + Eprint + Drop> {
     file: R::File,
     role: Role,
     is_put: bool,
-    progress: &'a Progress<R>,
+    progress: Arc<Progress<R>>,
 }
 
-impl<'a, R: Files + Clock + Eprint + Drop> Files for SeenFiles<'a, R> {
-    type File = SeenFile<'a, R>;
+impl<R: Files + Clock + Eprint + Drop> Files for SeenFiles<R> {
+    type File = SeenFile<R>;
 
     type Dir = R::Dir;
 
-    fn open_file(&self, how: &OpenOptions, path: &str) -> io::Result<SeenFile<'a, R>> {
-        let role = role_of(self.folder, path);
+    fn open_file(&self, how: &OpenOptions, path: &str) -> io::Result<SeenFile<R>> {
+        let role = role_of(&self.folder, path);
         self.progress.note_opened(role);
         Ok(SeenFile {
             file: self.machine().open_file(how, path)?,
             role,
             is_put: false,
-            progress: self.progress,
+            progress: self.progress.clone()?,
         })
     }
 
@@ -89,7 +112,7 @@ impl<'a, R: Files + Clock + Eprint + Drop> Files for SeenFiles<'a, R> {
     }
 }
 
-impl<'a, R: Files + Clock + Eprint + Drop> OpenFile for SeenFile<'a, R> {
+impl<R: Files + Clock + Eprint + Drop> OpenFile for SeenFile<R> {
     fn metadata(&self) -> io::Result<Metadata> {
         self.file.metadata()
     }
@@ -110,7 +133,7 @@ impl<'a, R: Files + Clock + Eprint + Drop> OpenFile for SeenFile<'a, R> {
     }
 }
 
-impl<'a, R: Files + Clock + Eprint + Drop> Read for SeenFile<'a, R> {
+impl<R: Files + Clock + Eprint + Drop> Read for SeenFile<R> {
     fn read(&mut self, buf: &mut [u8]) -> io::Result<usize> {
         let count = self.file.read(buf)?;
         self.progress.count_read(self.role, count as u64);
@@ -118,7 +141,7 @@ impl<'a, R: Files + Clock + Eprint + Drop> Read for SeenFile<'a, R> {
     }
 }
 
-impl<'a, R: Files + Clock + Eprint + Drop> Write for SeenFile<'a, R> {
+impl<R: Files + Clock + Eprint + Drop> Write for SeenFile<R> {
     fn write(&mut self, buf: &[u8]) -> io::Result<usize> {
         let count = self.file.write(buf)?;
         if !self.is_put {
@@ -133,7 +156,7 @@ impl<'a, R: Files + Clock + Eprint + Drop> Write for SeenFile<'a, R> {
     }
 }
 
-impl<'a, R: Files + Clock + Eprint + Drop> Seek for SeenFile<'a, R> {
+impl<R: Files + Clock + Eprint + Drop> Seek for SeenFile<R> {
     fn seek(&mut self, to: SeekFrom) -> io::Result<u64> {
         self.file.seek(to)
     }

@@ -39,8 +39,8 @@ use crate::watched::Watched;
 use crate::words::{Command, command_of};
 use ept_base::{OpenGate, Sink};
 use ept_mem::{MemRoom, MemStore};
-use ept_real::{Ending, Progress, RealShelf, RealSink, RealStore, SeenFiles, Telling};
-use std::alloc::Global;
+use ept_real::{RealShelf, RealSink, RealStore, SeenFiles, Telling};
+use std::alloc::{AllocError, Global};
 use std::env;
 use std::io::{ErrorKind, IsTerminal, writer};
 use std::process::ExitCode;
@@ -51,22 +51,41 @@ fn main(rt: HostRuntime) -> ExitCode {
         Ok(words) => (words, None),
         Err(refusal) => (Vec::new(alloc), Some(refusal)),
     };
-    let telling = telling_of(&rt, &words);
-    let progress = Progress::new(rt, "ept_tool", telling);
-    let rt = progress.machine();
-    let mut out = Heard::new(alloc, RealSink::new(Ending::new(&progress, writer(rt))));
+    let Ok(files) = files_for(&rt, &words) else {
+        return no_memory(&rt);
+    };
+    let Ok(ending) = files.ending(writer(&rt)) else {
+        return no_memory(&rt);
+    };
+    let mut out = Heard::new(alloc, RealSink::new(ending));
     let ended = match refusal {
-        None => {
-            let files = SeenFiles::new(&progress, folder_of(&words));
-            start(alloc, &files, &words, &mut out)
-        }
+        None => start(alloc, &files, &words, &mut out),
         Some(refusal) => Ended::with(refuse(alloc, &mut out, refusal)),
     };
-    progress.end();
+    files.end();
     if ended.status != OK {
-        tell(rt, &words, &ended, out.line());
+        tell(&rt, &words, &ended, out.line());
     }
     ExitCode::from(ended.status)
+}
+
+// Tells of want of memory before anything was begun.
+fn no_memory(rt: &HostRuntime) -> ExitCode {
+    let status = refuse(rt.alloc(), &mut RealSink::new(writer(rt)), Refusal::Memory);
+    let _ = eprintln!(rt; "ept_tool: {}", plain(status));
+    ExitCode::from(status)
+}
+
+// The machine's files, as a progress of these words sees them: of a build it is told on standard error.
+fn files_for(rt: &HostRuntime, words: &[String]) -> Result<SeenFiles<HostRuntime>, AllocError> {
+    let telling = telling_of(rt, words);
+    SeenFiles::new(
+        rt.alloc(),
+        rt.clone()?,
+        "ept_tool",
+        folder_of(words),
+        telling,
+    )
 }
 
 // Where the progress of these words is told: of a build on standard error, of nothing else.
@@ -114,7 +133,7 @@ fn given_words(rt: &HostRuntime) -> Result<Vec<String>, Refusal> {
 // in memory.
 fn start<'a, O: Sink>(
     alloc: Global,
-    files: &'a SeenFiles<'a, HostRuntime>,
+    files: &'a SeenFiles<HostRuntime>,
     words: &'a [String],
     out: &mut O,
 ) -> Ended {
