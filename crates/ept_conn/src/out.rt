@@ -56,12 +56,15 @@ impl Out {
         self.as_slice().is_empty()
     }
 
-    /// The first bytes were sent, so many.
+    /// The first bytes were sent, so many. Once all were, none is kept.
     pub fn send(&mut self, count: usize)
         requires { count ≤ length self.old }
         ensures { self.new ≡ drop count self.old }
     {
         self.sent += count;
+        if self.sent == self.bytes.len() {
+            self.clear();
+        }
     }
 
     /// There are none any more.

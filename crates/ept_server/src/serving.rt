@@ -11,13 +11,6 @@ use std::time::Duration;
 /// How long a peer may send nothing, or take nothing, before its connection is given up, in seconds.
 const IDLE_SECONDS: u64 = 60;
 
-/// How long an accept waits behind one that failed, in milliseconds: a connection that ends meanwhile gives a
-/// descriptor back.
-const PAUSE: u64 = 100;
-
-/// How many accepts may fail one after the other.
-const MOST_FAILED: u32 = 600;
-
 /// How many pieces are read behind the last answer at most.
 const REST: usize = 64;
 
@@ -25,12 +18,11 @@ const REST: usize = 64;
 const REST_SECONDS: u64 = 5;
 
 /// Serves the connections that are accepted, each in a thread of its own and with a store of its own over
-/// the folder `out`: without end, or so many. It returns once all of them have ended. An accept that fails is
-/// tried again, since it may have failed for want of descriptors, or for a peer that was gone.
+/// the folder `out`: without end, or so many. It returns once all of them have ended.
 ///
 /// # Errors
 ///
-/// That of an accept, where none has succeeded for a minute.
+/// That of an accept that failed.
 pub fn serve_connections<R: Threads + Wait>(
     rt: &R,
     host: &HostRuntime,
@@ -38,27 +30,13 @@ pub fn serve_connections<R: Threads + Wait>(
     out: &str,
     connections: Option<u32>,
 ) -> io::Result<()> {
-    let mut left = connections;
+    let most = connections.map_or(usize::MAX, |count| count as usize);
     thread::scope(thread::scope_env(), rt, |scope| {
-        let mut failed = 0;
-        for accepted in listener.incoming() {
-            match accepted {
-                Ok(stream) => {
-                    failed = 0;
-                    let serve = move || serve_stream(host, &stream, out);
-                    if let Err(refused) = scope.spawn(serve) {
-                        (refused.value)();
-                    }
-                    left = left.map(|count| count.saturating_sub(1));
-                }
-                Err(error) if failed == MOST_FAILED => return Err(error),
-                Err(_) => {
-                    failed += 1;
-                    thread::sleep(host, Duration::from_millis(PAUSE));
-                }
-            }
-            if left == Some(0) {
-                break;
+        for accepted in listener.incoming().take(most) {
+            let stream = accepted?;
+            let serve = move || serve_stream(host, &stream, out);
+            if let Err(refused) = scope.spawn(serve) {
+                (refused.value)();
             }
         }
         Ok(())
