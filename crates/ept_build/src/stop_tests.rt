@@ -110,12 +110,7 @@ fn a_stopped_build_goes_on(rt: HostRuntime) -> Result<(), Fail> {
     assert_eq!(rt; current(alloc, &mut whole)?, (6, 3));
     let mut first = u64::MAX;
     for calls in 0..70 {
-        let kinds = if calls % 2 == 0 {
-            [Crash::Old, Crash::Junk]
-        } else {
-            [Crash::New, Crash::Absent]
-        };
-        for how in kinds {
+        for how in [Crash::Old, Crash::New, Crash::Absent, Crash::Junk] {
             let mut store = empty(alloc).with_fuse(calls);
             let is_through = built(alloc, &mut store, TWO, 2)?.is_ok();
             first = if is_through { calls.min(first) } else { first };

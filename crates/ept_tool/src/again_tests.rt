@@ -3,7 +3,7 @@
 use crate::run::run;
 use crate::tests::{BUILD, at, file, las, texts};
 use ept_base::{OpenGate, Store};
-use ept_mem::{MemRoom, MemShelf, MemSink, MemStore};
+use ept_mem::{Crash, MemRoom, MemShelf, MemSink, MemStore};
 use std::alloc::{AllocError, Global};
 use std::process::Abort;
 use std::test::Fail;
@@ -16,6 +16,24 @@ const OTHER: &str = "{\"input\":\"b.las\",\"scale\":2,\"bounds\":[0,0,0,7,7,7],\
 
 const BOTH: &str =
     "{\"input\":[\"a.las\",\"b.las\"],\"scale\":2,\"bounds\":[0,0,0,7,7,7],\"span\":2}";
+
+const TWO: &str =
+    "{\"input\":[\"c.las\",\"d.las\"],\"scale\":2,\"bounds\":[0,0,0,7,7,7],\"span\":2,\
+\"minNodeSize\":0,\"checkpoint\":2}";
+
+const THREE: &str =
+    "{\"input\":[\"c.las\",\"d.las\",\"e.las\"],\"scale\":2,\"bounds\":[0,0,0,7,7,7],\"span\":2,\
+\"minNodeSize\":0,\"checkpoint\":2}";
+
+const THREE_WIDER: &str =
+    "{\"input\":[\"c.las\",\"d.las\",\"e.las\"],\"scale\":2,\"bounds\":[0,0,0,7,7,7],\"span\":4,\
+\"minNodeSize\":0,\"checkpoint\":2}";
+
+const TWO_NODES: &str = "{\"input\":\"f.las\",\"scale\":2,\"bounds\":[0,0,0,7,7,7],\"span\":2,\
+\"minNodeSize\":0,\"checkpoint\":2,\"maxNodes\":2}";
+
+const THREE_NODES: &str = "{\"input\":\"f.las\",\"scale\":2,\"bounds\":[0,0,0,7,7,7],\"span\":2,\
+\"minNodeSize\":0,\"checkpoint\":2,\"maxNodes\":3}";
 
 const BODY: &str = "ept-work/body-a";
 
@@ -30,6 +48,14 @@ const NAMES: [&str; 5] = [
     "ept-build.json",
 ];
 
+/// The tiles of the octree of two flights, and of three.
+const TILES: [&str; 4] = [
+    "ept-data/0-0-0-0.bin",
+    "ept-data/1-0-0-0.bin",
+    "ept-data/1-1-1-1.bin",
+    "ept-data/2-0-0-0.bin",
+];
+
 /// What a build answers.
 #[derive(Drop)]
 struct Told {
@@ -37,12 +63,18 @@ struct Told {
     out: MemSink,
 }
 
-/// Builds this configuration of two scans into the store.
+/// Builds this configuration of some scans into the store.
 fn build(alloc: Global, store: &mut MemStore, configuration: &str) -> Result<Told, AllocError> {
     let mut files = Vec::new(alloc);
     files.push(file(alloc, "a.json", configuration.as_bytes())?)?;
     files.push(file(alloc, "a.las", &las(alloc, 1, &[at(1, 2, 3)])?)?)?;
     files.push(file(alloc, "b.las", &las(alloc, 1, &[at(5, 5, 5)])?)?)?;
+    let first = [at(1, 1, 1), at(2, 2, 2), at(3, 3, 3)];
+    files.push(file(alloc, "c.las", &las(alloc, 3, &first)?)?)?;
+    let second = [at(1, 1, 1), at(6, 6, 6), at(5, 5, 5)];
+    files.push(file(alloc, "d.las", &las(alloc, 3, &second)?)?)?;
+    files.push(file(alloc, "e.las", &las(alloc, 1, &[at(0, 7, 0)])?)?)?;
+    files.push(file(alloc, "f.las", &las(alloc, 5, &[at(1, 1, 1); 5])?)?)?;
     let words = texts(alloc, BUILD)?;
     let mut shelf = MemShelf::new(alloc, files, Vec::new(alloc), Vec::new(alloc));
     let mut room = MemRoom::new(alloc, Vec::new(alloc), Vec::new(alloc));
@@ -141,4 +173,88 @@ fn expect_damage(rt: &impl Abort, alloc: Global) -> Result<(), AllocError> {
     cut(rt, alloc, &mut store, TILE)?;
     expect(rt, alloc, &mut store, FIRST, (0, "points 1 nodes 1\n"))?;
     expect(rt, alloc, &mut store, BOTH, (8, "error 8 tile 0-0-0-0\n"))
+}
+
+/// Compares the files of the output, with these tiles, of two stores.
+fn compare(rt: &impl Abort, found: &MemStore, want: &MemStore, context: &str) {
+    for name in NAMES.iter().chain(&TILES) {
+        assert_eq!(rt; found.file(name), want.file(name), "{name} {context}");
+    }
+}
+
+#[test]
+fn flights_are_added(rt: HostRuntime) -> Result<(), Fail> {
+    let alloc = rt.alloc();
+    if expect_added(&rt, alloc).is_err() {
+        expect_added(&rt, alloc)?;
+    }
+    Ok(())
+}
+
+// A flight is added to a folder of two: the files are those of one build of three. Another span is refused, and the
+// same again changes nothing.
+fn expect_added(rt: &impl Abort, alloc: Global) -> Result<(), AllocError> {
+    let mut whole = MemStore::new(alloc, Vec::new(alloc), Vec::new(alloc));
+    expect(rt, alloc, &mut whole, THREE, (0, "points 7 nodes 4\n"))?;
+    let mut store = MemStore::new(alloc, Vec::new(alloc), Vec::new(alloc));
+    expect(rt, alloc, &mut store, TWO, (0, "points 6 nodes 4\n"))?;
+    for (configuration, want) in [
+        (THREE, (0, "points 7 nodes 4\n")),
+        (THREE_WIDER, (6, "error 6 differs span\n")),
+        (TWO, (6, "error 6 differs input\n")),
+        (THREE, (0, "points 7 nodes 4\n")),
+    ] {
+        expect(rt, alloc, &mut store, configuration, want)?;
+        compare(rt, &store, &whole, configuration);
+    }
+    Ok(())
+}
+
+#[test]
+fn phases_are_kept_before_too_many_nodes(rt: HostRuntime) -> Result<(), Fail> {
+    let alloc = rt.alloc();
+    if expect_phases(&rt, alloc).is_err() {
+        expect_phases(&rt, alloc)?;
+    }
+    Ok(())
+}
+
+// Two points of five have few enough nodes, and stand in a checkpoint; with more nodes the build goes on from there.
+fn expect_phases(rt: &impl Abort, alloc: Global) -> Result<(), AllocError> {
+    let mut store = MemStore::new(alloc, Vec::new(alloc), Vec::new(alloc));
+    expect(rt, alloc, &mut store, TWO_NODES, (5, "error 5 nodes\n"))?;
+    assert!(rt; store.file(BODY).is_some());
+    assert!(rt; store.file("ept.json").is_none());
+    for configuration in [THREE_NODES, TWO_NODES] {
+        expect(
+            rt,
+            alloc,
+            &mut store,
+            configuration,
+            (0, "points 5 nodes 3\n"),
+        )?;
+        assert_eq!(rt;
+            store.file("ept-hierarchy/0-0-0-0.json"),
+            Some(b"{\"0-0-0-0\":1,\"1-0-0-0\":1,\"2-0-0-0\":3}".as_slice())
+        );
+    }
+    Ok(())
+}
+
+#[test]
+fn a_stopped_build_goes_on(rt: HostRuntime) -> Result<(), Fail> {
+    let alloc = rt.alloc();
+    let mut whole = MemStore::new(alloc, Vec::new(alloc), Vec::new(alloc));
+    expect(&rt, alloc, &mut whole, TWO, (0, "points 6 nodes 4\n"))?;
+    for calls in 0..70 {
+        for how in [Crash::Old, Crash::New, Crash::Absent, Crash::Junk] {
+            let store = MemStore::new(alloc, Vec::new(alloc), Vec::new(alloc));
+            let mut store = store.with_fuse(calls);
+            build(alloc, &mut store, TWO)?;
+            let mut store = store.crash(how);
+            expect(&rt, alloc, &mut store, TWO, (0, "points 6 nodes 4\n"))?;
+            compare(&rt, &store, &whole, "again");
+        }
+    }
+    Ok(())
 }
