@@ -108,20 +108,34 @@ def counts_of(files, kept, cube, area):
     return counts
 
 
-def answer(files, area, depths):
-    """The packed points of a query; a file that is not of its form is told."""
+def plan(files, area, depths):
+    """The keys of the tiles that a query reads, in order, each with its count; a file that is not of its form is told."""
     kept = read_build_json(files.get("ept-build.json"))
     if kept is None:
         raise Damaged("ept-build.json")
     cube = model.cube_of(kept["bounds"], kept["span"], kept["maxDepth"])
-    counts, written = counts_of(files, kept, cube, area), b""
-    for key in sorted(key for key in counts if depths[0] <= key[0] <= depths[1] and meet(node_box(cube, key), area)):
-        name = "ept-data/%s.bin" % model.key_text(key)
-        points = model.read_tile(files[name]) if name in files else None
-        if points is None or len(points) != counts[key]:
-            raise Damaged(name, written)
-        written += b"".join(point["packed"] for point in points
-                            if all(area[i] <= point["place"][i] <= area[i + 3] for i in range(3)))
+    counts = counts_of(files, kept, cube, area)
+    return [(key, counts[key]) for key in sorted(counts)
+            if depths[0] <= key[0] <= depths[1] and meet(node_box(cube, key), area)]
+
+
+def points_in(files, key, count, area):
+    """The packed points of a tile of a plan that lie in the area; a tile that is not of its form is told."""
+    name = "ept-data/%s.bin" % model.key_text(key)
+    points = model.read_tile(files[name]) if name in files else None
+    if points is None or len(points) != count:
+        raise Damaged(name)
+    return b"".join(point["packed"] for point in points if all(area[i] <= point["place"][i] <= area[i + 3] for i in range(3)))
+
+
+def answer(files, area, depths):
+    """The packed points of a query; a file that is not of its form is told."""
+    written = b""
+    for key, count in plan(files, area, depths):
+        try:
+            written += points_in(files, key, count, area)
+        except Damaged as damaged:
+            raise Damaged(damaged.name, written) from damaged
     return written
 
 

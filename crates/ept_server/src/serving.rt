@@ -2,7 +2,7 @@
 
 use ept_conn::serve_link;
 use ept_real::{RealLink, RealStore};
-use std::io::{self, Read};
+use std::io::{self, Error, Read};
 use std::net::{Shutdown, TcpListener, TcpStream};
 use std::sync::Wait;
 use std::thread::{self, Threads};
@@ -17,12 +17,20 @@ const REST: usize = 64;
 /// How long the peer may take for each of them, in seconds.
 const REST_SECONDS: u64 = 5;
 
+/// How long the system has to find room for a connection before it is asked again, in milliseconds.
+const PAUSE: u64 = 50;
+
+/// The system's errors behind which another connection can be accepted: the peer has gone (EPROTO,
+/// ECONNABORTED), or there is no room for one more connection (ENFILE, EMFILE, ENOBUFS).
+const PASSING: [i32; 5] = [71, 103, 23, 24, 105];
+
 /// Serves the connections that are accepted, each in a thread of its own and with a store of its own over
 /// the folder `out`: without end, or so many. It returns once all of them have ended.
 ///
 /// # Errors
 ///
-/// That of an accept that failed.
+/// That of an accept that failed for another cause than that the peer has gone or that there is no room for
+/// one more connection: then it is tried again.
 pub fn serve_connections<R: Threads + Wait>(
     rt: &R,
     host: &HostRuntime,
@@ -32,8 +40,8 @@ pub fn serve_connections<R: Threads + Wait>(
 ) -> io::Result<()> {
     let most = connections.map_or(usize::MAX, |count| count as usize);
     thread::scope(thread::scope_env(), rt, |scope| {
-        for accepted in listener.incoming().take(most) {
-            let stream = accepted?;
+        for _ in 0..most {
+            let stream = accept(host, listener)?;
             let serve = move || serve_stream(host, &stream, out);
             if let Err(refused) = scope.spawn(serve) {
                 (refused.value)();
@@ -41,6 +49,24 @@ pub fn serve_connections<R: Threads + Wait>(
         }
         Ok(())
     })
+}
+
+// The next connection.
+fn accept(host: &HostRuntime, listener: &TcpListener) -> io::Result<TcpStream> {
+    for accepted in listener.incoming().take(usize::MAX) {
+        match accepted {
+            Err(error) if is_passing(&error) => thread::sleep(host, Duration::from_millis(PAUSE)),
+            accepted => return accepted,
+        }
+    }
+    listener.accept().map(|(stream, _)| stream)
+}
+
+// Whether another connection can be accepted behind this error.
+fn is_passing(error: &Error) -> bool {
+    error
+        .raw_os_error()
+        .is_some_and(|code| PASSING.contains(&code))
 }
 
 // Serves one connection.

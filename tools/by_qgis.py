@@ -1,0 +1,105 @@
+"""What QGIS's own reader of point clouds finds of the survey, beside the points of the scans.
+
+The scans are read here from their bytes, and nothing of this project's code takes part. Where QGIS's Python library is
+not there it is installed from the system's packages (as root, by apt-get).
+"""
+
+import json
+import os
+import struct
+import subprocess
+from collections import Counter
+from pathlib import Path
+
+TOP = Path(__file__).resolve().parent.parent
+CONFIGURATION = "examples/survey/survey.json"
+CONFIG = json.loads((TOP / CONFIGURATION).read_text())
+NAMES = (
+    "X Y Z Intensity ReturnNumber NumberOfReturns ScanDirectionFlag EdgeOfFlightLine Classification ClassFlags "
+    "ScanChannel ScanAngleRank ScanAngle UserData PointSourceId GpsTime Red Green Blue OriginId PointId"
+).split()
+RECORDS = {3: struct.Struct("<iiiHBBbBHdHHH"), 7: struct.Struct("<iiiHBBBBhHdHHH")}
+
+
+def fields_of_format_3(raw):
+    """Intensity to colour of a record of point format 3, in the order of the names."""
+    x, y, z, intensity, returns, kind, rank, user, source, time, *colour = raw
+    flags = [returns & 7, returns >> 3 & 7, returns >> 6 & 1, returns >> 7, kind & 31, kind >> 5]
+    return [x, y, z], [intensity, *flags, 0, rank, 0, user, source, time, *colour]
+
+
+def fields_of_format_7(raw):
+    """The same of a record of point format 7."""
+    x, y, z, intensity, returns, flags, kind, user, angle, source, time, *colour = raw
+    parts = [returns & 15, returns >> 4, flags >> 6 & 1, flags >> 7, kind, flags & 15, flags >> 4 & 3]
+    return [x, y, z], [intensity, *parts, 0, angle, user, source, time, *colour]
+
+
+def points_of(path, origin, exponent, shift):
+    """The points of a scan, each with its place in stored units, its input and its number."""
+    scan = path.read_bytes()
+    (start,) = struct.unpack_from("<I", scan, 96)
+    form, length = struct.unpack_from("<BH", scan, 104)
+    at, letter = (247, "<Q") if scan[25] == 4 else (107, "<I")
+    (count,) = struct.unpack_from(letter, scan, at)
+    split = fields_of_format_3 if form == 3 else fields_of_format_7
+    for number in range(count):
+        place, fields = split(RECORDS[form].unpack_from(scan, start + number * length))
+        stored = [raw * 10**exponent + moved for raw, moved in zip(place, shift)]
+        yield (*stored, *fields, origin, number)
+
+
+def points_of_survey():
+    """All points of the survey, as its configuration places them."""
+    for origin, given in enumerate(CONFIG["input"]):
+        given = given if isinstance(given, dict) else {"path": given}
+        exponent = CONFIG["scale"] - given.get("scale", CONFIG["scale"])
+        yield from points_of(TOP / given["path"], origin, exponent, given.get("shift", [0, 0, 0]))
+
+
+def reader():
+    """QGIS's library, installed where it is not there; None where it can't be had."""
+    os.environ.setdefault("QT_QPA_PLATFORM", "offscreen")
+    for attempt in range(2):
+        try:
+            import qgis.core
+
+            return qgis.core
+        except ImportError:
+            if attempt:
+                return None
+            for words in ["update"], ["install", "-y", "--no-install-recommends", "python3-qgis"]:
+                subprocess.run(["apt-get", *words], stdout=subprocess.DEVNULL, check=False)
+
+
+def found_by(core, where):
+    """What the reader finds at a path or an address: facts of the layer, and all points with their places in stored units."""
+    layer = core.QgsPointCloudLayer(str(where), "survey", "ept")
+    if not layer.isValid():
+        return {"valid": False}, Counter()
+    facts = {"valid": True, "points": layer.pointCount(), "reference system": layer.crs().authid()}
+    everywhere = core.QgsGeometry.fromRect(layer.extent().buffered(1))
+    points = layer.dataProvider().identify(0, everywhere, core.QgsDoubleRange(), 2**31 - 1)
+    unit, places = 10 ** CONFIG["scale"], CONFIG["offset"]
+    found = Counter()
+    for point in points:
+        stored = [round((point[axis] - start) * unit) for axis, start in zip("XYZ", places)]
+        found[(*stored, *(point.get(name) for name in NAMES[3:]))] += 1
+    return facts, found
+
+
+def differences(facts, found, wanted):
+    """What the reader did not find as the scans have it, one line each."""
+    expected = {
+        "valid": True,
+        "points": sum(wanted.values()),
+        "reference system": CONFIG["srs"]["authority"] + ":" + CONFIG["srs"]["horizontal"],
+    }
+    for name, value in expected.items():
+        if facts.get(name) != value:
+            yield f"{name}: {facts.get(name)} in place of {value}"
+    for kind, points in [("not found", wanted - found), ("found, but not in the scans", found - wanted)]:
+        for point in sorted(points, key=str)[:3]:
+            yield f"{kind}: " + " ".join(f"{name}={value}" for name, value in zip(NAMES, point))
+        if points:
+            yield f"{kind}: {sum(points.values())} in all"
