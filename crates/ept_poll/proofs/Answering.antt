@@ -8,7 +8,7 @@ use Rattle.ept_conn.specs.declared.end.Fault.TheVariants as fault
 use Rattle.ept_conn.specs.declared.end.End.{End}
 use Rattle.ept_conn.specs.declared.end.End.TheVariants as end
 use Rattle.ept_conn.specs.declared.end.Want.TheVariants as want
-use Rattle.ept_conn.specs.Answers.{Served, answers, AreAnswers}
+use Rattle.ept_conn.specs.Answers.{Served, AreAnswers}
 use Rattle.ept_conn.specs.State.{State, want_of}
 use Rattle.ept_conn.specs.Ends.{IsBroken, IsEnd}
 use Rattle.ept_conn.specs.History.{Has}
