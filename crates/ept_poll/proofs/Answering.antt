@@ -1,25 +1,20 @@
 -- What has gone out of a connection that stands, by what it wants.
-use Rattle.std.proofs.Common.{◌≡◌, ◌∙◌, ◌+◌, ◌<◌, ◌≤◌, ◌⊎◌, inl, inr, ℕ, List, [], ◌∷◌, ◌++◌, length, take, Option, Some, None, refl, sym, ap, subst, arith, append_assoc, append-nil, length-append}
+use Rattle.std.proofs.Common.{◌≡◌, ℕ, List, [], ◌∷◌, take, Some, refl, sym, subst, arith}
 use Rattle.std.specs.List.{AllByRecursion}
 use Rattle.ept_base.specs.Causes.{Rose}
-use Rattle.ept_base.specs.Files.{Files, Tells}
 use Rattle.ept_base.specs.Links.{Wire}
 use Rattle.ept_conn.specs.declared.hand.Hand.TheVariants.{Empty}
 use Rattle.ept_conn.specs.declared.end.Fault.TheVariants as fault
 use Rattle.ept_conn.specs.declared.end.End.{End}
 use Rattle.ept_conn.specs.declared.end.End.TheVariants as end
 use Rattle.ept_conn.specs.declared.end.Want.TheVariants as want
-use Rattle.ept_conn.specs.Held.{fed, fresh}
-use Rattle.ept_conn.specs.Answers.{Served, answers, AreAnswers}
-use Rattle.ept_conn.specs.Served.{IsServed}
+use Rattle.ept_conn.specs.Answers.{Served, AreAnswers}
 use Rattle.ept_conn.specs.State.{State, want_of}
 use Rattle.ept_conn.specs.Ends.{IsBroken, IsEnd}
-use Rattle.ept_conn.specs.History.{Has, IsOwed, rest_of}
+use Rattle.ept_conn.specs.History.{Has}
 use Rattle.ept_conn.specs.Serving.{IsAnsweredAt}
 use Rattle.ept_conn.specs.Conversation.{Converses}
-use Rattle.ept_conn.proofs.Wanting.{write-some}
-use Rattle.ept_conn.proofs.TurnLemmas.{due-once, some-due}
-use Rattle.ept_conn.proofs.Histories.{failed-has, ends-has, reads-has, owes-has}
+use Rattle.ept_conn.proofs.Histories.{failed-has, ends-has, reads-has}
 use Rattle.ept_poll.specs.Units.{Seen}
 use Rattle.ept_poll.specs.Polls.{unused, Told, HasPassed, Stands, IsFront, IsEndOver, IsAnswered, IsNotAnswered, IsReadAnswered, IsWell}
 use Rattle.ept_poll.proofs.Standing.{tells-weaker}

@@ -1,22 +1,20 @@
 -- Which ends units fix, and for what cause.
-use Rattle.std.proofs.Common.{◌≡◌, ◌≢◌, ◌∙◌, ◌<◌, ◌≤◌, ◌⊎◌, inl, inr, ℕ, List, [], ◌∷◌, ◌++◌, length, Option, Some, None, refl, sym, ap, subst, arith}
+use Rattle.std.proofs.Common.{◌≡◌, ◌≢◌, ◌∙◌, ◌≤◌, ◌⊎◌, inl, inr, ℕ, List, [], ◌∷◌, ◌++◌, length, Option, Some, None, refl, sym, ap, subst, arith}
 use Rattle.std.specs.Prelude.{IfSome, Bool}
 use Rattle.ept_base.specs.Causes.{Rose}
 use Rattle.ept_conn.specs.declared.hand.Hand.{Hand}
-use Rattle.ept_conn.specs.declared.hand.Hand.TheVariants.{Empty}
 use Rattle.ept_conn.specs.declared.end.Fault.{Fault}
 use Rattle.ept_conn.specs.declared.end.Fault.TheVariants as fault
 use Rattle.ept_conn.specs.declared.end.End.{End}
 use Rattle.ept_conn.specs.declared.end.End.TheVariants as end
-use Rattle.ept_conn.specs.declared.end.Want.{Want}
 use Rattle.ept_conn.specs.declared.end.Want.TheVariants as want
-use Rattle.ept_conn.specs.State.{State, end_of, wants, want_of, feeds}
+use Rattle.ept_conn.specs.State.{State, wants, want_of, feeds}
 use Rattle.ept_conn.specs.Works.{Stops}
 use Rattle.ept_conn.specs.SessionCalls.{SessionCall, Fed, Worked, Sent, Failed}
 use Rattle.ept_conn.specs.Conversation.{HasCauseFor}
-use Rattle.ept_conn.proofs.Conversing.{rose-earlier, rose-later, read-no-store}
-use Rattle.ept_conn.proofs.Wanting.{read-parts, work-parts, write-some}
-use Rattle.ept_poll.specs.Units.{Seen, IsAs, IsOverLink, IsOverStore, IsUnit, AreUnits}
+use Rattle.ept_conn.proofs.Conversing.{rose-earlier, rose-later}
+use Rattle.ept_conn.proofs.Wanting.{read-parts, write-some}
+use Rattle.ept_poll.specs.Units.{Seen, IsAs, IsUnit, AreUnits}
 
 -- ---- a cause, on and on
 

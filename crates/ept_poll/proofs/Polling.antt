@@ -1,7 +1,6 @@
 -- What holds behind a poll: so many units, and a last call of the link that may have waited.
-use Rattle.std.proofs.Common.{◌≡◌, ◌≢◌, ◌∙◌, ◌<◌, ◌≤◌, ◌⊎◌, inl, inr, ℕ, List, length, Option, Some, None, refl, sym, ap, subst, arith}
-use Rattle.futures.specs.declared.task.Poll.{Poll}
-use Rattle.futures.specs.declared.task.Poll.TheVariants.{Ready, Pending}
+use Rattle.std.proofs.Common.{◌≡◌, ◌≢◌, ◌≤◌, ◌⊎◌, inl, inr, ℕ, List, length, Some}
+use Rattle.futures.specs.declared.task.Poll.TheVariants.{Ready}
 use Rattle.ept_base.specs.Causes.{Rose}
 use Rattle.ept_base.specs.Files.{Tells}
 use Rattle.ept_query.specs.declared.query_error.QueryFile.{QueryFile}
@@ -16,7 +15,7 @@ use Rattle.ept_conn.proofs.Conversing.{rose-earlier}
 use Rattle.ept_conn.proofs.Histories.{link-end, store-end, damaged-end}
 use Rattle.ept_poll.specs.Units.{Seen, IsAs, AreUnits}
 use Rattle.ept_poll.specs.Steps.{IsWaitFor}
-use Rattle.ept_poll.specs.Polls.{Told, Stands, Since, IsFront, IsEndOver, IsAnswered, IsNotAnswered, IsReadAnswered, IsWell, IsReading, IsWriting, IsPollable}
+use Rattle.ept_poll.specs.Polls.{Told, Stands, Since, IsFront, IsEndOver, IsReadAnswered, IsWell, IsReading, IsWriting, IsPollable}
 use Rattle.ept_poll.proofs.Standing.{as-stands, units-stand}
 use Rattle.ept_poll.proofs.Causing.{IsClear, as-once, polled-links, polled-stores, polled-clear, goes-on-clear}
 use Rattle.ept_poll.proofs.Answering.{stands-front, stands-reads, stands-end, stands-answered, stands-unanswered, stands-well}

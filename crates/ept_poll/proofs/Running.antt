@@ -1,5 +1,5 @@
 -- List after list of polls.
-use Rattle.std.proofs.Common.{◌≡◌, ◌∙◌, ◌≤◌, ℕ, List, [], ◌∷◌, refl, sym, ap, subst}
+use Rattle.std.proofs.Common.{ℕ, List, [], ◌∷◌, sym, subst}
 use Rattle.ept_conn.specs.SessionCalls.{SessionCall}
 use Rattle.ept_poll.specs.Units.{Seen}
 use Rattle.ept_poll.specs.Polls.{Stands}

@@ -1,25 +1,22 @@
 -- What stands of a connection still stands behind units of a poll.
-use Rattle.std.proofs.Common.{◌≡◌, ◌∙◌, ◌<◌, ◌≤◌, ◌⊎◌, inl, inr, ℕ, List, [], ◌∷◌, ◌++◌, length, take, drop, Option, Some, None, refl, sym, ap, subst, arith, length-append}
+use Rattle.std.proofs.Common.{◌≡◌, ◌∙◌, ◌≤◌, ◌⊎◌, inl, inr, ℕ, List, [], ◌∷◌, Option, Some, None, refl, sym, ap, subst, arith}
 use Rattle.std.proofs.Math.Path.{fun_ext}
 use Rattle.ept_base.specs.Causes.{Rose}
 use Rattle.ept_base.specs.Files.{Files, SameFiles, StepsBy, Tells}
 use Rattle.ept_base.specs.Links.{Wire, FailsToRead, Writes}
-use Rattle.ept_query.specs.declared.query_error.QueryFile.{QueryFile}
 use Rattle.ept_conn.specs.declared.hand.Hand.TheVariants.{Empty}
 use Rattle.ept_conn.specs.declared.end.Fault.{Fault}
 use Rattle.ept_conn.specs.declared.end.Fault.TheVariants as fault
 use Rattle.ept_conn.specs.declared.end.Want.TheVariants as want
 use Rattle.ept_conn.specs.Answers.{Served}
-use Rattle.ept_conn.specs.Served.{IsServed}
 use Rattle.ept_conn.specs.State.{State, started, want_of, feeds}
-use Rattle.ept_conn.specs.Works.{HasPlanOf, Stops, IsDamagedIn, IsDamaged}
+use Rattle.ept_conn.specs.Works.{HasPlanOf, IsDamagedIn, IsDamaged}
 use Rattle.ept_conn.specs.SessionCalls.{SessionCall, Fed, Worked, Sent, Failed}
-use Rattle.ept_conn.specs.Conversation.{Converses, HasCauseFor}
 use Rattle.ept_conn.proofs.Histories.{start-has}
 use Rattle.ept_conn.proofs.Conversing.{steps-same, tells-of, read-hand, rose-earlier, rose-later, damaged-since}
 use Rattle.ept_poll.specs.Links.{ReadsOn}
-use Rattle.ept_poll.specs.Units.{Seen, IsAs, IsOverLink, IsOverStore, IsUnit, AreUnits}
-use Rattle.ept_poll.specs.Polls.{unused, Told, HasPassed, Stands}
+use Rattle.ept_poll.specs.Units.{Seen, IsAs, IsOverLink, IsUnit, AreUnits}
+use Rattle.ept_poll.specs.Polls.{HasPassed, Stands}
 use Rattle.ept_poll.specs.Runs.{IsUnused}
 use Rattle.ept_poll.proofs.Passing.{read-passed, unread-passed, work-passed, write-passed, unwritten-passed}
 

@@ -1,5 +1,5 @@
 -- The head of status 503 or 507 is no front of an answer.
-use Rattle.std.proofs.Common.{◌≡◌, ◌∙◌, ◌<◌, ◌⊎◌, inl, inr, ℕ, zero, suc, List, [], ◌∷◌, ◌++◌, take, drop, Bool, true, false, not, if◌then◌else◌, MatchBool, Option, Some, None, MatchOption, refl, sym, ap, subst, arith}
+use Rattle.std.proofs.Common.{◌≡◌, ◌∙◌, ◌⊎◌, inl, inr, ℕ, zero, suc, List, [], ◌∷◌, ◌++◌, take, drop, Bool, true, false, if◌then◌else◌, MatchBool, Option, Some, None, MatchOption, refl, sym, ap, subst, arith}
 use Rattle.std.specs.Prelude.{⊤}
 use Rattle.std.specs.List.{AllByRecursion}
 use Rattle.std.specs.Fmt.{digits}
@@ -8,15 +8,14 @@ use Rattle.ept_space.specs.declared.box3.Box3.{Box3}
 use Rattle.httparse.specs.Grammar.{RequestHead}
 use Rattle.ept_http.specs.declared.asked.Asked.{Asked}
 use Rattle.ept_http.specs.declared.asked.Asked.TheVariants as asked
-use Rattle.ept_http.specs.declared.answer.HeadKind.TheVariants as head
 use Rattle.ept_http.specs.AnswerHead.{status_line, head_text}
 use Rattle.ept_http.specs.Answers.{refusal_of, HeadAsks, IsAnswer}
 use Rattle.ept_http.specs.Targets.{AsksFor}
 use Rattle.ept_conn.specs.declared.turn.Turn.{Turn}
 use Rattle.ept_conn.specs.HeadEnd.{Front, Whole, Long, Short, front}
 use Rattle.ept_conn.specs.Held.{Held, turns_left}
-use Rattle.ept_conn.specs.Turns.{AreFrom, AreTurns, AreDue, IsTurnOf}
-use Rattle.ept_conn.specs.Answers.{Served, refusal, file_answer, query_answer, answer_to, answer, answers, chunks, last_chunk, is_json}
+use Rattle.ept_conn.specs.Turns.{AreFrom, AreTurns, AreDue}
+use Rattle.ept_conn.specs.Answers.{Served, refusal, file_answer, query_answer, answer_to, answer, is_json}
 
 -- ---- with which status a turn is refused
 

@@ -1,5 +1,5 @@
 -- Lists of polls of one connection. Each statement stands on the contract of a function of `laws`.
-use Rattle.std.specs.Prelude.{◌≡◌, ℕ, List, [], ◌∷◌}
+use Rattle.std.specs.Prelude.{◌≡◌, List, [], ◌∷◌}
 use Rattle.ept_base.specs.Causes.{Rose}
 use Rattle.ept_base.specs.Files.{Tells}
 use Rattle.ept_base.specs.Links.{Wire}

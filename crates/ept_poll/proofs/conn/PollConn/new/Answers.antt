@@ -1,4 +1,3 @@
-use Rattle.std.proofs.Common.{refl}
 use Rattle.ept_poll.specs.Polls.{seen}
 use Rattle.ept_poll.proofs.Standing.{start-stands}
 use Rattle.ept_poll.proofs.conn.PollConn.new.Goals as goal

@@ -1,13 +1,13 @@
-use Rattle.std.proofs.Common.{◌≡◌, ◌∙◌, ◌+◌, ◌<◌, ◌≤◌, ℕ, List, [], ◌∷◌, ◌++◌, length, inr, refl, sym, ap, subst, arith, length-append}
+use Rattle.std.proofs.Common.{◌≡◌, ◌∙◌, ◌<◌, ◌≤◌, ℕ, [], ◌∷◌, ◌++◌, length, inr, refl, sym, ap, subst, arith, length-append}
 use Rattle.futures.specs.declared.task.Poll.TheVariants.{Ready}
 use Rattle.ept_conn.specs.declared.end.End.TheVariants as end
 use Rattle.ept_conn.specs.declared.end.Want.TheVariants as want
 use Rattle.ept_conn.specs.State.{want_of}
 use Rattle.ept_conn.proofs.Conversing.{moved-none, moved-twice}
-use Rattle.ept_poll.specs.Units.{Seen, IsAs}
+use Rattle.ept_poll.specs.Units.{IsAs}
 use Rattle.ept_base.specs.Causes.{Rose}
 use Rattle.ept_poll.specs.Steps.{beside, IsWaitFor}
-use Rattle.ept_poll.specs.Polls.{seen, HasYielded}
+use Rattle.ept_poll.specs.Polls.{seen}
 use Rattle.ept_poll.proofs.Causing.{as-once, units-more}
 use Rattle.ept_poll.proofs.Calling.{pending-at, on-pending, if-pending, not-ready, unit-end, unit-done}
 use Rattle.ept_poll.proofs.Polling.{HasDone, all-done, stands-on, sends-on, reads-on, ends-on, links-on, stores-on, damaged-over, complete-on, waiting-on, waiting-goes, pollable-on}
