@@ -80,8 +80,10 @@ def start(out, descriptors=None):
 
 
 def taken(pid):
-    """The threads, the descriptors and the resident bytes of a process."""
+    """The threads, the descriptors and the resident bytes of a process; OSError where it has ended."""
     lines = dict(line.split(":", 1) for line in Path(f"/proc/{pid}/status").read_text().splitlines())
+    if "VmRSS" not in lines:
+        raise OSError(f"process {pid} has ended")
     return int(lines["Threads"]), len(os.listdir(f"/proc/{pid}/fd")), int(lines["VmRSS"].split()[0]) * 1024
 
 
