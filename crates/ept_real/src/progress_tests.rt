@@ -148,10 +148,10 @@ fn last_line(said: &str) -> &str {
 fn a_build_tells_how_far_it_is(rt: HostRuntime) -> Result<(), Fail> {
     let alloc = rt.alloc();
     prepare(&rt)?;
-    let seen = Seen::new(alloc);
+    let seen = Seen::new(alloc)?;
     seen.step.set(10_000);
-    let disk = Disk::new(&rt, &seen);
-    let files = SeenFiles::new(alloc, &disk, "test", "out", Telling::Lines)?;
+    let disk = Disk::new(&rt, &seen)?;
+    let files = SeenFiles::new(alloc, disk, "test", "out", Telling::Lines)?;
     let mut shelf = RealShelf::new(alloc, &files);
     let mut store = RealStore::new(alloc, &files, "out");
     for (call, want) in CALLS {
@@ -168,11 +168,11 @@ fn a_build_goes_on_where_nothing_is_told(rt: HostRuntime) -> Result<(), Fail> {
     let alloc = rt.alloc();
     for (is_mute, telling) in [(true, Telling::Terminal), (false, Telling::Silent)] {
         prepare(&rt)?;
-        let seen = Seen::new(alloc);
+        let seen = Seen::new(alloc)?;
         seen.step.set(10_000);
         seen.is_mute.set(is_mute);
-        let disk = Disk::new(&rt, &seen);
-        let files = SeenFiles::new(alloc, &disk, "test", "out", telling)?;
+        let disk = Disk::new(&rt, &seen)?;
+        let files = SeenFiles::new(alloc, disk, "test", "out", telling)?;
         let mut shelf = RealShelf::new(alloc, &files);
         let mut store = RealStore::new(alloc, &files, "out");
         for (call, _) in CALLS {
@@ -197,9 +197,9 @@ fn over(alloc: Global, line: &str) -> Result<String, AllocError> {
 // What is said of a build, whose calls come at these milliseconds from its start; then it ends.
 fn told(rt: &HostRuntime, telling: Telling) -> Result<String, Fail> {
     let alloc = rt.alloc();
-    let seen = Seen::new(alloc);
-    let disk = Disk::new(rt, &seen);
-    let progress = Arc::new(alloc, Progress::new(alloc, &disk, "test", telling)?)?;
+    let seen = Seen::new(alloc)?;
+    let disk = Disk::new(rt, &seen)?;
+    let progress = Arc::new(alloc, Progress::new(alloc, disk, "test", telling)?)?;
     for now in [
         1_999, 2_000, 2_249, 2_250, 9_999, 10_000, 10_001, 19_999, 20_500,
     ] {

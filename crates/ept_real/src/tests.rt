@@ -184,8 +184,8 @@ fn a_store_refuses_names_that_can_not_be(rt: HostRuntime) -> Result<(), Fail> {
 // What a sync flushes after this file was put into a store in this folder.
 fn flushed_for(rt: &HostRuntime, folder: &str, name: &str) -> Result<String, Fail> {
     let alloc = rt.alloc();
-    let seen = Seen::new(alloc);
-    let disk = Disk::new(rt, &seen);
+    let seen = Seen::new(alloc)?;
+    let disk = Disk::new(rt, &seen)?;
     let mut store = RealStore::new(alloc, &disk, folder);
     store.put(name, b"one")?;
     store.sync()?;
@@ -223,8 +223,8 @@ fn a_sync_flushes_the_way_to_a_file(rt: HostRuntime) -> Result<(), Fail> {
 fn each_file_is_flushed_once(rt: HostRuntime) -> Result<(), Fail> {
     enter(&rt, "once")?;
     let alloc = rt.alloc();
-    let seen = Seen::new(alloc);
-    let disk = Disk::new(&rt, &seen);
+    let seen = Seen::new(alloc)?;
+    let disk = Disk::new(&rt, &seen)?;
     let mut store = RealStore::new(alloc, &disk, "out");
     for name in ["a/one", "two", "a/one", "gone"] {
         assert_eq!(rt; store.put(name, b"x"), Ok(()), "at {name}");
@@ -252,8 +252,8 @@ fn what_was_read_is_flushed(rt: HostRuntime) -> Result<(), Fail> {
     let alloc = rt.alloc();
     fs::create_dir_all(&rt, "out/a")?;
     fs::write(&rt, "out/a/one", "by another")?;
-    let seen = Seen::new(alloc);
-    let disk = Disk::new(&rt, &seen);
+    let seen = Seen::new(alloc)?;
+    let disk = Disk::new(&rt, &seen)?;
     let mut store = RealStore::new(alloc, &disk, "out");
     let mut into = Vec::new(alloc);
     let whole = "out/a/one\n.\nout/\nout/a\n";
@@ -280,9 +280,9 @@ fn a_sync_is_refused_for_good(rt: HostRuntime) -> Result<(), Fail> {
     let alloc = rt.alloc();
     // The flush of a file fails, and that of a folder; nothing is flushed from then on.
     for (nth, want) in [(2, "out/a/one\n"), (4, "out/a/one\nout/two\n.\n")] {
-        let seen = Seen::new(alloc);
+        let seen = Seen::new(alloc)?;
         seen.to_fault.set(nth);
-        let disk = Disk::new(&rt, &seen);
+        let disk = Disk::new(&rt, &seen)?;
         let mut store = RealStore::new(alloc, &disk, "out");
         assert_eq!(rt; store.put("a/one", b"x"), Ok(()));
         assert_eq!(rt; store.put("two", b"x"), Ok(()));

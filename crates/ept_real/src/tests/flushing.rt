@@ -1,9 +1,10 @@
-use std::alloc::{Allocator, Global};
+use std::alloc::{AllocError, Allocator, Global};
 use std::cell::{Cell, RefCell};
 use std::fmt::{Display, Write as _};
 use std::fs::{File, Metadata, OpenFile, OpenOptions};
 use std::io::{self, ErrorKind, Read, Seek, SeekFrom, Write};
 use std::rt::Files;
+use std::sync::Arc;
 use std::time::{Clock, Duration};
 
 // What was flushed of a disk, and what was said; how many flushes there are to one that fails, where it is
@@ -19,15 +20,16 @@ pub(crate) struct Seen {
 }
 
 impl Seen {
-    pub(crate) fn new(alloc: Global) -> Self {
-        Seen {
+    pub(crate) fn new(alloc: Global) -> Result<Arc<Self>, AllocError> {
+        let seen = Seen {
             flushed: RefCell::new(String::new(alloc)),
             said: RefCell::new(String::new(alloc)),
             to_fault: Cell::new(0),
             is_mute: Cell::new(false),
             now: Cell::new(0),
             step: Cell::new(0),
-        }
+        };
+        Ok(Arc::new(alloc, seen)?)
     }
 }
 
@@ -42,26 +44,29 @@ fn append<D: Display>(text: &RefCell<String>, value: &D) -> io::Result<()> {
 
 // The machine's files, and what is seen of them, with a clock and a standard error of its own.
 #[derive(Drop)]
-pub(crate) struct Disk<'a> {
-    rt: &'a HostRuntime,
-    seen: &'a Seen,
+pub(crate) struct Disk {
+    rt: HostRuntime,
+    seen: Arc<Seen>,
 }
 
 // A file of such a disk.
 #[derive(Drop)]
-pub(crate) struct DiskFile<'a> {
+pub(crate) struct DiskFile {
     file: File,
     path: String,
-    seen: &'a Seen,
+    seen: Arc<Seen>,
 }
 
-impl<'a> Disk<'a> {
-    pub(crate) fn new(rt: &'a HostRuntime, seen: &'a Seen) -> Self {
-        Disk { rt, seen }
+impl Disk {
+    pub(crate) fn new(rt: &HostRuntime, seen: &Arc<Seen>) -> Result<Self, AllocError> {
+        Ok(Disk {
+            rt: rt.clone()?,
+            seen: seen.clone()?,
+        })
     }
 }
 
-impl<'a> Clock for Disk<'a> {
+impl Clock for Disk {
     fn monotonic(&self) -> io::Result<Duration> {
         let now = self.seen.now.get().saturating_add(self.seen.step.get());
         self.seen.now.set(now);
@@ -73,7 +78,7 @@ impl<'a> Clock for Disk<'a> {
     }
 }
 
-impl<'a> Eprint for Disk<'a> {
+impl Eprint for Disk {
     fn eprint<D: Display + Drop>(&self, value: D) -> io::Result<()> {
         if self.seen.is_mute.get() {
             return Err(io::Error::from(ErrorKind::BrokenPipe));
@@ -87,16 +92,16 @@ impl<'a> Eprint for Disk<'a> {
     }
 }
 
-impl<'a> Files for Disk<'a> {
-    type File = DiskFile<'a>;
+impl Files for Disk {
+    type File = DiskFile;
 
     type Dir = <HostRuntime as Files>::Dir;
 
-    fn open_file(&self, how: &OpenOptions, path: &str) -> io::Result<DiskFile<'a>> {
+    fn open_file(&self, how: &OpenOptions, path: &str) -> io::Result<DiskFile> {
         Ok(DiskFile {
             file: self.rt.open_file(how, path)?,
             path: String::from_str(self.rt.alloc(), path)?,
-            seen: self.seen,
+            seen: self.seen.clone()?,
         })
     }
 
@@ -137,7 +142,7 @@ impl<'a> Files for Disk<'a> {
     }
 }
 
-impl<'a> DiskFile<'a> {
+impl DiskFile {
     // Writes down that this file is flushed, unless it is to fail.
     fn count_flush(&self) -> io::Result<()> {
         let left = self.seen.to_fault.get();
@@ -150,7 +155,7 @@ impl<'a> DiskFile<'a> {
     }
 }
 
-impl<'a> OpenFile for DiskFile<'a> {
+impl OpenFile for DiskFile {
     fn metadata(&self) -> io::Result<Metadata> {
         self.file.metadata()
     }
@@ -170,13 +175,13 @@ impl<'a> OpenFile for DiskFile<'a> {
     }
 }
 
-impl<'a> Read for DiskFile<'a> {
+impl Read for DiskFile {
     fn read(&mut self, buf: &mut [u8]) -> io::Result<usize> {
         self.file.read(buf)
     }
 }
 
-impl<'a> Write for DiskFile<'a> {
+impl Write for DiskFile {
     fn write(&mut self, buf: &[u8]) -> io::Result<usize> {
         self.file.write(buf)
     }
@@ -186,7 +191,7 @@ impl<'a> Write for DiskFile<'a> {
     }
 }
 
-impl<'a> Seek for DiskFile<'a> {
+impl Seek for DiskFile {
     fn seek(&mut self, to: SeekFrom) -> io::Result<u64> {
         self.file.seek(to)
     }
