@@ -117,7 +117,7 @@ fn a_stopped_build_goes_on(rt: HostRuntime) -> Result<(), Fail> {
             let mut store = store.crash(how);
             let (inserted, generation) = current(alloc, &mut store)?;
             assert!(rt;
-                inserted <= 6 && inserted == 2 * generation,
+                inserted <= 6 && inserted % 2 == 0 && generation == inserted / 2,
                 "{calls} {inserted}"
             );
             assert_eq!(rt; built(alloc, &mut store, TWO, 2)?, done, "{calls}");
