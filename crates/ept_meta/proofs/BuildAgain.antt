@@ -42,3 +42,7 @@ read_again bytes found kept read is =
 -- bytes that tell nothing are no build file
 pub told_nothing : (bytes : List ℕ) → told bytes ≡ None → (kept : Kept) → bytes ≢ build_text kept
 told_nothing bytes nothing kept is = let some = sym nothing ∙ (ap told is ∙ build_told kept) in cc
+
+-- so two that have one build file are the same
+pub build-of-one : (a b : Kept) → build_text a ≡ build_text b → a ≡ b
+build-of-one a b same = sym (read_again (build_text a) a b (build_told a) same)

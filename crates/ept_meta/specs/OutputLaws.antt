@@ -5,12 +5,17 @@ use Rattle.ept_sample.specs.Ids.{HasDistinctIds}
 use Rattle.ept_sample.specs.SamplingLaws.{CanBeSampled}
 use Rattle.ept_config.specs.declared.kept.Kept.{Kept}
 use Rattle.ept_config.specs.Extents.{IsWithin}
+use Rattle.ept_meta.specs.BuildText.{build_text}
 use Rattle.ept_meta.specs.Output.{File, IsOutput, IsOutputName, rules_of, names_of}
 
 -- points have one output
 abbrev pub OutputIsOne : Type 0
 OutputIsOne =
     (kept : Kept) (points : List Point) (a b : List File) → IsOutput kept points a → IsOutput kept points b → a ≡ b
+
+-- a build file is that of one thing only
+abbrev pub BuildFileIsOfOne : Type 0
+BuildFileIsOfOne = (a b : Kept) → build_text a ≡ build_text b → a ≡ b
 
 -- points within the bounds, no two of one id, can be sampled
 abbrev pub PointsCanBeSampled : Type 0

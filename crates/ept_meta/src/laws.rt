@@ -1,15 +1,16 @@
 //! What holds of every output. Each law is the contract of a function that does nothing.
 
 ghost use Rattle.std.specs.Prelude.{◌≡◌};
-ghost use Rattle.ept_meta.specs.OutputLaws.{OutputIsOne, PointsCanBeSampled, FilesHaveOutputNames, NamesStandOnce, NamesGrow};
+ghost use Rattle.ept_meta.specs.OutputLaws.{OutputIsOne, BuildFileIsOfOne, PointsCanBeSampled, FilesHaveOutputNames, NamesStandOnce, NamesGrow};
 ghost use Rattle.ept_meta.specs.Output.{metadata_name, manifest_name, build_file_name, EachIsOutsideWork};
 
 use crate::names::{BUILD_FILE, MANIFEST, METADATA};
 
-/// Points have one output, whatever tells their counts and their extent; and those that lie in the bounds
-/// can be sampled.
+/// Points have one output, whatever tells their counts and their extent; those that lie in the bounds can be
+/// sampled; and a build file is that of one configuration alone.
 pub fn output_once_law()
     ensures one { OutputIsOne }
+    ensures build { BuildFileIsOfOne }
     ensures sampled { PointsCanBeSampled }
 {}
 

@@ -7,7 +7,6 @@ mod NextTiles
 mod Phasing
 mod Refusing
 mod SamePoint
-mod SampledTiles
 mod SavedTo
 mod SavedNodes
 pub mod Telling

@@ -37,7 +37,7 @@ use Rattle.ept_phase.specs.Phase.{IsSaved}
 use Rattle.ept_phase.specs.Saving.{AreKnown}
 use Rattle.ept_phase.proofs.Lining.{tells-more}
 use Rattle.ept_phase.proofs.Phasing.{named_tiles}
-use Rattle.ept_phase.proofs.SampledTiles.{sampled-IsTile}
+use Rattle.ept_save.proofs.SampledTiles.{sampled-IsTile}
 use Rattle.ept_phase.proofs.Undamaged.{line-stands}
 
 -- a commit puts no tile

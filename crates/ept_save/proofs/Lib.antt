@@ -11,7 +11,7 @@ mod Guarding
 pub mod LoadedLines
 pub mod WorkNames
 pub mod SoundFiles
-mod SampledTiles
+pub mod SampledTiles
 pub mod SoundTiles
 pub mod ScanCounts
 mod DoneFiles
