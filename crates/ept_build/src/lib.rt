@@ -11,11 +11,7 @@ mod finishing;
 mod growing;
 mod progress;
 mod starting;
-#[cfg(test)]
-mod stop_tests;
 mod summary;
-#[cfg(test)]
-mod tests;
 
 pub use building::build;
 pub use error::BuildError;

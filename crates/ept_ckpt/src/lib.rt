@@ -21,8 +21,6 @@ mod reader;
 mod setting_fields;
 mod settings;
 mod sources;
-#[cfg(test)]
-mod tests;
 mod texts;
 mod whole_octree;
 mod writer;

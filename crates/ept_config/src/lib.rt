@@ -18,8 +18,6 @@ mod reader;
 mod source_count;
 mod srs;
 mod srs_texts;
-#[cfg(test)]
-mod tests;
 mod texts;
 mod values;
 mod work;

@@ -14,11 +14,7 @@ mod laws;
 mod out;
 mod queries;
 mod serve;
-#[cfg(test)]
-mod serve_tests;
 mod session;
-#[cfg(test)]
-mod tests;
 mod turn;
 
 pub use conn::{Conn, ConnError};

@@ -5,8 +5,6 @@
 mod by_id;
 mod error;
 mod grid;
-#[cfg(test)]
-mod list_tests;
 mod lookup;
 mod losing;
 mod making;
@@ -19,12 +17,8 @@ mod settling;
 mod spot;
 mod steps;
 mod taking;
-#[cfg(test)]
-mod tests;
 mod tile;
 mod walk;
-#[cfg(test)]
-mod winner_tests;
 
 pub use error::GridError;
 pub use grid::Grid;

@@ -21,5 +21,3 @@ pub use source::{MemShelf, MemSource};
 pub use spill::{MemRoom, MemSpill};
 pub use store::MemStore;
 
-#[cfg(test)]
-mod tests;

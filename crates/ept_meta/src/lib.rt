@@ -17,8 +17,6 @@ mod pieces;
 mod rules;
 mod schema;
 mod srs_object;
-#[cfg(test)]
-mod tests;
 mod units;
 
 pub use build::build_json;

@@ -6,8 +6,6 @@ mod laws;
 mod loading;
 mod phase;
 mod saving;
-#[cfg(test)]
-mod tests;
 
 pub use error::LoadError;
 pub use laws::{lines_law, saved_law};

@@ -7,8 +7,6 @@ mod extents;
 mod given;
 mod new_inputs;
 mod plan;
-#[cfg(test)]
-mod tests;
 
 pub use error::PlanError;
 pub use plan::{Plan, make_plan};

@@ -11,8 +11,6 @@ mod query_error;
 mod reading;
 mod search;
 mod start;
-#[cfg(test)]
-mod tests;
 mod tile;
 mod walk;
 mod writing;

@@ -2,21 +2,15 @@
 #![tactic(auto)]
 
 mod committing;
-#[cfg(test)]
-mod crash_tests;
 mod done;
 mod error;
 mod gates;
 mod laws;
 mod loading;
-#[cfg(test)]
-mod loading_tests;
 mod names;
 mod opening;
 mod saved;
 mod saving;
-#[cfg(test)]
-mod tests;
 
 pub use committing::commit;
 pub use done::{close_done, is_done, open_done};

@@ -16,8 +16,6 @@ mod record;
 mod scan_done;
 mod scan_error;
 mod second_reading;
-#[cfg(test)]
-mod tests;
 mod window;
 
 pub use first_reading::{scan, whole_extent};

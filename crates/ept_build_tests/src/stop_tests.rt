@@ -1,0 +1,196 @@
+//! Builds that are stopped and run again, and builds to which inputs are added.
+
+use crate::tests::{FIRST, Refusal, at, file, las, told};
+use ept_base::OpenGate;
+use ept_build::{Summary, build};
+use ept_config::read_config;
+use ept_mem::{Crash, MemRoom, MemShelf, MemStore};
+use ept_meta::Field;
+use ept_save::open;
+use std::alloc::{AllocError, Global};
+use std::process::Abort;
+use std::test::Fail;
+
+const NAMES: [&str; 8] = [
+    "ept-data/0-0-0-0.bin",
+    "ept-data/1-0-0-0.bin",
+    "ept-data/1-1-1-1.bin",
+    "ept-data/2-0-0-0.bin",
+    "ept-hierarchy/0-0-0-0.json",
+    "ept-sources/manifest.json",
+    "ept.json",
+    "ept-build.json",
+];
+
+const HIERARCHY: &[u8] = b"{\"0-0-0-0\":2,\"1-0-0-0\":2,\"1-1-1-1\":1,\"2-0-0-0\":1}";
+
+/// Three points in each of two inputs, one in a third, and five at one place in a fourth.
+fn shelf(alloc: Global) -> Result<MemShelf, AllocError> {
+    let mut files = Vec::new(alloc);
+    let first: [&[u8]; 3] = [&at(1, 1, 1), &at(2, 2, 2), &at(3, 3, 3)];
+    let second: [&[u8]; 3] = [&at(1, 1, 1), &at(6, 6, 6), &at(5, 5, 5)];
+    files.push(file(alloc, "a.las", las(alloc, &FIRST, &first)?)?)?;
+    files.push(file(alloc, "b.las", las(alloc, &FIRST, &second)?)?)?;
+    files.push(file(alloc, "c.las", las(alloc, &FIRST, &[&at(0, 7, 0)])?)?)?;
+    let one = at(1, 1, 1);
+    let five: [&[u8]; 5] = [&one, &one, &one, &one, &one];
+    files.push(file(alloc, "d.las", las(alloc, &FIRST, &five)?)?)?;
+    Ok(MemShelf::new(alloc, files, Vec::new(alloc), Vec::new(alloc)))
+}
+
+/// Builds these inputs, two records a phase.
+fn built(
+    alloc: Global,
+    store: &mut MemStore,
+    inputs: &str,
+    span: u32,
+) -> Result<Result<Summary, Refusal>, AllocError> {
+    built_by(alloc, store, inputs, span, 65_536)
+}
+
+/// Builds these inputs, two records a phase, and at most so many nodes.
+fn built_by(
+    alloc: Global,
+    store: &mut MemStore,
+    inputs: &str,
+    span: u32,
+    most: u32,
+) -> Result<Result<Summary, Refusal>, AllocError> {
+    let text = format!(in alloc;
+        "{{\"input\":[{inputs}],\"scale\":2,\"bounds\":[0,0,0,7,7,7],\"span\":{span},\"minNodeSize\":0,\"checkpoint\":2,\"maxNodes\":{most}}}"
+    )?;
+    let Ok(config) = read_config(alloc, text.as_bytes()) else {
+        return Err(AllocError);
+    };
+    let mut shelf = shelf(alloc)?;
+    let mut room = MemRoom::new(alloc, Vec::new(alloc), Vec::new(alloc));
+    let answer = build(alloc, &config, &mut shelf, store, &mut room, &OpenGate);
+    Ok(told(&answer))
+}
+
+fn empty(alloc: Global) -> MemStore {
+    MemStore::new(alloc, Vec::new(alloc), Vec::new(alloc))
+}
+
+const TWO: &str = "\"a.las\",\"b.las\"";
+
+const THREE: &str = "\"a.las\",\"b.las\",\"c.las\"";
+
+/// How many points the current checkpoint of a store has, and which generation it is.
+fn current(alloc: Global, store: &mut MemStore) -> Result<(u64, u64), AllocError> {
+    let Ok(saved) = open(alloc, store) else {
+        return Err(AllocError);
+    };
+    Ok(
+        saved.current().map_or((0, 0), |checkpoint| {
+            (checkpoint.inserted, checkpoint.generation)
+        }),
+    )
+}
+
+/// Compares the files of the output of two stores.
+fn compare(rt: &impl Abort, left: &MemStore, want: &MemStore, context: &str) {
+    for name in NAMES {
+        assert_eq!(rt; left.file(name), want.file(name), "{name} {context}");
+    }
+}
+
+// Whichever call of the store is the last before a stop, and whatever becomes of what was not stable, the current
+// checkpoint has 0, 2, 4 or 6 points, and the build that is run again leaves the same files.
+#[test]
+fn a_stopped_build_goes_on(rt: HostRuntime) -> Result<(), Fail> {
+    let alloc = rt.alloc();
+    let done = Ok(Summary {
+        points: 6,
+        nodes: 4,
+    });
+    let mut whole = empty(alloc);
+    assert_eq!(rt; built(alloc, &mut whole, TWO, 2)?, done);
+    assert_eq!(rt; whole.file("ept-hierarchy/0-0-0-0.json"), Some(HIERARCHY));
+    assert_eq!(rt; current(alloc, &mut whole)?, (6, 3));
+    let mut first = u64::MAX;
+    for calls in 0..70 {
+        for how in [Crash::Old, Crash::New, Crash::Absent, Crash::Junk] {
+            let mut store = empty(alloc).with_fuse(calls);
+            let is_through = built(alloc, &mut store, TWO, 2)?.is_ok();
+            first = if is_through { calls.min(first) } else { first };
+            let mut store = store.crash(how);
+            let (inserted, generation) = current(alloc, &mut store)?;
+            assert!(rt;
+                inserted <= 6 && inserted % 2 == 0 && generation == inserted / 2,
+                "{calls} {inserted}"
+            );
+            assert_eq!(rt; built(alloc, &mut store, TWO, 2)?, done, "{calls}");
+            compare(&rt, &store, &whole, "again");
+        }
+    }
+    assert!(rt; 30 < first && first < 69, "{first}");
+    Ok(())
+}
+
+// An input is added to a finished folder: the files are those of one build of all. Then another span is refused with
+// both values, and the same configuration again puts nothing.
+#[test]
+fn an_input_is_added(rt: HostRuntime) -> Result<(), Fail> {
+    let alloc = rt.alloc();
+    let done = Ok(Summary {
+        points: 7,
+        nodes: 4,
+    });
+    let mut whole = empty(alloc);
+    assert_eq!(rt; built(alloc, &mut whole, THREE, 2)?, done);
+    let mut store = empty(alloc);
+    assert!(rt; built(alloc, &mut store, TWO, 2)?.is_ok());
+    assert_eq!(rt; built(alloc, &mut store, THREE, 2)?, done);
+    compare(&rt, &store, &whole, "added");
+    assert_eq!(rt; current(alloc, &mut whole)?, (7, 4));
+    assert_eq!(rt; current(alloc, &mut store)?, (7, 4));
+    assert_eq!(rt;
+        store
+            .file("ept-data/0-0-0-0.bin")
+            .map_or(0, |bytes| bytes.len()),
+        3 * 49
+    );
+    let differs = Err(Refusal::Differs { field: Field::Span });
+    assert_eq!(rt; built(alloc, &mut store, THREE, 4)?, differs);
+    let fewer = Err(Refusal::Differs {
+        field: Field::Input,
+    });
+    assert_eq!(rt; built(alloc, &mut store, TWO, 2)?, fewer);
+    assert_eq!(rt; built(alloc, &mut store, THREE, 2)?, done);
+    compare(&rt, &store, &whole, "again");
+    Ok(())
+}
+
+// Each phase is judged: those before the one whose points have too many nodes are kept, and a build that may have more
+// nodes goes on from them. Where there are too many already, all stays.
+#[test]
+fn phases_before_too_many_nodes_are_kept(rt: HostRuntime) -> Result<(), Fail> {
+    let alloc = rt.alloc();
+    let refused = Err(Refusal::Nodes);
+    let done = Ok(Summary {
+        points: 5,
+        nodes: 3,
+    });
+    let mut store = empty(alloc);
+    for (most, answer, left) in [
+        (1, refused, (0, 0)),
+        (2, refused, (2, 1)),
+        (2, refused, (2, 1)),
+        (1, refused, (2, 1)),
+        (3, done, (5, 3)),
+        (1, done, (5, 3)),
+    ] {
+        assert_eq!(rt;
+            built_by(alloc, &mut store, "\"d.las\"", 2, most)?,
+            answer,
+            "{most}"
+        );
+        assert_eq!(rt; current(alloc, &mut store)?, left, "{most}");
+    }
+    assert_eq!(rt;
+        store.file("ept-hierarchy/0-0-0-0.json"),
+        Some(b"{\"0-0-0-0\":1,\"1-0-0-0\":1,\"2-0-0-0\":3}".as_slice())
+    );
+    Ok(())
+}
