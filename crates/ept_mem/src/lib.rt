@@ -20,4 +20,3 @@ pub use sink::MemSink;
 pub use source::{MemShelf, MemSource};
 pub use spill::{MemRoom, MemSpill};
 pub use store::MemStore;
-
