@@ -58,6 +58,21 @@ node-more rules points key is lower =
           ]
     ]
 
+-- a given point lies in the cube
+given-InCube : (rules : Rules) (points : List Point) (key : VoxelKey) (p : Point) → CanBeSampled rules points → IsMember p (given rules points key) → InCube rules.cube (place p)
+given-InCube rules points key p can m =
+    all-member (λ q. InCube rules.cube (place q)) p points can.inside (given-IsMember rules points key p m)
+
+-- so at one depth it is given to the key of its place
+given-at : (rules : Rules) (points : List Point) (key : VoxelKey) (p : Point) → CanBeSampled rules points → IsMember p (given rules points key) → key_at rules.cube key.depth (place p) ≡ key
+given-at rules points key p can m =
+    given-key_at rules points key p can.cube (given-InCube rules points key p can m) m
+
+pub given-once : (rules : Rules) (points : List Point) (j k : VoxelKey) (p : Point) → CanBeSampled rules points → IsMember p (given rules points j) → IsMember p (given rules points k) → j.depth ≡ k.depth → j ≡ k
+given-once rules points j k p can m n level =
+    sym (given-at rules points j p can m)
+    ∙ (ap (λ (d : ℕ). key_at rules.cube d (place p)) level ∙ given-at rules points k p can n)
+
 -- a test counts no more of the points given to a key than of all
 count_by-given_at : (rules : Rules) (points : List Point) (test : Point → Bool) (d : ℕ) (key : VoxelKey) → count_by test (given_at rules points d key) ≤ count_by test points
 unfolding given_at sent
@@ -76,7 +91,7 @@ lies_at rules depth key p = same_key (key_at rules.cube depth (place p)) key
 
 given-lies : (rules : Rules) (points : List Point) (key : VoxelKey) → CanBeSampled rules points → length (given rules points key) ≤ count_by (lies_at rules key.depth key) points
 given-lies rules points key can =
-    omega (arith, count_by-given_at rules points (lies_at rules key.depth key) key.depth key, count_by-all (lies_at rules key.depth key) (given rules points key) (λ p m. same_key-same _ _ (given-key_at rules points key p can.cube (all-member (λ q. InCube rules.cube (place q)) p points can.inside (given-IsMember rules points key p m)) m)))
+    omega (arith, count_by-given_at rules points (lies_at rules key.depth key) key.depth key, count_by-all (lies_at rules key.depth key) (given rules points key) (λ p m. same_key-same (key_at rules.cube key.depth (place p)) key (given-at rules points key p can m)))
 
 -- so more points than the threshold lie in the box of a node below the root
 pub node-lies : (rules : Rules) (points : List Point) (key : VoxelKey) (d : ℕ) → CanBeSampled rules points → is_node rules points key ≡ true → ¬ (key ≡ root) → key.depth ≡ d → rules.threshold < count_by (lies_at rules d key) points

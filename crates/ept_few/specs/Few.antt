@@ -1,5 +1,5 @@
 -- How many nodes a sampling has, at most. Each statement stands on the contract of a function of `laws`.
-use Rattle.std.specs.Prelude.{◌≢◌, ℕ, ◌+◌, ◌*◌, ◌/◌, ◌==◌, ◌<◌, ◌≤◌, IsTrue, List, length, count_by}
+use Rattle.std.specs.Prelude.{◌≢◌, ℕ, ◌+◌, ◌*◌, ◌/◌, ◌==◌, ◌≡◌, ◌<◌, ◌≤◌, IsTrue, List, length, count_by, Contains}
 use Rattle.ept_point.specs.declared.point.Point.{Point}
 use Rattle.ept_space.specs.declared.cube.Rules.{Rules}
 use Rattle.ept_space.specs.VoxelKey.{VoxelKey, root}
@@ -12,11 +12,16 @@ abbrev pub NodesAreGivenMany : Type 0
 NodesAreGivenMany =
     (rules : Rules) (points : List Point) (key : VoxelKey) → IsTrue (is_node rules points key) → key ≢ root → rules.threshold < length (given rules points key)
 
+-- no point is given to two keys of one depth
+abbrev pub NoneIsGivenTwice : Type 0
+NoneIsGivenTwice =
+    (rules : Rules) (points : List Point) (j k : VoxelKey) (p : Point) → CanBeSampled rules points → Contains (given rules points j) p → Contains (given rules points k) p → j.depth ≡ k.depth → j ≡ k
+
 -- how many nodes of a depth there are
 abbrev pub nodes_at : Rules → List Point → ℕ → ℕ
 nodes_at rules points depth = count_by (λ (key : VoxelKey). key.depth == depth) (node_keys rules points)
 
--- the nodes of a depth below the root were given different points, each more than the threshold
+-- so below the root there are enough points for all nodes of a depth
 abbrev pub DepthsHaveFewNodes : Type 0
 DepthsHaveFewNodes =
     (rules : Rules) (points : List Point) (depth : ℕ) → CanBeSampled rules points → 0 < depth → nodes_at rules points depth * (rules.threshold + 1) ≤ length points
