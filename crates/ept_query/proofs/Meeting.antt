@@ -1,6 +1,6 @@
 -- Whether a node is asked for is decided.
 use Rattle.std.proofs.Common.{◌≡◌, ◌*◌, ◌<◌, ◌≤◌, ◌⊎◌, inl, inr, ℕ, ℤ, pos, ◌+ℤ◌, ◌≤ℤ◌, Bool, true, false, [], ◌∷◌, refl, arith}
-use Rattle.std.proofs.lemmas.Bool.{cases_lt}
+use Rattle.std.proofs.lemmas.Bool.{cases_lt, false≢true}
 use Rattle.std.proofs.lemmas.Int.{ints, by_lt_z}
 use Rattle.ept_space.specs.Place.{coordinate}
 use Rattle.ept_space.specs.VoxelKey.{VoxelKey}
@@ -17,15 +17,15 @@ is_yes (inr no) = false
 
 pub yes : {P : Type 0} (d : P ⊎ (¬ P)) → is_yes d ≡ true → P
 yes (inl p) is = p
-yes (inr no) is = absurd (cc)
+yes (inr no) is = absurd (false≢true is)
 
 pub passes : {P : Type 0} (d : P ⊎ (¬ P)) → P → is_yes d ≡ true
 passes (inl p) q = refl
 passes (inr no) q = absurd (no q)
 
-decided-as : {P Q : Type 0} → (P → Q) → (Q → P) → P ⊎ (¬ P) → Q ⊎ (¬ Q)
-decided-as there back (inl p) = inl (there p)
-decided-as there back (inr no) = inr (λ q. no (back q))
+decided-as : {P Q : Type 0} → P ⊎ (¬ P) → (P → Q) → (Q → P) → Q ⊎ (¬ Q)
+decided-as (inl p) there back = inl (there p)
+decided-as (inr no) there back = inr (λ q. no (back q))
 
 both : {P Q : Type 0} → P ⊎ (¬ P) → Q ⊎ (¬ Q) → (P × Q) ⊎ (¬ (P × Q))
 both (inl p) (inl q) = inl (p, q)
@@ -62,10 +62,9 @@ meets-decided search key =
     let on-x = shares-decided (coordinate search.cube.corner 0 +ℤ pos (key.x * side)) side (coordinate search.area.min 0) (coordinate search.area.max 0) in
     let on-y = shares-decided (coordinate search.cube.corner 1 +ℤ pos (key.y * side)) side (coordinate search.area.min 1) (coordinate search.area.max 1) in
     let on-z = shares-decided (coordinate search.cube.corner 2 +ℤ pos (key.z * side)) side (coordinate search.area.min 2) (coordinate search.area.max 2) in
-    decided-as
+    decided-as (both on-x (both on-y on-z))
     (λ t. (t.0.0 ∷ t.1.0.0 ∷ t.1.1.0 ∷ [], record { x = t.0.1.0; y = t.1.0.1.0; z = t.1.1.1.0 }, record { x = t.0.1.1; y = t.1.0.1.1; z = t.1.1.1.1 }))
     (λ m. ((coordinate m.0 0, (m.1.x, m.2.x)), ((coordinate m.0 1, (m.1.y, m.2.y)), (coordinate m.0 2, (m.1.z, m.2.z)))))
-    (both on-x (both on-y on-z))
 
 depth-decided : (search : Search) (key : VoxelKey) → HasDepth search key ⊎ (¬ HasDepth search key)
 depth-decided search key =
