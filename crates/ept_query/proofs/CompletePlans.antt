@@ -29,7 +29,7 @@ use Rattle.ept_query.proofs.Readings.{some-is}
 use Rattle.ept_query.proofs.Laid.{IsLaid, nodes_of, size-at, node-at, at-node, each-laid, planned-laid, laid-planned, tile-laid}
 use Rattle.ept_query.proofs.Asked.{tile-once}
 use Rattle.ept_query.proofs.Completing.{output-laid}
-use Rattle.ept_query.proofs.Meeting.{is_yes, yes, passes, asked-decided}
+use Rattle.ept_query.proofs.Meeting.{is_so, holds, passes, asked-decided}
 
 -- ---- a tile has one list of points
 
@@ -78,7 +78,7 @@ module _ (read-back : FilesAreReadBack) (can-sample : PointsCanBeSampled) (kept 
     search = search_of kept area first last
 
     asked : Node → Bool
-    asked n = is_yes (asked-decided search n.0)
+    asked n = is_so (asked-decided search n.0)
 
     tiles : List Node
     tiles = filter asked (nodes_of kept points)
@@ -91,7 +91,7 @@ module _ (read-back : FilesAreReadBack) (can-sample : PointsCanBeSampled) (kept 
         (λ has. (
             let found = IsMember-filter asked (key, count) (nodes_of kept points) (IsMember-contains (key, count) tiles has) in
             let node = node-at kept points key count found.0 in
-            let wanted = yes (asked-decided search key) found.1 in
+            let wanted = holds (asked-decided search key) found.1 in
             subst (λ (n : ℕ). IsPlanned search files key n) (sym node.1) (laid-planned kept points files area first last laid key node.0 wanted.0 wanted.1))),
         (λ planned. (
             let node = planned-laid kept points files area first last laid key count planned in

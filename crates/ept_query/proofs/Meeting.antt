@@ -11,26 +11,26 @@ use Rattle.ept_query.specs.Search.{MeetsArea, HasDepth}
 
 -- ---- decisions
 
-pub is_yes : {P : Type 0} → P ⊎ (¬ P) → Bool
-is_yes (inl p) = true
-is_yes (inr no) = false
+pub is_so : {P : Type 0} → P ⊎ (¬ P) → Bool
+is_so (inl p) = true
+is_so (inr none) = false
 
-pub yes : {P : Type 0} (d : P ⊎ (¬ P)) → is_yes d ≡ true → P
-yes (inl p) is = p
-yes (inr no) is = absurd (false≢true is)
+pub holds : {P : Type 0} (d : P ⊎ (¬ P)) → is_so d ≡ true → P
+holds (inl p) is = p
+holds (inr none) is = absurd (false≢true is)
 
-pub passes : {P : Type 0} (d : P ⊎ (¬ P)) → P → is_yes d ≡ true
+pub passes : {P : Type 0} (d : P ⊎ (¬ P)) → P → is_so d ≡ true
 passes (inl p) q = refl
-passes (inr no) q = absurd (no q)
+passes (inr none) q = absurd (none q)
 
 decided-as : {P Q : Type 0} → P ⊎ (¬ P) → (P → Q) → (Q → P) → Q ⊎ (¬ Q)
 decided-as (inl p) there back = inl (there p)
-decided-as (inr no) there back = inr (λ q. no (back q))
+decided-as (inr none) there back = inr (λ q. none (back q))
 
 both : {P Q : Type 0} → P ⊎ (¬ P) → Q ⊎ (¬ Q) → (P × Q) ⊎ (¬ (P × Q))
 both (inl p) (inl q) = inl (p, q)
-both (inl p) (inr no) = inr (λ t. no t.1)
-both (inr no) q = inr (λ t. no t.0)
+both (inl p) (inr none) = inr (λ t. none t.1)
+both (inr none) q = inr (λ t. none t.0)
 
 -- ---- one axis
 
