@@ -51,9 +51,12 @@ module _ (has-plan : CompleteHasPlan) (has-tiles : CompleteHasTiles) (once : Til
 
   pub complete-served : (served : Served) × IsOpenTo files served
   unfolding sent nodes
-  complete-served = (sent, record {
-    done = whole.done;
-    file = λ name. refl;
-    plan = λ area first second ordered depths. (nodes area first second, refl, (has-plan kept points files whole area first second).1);
-    part = has-part;
-  })
+  complete-served = (
+    sent,
+    record {
+      done = whole.done;
+      file = λ name. refl;
+      plan = λ area first second ordered depths. (nodes area first second, refl, (has-plan kept points files whole area first second).1);
+      part = has-part;
+    },
+  )

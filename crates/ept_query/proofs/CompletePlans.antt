@@ -106,12 +106,15 @@ module _ (read-back : FilesAreReadBack) (can-sample : PointsCanBeSampled) (kept 
 
       pub has-plan : (nodes : List Node) × IsPlanFor area first last (record { area = area; tiles = nodes }) files
       unfolding search
-      has-plan = (tiles, record {
-        done = whole.done;
-        build = (kept, laid.built);
-        each = λ other built. subst (λ (k : Kept). EachIsThere (search_of k area first last) files) (one-build other built) (each-laid kept points files area first last laid);
-        tiles = λ other built. subst (λ (k : Kept). IsPlan (search_of k area first last) files tiles) (one-build other built) is-plan;
-      })
+      has-plan = (
+        tiles,
+        record {
+          done = whole.done;
+          build = (kept, laid.built);
+          each = λ other built. subst (λ (k : Kept). EachIsThere (search_of k area first last) files) (one-build other built) (each-laid kept points files area first last laid);
+          tiles = λ other built. subst (λ (k : Kept). IsPlan (search_of k area first last) files tiles) (one-build other built) is-plan;
+        },
+      )
 
     -- ---- its tiles
 

@@ -16,10 +16,12 @@ is_so (inl p) = true
 is_so (inr none) = false
 
 pub holds : {P : Type 0} (d : P ⊎ (¬ P)) → is_so d ≡ true → P
+unfolding is_so
 holds (inl p) is = p
 holds (inr none) is = absurd (false≢true is)
 
 pub passes : {P : Type 0} (d : P ⊎ (¬ P)) → P → is_so d ≡ true
+unfolding is_so
 passes (inl p) q = refl
 passes (inr none) q = absurd (none q)
 
