@@ -26,7 +26,7 @@ use Rattle.ept_query.specs.Plan.{IsBuiltWith, EachIsThere, IsPlanned, IsPlan}
 use Rattle.ept_query.specs.Planning.{IsPlanFor}
 use Rattle.ept_query.specs.CompleteLaws.{TileIsOfOne}
 use Rattle.ept_query.proofs.Readings.{some-is}
-use Rattle.ept_query.proofs.Laid.{IsLaid, nodes_of, size-at, node-at, at-node, each-laid, planned-laid, laid-planned, tile-laid}
+use Rattle.ept_query.proofs.Laid.{IsLaid, nodes_of, node-at, at-node, each-laid, planned-laid, laid-planned, tile-laid}
 use Rattle.ept_query.proofs.Asked.{tile-once}
 use Rattle.ept_query.proofs.Completing.{output-laid}
 use Rattle.ept_query.proofs.Meeting.{is_so, holds, passes, asked-decided}
