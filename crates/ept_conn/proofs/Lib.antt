@@ -9,3 +9,4 @@ pub mod Falling
 pub mod Conversing
 pub mod Unanswered
 pub mod Undamaged
+pub mod Complete

@@ -4,8 +4,10 @@ use Rattle.ept_base.specs.Files.{Files}
 use Rattle.ept_point.specs.declared.point.Point.{Point}
 use Rattle.ept_point.specs.Packed.{tile}
 use Rattle.ept_space.specs.declared.box3.Box3.{Box3}
+use Rattle.ept_config.specs.declared.kept.Kept.{Kept}
 use Rattle.ept_hier.specs.Hierarchy.{Node}
 use Rattle.ept_http.specs.QueryWords.{IsOrdered}
+use Rattle.ept_save.specs.Complete.{IsComplete}
 use Rattle.ept_save.specs.Done.{IsDone}
 use Rattle.ept_query.specs.Planning.{IsPlanFor}
 use Rattle.ept_query.specs.Damage.{HasTile}
@@ -38,3 +40,8 @@ IsServed files served = IsShutTo files served ⊎ IsOpenTo files served
 -- so there is what is sent of a folder whose done gate is not open
 abbrev pub ShutIsServed : Type 0
 ShutIsServed = (files : Files) → ¬ IsDone files → (served : Served) × IsServed files served
+
+-- and of a folder that is complete for some points
+abbrev pub CompleteIsServed : Type 0
+CompleteIsServed =
+    (kept : Kept) (points : List Point) (files : Files) → IsComplete kept points files → (served : Served) × IsOpenTo files served

@@ -1,8 +1,10 @@
 //! What holds of every list of calls. Each law is the contract of a function that does nothing.
 
-ghost use Rattle.ept_conn.specs.Served.{ShutIsServed};
+ghost use Rattle.ept_conn.specs.Served.{ShutIsServed, CompleteIsServed};
 ghost use Rattle.ept_conn.specs.SessionCalls.{SendsAnswers, EndsSo, ReadsAnswered, WorksUnanswered, OwesTheRest};
 ghost use Rattle.ept_conn.specs.Calls.{HoweverCut, AllAreGiven, TurnsAreThere, TurnsAreOne, JudgeGivesTurns, NextIsGiven, TurnsMayBeAsked};
+
+use ept_query::complete_law;
 
 /// Over any list of calls the turns given are, in order, the first turns of all the bytes fed, however these
 /// were cut; where none is due any more they are all of them.
@@ -23,7 +25,8 @@ pub fn one_list_of_turns_law()
 
 /// Over any list of calls of a session on one folder, what was sent and is to be sent now is what may be sent
 /// of the bytes fed: the answers to their turns, in order, as far as the session has come; and where it is at
-/// its end, what is sent at that end.
+/// its end, what is sent at that end. There is what is sent of a folder whose done gate is not open, and of one
+/// that is complete.
 pub fn session_law()
     ensures sends { SendsAnswers }
     ensures ends { EndsSo }
@@ -31,4 +34,7 @@ pub fn session_law()
     ensures works { WorksUnanswered }
     ensures owes { OwesTheRest }
     ensures shut { ShutIsServed }
-{}
+    ensures complete { CompleteIsServed }
+{
+    complete_law();
+}

@@ -73,7 +73,7 @@ filter-none test (x ∷ xs) none = by_test (test x) refl (filter-none test xs (�
     by_test false is rest = rest
 
 -- tiles of points are of no other points
-tile-once : (one two : List Point) → tile one ≡ tile two → one ≡ two
+pub tile-once : (one two : List Point) → tile one ≡ tile two → one ≡ two
 tile-once [] [] same = refl
 tile-once [] (q ∷ two) same = absurd (let size : 0 ≡ length (packed q ++ tile two) = ap (λ (w : List ℕ). length w) same in let long = length-append (packed q) (tile two) in let wide = length-packed q in omega (arith, size, long, wide))
 tile-once (p ∷ one) [] same = absurd (let size : length (packed p ++ tile one) ≡ 0 = ap (λ (w : List ℕ). length w) same in let long = length-append (packed p) (tile one) in let wide = length-packed p in omega (arith, size, long, wide))

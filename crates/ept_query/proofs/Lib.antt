@@ -15,3 +15,5 @@ mod Asked
 mod Calling
 mod Completing
 mod Whole
+mod Meeting
+mod CompletePlans

@@ -11,3 +11,4 @@ pub mod Refusals
 pub mod Planning
 pub mod Answers
 pub mod Complete
+pub mod CompleteLaws

@@ -4,6 +4,7 @@
 mod asking;
 mod form;
 mod hierarchy;
+mod laws;
 mod notes;
 mod plan;
 mod planning;
@@ -16,6 +17,7 @@ mod walk;
 mod writing;
 
 pub use asking::query;
+pub use laws::complete_law;
 pub use plan::QueryPlan;
 pub use planning::query_plan;
 pub use query_error::{QueryError, QueryFile};
