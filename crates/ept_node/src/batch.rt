@@ -14,11 +14,7 @@ use ept_point::{Memory, Point};
 use ept_sample::batch_law;
 
 /// Lets points arrive, one after another. After `Memory` the points of both are as they were.
-pub(crate) fn take_in(
-    grid: &mut Grid,
-    points: &[Point],
-    out: &mut Outgoing,
-) -> Result<(), Memory>
+pub(crate) fn take_in(grid: &mut Grid, points: &[Point], out: &mut Outgoing) -> Result<(), Memory>
     requires inside { AllInBox grid.old.rules.cube grid.old.key points.now }
     ensures grid_unchanged { OnErr result (bare grid.new ≡ bare grid.old) }
     ensures out_unchanged { OnErr result ((o : ℕ) → points_at out.new o ≡ points_at out.old o) }
