@@ -1,10 +1,25 @@
 //! A trial: generated scans, and the build of their octree in memory.
 
-ghost use Rattle.std.specs.Prelude.{◌≤◌, IfOk};
+ghost use Rattle.std.specs.Prelude.{◌≡◌, ◌≤◌, Some, IfOk, OnOk};
+ghost use Rattle.ept_base.specs.Moves.{IsSettled};
+ghost use Rattle.ept_sure.specs.Objects.{no_files, shelf_files_of, store_files_of, store_images_of};
 ghost use Rattle.ept_trial.specs.Trials.{IsTrialOf};
+ghost use Rattle.ept_trial.specs.Scans.{HasScans};
+ghost use Rattle.ept_trial.specs.Settings.{IsTrialConfig};
+ghost use Rattle.ept_trial.specs.Results.{HasTrial};
 
+use crate::settings::{config_of, shelf_of};
+use crate::tallying::tallied;
 use crate::trial::Trial;
+use ept_base::OpenGate;
+use ept_build::{BuildError, build};
+use ept_config::Config;
+use ept_few::few_nodes_law;
+use ept_meta::output_once_law;
 use ept_point::Memory;
+use ept_save::sound_law;
+use ept_scan::{ascending_law, placed_law};
+use ept_sure::{SureRoom, SureShelf, SureStore};
 use std::alloc::Global;
 
 /// Builds the octree of the generated scans of so many points in memory, with so many threads and, while these
@@ -27,5 +42,38 @@ pub fn build_trial(
     requires cache { cache ≤ 65536 }
     ensures found { IfOk result (IsTrialOf points) }
 {
-    Err(Memory)
+    let config = config_of(alloc, workers, cache)?;
+    let mut shelf = shelf_of(alloc, points)?;
+    let mut store = SureStore::new(alloc);
+    build_files(alloc, &config, &mut shelf, &mut store, points)?;
+    tallied(alloc, &mut store, points)
+}
+
+// Builds the files of a trial. Over devices that never fail, of scans that are good and whose octree has few enough
+// nodes, a build is refused for want of memory alone.
+fn build_files(
+    alloc: Global,
+    config: &Config,
+    shelf: &mut SureShelf,
+    store: &mut SureStore,
+    points: u32,
+) -> Result<(), Memory>
+    requires few { points ≤ 10000000 }
+    requires config { IsTrialConfig config.now }
+    requires scans { HasScans points (shelf_files_of shelf.old) }
+    requires empty { store_files_of store.old ≡ no_files }
+    requires settled { IsSettled (Some (store_files_of store.old)) (store_images_of store.old) }
+    ensures { OnOk result (HasTrial points (store_files_of store.new)) }
+{
+    sound_law();
+    ascending_law();
+    placed_law();
+    output_once_law();
+    few_nodes_law();
+    let mut room = SureRoom::new(alloc);
+    match build(alloc, config, shelf, store, &mut room, &OpenGate) {
+        Ok(_) => Ok(()),
+        Err(BuildError::Memory) => Err(Memory),
+        Err(_) => unreachable!(),
+    }
 }

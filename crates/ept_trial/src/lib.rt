@@ -2,6 +2,9 @@
 #![tactic(auto)]
 
 mod building;
+mod scans;
+mod settings;
+mod tallying;
 mod trial;
 
 pub use building::build_trial;

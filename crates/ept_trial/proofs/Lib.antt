@@ -1,0 +1,10 @@
+mod States
+mod Records
+mod Headers
+mod Fields
+mod Inputs
+mod Readings
+mod Wholes
+mod Refusals
+mod Tallies
+mod Nodes
