@@ -69,7 +69,10 @@ pub record KeepsPlaces (shift : Shift) : Type 0 where
   pub by_is : shift.by ≡ pos 0 ∷ pos 0 ∷ pos 0 ∷ []
 
 stored-same : (raw factor by : ℤ) → factor ≡ pos 1 → by ≡ pos 0 → (raw *ℤ factor) +ℤ by ≡ raw
-stored-same raw factor by one none = omega (arith, ints, one, none)
+stored-same raw factor by one none = (λ i. (raw *ℤ one i) +ℤ none i) ∙ itself raw
+  where
+    itself : (z : ℤ) → (z *ℤ pos 1) +ℤ pos 0 ≡ z
+    itself z = omega (arith, ints)
 
 module _ (shift : Shift) (keeps : KeepsPlaces shift) (at i : ℕ) where
   x-stored : coordinate shift (record_bytes at i) 0 ≡ pos (drawn (after at) 100000)
@@ -89,10 +92,10 @@ module _ (shift : Shift) (keeps : KeepsPlaces shift) (at i : ℕ) where
   in-units out = by-axis out.0 out.1 out.2
     where
       by-axis : (axis : ℕ) → axis < 3 → (FitsSigned w32 (coordinate shift (record_bytes at i) axis) → ⊥) → ⊥
-      by-axis zero within no = no (fits-small _ _ (drawn-small (after at) 100000 (omega arith)) x-stored)
-      by-axis (suc zero) within no = no (fits-small _ _ (drawn-small (after (after at)) 100000 (omega arith)) y-stored)
-      by-axis (suc (suc zero)) within no = (let small = drawn-small (after (after (after at))) 1000 (omega arith) in no (fits-small _ _ (omega (arith, small)) z-stored))
-      by-axis (suc (suc (suc n))) within no = absurd (omega (arith, within))
+      by-axis zero within refuse = refuse (fits-small _ _ (drawn-small (after at) 100000 (omega arith)) x-stored)
+      by-axis (suc zero) within refuse = refuse (fits-small _ _ (drawn-small (after (after at)) 100000 (omega arith)) y-stored)
+      by-axis (suc (suc zero)) within refuse = (let small = drawn-small (after (after (after at))) 1000 (omega arith) in refuse (fits-small _ _ (omega (arith, small)) z-stored))
+      by-axis (suc (suc (suc n))) within refuse = absurd (omega (arith, within))
 
   -- the point lies within the bounds of a trial
   between-small : (n most : ℕ) (z : ℤ) → n < most + 1 → z ≡ pos n → IsBetween (pos 0) (pos most) z

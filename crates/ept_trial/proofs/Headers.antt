@@ -15,7 +15,7 @@ unfolding header_bytes
 length-header records = refl
 
 -- the first bytes of a file
-pub head : ℕ → List ℕ → List ℕ
+unfoldable pub head : ℕ → List ℕ → List ℕ
 head records rest = take 375 (header_bytes records ++ rest)
 
 pub head-long : (records : ℕ) (rest : List ℕ) → 227 ≤ length (head records rest)
@@ -57,7 +57,7 @@ head-sound records rest Version (inr (inr h)) = omega (arith, h)
 head-sound records rest HeaderSize (inl h) = omega (arith, h)
 head-sound records rest HeaderSize (inr h) = omega (arith, h, head-long records rest)
 head-sound records rest Compressed h = h refl
-head-sound records rest Format h = h tt
+head-sound records rest Format h = h refl
 head-sound records rest RecordLength h = omega (arith, h)
 head-sound records rest PointOffset h = omega (arith, h)
 head-sound records rest Expect h = absurd h

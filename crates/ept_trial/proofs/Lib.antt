@@ -8,3 +8,4 @@ mod Wholes
 mod Refusals
 mod Tallies
 mod Nodes
+mod Outcomes

@@ -6,7 +6,7 @@ use Rattle.ept_trial.specs.Trials.{state}
 use Rattle.ept_trial.specs.Scans.{record_bytes, first_records}
 
 -- the record of the point behind so many of an input
-pub record-of : ℕ → ℕ → ℕ → List ℕ
+abbrev pub record-of : ℕ → ℕ → ℕ → List ℕ
 record-of count input n = record_bytes (state count (3 * (4 * n + input))) (4 * n + input)
 
 pub length-record : (at i : ℕ) → length (record_bytes at i) ≡ 20
@@ -29,7 +29,6 @@ take-at : (n : ℕ) (xs ys : List ℕ) → length xs ≡ n → take n (xs ++ ys)
 take-at n xs ys is = subst (λ (m : ℕ). take m (xs ++ ys) ≡ xs) is (take-append_seam xs ys)
 
 pub record-at : (count input n k : ℕ) (more : List ℕ) → k < n → take 20 (drop (20 * k) (first_records count input n ++ more)) ≡ record-of count input k
-unfolding record-of
 record-at count input zero k more within = absurd (omega (arith, within))
 record-at count input (suc n) k more within =
     let r : List ℕ = record_bytes (state count (3 * (4 * n + input))) (4 * n + input) in

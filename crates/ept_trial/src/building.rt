@@ -17,6 +17,7 @@ use ept_config::Config;
 use ept_few::few_nodes_law;
 use ept_meta::output_once_law;
 use ept_point::Memory;
+use ept_sample::id_law;
 use ept_save::sound_law;
 use ept_scan::{ascending_law, placed_law};
 use ept_sure::{SureRoom, SureShelf, SureStore};
@@ -66,6 +67,7 @@ fn build_files(
     ensures { OnOk result (HasTrial points (store_files_of store.new)) }
 {
     sound_law();
+    id_law();
     ascending_law();
     placed_law();
     output_once_law();

@@ -5,6 +5,8 @@ mod building;
 mod scans;
 mod settings;
 mod tallying;
+#[cfg(test)]
+mod tests;
 mod trial;
 
 pub use building::build_trial;
