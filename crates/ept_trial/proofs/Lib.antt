@@ -2,6 +2,7 @@ mod States
 mod Records
 mod Headers
 mod Fields
+mod Shelves
 mod Inputs
 mod Readings
 mod Wholes
@@ -9,3 +10,4 @@ mod Refusals
 mod Tallies
 mod Nodes
 mod Outcomes
+mod Faults

@@ -1,10 +1,11 @@
 -- The nodes of a trial: the plan of everything has each, and each has its tile.
-use Rattle.std.proofs.Common.{◌≡◌, ◌∙◌, ◌↔◌, ℕ, zero, suc, ℤ, pos, ◌+◌, ◌-◌, ◌*◌, ◌^◌, ◌<◌, ◌≤◌, List, [], ◌∷◌, ◌++◌, Some, Option, length, map, get_or, refl, sym, ap, subst, arith, inl, inr, append_assoc, true}
+use Rattle.std.proofs.Common.{◌≡◌, ◌∙◌, ◌↔◌, ℕ, zero, suc, ℤ, pos, ◌+◌, ◌-◌, ◌*◌, ◌^◌, ◌<◌, ◌≤◌, List, [], ◌∷◌, ◌++◌, Some, Option, Result, Ok, Err, length, map, get_or, refl, sym, ap, subst, arith, inl, inr, append_assoc, true}
 use Rattle.std.specs.Prelude.{Contains, IsTrue, unwrap_or}
 use Rattle.std.specs.List.{All, flat_map}
 use Rattle.std.proofs.lemmas.Int.{ints}
 use Rattle.std.proofs.lemmas.Nat.{pow_pos}
-use Rattle.std.specs.Prelude.{◌+ℤ◌}
+use Rattle.std.specs.Prelude.{◌+ℤ◌, ◌%◌, sum_by, IfOk}
+use lib.Count.{count_leading_zeros}
 use Rattle.ept_base.specs.Files.{Files, SameFiles}
 use Rattle.ept_point.specs.declared.point.Point.{Point}
 use Rattle.ept_point.specs.Packed.{tile}
@@ -32,8 +33,9 @@ use Rattle.ept_meta.specs.Output.{File, IsOutput, rules_of, tile_name, tile_file
 use Rattle.ept_query.specs.Search.{search_of, MeetsArea, HasDepth}
 use Rattle.ept_query.specs.Complete.{IsWholePlan}
 use Rattle.ept_save.specs.Complete.{IsComplete}
-use Rattle.ept_trial.specs.Trials.{trial_rules, trial_bounds}
-use Rattle.ept_trial.specs.Results.{bytes_at}
+use Rattle.ept_trial.specs.declared.trial.Trial.{Trial}
+use Rattle.ept_trial.specs.Trials.{trial_rules, trial_bounds, greatest, IsTrialOf}
+use Rattle.ept_trial.specs.Results.{bytes_at, HasTrial, IsTallyOf}
 
 -- ---- members
 
@@ -54,7 +56,7 @@ member-contains (y ∷ ys) x (inr m) =
 
 -- ---- the whole cube of a trial
 
-pub whole : Box3
+abbrev pub whole : Box3
 whole = record { min = pos 0 ∷ pos 0 ∷ pos 0 ∷ []; max = pos 131071 ∷ pos 131071 ∷ pos 131071 ∷ [] }
 
 -- an index of a depth times the side of a box lies in the cube
@@ -91,7 +93,7 @@ module _ (kept : Kept) (points : List Point) (rules_are : rules_of kept ≡ tria
   cube-is = ap (λ (r : Rules). r.cube) rules_are
 
   meets-box : (cube : OctreeCube) (key : VoxelKey) → cube ≡ trial_rules.cube → IsKey key → key.depth ≤ 10 → (at : Place) × InBox cube key at × IsIn whole at
-  unfolding InBox cube_of whole
+  unfolding InBox cube_of count_leading_zeros
   meets-box cube key is spelled shallow =
       let x = axis-box key.x key.depth shallow spelled.x_in in
       let y = axis-box key.y key.depth shallow spelled.y_in in
@@ -102,7 +104,7 @@ module _ (kept : Kept) (points : List Point) (rules_are : rules_of kept ≡ tria
       record { x = x.1; y = y.1; z = z.1 })
 
   trial-depth : trial_rules.cube.depth ≡ 10
-  unfolding cube_of
+  unfolding cube_of count_leading_zeros
   trial-depth = refl
 
   module _ (the_keys : KeysAreTheNodes) (ascend : KeysAscend) (have_keys : NodesHaveKeys) (shallow : NodesAreShallow) (can : CanBeSampled (rules_of kept) points) where
@@ -156,3 +158,22 @@ module _ (kept : Kept) (points : List Point) (rules_are : rules_of kept ≡ tria
     tiles-are files now complete same =
         subst (λ (r : Rules). flat_map (bytes_at now) (node_keys r points) ≡ flat_map (λ (t : Tile). tile t.points) (map (tile_at r points) (node_keys r points))) rules_are
         (bytes-same (rules_of kept) now (node_keys (rules_of kept) points) (λ key m. same (tile_name key) ∙ tile-there files complete.output complete.is_output complete.there key m))
+
+-- ---- what the tally of all nodes is
+
+module _ (count : ℕ) (files now : Files) (h : HasTrial count files) (same : SameFiles files now) (the_keys : KeysAreTheNodes) (ascend : KeysAscend) (have_keys : NodesHaveKeys) (shallow : NodesAreShallow) (can : CanBeSampled (rules_of h.kept) h.points) (keys : List VoxelKey) (keys_are : keys ≡ node_keys trial_rules h.points) where
+  trial-of : (t : Trial) → t.points ≡ count → IsTallyOf now keys t → IsTrialOf count t
+  trial-of t number tally = record {
+    points = h.points;
+    are = h.are;
+    points_are = number;
+    nodes_are = tally.nodes_are ∙ ap (λ (ks : List VoxelKey). length ks) keys_are;
+    depth_is = tally.depth_is ∙ ap (λ (ks : List VoxelKey). greatest (map (λ (k : VoxelKey). k.depth) ks)) keys_are;
+    sum_is =
+        tally.sum_is ∙ ap (λ (ks : List VoxelKey). sum_by (λ (byte : ℕ). byte) (flat_map (bytes_at now) ks) % 2 ^ 64) keys_are
+        ∙ ap (λ (w : List ℕ). sum_by (λ (byte : ℕ). byte) w % 2 ^ 64) (tiles-are h.kept h.points h.rules_are the_keys ascend have_keys shallow can files now h.complete same);
+  }
+
+  pub trial-found : {E : Type 0} (r : Result Trial E) → IfOk r (λ t. t.points ≡ count) → IfOk r (IsTallyOf now keys) → IfOk r (IsTrialOf count)
+  trial-found (Ok t) number tally = trial-of t number tally
+  trial-found (Err e) number tally = tt

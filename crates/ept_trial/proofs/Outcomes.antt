@@ -1,7 +1,6 @@
 -- What a build of a trial leaves, and why it is refused.
 use Rattle.std.proofs.Common.{◌≡◌, ◌∙◌, ℕ, ◌≤◌, List, Option, Some, None, Result, Ok, Err, refl, sym, ap, subst, arith}
 use Rattle.std.specs.Prelude.{IfOk, IfErr}
-use Rattle.ept_base.specs.Causes.{HasCauseOf}
 use Rattle.ept_base.specs.Files.{Files, Tells}
 use Rattle.ept_base.specs.Moves.{IsSettled}
 use Rattle.ept_sample.specs.IdLaws.{AscendingIsOrdered}
@@ -33,10 +32,6 @@ begins all files may_leave empty is settled = record {
   settled = settled;
   sound = empty all;
 }
-
--- a device whose count stays 0 has not failed
-pub no-fault : (e : BuildError) (result : Result Summary BuildError) → HasCauseOf e 0 0 result → result ≡ Err e → ⊥
-no-fault e result cause is = (let rose = cause.failed is in omega (arith, rose))
 
 module _ (count : ℕ) (few : count ≤ 10000000) (all : Files) (scans : HasScans count all) (config : Config) (is : IsTrialConfig config) where
   built-none : (files : Files) (summary : Summary) (b : IsBuilt all config no_files summary files) → HasPoints all config None b.kept b.points → HasTrial count files

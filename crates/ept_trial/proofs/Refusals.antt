@@ -1,6 +1,7 @@
 -- Of a trial a build is refused for want of memory alone, where no device fails; and the rules of its sampling.
 use Rattle.std.proofs.Common.{◌≡◌, ◌∙◌, ◌⊎◌, ◌≢◌, ⊎_elim, ℕ, ◌+◌, ◌<◌, ◌≤◌, List, Option, Some, None, length, refl, sym, ap, subst, arith, inl, inr}
 use Rattle.std.specs.Prelude.{All}
+use lib.Count.{count_leading_zeros}
 use Rattle.ept_base.specs.Files.{Files}
 use Rattle.ept_point.specs.declared.point.Point.{Point}
 use Rattle.ept_point.specs.Order.{IsAscending}
@@ -33,7 +34,7 @@ use Rattle.ept_trial.proofs.Wholes.{scan-are}
 
 -- the rules of a trial allow few nodes
 few-nodes : most_nodes trial_rules 10000000 ≤ 65536
-unfolding cube_of
+unfolding cube_of count_leading_zeros
 few-nodes = omega arith
 
 same-bounds : (limits : Option Bounds) (points : List Point) (bounds : Bounds) → limits ≡ Some trial_bounds → AreBounds limits points bounds → bounds ≡ trial_bounds

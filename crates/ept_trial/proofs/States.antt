@@ -1,5 +1,5 @@
 -- The states of the generator, step by step.
-use Rattle.std.proofs.Common.{◌≡◌, ◌∙◌, ℕ, zero, suc, ◌+◌, refl, sym, ap, arith}
+use Rattle.std.proofs.Common.{◌≡◌, ◌∙◌, ℕ, zero, suc, ◌+◌, ◌*◌, refl, sym, ap, arith}
 use Rattle.ept_num.specs.Generator.{after}
 use Rattle.ept_trial.specs.Trials.{state}
 
@@ -12,3 +12,11 @@ state-add first a (suc b) =
 
 pub state-next : (first a b : ℕ) → b ≡ suc a → state first b ≡ after (state first a)
 state-next first a b is = ap (λ (n : ℕ). state first n) is
+
+-- twelve steps lead from the record of a point to that of the fourth point behind it
+pub state-fourth : (count input n at mid end : ℕ) → at ≡ state count (3 * (4 * n + input)) → mid ≡ state at 3 → end ≡ state mid 9 → end ≡ state count (3 * (4 * (n + 1) + input))
+state-fourth count input n at mid end is now then =
+    let m : ℕ = 3 * (4 * n + input) in
+    let sum : 3 * (4 * n + input) + 3 + 9 ≡ 3 * (4 * (n + 1) + input) = omega arith in
+    then ∙ ap (λ (s : ℕ). state s 9) (now ∙ ap (λ (s : ℕ). state s 3) is ∙ state-add count (3 * (4 * n + input)) 3)
+    ∙ state-add count (3 * (4 * n + input) + 3) 9 ∙ ap (λ (k : ℕ). state count k) sum

@@ -2,6 +2,7 @@
 
 ghost use Rattle.std.specs.Prelude.{◌≡◌, ◌≤◌, Some, IfOk, OnOk};
 ghost use Rattle.ept_base.specs.Moves.{IsSettled};
+ghost use Rattle.ept_build.specs.declared.error.BuildError.{BuildError};
 ghost use Rattle.ept_sure.specs.Objects.{no_files, shelf_files_of, store_files_of, store_images_of};
 ghost use Rattle.ept_trial.specs.Trials.{IsTrialOf};
 ghost use Rattle.ept_trial.specs.Scans.{HasScans};
@@ -75,7 +76,16 @@ fn build_files(
     let mut room = SureRoom::new(alloc);
     match build(alloc, config, shelf, store, &mut room, &OpenGate) {
         Ok(_) => Ok(()),
-        Err(BuildError::Memory) => Err(Memory),
-        Err(_) => unreachable!(),
+        Err(error) => Err(only_memory(error)),
+    }
+}
+
+// The one refusal that there is.
+fn only_memory(error: BuildError) -> Memory
+    requires { error ≡ BuildError.Memory }
+{
+    match error {
+        BuildError::Memory => Memory,
+        _ => unreachable!(),
     }
 }

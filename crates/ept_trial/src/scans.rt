@@ -1,6 +1,7 @@
 //! The generated scans as LAS files (LAS 1.2, point data record format 0).
 
 ghost use Rattle.std.specs.Prelude.{◌≡◌, ◌≤◌, ◌<◌, ◌+◌, ◌*◌, ◌++◌, IfOk, OnOk};
+ghost use Rattle.byteorder.specs.Endian.{little_bytes};
 ghost use Rattle.ept_trial.specs.Trials.{state};
 ghost use Rattle.ept_trial.specs.Scans.{drawn, record_bytes, header_bytes, records_of, scan_bytes};
 
@@ -68,12 +69,25 @@ fn append_record(out: &mut Vec<u8>, at: u64, number: u32) -> Result<u64, Memory>
     let x = lcg(at);
     let y = lcg(x);
     let z = lcg(y);
-    out.extend_from_slice(&coordinate(x, WIDE).to_le_bytes())?;
-    out.extend_from_slice(&coordinate(y, WIDE).to_le_bytes())?;
-    out.extend_from_slice(&coordinate(z, HIGH).to_le_bytes())?;
-    out.extend_from_slice(&((number % 65_536) as u16).to_le_bytes())?;
-    out.extend_from_slice(&[0; 6])?;
+    append_u32(out, coordinate(x, WIDE))?;
+    append_u32(out, coordinate(y, WIDE))?;
+    append_u32(out, coordinate(z, HIGH))?;
+    append(out, &((number % 65_536) as u16).to_le_bytes())?;
+    append(out, &[0; 6])?;
     Ok(z)
+}
+
+fn append(out: &mut Vec<u8>, bytes: &[u8]) -> Result<(), Memory>
+    ensures { OnOk result (out.new.items ≡ out.old.items ++ bytes.now) }
+{
+    out.extend_from_slice(bytes)?;
+    Ok(())
+}
+
+fn append_u32(out: &mut Vec<u8>, number: u32) -> Result<(), Memory>
+    ensures { OnOk result (out.new.items ≡ out.old.items ++ little_bytes 4 number) }
+{
+    append(out, &number.to_le_bytes())
 }
 
 // The number below another one that a state gives.

@@ -1,7 +1,8 @@
 //! The configuration of a trial, and its scans on a shelf.
 
-ghost use Rattle.std.specs.Prelude.{◌≡◌, ◌≤◌, true, IfOk, string_bytes};
-ghost use Rattle.ept_config.specs.Texts.{is_path};
+ghost use Rattle.std.specs.Prelude.{◌≡◌, ◌≤◌, true, length, IfOk, string_bytes};
+ghost use Rattle.std.specs.List.{list_all};
+ghost use Rattle.ept_config.specs.Texts.{is_path, is_shown};
 ghost use Rattle.ept_sure.specs.Objects.{shelf_files_of};
 ghost use Rattle.ept_trial.specs.Scans.{HasScans, scan_bytes};
 ghost use Rattle.ept_trial.specs.Settings.{IsTrialInput, AreTrialInputs, IsTrialConfig};
@@ -61,9 +62,12 @@ fn inputs(alloc: Global) -> Result<List<Input>, Memory>
 
 // The input of a path.
 fn input(alloc: Global, path: &str) -> Result<Input, Memory>
-    requires { is_path path.now ≡ true }
+    requires shown { list_all is_shown path.now ≡ true }
+    requires some { 1 ≤ length path.now }
+    requires short { length path.now ≤ 4096 }
     ensures { IfOk result (IsTrialInput path.now) }
 {
+    path_law(path);
     let text = String::from_str(alloc, path)?;
     let path = Text::of(text);
     Ok(Input {
@@ -73,6 +77,14 @@ fn input(alloc: Global, path: &str) -> Result<Input, Memory>
         expect: None,
     })
 }
+
+// A text without control bytes that is not empty nor long is a path.
+fn path_law(path: &str)
+    requires shown { list_all is_shown path.now ≡ true }
+    requires some { 1 ≤ length path.now }
+    requires short { length path.now ≤ 4096 }
+    ensures { is_path path.now ≡ true }
+{}
 
 /// A shelf that has the generated scans of so many points.
 pub(crate) fn shelf_of(alloc: Global, count: u32) -> Result<SureShelf, Memory>

@@ -4,6 +4,7 @@ ghost use Rattle.std.specs.Prelude.{◌≡◌, ◌+◌, ◌%◌, ◌^◌, sum_by
 ghost use Rattle.ept_base.specs.Files.{SameFiles};
 ghost use Rattle.ept_sample.specs.Nodes.{node_keys};
 ghost use Rattle.ept_hier.specs.Hierarchy.{keys_of};
+ghost use Rattle.ept_query.specs.declared.query_error.QueryError.{QueryError};
 ghost use Rattle.ept_sure.specs.Objects.{store_files_of};
 ghost use Rattle.ept_trial.specs.Trials.{IsTrialOf, trial_rules};
 ghost use Rattle.ept_trial.specs.Results.{HasTrial, IsTallyOf, bytes_at};
@@ -49,8 +50,17 @@ fn nodes(alloc: Global, store: &mut SureStore, points: u32) -> Result<QueryPlan,
     };
     match query_plan(alloc, store, &area, (0, 32)) {
         Ok(plan) => Ok(plan),
-        Err(QueryError::Memory) => Err(Memory),
-        Err(_) => unreachable!(),
+        Err(error) => Err(only_memory(error)),
+    }
+}
+
+// The one refusal that there is.
+fn only_memory(error: QueryError) -> Memory
+    requires { error ≡ QueryError.Memory }
+{
+    match error {
+        QueryError::Memory => Memory,
+        _ => unreachable!(),
     }
 }
 
