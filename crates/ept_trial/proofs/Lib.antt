@@ -1,0 +1,13 @@
+mod States
+mod Records
+mod Headers
+mod Fields
+mod Shelves
+mod Inputs
+mod Readings
+mod Wholes
+mod Refusals
+mod Tallies
+mod Nodes
+mod Outcomes
+mod Faults

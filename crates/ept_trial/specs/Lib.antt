@@ -1,0 +1,4 @@
+pub mod Trials
+pub mod Scans
+pub mod Settings
+pub mod Results

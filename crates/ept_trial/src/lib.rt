@@ -1,0 +1,13 @@
+//! Trials: an octree of generated scans, built in memory, and what it comes to.
+#![tactic(auto)]
+
+mod building;
+mod scans;
+mod settings;
+mod tallying;
+#[cfg(test)]
+mod tests;
+mod trial;
+
+pub use building::build_trial;
+pub use trial::Trial;
