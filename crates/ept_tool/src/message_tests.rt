@@ -2,11 +2,11 @@
 
 use crate::differences::{Differing, difference_sentence};
 use crate::messages::message;
-use crate::run::run;
 use crate::sentences::Names;
 use crate::tests::{at, file, las, texts};
 use ept_base::OpenGate;
 use ept_mem::{MemRoom, MemShelf, MemSink, MemStore};
+use ept_run::run;
 use std::alloc::{AllocError, Global};
 use std::process::Abort;
 use std::test::Fail;

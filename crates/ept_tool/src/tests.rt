@@ -1,8 +1,8 @@
 //! Runs over devices in memory: the words, the configuration, and the headers of LAS files.
 
-use crate::run::run;
 use ept_base::OpenGate;
 use ept_mem::{MemRoom, MemShelf, MemSink, MemStore};
+use ept_run::run;
 use std::alloc::{AllocError, Global};
 use std::process::Abort;
 use std::test::Fail;
