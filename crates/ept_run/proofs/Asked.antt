@@ -30,7 +30,7 @@ build_or_info words a b c is other = first (sym other.words_are ∙ is.words_are
     first : codes "info" ∷ c ∷ [] ≡ codes "build" ∷ a ∷ b ∷ [] → ⊥
     first same = cc
 
-told_as : {X : Type 0} (P Q : X → Type 0) (told : Option X) → ((x : X) → P x → Q x) → Tells P told → Tells Q told
+pub told_as : {X : Type 0} (P Q : X → Type 0) (told : Option X) → ((x : X) → P x → Q x) → Tells P told → Tells Q told
 told_as P Q None step p = tt
 told_as P Q (Some x) step p = step x p
 
@@ -38,11 +38,11 @@ pub told_always : {X : Type 0} (Q : X → Type 0) (told : Option X) → ((x : X)
 told_always Q None holds = tt
 told_always Q (Some x) holds = holds x
 
-ok_weaker : {A E : Type 0} (P Q : A → Type 0) (r : Result A E) → ((a : A) → P a → Q a) → IfOk r P → IfOk r Q
+pub ok_weaker : {A E : Type 0} (P Q : A → Type 0) (r : Result A E) → ((a : A) → P a → Q a) → IfOk r P → IfOk r Q
 ok_weaker P Q (Ok a) step p = step a p
 ok_weaker P Q (Err e) step p = tt
 
-err_weaker : {A E : Type 0} (P Q : E → Type 0) (r : Result A E) → ((e : E) → P e → Q e) → IfErr r P → IfErr r Q
+pub err_weaker : {A E : Type 0} (P Q : E → Type 0) (r : Result A E) → ((e : E) → P e → Q e) → IfErr r P → IfErr r Q
 err_weaker P Q (Ok a) step p = tt
 err_weaker P Q (Err e) step p = step e p
 
@@ -107,13 +107,13 @@ module _ (words : List (List ℕ)) (path : List ℕ) (is : IsInfo words path) wh
         → Carries words files Begins new shelf store same answer
     info_carries files Begins new shelf store same unchanged said told of refused sources comes = record {
       is_answer = ok_weaker (λ line. (header : Header) × (line.items ≡ header_text header)) (λ line. IsAnswer words line.items) answer
-          (λ line text. inr (record { path = path; words_are = is; holds = text })) said;
+          (λ line text. inr (inl (record { path = path; words_are = is; holds = text }))) said;
       done = ok_weaker (λ line. Tells (λ all. HasTold all path line.items) files) (λ line. Tells (λ all. IsDone words all Begins line.items new) files) answer
-          (λ line has. told_as (λ all. HasTold all path line.items) (λ all. IsDone words all Begins line.items new) files (λ all h. inr (record { path = path; words_are = is; holds = h })) has) told;
+          (λ line has. told_as (λ all. HasTold all path line.items) (λ all. IsDone words all Begins line.items new) files (λ all h. inr (inl (record { path = path; words_are = is; holds = h }))) has) told;
       named = err_weaker IsOfHeader (λ r. r ≢ Usage) answer (λ r o. (named_of r o).0) of;
       refused = err_weaker (λ r. Tells (λ all. InfoIsRefused all path r) files) (λ r. Tells (λ all. IsRefused words all Begins r) files) answer
-          (λ r why. told_as (λ all. InfoIsRefused all path r) (λ all. IsRefused words all Begins r) files (λ all h. inr (inr (record { path = path; words_are = is; holds = h }))) why) refused;
-      lacks = told_always (λ all. IsRefused words all Begins Memory) files (λ all. inr (inr (record { path = path; words_are = is; holds = tt })));
+          (λ r why. told_as (λ all. InfoIsRefused all path r) (λ all. IsRefused words all Begins r) files (λ all h. inr (inr (inl (record { path = path; words_are = is; holds = h })))) why) refused;
+      lacks = told_always (λ all. IsRefused words all Begins Memory) files (λ all. inr (inr (inl (record { path = path; words_are = is; holds = tt }))));
       sources = sources;
       stores = λ fault. absurd (no_store answer of fault);
       early = err_weaker IsOfHeader (λ r. IsEarly r → same) answer (λ r o early. unchanged) of;

@@ -1,5 +1,5 @@
 -- The words of a query are those of no other command, and what its status says.
-use Rattle.std.proofs.Common.{◌≡◌, ◌≢◌, ◌⊎◌, inl, inr, ℕ, List, [], ◌∷◌, Option, Ok, Err, get_or, ap, refl, sym, ◌∙◌, subst, arith}
+use Rattle.std.proofs.Common.{◌≡◌, ◌≢◌, ◌⊎◌, inl, inr, ℕ, List, [], ◌∷◌, Option, Ok, Err, ap, refl, sym, ◌∙◌, subst, arith}
 use Rattle.std.specs.Prelude.{Result, String, codes, string_bytes, length}
 use Rattle.std.specs.declared.alloc.Global.{Global}
 use Rattle.std.proofs.lemmas.List.{length-map}
@@ -10,7 +10,7 @@ use Rattle.ept_http.specs.Laws.{TextHasOneBox, TextHasOneRange}
 use Rattle.ept_query.specs.declared.query_error.QueryError.{QueryError}
 use Rattle.ept_query.specs.declared.query_error.QueryError.TheVariants.{NotComplete, StoreFault, Damaged, SinkFault, Memory}
 use Rattle.ept_run.specs.declared.refusal.Refusal.{Refusal}
-use Rattle.ept_run.specs.Words.{bytes_of, IsBuild, IsInfo, IsQuery, IsLater, IsUsage}
+use Rattle.ept_run.specs.Words.{bytes_of, IsBuild, IsInfo, IsQuery, IsUsage}
 use Rattle.ept_run.specs.Answers.{AsksInfo, AsksQuery, IsFaulty}
 use Rattle.ept_run.specs.Queries.{query_status, EndsQuery}
 
@@ -29,15 +29,6 @@ module _ (words : List (List ℕ)) (out : List ℕ) (area : Box3) (first last : 
       apart : codes "info" ∷ las ∷ [] ≡ codes "query" ∷ out ∷ is.box ∷ is.depths ∷ [] → ⊥
       apart same = cc
 
-  pub query_or_later : IsLater words → ⊥
-  query_or_later other = apart other.first other.others other.named (sym other.words_are ∙ is.words_are)
-    where
-      apart : (head : List ℕ) (others : List (List ℕ)) → head ≡ codes "trial" → head ∷ others ≡ codes "query" ∷ out ∷ is.box ∷ is.depths ∷ [] → ⊥
-      apart head others named same =
-          let query : get_or head 0 0 ≡ 113 = ap (λ (ws : List (List ℕ)). get_or (get_or ws 0 []) 0 0) same in
-          let trial : get_or head 0 0 ≡ 116 = ap (λ (w : List ℕ). get_or w 0 0) named in
-          omega (arith, query, trial)
-
   pub query_asked : AsksQuery words
   query_asked = record { folder = out; area = area; first = first; last = last; words_are = is }
 
@@ -48,15 +39,6 @@ module _ (words : List (List ℕ)) (out : List ℕ) (area : Box3) (first last : 
 
   pub query_untold : {Fact : List ℕ → Type 0} → AsksInfo words Fact → ⊥
   query_untold asks = query_or_info asks.path asks.words_are
-
-pub build_or_later : (words : List (List ℕ)) (config out : List ℕ) → IsBuild words config out → IsLater words → ⊥
-build_or_later words config out is other = apart other.first other.others other.named (sym other.words_are ∙ is.words_are)
-  where
-    apart : (head : List ℕ) (others : List (List ℕ)) → head ≡ codes "trial" → head ∷ others ≡ codes "build" ∷ config ∷ out ∷ [] → ⊥
-    apart head others named same =
-        let build : get_or head 0 0 ≡ 98 = ap (λ (ws : List (List ℕ)). get_or (get_or ws 0 []) 0 0) same in
-        let trial : get_or head 0 0 ≡ 116 = ap (λ (w : List ℕ). get_or w 0 0) named in
-        omega (arith, build, trial)
 
 -- words ask for one box and one range
 module _ (one_box : TextHasOneBox) (one_range : TextHasOneRange) (words : List (List ℕ)) where
@@ -75,26 +57,26 @@ module _ (one_box : TextHasOneBox) (one_range : TextHasOneRange) (words : List (
       subst (λ (a : Box3). EndsQuery a least most status files old new store sink) same.0
       (subst (λ (n : ℕ). EndsQuery area n most status files old new store sink) same.1 (subst (λ (n : ℕ). EndsQuery area first n status files old new store sink) same.2 ends))
 
--- words of another number than those of a command, which do not begin as a later one
-pub no_command : (words : List (String Global)) → length words ≢ 2 → length words ≢ 3 → length words ≢ 4 → (IsLater (bytes_of words) → ⊥) → IsUsage (bytes_of words)
-no_command words two three four later =
+-- words of another number than those of a command
+pub no_command : (words : List (String Global)) → length words ≢ 2 → length words ≢ 3 → length words ≢ 4 → IsUsage (bytes_of words)
+no_command words two three four =
     let size : length (bytes_of words) ≡ length words = length-map words string_bytes in
     record {
       not_build = λ config out is. three (sym size ∙ ap (λ (ws : List (List ℕ)). length ws) is.words_are);
       not_info = λ las is. two (sym size ∙ ap (λ (ws : List (List ℕ)). length ws) is.words_are);
       not_query = λ out area first last is. four (sym size ∙ ap (λ (ws : List (List ℕ)). length ws) is.words_are);
-      not_later = later;
+      not_trial = λ count workers cache is. four (sym size ∙ ap (λ (ws : List (List ℕ)). length ws) is.words_are);
     }
 
 -- ---- its status
 
-status_is_own : (answer : Result ℕ QueryError) → (query_status answer ≢ 2) × (query_status answer ≢ 10)
-status_is_own (Ok count) = (omega arith, omega arith)
-status_is_own (Err NotComplete) = (omega arith, omega arith)
-status_is_own (Err StoreFault) = (omega arith, omega arith)
-status_is_own (Err (Damaged file)) = (omega arith, omega arith)
-status_is_own (Err SinkFault) = (omega arith, omega arith)
-status_is_own (Err Memory) = (omega arith, omega arith)
+status_is_own : (answer : Result ℕ QueryError) → query_status answer ≢ 2
+status_is_own (Ok count) = omega arith
+status_is_own (Err NotComplete) = omega arith
+status_is_own (Err StoreFault) = omega arith
+status_is_own (Err (Damaged file)) = omega arith
+status_is_own (Err SinkFault) = omega arith
+status_is_own (Err Memory) = omega arith
 
 device_rose : (answer : Result ℕ QueryError) (store sink : Type 0) → (answer ≡ Err StoreFault → store) → (answer ≡ Err SinkFault → sink) → query_status answer ≡ 7 → store ⊎ sink
 device_rose (Ok count) store sink stores sinks is = absurd (omega (arith, is))
@@ -106,10 +88,7 @@ device_rose (Err Memory) store sink stores sinks is = absurd (omega (arith, is))
 
 module _ (area : Box3) (first last status : ℕ) (files : Option Files) (old new : Option (List ℕ)) (store sink : Type 0) (ends : EndsQuery area first last status files old new store sink) where
   pub query_not_usage : status ≡ 2 → ⊥
-  query_not_usage is = (status_is_own ends.answer).0 (sym ends.status_is ∙ is)
-
-  pub query_not_later : status ≡ 10 → ⊥
-  query_not_later is = (status_is_own ends.answer).1 (sym ends.status_is ∙ is)
+  query_not_usage is = status_is_own ends.answer (sym ends.status_is ∙ is)
 
   pub query_rose : status ≡ 7 → store ⊎ sink
   query_rose is = device_rose ends.answer store sink ends.stores ends.sinks (sym ends.status_is ∙ is)

@@ -63,22 +63,22 @@ configuration_only SourceFault is = absurd (omega (arith, is))
 configuration_only StoreFault is = absurd (omega (arith, is))
 configuration_only Memory is = absurd (omega (arith, is))
 
--- a refusal is neither the work done nor a later command
-neither : (r : Refusal) → (status_of r ≢ 0) × (status_of r ≢ 10)
-neither Usage = (omega arith, omega arith)
-neither (BadConfiguration e) = (omega arith, omega arith)
-neither (BadLas source fault) = (omega arith, omega arith)
-neither (OutOfBounds source number) = (omega arith, omega arith)
-neither NoBounds = (omega arith, omega arith)
-neither (SourceChanged source number) = (omega arith, omega arith)
-neither (TooManyPoints source) = (omega arith, omega arith)
-neither TooManyNodes = (omega arith, omega arith)
-neither (Differs field) = (omega arith, omega arith)
-neither (BadCheckpoint letter) = (omega arith, omega arith)
-neither (TileDamaged key) = (omega arith, omega arith)
-neither SourceFault = (omega arith, omega arith)
-neither StoreFault = (omega arith, omega arith)
-neither Memory = (omega arith, omega arith)
+-- a refusal is not the work done
+never_done : (r : Refusal) → status_of r ≢ 0
+never_done Usage = omega arith
+never_done (BadConfiguration e) = omega arith
+never_done (BadLas source fault) = omega arith
+never_done (OutOfBounds source number) = omega arith
+never_done NoBounds = omega arith
+never_done (SourceChanged source number) = omega arith
+never_done (TooManyPoints source) = omega arith
+never_done TooManyNodes = omega arith
+never_done (Differs field) = omega arith
+never_done (BadCheckpoint letter) = omega arith
+never_done (TileDamaged key) = omega arith
+never_done SourceFault = omega arith
+never_done StoreFault = omega arith
+never_done Memory = omega arith
 
 -- the count of the device that a refusal names rose
 risen_of : (r : Refusal) (shelf store : Type 0) → (r ≡ SourceFault → shelf) → (r ≡ StoreFault → store) → HasRisen r shelf store
@@ -117,11 +117,6 @@ module _ (status : ℕ) (said_old said_new : Option (List ℕ)) (failed : Type 0
   never_usage (Ok line) named (inr device) is = omega (arith, device.0, is)
   never_usage (Err r) named ends is =
       ⊎_elim (λ same. named (sym same ∙ usage_only ends.told (ends.status_is ∙ is))) (λ same. omega (arith, ap status_of same, ends.status_is, is)) ends.told_is
-
-  pub never_later : (answer : Result (Vec ℕ Global) Refusal) → EndsWith answer status said_old said_new failed → status ≡ 10 → ⊥
-  never_later (Ok line) (inl ok) is = omega (arith, ok.0, is)
-  never_later (Ok line) (inr device) is = omega (arith, device.0, is)
-  never_later (Err r) ends is = (neither ends.told).1 (ends.status_is ∙ is)
 
   -- status 3 is that of a bad configuration
   pub bad_configuration : (answer : Result (Vec ℕ Global) Refusal) → EndsWith answer status said_old said_new failed → status ≡ 3 → (e : ConfigError) × (answer ≡ Err (BadConfiguration e))
@@ -167,7 +162,7 @@ module _ (status : ℕ) (said_old said_new : Option (List ℕ)) (failed : Type 0
         → Ends words files Begins new (Appends said_old said_new)
     is_done (Ok line) carries (inl ok) is = record { line = line.items; is_answer = carries.is_answer; done = carries.done; said = ok.1 }
     is_done (Ok line) carries (inr device) is = absurd (omega (arith, device.0, is))
-    is_done (Err r) carries ends is = absurd ((neither ends.told).0 (ends.status_is ∙ is))
+    is_done (Err r) carries ends is = absurd (never_done ends.told (ends.status_is ∙ is))
 
     pub has_risen : (answer : Result (Vec ℕ Global) Refusal) → Carries words files Begins new shelf store same answer → EndsWith answer status said_old said_new failed → status ≡ 7 → shelf ⊎ store ⊎ failed
     has_risen (Ok line) carries (inl ok) is = absurd (omega (arith, ok.0, is))

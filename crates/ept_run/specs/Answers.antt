@@ -10,9 +10,9 @@ use Rattle.ept_scan.specs.Asking.{AsksFor}
 use Rattle.ept_meta.specs.declared.fields.Field.{Field}
 use Rattle.ept_run.specs.declared.refusal.Refusal.{Refusal}
 use Rattle.ept_run.specs.declared.refusal.Refusal.TheVariants.{Usage, BadConfiguration, BadLas, OutOfBounds, NoBounds, SourceChanged, TooManyPoints, TooManyNodes, Differs, BadCheckpoint, TileDamaged, SourceFault, StoreFault, Memory}
-use Rattle.ept_run.specs.Words.{IsBuild, IsInfo, IsQuery, IsUsage}
+use Rattle.ept_run.specs.Words.{IsBuild, IsInfo, IsQuery, IsTrial, IsUsage}
 use Rattle.ept_run.specs.Lines.{summary_text, header_text, status_of, line_of}
-use Rattle.ept_run.specs.Requests.{HasBuilt, HasTold, AsksForBuild, ConfigurationIsRefused, BuildIsRefused, InfoIsRefused, IsEarly}
+use Rattle.ept_run.specs.Requests.{HasBuilt, HasTold, HasTrial, AsksForBuild, ConfigurationIsRefused, BuildIsRefused, InfoIsRefused, IsEarly}
 
 -- this status, if no device failed and memory sufficed
 abbrev pub Yields : ℕ → ℕ → Type 0
@@ -41,6 +41,14 @@ pub record AsksQuery (words : List (List ℕ)) : Type 0 where
   pub last : ℕ
   pub words_are : IsQuery words folder area first last
 
+-- a trial of so many points, of which this holds
+pub record AsksTrial (words : List (List ℕ)) (Fact : ℕ → Type 0) : Type 0 where
+  pub count : ℕ
+  pub workers : ℕ
+  pub cache : ℕ
+  pub words_are : IsTrial words count workers cache
+  pub holds : Fact count
+
 -- What the words ask the shelf for, over a store with these files: a build for its configuration, and then for what its build asks for; `info` for its file; all others for nothing.
 abbrev pub IsAskedFor : List (List ℕ) → Option Files → Files → Option (List (List ℕ)) → Option (List (List ℕ)) → Type 0
 IsAskedFor words shelf start old new =
@@ -55,11 +63,14 @@ abbrev pub IsAnswer : List (List ℕ) → List ℕ → Type 0
 IsAnswer words line =
     AsksBuild words (λ _. (points : ℕ) × (nodes : ℕ) × (line ≡ summary_text points nodes))
     ⊎ AsksInfo words (λ _. (header : Header) × (line ≡ header_text header))
+    ⊎ AsksTrial words (λ count. HasTrial count line)
 
--- The store has the output of a build, or a LAS file has a header; and this is the line that tells it. Begins says of the shelf's files and the store's that the build begins with them.
+-- The store has the output of a build, a LAS file has a header, or a trial was made; and this is the line that tells it. Begins says of the shelf's files and the store's that the build begins with them.
 abbrev pub IsDone : List (List ℕ) → Files → (Files → Files → Type 0) → List ℕ → Option Files → Type 0
 IsDone words files Begins line new =
-    AsksBuild words (λ path. HasBuilt files Begins path line new) ⊎ AsksInfo words (λ path. HasTold files path line)
+    AsksBuild words (λ path. HasBuilt files Begins path line new)
+    ⊎ AsksInfo words (λ path. HasTold files path line)
+    ⊎ AsksTrial words (λ count. HasTrial count line)
 
 -- A command is carried out, and so much of its line is said.
 pub record Ends (words : List (List ℕ)) (files : Option Files) (Begins : Files → Files → Type 0) (new : Option Files)
@@ -77,11 +88,12 @@ IsFaulty words files r =
     ((r ≡ Usage) × IsUsage words)
     ⊎ AsksBuild words (λ path. ConfigurationIsRefused files path r) ⊎ AsksInfo words (λ path. InfoIsRefused files path r)
 
--- the words, or the files that they name, are refused for this cause
+-- the words, or the files that they name, are refused for this cause; a trial has none but want of memory
 abbrev pub IsRefused : List (List ℕ) → Files → (Files → Files → Type 0) → Refusal → Type 0
 IsRefused words files Begins r =
     ((r ≡ Usage) × IsUsage words)
     ⊎ AsksBuild words (λ path. BuildIsRefused files Begins path r) ⊎ AsksInfo words (λ path. InfoIsRefused files path r)
+    ⊎ AsksTrial words (λ _. r ≡ Memory)
 
 -- the count of a device rose, where the refusal is that device's fault: of the shelf, or of the store
 abbrev pub HasRisen : Refusal → Type 0 → Type 0 → Type 0
@@ -115,6 +127,11 @@ pub record IsTold (r : Refusal) (status : ℕ) (old new : Option (List ℕ)) (fa
 abbrev pub IsSaid : List ℕ → ℕ → Option (List ℕ) → Option (List ℕ) → Type 0 → Type 0
 IsSaid line status old new failed = ((status ≡ 0) × Appends old new line)
     ⊎ ((status ≡ 7) × failed × AppendsPrefix old new line)
+
+-- a trial of so many points ends: its line is said, or want of memory is told
+abbrev pub EndsTrial : ℕ → ℕ → Option (List ℕ) → Option (List ℕ) → Type 0 → Type 0
+EndsTrial count status old new failed =
+    ((line : List ℕ) × HasTrial count line × IsSaid line status old new failed) ⊎ IsTold Memory status old new failed
 
 -- how a command ends that has this line, or is refused
 abbrev pub EndsWith : Result (Vec ℕ Global) Refusal → ℕ → Option (List ℕ) → Option (List ℕ)

@@ -12,6 +12,7 @@ use Rattle.ept_ckpt.specs.declared.letter.Letter.{Letter}
 use Rattle.ept_ckpt.specs.declared.letter.Letter.TheVariants as letter
 use Rattle.ept_meta.specs.declared.fields.Field.{Field}
 use Rattle.ept_meta.specs.declared.fields.Field.TheVariants as field
+use Rattle.ept_trial.specs.declared.trial.Trial.{Trial}
 use Rattle.ept_run.specs.declared.refusal.Refusal.{Refusal}
 use Rattle.ept_run.specs.declared.refusal.Refusal.TheVariants as refusal
 
@@ -24,6 +25,12 @@ unfoldable pub header_text : Header → List ℕ
 header_text h =
     codes "version 1." ++ decimal h.minor ++ codes " format " ++ decimal h.format
     ++ codes " length " ++ decimal h.length ++ codes " points " ++ decimal h.points ++ codes " offset " ++ decimal h.offset ++ codes "\n"
+
+-- what is said of the octree of a trial
+unfoldable pub trial_text : Trial → List ℕ
+trial_text t =
+    codes "points " ++ decimal t.points ++ codes " nodes " ++ decimal t.nodes
+    ++ codes " depth " ++ decimal t.depth ++ codes " sum " ++ decimal t.sum ++ codes "\n"
 
 -- the status that a refusal ends the program with
 abbrev pub status_of : Refusal → ℕ

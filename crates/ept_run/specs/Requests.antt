@@ -19,9 +19,11 @@ use Rattle.ept_build.specs.declared.error.BuildError.{BuildError}
 use Rattle.ept_build.specs.declared.error.BuildError.TheVariants as build
 use Rattle.ept_build.specs.declared.summary.Summary.{Summary}
 use Rattle.ept_build.specs.Building as building
+use Rattle.ept_trial.specs.declared.trial.Trial.{Trial}
+use Rattle.ept_trial.specs.Trials.{IsTrialOf}
 use Rattle.ept_run.specs.declared.refusal.Refusal.{Refusal}
 use Rattle.ept_run.specs.declared.refusal.Refusal.TheVariants.{Usage, BadConfiguration, BadLas, OutOfBounds, NoBounds, SourceChanged, TooManyPoints, TooManyNodes, Differs, BadCheckpoint, TileDamaged, SourceFault, StoreFault, Memory}
-use Rattle.ept_run.specs.Lines.{summary_text, header_text}
+use Rattle.ept_run.specs.Lines.{summary_text, header_text, trial_text}
 
 -- these are the first bytes of the file of this path: so many, or all
 pub record HasFront (files : Files) (path : List ℕ) (most : ℕ) (front : List ℕ) : Type 0 where
@@ -188,6 +190,14 @@ InfoIsRefused files path (TileDamaged key) = ⊥
 InfoIsRefused files path SourceFault = ⊤
 InfoIsRefused files path StoreFault = ⊥
 InfoIsRefused files path Memory = ⊤
+
+-- ---- a trial
+
+-- this line tells what the octree of the generated scans of so many points comes to
+pub record HasTrial (count : ℕ) (line : List ℕ) : Type 0 where
+  pub trial : Trial
+  pub is_trial : IsTrialOf count trial
+  pub line_is : line ≡ trial_text trial
 
 -- ---- causes
 

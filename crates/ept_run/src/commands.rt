@@ -12,14 +12,15 @@ ghost use Rattle.ept_save.specs.Opening.{IsBad};
 ghost use Rattle.ept_save.specs.Sound.{IsSound};
 ghost use Rattle.ept_build.specs.Building.{BeginsWith};
 ghost use Rattle.ept_run.specs.Lines.{summary_text, header_text};
-ghost use Rattle.ept_run.specs.Requests.{IsBuiltAt, HasBuilt, AsksForBuild, IsAcceptedAt, IsDoneAt, ComesAt, DiffersAt, IsConfigured, TellsDifference, ConfigurationIsRefused, BuildIsRefused, HasTold, HasHeader, InfoIsRefused, IsOfBuild, IsOfHeader, IsDefinite, IsEarly, Fails};
+ghost use Rattle.ept_run.specs.Requests.{IsBuiltAt, HasBuilt, AsksForBuild, IsAcceptedAt, IsDoneAt, ComesAt, DiffersAt, IsConfigured, TellsDifference, ConfigurationIsRefused, BuildIsRefused, HasTold, HasHeader, InfoIsRefused, IsOfBuild, IsOfHeader, IsDefinite, IsEarly, Fails, HasTrial};
 
 use crate::files::{read_configuration, read_file_header};
-use crate::lines::{header_line, summary_line};
+use crate::lines::{header_line, outcome_line, summary_line};
 use crate::refusal::Refusal;
 use ept_base::{Gate, Room, Shelf, Store};
 use ept_build::{Summary, build};
 use ept_save::sound_steps_law;
+use ept_trial::build_trial;
 use std::alloc::Global;
 
 /// Builds the octree of the configuration of this path, and answers the line that says so.
@@ -158,5 +159,30 @@ pub(crate) fn info_line<H: Shelf>(
 {
     let header = read_file_header(shelf, path)?;
     let line = header_line(alloc, header)?;
+    Ok(line)
+}
+
+/// Builds the octree of the generated scans of so many points in memory, with so many workers and so many nodes
+/// at a time, and answers the line that tells what it comes to.
+///
+/// # Errors
+///
+/// Want of memory, and nothing else.
+pub(crate) fn trial_line(
+    alloc: Global,
+    points: u32,
+    workers: u32,
+    cache: u32,
+) -> Result<Vec<u8>, Refusal>
+    requires few { points ≤ 10000000 }
+    requires some { 1 ≤ workers }
+    requires threads { workers ≤ 64 }
+    requires room { workers ≤ cache }
+    requires bounded { cache ≤ 65536 }
+    ensures told { IfOk result (λ line. HasTrial points line.items) }
+    ensures refused { IfErr result (λ r. r ≡ Refusal.Memory) }
+{
+    let trial = build_trial(alloc, points, workers, cache)?;
+    let line = outcome_line(alloc, trial)?;
     Ok(line)
 }

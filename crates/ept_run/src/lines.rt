@@ -5,7 +5,7 @@ ghost use Rattle.std.specs.Fmt.{decimal};
 ghost use Rattle.ept_config.specs.Refusals.{code_of, key_text_of};
 ghost use Rattle.ept_las.specs.LasHeader as las;
 ghost use Rattle.ept_space.specs.KeyText as space;
-ghost use Rattle.ept_run.specs.Lines.{summary_text, header_text, key_text, config_text, las_text, number_text, record_text, name_of, letter_text, refusal_text, line_of};
+ghost use Rattle.ept_run.specs.Lines.{summary_text, header_text, trial_text, key_text, config_text, las_text, number_text, record_text, name_of, letter_text, refusal_text, line_of};
 
 use crate::refusal::Refusal;
 use ept_build::Summary;
@@ -15,6 +15,7 @@ use ept_las::{Header, LasError};
 use ept_meta::Field;
 use ept_point::PointNumber;
 use ept_space::{Key, key_text};
+use ept_trial::Trial;
 use itoa::Buffer;
 use std::alloc::{AllocError, Global};
 
@@ -64,6 +65,21 @@ pub(crate) fn header_line(alloc: Global, header: Header) -> Result<Vec<u8>, Allo
     append_number(&mut line, b" length ", u64::from(header.length))?;
     append_number(&mut line, b" points ", header.points)?;
     append_number(&mut line, b" offset ", u64::from(header.offset))?;
+    line.extend_from_slice(b"\n")?;
+    Ok(line)
+}
+
+/// What is said of a trial: how many points and nodes there are, the greatest depth of a node, and the sum of
+/// all bytes of all tiles.
+#[tactic(auto, unfolding(crate::specs::Lines::trial_text))]
+pub(crate) fn outcome_line(alloc: Global, trial: Trial) -> Result<Vec<u8>, AllocError>
+    ensures { IfOk result (λ line. line.items ≡ trial_text trial) }
+{
+    let mut line = Vec::new(alloc);
+    append_number(&mut line, b"points ", trial.points)?;
+    append_number(&mut line, b" nodes ", trial.nodes)?;
+    append_number(&mut line, b" depth ", u64::from(trial.depth))?;
+    append_number(&mut line, b" sum ", trial.sum)?;
     line.extend_from_slice(b"\n")?;
     Ok(line)
 }

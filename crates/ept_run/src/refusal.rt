@@ -9,7 +9,7 @@ use ept_ckpt::Letter;
 use ept_config::ConfigError;
 use ept_las::LasError;
 use ept_meta::Field;
-use ept_point::PointNumber;
+use ept_point::{Memory, PointNumber};
 use ept_space::Key;
 use std::alloc::AllocError;
 
@@ -98,6 +98,17 @@ impl From<BuildError> for Refusal {
             BuildError::TooManyNodes => Refusal::TooManyNodes,
             BuildError::Memory => Refusal::Memory,
         }
+    }
+}
+
+impl From<Memory> for Refusal {
+    ghost use Rattle.std.specs.Prelude.{◌≡◌};
+    ghost use Rattle.ept_run.specs.declared.refusal.Refusal.TheVariants.{Memory};
+
+    ghost from_gives = { λ _ e. e ≡ Memory };
+
+    fn from(_error: Memory) -> Refusal {
+        Refusal::Memory
     }
 }
 

@@ -13,15 +13,14 @@ ghost use Rattle.ept_save.specs.Sound.{IsSound};
 ghost use Rattle.ept_build.specs.Building.{BeginsWith};
 ghost use Rattle.ept_run.specs.declared.refusal.Refusal as cause;
 ghost use Rattle.ept_run.specs.declared.refusal.Refusal.TheVariants.{BadCheckpoint};
-ghost use Rattle.ept_run.specs.Words.{bytes_of, IsBuild, IsInfo, IsQuery, IsUsage, IsLater};
+ghost use Rattle.ept_run.specs.Words.{bytes_of, IsBuild, IsInfo, IsQuery, IsTrial, IsUsage};
 ghost use Rattle.ept_run.specs.Requests.{IsAcceptedAt, IsDoneAt, ComesAt, DiffersAt, IsConfigured, HasHeader, IsDefinite};
-ghost use Rattle.ept_run.specs.Answers.{Yields, YieldsRefusal, YieldsDifference, IsAskedFor, AsksBuild, AsksInfo, AsksQuery, Ends, IsFaulty, Refuses, IsCut};
+ghost use Rattle.ept_run.specs.Answers.{Yields, YieldsRefusal, YieldsDifference, IsAskedFor, AsksBuild, AsksInfo, AsksQuery, Ends, IsFaulty, Refuses, IsCut, EndsTrial};
 ghost use Rattle.ept_run.specs.Queries.{EndsQuery};
 
 use crate::answers::{finish, refuse_usage};
-use crate::commands::{build_line, info_line};
+use crate::commands::{build_line, info_line, trial_line};
 use crate::querying::answer_query;
-use crate::status::NOT_BUILT;
 use crate::words::{Command, command_of};
 use ept_base::{Gate, Room, Shelf, Sink, Store};
 use ept_http::query_words_law;
@@ -33,9 +32,9 @@ use std::alloc::Global;
 /// `build CONFIG OUT` reads the configuration from the shelf, and the LAS files that it names, puts the
 /// octree of their points into the store, and writes how many points and nodes it has to the sink. `info LAS`
 /// reads the header of a LAS file from the shelf and writes what it says to the sink. `query OUT BOX DEPTHS`
-/// writes the packed points of a box and of some depths of the dataset in the store to the sink. A refusal is
-/// one line on the sink, except that of a query, and that of a command that this program doesn't carry out,
-/// which write none.
+/// writes the packed points of a box and of some depths of the dataset in the store to the sink. `trial N WORKERS
+/// CACHE` builds the octree of generated scans of N points in memory, and writes what it comes to to the sink. A
+/// refusal is one line on the sink, except that of a query, which writes none.
 pub fn run<H: Shelf, T: Store, R: Room, O: Sink, G: Gate + Sync>(
     alloc: Global,
     words: &[String],
@@ -49,11 +48,10 @@ where
     H::Source: Send,
     R::File: Send,
     // The statuses: 0 done, 2 no command, 3 the configuration, 4 a scan, 5 too many, 6 another configuration or no
-    // complete dataset, 7 a device, 8 a damaged file, 9 memory, 10 a later command.
+    // complete dataset, 7 a device, 8 a damaged file, 9 memory.
 
-    // Words that are no command, and nothing else, are faulty; a later command, and nothing else, is put off.
+    // Words that are no command, and nothing else, are faulty.
     ensures usage { (result ≡ 2) ↔ IsUsage (bytes_of words.now) }
-    ensures later { (result ≡ 10) ↔ IsLater (bytes_of words.now) }
 
     // What is done.
     ensures done { result ≡ 0
@@ -83,8 +81,12 @@ where
     ensures query_puts_nothing { AsksQuery (bytes_of words.now)
         → Moves T.files T.may_leave T.moment T.image_since SameFiles store.old store.new }
 
+    // A trial ends with the line of what its octree comes to, whatever the files are, or for want of memory.
+    ensures trial { (count workers cache : ℕ) → IsTrial (bytes_of words.now) count workers cache
+        → EndsTrial count result (O.written out.old) (O.written out.new) (Rose (O.faults out.old) (O.faults out.new)) }
+
     // Each other refusal has its cause and its line, but where the line of a command that is carried out is cut.
-    ensures refused { result ≢ 0 → result ≢ 10
+    ensures refused { result ≢ 0
         → Refuses (bytes_of words.now) (H.files shelf.old)
         (BeginsWith (H.files shelf.old) (T.files store.old) (T.may_leave store.old)) result
         (Rose (H.faults shelf.old) (H.faults shelf.new)) (Rose (T.faults store.old) (T.faults store.new))
@@ -120,10 +122,10 @@ where
     ensures configuration_given { result ≡ 3 → H.given shelf.new ≤ H.given shelf.old + (2 ^ 24 + 1) }
 
     // What stays as it was.
-    ensures silent { result ≡ 10 → (out.new ≡ out.old) × (store.new ≡ store.old) }
     ensures others_put_nothing { AsksBuild (bytes_of words.now) (λ _. ⊤)
         ⊎ Moves T.files T.may_leave T.moment T.image_since SameFiles store.old store.new }
-    ensures info_puts_nothing { (las : List ℕ) → IsInfo (bytes_of words.now) las → store.new ≡ store.old }
+    ensures same_store { AsksBuild (bytes_of words.now) (λ _. ⊤) ⊎ AsksQuery (bytes_of words.now) ⊎ (store.new ≡ store.old) }
+    ensures same_shelf { AsksBuild (bytes_of words.now) (λ _. ⊤) ⊎ AsksInfo (bytes_of words.now) (λ _. ⊤) ⊎ (shelf.new ≡ shelf.old) }
     ensures files { H.files shelf.new ≡ H.files shelf.old }
     ensures room { room.new ≡ room.old }
 {
@@ -140,7 +142,14 @@ where
             query_words_law();
             answer_query(alloc, &area, depths, store, out)
         }
-        Command::Later => NOT_BUILT,
+        Command::Trial {
+            points,
+            workers,
+            cache,
+        } => {
+            let line = trial_line(alloc, points, workers, cache);
+            finish(alloc, out, line)
+        }
         Command::Usage => refuse_usage(out),
     }
 }

@@ -29,6 +29,3 @@ pub const DAMAGED: u8 = 8;
 
 /// There was no memory.
 pub const MEMORY: u8 = 9;
-
-/// The command is one that this program doesn't carry out.
-pub const NOT_BUILT: u8 = 10;

@@ -1,10 +1,18 @@
 //! What the words of a command line ask for.
 
-ghost use Rattle.std.specs.Prelude.{◌≡◌, ◌≢◌, ◌↔◌, [], ◌∷◌, length, codes, IsTrue};
-ghost use Rattle.ept_run.specs.Words.{bytes_of, IsBuild, IsInfo, NamesLater, IsCommand};
+ghost use Rattle.std.specs.Prelude.{◌≡◌, ◌≢◌, ◌↔◌, ◌≤◌, ℕ, [], ◌∷◌, length, codes, decimal, pos, IsTrue, IfSome, IfNone};
+ghost use Rattle.ept_run.specs.Words.{bytes_of, IsBuild, IsInfo, IsCommand};
 
 use ept_http::{read_box, read_depths};
+use ept_num::read_whole;
 use ept_space::Box3;
+
+/// The most points, workers, and nodes in memory at a time, that a trial may be asked for.
+const MOST_POINTS: u32 = 10_000_000;
+
+const MOST_WORKERS: u32 = 64;
+
+const MOST_NODES: u32 = 65_536;
 
 /// What the words of a command line ask for.
 #[derive(Clone, Copy, Debug, PartialEq, Eq)]
@@ -24,8 +32,13 @@ pub enum Command<'a> {
         area: Box3,
         depths: (u8, u8),
     },
-    /// A command that this program doesn't carry out.
-    Later,
+    /// Build the octree of generated scans of so many points in memory, with so many workers and so many nodes
+    /// at a time.
+    Trial {
+        points: u32,
+        workers: u32,
+        cache: u32,
+    },
     /// None of these.
     Usage,
 }
@@ -37,27 +50,20 @@ pub fn command_of(words: &[String]) -> Command<'_>
     match words {
         [first, las] => command_of_two(first, las),
         [first, config, out] => command_of_three(first, config, out),
-        [first, out, area, depths] => command_of_four(first, out, area, depths),
-        _ => command_of_others(words),
+        [first, second, third, fourth] => command_of_four(first, second, third, fourth),
+        _ => no_command(words),
     }
 }
 
-// The command that fewer or more words are.
+// Fewer or more words are no command.
 #[tactic(auto, using(crate::proofs::Queried::no_command))]
-fn command_of_others(words: &[String]) -> Command<'_>
+fn no_command(words: &[String]) -> Command<'_>
     requires two { length words.now ≢ 2 }
     requires three { length words.now ≢ 3 }
     requires four { length words.now ≢ 4 }
     ensures { IsCommand (bytes_of words.now) result }
 {
-    let [first, ..] = words else {
-        return Command::Usage;
-    };
-    if is_later(first) {
-        Command::Later
-    } else {
-        Command::Usage
-    }
+    Command::Usage
 }
 
 // The command that two words are.
@@ -66,8 +72,6 @@ fn command_of_two<'a>(first: &str, las: &'a str) -> Command<'a>
 {
     if is_info(first, las) {
         Command::Info { las }
-    } else if is_later(first) {
-        Command::Later
     } else {
         Command::Usage
     }
@@ -79,21 +83,19 @@ fn command_of_three<'a>(first: &str, config: &'a str, out: &'a str) -> Command<'
 {
     if is_build(first, config, out) {
         Command::Build { config, out }
-    } else if is_later(first) {
-        Command::Later
     } else {
         Command::Usage
     }
 }
 
 // The command that four words are.
-fn command_of_four<'a>(first: &str, out: &'a str, area: &str, depths: &str) -> Command<'a>
-    ensures { IsCommand (first.now ∷ out.now ∷ area.now ∷ depths.now ∷ []) result }
+fn command_of_four<'a>(first: &str, second: &'a str, third: &str, fourth: &str) -> Command<'a>
+    ensures { IsCommand (first.now ∷ second.now ∷ third.now ∷ fourth.now ∷ []) result }
 {
     if is_query(first) {
-        query_of(out, area, depths)
-    } else if is_later(first) {
-        Command::Later
+        query_of(second, third, fourth)
+    } else if is_trial(first) {
+        trial_of(second, third, fourth)
     } else {
         Command::Usage
     }
@@ -136,8 +138,49 @@ fn query_of<'a>(out: &'a str, area: &str, depths: &str) -> Command<'a>
     }
 }
 
-fn is_later(first: &str) -> bool
-    ensures { IsTrue result ↔ NamesLater first.now }
+fn is_trial(first: &str) -> bool
+    ensures { IsTrue result ↔ (first.now ≡ codes "trial") }
 {
     first == "trial"
+}
+
+// The command of `trial` with these words behind it.
+fn trial_of<'a>(points: &str, workers: &str, cache: &str) -> Command<'a>
+    ensures { IsCommand (codes "trial" ∷ points.now ∷ workers.now ∷ cache.now ∷ []) result }
+{
+    let (Some(points), Some(workers), Some(cache)) = (
+        read_number(points, MOST_POINTS),
+        read_number(workers, MOST_WORKERS),
+        read_number(cache, MOST_NODES),
+    ) else {
+        return Command::Usage;
+    };
+    if workers < 1 || cache < workers {
+        return Command::Usage;
+    }
+    Command::Trial {
+        points,
+        workers,
+        cache,
+    }
+}
+
+// The number that a word spells, where it is at most this one.
+fn read_number(word: &str, most: u32) -> Option<u32>
+    ensures some { IfSome result (λ n. (word.now ≡ decimal n) × (n ≤ most)) }
+    ensures none { IfNone result ((n : ℕ) → n ≤ most → word.now ≢ decimal n) }
+{
+    let whole = read_whole(word.as_bytes())?;
+    number_of(whole, most)
+}
+
+// The number, where it is at most this one.
+fn number_of(whole: i64, most: u32) -> Option<u32>
+    ensures some { IfSome result (λ n. (whole ≡ pos n) × (n ≤ most)) }
+    ensures none { IfNone result ((n : ℕ) → whole ≡ pos n → n ≤ most → ⊥) }
+{
+    if whole < 0 || whole > i64::from(most) {
+        return None;
+    }
+    Some(whole as u32)
 }

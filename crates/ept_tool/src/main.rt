@@ -1,5 +1,5 @@
 //! `ept_tool` builds an Entwine Point Tile folder from LAS files, answers the points of a box of one, and tells
-//! what the header of a LAS file says.
+//! what the header of a LAS file says, and what an octree of generated scans comes to.
 #![tactic(auto)]
 
 #[cfg(test)]

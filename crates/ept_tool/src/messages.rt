@@ -7,7 +7,7 @@ use ept_config::{Config, ConfigKey, MAX_LENGTH};
 use ept_mem::MemShelf;
 use ept_plan::{PlanError, make_plan};
 use ept_run::status::{
-    BAD_CONFIGURATION, BAD_SCAN, DAMAGED, DEVICE, MEMORY, NOT_BUILT, NOT_COMPLETE, TOO_MANY, USAGE,
+    BAD_CONFIGURATION, BAD_SCAN, DAMAGED, DEVICE, MEMORY, NOT_COMPLETE, TOO_MANY, USAGE,
 };
 use ept_run::{Command, Refusal, command_of, read_configuration, read_front};
 use ept_save::open;
@@ -209,7 +209,6 @@ pub(crate) fn plain(status: u8) -> &'static str {
         DEVICE => "a file could not be read or written",
         DAMAGED => "a file of the dataset, or a checkpoint, is absent or not of its form",
         MEMORY => MEMORY_SENTENCE,
-        NOT_BUILT => "this command is not carried out yet",
         _ => "refused",
     }
 }
