@@ -429,3 +429,18 @@ def model(config, files):
         return "points %d nodes %d" % (len(points), len(nodes)), 0, output(kept, list(map(count_of, sources)), bounds, nodes, cube)
     except Refused as refused:
         return refused.line, refused.status, {}
+
+
+def trial(count):
+    """The line of a trial of so many generated points."""
+    number, points = count, []
+    for at in range(count):
+        place = []
+        for below in (100_000, 100_000, 1_000):
+            number = (number * 6364136223846793005 + 1442695040888963407) % 2 ** 64
+            place.append((number >> 33) % below)
+        points.append(read_record(0, struct.pack("<iiiH6x", *place, at % 65_536), 1, (0, 0, 0), at % 4, at // 4))
+    points.sort(key=lambda point: point["id"])
+    nodes, _ = sample(points, [0, 0, 0, 99_999, 99_999, 999], 128, 4_096, 32)
+    total = sum(sum(packed(point)) for those in nodes.values() for point in those) % 2 ** 64
+    return "points %d nodes %d depth %d sum %d" % (count, len(nodes), max(key[0] for key in nodes), total)

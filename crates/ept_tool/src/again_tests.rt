@@ -1,9 +1,9 @@
 //! Builds over a folder that an earlier build has left.
 
-use crate::run::run;
 use crate::tests::{BUILD, at, file, las, texts};
 use ept_base::{OpenGate, Store};
 use ept_mem::{Crash, MemRoom, MemShelf, MemSink, MemStore};
+use ept_run::run;
 use std::alloc::{AllocError, Global};
 use std::process::Abort;
 use std::test::Fail;

@@ -1,12 +1,12 @@
 //! Builds over devices in memory: their lines, and what they leave in the store.
 
-use crate::run::run;
 use crate::tests::{
     Answer, BUILD, CONFIGURATION, Failing, Given, Shelved, at, compare, expect, expect_text, las,
     many, may_lack_memory, spaced, store_of, texts,
 };
 use ept_base::{Failed, GetError, OpenGate, Shelf, Source};
 use ept_mem::{MemRoom, MemSink};
+use ept_run::run;
 use std::alloc::{AllocError, Global};
 use std::process::Abort;
 use std::test::Fail;

@@ -1,45 +1,33 @@
 //! `ept_tool` builds an Entwine Point Tile folder from LAS files, answers the points of a box of one, and tells
-//! what the header of a LAS file says.
+//! what the header of a LAS file says, and what an octree of generated scans comes to.
 #![tactic(auto)]
 
 #[cfg(test)]
 mod again_tests;
-mod answers;
 #[cfg(test)]
 mod build_tests;
-mod commands;
 mod differences;
-mod files;
 mod heard;
-mod lines;
 #[cfg(test)]
 mod message_tests;
 mod messages;
 #[cfg(test)]
 mod query_tests;
-mod querying;
-mod refusal;
-mod run;
 mod sentences;
-mod status;
 #[cfg(test)]
 mod tests;
 mod watched;
-mod words;
 #[cfg(test)]
 mod worked_tests;
 
-use crate::answers::refuse;
 use crate::heard::Heard;
 use crate::messages::{message, plain};
-use crate::refusal::Refusal;
-use crate::run::run;
-use crate::status::{DAMAGED, NOT_COMPLETE, OK};
 use crate::watched::Watched;
-use crate::words::{Command, command_of};
 use ept_base::{OpenGate, Sink};
 use ept_mem::{MemRoom, MemStore};
 use ept_real::{RealShelf, RealSink, RealStore, SeenFiles, Telling};
+use ept_run::status::{DAMAGED, NOT_COMPLETE, OK};
+use ept_run::{Command, Refusal, command_of, refuse, run};
 use std::alloc::{AllocError, Global};
 use std::env;
 use std::io::{ErrorKind, IsTerminal, writer};

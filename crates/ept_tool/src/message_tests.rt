@@ -2,11 +2,11 @@
 
 use crate::differences::{Differing, difference_sentence};
 use crate::messages::message;
-use crate::run::run;
 use crate::sentences::Names;
 use crate::tests::{at, file, las, texts};
 use ept_base::OpenGate;
 use ept_mem::{MemRoom, MemShelf, MemSink, MemStore};
+use ept_run::run;
 use std::alloc::{AllocError, Global};
 use std::process::Abort;
 use std::test::Fail;
@@ -25,6 +25,8 @@ const UNKNOWN: &str = "{\"input\":\"a.las\",\"spam\":128,\"scale\":2}";
 const BUILD: &[&str] = &["build", "survey.json", "out"];
 
 const INFO: &[&str] = &["info", "flights/b.las"];
+
+const TRIAL: &[&str] = &["trial", "0", "1", "1"];
 
 // A shelf with this configuration and two scans.
 fn shelf_of(alloc: Global, configuration: &str) -> Result<MemShelf, AllocError> {
@@ -141,11 +143,20 @@ fn expect_sentences(rt: &impl Abort, alloc: Global) -> Result<(), AllocError> {
             "error 7 source",
             Some("flights/b.las could not be opened or read"),
         ),
+        (TRIAL, BOUNDED, "error 9 memory", Some("out of memory")),
+        (
+            TRIAL,
+            BOUNDED,
+            "points 0 nodes 1 depth 0 sum 0",
+            Some("standard output could not be written: points 0 nodes 1 depth 0 sum 0"),
+        ),
         (
             &["flights/b.las"],
             BOUNDED,
             "error 2 usage",
-            Some("the words are none of `build CONFIG OUT`, `query OUT BOX DEPTHS` and `info LAS`"),
+            Some(
+                "the words are none of `build CONFIG OUT`, `query OUT BOX DEPTHS`, `info LAS` and `trial N WORKERS CACHE`",
+            ),
         ),
     ] {
         expect(rt, alloc, words, configuration, (line, want))?;

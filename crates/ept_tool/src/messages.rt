@@ -1,17 +1,15 @@
 //! The message of a run that is refused: the sentence of its line, with the names that it takes.
 
 use crate::differences::{Differing, difference_sentence};
-use crate::files::{MOST, read_configuration, read_front};
-use crate::refusal::Refusal;
 use crate::sentences::{MEMORY_SENTENCE, Names, Record, Told, USAGE_SENTENCE, read_line, sentence};
-use crate::status::{
-    BAD_CONFIGURATION, BAD_SCAN, DAMAGED, DEVICE, MEMORY, NOT_BUILT, NOT_COMPLETE, TOO_MANY, USAGE,
-};
-use crate::words::{Command, command_of};
 use ept_base::{Shelf, Store};
-use ept_config::{Config, ConfigKey};
+use ept_config::{Config, ConfigKey, MAX_LENGTH};
 use ept_mem::MemShelf;
 use ept_plan::{PlanError, make_plan};
+use ept_run::status::{
+    BAD_CONFIGURATION, BAD_SCAN, DAMAGED, DEVICE, MEMORY, NOT_COMPLETE, TOO_MANY, USAGE,
+};
+use ept_run::{Command, Refusal, command_of, read_configuration, read_front};
 use ept_save::open;
 use serde_json::Value;
 use std::alloc::Global;
@@ -105,7 +103,7 @@ fn of_build<H: Shelf, T: Store>(
             of_input(alloc, told, at, names, &config)
         }
         Told::Configuration { cause: "2", .. } => {
-            let text = read_front(alloc, shelf, names.config, MOST)?;
+            let text = read_front(alloc, shelf, names.config, MAX_LENGTH)?;
             of_unknown(alloc, told, names, &text)
         }
         _ => Ok(Some(sentence(alloc, told, &names)?)),
@@ -211,7 +209,6 @@ pub(crate) fn plain(status: u8) -> &'static str {
         DEVICE => "a file could not be read or written",
         DAMAGED => "a file of the dataset, or a checkpoint, is absent or not of its form",
         MEMORY => MEMORY_SENTENCE,
-        NOT_BUILT => "this command is not carried out yet",
         _ => "refused",
     }
 }

@@ -1,12 +1,12 @@
 //! Queries through `run`, over folders in memory.
 
-use crate::run::run;
 use crate::tests::{
     Answer, BUILD, Failing, Given, Shelved, at, carry_out, las, may_lack_memory, texts,
 };
 use crate::worked_tests::packed;
 use ept_base::{OpenGate, Store};
 use ept_mem::{MemRoom, MemShelf, MemSink, MemStore};
+use ept_run::run;
 use std::alloc::{AllocError, Global};
 use std::process::Abort;
 use std::test::Fail;

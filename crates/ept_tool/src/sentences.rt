@@ -129,7 +129,7 @@ pub(crate) fn sentence(
 
 /// Of words that are no command.
 pub(crate) const USAGE_SENTENCE: &str =
-    "the words are none of `build CONFIG OUT`, `query OUT BOX DEPTHS` and `info LAS`";
+    "the words are none of `build CONFIG OUT`, `query OUT BOX DEPTHS`, `info LAS` and `trial N WORKERS CACHE`";
 
 /// Of want of memory.
 pub(crate) const MEMORY_SENTENCE: &str = "out of memory";

@@ -1,8 +1,8 @@
 //! Runs over devices in memory: the words, the configuration, and the headers of LAS files.
 
-use crate::run::run;
 use ept_base::OpenGate;
 use ept_mem::{MemRoom, MemShelf, MemSink, MemStore};
+use ept_run::run;
 use std::alloc::{AllocError, Global};
 use std::process::Abort;
 use std::test::Fail;
@@ -244,7 +244,29 @@ fn expect_commands(rt: &impl Abort, alloc: Global) -> Result<(), AllocError> {
         (&["query", "out", "0,0,0,7,7,7", "0,33"], usage),
         (&["query", "out", "0,0,0,7,7,7", "0,2"], (6, "")),
         (&["query", "out", "-7,-7,-7,7,7,7", "0,32"], (6, "")),
-        (&["trial", "1", "1", "1"], (10, "")),
+        (&["trial"], usage),
+        (&["trial", "1", "1"], usage),
+        (&["trial", "1", "1", "1", "1"], usage),
+        (&["Trial", "1", "1", "1"], usage),
+        (&["trial", "10000001", "1", "1"], usage),
+        (&["trial", "-1", "1", "1"], usage),
+        (&["trial", "1", "0", "1"], usage),
+        (&["trial", "1", "65", "65"], usage),
+        (&["trial", "1", "2", "1"], usage),
+        (&["trial", "1", "1", "65537"], usage),
+        (&["trial", "01", "1", "1"], usage),
+        (&["trial", "1", "01", "1"], usage),
+        (&["trial", "1", "1", "01"], usage),
+        (&["trial", "+1", "1", "1"], usage),
+        (&["trial", "1", "+1", "1"], usage),
+        (&["trial", "1", "1", "+1"], usage),
+        (&["trial", "", "1", "1"], usage),
+        (&["trial", "1", "", "1"], usage),
+        (&["trial", "1", "1", ""], usage),
+        (&["trial", " 1", "1", "1"], usage),
+        (&["trial", "1", "1 ", "1"], usage),
+        (&["trial", "1", "1", "1.0"], usage),
+        (&["trial", "18446744073709551617", "1", "1"], usage),
         (&["build", "b.json", "out"], (7, "error 7 source\n")),
         (&["info", "c.las"], (7, "error 7 source\n")),
     ] {

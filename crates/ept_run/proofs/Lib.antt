@@ -1,0 +1,8 @@
+mod Asked
+mod Fronts
+mod Numbers
+mod Queried
+mod Refused
+mod Runs
+mod Texts
+mod Tried

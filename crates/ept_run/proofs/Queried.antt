@@ -1,0 +1,100 @@
+-- The words of a query are those of no other command, and what its status says.
+use Rattle.std.proofs.Common.{◌≡◌, ◌≢◌, ◌⊎◌, inl, inr, ℕ, List, [], ◌∷◌, Option, Ok, Err, ap, refl, sym, ◌∙◌, subst, arith}
+use Rattle.std.specs.Prelude.{Result, String, codes, string_bytes, length}
+use Rattle.std.specs.declared.alloc.Global.{Global}
+use Rattle.std.proofs.lemmas.List.{length-map}
+use Rattle.ept_base.specs.Files.{Files}
+use Rattle.ept_space.specs.declared.box3.Box3.{Box3}
+use Rattle.ept_http.specs.QueryWords.{IsBoxText, IsDepthsText}
+use Rattle.ept_http.specs.Laws.{TextHasOneBox, TextHasOneRange}
+use Rattle.ept_query.specs.declared.query_error.QueryError.{QueryError}
+use Rattle.ept_query.specs.declared.query_error.QueryError.TheVariants.{NotComplete, StoreFault, Damaged, SinkFault, Memory}
+use Rattle.ept_run.specs.declared.refusal.Refusal.{Refusal}
+use Rattle.ept_run.specs.Words.{bytes_of, IsBuild, IsInfo, IsQuery, IsUsage}
+use Rattle.ept_run.specs.Answers.{AsksInfo, AsksQuery, IsFaulty}
+use Rattle.ept_run.specs.Queries.{query_status, EndsQuery}
+
+-- ---- one command
+
+module _ (words : List (List ℕ)) (out : List ℕ) (area : Box3) (first last : ℕ) (is : IsQuery words out area first last) where
+  pub query_or_build : (a b : List ℕ) → IsBuild words a b → ⊥
+  query_or_build a b other = apart (sym other.words_are ∙ is.words_are)
+    where
+      apart : codes "build" ∷ a ∷ b ∷ [] ≡ codes "query" ∷ out ∷ is.box ∷ is.depths ∷ [] → ⊥
+      apart same = cc
+
+  pub query_or_info : (las : List ℕ) → IsInfo words las → ⊥
+  query_or_info las other = apart (sym other.words_are ∙ is.words_are)
+    where
+      apart : codes "info" ∷ las ∷ [] ≡ codes "query" ∷ out ∷ is.box ∷ is.depths ∷ [] → ⊥
+      apart same = cc
+
+  pub query_asked : AsksQuery words
+  query_asked = record { folder = out; area = area; first = first; last = last; words_are = is }
+
+  pub query_unrefused : (all : Files) (r : Refusal) → IsFaulty words all r → ⊥
+  query_unrefused all r (inl usage) = usage.1.not_query out area first last is
+  query_unrefused all r (inr (inl asks)) = query_or_build asks.path asks.out asks.words_are
+  query_unrefused all r (inr (inr asks)) = query_or_info asks.path asks.words_are
+
+  pub query_untold : {Fact : List ℕ → Type 0} → AsksInfo words Fact → ⊥
+  query_untold asks = query_or_info asks.path asks.words_are
+
+-- words ask for one box and one range
+module _ (one_box : TextHasOneBox) (one_range : TextHasOneRange) (words : List (List ℕ)) where
+  same_words : (a b c x y z : List ℕ) → codes "query" ∷ a ∷ b ∷ c ∷ [] ≡ codes "query" ∷ x ∷ y ∷ z ∷ [] → (b ≡ y) × (c ≡ z)
+  same_words a b c x y z same = (cc, cc)
+
+  pub query_once : (out other : List ℕ) (area found : Box3) (first last least most : ℕ) → IsQuery words out area first last → IsQuery words other found least most → (area ≡ found) × (first ≡ least) × (last ≡ most)
+  query_once out other area found first last least most one two =
+      let same = same_words out one.box one.depths other two.box two.depths (sym one.words_are ∙ two.words_are) in
+      let depths = one_range two.depths first last least most (subst (λ (t : List ℕ). IsDepthsText t first last) same.1 one.depths_are) two.depths_are in
+      (one_box two.box area found (subst (λ (t : List ℕ). IsBoxText t area) same.0 one.area_is) two.area_is, depths.0, depths.1)
+
+  pub query_ends : (out other : List ℕ) (area found : Box3) (first last least most status : ℕ) (files : Option Files) (old new : Option (List ℕ)) (store sink : Type 0) → IsQuery words out area first last → IsQuery words other found least most → EndsQuery area first last status files old new store sink → EndsQuery found least most status files old new store sink
+  query_ends out other area found first last least most status files old new store sink one two ends =
+      let same = query_once out other area found first last least most one two in
+      subst (λ (a : Box3). EndsQuery a least most status files old new store sink) same.0
+      (subst (λ (n : ℕ). EndsQuery area n most status files old new store sink) same.1 (subst (λ (n : ℕ). EndsQuery area first n status files old new store sink) same.2 ends))
+
+-- words of another number than those of a command
+pub no_command : (words : List (String Global)) → length words ≢ 2 → length words ≢ 3 → length words ≢ 4 → IsUsage (bytes_of words)
+no_command words two three four =
+    let size : length (bytes_of words) ≡ length words = length-map words string_bytes in
+    record {
+      not_build = λ config out is. three (sym size ∙ ap (λ (ws : List (List ℕ)). length ws) is.words_are);
+      not_info = λ las is. two (sym size ∙ ap (λ (ws : List (List ℕ)). length ws) is.words_are);
+      not_query = λ out area first last is. four (sym size ∙ ap (λ (ws : List (List ℕ)). length ws) is.words_are);
+      not_trial = λ count workers cache is. four (sym size ∙ ap (λ (ws : List (List ℕ)). length ws) is.words_are);
+    }
+
+-- ---- its status
+
+status_is_own : (answer : Result ℕ QueryError) → query_status answer ≢ 2
+status_is_own (Ok count) = omega arith
+status_is_own (Err NotComplete) = omega arith
+status_is_own (Err StoreFault) = omega arith
+status_is_own (Err (Damaged file)) = omega arith
+status_is_own (Err SinkFault) = omega arith
+status_is_own (Err Memory) = omega arith
+
+device_rose : (answer : Result ℕ QueryError) (store sink : Type 0) → (answer ≡ Err StoreFault → store) → (answer ≡ Err SinkFault → sink) → query_status answer ≡ 7 → store ⊎ sink
+device_rose (Ok count) store sink stores sinks is = absurd (omega (arith, is))
+device_rose (Err NotComplete) store sink stores sinks is = absurd (omega (arith, is))
+device_rose (Err StoreFault) store sink stores sinks is = inl (stores refl)
+device_rose (Err (Damaged file)) store sink stores sinks is = absurd (omega (arith, is))
+device_rose (Err SinkFault) store sink stores sinks is = inr (sinks refl)
+device_rose (Err Memory) store sink stores sinks is = absurd (omega (arith, is))
+
+module _ (area : Box3) (first last status : ℕ) (files : Option Files) (old new : Option (List ℕ)) (store sink : Type 0) (ends : EndsQuery area first last status files old new store sink) where
+  pub query_not_usage : status ≡ 2 → ⊥
+  query_not_usage is = status_is_own ends.answer (sym ends.status_is ∙ is)
+
+  pub query_rose : status ≡ 7 → store ⊎ sink
+  query_rose is = device_rose ends.answer store sink ends.stores ends.sinks (sym ends.status_is ∙ is)
+
+-- ---- wider
+
+pub first_two : {A B C : Type 0} → A ⊎ B → A ⊎ B ⊎ C
+first_two (inl a) = inl a
+first_two (inr b) = inr (inl b)

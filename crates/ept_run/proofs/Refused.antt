@@ -1,0 +1,421 @@
+-- A build is refused for what its configuration, or its inputs, are refused for.
+use Rattle.std.proofs.Common.{◌≡◌, ◌⊎◌, inl, inr, ⊎_elim, ℕ, List, Option, Some, None, Ok, Err, refl, sym, ◌∙◌, ap, subst, arith}
+use Rattle.std.specs.Prelude.{Result, IsOk, IsErrAnd, IfOk, IfErr}
+use Rattle.ept_base.specs.Files.{Files, SameFiles, StepsBy, Tells}
+use Rattle.ept_base.specs.Moves.{Moves}
+use Rattle.ept_ckpt.specs.declared.letter.Letter.{Letter}
+use Rattle.ept_save.specs.Opening.{IsBad}
+use Rattle.ept_save.specs.Current.{Current, HasCurrent}
+use Rattle.ept_save.specs.Sound.{IsSound}
+use Rattle.ept_save.specs.SoundLaws.{SameIsSound}
+use Rattle.ept_save.proofs.Standing.{settled_some}
+use Rattle.ept_config.specs.declared.config.Config.{Config}
+use Rattle.ept_config.specs.declared.config_error.ConfigError.{ConfigError}
+use Rattle.ept_config.specs.Configuration.{reading}
+use Rattle.ept_config.specs.Facts.{Facts, facts}
+use Rattle.ept_build.specs.declared.error.BuildError.{BuildError}
+use Rattle.ept_build.specs.declared.error.BuildError.TheVariants as build
+use Rattle.ept_build.specs.declared.summary.Summary.{Summary}
+use Rattle.ept_build.specs.Building as building
+use Rattle.ept_build.specs.Errors.{of_scan}
+use Rattle.ept_scan.specs.declared.scan_error.ScanError.{ScanError}
+use Rattle.ept_scan.specs.declared.scan_error.ScanError.TheVariants as scan
+use Rattle.ept_plan.specs.Plans as plans
+use Rattle.ept_run.specs.declared.refusal.Refusal.{Refusal}
+use Rattle.ept_run.specs.declared.refusal.Refusal.TheVariants.{Usage, BadConfiguration, BadLas, OutOfBounds, NoBounds, SourceChanged, TooManyPoints, TooManyNodes, Differs, BadCheckpoint, TileDamaged, SourceFault, StoreFault, Memory}
+use Rattle.ept_run.specs.Errors.{of_build}
+use Rattle.ept_run.specs.Requests.{HasConfiguration, HasBadConfiguration, IsAcceptedAt, IsDoneAt, IsBuiltAt, Comes, ComesAt, DiffersAt, IsConfigured, TellsDifference, ConfigurationIsRefused, BuildIsRefused, IsDefinite, IsEarly, Fails}
+use Rattle.ept_config.proofs.FactsTell.{config_same}
+
+-- a fact of a told thing gives another
+pub tells_as : {X : Type 0} (P Q : X → Type 0) (told : Option X) → ((x : X) → P x → Q x) → Tells P told → Tells Q told
+tells_as P Q None step p = tt
+tells_as P Q (Some x) step p = step x p
+
+-- the refusal of a build as this program's
+abbrev pub told_as : Result Summary BuildError → Result Summary Refusal
+told_as (Ok summary) = Ok summary
+told_as (Err error) = Err (of_build error)
+
+-- no refusal of a build is that of a configuration
+pub never_configured : (e : BuildError) (error : ConfigError) → of_build e ≡ BadConfiguration error → ⊥
+never_configured build.StoreFault error is = cc
+never_configured (build.BadCheckpoint letter) error is = cc
+never_configured (build.TileDamaged key) error is = cc
+never_configured (build.Differs field kept given) error is = cc
+never_configured build.SourceFault error is = cc
+never_configured (build.BadLas source fault) error is = cc
+never_configured (build.OutOfBounds source number) error is = cc
+never_configured (build.TooManyPoints source) error is = cc
+never_configured build.NoBounds error is = cc
+never_configured (build.SourceChanged source number) error is = cc
+never_configured build.TooManyNodes error is = cc
+never_configured build.Memory error is = cc
+
+some_same : {X : Type 0} (o : Option X) (a b : X) → o ≡ Some a → o ≡ Some b → a ≡ b
+some_same o a b left right = cc
+
+ok_same : {A E : Type 0} (x y : A) → ◌≡◌ {A = Result A E} (Ok x) (Ok y) → x ≡ y
+ok_same x y same = cc
+
+err_same : {A E : Type 0} (x y : E) → ◌≡◌ {A = Result A E} (Err x) (Err y) → x ≡ y
+err_same x y same = cc
+
+differ : {A E : Type 0} (x : A) (y : E) → ◌≡◌ {A = Result A E} (Ok x) (Err y) → ⊥
+differ x y same = cc
+
+is_err : {A E : Type 0} (r : Result A E) (e : E) → IsErrAnd r (λ x. x ≡ e) → r ≡ Err e
+is_err (Ok x) e h = absurd h
+is_err (Err x) e h = ap Err h
+
+-- a refusal that is passed on comes as it came
+pub carried : {A B : Type 0} (a : Result A Refusal) (b : Result B Refusal) (e r : Refusal) → a ≡ Err e → b ≡ Err e → (a ≡ Err r) ⊎ Fails a → (b ≡ Err r) ⊎ Fails b
+carried {A} a b e r is_a is_b (inl same) = inl (is_b ∙ ap Err (err_same {A = A} e r (sym is_a ∙ same)))
+carried {A} a b e r is_a is_b (inr (inl fault)) = inr (inl (is_b ∙ ap Err (err_same {A = A} e SourceFault (sym is_a ∙ fault))))
+carried {A} a b e r is_a is_b (inr (inr (inl fault))) = inr (inr (inl (is_b ∙ ap Err (err_same {A = A} e StoreFault (sym is_a ∙ fault)))))
+carried {A} a b e r is_a is_b (inr (inr (inr lack))) = inr (inr (inr (is_b ∙ ap Err (err_same {A = A} e Memory (sym is_a ∙ lack)))))
+
+pub carried_comes : {A B : Type 0} (files : Option Files) (Why : Files → Refusal → Type 0) (a : Result A Refusal) (b : Result B Refusal) (e : Refusal) → a ≡ Err e → IsErrAnd b (λ x. x ≡ e)
+    → Tells (λ all. (r : Refusal) → IsDefinite r → Why all r → (a ≡ Err r) ⊎ Fails a) files → Tells (λ all. (r : Refusal) → IsDefinite r → Why all r → (b ≡ Err r) ⊎ Fails b) files
+carried_comes None Why a b e is_a is_b comes = tt
+carried_comes (Some all) Why a b e is_a is_b comes = λ r definite why. carried a b e r is_a (is_err b e is_b) (comes r definite why)
+
+-- so does one of an answer that is accepted
+no_ok : {A : Type 0} (a : Result A Refusal) (e : Refusal) → a ≡ Err e → IsOk a → ⊥
+no_ok (Ok x) e same ok = differ x e same
+no_ok (Err x) e same ok = cc
+
+pub carried_accepted : {A B : Type 0} (a : Result A Refusal) (b : Result B Refusal) (e : Refusal) → a ≡ Err e → IsErrAnd b (λ x. x ≡ e) → IsOk a ⊎ Fails a → IsOk b ⊎ Fails b
+carried_accepted a b e is_a is_b (inl ok) = absurd (no_ok a e is_a ok)
+carried_accepted {A} a b e is_a is_b (inr (inl fault)) = inr (inl (is_err b e is_b ∙ ap Err (err_same {A = A} e SourceFault (sym is_a ∙ fault))))
+carried_accepted {A} a b e is_a is_b (inr (inr (inl fault))) = inr (inr (inl (is_err b e is_b ∙ ap Err (err_same {A = A} e StoreFault (sym is_a ∙ fault)))))
+carried_accepted {A} a b e is_a is_b (inr (inr (inr lack))) = inr (inr (inr (is_err b e is_b ∙ ap Err (err_same {A = A} e Memory (sym is_a ∙ lack)))))
+
+module _ (all : Files) (path : List ℕ) where
+  one_reading : (a b : List ℕ) (x y : Result Facts ConfigError) → all path ≡ Some a → all path ≡ Some b → reading a ≡ x → reading b ≡ y → x ≡ y
+  one_reading a b x y left right is_x is_y = sym is_x ∙ ap reading (some_same (all path) a b left right) ∙ is_y
+
+  one_config : (a b : Config) → HasConfiguration all path a → HasConfiguration all path b → a ≡ b
+  one_config a b is_a is_b =
+      let same : ◌≡◌ {A = Result Facts ConfigError} (Ok (facts a)) (Ok (facts b)) = one_reading is_a.bytes is_b.bytes (Ok (facts a)) (Ok (facts b)) is_a.content is_b.content is_a.reads is_b.reads in
+      config_same a b (ok_same {E = ConfigError} (facts a) (facts b) same)
+
+  not_both : (a : Config) (e : ConfigError) → HasConfiguration all path a → HasBadConfiguration all path e → ⊥
+  not_both a e is_a is_e =
+      differ (facts a) e (one_reading is_a.bytes is_e.bytes (Ok (facts a)) (Err e) is_a.content is_e.content is_a.reads is_e.refused)
+
+  one_error : (e f : ConfigError) → HasBadConfiguration all path e → HasBadConfiguration all path f → e ≡ f
+  one_error e f is_e is_f =
+      err_same {A = Facts} e f (one_reading is_e.bytes is_f.bytes (Err e) (Err f) is_e.content is_f.content is_e.refused is_f.refused)
+
+  -- ---- the configuration is refused
+
+  -- one that is refused is refused for this cause alone
+  came_bad : {A : Type 0} (e : ConfigError) (r : Refusal) → HasBadConfiguration all path e → IsDefinite r → ConfigurationIsRefused all path r
+      → (◌≡◌ {A = Result A Refusal} (Err (BadConfiguration e)) (Err r)) ⊎ Fails {A = A} (Err (BadConfiguration e))
+  came_bad e (BadConfiguration f) bad definite why = inl (ap (λ x. Err (BadConfiguration x)) (one_error e f bad why))
+  came_bad e Usage bad definite why = absurd why
+  came_bad e (BadLas source fault) bad definite why = absurd why
+  came_bad e (OutOfBounds source number) bad definite why = absurd why
+  came_bad e NoBounds bad definite why = absurd why
+  came_bad e (SourceChanged source number) bad definite why = absurd why
+  came_bad e (TooManyPoints source) bad definite why = absurd why
+  came_bad e TooManyNodes bad definite why = absurd why
+  came_bad e (Differs field) bad definite why = absurd why
+  came_bad e (BadCheckpoint letter) bad definite why = absurd why
+  came_bad e (TileDamaged key) bad definite why = absurd why
+  came_bad e SourceFault bad definite why = absurd (definite (inl refl))
+  came_bad e StoreFault bad definite why = absurd why
+  came_bad e Memory bad definite why = absurd (definite (inr (inr refl)))
+
+  pub came_before : {A : Type 0} (e r : Refusal) → ConfigurationIsRefused all path e → IsDefinite r → ConfigurationIsRefused all path r
+      → (◌≡◌ {A = Result A Refusal} (Err e) (Err r)) ⊎ Fails {A = A} (Err e)
+  came_before (BadConfiguration e) r is definite why = came_bad e r is definite why
+  came_before SourceFault r is definite why = inr (inl refl)
+  came_before Memory r is definite why = inr (inr (inr refl))
+  came_before Usage r is definite why = absurd is
+  came_before (BadLas source fault) r is definite why = absurd is
+  came_before (OutOfBounds source number) r is definite why = absurd is
+  came_before NoBounds r is definite why = absurd is
+  came_before (SourceChanged source number) r is definite why = absurd is
+  came_before (TooManyPoints source) r is definite why = absurd is
+  came_before TooManyNodes r is definite why = absurd is
+  came_before (Differs field) r is definite why = absurd is
+  came_before (BadCheckpoint letter) r is definite why = absurd is
+  came_before (TileDamaged key) r is definite why = absurd is
+  came_before StoreFault r is definite why = absurd is
+
+  -- it has no build
+  pub not_accepted : {A : Type 0} (answer : Result A Refusal) (e : Refusal) (start : Files) → answer ≡ Err e → ConfigurationIsRefused all path e → IsAcceptedAt all start path → IsOk answer ⊎ Fails answer
+  not_accepted answer (BadConfiguration e) start err is asked = absurd (not_both asked.config e asked.configures is)
+  not_accepted answer SourceFault start err is asked = inr (inl err)
+  not_accepted answer Memory start err is asked = inr (inr (inr err))
+  not_accepted answer Usage start err is asked = absurd is
+  not_accepted answer (BadLas source fault) start err is asked = absurd is
+  not_accepted answer (OutOfBounds source number) start err is asked = absurd is
+  not_accepted answer NoBounds start err is asked = absurd is
+  not_accepted answer (SourceChanged source number) start err is asked = absurd is
+  not_accepted answer (TooManyPoints source) start err is asked = absurd is
+  not_accepted answer TooManyNodes start err is asked = absurd is
+  not_accepted answer (Differs field) start err is asked = absurd is
+  not_accepted answer (BadCheckpoint letter) start err is asked = absurd is
+  not_accepted answer (TileDamaged key) start err is asked = absurd is
+  not_accepted answer StoreFault start err is asked = absurd is
+
+  -- why a configuration is refused is why its build is
+  pub refused_before : (Begins : Files → Files → Type 0) (e : Refusal) → ConfigurationIsRefused all path e → BuildIsRefused all Begins path e
+  refused_before Begins (BadConfiguration e) is = is
+  refused_before Begins SourceFault is = tt
+  refused_before Begins Memory is = tt
+  refused_before Begins Usage is = absurd is
+  refused_before Begins (BadLas source fault) is = absurd is
+  refused_before Begins (OutOfBounds source number) is = absurd is
+  refused_before Begins NoBounds is = absurd is
+  refused_before Begins (SourceChanged source number) is = absurd is
+  refused_before Begins (TooManyPoints source) is = absurd is
+  refused_before Begins TooManyNodes is = absurd is
+  refused_before Begins (Differs field) is = absurd is
+  refused_before Begins (BadCheckpoint letter) is = absurd is
+  refused_before Begins (TileDamaged key) is = absurd is
+  refused_before Begins StoreFault is = absurd is
+
+  -- ---- the configuration is read, and its build answers
+
+  module _ (config : Config) (configures : HasConfiguration all path config) where
+    -- then it is not refused
+    not_refused : (r : Refusal) → IsDefinite r → ConfigurationIsRefused all path r → ⊥
+    not_refused (BadConfiguration e) definite why = not_both config e configures why
+    not_refused Usage definite why = why
+    not_refused (BadLas source fault) definite why = why
+    not_refused (OutOfBounds source number) definite why = why
+    not_refused NoBounds definite why = why
+    not_refused (SourceChanged source number) definite why = why
+    not_refused (TooManyPoints source) definite why = why
+    not_refused TooManyNodes definite why = why
+    not_refused (Differs field) definite why = why
+    not_refused (BadCheckpoint letter) definite why = why
+    not_refused (TileDamaged key) definite why = why
+    not_refused SourceFault definite why = definite (inl refl)
+    not_refused StoreFault definite why = why
+    not_refused Memory definite why = definite (inr (inr refl))
+
+    module _ (Begins : Files → Files → Type 0) where
+      -- why a build is refused is why the command is
+      refused_as : (e : BuildError) → ((start : Files) → Begins all start → building.IsRefused all config start e) → BuildIsRefused all Begins path (of_build e)
+      refused_as build.StoreFault is = tt
+      refused_as build.SourceFault is = tt
+      refused_as (build.BadCheckpoint letter) is = (config, configures, is)
+      refused_as (build.TileDamaged key) is = (config, configures, is)
+      refused_as (build.Differs field kept given) is = (kept, given, (config, configures, is))
+      refused_as (build.BadLas source fault) is = (config, configures, is)
+      refused_as (build.OutOfBounds source number) is = (config, configures, is)
+      refused_as (build.TooManyPoints source) is = (config, configures, is)
+      refused_as build.NoBounds is = (config, configures, is)
+      refused_as (build.SourceChanged source number) is = (config, configures, is)
+      refused_as build.TooManyNodes is = (config, configures, is)
+      refused_as build.Memory is = tt
+
+    done_as : (start : Files) → IsDoneAt all start path → building.IsDoneAlready config start
+    done_as start asked = subst (λ (c : Config). building.IsDoneAlready c start) (one_config asked.config config asked.configures configures) asked.done
+
+    module _ (answer : Result Summary BuildError) where
+      fails_as : building.Fails answer → Fails (told_as answer)
+      fails_as (inl is) = inr (inl (ap told_as is))
+      fails_as (inr (inl is)) = inl (ap told_as is)
+      fails_as (inr (inr is)) = inr (inr (ap told_as is))
+
+      accepted_after : (start : Files) → (building.IsAccepted all config start → IsOk answer ⊎ building.Fails answer)
+          → IsAcceptedAt all start path → IsOk (told_as answer) ⊎ Fails (told_as answer)
+      accepted_after start accepts asked =
+          let mine : building.IsAccepted all config start = subst (λ (c : Config). building.IsAccepted all c start) (one_config asked.config config asked.configures configures) asked.accepted in
+          ⊎_elim (λ is. inl (ok_as answer is)) (λ fails. inr (fails_as fails)) (accepts mine)
+        where
+          ok_as : (a : Result Summary BuildError) → IsOk a → IsOk (told_as a)
+          ok_as (Ok summary) is = is
+          ok_as (Err e) is = absurd cc
+
+-- ---- after which refusals nothing was put
+
+pub early_as : (e : BuildError) → IsEarly (of_build e) → building.IsEarly e
+early_as build.StoreFault early = early
+early_as build.SourceFault early = early
+early_as (build.BadCheckpoint letter) early = tt
+early_as (build.TileDamaged key) early = early
+early_as (build.Differs field kept given) early = tt
+early_as (build.BadLas source fault) early = tt
+early_as (build.OutOfBounds source number) early = tt
+early_as (build.TooManyPoints source) early = tt
+early_as build.NoBounds early = tt
+early_as (build.SourceChanged source number) early = early
+early_as build.TooManyNodes early = early
+early_as build.Memory early = early
+
+-- ---- the same of a shelf that may tell
+
+module _ (shelf later : Option Files) (same : later ≡ shelf) (path : List ℕ) (config : Config) (configures : Tells (λ all. HasConfiguration all path config) shelf) (store : Option Files) (may : Files → Type 0) where
+  -- what the build begins with is what the command does
+  begins : (all start : Files) → building.BeginsWith shelf store may all start → building.BeginsWith later store may all start
+  begins all start b = record { shelf_told = same ∙ b.shelf_told; told = b.told; settled = b.settled; sound = b.sound }
+
+  -- a shelf that tells has the configuration
+  known : (all start : Files) → building.BeginsWith shelf store may all start → HasConfiguration all path config
+  known all start b = subst (λ (o : Option Files). Tells (λ all. HasConfiguration all path config) o) b.shelf_told configures
+
+  module _ (answer : Result Summary BuildError) where
+    pub build_refused : (e : BuildError) → answer ≡ Err e
+        → ((all start : Files) → building.BeginsWith later store may all start → IfErr answer (building.IsRefused all config start))
+        → Tells (λ all. BuildIsRefused all (building.BeginsWith shelf store may) path (of_build e)) shelf
+    build_refused e is refused =
+        tells_as (λ all. HasConfiguration all path config) (λ all. BuildIsRefused all (building.BeginsWith shelf store may) path (of_build e)) shelf
+        (λ all has. refused_as all path config has (building.BeginsWith shelf store may) e (λ start b. subst (λ (a : Result Summary BuildError). IfErr a (building.IsRefused all config start)) is (refused all start (begins all start b)))) configures
+
+    pub built_at : (summary : Summary) (new : Option Files) → answer ≡ Ok summary
+        → ((all start : Files) → building.BeginsWith later store may all start → IfOk answer (λ summary. Tells (building.IsBuilt all config start summary) new))
+        → Tells (λ all. IsBuiltAt all (building.BeginsWith shelf store may) path summary new) shelf
+    built_at summary new is built =
+        tells_as (λ all. HasConfiguration all path config) (λ all. IsBuiltAt all (building.BeginsWith shelf store may) path summary new) shelf
+        (λ all has. record {
+          config = config;
+          configures = has;
+          built = λ start b. subst (λ (a : Result Summary BuildError). IfOk a (λ summary. Tells (building.IsBuilt all config start summary) new)) is (built all start (begins all start b));
+        }) configures
+
+    pub build_accepted : ((all start : Files) → building.BeginsWith later store may all start → building.IsAccepted all config start → IsOk answer ⊎ building.Fails answer)
+        → (all start : Files) → building.BeginsWith shelf store may all start → IsAcceptedAt all start path → IsOk (told_as answer) ⊎ Fails (told_as answer)
+    build_accepted accepts all start b asked = accepted_after all path config (known all start b) answer start (accepts all start (begins all start b)) asked
+
+  -- a configuration that is read is refused for nothing
+  pub build_comes : {A : Type 0} (a : Result A Refusal) → Tells (λ all. (r : Refusal) → IsDefinite r → ConfigurationIsRefused all path r → (a ≡ Err r) ⊎ Fails a) shelf
+  build_comes a =
+      tells_as (λ all. HasConfiguration all path config) (λ all. (r : Refusal) → IsDefinite r → ConfigurationIsRefused all path r → (a ≡ Err r) ⊎ Fails a) shelf
+      (λ all has r definite why. absurd (not_refused all path config has r definite why)) configures
+
+  -- what holds of a build that begins with sound files holds of the command
+  pub begun : {M : Files → Type 0} → ((all start : Files) → building.BeginsWith later store may all start → M all) → (all start : Files) → building.BeginsWith shelf store may all start → M all
+  begun holds all start b = holds all start (begins all start b)
+
+  pub begun_done : {M : Type 0} → ((all start : Files) → building.BeginsWith later store may all start → building.IsDoneAlready config start → M)
+      → (all start : Files) → building.BeginsWith shelf store may all start → IsDoneAt all start path → M
+  begun_done holds all start b asked = holds all start (begins all start b) (done_as all path config (known all start b) start asked)
+
+  -- why a build comes to a refusal is why the command does
+  module _ (answer : Result Summary BuildError) where
+    pub came_to : ((all start : Files) → building.BeginsWith later store may all start → (current : Current) (e : ScanError) → HasCurrent current start → plans.IsDefinite e → building.InputsAreRefused all config current e → (answer ≡ Err (of_scan e)) ⊎ building.Fails answer)
+        → ((all start : Files) → building.BeginsWith later store may all start → (current : Current) → HasCurrent current start → plans.GoesOn config current → ¬ building.IsDoneAlready config start → building.HasTooManyNodes all config current → (answer ≡ Err build.TooManyNodes) ⊎ building.Fails answer)
+        → (all start : Files) → building.BeginsWith shelf store may all start → (r : Refusal) → ComesAt all start r path → (told_as answer ≡ Err r) ⊎ Fails (told_as answer)
+    came_to inputs many all start b r asked = by r (subst (λ (c : Config). Comes all c start asked.current r) (one_config all path asked.config config asked.configures (known all start b)) asked.because)
+      where
+        of : (e : BuildError) → (answer ≡ Err e) ⊎ building.Fails answer → (told_as answer ≡ Err (of_build e)) ⊎ Fails (told_as answer)
+        of e came = ⊎_elim (λ is. inl (ap told_as is)) (λ fails. inr (fails_as all path config (known all start b) answer fails)) came
+
+        by : (r : Refusal) → Comes all config start asked.current r → (told_as answer ≡ Err r) ⊎ Fails (told_as answer)
+        by Usage why = absurd why
+        by (BadConfiguration e) why = absurd why
+        by (BadLas source fault) why = of (build.BadLas source fault) (inputs all start (begins all start b) asked.current (scan.BadLas source fault) asked.has_current (λ same. cc, λ same. cc) why)
+        by (OutOfBounds source number) why = of (build.OutOfBounds source number) (inputs all start (begins all start b) asked.current (scan.OutOfBounds source number) asked.has_current (λ same. cc, λ same. cc) why)
+        by NoBounds why = of build.NoBounds (inputs all start (begins all start b) asked.current scan.NoBounds asked.has_current (λ same. cc, λ same. cc) why)
+        by (SourceChanged source number) why = absurd why
+        by (TooManyPoints source) why = of (build.TooManyPoints source) (inputs all start (begins all start b) asked.current (scan.TooManyPoints source) asked.has_current (λ same. cc, λ same. cc) why)
+        by TooManyNodes why = of build.TooManyNodes (many all start (begins all start b) asked.current asked.has_current why.0 why.1 why.2)
+        by (Differs field) why = absurd why
+        by (BadCheckpoint letter) why = absurd why
+        by (TileDamaged key) why = absurd why
+        by SourceFault why = absurd why
+        by StoreFault why = absurd why
+        by Memory why = absurd why
+
+    pub differed_to : ((all start : Files) → building.BeginsWith later store may all start → (current : Current) → HasCurrent current start → ¬ plans.GoesOn config current → building.TellsDifference answer ⊎ building.Fails answer)
+        → (all start : Files) → building.BeginsWith shelf store may all start → DiffersAt all start path → TellsDifference (told_as answer) ⊎ Fails (told_as answer)
+    differed_to differs all start b asked =
+        let mine : ¬ plans.GoesOn config asked.current = subst (λ (c : Config). ¬ plans.GoesOn c asked.current) (one_config all path asked.config config asked.configures (known all start b)) asked.differs in
+        ⊎_elim (λ (told : building.TellsDifference answer). inl (told.0, ap told_as told.3)) (λ fails. inr (fails_as all path config (known all start b) answer fails)) (differs all start (begins all start b) asked.current asked.has_current mine)
+
+    pub bad_to : ((letter : Letter) → (start : Files) → store ≡ Some start → IsBad start letter → (answer ≡ Err (build.BadCheckpoint letter)) ⊎ building.Fails answer)
+        → (all start : Files) (letter : Letter) → shelf ≡ Some all → store ≡ Some start → IsBad start letter → IsConfigured all path → (told_as answer ≡ Err (BadCheckpoint letter)) ⊎ Fails (told_as answer)
+    bad_to bad all start letter told stored is asked =
+        ⊎_elim (λ is. inl (ap told_as is)) (λ fails. inr (fails_as all path config asked_config answer fails)) (bad letter start stored is)
+      where
+        asked_config : HasConfiguration all path config
+        asked_config = subst (λ (o : Option Files). Tells (λ all. HasConfiguration all path config) o) told configures
+
+-- ---- of a configuration that is refused
+
+module _ (files : Option Files) (path : List ℕ) {A : Type 0} (answer : Result A Refusal) (e : Refusal) (is : answer ≡ Err e) (refused : Tells (λ all. ConfigurationIsRefused all path e) files) where
+  refused_told : (all : Files) → files ≡ Some all → ConfigurationIsRefused all path e
+  refused_told all told = subst (λ (o : Option Files). Tells (λ all. ConfigurationIsRefused all path e) o) told refused
+
+  -- it is none, so it is refused for want of memory or a fault of the shelf
+  only_fails : (all : Files) (config : Config) → files ≡ Some all → HasConfiguration all path config → Fails answer
+  only_fails all config told has = by e is (refused_told all told)
+    where
+      by : (r : Refusal) → answer ≡ Err r → ConfigurationIsRefused all path r → Fails answer
+      by (BadConfiguration error) same why = absurd (not_both all path config error has why)
+      by SourceFault same why = inl same
+      by Memory same why = inr (inr same)
+      by Usage same why = absurd why
+      by (BadLas source fault) same why = absurd why
+      by (OutOfBounds source number) same why = absurd why
+      by NoBounds same why = absurd why
+      by (SourceChanged source number) same why = absurd why
+      by (TooManyPoints source) same why = absurd why
+      by TooManyNodes same why = absurd why
+      by (Differs field) same why = absurd why
+      by (BadCheckpoint letter) same why = absurd why
+      by (TileDamaged key) same why = absurd why
+      by StoreFault same why = absurd why
+
+  pub never_comes : (store : Option Files) (may : Files → Type 0) (all start : Files) → building.BeginsWith files store may all start → (r : Refusal) → ComesAt all start r path → (answer ≡ Err r) ⊎ Fails answer
+  never_comes store may all start b r asked = inr (only_fails all asked.config b.shelf_told asked.configures)
+
+  pub never_differs : (store : Option Files) (may : Files → Type 0) (all start : Files) → building.BeginsWith files store may all start → DiffersAt all start path → TellsDifference answer ⊎ Fails answer
+  never_differs store may all start b asked = inr (only_fails all asked.config b.shelf_told asked.configures)
+
+  pub never_bad : (store : Option Files) (all start : Files) (letter : Letter) → files ≡ Some all → store ≡ Some start → IsBad start letter → IsConfigured all path → (answer ≡ Err (BadCheckpoint letter)) ⊎ Fails answer
+  never_bad store all start letter told stored bad asked = inr (only_fails all asked.0 told asked.1)
+
+-- a difference that is passed on comes as it came
+pub carried_difference : {A B : Type 0} (a : Result A Refusal) (b : Result B Refusal) (e : Refusal) → a ≡ Err e → IsErrAnd b (λ x. x ≡ e) → TellsDifference a ⊎ Fails a → TellsDifference b ⊎ Fails b
+carried_difference {A} a b e is_a is_b (inl told) = inl (told.0, is_err b e is_b ∙ ap Err (err_same {A = A} e (Differs told.0) (sym is_a ∙ told.1)))
+carried_difference {A} a b e is_a is_b (inr (inl fault)) = inr (inl (is_err b e is_b ∙ ap Err (err_same {A = A} e SourceFault (sym is_a ∙ fault))))
+carried_difference {A} a b e is_a is_b (inr (inr (inl fault))) = inr (inr (inl (is_err b e is_b ∙ ap Err (err_same {A = A} e StoreFault (sym is_a ∙ fault)))))
+carried_difference {A} a b e is_a is_b (inr (inr (inr lack))) = inr (inr (inr (is_err b e is_b ∙ ap Err (err_same {A = A} e Memory (sym is_a ∙ lack)))))
+
+pub carried_one : {A B : Type 0} (a : Result A Refusal) (b : Result B Refusal) (e r : Refusal) → a ≡ Err e → IsErrAnd b (λ x. x ≡ e) → (a ≡ Err r) ⊎ Fails a → (b ≡ Err r) ⊎ Fails b
+carried_one a b e r is_a is_b came = carried a b e r is_a (is_err b e is_b) came
+
+-- an answer that is accepted comes to no refusal
+ok_fails : {A : Type 0} (a : Result A Refusal) (x : A) → a ≡ Ok x → Fails a → ⊥
+ok_fails a x is (inl fault) = differ x SourceFault (sym is ∙ fault)
+ok_fails a x is (inr (inl fault)) = differ x StoreFault (sym is ∙ fault)
+ok_fails a x is (inr (inr lack)) = differ x Memory (sym is ∙ lack)
+
+pub ok_comes : {A : Type 0} (a : Result A Refusal) (x : A) (r : Refusal) → a ≡ Ok x → (a ≡ Err r) ⊎ Fails a → ⊥
+ok_comes a x r is (inl refused) = differ x r (sym is ∙ refused)
+ok_comes a x r is (inr fails) = ok_fails a x is fails
+
+pub ok_differs : {A : Type 0} (a : Result A Refusal) (x : A) → a ≡ Ok x → TellsDifference a ⊎ Fails a → ⊥
+ok_differs a x is (inl told) = differ x (Differs told.0) (sym is ∙ told.1)
+ok_differs a x is (inr fails) = ok_fails a x is fails
+
+-- ---- a store that is left as it is
+
+module _ {D : Type 0} (files : D → Option Files) (may_leave : D → Files → Type 0) (moment : D → ℕ) (image_since : D → ℕ → Files → Type 0) where
+  pub stays : (d : D) → Moves files may_leave moment image_since SameFiles d d
+  stays d = record {
+    reads = same_reads (files d);
+    leaves = λ image now. (image, now, λ name. refl);
+    later = omega arith;
+    moments = λ t image le since. inl since;
+  }
+    where
+      same_reads : (o : Option Files) → StepsBy SameFiles o o
+      same_reads None = tt
+      same_reads (Some all) = λ name. refl
+
+  pub stays_sound : SameIsSound → (shelf : Option Files) (d : D) (all start : Files) → building.BeginsWith shelf (files d) (may_leave d) all start → Moves files may_leave moment image_since (λ (a b : Files). IsSound all b) d d
+  stays_sound same_sound shelf d all start b = record {
+    reads = subst (λ (o : Option Files). StepsBy (λ (a b : Files). IsSound all b) o o) (sym b.told) b.sound;
+    leaves = λ image now. (image, now, same_sound all start image (settled_some (files d) (may_leave d) start b.told b.settled image now) b.sound);
+    later = omega arith;
+    moments = λ t image le since. inl since;
+  }

@@ -1,0 +1,211 @@
+-- What a run answers follows from what its command does, and from how its line is said.
+use Rattle.std.proofs.Common.{◌≡◌, ◌≢◌, ◌⊎◌, inl, inr, ⊎_elim, ℕ, List, Option, Some, None, Ok, Err, refl, sym, ◌∙◌, ap, subst, arith}
+use Rattle.std.specs.Prelude.{Result, Vec, IfOk, IfErr, IsOk}
+use Rattle.std.specs.Io.KnownBytes.{Appends}
+use Rattle.std.specs.declared.alloc.Global.{Global}
+use Rattle.ept_base.specs.Files.{Files, Tells}
+use Rattle.ept_config.specs.declared.config_error.ConfigError.{ConfigError}
+use Rattle.ept_las.specs.declared.header.Header.{Header}
+use Rattle.ept_run.specs.Words.{IsUsage}
+use Rattle.ept_run.specs.declared.refusal.Refusal.{Refusal}
+use Rattle.ept_run.specs.declared.refusal.Refusal.TheVariants.{Usage, BadConfiguration, BadLas, OutOfBounds, NoBounds, SourceChanged, TooManyPoints, TooManyNodes, Differs, BadCheckpoint, TileDamaged, SourceFault, StoreFault, Memory}
+use Rattle.ept_run.specs.Lines.{status_of, line_of}
+use Rattle.ept_run.specs.Requests.{IsDefinite, IsEarly, TellsDifference, Fails}
+use Rattle.ept_run.specs.Answers.{Yields, YieldsRefusal, YieldsDifference, IsAnswer, IsDone, Ends, IsFaulty, IsRefused, HasRisen, Says, IsTold, EndsWith, Refuses, IsCut}
+
+-- ---- statuses
+
+usage_only : (r : Refusal) → status_of r ≡ 2 → r ≡ Usage
+usage_only Usage is = refl
+usage_only (BadConfiguration e) is = absurd (omega (arith, is))
+usage_only (BadLas source fault) is = absurd (omega (arith, is))
+usage_only (OutOfBounds source number) is = absurd (omega (arith, is))
+usage_only NoBounds is = absurd (omega (arith, is))
+usage_only (SourceChanged source number) is = absurd (omega (arith, is))
+usage_only (TooManyPoints source) is = absurd (omega (arith, is))
+usage_only TooManyNodes is = absurd (omega (arith, is))
+usage_only (Differs field) is = absurd (omega (arith, is))
+usage_only (BadCheckpoint letter) is = absurd (omega (arith, is))
+usage_only (TileDamaged key) is = absurd (omega (arith, is))
+usage_only SourceFault is = absurd (omega (arith, is))
+usage_only StoreFault is = absurd (omega (arith, is))
+usage_only Memory is = absurd (omega (arith, is))
+
+device_only : (r : Refusal) → status_of r ≡ 7 → (r ≡ SourceFault) ⊎ (r ≡ StoreFault)
+device_only Usage is = absurd (omega (arith, is))
+device_only (BadConfiguration e) is = absurd (omega (arith, is))
+device_only (BadLas source fault) is = absurd (omega (arith, is))
+device_only (OutOfBounds source number) is = absurd (omega (arith, is))
+device_only NoBounds is = absurd (omega (arith, is))
+device_only (SourceChanged source number) is = absurd (omega (arith, is))
+device_only (TooManyPoints source) is = absurd (omega (arith, is))
+device_only TooManyNodes is = absurd (omega (arith, is))
+device_only (Differs field) is = absurd (omega (arith, is))
+device_only (BadCheckpoint letter) is = absurd (omega (arith, is))
+device_only (TileDamaged key) is = absurd (omega (arith, is))
+device_only SourceFault is = inl refl
+device_only StoreFault is = inr refl
+device_only Memory is = absurd (omega (arith, is))
+
+configuration_only : (r : Refusal) → status_of r ≡ 3 → (e : ConfigError) × (r ≡ BadConfiguration e)
+configuration_only Usage is = absurd (omega (arith, is))
+configuration_only (BadConfiguration e) is = (e, refl)
+configuration_only (BadLas source fault) is = absurd (omega (arith, is))
+configuration_only (OutOfBounds source number) is = absurd (omega (arith, is))
+configuration_only NoBounds is = absurd (omega (arith, is))
+configuration_only (SourceChanged source number) is = absurd (omega (arith, is))
+configuration_only (TooManyPoints source) is = absurd (omega (arith, is))
+configuration_only TooManyNodes is = absurd (omega (arith, is))
+configuration_only (Differs field) is = absurd (omega (arith, is))
+configuration_only (BadCheckpoint letter) is = absurd (omega (arith, is))
+configuration_only (TileDamaged key) is = absurd (omega (arith, is))
+configuration_only SourceFault is = absurd (omega (arith, is))
+configuration_only StoreFault is = absurd (omega (arith, is))
+configuration_only Memory is = absurd (omega (arith, is))
+
+-- a refusal is not the work done
+never_done : (r : Refusal) → status_of r ≢ 0
+never_done Usage = omega arith
+never_done (BadConfiguration e) = omega arith
+never_done (BadLas source fault) = omega arith
+never_done (OutOfBounds source number) = omega arith
+never_done NoBounds = omega arith
+never_done (SourceChanged source number) = omega arith
+never_done (TooManyPoints source) = omega arith
+never_done TooManyNodes = omega arith
+never_done (Differs field) = omega arith
+never_done (BadCheckpoint letter) = omega arith
+never_done (TileDamaged key) = omega arith
+never_done SourceFault = omega arith
+never_done StoreFault = omega arith
+never_done Memory = omega arith
+
+-- the count of the device that a refusal names rose
+risen_of : (r : Refusal) (shelf store : Type 0) → (r ≡ SourceFault → shelf) → (r ≡ StoreFault → store) → HasRisen r shelf store
+risen_of Usage shelf store sources stores = tt
+risen_of (BadConfiguration e) shelf store sources stores = tt
+risen_of (BadLas source fault) shelf store sources stores = tt
+risen_of (OutOfBounds source number) shelf store sources stores = tt
+risen_of NoBounds shelf store sources stores = tt
+risen_of (SourceChanged source number) shelf store sources stores = tt
+risen_of (TooManyPoints source) shelf store sources stores = tt
+risen_of TooManyNodes shelf store sources stores = tt
+risen_of (Differs field) shelf store sources stores = tt
+risen_of (BadCheckpoint letter) shelf store sources stores = tt
+risen_of (TileDamaged key) shelf store sources stores = tt
+risen_of SourceFault shelf store sources stores = sources refl
+risen_of StoreFault shelf store sources stores = stores refl
+risen_of Memory shelf store sources stores = tt
+
+-- ---- what a command does
+
+-- What is known of a command whose answer is a line or a refusal: shelf and store say that the count of that device rose, same that nothing was put, and Begins of the shelf's files and the store's that a build begins with them.
+pub record Carries (words : List (List ℕ)) (files : Option Files) (Begins : Files → Files → Type 0) (new : Option Files) (shelf store same : Type 0) (answer : Result (Vec ℕ Global) Refusal) : Type 0 where
+  pub is_answer : IfOk answer (λ line. IsAnswer words line.items)
+  pub done : IfOk answer (λ line. Tells (λ all. IsDone words all Begins line.items new) files)
+  pub named : IfErr answer (λ r. r ≢ Usage)
+  pub refused : IfErr answer (λ r. Tells (λ all. IsRefused words all Begins r) files)
+  pub lacks : Tells (λ all. IsRefused words all Begins Memory) files
+  pub sources : answer ≡ Err SourceFault → shelf
+  pub stores : answer ≡ Err StoreFault → store
+  pub early : IfErr answer (λ r. IsEarly r → same)
+  pub comes : Tells (λ all. (r : Refusal) → IsDefinite r → IsFaulty words all r → (answer ≡ Err r) ⊎ Fails answer) files
+
+module _ (status : ℕ) (said_old said_new : Option (List ℕ)) (failed : Type 0) where
+  pub never_usage : (answer : Result (Vec ℕ Global) Refusal) → IfErr answer (λ r. r ≢ Usage) → EndsWith answer status said_old said_new failed → status ≡ 2 → ⊥
+  never_usage (Ok line) named (inl ok) is = omega (arith, ok.0, is)
+  never_usage (Ok line) named (inr device) is = omega (arith, device.0, is)
+  never_usage (Err r) named ends is =
+      ⊎_elim (λ same. named (sym same ∙ usage_only ends.told (ends.status_is ∙ is))) (λ same. omega (arith, ap status_of same, ends.status_is, is)) ends.told_is
+
+  -- status 3 is that of a bad configuration
+  pub bad_configuration : (answer : Result (Vec ℕ Global) Refusal) → EndsWith answer status said_old said_new failed → status ≡ 3 → (e : ConfigError) × (answer ≡ Err (BadConfiguration e))
+  bad_configuration (Ok line) (inl ok) is = absurd (omega (arith, ok.0, is))
+  bad_configuration (Ok line) (inr device) is = absurd (omega (arith, device.0, is))
+  bad_configuration (Err r) ends is =
+      let told = configuration_only ends.told (ends.status_is ∙ is) in
+      ⊎_elim (λ same. (told.0, ap (λ (w : Refusal). Err w) (sym same ∙ told.1))) (λ same. absurd (omega (arith, ap status_of same, ends.status_is, is))) ends.told_is
+
+  told_status : (r : Refusal) → IsTold r status said_old said_new failed → (status ≡ status_of r) ⊎ (status ≡ 9)
+  told_status r ends = ⊎_elim (λ same. inl (sym ends.status_is ∙ ap status_of same)) (λ same. inr (sym ends.status_is ∙ ap status_of same)) ends.told_is
+
+  told_with : (answer : Result (Vec ℕ Global) Refusal) (r : Refusal) → answer ≡ Err r → EndsWith answer status said_old said_new failed → IsTold r status said_old said_new failed
+  told_with answer r is ends = subst (λ (a : Result (Vec ℕ Global) Refusal). EndsWith a status said_old said_new failed) is ends
+
+  fails_yields : (answer : Result (Vec ℕ Global) Refusal) → Fails answer → EndsWith answer status said_old said_new failed → (status ≡ 7) ⊎ (status ≡ 9)
+  fails_yields answer (inl is) ends = told_status SourceFault (told_with answer SourceFault is ends)
+  fails_yields answer (inr (inl is)) ends = told_status StoreFault (told_with answer StoreFault is ends)
+  fails_yields answer (inr (inr is)) ends = ⊎_elim (λ memory. inr memory) (λ memory. inr memory) (told_status Memory (told_with answer Memory is ends))
+
+  pub comes_yields : (answer : Result (Vec ℕ Global) Refusal) (r : Refusal) → (answer ≡ Err r) ⊎ Fails answer → EndsWith answer status said_old said_new failed → YieldsRefusal r status said_old said_new failed
+  comes_yields answer r (inr fails) ends = inr (fails_yields answer fails ends)
+  comes_yields answer r (inl is) ends =
+      let told = told_with answer r is ends in
+      ⊎_elim (λ same. inl (sym told.status_is ∙ ap status_of same, subst (λ (x : Refusal). Says (line_of x) said_old said_new failed) same told.says))
+      (λ same. inr (inr (sym told.status_is ∙ ap status_of same))) told.told_is
+
+  pub differs_yields : (answer : Result (Vec ℕ Global) Refusal) → TellsDifference answer ⊎ Fails answer → EndsWith answer status said_old said_new failed → YieldsDifference status said_old said_new failed
+  differs_yields answer (inr fails) ends = inr (fails_yields answer fails ends)
+  differs_yields answer (inl told) ends = ⊎_elim (λ said. inl (told.0, said.0, said.1)) (λ other. inr other) (comes_yields answer (Differs told.0) (inl told.1) ends)
+
+  ok_yields : (answer : Result (Vec ℕ Global) Refusal) → IsOk answer → EndsWith answer status said_old said_new failed → Yields 0 status
+  ok_yields (Ok line) is (inl ok) = inl ok.0
+  ok_yields (Ok line) is (inr device) = inr (inl device.0)
+  ok_yields (Err r) is ends = absurd cc
+
+  pub accepted_yields : (answer : Result (Vec ℕ Global) Refusal) → IsOk answer ⊎ Fails answer → EndsWith answer status said_old said_new failed → Yields 0 status
+  accepted_yields answer (inl is) ends = ok_yields answer is ends
+  accepted_yields answer (inr fails) ends = inr (fails_yields answer fails ends)
+
+  module _ (words : List (List ℕ)) (files : Option Files) (Begins : Files → Files → Type 0) (new : Option Files) (shelf store same : Type 0) where
+    pub is_done : (answer : Result (Vec ℕ Global) Refusal) → Carries words files Begins new shelf store same answer → EndsWith answer status said_old said_new failed → status ≡ 0
+        → Ends words files Begins new (Appends said_old said_new)
+    is_done (Ok line) carries (inl ok) is = record { line = line.items; is_answer = carries.is_answer; done = carries.done; said = ok.1 }
+    is_done (Ok line) carries (inr device) is = absurd (omega (arith, device.0, is))
+    is_done (Err r) carries ends is = absurd (never_done ends.told (ends.status_is ∙ is))
+
+    pub has_risen : (answer : Result (Vec ℕ Global) Refusal) → Carries words files Begins new shelf store same answer → EndsWith answer status said_old said_new failed → status ≡ 7 → shelf ⊎ store ⊎ failed
+    has_risen (Ok line) carries (inl ok) is = absurd (omega (arith, ok.0, is))
+    has_risen (Ok line) carries (inr device) is = inr (inr device.1)
+    has_risen (Err r) carries ends is =
+        ⊎_elim (λ this. ⊎_elim (λ source. inl (carries.sources (ap Err source))) (λ fault. inr (inl (carries.stores (ap Err fault)))) (device_only r (sym this ∙ is)))
+        (λ memory. absurd (omega (arith, memory, is))) (told_status r ends)
+
+    pub is_refused : (answer : Result (Vec ℕ Global) Refusal) → Carries words files Begins new shelf store same answer → EndsWith answer status said_old said_new failed → status ≢ 0
+        → Refuses words files Begins status shelf store failed said_old said_new same ⊎ IsCut words files Begins status new failed said_old said_new
+    is_refused (Ok line) carries (inl ok) not_ok = absurd (not_ok ok.0)
+    is_refused (Ok line) carries (inr device) not_ok = inr (record { status_is = device.0; risen = device.1; ends = record { line = line.items; is_answer = carries.is_answer; done = carries.done; said = device.2 } })
+    is_refused (Err r) carries ends not_ok = inl (record {
+      cause = ends.told;
+      status_is = ends.status_is;
+      has_cause = ⊎_elim (λ is. subst (λ (x : Refusal). Tells (λ all. IsRefused words all Begins x) files) (sym is) carries.refused)
+          (λ is. subst (λ (x : Refusal). Tells (λ all. IsRefused words all Begins x) files) (sym is) carries.lacks) ends.told_is;
+      risen = ⊎_elim (λ is. subst (λ (x : Refusal). HasRisen x shelf store) (sym is) (risen_of r shelf store (λ e. carries.sources (ap Err e)) (λ e. carries.stores (ap Err e))))
+          (λ is. subst (λ (x : Refusal). HasRisen x shelf store) (sym is) tt) ends.told_is;
+      says = ends.says;
+      early = λ early. ⊎_elim (λ is. carries.early (subst IsEarly is early)) (λ is. absurd (subst IsEarly is early)) ends.told_is;
+    })
+
+  -- where the shelf tells, an answer that comes is told
+  pub refusal_yields : (answer : Result (Vec ℕ Global) Refusal) (files : Option Files) (Why : Files → Refusal → Type 0) → EndsWith answer status said_old said_new failed
+      → Tells (λ all. (r : Refusal) → IsDefinite r → Why all r → (answer ≡ Err r) ⊎ Fails answer) files
+      → Tells (λ all. (r : Refusal) → IsDefinite r → Why all r → YieldsRefusal r status said_old said_new failed) files
+  refusal_yields answer None Why ends comes = tt
+  refusal_yields answer (Some all) Why ends comes = λ r definite why. comes_yields answer r (comes r definite why) ends
+
+  pub info_yields : (answer : Result (Vec ℕ Global) Refusal) (files : Option Files) (Fact : Files → Header → Type 0) → EndsWith answer status said_old said_new failed
+      → Tells (λ all. (header : Header) → Fact all header → IsOk answer ⊎ Fails answer) files → Tells (λ all. (header : Header) → Fact all header → Yields 0 status) files
+  info_yields answer None Fact ends accepted = tt
+  info_yields answer (Some all) Fact ends accepted = λ header fact. accepted_yields answer (accepted header fact) ends
+
+-- ---- words that are no command ask nothing of the files
+
+pub usage_yields : (files : Option Files) (words : List (List ℕ)) (status : ℕ) (said_old said_new : Option (List ℕ)) (failed : Type 0) → IsUsage words → status ≡ 2 → Says (line_of Usage) said_old said_new failed
+    → Tells (λ all. (r : Refusal) → IsDefinite r → IsFaulty words all r → YieldsRefusal r status said_old said_new failed) files
+usage_yields None words status said_old said_new failed usage is says = tt
+usage_yields (Some all) words status said_old said_new failed usage is says = λ r definite why. of r why
+  where
+    of : (r : Refusal) → IsFaulty words all r → YieldsRefusal r status said_old said_new failed
+    of r (inl named) = inl (is ∙ sym (ap status_of named.0), subst (λ (x : Refusal). Says (line_of x) said_old said_new failed) (sym named.0) says)
+    of r (inr (inl asks)) = absurd (usage.not_build asks.path asks.out asks.words_are)
+    of r (inr (inr asks)) = absurd (usage.not_info asks.path asks.words_are)

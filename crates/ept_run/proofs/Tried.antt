@@ -1,0 +1,125 @@
+-- The words of a trial are those of no other command and name one number of points, and how it ends.
+use Rattle.std.proofs.Common.{◌≡◌, ◌≢◌, ◌⊎◌, ⊎_elim, inl, inr, ℕ, ◌≤◌, ◌<◌, List, [], ◌∷◌, Option, Ok, Err, ap, get_or, refl, sym, ◌∙◌, subst, arith}
+use Rattle.std.specs.Prelude.{Result, Vec, IfOk, IfErr, codes, decimal}
+use Rattle.std.specs.declared.alloc.Global.{Global}
+use Rattle.std.proofs.lemmas.Fmt.{decimal_injective}
+use Rattle.ept_base.specs.Files.{Files, Tells}
+use Rattle.ept_space.specs.declared.box3.Box3.{Box3}
+use Rattle.ept_run.specs.declared.refusal.Refusal.{Refusal}
+use Rattle.ept_run.specs.declared.refusal.Refusal.TheVariants.{Usage, SourceFault, StoreFault, Memory}
+use Rattle.ept_run.specs.Words.{IsBuild, IsInfo, IsQuery, IsTrial, IsUsage}
+use Rattle.ept_run.specs.Requests.{HasTrial, IsDefinite, IsEarly, Fails}
+use Rattle.ept_run.specs.Answers.{AsksInfo, AsksTrial, IsAnswer, IsDone, IsFaulty, IsRefused, IsTold, EndsTrial, EndsWith}
+use Rattle.ept_run.proofs.Asked.{told_always, ok_weaker, err_weaker}
+use Rattle.ept_run.proofs.Runs.{Carries}
+
+-- want of memory is no other refusal
+only_memory : (r : Refusal) → r ≡ Memory → (r ≢ Usage) × (r ≢ SourceFault) × (r ≢ StoreFault)
+only_memory r is = (λ usage. not_usage (sym is ∙ usage), λ source. not_source (sym is ∙ source), λ store. not_store (sym is ∙ store))
+  where
+    not_usage : ◌≡◌ {A = Refusal} Memory Usage → ⊥
+    not_usage same = cc
+
+    not_source : ◌≡◌ {A = Refusal} Memory SourceFault → ⊥
+    not_source same = cc
+
+    not_store : ◌≡◌ {A = Refusal} Memory StoreFault → ⊥
+    not_store same = cc
+
+refused_as : (answer : Result (Vec ℕ Global) Refusal) (r : Refusal) → IfErr answer (λ e. e ≡ Memory) → answer ≡ Err r → r ≡ Memory
+refused_as answer r lacks is = subst (λ (a : Result (Vec ℕ Global) Refusal). IfErr a (λ e. e ≡ Memory)) is lacks
+
+-- ---- one command
+
+module _ (words : List (List ℕ)) (count workers cache : ℕ) (is : IsTrial words count workers cache) where
+  pub trial_or_build : (a b : List ℕ) → IsBuild words a b → ⊥
+  trial_or_build a b other = apart (sym other.words_are ∙ is.words_are)
+    where
+      apart : codes "build" ∷ a ∷ b ∷ [] ≡ codes "trial" ∷ decimal count ∷ decimal workers ∷ decimal cache ∷ [] → ⊥
+      apart same = cc
+
+  pub trial_or_info : (las : List ℕ) → IsInfo words las → ⊥
+  trial_or_info las other = apart (sym other.words_are ∙ is.words_are)
+    where
+      apart : codes "info" ∷ las ∷ [] ≡ codes "trial" ∷ decimal count ∷ decimal workers ∷ decimal cache ∷ [] → ⊥
+      apart same = cc
+
+  pub trial_or_query : (out : List ℕ) (area : Box3) (first last : ℕ) → IsQuery words out area first last → ⊥
+  trial_or_query out area first last other = apart other.box other.depths (sym other.words_are ∙ is.words_are)
+    where
+      apart : (box depths : List ℕ) → codes "query" ∷ out ∷ box ∷ depths ∷ [] ≡ codes "trial" ∷ decimal count ∷ decimal workers ∷ decimal cache ∷ [] → ⊥
+      apart box depths same =
+          let heads : 113 ≡ 116 = ap (λ (ws : List (List ℕ)). get_or (get_or ws 0 []) 0 0) same in
+          omega (arith, heads)
+
+  pub trial_unrefused : (all : Files) (r : Refusal) → IsFaulty words all r → ⊥
+  trial_unrefused all r (inl usage) = usage.1.not_trial count workers cache is
+  trial_unrefused all r (inr (inl asks)) = trial_or_build asks.path asks.out asks.words_are
+  trial_unrefused all r (inr (inr asks)) = trial_or_info asks.path asks.words_are
+
+  pub trial_untold : {Fact : List ℕ → Type 0} → AsksInfo words Fact → ⊥
+  trial_untold asks = trial_or_info asks.path asks.words_are
+
+  -- words ask for one number of points
+  pub one_count : (n w k : ℕ) → IsTrial words n w k → count ≡ n
+  one_count n w k other = decimal_injective count n (omega (arith, is.few)) (omega (arith, other.few)) (second (sym is.words_are ∙ other.words_are))
+    where
+      second : codes "trial" ∷ decimal count ∷ decimal workers ∷ decimal cache ∷ [] ≡ codes "trial" ∷ decimal n ∷ decimal w ∷ decimal k ∷ [] → decimal count ≡ decimal n
+      second same = cc
+
+  -- ---- what it does
+
+  asked : {Fact : ℕ → Type 0} → Fact count → AsksTrial words Fact
+  asked holds = record { count = count; workers = workers; cache = cache; words_are = is; holds = holds }
+
+  module _ (answer : Result (Vec ℕ Global) Refusal) (told : IfOk answer (λ line. HasTrial count line.items)) (lacks : IfErr answer (λ r. r ≡ Memory)) where
+    pub trial_carries : (files : Option Files) (Begins : Files → Files → Type 0) (new : Option Files) (shelf store same : Type 0) → same → Carries words files Begins new shelf store same answer
+    trial_carries files Begins new shelf store same unchanged = record {
+      is_answer = ok_weaker (λ line. HasTrial count line.items) (λ line. IsAnswer words line.items) answer
+          (λ line has. inr (inr (asked {Fact = λ n. HasTrial n line.items} has))) told;
+      done = ok_weaker (λ line. HasTrial count line.items) (λ line. Tells (λ all. IsDone words all Begins line.items new) files) answer
+          (λ line has. told_always (λ all. IsDone words all Begins line.items new) files (λ all. inr (inr (asked {Fact = λ n. HasTrial n line.items} has)))) told;
+      named = err_weaker (λ r. r ≡ Memory) (λ r. r ≢ Usage) answer (λ r is. (only_memory r is).0) lacks;
+      refused = err_weaker (λ r. r ≡ Memory) (λ r. Tells (λ all. IsRefused words all Begins r) files) answer
+          (λ r is. told_always (λ all. IsRefused words all Begins r) files (λ all. inr (inr (inr (asked {Fact = λ _. r ≡ Memory} is))))) lacks;
+      lacks = told_always (λ all. IsRefused words all Begins Memory) files (λ all. inr (inr (inr (asked {Fact = λ _. Memory ≡ Memory} refl))));
+      sources = λ fault. absurd ((only_memory SourceFault (refused_as answer SourceFault lacks fault)).1 refl);
+      stores = λ fault. absurd ((only_memory StoreFault (refused_as answer StoreFault lacks fault)).2 refl);
+      early = err_weaker (λ r. r ≡ Memory) (λ r. IsEarly r → same) answer (λ r is early. unchanged) lacks;
+      comes = told_always (λ all. (r : Refusal) → IsDefinite r → IsFaulty words all r → (answer ≡ Err r) ⊎ Fails answer) files
+          (λ all r definite faulty. absurd (trial_unrefused all r faulty));
+    }
+
+-- how it ends follows from its line, and from how that is said
+pub trial_ends : (count status : ℕ) (old new : Option (List ℕ)) (failed : Type 0) (answer : Result (Vec ℕ Global) Refusal)
+    → IfOk answer (λ line. HasTrial count line.items) → IfErr answer (λ r. r ≡ Memory) → EndsWith answer status old new failed → EndsTrial count status old new failed
+trial_ends count status old new failed (Ok line) told lacks said = inl (line.items, told, said)
+trial_ends count status old new failed (Err r) told lacks said = inr (subst (λ (x : Refusal). IsTold x status old new failed) lacks said)
+
+-- ---- words that are read as numbers out of their range
+
+pub numbers_refused : (points workers cache : List ℕ) (w k : ℕ) → workers ≡ decimal w → w ≤ 64 → cache ≡ decimal k → k ≤ 65536 → (w < 1) ⊎ (k < w)
+    → IsUsage (codes "trial" ∷ points ∷ workers ∷ cache ∷ [])
+numbers_refused points workers cache w k workers_are few cache_is bounded wrong = record {
+  not_build = λ config out is. not_build config out is.words_are;
+  not_info = λ las is. not_info las is.words_are;
+  not_query = λ out area first last is. not_query out is.box is.depths is.words_are;
+  not_trial = λ count found kept is. ranges found kept is (decimal_injective w found (omega (arith, few)) (omega (arith, is.threads)) (sym workers_are ∙ (parts count found kept is.words_are).0)) (decimal_injective k kept (omega (arith, bounded)) (omega (arith, is.bounded)) (sym cache_is ∙ (parts count found kept is.words_are).1));
+}
+  where
+    not_build : (config out : List ℕ) → codes "trial" ∷ points ∷ workers ∷ cache ∷ [] ≡ codes "build" ∷ config ∷ out ∷ [] → ⊥
+    not_build config out same = cc
+
+    not_info : (las : List ℕ) → codes "trial" ∷ points ∷ workers ∷ cache ∷ [] ≡ codes "info" ∷ las ∷ [] → ⊥
+    not_info las same = cc
+
+    not_query : (out box depths : List ℕ) → codes "trial" ∷ points ∷ workers ∷ cache ∷ [] ≡ codes "query" ∷ out ∷ box ∷ depths ∷ [] → ⊥
+    not_query out box depths same =
+        let heads : 116 ≡ 113 = ap (λ (ws : List (List ℕ)). get_or (get_or ws 0 []) 0 0) same in
+        omega (arith, heads)
+
+    parts : (count found kept : ℕ) → codes "trial" ∷ points ∷ workers ∷ cache ∷ [] ≡ codes "trial" ∷ decimal count ∷ decimal found ∷ decimal kept ∷ [] → (workers ≡ decimal found) × (cache ≡ decimal kept)
+    parts count found kept same = (cc, cc)
+
+    ranges : {count : ℕ} (found kept : ℕ) → IsTrial (codes "trial" ∷ points ∷ workers ∷ cache ∷ []) count found kept → w ≡ found → k ≡ kept → ⊥
+    ranges found kept is same_w same_k = ⊎_elim (λ none. omega (arith, none, same_w, is.some)) (λ less. omega (arith, less, same_w, same_k, is.room)) wrong

@@ -1,0 +1,376 @@
+use Rattle.std.proofs.Common.{map, string_bytes, refl, sym, inl, inr, subst, ℕ}
+use Rattle.ept_base.specs.Causes.{Rose}
+use Rattle.ept_las.specs.declared.header.Header.{Header}
+use Rattle.ept_run.specs.declared.refusal.Refusal.{Refusal}
+use Rattle.ept_run.specs.declared.refusal.Refusal.TheVariants.{Usage, BadCheckpoint}
+use Rattle.ept_run.specs.Requests.{IsAcceptedAt, IsDoneAt, ComesAt, DiffersAt, IsConfigured, HasHeader, IsDefinite}
+use Rattle.ept_run.specs.Answers.{Yields, YieldsRefusal, AsksInfo, IsFaulty, IsRefused, EndsTrial}
+use Rattle.ept_run.proofs.Runs.{Carries, never_usage, is_done, has_risen, is_refused, refusal_yields, accepted_yields, comes_yields, differs_yields, info_yields, usage_yields, bad_configuration}
+use Rattle.ept_run.proofs.Asked.{told_always, of_build, build_or_info, build_carries, info_carries, info_accepted}
+use Rattle.ept_build.specs.Building.{BeginsWith}
+use Rattle.ept_base.specs.Files.{SameFiles}
+use Rattle.ept_base.specs.Moves.{Moves}
+use Rattle.ept_run.proofs.Refused.{stays}
+use Rattle.ept_run.proofs.Queried.{query_or_build, query_or_info, query_asked, query_unrefused, query_untold, query_ends, query_not_usage, query_rose, first_two}
+use Rattle.ept_run.proofs.Tried.{trial_or_build, trial_or_info, trial_or_query, trial_untold, one_count, trial_carries, trial_ends}
+use Rattle.ept_run.proofs.running.run.Given as given
+use Rattle.ept_run.proofs.running.run.Goals as goal
+
+-- ---- build
+
+build_known : (g : given.Over) (c : goal.After-finish g) → Carries (map string_bytes c.args.words.now) (g.H.Shelf.files c.args.shelf.now) (BeginsWith (g.H.Shelf.files c.args.shelf.now) (g.T.Store.files c.args.store.now) (g.T.Store.may_leave c.args.store.now)) (g.T.Store.files c.build_line-line.new.store) (Rose (g.H.Shelf.faults c.args.shelf.now) (g.H.Shelf.faults c.build_line-line.new.shelf)) (Rose (g.T.Store.faults c.args.store.now) (g.T.Store.faults c.build_line-line.new.store)) (Moves g.T.Store.files g.T.Store.may_leave g.T.Store.moment g.T.Store.image_since SameFiles c.args.store.now c.build_line-line.new.store) c.build_line-line.result
+build_known g c =
+    build_carries (map string_bytes c.args.words.now) c.in-Build.config.now c.in-Build.out.now c.in-Build.ensures c.build_line-line.result (g.H.Shelf.files c.args.shelf.now) (BeginsWith (g.H.Shelf.files c.args.shelf.now) (g.T.Store.files c.args.store.now) (g.T.Store.may_leave c.args.store.now)) (g.T.Store.files c.build_line-line.new.store) (Rose (g.H.Shelf.faults c.args.shelf.now) (g.H.Shelf.faults c.build_line-line.new.shelf)) (Rose (g.T.Store.faults c.args.store.now) (g.T.Store.faults c.build_line-line.new.store)) (Moves g.T.Store.files g.T.Store.may_leave g.T.Store.moment g.T.Store.image_since SameFiles c.args.store.now c.build_line-line.new.store)
+    c.build_line-line.ensures.said c.build_line-line.ensures.built c.build_line-line.ensures.causes c.build_line-line.ensures.refused c.build_line-line.ensures.sources.failed c.build_line-line.ensures.stores.failed
+    c.build_line-line.ensures.early c.build_line-line.ensures.refusal_comes
+
+pub returns-in-Build-clause-usage : goal.returns-in-Build-clause-usage
+returns-in-Build-clause-usage g c = (
+  λ is. absurd (never_usage c.finish.result (g.O.Sink.written c.args.out.now) (g.O.Sink.written c.finish.new.out) (Rose (g.O.Sink.faults c.args.out.now) (g.O.Sink.faults c.finish.new.out)) c.build_line-line.result (build_known g c).named c.finish.ensures is),
+  λ usage. absurd (usage.not_build c.in-Build.config.now c.in-Build.out.now c.in-Build.ensures),
+)
+
+pub returns-in-Build-clause-done : goal.returns-in-Build-clause-done
+returns-in-Build-clause-done g c = λ ok. inl (is_done c.finish.result (g.O.Sink.written c.args.out.now) (g.O.Sink.written c.finish.new.out) (Rose (g.O.Sink.faults c.args.out.now) (g.O.Sink.faults c.finish.new.out)) (map string_bytes c.args.words.now) (g.H.Shelf.files c.args.shelf.now) (BeginsWith (g.H.Shelf.files c.args.shelf.now) (g.T.Store.files c.args.store.now) (g.T.Store.may_leave c.args.store.now)) (g.T.Store.files c.build_line-line.new.store) (Rose (g.H.Shelf.faults c.args.shelf.now) (g.H.Shelf.faults c.build_line-line.new.shelf)) (Rose (g.T.Store.faults c.args.store.now) (g.T.Store.faults c.build_line-line.new.store)) (Moves g.T.Store.files g.T.Store.may_leave g.T.Store.moment g.T.Store.image_since SameFiles c.args.store.now c.build_line-line.new.store) c.build_line-line.result (build_known g c) c.finish.ensures ok)
+
+pub returns-in-Build-clause-refused : goal.returns-in-Build-clause-refused
+returns-in-Build-clause-refused g c = λ not_ok. first_two (is_refused c.finish.result (g.O.Sink.written c.args.out.now) (g.O.Sink.written c.finish.new.out) (Rose (g.O.Sink.faults c.args.out.now) (g.O.Sink.faults c.finish.new.out)) (map string_bytes c.args.words.now) (g.H.Shelf.files c.args.shelf.now) (BeginsWith (g.H.Shelf.files c.args.shelf.now) (g.T.Store.files c.args.store.now) (g.T.Store.may_leave c.args.store.now)) (g.T.Store.files c.build_line-line.new.store) (Rose (g.H.Shelf.faults c.args.shelf.now) (g.H.Shelf.faults c.build_line-line.new.shelf)) (Rose (g.T.Store.faults c.args.store.now) (g.T.Store.faults c.build_line-line.new.store)) (Moves g.T.Store.files g.T.Store.may_leave g.T.Store.moment g.T.Store.image_since SameFiles c.args.store.now c.build_line-line.new.store) c.build_line-line.result (build_known g c) c.finish.ensures not_ok)
+
+pub returns-in-Build-clause-fault : goal.returns-in-Build-clause-fault
+returns-in-Build-clause-fault g c =
+    has_risen c.finish.result (g.O.Sink.written c.args.out.now) (g.O.Sink.written c.finish.new.out) (Rose (g.O.Sink.faults c.args.out.now) (g.O.Sink.faults c.finish.new.out)) (map string_bytes c.args.words.now) (g.H.Shelf.files c.args.shelf.now) (BeginsWith (g.H.Shelf.files c.args.shelf.now) (g.T.Store.files c.args.store.now) (g.T.Store.may_leave c.args.store.now)) (g.T.Store.files c.build_line-line.new.store) (Rose (g.H.Shelf.faults c.args.shelf.now) (g.H.Shelf.faults c.build_line-line.new.shelf)) (Rose (g.T.Store.faults c.args.store.now) (g.T.Store.faults c.build_line-line.new.store)) (Moves g.T.Store.files g.T.Store.may_leave g.T.Store.moment g.T.Store.image_since SameFiles c.args.store.now c.build_line-line.new.store) c.build_line-line.result (build_known g c) c.finish.ensures
+
+pub returns-in-Build-clause-refusal_comes : goal.returns-in-Build-clause-refusal_comes
+returns-in-Build-clause-refusal_comes g c =
+    refusal_yields c.finish.result (g.O.Sink.written c.args.out.now) (g.O.Sink.written c.finish.new.out) (Rose (g.O.Sink.faults c.args.out.now) (g.O.Sink.faults c.finish.new.out)) c.build_line-line.result (g.H.Shelf.files c.args.shelf.now) (λ all r. IsFaulty (map string_bytes c.args.words.now) all r) c.finish.ensures (build_known g c).comes
+
+pub returns-in-Build-clause-build_comes : goal.returns-in-Build-clause-build_comes
+returns-in-Build-clause-build_comes g c = λ all start begins asks.
+    accepted_yields c.finish.result (g.O.Sink.written c.args.out.now) (g.O.Sink.written c.finish.new.out) (Rose (g.O.Sink.faults c.args.out.now) (g.O.Sink.faults c.finish.new.out)) c.build_line-line.result
+    (c.build_line-line.ensures.accepted all start begins (of_build (map string_bytes c.args.words.now) c.in-Build.config.now c.in-Build.out.now c.in-Build.ensures {P = IsAcceptedAt all start} asks)) c.finish.ensures
+
+pub returns-in-Build-clause-done_already : goal.returns-in-Build-clause-done_already
+returns-in-Build-clause-done_already g c = λ all start begins asks.
+    c.build_line-line.ensures.done_already all start begins (of_build (map string_bytes c.args.words.now) c.in-Build.config.now c.in-Build.out.now c.in-Build.ensures {P = IsDoneAt all start} asks)
+
+pub returns-in-Build-clause-others_put_nothing : goal.returns-in-Build-clause-others_put_nothing
+returns-in-Build-clause-others_put_nothing g c = inl (record { path = c.in-Build.config.now; out = c.in-Build.out.now; words_are = c.in-Build.ensures; holds = tt })
+
+pub returns-in-Build-clause-sound : goal.returns-in-Build-clause-sound
+returns-in-Build-clause-sound g c = λ config folder is. c.build_line-line.ensures.sound
+
+-- ---- info
+
+info_known : (g : given.Over) (c : goal.After-finish-in-Info g) → Carries (map string_bytes c.args.words.now) (g.H.Shelf.files c.args.shelf.now) (BeginsWith (g.H.Shelf.files c.args.shelf.now) (g.T.Store.files c.args.store.now) (g.T.Store.may_leave c.args.store.now)) (g.T.Store.files c.args.store.now) (Rose (g.H.Shelf.faults c.args.shelf.now) (g.H.Shelf.faults c.info_line-line.new.shelf)) (Rose (g.T.Store.faults c.args.store.now) (g.T.Store.faults c.args.store.now)) (Moves g.T.Store.files g.T.Store.may_leave g.T.Store.moment g.T.Store.image_since SameFiles c.args.store.now c.args.store.now) c.info_line-line.result
+info_known g c =
+    info_carries (map string_bytes c.args.words.now) c.in-Info.las.now c.in-Info.ensures c.info_line-line.result (g.H.Shelf.files c.args.shelf.now) (BeginsWith (g.H.Shelf.files c.args.shelf.now) (g.T.Store.files c.args.store.now) (g.T.Store.may_leave c.args.store.now)) (g.T.Store.files c.args.store.now) (Rose (g.H.Shelf.faults c.args.shelf.now) (g.H.Shelf.faults c.info_line-line.new.shelf)) (Rose (g.T.Store.faults c.args.store.now) (g.T.Store.faults c.args.store.now)) (Moves g.T.Store.files g.T.Store.may_leave g.T.Store.moment g.T.Store.image_since SameFiles c.args.store.now c.args.store.now) (stays g.T.Store.files g.T.Store.may_leave g.T.Store.moment g.T.Store.image_since c.args.store.now)
+    c.info_line-line.ensures.said c.info_line-line.ensures.told c.info_line-line.ensures.causes c.info_line-line.ensures.refused c.info_line-line.ensures.sources.failed c.info_line-line.ensures.refusal_comes
+
+pub returns-in-Info-clause-usage : goal.returns-in-Info-clause-usage
+returns-in-Info-clause-usage g c = (
+  λ is. absurd (never_usage c.finish-in-Info.result (g.O.Sink.written c.args.out.now) (g.O.Sink.written c.finish-in-Info.new.out) (Rose (g.O.Sink.faults c.args.out.now) (g.O.Sink.faults c.finish-in-Info.new.out)) c.info_line-line.result (info_known g c).named c.finish-in-Info.ensures is),
+  λ usage. absurd (usage.not_info c.in-Info.las.now c.in-Info.ensures),
+)
+
+pub returns-in-Info-clause-done : goal.returns-in-Info-clause-done
+returns-in-Info-clause-done g c = λ ok. inl (is_done c.finish-in-Info.result (g.O.Sink.written c.args.out.now) (g.O.Sink.written c.finish-in-Info.new.out) (Rose (g.O.Sink.faults c.args.out.now) (g.O.Sink.faults c.finish-in-Info.new.out)) (map string_bytes c.args.words.now) (g.H.Shelf.files c.args.shelf.now) (BeginsWith (g.H.Shelf.files c.args.shelf.now) (g.T.Store.files c.args.store.now) (g.T.Store.may_leave c.args.store.now)) (g.T.Store.files c.args.store.now) (Rose (g.H.Shelf.faults c.args.shelf.now) (g.H.Shelf.faults c.info_line-line.new.shelf)) (Rose (g.T.Store.faults c.args.store.now) (g.T.Store.faults c.args.store.now)) (Moves g.T.Store.files g.T.Store.may_leave g.T.Store.moment g.T.Store.image_since SameFiles c.args.store.now c.args.store.now) c.info_line-line.result (info_known g c) c.finish-in-Info.ensures ok)
+
+pub returns-in-Info-clause-refused : goal.returns-in-Info-clause-refused
+returns-in-Info-clause-refused g c = λ not_ok. first_two (is_refused c.finish-in-Info.result (g.O.Sink.written c.args.out.now) (g.O.Sink.written c.finish-in-Info.new.out) (Rose (g.O.Sink.faults c.args.out.now) (g.O.Sink.faults c.finish-in-Info.new.out)) (map string_bytes c.args.words.now) (g.H.Shelf.files c.args.shelf.now) (BeginsWith (g.H.Shelf.files c.args.shelf.now) (g.T.Store.files c.args.store.now) (g.T.Store.may_leave c.args.store.now)) (g.T.Store.files c.args.store.now) (Rose (g.H.Shelf.faults c.args.shelf.now) (g.H.Shelf.faults c.info_line-line.new.shelf)) (Rose (g.T.Store.faults c.args.store.now) (g.T.Store.faults c.args.store.now)) (Moves g.T.Store.files g.T.Store.may_leave g.T.Store.moment g.T.Store.image_since SameFiles c.args.store.now c.args.store.now) c.info_line-line.result (info_known g c) c.finish-in-Info.ensures not_ok)
+
+pub returns-in-Info-clause-fault : goal.returns-in-Info-clause-fault
+returns-in-Info-clause-fault g c =
+    has_risen c.finish-in-Info.result (g.O.Sink.written c.args.out.now) (g.O.Sink.written c.finish-in-Info.new.out) (Rose (g.O.Sink.faults c.args.out.now) (g.O.Sink.faults c.finish-in-Info.new.out)) (map string_bytes c.args.words.now) (g.H.Shelf.files c.args.shelf.now) (BeginsWith (g.H.Shelf.files c.args.shelf.now) (g.T.Store.files c.args.store.now) (g.T.Store.may_leave c.args.store.now)) (g.T.Store.files c.args.store.now) (Rose (g.H.Shelf.faults c.args.shelf.now) (g.H.Shelf.faults c.info_line-line.new.shelf)) (Rose (g.T.Store.faults c.args.store.now) (g.T.Store.faults c.args.store.now)) (Moves g.T.Store.files g.T.Store.may_leave g.T.Store.moment g.T.Store.image_since SameFiles c.args.store.now c.args.store.now) c.info_line-line.result (info_known g c) c.finish-in-Info.ensures
+
+pub returns-in-Info-clause-refusal_comes : goal.returns-in-Info-clause-refusal_comes
+returns-in-Info-clause-refusal_comes g c =
+    refusal_yields c.finish-in-Info.result (g.O.Sink.written c.args.out.now) (g.O.Sink.written c.finish-in-Info.new.out) (Rose (g.O.Sink.faults c.args.out.now) (g.O.Sink.faults c.finish-in-Info.new.out)) c.info_line-line.result (g.H.Shelf.files c.args.shelf.now) (λ all r. IsFaulty (map string_bytes c.args.words.now) all r) c.finish-in-Info.ensures (info_known g c).comes
+
+pub returns-in-Info-clause-info_comes : goal.returns-in-Info-clause-info_comes
+returns-in-Info-clause-info_comes g c =
+    info_yields c.finish-in-Info.result (g.O.Sink.written c.args.out.now) (g.O.Sink.written c.finish-in-Info.new.out) (Rose (g.O.Sink.faults c.args.out.now) (g.O.Sink.faults c.finish-in-Info.new.out)) c.info_line-line.result (g.H.Shelf.files c.args.shelf.now) (λ all header. AsksInfo (map string_bytes c.args.words.now) (λ path. HasHeader all path header)) c.finish-in-Info.ensures
+    (info_accepted (map string_bytes c.args.words.now) c.in-Info.las.now c.in-Info.ensures c.info_line-line.result (g.H.Shelf.files c.args.shelf.now) c.info_line-line.ensures.accepted)
+
+pub returns-in-Info-clause-build_comes : goal.returns-in-Info-clause-build_comes
+returns-in-Info-clause-build_comes g c = λ all start begins asks. absurd (build_or_info (map string_bytes c.args.words.now) asks.path asks.out c.in-Info.las.now asks.words_are c.in-Info.ensures)
+
+pub returns-in-Info-clause-done_already : goal.returns-in-Info-clause-done_already
+returns-in-Info-clause-done_already g c = λ all start begins asks. stays g.T.Store.files g.T.Store.may_leave g.T.Store.moment g.T.Store.image_since c.args.store.now
+
+pub returns-in-Info-clause-others_put_nothing : goal.returns-in-Info-clause-others_put_nothing
+returns-in-Info-clause-others_put_nothing g c = inr (stays g.T.Store.files g.T.Store.may_leave g.T.Store.moment g.T.Store.image_since c.args.store.now)
+
+pub returns-in-Info-clause-sound : goal.returns-in-Info-clause-sound
+returns-in-Info-clause-sound g c = λ config folder is. absurd (build_or_info (map string_bytes c.args.words.now) config folder c.in-Info.las.now is c.in-Info.ensures)
+
+-- ---- words that are no command
+
+pub returns-in-Usage-clause-build_comes : goal.returns-in-Usage-clause-build_comes
+returns-in-Usage-clause-build_comes g c = λ all start begins asks. absurd (c.in-Usage.ensures.not_build asks.path asks.out asks.words_are)
+
+pub returns-in-Usage-clause-done_already : goal.returns-in-Usage-clause-done_already
+returns-in-Usage-clause-done_already g c = λ all start begins asks. stays g.T.Store.files g.T.Store.may_leave g.T.Store.moment g.T.Store.image_since c.args.store.now
+
+pub returns-in-Usage-clause-others_put_nothing : goal.returns-in-Usage-clause-others_put_nothing
+returns-in-Usage-clause-others_put_nothing g c = inr (stays g.T.Store.files g.T.Store.may_leave g.T.Store.moment g.T.Store.image_since c.args.store.now)
+
+pub returns-in-Usage-clause-sound : goal.returns-in-Usage-clause-sound
+returns-in-Usage-clause-sound g c = λ config folder is. absurd (c.in-Usage.ensures.not_build config folder is)
+
+pub returns-in-Usage-clause-refused : goal.returns-in-Usage-clause-refused
+returns-in-Usage-clause-refused g c = λ not_ok. inl (record {
+  cause = Usage;
+  status_is = sym c.refuse_usage.ensures.status;
+  has_cause = told_always (λ all. IsRefused (map string_bytes c.args.words.now) all (BeginsWith (g.H.Shelf.files c.args.shelf.now) (g.T.Store.files c.args.store.now) (g.T.Store.may_leave c.args.store.now)) Usage) (g.H.Shelf.files c.args.shelf.now) (λ all. inl (refl, c.in-Usage.ensures));
+  risen = tt;
+  says = c.refuse_usage.ensures.says;
+  early = λ early. stays g.T.Store.files g.T.Store.may_leave g.T.Store.moment g.T.Store.image_since c.args.store.now;
+})
+
+pub returns-in-Usage-clause-refusal_comes : goal.returns-in-Usage-clause-refusal_comes
+returns-in-Usage-clause-refusal_comes g c =
+    usage_yields (g.H.Shelf.files c.args.shelf.now) (map string_bytes c.args.words.now) c.refuse_usage.result (g.O.Sink.written c.args.out.now) (g.O.Sink.written c.refuse_usage.new.out)
+    (Rose (g.O.Sink.faults c.args.out.now) (g.O.Sink.faults c.refuse_usage.new.out)) c.in-Usage.ensures c.refuse_usage.ensures.status c.refuse_usage.ensures.says
+
+-- ---- query
+
+pub returns-in-Query-clause-usage : goal.returns-in-Query-clause-usage
+returns-in-Query-clause-usage g c = (
+  λ is. absurd (query_not_usage c.in-Query.area c.in-Query.depths.0 c.in-Query.depths.1 c.answer_query.result (g.T.Store.files c.args.store.now) (g.O.Sink.written c.args.out.now) (g.O.Sink.written c.answer_query.new.out) (Rose (g.T.Store.faults c.args.store.now) (g.T.Store.faults c.answer_query.new.store)) (Rose (g.O.Sink.faults c.args.out.now) (g.O.Sink.faults c.answer_query.new.out)) c.answer_query.ensures.ends is),
+  λ usage. absurd (usage.not_query c.in-Query.out.now c.in-Query.area c.in-Query.depths.0 c.in-Query.depths.1 c.in-Query.ensures),
+)
+
+pub returns-in-Query-clause-done : goal.returns-in-Query-clause-done
+returns-in-Query-clause-done g c = λ ok. inr (query_asked (map string_bytes c.args.words.now) c.in-Query.out.now c.in-Query.area c.in-Query.depths.0 c.in-Query.depths.1 c.in-Query.ensures)
+
+pub returns-in-Query-clause-settled : goal.returns-in-Query-clause-settled
+returns-in-Query-clause-settled g c = λ config folder is ok. absurd (query_or_build (map string_bytes c.args.words.now) c.in-Query.out.now c.in-Query.area c.in-Query.depths.0 c.in-Query.depths.1 c.in-Query.ensures config folder is)
+
+pub returns-in-Query-clause-build_comes : goal.returns-in-Query-clause-build_comes
+returns-in-Query-clause-build_comes g c = λ all start begins asks. absurd (query_or_build (map string_bytes c.args.words.now) c.in-Query.out.now c.in-Query.area c.in-Query.depths.0 c.in-Query.depths.1 c.in-Query.ensures asks.path asks.out asks.words_are)
+
+pub returns-in-Query-clause-done_already : goal.returns-in-Query-clause-done_already
+returns-in-Query-clause-done_already g c = λ all start begins asks. c.answer_query.ensures.any_moment
+
+pub returns-in-Query-clause-others_put_nothing : goal.returns-in-Query-clause-others_put_nothing
+returns-in-Query-clause-others_put_nothing g c = inr c.answer_query.ensures.any_moment
+
+pub returns-in-Query-clause-sound : goal.returns-in-Query-clause-sound
+returns-in-Query-clause-sound g c = λ config folder is. absurd (query_or_build (map string_bytes c.args.words.now) c.in-Query.out.now c.in-Query.area c.in-Query.depths.0 c.in-Query.depths.1 c.in-Query.ensures config folder is)
+
+pub returns-in-Query-clause-info_comes : goal.returns-in-Query-clause-info_comes
+returns-in-Query-clause-info_comes g c =
+    told_always (λ all. (header : Header) → AsksInfo (map string_bytes c.args.words.now) (λ path. HasHeader all path header) → Yields 0 c.answer_query.result) (g.H.Shelf.files c.args.shelf.now) (λ all header asks. absurd (query_untold (map string_bytes c.args.words.now) c.in-Query.out.now c.in-Query.area c.in-Query.depths.0 c.in-Query.depths.1 c.in-Query.ensures asks))
+
+pub returns-in-Query-clause-query : goal.returns-in-Query-clause-query
+returns-in-Query-clause-query g c = λ folder area first last is. query_ends c.query_words_law.ensures.one_box c.query_words_law.ensures.one_range (map string_bytes c.args.words.now) c.in-Query.out.now folder c.in-Query.area area c.in-Query.depths.0 c.in-Query.depths.1 first last c.answer_query.result (g.T.Store.files c.args.store.now) (g.O.Sink.written c.args.out.now) (g.O.Sink.written c.answer_query.new.out) (Rose (g.T.Store.faults c.args.store.now) (g.T.Store.faults c.answer_query.new.store)) (Rose (g.O.Sink.faults c.args.out.now) (g.O.Sink.faults c.answer_query.new.out)) c.in-Query.ensures is c.answer_query.ensures.ends
+
+pub returns-in-Query-clause-query_puts_nothing : goal.returns-in-Query-clause-query_puts_nothing
+returns-in-Query-clause-query_puts_nothing g c = λ asks. c.answer_query.ensures.any_moment
+
+pub returns-in-Query-clause-refused : goal.returns-in-Query-clause-refused
+returns-in-Query-clause-refused g c = λ not_ok. inr (inr (query_asked (map string_bytes c.args.words.now) c.in-Query.out.now c.in-Query.area c.in-Query.depths.0 c.in-Query.depths.1 c.in-Query.ensures))
+
+pub returns-in-Query-clause-refusal_comes : goal.returns-in-Query-clause-refusal_comes
+returns-in-Query-clause-refusal_comes g c =
+    told_always (λ all. (r : Refusal) → IsDefinite r → IsFaulty (map string_bytes c.args.words.now) all r → YieldsRefusal r c.answer_query.result (g.O.Sink.written c.args.out.now) (g.O.Sink.written c.answer_query.new.out) (Rose (g.O.Sink.faults c.args.out.now) (g.O.Sink.faults c.answer_query.new.out))) (g.H.Shelf.files c.args.shelf.now) (λ all r definite refused. absurd (query_unrefused (map string_bytes c.args.words.now) c.in-Query.out.now c.in-Query.area c.in-Query.depths.0 c.in-Query.depths.1 c.in-Query.ensures all r refused))
+
+pub returns-in-Query-clause-fault : goal.returns-in-Query-clause-fault
+returns-in-Query-clause-fault g c = λ is. inr (query_rose c.in-Query.area c.in-Query.depths.0 c.in-Query.depths.1 c.answer_query.result (g.T.Store.files c.args.store.now) (g.O.Sink.written c.args.out.now) (g.O.Sink.written c.answer_query.new.out) (Rose (g.T.Store.faults c.args.store.now) (g.T.Store.faults c.answer_query.new.store)) (Rose (g.O.Sink.faults c.args.out.now) (g.O.Sink.faults c.answer_query.new.out)) c.answer_query.ensures.ends is)
+
+-- ---- no query
+
+pub returns-in-Build-clause-query : goal.returns-in-Build-clause-query
+returns-in-Build-clause-query g c = λ folder area first last is. absurd (query_or_build (map string_bytes c.args.words.now) folder area first last is c.in-Build.config.now c.in-Build.out.now c.in-Build.ensures)
+
+pub returns-in-Build-clause-query_puts_nothing : goal.returns-in-Build-clause-query_puts_nothing
+returns-in-Build-clause-query_puts_nothing g c = λ asks. absurd (query_or_build (map string_bytes c.args.words.now) asks.folder asks.area asks.first asks.last asks.words_are c.in-Build.config.now c.in-Build.out.now c.in-Build.ensures)
+
+pub returns-in-Info-clause-query : goal.returns-in-Info-clause-query
+returns-in-Info-clause-query g c = λ folder area first last is. absurd (query_or_info (map string_bytes c.args.words.now) folder area first last is c.in-Info.las.now c.in-Info.ensures)
+
+pub returns-in-Info-clause-query_puts_nothing : goal.returns-in-Info-clause-query_puts_nothing
+returns-in-Info-clause-query_puts_nothing g c = λ asks. absurd (query_or_info (map string_bytes c.args.words.now) asks.folder asks.area asks.first asks.last asks.words_are c.in-Info.las.now c.in-Info.ensures)
+
+pub returns-in-Usage-clause-query : goal.returns-in-Usage-clause-query
+returns-in-Usage-clause-query g c = λ folder area first last is. absurd (c.in-Usage.ensures.not_query folder area first last is)
+
+pub returns-in-Usage-clause-query_puts_nothing : goal.returns-in-Usage-clause-query_puts_nothing
+returns-in-Usage-clause-query_puts_nothing g c = λ asks. absurd (c.in-Usage.ensures.not_query asks.folder asks.area asks.first asks.last asks.words_are)
+
+-- ---- a build that is refused
+
+pub returns-in-Build-clause-build_refusal_comes : goal.returns-in-Build-clause-build_refusal_comes
+returns-in-Build-clause-build_refusal_comes g c = λ all start begins r asks.
+    comes_yields c.finish.result (g.O.Sink.written c.args.out.now) (g.O.Sink.written c.finish.new.out) (Rose (g.O.Sink.faults c.args.out.now) (g.O.Sink.faults c.finish.new.out)) c.build_line-line.result r (c.build_line-line.ensures.comes all start begins r (of_build (map string_bytes c.args.words.now) c.in-Build.config.now c.in-Build.out.now c.in-Build.ensures {P = ComesAt all start r} asks)) c.finish.ensures
+
+pub returns-in-Build-clause-differs_comes : goal.returns-in-Build-clause-differs_comes
+returns-in-Build-clause-differs_comes g c = λ all start begins asks.
+    differs_yields c.finish.result (g.O.Sink.written c.args.out.now) (g.O.Sink.written c.finish.new.out) (Rose (g.O.Sink.faults c.args.out.now) (g.O.Sink.faults c.finish.new.out)) c.build_line-line.result (c.build_line-line.ensures.differs_comes all start begins (of_build (map string_bytes c.args.words.now) c.in-Build.config.now c.in-Build.out.now c.in-Build.ensures {P = DiffersAt all start} asks)) c.finish.ensures
+
+pub returns-in-Build-clause-bad_comes : goal.returns-in-Build-clause-bad_comes
+returns-in-Build-clause-bad_comes g c = λ all start letter told stored bad asks.
+    comes_yields c.finish.result (g.O.Sink.written c.args.out.now) (g.O.Sink.written c.finish.new.out) (Rose (g.O.Sink.faults c.args.out.now) (g.O.Sink.faults c.finish.new.out)) c.build_line-line.result (BadCheckpoint letter) (c.build_line-line.ensures.bad_comes all start letter told stored bad (of_build (map string_bytes c.args.words.now) c.in-Build.config.now c.in-Build.out.now c.in-Build.ensures {P = IsConfigured all} asks)) c.finish.ensures
+
+pub returns-in-Usage-clause-build_refusal_comes : goal.returns-in-Usage-clause-build_refusal_comes
+returns-in-Usage-clause-build_refusal_comes g c = λ all start begins r asks. absurd (c.in-Usage.ensures.not_build asks.path asks.out asks.words_are)
+
+pub returns-in-Usage-clause-differs_comes : goal.returns-in-Usage-clause-differs_comes
+returns-in-Usage-clause-differs_comes g c = λ all start begins asks. absurd (c.in-Usage.ensures.not_build asks.path asks.out asks.words_are)
+
+pub returns-in-Usage-clause-bad_comes : goal.returns-in-Usage-clause-bad_comes
+returns-in-Usage-clause-bad_comes g c = λ all start letter told stored bad asks. absurd (c.in-Usage.ensures.not_build asks.path asks.out asks.words_are)
+
+pub returns-in-Info-clause-build_refusal_comes : goal.returns-in-Info-clause-build_refusal_comes
+returns-in-Info-clause-build_refusal_comes g c = λ all start begins r asks. absurd (build_or_info (map string_bytes c.args.words.now) asks.path asks.out c.in-Info.las.now asks.words_are c.in-Info.ensures)
+
+pub returns-in-Info-clause-differs_comes : goal.returns-in-Info-clause-differs_comes
+returns-in-Info-clause-differs_comes g c = λ all start begins asks. absurd (build_or_info (map string_bytes c.args.words.now) asks.path asks.out c.in-Info.las.now asks.words_are c.in-Info.ensures)
+
+pub returns-in-Info-clause-bad_comes : goal.returns-in-Info-clause-bad_comes
+returns-in-Info-clause-bad_comes g c = λ all start letter told stored bad asks. absurd (build_or_info (map string_bytes c.args.words.now) asks.path asks.out c.in-Info.las.now asks.words_are c.in-Info.ensures)
+
+pub returns-in-Query-clause-build_refusal_comes : goal.returns-in-Query-clause-build_refusal_comes
+returns-in-Query-clause-build_refusal_comes g c = λ all start begins r asks. absurd (query_or_build (map string_bytes c.args.words.now) c.in-Query.out.now c.in-Query.area c.in-Query.depths.0 c.in-Query.depths.1 c.in-Query.ensures asks.path asks.out asks.words_are)
+
+pub returns-in-Query-clause-differs_comes : goal.returns-in-Query-clause-differs_comes
+returns-in-Query-clause-differs_comes g c = λ all start begins asks. absurd (query_or_build (map string_bytes c.args.words.now) c.in-Query.out.now c.in-Query.area c.in-Query.depths.0 c.in-Query.depths.1 c.in-Query.ensures asks.path asks.out asks.words_are)
+
+pub returns-in-Query-clause-bad_comes : goal.returns-in-Query-clause-bad_comes
+returns-in-Query-clause-bad_comes g c = λ all start letter told stored bad asks. absurd (query_or_build (map string_bytes c.args.words.now) c.in-Query.out.now c.in-Query.area c.in-Query.depths.0 c.in-Query.depths.1 c.in-Query.ensures asks.path asks.out asks.words_are)
+
+-- ---- what is opened, and how much is read
+
+pub returns-in-Build-clause-asked : goal.returns-in-Build-clause-asked
+returns-in-Build-clause-asked g c = λ start told. inl (record { path = c.in-Build.config.now; out = c.in-Build.out.now; words_are = c.in-Build.ensures; holds = c.build_line-line.ensures.asked start told })
+
+pub returns-in-Info-clause-asked : goal.returns-in-Info-clause-asked
+returns-in-Info-clause-asked g c = λ start told. inr (inl (record { path = c.in-Info.las.now; words_are = c.in-Info.ensures; holds = c.info_line-line.ensures.asked }))
+
+pub returns-in-Query-clause-asked : goal.returns-in-Query-clause-asked
+returns-in-Query-clause-asked g c = λ start told. inr (inr refl)
+
+pub returns-in-Usage-clause-asked : goal.returns-in-Usage-clause-asked
+returns-in-Usage-clause-asked g c = λ start told. inr (inr refl)
+
+pub returns-in-Build-clause-header_given : goal.returns-in-Build-clause-header_given
+returns-in-Build-clause-header_given g c = λ las is. absurd (build_or_info (map string_bytes c.args.words.now) c.in-Build.config.now c.in-Build.out.now las c.in-Build.ensures is)
+
+pub returns-in-Build-clause-configuration_given : goal.returns-in-Build-clause-configuration_given
+returns-in-Build-clause-configuration_given g c = λ is.
+    let bad = bad_configuration c.finish.result (g.O.Sink.written c.args.out.now) (g.O.Sink.written c.finish.new.out) (Rose (g.O.Sink.faults c.args.out.now) (g.O.Sink.faults c.finish.new.out)) c.build_line-line.result c.finish.ensures is in
+    c.build_line-line.ensures.given bad.0 bad.1
+
+-- ---- trial
+
+trial_known : (g : given.Over) (c : goal.After-finish-in-Trial g) → Carries (map string_bytes c.args.words.now) (g.H.Shelf.files c.args.shelf.now) (BeginsWith (g.H.Shelf.files c.args.shelf.now) (g.T.Store.files c.args.store.now) (g.T.Store.may_leave c.args.store.now)) (g.T.Store.files c.args.store.now) (Rose (g.H.Shelf.faults c.args.shelf.now) (g.H.Shelf.faults c.args.shelf.now)) (Rose (g.T.Store.faults c.args.store.now) (g.T.Store.faults c.args.store.now)) (Moves g.T.Store.files g.T.Store.may_leave g.T.Store.moment g.T.Store.image_since SameFiles c.args.store.now c.args.store.now) c.trial_line-line.result
+trial_known g c =
+    trial_carries (map string_bytes c.args.words.now) c.in-Trial.points c.in-Trial.workers c.in-Trial.cache c.in-Trial.ensures c.trial_line-line.result c.trial_line-line.ensures.told c.trial_line-line.ensures.refused (g.H.Shelf.files c.args.shelf.now) (BeginsWith (g.H.Shelf.files c.args.shelf.now) (g.T.Store.files c.args.store.now) (g.T.Store.may_leave c.args.store.now)) (g.T.Store.files c.args.store.now) (Rose (g.H.Shelf.faults c.args.shelf.now) (g.H.Shelf.faults c.args.shelf.now)) (Rose (g.T.Store.faults c.args.store.now) (g.T.Store.faults c.args.store.now)) (Moves g.T.Store.files g.T.Store.may_leave g.T.Store.moment g.T.Store.image_since SameFiles c.args.store.now c.args.store.now) (stays g.T.Store.files g.T.Store.may_leave g.T.Store.moment g.T.Store.image_since c.args.store.now)
+
+pub returns-in-Trial-clause-usage : goal.returns-in-Trial-clause-usage
+returns-in-Trial-clause-usage g c = (
+  λ is. absurd (never_usage c.finish-in-Trial.result (g.O.Sink.written c.args.out.now) (g.O.Sink.written c.finish-in-Trial.new.out) (Rose (g.O.Sink.faults c.args.out.now) (g.O.Sink.faults c.finish-in-Trial.new.out)) c.trial_line-line.result (trial_known g c).named c.finish-in-Trial.ensures is),
+  λ usage. absurd (usage.not_trial c.in-Trial.points c.in-Trial.workers c.in-Trial.cache c.in-Trial.ensures),
+)
+
+pub returns-in-Trial-clause-done : goal.returns-in-Trial-clause-done
+returns-in-Trial-clause-done g c = λ ok. inl (is_done c.finish-in-Trial.result (g.O.Sink.written c.args.out.now) (g.O.Sink.written c.finish-in-Trial.new.out) (Rose (g.O.Sink.faults c.args.out.now) (g.O.Sink.faults c.finish-in-Trial.new.out)) (map string_bytes c.args.words.now) (g.H.Shelf.files c.args.shelf.now) (BeginsWith (g.H.Shelf.files c.args.shelf.now) (g.T.Store.files c.args.store.now) (g.T.Store.may_leave c.args.store.now)) (g.T.Store.files c.args.store.now) (Rose (g.H.Shelf.faults c.args.shelf.now) (g.H.Shelf.faults c.args.shelf.now)) (Rose (g.T.Store.faults c.args.store.now) (g.T.Store.faults c.args.store.now)) (Moves g.T.Store.files g.T.Store.may_leave g.T.Store.moment g.T.Store.image_since SameFiles c.args.store.now c.args.store.now) c.trial_line-line.result (trial_known g c) c.finish-in-Trial.ensures ok)
+
+pub returns-in-Trial-clause-refused : goal.returns-in-Trial-clause-refused
+returns-in-Trial-clause-refused g c = λ not_ok. first_two (is_refused c.finish-in-Trial.result (g.O.Sink.written c.args.out.now) (g.O.Sink.written c.finish-in-Trial.new.out) (Rose (g.O.Sink.faults c.args.out.now) (g.O.Sink.faults c.finish-in-Trial.new.out)) (map string_bytes c.args.words.now) (g.H.Shelf.files c.args.shelf.now) (BeginsWith (g.H.Shelf.files c.args.shelf.now) (g.T.Store.files c.args.store.now) (g.T.Store.may_leave c.args.store.now)) (g.T.Store.files c.args.store.now) (Rose (g.H.Shelf.faults c.args.shelf.now) (g.H.Shelf.faults c.args.shelf.now)) (Rose (g.T.Store.faults c.args.store.now) (g.T.Store.faults c.args.store.now)) (Moves g.T.Store.files g.T.Store.may_leave g.T.Store.moment g.T.Store.image_since SameFiles c.args.store.now c.args.store.now) c.trial_line-line.result (trial_known g c) c.finish-in-Trial.ensures not_ok)
+
+pub returns-in-Trial-clause-fault : goal.returns-in-Trial-clause-fault
+returns-in-Trial-clause-fault g c =
+    has_risen c.finish-in-Trial.result (g.O.Sink.written c.args.out.now) (g.O.Sink.written c.finish-in-Trial.new.out) (Rose (g.O.Sink.faults c.args.out.now) (g.O.Sink.faults c.finish-in-Trial.new.out)) (map string_bytes c.args.words.now) (g.H.Shelf.files c.args.shelf.now) (BeginsWith (g.H.Shelf.files c.args.shelf.now) (g.T.Store.files c.args.store.now) (g.T.Store.may_leave c.args.store.now)) (g.T.Store.files c.args.store.now) (Rose (g.H.Shelf.faults c.args.shelf.now) (g.H.Shelf.faults c.args.shelf.now)) (Rose (g.T.Store.faults c.args.store.now) (g.T.Store.faults c.args.store.now)) (Moves g.T.Store.files g.T.Store.may_leave g.T.Store.moment g.T.Store.image_since SameFiles c.args.store.now c.args.store.now) c.trial_line-line.result (trial_known g c) c.finish-in-Trial.ensures
+
+pub returns-in-Trial-clause-refusal_comes : goal.returns-in-Trial-clause-refusal_comes
+returns-in-Trial-clause-refusal_comes g c =
+    refusal_yields c.finish-in-Trial.result (g.O.Sink.written c.args.out.now) (g.O.Sink.written c.finish-in-Trial.new.out) (Rose (g.O.Sink.faults c.args.out.now) (g.O.Sink.faults c.finish-in-Trial.new.out)) c.trial_line-line.result (g.H.Shelf.files c.args.shelf.now) (λ all r. IsFaulty (map string_bytes c.args.words.now) all r) c.finish-in-Trial.ensures (trial_known g c).comes
+
+pub returns-in-Trial-clause-trial : goal.returns-in-Trial-clause-trial
+returns-in-Trial-clause-trial g c = λ count workers cache is.
+    subst (λ (n : ℕ). EndsTrial n c.finish-in-Trial.result (g.O.Sink.written c.args.out.now) (g.O.Sink.written c.finish-in-Trial.new.out) (Rose (g.O.Sink.faults c.args.out.now) (g.O.Sink.faults c.finish-in-Trial.new.out))) (one_count (map string_bytes c.args.words.now) c.in-Trial.points c.in-Trial.workers c.in-Trial.cache c.in-Trial.ensures count workers cache is)
+    (trial_ends c.in-Trial.points c.finish-in-Trial.result (g.O.Sink.written c.args.out.now) (g.O.Sink.written c.finish-in-Trial.new.out) (Rose (g.O.Sink.faults c.args.out.now) (g.O.Sink.faults c.finish-in-Trial.new.out)) c.trial_line-line.result c.trial_line-line.ensures.told c.trial_line-line.ensures.refused c.finish-in-Trial.ensures)
+
+pub returns-in-Trial-clause-build_comes : goal.returns-in-Trial-clause-build_comes
+returns-in-Trial-clause-build_comes g c = λ all start begins asks. absurd (trial_or_build (map string_bytes c.args.words.now) c.in-Trial.points c.in-Trial.workers c.in-Trial.cache c.in-Trial.ensures asks.path asks.out asks.words_are)
+
+pub returns-in-Trial-clause-info_comes : goal.returns-in-Trial-clause-info_comes
+returns-in-Trial-clause-info_comes g c =
+    told_always (λ all. (header : Header) → AsksInfo (map string_bytes c.args.words.now) (λ path. HasHeader all path header) → Yields 0 c.finish-in-Trial.result) (g.H.Shelf.files c.args.shelf.now) (λ all header asks. absurd (trial_untold (map string_bytes c.args.words.now) c.in-Trial.points c.in-Trial.workers c.in-Trial.cache c.in-Trial.ensures {Fact = λ path. HasHeader all path header} asks))
+
+pub returns-in-Trial-clause-settled : goal.returns-in-Trial-clause-settled
+returns-in-Trial-clause-settled g c = λ config folder is ok. absurd (trial_or_build (map string_bytes c.args.words.now) c.in-Trial.points c.in-Trial.workers c.in-Trial.cache c.in-Trial.ensures config folder is)
+
+pub returns-in-Trial-clause-done_already : goal.returns-in-Trial-clause-done_already
+returns-in-Trial-clause-done_already g c = λ all start begins asks. stays g.T.Store.files g.T.Store.may_leave g.T.Store.moment g.T.Store.image_since c.args.store.now
+
+pub returns-in-Trial-clause-others_put_nothing : goal.returns-in-Trial-clause-others_put_nothing
+returns-in-Trial-clause-others_put_nothing g c = inr (stays g.T.Store.files g.T.Store.may_leave g.T.Store.moment g.T.Store.image_since c.args.store.now)
+
+pub returns-in-Trial-clause-sound : goal.returns-in-Trial-clause-sound
+returns-in-Trial-clause-sound g c = λ config folder is. absurd (trial_or_build (map string_bytes c.args.words.now) c.in-Trial.points c.in-Trial.workers c.in-Trial.cache c.in-Trial.ensures config folder is)
+
+pub returns-in-Trial-clause-query : goal.returns-in-Trial-clause-query
+returns-in-Trial-clause-query g c = λ folder area first last is. absurd (trial_or_query (map string_bytes c.args.words.now) c.in-Trial.points c.in-Trial.workers c.in-Trial.cache c.in-Trial.ensures folder area first last is)
+
+pub returns-in-Trial-clause-query_puts_nothing : goal.returns-in-Trial-clause-query_puts_nothing
+returns-in-Trial-clause-query_puts_nothing g c = λ asks. absurd (trial_or_query (map string_bytes c.args.words.now) c.in-Trial.points c.in-Trial.workers c.in-Trial.cache c.in-Trial.ensures asks.folder asks.area asks.first asks.last asks.words_are)
+
+pub returns-in-Trial-clause-build_refusal_comes : goal.returns-in-Trial-clause-build_refusal_comes
+returns-in-Trial-clause-build_refusal_comes g c = λ all start begins r asks. absurd (trial_or_build (map string_bytes c.args.words.now) c.in-Trial.points c.in-Trial.workers c.in-Trial.cache c.in-Trial.ensures asks.path asks.out asks.words_are)
+
+pub returns-in-Trial-clause-differs_comes : goal.returns-in-Trial-clause-differs_comes
+returns-in-Trial-clause-differs_comes g c = λ all start begins asks. absurd (trial_or_build (map string_bytes c.args.words.now) c.in-Trial.points c.in-Trial.workers c.in-Trial.cache c.in-Trial.ensures asks.path asks.out asks.words_are)
+
+pub returns-in-Trial-clause-bad_comes : goal.returns-in-Trial-clause-bad_comes
+returns-in-Trial-clause-bad_comes g c = λ all start letter told stored bad asks. absurd (trial_or_build (map string_bytes c.args.words.now) c.in-Trial.points c.in-Trial.workers c.in-Trial.cache c.in-Trial.ensures asks.path asks.out asks.words_are)
+
+pub returns-in-Trial-clause-asked : goal.returns-in-Trial-clause-asked
+returns-in-Trial-clause-asked g c = λ start told. inr (inr refl)
+
+-- ---- no trial
+
+pub returns-in-Build-clause-trial : goal.returns-in-Build-clause-trial
+returns-in-Build-clause-trial g c = λ count workers cache is. absurd (trial_or_build (map string_bytes c.args.words.now) count workers cache is c.in-Build.config.now c.in-Build.out.now c.in-Build.ensures)
+
+pub returns-in-Info-clause-trial : goal.returns-in-Info-clause-trial
+returns-in-Info-clause-trial g c = λ count workers cache is. absurd (trial_or_info (map string_bytes c.args.words.now) count workers cache is c.in-Info.las.now c.in-Info.ensures)
+
+pub returns-in-Query-clause-trial : goal.returns-in-Query-clause-trial
+returns-in-Query-clause-trial g c = λ count workers cache is. absurd (trial_or_query (map string_bytes c.args.words.now) count workers cache is c.in-Query.out.now c.in-Query.area c.in-Query.depths.0 c.in-Query.depths.1 c.in-Query.ensures)
+
+pub returns-in-Usage-clause-trial : goal.returns-in-Usage-clause-trial
+returns-in-Usage-clause-trial g c = λ count workers cache is. absurd (c.in-Usage.ensures.not_trial count workers cache is)
+
+-- ---- which devices stay as they were
+
+pub returns-in-Build-clause-same_store : goal.returns-in-Build-clause-same_store
+returns-in-Build-clause-same_store g c = inl (record { path = c.in-Build.config.now; out = c.in-Build.out.now; words_are = c.in-Build.ensures; holds = tt })
+
+pub returns-in-Info-clause-same_store : goal.returns-in-Info-clause-same_store
+returns-in-Info-clause-same_store g c = inr (inr refl)
+
+pub returns-in-Query-clause-same_store : goal.returns-in-Query-clause-same_store
+returns-in-Query-clause-same_store g c = inr (inl (query_asked (map string_bytes c.args.words.now) c.in-Query.out.now c.in-Query.area c.in-Query.depths.0 c.in-Query.depths.1 c.in-Query.ensures))
+
+pub returns-in-Trial-clause-same_store : goal.returns-in-Trial-clause-same_store
+returns-in-Trial-clause-same_store g c = inr (inr refl)
+
+pub returns-in-Usage-clause-same_store : goal.returns-in-Usage-clause-same_store
+returns-in-Usage-clause-same_store g c = inr (inr refl)
+
+pub returns-in-Build-clause-same_shelf : goal.returns-in-Build-clause-same_shelf
+returns-in-Build-clause-same_shelf g c = inl (record { path = c.in-Build.config.now; out = c.in-Build.out.now; words_are = c.in-Build.ensures; holds = tt })
+
+pub returns-in-Info-clause-same_shelf : goal.returns-in-Info-clause-same_shelf
+returns-in-Info-clause-same_shelf g c = inr (inl (record { path = c.in-Info.las.now; words_are = c.in-Info.ensures; holds = tt }))
+
+pub returns-in-Query-clause-same_shelf : goal.returns-in-Query-clause-same_shelf
+returns-in-Query-clause-same_shelf g c = inr (inr refl)
+
+pub returns-in-Trial-clause-same_shelf : goal.returns-in-Trial-clause-same_shelf
+returns-in-Trial-clause-same_shelf g c = inr (inr refl)
+
+pub returns-in-Usage-clause-same_shelf : goal.returns-in-Usage-clause-same_shelf
+returns-in-Usage-clause-same_shelf g c = inr (inr refl)

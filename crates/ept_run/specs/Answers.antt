@@ -1,0 +1,167 @@
+-- What a run answers, and what it leaves.
+use Rattle.std.specs.Prelude.{◌≡◌, ◌⊎◌, ℕ, Option, List, [], ◌∷◌, take, Vec, Result, Ok, Err, ⊤}
+use Rattle.std.specs.Io.KnownBytes.{Appends}
+use Rattle.std.specs.declared.alloc.Global.{Global}
+use Rattle.ept_base.specs.Devices.{AppendsPrefix}
+use Rattle.ept_base.specs.Files.{Files, Tells}
+use Rattle.ept_las.specs.declared.header.Header.{Header}
+use Rattle.ept_space.specs.declared.box3.Box3.{Box3}
+use Rattle.ept_scan.specs.Asking.{AsksFor}
+use Rattle.ept_meta.specs.declared.fields.Field.{Field}
+use Rattle.ept_run.specs.declared.refusal.Refusal.{Refusal}
+use Rattle.ept_run.specs.declared.refusal.Refusal.TheVariants.{Usage, BadConfiguration, BadLas, OutOfBounds, NoBounds, SourceChanged, TooManyPoints, TooManyNodes, Differs, BadCheckpoint, TileDamaged, SourceFault, StoreFault, Memory}
+use Rattle.ept_run.specs.Words.{IsBuild, IsInfo, IsQuery, IsTrial, IsUsage}
+use Rattle.ept_run.specs.Lines.{summary_text, header_text, status_of, line_of}
+use Rattle.ept_run.specs.Requests.{HasBuilt, HasTold, HasTrial, AsksForBuild, ConfigurationIsRefused, BuildIsRefused, InfoIsRefused, IsEarly}
+
+-- this status, if no device failed and memory sufficed
+abbrev pub Yields : ℕ → ℕ → Type 0
+Yields wanted status = (status ≡ wanted) ⊎ (status ≡ 7) ⊎ (status ≡ 9)
+
+-- ---- what the words ask for
+
+-- a build of the configuration of some path, of which this holds
+pub record AsksBuild (words : List (List ℕ)) (Fact : List ℕ → Type 0) : Type 0 where
+  pub path : List ℕ
+  pub out : List ℕ
+  pub words_are : IsBuild words path out
+  pub holds : Fact path
+
+-- what is known of the LAS file of some path, of which this holds
+pub record AsksInfo (words : List (List ℕ)) (Fact : List ℕ → Type 0) : Type 0 where
+  pub path : List ℕ
+  pub words_are : IsInfo words path
+  pub holds : Fact path
+
+-- the points of some area and depths of the dataset in some folder
+pub record AsksQuery (words : List (List ℕ)) : Type 0 where
+  pub folder : List ℕ
+  pub area : Box3
+  pub first : ℕ
+  pub last : ℕ
+  pub words_are : IsQuery words folder area first last
+
+-- a trial of so many points, of which this holds
+pub record AsksTrial (words : List (List ℕ)) (Fact : ℕ → Type 0) : Type 0 where
+  pub count : ℕ
+  pub workers : ℕ
+  pub cache : ℕ
+  pub words_are : IsTrial words count workers cache
+  pub holds : Fact count
+
+-- What the words ask the shelf for, over a store with these files: a build for its configuration, and then for what its build asks for; `info` for its file; all others for nothing.
+abbrev pub IsAskedFor : List (List ℕ) → Option Files → Files → Option (List (List ℕ)) → Option (List (List ℕ)) → Type 0
+IsAskedFor words shelf start old new =
+    AsksBuild words (λ path. AsksForBuild shelf start path old new)
+    ⊎ AsksInfo words (λ path. (n : ℕ) × AsksFor (take n (path ∷ [])) old new)
+    ⊎ (new ≡ old)
+
+-- ---- what is done
+
+-- the line that a command ends with, whatever the files are
+abbrev pub IsAnswer : List (List ℕ) → List ℕ → Type 0
+IsAnswer words line =
+    AsksBuild words (λ _. (points : ℕ) × (nodes : ℕ) × (line ≡ summary_text points nodes))
+    ⊎ AsksInfo words (λ _. (header : Header) × (line ≡ header_text header))
+    ⊎ AsksTrial words (λ count. HasTrial count line)
+
+-- The store has the output of a build, a LAS file has a header, or a trial was made; and this is the line that tells it. Begins says of the shelf's files and the store's that the build begins with them.
+abbrev pub IsDone : List (List ℕ) → Files → (Files → Files → Type 0) → List ℕ → Option Files → Type 0
+IsDone words files Begins line new =
+    AsksBuild words (λ path. HasBuilt files Begins path line new)
+    ⊎ AsksInfo words (λ path. HasTold files path line)
+    ⊎ AsksTrial words (λ count. HasTrial count line)
+
+-- A command is carried out, and so much of its line is said.
+pub record Ends (words : List (List ℕ)) (files : Option Files) (Begins : Files → Files → Type 0) (new : Option Files)
+    (Said : List ℕ → Type 0) : Type 0 where
+  pub line : List ℕ
+  pub is_answer : IsAnswer words line
+  pub done : Tells (λ all. IsDone words all Begins line new) files
+  pub said : Said line
+
+-- ---- refusals
+
+-- the words, or the file that they name, are refused for this cause, whatever the store has
+abbrev pub IsFaulty : List (List ℕ) → Files → Refusal → Type 0
+IsFaulty words files r =
+    ((r ≡ Usage) × IsUsage words)
+    ⊎ AsksBuild words (λ path. ConfigurationIsRefused files path r) ⊎ AsksInfo words (λ path. InfoIsRefused files path r)
+
+-- the words, or the files that they name, are refused for this cause; a trial has none but want of memory
+abbrev pub IsRefused : List (List ℕ) → Files → (Files → Files → Type 0) → Refusal → Type 0
+IsRefused words files Begins r =
+    ((r ≡ Usage) × IsUsage words)
+    ⊎ AsksBuild words (λ path. BuildIsRefused files Begins path r) ⊎ AsksInfo words (λ path. InfoIsRefused files path r)
+    ⊎ AsksTrial words (λ _. r ≡ Memory)
+
+-- the count of a device rose, where the refusal is that device's fault: of the shelf, or of the store
+abbrev pub HasRisen : Refusal → Type 0 → Type 0 → Type 0
+HasRisen SourceFault shelf store = shelf
+HasRisen StoreFault shelf store = store
+HasRisen Usage shelf store = ⊤
+HasRisen (BadConfiguration e) shelf store = ⊤
+HasRisen (BadLas source fault) shelf store = ⊤
+HasRisen (OutOfBounds source number) shelf store = ⊤
+HasRisen NoBounds shelf store = ⊤
+HasRisen (SourceChanged source number) shelf store = ⊤
+HasRisen (TooManyPoints source) shelf store = ⊤
+HasRisen TooManyNodes shelf store = ⊤
+HasRisen (Differs field) shelf store = ⊤
+HasRisen (BadCheckpoint letter) shelf store = ⊤
+HasRisen (TileDamaged key) shelf store = ⊤
+HasRisen Memory shelf store = ⊤
+
+-- the sink has gained this line, or, where it failed, a prefix of it
+abbrev pub Says : List ℕ → Option (List ℕ) → Option (List ℕ) → Type 0 → Type 0
+Says line old new failed = Appends old new line ⊎ (failed × AppendsPrefix old new line)
+
+-- a refusal is told by its line and its status; where memory doesn't suffice for that, want of memory is told
+pub record IsTold (r : Refusal) (status : ℕ) (old new : Option (List ℕ)) (failed : Type 0) : Type 0 where
+  pub told : Refusal
+  pub told_is : (told ≡ r) ⊎ (told ≡ Memory)
+  pub status_is : status_of told ≡ status
+  pub says : Says (line_of told) old new failed
+
+-- the line of a command that is carried out is said, or the sink failed at it
+abbrev pub IsSaid : List ℕ → ℕ → Option (List ℕ) → Option (List ℕ) → Type 0 → Type 0
+IsSaid line status old new failed = ((status ≡ 0) × Appends old new line)
+    ⊎ ((status ≡ 7) × failed × AppendsPrefix old new line)
+
+-- a trial of so many points ends: its line is said, or want of memory is told
+abbrev pub EndsTrial : ℕ → ℕ → Option (List ℕ) → Option (List ℕ) → Type 0 → Type 0
+EndsTrial count status old new failed =
+    ((line : List ℕ) × HasTrial count line × IsSaid line status old new failed) ⊎ IsTold Memory status old new failed
+
+-- how a command ends that has this line, or is refused
+abbrev pub EndsWith : Result (Vec ℕ Global) Refusal → ℕ → Option (List ℕ) → Option (List ℕ)
+    → Type 0 → Type 0
+EndsWith (Ok line) status old new failed = IsSaid line.items status old new failed
+EndsWith (Err r) status old new failed = IsTold r status old new failed
+
+-- A run is refused for a cause, with its status and its line: the device that it names has failed (shelf, store and out say that the count of that one rose), and nothing was put where the cause is an early one (same).
+pub record Refuses (words : List (List ℕ)) (files : Option Files) (Begins : Files → Files → Type 0) (status : ℕ) (shelf store out : Type 0)
+    (old new : Option (List ℕ)) (same : Type 0) : Type 0 where
+  pub cause : Refusal
+  pub status_is : status_of cause ≡ status
+  pub has_cause : Tells (λ all. IsRefused words all Begins cause) files
+  pub risen : HasRisen cause shelf store
+  pub says : Says (line_of cause) old new out
+  pub early : IsEarly cause → same
+
+-- A command is carried out, and its line is cut where the sink failed.
+pub record IsCut (words : List (List ℕ)) (files : Option Files) (Begins : Files → Files → Type 0) (status : ℕ) (new : Option Files)
+    (failed : Type 0) (said_old said_new : Option (List ℕ)) : Type 0 where
+  pub status_is : status ≡ 7
+  pub risen : failed
+  pub ends : Ends words files Begins new (AppendsPrefix said_old said_new)
+
+-- this refusal is told, if no device failed and memory sufficed
+abbrev pub YieldsRefusal : Refusal → ℕ → Option (List ℕ) → Option (List ℕ) → Type 0 → Type 0
+YieldsRefusal r status old new failed =
+    ((status ≡ status_of r) × Says (line_of r) old new failed) ⊎ (status ≡ 7) ⊎ (status ≡ 9)
+
+-- some field is told as one that differs, if no device failed and memory sufficed
+abbrev pub YieldsDifference : ℕ → Option (List ℕ) → Option (List ℕ) → Type 0 → Type 0
+YieldsDifference status old new failed =
+    ((field : Field) × (status ≡ 6) × Says (line_of (Differs field)) old new failed) ⊎ (status ≡ 7) ⊎ (status ≡ 9)

@@ -1,0 +1,275 @@
+-- What the files of these paths are, on a shelf of these files, and why a command on them is refused.
+use Rattle.std.specs.Prelude.{◌≡◌, ◌≢◌, ◌⊎◌, ℕ, List, [], ◌∷◌, Vec, Option, None, Some, Result, Ok, Err, take, ⊤}
+use Rattle.std.specs.declared.alloc.Global.{Global}
+use Rattle.ept_base.specs.Files.{Files, Tells}
+use Rattle.ept_config.specs.declared.config.Config.{Config}
+use Rattle.ept_config.specs.declared.config_error.ConfigError.{ConfigError}
+use Rattle.ept_config.specs.Configuration.{reading}
+use Rattle.ept_config.specs.Facts.{facts}
+use Rattle.ept_las.specs.declared.header.Header.{Header}
+use Rattle.ept_las.specs.declared.las_error.LasError.{LasError}
+use Rattle.ept_las.specs.LasHeader.{HeaderReadsAs}
+use Rattle.ept_scan.specs.Asking.{AsksFor}
+use Rattle.ept_scan.specs.LasFile.{head_of}
+use Rattle.ept_scan.specs.declared.scan_error.ScanError.TheVariants as scan
+use Rattle.ept_meta.specs.declared.fields.Field.{Field}
+use Rattle.ept_save.specs.Current.{Current, HasCurrent}
+use Rattle.ept_plan.specs.Plans.{GoesOn}
+use Rattle.ept_build.specs.declared.error.BuildError.{BuildError}
+use Rattle.ept_build.specs.declared.error.BuildError.TheVariants as build
+use Rattle.ept_build.specs.declared.summary.Summary.{Summary}
+use Rattle.ept_build.specs.Building as building
+use Rattle.ept_trial.specs.declared.trial.Trial.{Trial}
+use Rattle.ept_trial.specs.Trials.{IsTrialOf}
+use Rattle.ept_run.specs.declared.refusal.Refusal.{Refusal}
+use Rattle.ept_run.specs.declared.refusal.Refusal.TheVariants.{Usage, BadConfiguration, BadLas, OutOfBounds, NoBounds, SourceChanged, TooManyPoints, TooManyNodes, Differs, BadCheckpoint, TileDamaged, SourceFault, StoreFault, Memory}
+use Rattle.ept_run.specs.Lines.{summary_text, header_text, trial_text}
+
+-- these are the first bytes of the file of this path: so many, or all
+pub record HasFront (files : Files) (path : List ℕ) (most : ℕ) (front : List ℕ) : Type 0 where
+  pub bytes : List ℕ
+  pub content : files path ≡ Some bytes
+  pub front_is : front ≡ take most bytes
+
+-- ---- a build
+
+-- the file of this path is this configuration
+pub record HasConfiguration (files : Files) (path : List ℕ) (config : Config) : Type 0 where
+  pub bytes : List ℕ
+  pub content : files path ≡ Some bytes
+  pub reads : reading bytes ≡ Ok (facts config)
+
+-- it is no configuration, for this cause
+pub record HasBadConfiguration (files : Files) (path : List ℕ) (error : ConfigError) : Type 0 where
+  pub bytes : List ℕ
+  pub content : files path ≡ Some bytes
+  pub refused : reading bytes ≡ Err error
+
+-- why it can't be read; a fault of the shelf and want of memory say nothing of files
+abbrev pub ConfigurationIsRefused : Files → List ℕ → Refusal → Type 0
+ConfigurationIsRefused files path Usage = ⊥
+ConfigurationIsRefused files path (BadConfiguration error) = HasBadConfiguration files path error
+ConfigurationIsRefused files path (BadLas source fault) = ⊥
+ConfigurationIsRefused files path (OutOfBounds source number) = ⊥
+ConfigurationIsRefused files path NoBounds = ⊥
+ConfigurationIsRefused files path (SourceChanged source number) = ⊥
+ConfigurationIsRefused files path (TooManyPoints source) = ⊥
+ConfigurationIsRefused files path TooManyNodes = ⊥
+ConfigurationIsRefused files path (Differs field) = ⊥
+ConfigurationIsRefused files path (BadCheckpoint letter) = ⊥
+ConfigurationIsRefused files path (TileDamaged key) = ⊥
+ConfigurationIsRefused files path SourceFault = ⊤
+ConfigurationIsRefused files path StoreFault = ⊥
+ConfigurationIsRefused files path Memory = ⊤
+
+-- The file is a configuration, and its build over a store that begins with sound files is refused for this cause. Begins says of the shelf's files and the store's that the build begins with them.
+abbrev pub HasBadBuild : Files → (Files → Files → Type 0) → List ℕ → BuildError → Type 0
+HasBadBuild files Begins path error =
+    (config : Config) × HasConfiguration files path config × ((start : Files) → Begins files start → building.IsRefused files config start error)
+
+-- it is a configuration, and its build over a store with these files is accepted
+pub record IsAcceptedAt (files start : Files) (path : List ℕ) : Type 0 where
+  pub config : Config
+  pub configures : HasConfiguration files path config
+  pub accepted : building.IsAccepted files config start
+
+-- why a build of the configuration over a store with this current checkpoint comes to a refusal
+abbrev pub Comes : Files → Config → Files → Current → Refusal → Type 0
+Comes files config start current Usage = ⊥
+Comes files config start current (BadConfiguration error) = ⊥
+Comes files config start current (BadLas source fault) = building.InputsAreRefused files config current (scan.BadLas source fault)
+Comes files config start current (OutOfBounds source number) = building.InputsAreRefused files config current (scan.OutOfBounds source number)
+Comes files config start current NoBounds = building.InputsAreRefused files config current scan.NoBounds
+Comes files config start current (SourceChanged source number) = ⊥
+Comes files config start current (TooManyPoints source) = building.InputsAreRefused files config current (scan.TooManyPoints source)
+Comes files config start current TooManyNodes = GoesOn config current × (¬ building.IsDoneAlready config start) × building.HasTooManyNodes files config current
+Comes files config start current (Differs field) = ⊥
+Comes files config start current (BadCheckpoint letter) = ⊥
+Comes files config start current (TileDamaged key) = ⊥
+Comes files config start current SourceFault = ⊥
+Comes files config start current StoreFault = ⊥
+Comes files config start current Memory = ⊥
+
+-- it is a configuration, and its build over a store with these files comes to this refusal
+pub record ComesAt (files start : Files) (r : Refusal) (path : List ℕ) : Type 0 where
+  pub config : Config
+  pub configures : HasConfiguration files path config
+  pub current : Current
+  pub has_current : HasCurrent current start
+  pub because : Comes files config start current r
+
+-- it is a configuration that does not go on from what the current checkpoint keeps
+pub record DiffersAt (files start : Files) (path : List ℕ) : Type 0 where
+  pub config : Config
+  pub configures : HasConfiguration files path config
+  pub current : Current
+  pub has_current : HasCurrent current start
+  pub differs : ¬ GoesOn config current
+
+-- What a build of the configuration of this path asks the shelf for: this path, and then, where it is a configuration, what its build asks for over a store with these files.
+abbrev pub AsksForBuild : Option Files → Files → List ℕ → Option (List (List ℕ)) → Option (List (List ℕ)) → Type 0
+AsksForBuild shelf start path old new =
+    ((n : ℕ) × AsksFor (take n (path ∷ [])) old new)
+    ⊎ ((config : Config) × Tells (λ all. HasConfiguration all path config) shelf
+    × (asked : Option (List (List ℕ))) × AsksFor (path ∷ []) old asked
+    × ((current : Current) → HasCurrent current start → building.AsksInOrder shelf config start current asked new))
+
+-- it is a configuration
+abbrev pub IsConfigured : Files → List ℕ → Type 0
+IsConfigured files path = (config : Config) × HasConfiguration files path config
+
+-- it is a configuration, and nothing of its build is left to be done over a store with these files
+pub record IsDoneAt (files start : Files) (path : List ℕ) : Type 0 where
+  pub config : Config
+  pub configures : HasConfiguration files path config
+  pub done : building.IsDoneAlready config start
+
+-- it is a configuration, and a store that began with sound files has the output of its build
+pub record IsBuiltAt (files : Files) (Begins : Files → Files → Type 0) (path : List ℕ) (summary : Summary) (new : Option Files)
+    : Type 0 where
+  pub config : Config
+  pub configures : HasConfiguration files path config
+  pub built : (start : Files) → Begins files start → Tells (building.IsBuilt files config start summary) new
+
+-- the same, and this line says so
+pub record HasBuilt (files : Files) (Begins : Files → Files → Type 0) (path line : List ℕ) (new : Option Files) : Type 0 where
+  pub summary : Summary
+  pub built : IsBuiltAt files Begins path summary new
+  pub line_is : line ≡ summary_text summary.points summary.nodes
+
+-- why a build of the configuration of this path is refused; device faults and want of memory say nothing of files
+abbrev pub BuildIsRefused : Files → (Files → Files → Type 0) → List ℕ → Refusal → Type 0
+BuildIsRefused files Begins path Usage = ⊥
+BuildIsRefused files Begins path (BadConfiguration error) = HasBadConfiguration files path error
+BuildIsRefused files Begins path (BadLas source fault) = HasBadBuild files Begins path (build.BadLas source fault)
+BuildIsRefused files Begins path (OutOfBounds source number) = HasBadBuild files Begins path (build.OutOfBounds source number)
+BuildIsRefused files Begins path NoBounds = HasBadBuild files Begins path build.NoBounds
+BuildIsRefused files Begins path (SourceChanged source number) = HasBadBuild files Begins path (build.SourceChanged source number)
+BuildIsRefused files Begins path (TooManyPoints source) = HasBadBuild files Begins path (build.TooManyPoints source)
+BuildIsRefused files Begins path TooManyNodes = HasBadBuild files Begins path build.TooManyNodes
+BuildIsRefused files Begins path (Differs field) = (kept : Vec ℕ Global) × (given : Vec ℕ Global) × HasBadBuild files Begins path (build.Differs field kept given)
+BuildIsRefused files Begins path (BadCheckpoint letter) = HasBadBuild files Begins path (build.BadCheckpoint letter)
+BuildIsRefused files Begins path (TileDamaged key) = HasBadBuild files Begins path (build.TileDamaged key)
+BuildIsRefused files Begins path SourceFault = ⊤
+BuildIsRefused files Begins path StoreFault = ⊤
+BuildIsRefused files Begins path Memory = ⊤
+
+-- ---- what is known of a LAS file
+
+-- the file of this path has this header
+pub record HasHeader (files : Files) (path : List ℕ) (header : Header) : Type 0 where
+  pub bytes : List ℕ
+  pub content : files path ≡ Some bytes
+  pub reads : HeaderReadsAs (head_of bytes) None (Ok header)
+
+-- its header has this fault, and none before
+pub record HasBadHeader (files : Files) (path : List ℕ) (fault : LasError) : Type 0 where
+  pub bytes : List ℕ
+  pub content : files path ≡ Some bytes
+  pub faulty : HeaderReadsAs (head_of bytes) None (Err fault)
+
+-- it has a header, and this line tells it
+pub record HasTold (files : Files) (path line : List ℕ) : Type 0 where
+  pub header : Header
+  pub has_header : HasHeader files path header
+  pub line_is : line ≡ header_text header
+
+-- why it can't be told what is known of the LAS file of this path, which is source 0
+abbrev pub InfoIsRefused : Files → List ℕ → Refusal → Type 0
+InfoIsRefused files path Usage = ⊥
+InfoIsRefused files path (BadConfiguration error) = ⊥
+InfoIsRefused files path (BadLas source fault) = (source ≡ 0) × HasBadHeader files path fault
+InfoIsRefused files path (OutOfBounds source number) = ⊥
+InfoIsRefused files path NoBounds = ⊥
+InfoIsRefused files path (SourceChanged source number) = ⊥
+InfoIsRefused files path (TooManyPoints source) = ⊥
+InfoIsRefused files path TooManyNodes = ⊥
+InfoIsRefused files path (Differs field) = ⊥
+InfoIsRefused files path (BadCheckpoint letter) = ⊥
+InfoIsRefused files path (TileDamaged key) = ⊥
+InfoIsRefused files path SourceFault = ⊤
+InfoIsRefused files path StoreFault = ⊥
+InfoIsRefused files path Memory = ⊤
+
+-- ---- a trial
+
+-- this line tells what the octree of the generated scans of so many points comes to
+pub record HasTrial (count : ℕ) (line : List ℕ) : Type 0 where
+  pub trial : Trial
+  pub is_trial : IsTrialOf count trial
+  pub line_is : line ≡ trial_text trial
+
+-- ---- causes
+
+-- a fault of a device, or want of memory
+abbrev pub IsFault : Refusal → Type 0
+IsFault r = (r ≡ SourceFault) ⊎ (r ≡ StoreFault) ⊎ (r ≡ Memory)
+
+-- a cause that lies in the words or in the files
+abbrev pub IsDefinite : Refusal → Type 0
+IsDefinite r = IsFault r → ⊥
+
+-- the answer is a fault of a device, or want of memory
+abbrev pub Fails : {A : Type 0} → Result A Refusal → Type 0
+Fails answer = (answer ≡ Err SourceFault) ⊎ (answer ≡ Err StoreFault) ⊎ (answer ≡ Err Memory)
+
+-- the answer is a field that differs
+abbrev pub TellsDifference : {A : Type 0} → Result A Refusal → Type 0
+TellsDifference answer = (field : Field) × (answer ≡ Err (Differs field))
+
+-- a cause after which nothing was put: what is given is read, compared and scanned before
+abbrev pub IsEarly : Refusal → Type 0
+IsEarly Usage = ⊤
+IsEarly (BadConfiguration error) = ⊤
+IsEarly (BadLas source fault) = ⊤
+IsEarly (OutOfBounds source number) = ⊤
+IsEarly NoBounds = ⊤
+IsEarly (SourceChanged source number) = ⊥
+IsEarly (TooManyPoints source) = ⊤
+IsEarly TooManyNodes = ⊥
+IsEarly (Differs field) = ⊤
+IsEarly (BadCheckpoint letter) = ⊤
+IsEarly (TileDamaged key) = ⊥
+IsEarly SourceFault = ⊥
+IsEarly StoreFault = ⊥
+IsEarly Memory = ⊥
+
+-- ---- which causes a step may have, whatever the files are
+
+-- of reading a configuration
+abbrev pub IsOfConfiguration : Refusal → Type 0
+IsOfConfiguration Usage = ⊥
+IsOfConfiguration (BadConfiguration error) = ⊤
+IsOfConfiguration (BadLas source fault) = ⊥
+IsOfConfiguration (OutOfBounds source number) = ⊥
+IsOfConfiguration NoBounds = ⊥
+IsOfConfiguration (SourceChanged source number) = ⊥
+IsOfConfiguration (TooManyPoints source) = ⊥
+IsOfConfiguration TooManyNodes = ⊥
+IsOfConfiguration (Differs field) = ⊥
+IsOfConfiguration (BadCheckpoint letter) = ⊥
+IsOfConfiguration (TileDamaged key) = ⊥
+IsOfConfiguration SourceFault = ⊤
+IsOfConfiguration StoreFault = ⊥
+IsOfConfiguration Memory = ⊤
+
+-- of reading a header, which is that of source 0
+abbrev pub IsOfHeader : Refusal → Type 0
+IsOfHeader Usage = ⊥
+IsOfHeader (BadConfiguration error) = ⊥
+IsOfHeader (BadLas source fault) = source ≡ 0
+IsOfHeader (OutOfBounds source number) = ⊥
+IsOfHeader NoBounds = ⊥
+IsOfHeader (SourceChanged source number) = ⊥
+IsOfHeader (TooManyPoints source) = ⊥
+IsOfHeader TooManyNodes = ⊥
+IsOfHeader (Differs field) = ⊥
+IsOfHeader (BadCheckpoint letter) = ⊥
+IsOfHeader (TileDamaged key) = ⊥
+IsOfHeader SourceFault = ⊤
+IsOfHeader StoreFault = ⊥
+IsOfHeader Memory = ⊤
+
+-- of a build
+abbrev pub IsOfBuild : Refusal → Type 0
+IsOfBuild r = r ≢ Usage

@@ -1,0 +1,55 @@
+-- What the words of a command line ask for.
+use Rattle.std.specs.Prelude.{◌≡◌, ◌≢◌, ◌≤◌, ℕ, List, [], ◌∷◌, String, map, string_bytes, codes, decimal}
+use Rattle.std.specs.declared.alloc.Global.{Global}
+use Rattle.ept_space.specs.declared.box3.Box3.{Box3}
+use Rattle.ept_http.specs.QueryWords.{IsBoxText, IsDepthsText}
+use Rattle.ept_run.specs.declared.words.Command.{Command}
+use Rattle.ept_run.specs.declared.words.Command.TheVariants.{Build, Info, Query, Trial, Usage}
+
+-- words as lists of bytes
+abbrev pub bytes_of : List (String Global) → List (List ℕ)
+bytes_of words = map string_bytes words
+
+-- `build`, the path of a configuration and the path of a folder
+pub record IsBuild (words : List (List ℕ)) (config out : List ℕ) : Type 0 where
+  pub words_are : words ≡ codes "build" ∷ config ∷ out ∷ []
+  pub config_is : config ≢ []
+  pub out_is : out ≢ []
+
+-- `info` and the path of a LAS file
+pub record IsInfo (words : List (List ℕ)) (las : List ℕ) : Type 0 where
+  pub words_are : words ≡ codes "info" ∷ las ∷ []
+  pub las_is : las ≢ []
+
+-- `query`, the path of a folder, the text of a box and that of depths
+pub record IsQuery (words : List (List ℕ)) (out : List ℕ) (area : Box3) (first last : ℕ) : Type 0 where
+  pub box : List ℕ
+  pub depths : List ℕ
+  pub words_are : words ≡ codes "query" ∷ out ∷ box ∷ depths ∷ []
+  pub out_is : out ≢ []
+  pub area_is : IsBoxText box area
+  pub depths_are : IsDepthsText depths first last
+
+-- `trial` and three numbers, each in its one spelling: of points, at most 10,000,000; of workers, from 1 to 64; and of nodes that are in memory at a time, as many as there are workers or more, at most 65,536
+pub record IsTrial (words : List (List ℕ)) (count workers cache : ℕ) : Type 0 where
+  pub words_are : words ≡ codes "trial" ∷ decimal count ∷ decimal workers ∷ decimal cache ∷ []
+  pub few : count ≤ 10000000
+  pub some : 1 ≤ workers
+  pub threads : workers ≤ 64
+  pub room : workers ≤ cache
+  pub bounded : cache ≤ 65536
+
+-- the words are none of these
+pub record IsUsage (words : List (List ℕ)) : Type 0 where
+  pub not_build : (config out : List ℕ) → ¬ IsBuild words config out
+  pub not_info : (las : List ℕ) → ¬ IsInfo words las
+  pub not_query : (out : List ℕ) (area : Box3) (first last : ℕ) → ¬ IsQuery words out area first last
+  pub not_trial : (count workers cache : ℕ) → ¬ IsTrial words count workers cache
+
+-- the command that the words are
+abbrev pub IsCommand : List (List ℕ) → Command → Type 0
+IsCommand words (Build config out) = IsBuild words config.now out.now
+IsCommand words (Info las) = IsInfo words las.now
+IsCommand words (Query out area depths) = IsQuery words out.now area depths.0 depths.1
+IsCommand words (Trial points workers cache) = IsTrial words points workers cache
+IsCommand words Usage = IsUsage words

@@ -1,0 +1,31 @@
+//! The statuses with which the program ends.
+
+/// The work is done.
+pub const OK: u8 = 0;
+
+/// The words are no command.
+pub const USAGE: u8 = 2;
+
+/// The configuration is refused.
+pub const BAD_CONFIGURATION: u8 = 3;
+
+/// A LAS file is refused, or the points of the inputs have no bounds or lie outside of them.
+pub const BAD_SCAN: u8 = 4;
+
+/// There are more points, or more nodes, than there may be.
+pub const TOO_MANY: u8 = 5;
+
+/// The folder of a query has no complete dataset.
+pub const NOT_COMPLETE: u8 = 6;
+
+/// The folder of a build was built with another configuration.
+pub const DIFFERS: u8 = 6;
+
+/// A device failed: the shelf, the store or the sink.
+pub const DEVICE: u8 = 7;
+
+/// A file of the dataset, or a checkpoint of a build, is absent, or not of its form.
+pub const DAMAGED: u8 = 8;
+
+/// There was no memory.
+pub const MEMORY: u8 = 9;

@@ -1,0 +1,186 @@
+//! What the words of a command line ask for.
+
+ghost use Rattle.std.specs.Prelude.{◌≡◌, ◌≢◌, ◌↔◌, ◌≤◌, ℕ, [], ◌∷◌, length, codes, decimal, pos, IsTrue, IfSome, IfNone};
+ghost use Rattle.ept_run.specs.Words.{bytes_of, IsBuild, IsInfo, IsCommand};
+
+use ept_http::{read_box, read_depths};
+use ept_num::read_whole;
+use ept_space::Box3;
+
+/// The most points, workers, and nodes in memory at a time, that a trial may be asked for.
+const MOST_POINTS: u32 = 10_000_000;
+
+const MOST_WORKERS: u32 = 64;
+
+const MOST_NODES: u32 = 65_536;
+
+/// What the words of a command line ask for.
+#[derive(Clone, Copy, Debug, PartialEq, Eq)]
+pub enum Command<'a> {
+    /// Build the octree of this configuration into this folder.
+    Build {
+        config: &'a str,
+        out: &'a str,
+    },
+    /// Tell what the header of this LAS file says.
+    Info {
+        las: &'a str,
+    },
+    /// Answer the points of this box, in the nodes of these depths, of the dataset in this folder.
+    Query {
+        out: &'a str,
+        area: Box3,
+        depths: (u8, u8),
+    },
+    /// Build the octree of generated scans of so many points in memory, with so many workers and so many nodes
+    /// at a time.
+    Trial {
+        points: u32,
+        workers: u32,
+        cache: u32,
+    },
+    /// None of these.
+    Usage,
+}
+
+/// The command that these words, which follow the program's name, are.
+pub fn command_of(words: &[String]) -> Command<'_>
+    ensures { IsCommand (bytes_of words.now) result }
+{
+    match words {
+        [first, las] => command_of_two(first, las),
+        [first, config, out] => command_of_three(first, config, out),
+        [first, second, third, fourth] => command_of_four(first, second, third, fourth),
+        _ => no_command(words),
+    }
+}
+
+// Fewer or more words are no command.
+#[tactic(auto, using(crate::proofs::Queried::no_command))]
+fn no_command(words: &[String]) -> Command<'_>
+    requires two { length words.now ≢ 2 }
+    requires three { length words.now ≢ 3 }
+    requires four { length words.now ≢ 4 }
+    ensures { IsCommand (bytes_of words.now) result }
+{
+    Command::Usage
+}
+
+// The command that two words are.
+fn command_of_two<'a>(first: &str, las: &'a str) -> Command<'a>
+    ensures { IsCommand (first.now ∷ las.now ∷ []) result }
+{
+    if is_info(first, las) {
+        Command::Info { las }
+    } else {
+        Command::Usage
+    }
+}
+
+// The command that three words are.
+fn command_of_three<'a>(first: &str, config: &'a str, out: &'a str) -> Command<'a>
+    ensures { IsCommand (first.now ∷ config.now ∷ out.now ∷ []) result }
+{
+    if is_build(first, config, out) {
+        Command::Build { config, out }
+    } else {
+        Command::Usage
+    }
+}
+
+// The command that four words are.
+fn command_of_four<'a>(first: &str, second: &'a str, third: &str, fourth: &str) -> Command<'a>
+    ensures { IsCommand (first.now ∷ second.now ∷ third.now ∷ fourth.now ∷ []) result }
+{
+    if is_query(first) {
+        query_of(second, third, fourth)
+    } else if is_trial(first) {
+        trial_of(second, third, fourth)
+    } else {
+        Command::Usage
+    }
+}
+
+fn is_build(first: &str, config: &str, out: &str) -> bool
+    ensures { IsTrue result ↔ IsBuild (first.now ∷ config.now ∷ out.now ∷ []) config.now out.now }
+{
+    if config.is_empty() || out.is_empty() {
+        return false;
+    }
+    first == "build"
+}
+
+fn is_info(first: &str, las: &str) -> bool
+    ensures { IsTrue result ↔ IsInfo (first.now ∷ las.now ∷ []) las.now }
+{
+    if las.is_empty() {
+        return false;
+    }
+    first == "info"
+}
+
+fn is_query(first: &str) -> bool
+    ensures { IsTrue result ↔ (first.now ≡ codes "query") }
+{
+    first == "query"
+}
+
+// The command of `query` with these words behind it.
+fn query_of<'a>(out: &'a str, area: &str, depths: &str) -> Command<'a>
+    ensures { IsCommand (codes "query" ∷ out.now ∷ area.now ∷ depths.now ∷ []) result }
+{
+    if out.is_empty() {
+        return Command::Usage;
+    }
+    match (read_box(area.as_bytes()), read_depths(depths.as_bytes())) {
+        (Some(area), Some(depths)) => Command::Query { out, area, depths },
+        _ => Command::Usage,
+    }
+}
+
+fn is_trial(first: &str) -> bool
+    ensures { IsTrue result ↔ (first.now ≡ codes "trial") }
+{
+    first == "trial"
+}
+
+// The command of `trial` with these words behind it.
+fn trial_of<'a>(points: &str, workers: &str, cache: &str) -> Command<'a>
+    ensures { IsCommand (codes "trial" ∷ points.now ∷ workers.now ∷ cache.now ∷ []) result }
+{
+    let (Some(points), Some(workers), Some(cache)) = (
+        read_number(points, MOST_POINTS),
+        read_number(workers, MOST_WORKERS),
+        read_number(cache, MOST_NODES),
+    ) else {
+        return Command::Usage;
+    };
+    if workers < 1 || cache < workers {
+        return Command::Usage;
+    }
+    Command::Trial {
+        points,
+        workers,
+        cache,
+    }
+}
+
+// The number that a word spells, where it is at most this one.
+fn read_number(word: &str, most: u32) -> Option<u32>
+    ensures some { IfSome result (λ n. (word.now ≡ decimal n) × (n ≤ most)) }
+    ensures none { IfNone result ((n : ℕ) → n ≤ most → word.now ≢ decimal n) }
+{
+    let whole = read_whole(word.as_bytes())?;
+    number_of(whole, most)
+}
+
+// The number, where it is at most this one.
+fn number_of(whole: i64, most: u32) -> Option<u32>
+    ensures some { IfSome result (λ n. (whole ≡ pos n) × (n ≤ most)) }
+    ensures none { IfNone result ((n : ℕ) → whole ≡ pos n → n ≤ most → ⊥) }
+{
+    if whole < 0 || whole > i64::from(most) {
+        return None;
+    }
+    Some(whole as u32)
+}

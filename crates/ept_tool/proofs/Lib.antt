@@ -1,6 +1,0 @@
-mod Asked
-mod Fronts
-mod Queried
-mod Refused
-mod Runs
-mod Texts
