@@ -16,6 +16,8 @@ mod query_tests;
 mod sentences;
 #[cfg(test)]
 mod tests;
+#[cfg(test)]
+mod trial_tests;
 mod watched;
 #[cfg(test)]
 mod worked_tests;
