@@ -106,6 +106,10 @@ fn expect_lines(rt: &impl Abort, alloc: Global) -> Result<(), AllocError> {
         (&["trial", "20000", "1", "1"], LARGE_LINE),
         (&["trial", "20000", "1", "1"], LARGE_LINE),
         (&["trial", "20000", "2", "500"], LARGE_LINE),
+        (
+            &["trial", "100000", "1", "1"],
+            "points 100000 nodes 8 depth 2 sum 100653815\n",
+        ),
     ] {
         let whole = given(words, Failing::Nothing);
         expect(rt, alloc, whole, (0, line), false)?;
