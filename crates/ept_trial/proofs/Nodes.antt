@@ -98,10 +98,11 @@ module _ (kept : Kept) (points : List Point) (rules_are : rules_of kept ≡ tria
       let x = axis-box key.x key.depth shallow spelled.x_in in
       let y = axis-box key.y key.depth shallow spelled.y_in in
       let z = axis-box key.z key.depth shallow spelled.z_in in
-      subst (λ (c : OctreeCube). (at : Place) × InBox c key at × IsIn whole at) (sym is)
-      (pos (key.x * 2 ^ (17 - key.depth)) ∷ pos (key.y * 2 ^ (17 - key.depth)) ∷ pos (key.z * 2 ^ (17 - key.depth)) ∷ [],
-      record { x = x.0; y = y.0; z = z.0 },
-      record { x = x.1; y = y.1; z = z.1 })
+      subst (λ (c : OctreeCube). (at : Place) × InBox c key at × IsIn whole at) (sym is) (
+        pos (key.x * 2 ^ (17 - key.depth)) ∷ pos (key.y * 2 ^ (17 - key.depth)) ∷ pos (key.z * 2 ^ (17 - key.depth)) ∷ [],
+        record { x = x.0; y = y.0; z = z.0 },
+        record { x = x.1; y = y.1; z = z.1 },
+      )
 
   trial-depth : trial_rules.cube.depth ≡ 10
   unfolding cube_of count_leading_zeros
@@ -122,15 +123,15 @@ module _ (kept : Kept) (points : List Point) (rules_are : rules_of kept ≡ tria
         (IsRising-AllPairs (keys_of tiles) plan.ascend)
         (IsRising-AllPairs (node_keys (rules_of kept) points) (ascend (rules_of kept) points))
         (λ key m. (
-          let found = member-map (λ (n : Node). n.0) key tiles m in
-          let node = ((plan.each found.0.0 found.0.1).0 (member-contains tiles found.0 found.1)).0 in
-          contains-member (node_keys (rules_of kept) points) key (subst (λ (k : VoxelKey). Contains (node_keys (rules_of kept) points) k) found.2 ((the_keys (rules_of kept) points found.0.0 can).1 node))))
+        let found = member-map (λ (n : Node). n.0) key tiles m in
+        let node = ((plan.each found.0.0 found.0.1).0 (member-contains tiles found.0 found.1)).0 in
+        contains-member (node_keys (rules_of kept) points) key (subst (λ (k : VoxelKey). Contains (node_keys (rules_of kept) points) k) found.2 ((the_keys (rules_of kept) points found.0.0 can).1 node))))
         (λ key m. (
-          let node = (the_keys (rules_of kept) points key can).0 (member-contains (node_keys (rules_of kept) points) key m) in
-          let planned = node-planned key node in
-          let size = length (sampling (rules_of kept) points key) in
-          let has = (plan.each key size).1 (node, refl, planned.0, planned.1) in
-          IsMember-map (λ (n : Node). n.0) (key, size) tiles (contains-member tiles (key, size) has)))
+        let node = (the_keys (rules_of kept) points key can).0 (member-contains (node_keys (rules_of kept) points) key m) in
+        let planned = node-planned key node in
+        let size = length (sampling (rules_of kept) points key) in
+        let has = (plan.each key size).1 (node, refl, planned.0, planned.1) in
+        IsMember-map (λ (n : Node). n.0) (key, size) tiles (contains-member tiles (key, size) has)))
         ∙ ap (λ (r : Rules). node_keys r points) rules_are
 
     -- ---- the tiles

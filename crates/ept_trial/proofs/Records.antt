@@ -38,13 +38,13 @@ record-at count input (suc n) k more within =
     let front : List ℕ = first_records count input n in
     subst (λ (w : List ℕ). take 20 (drop (20 * k) w) ≡ record_bytes (state count (3 * (4 * k + input))) (4 * k + input)) (sym (append_assoc front r more))
     (⊎_elim
-      (λ (less : k < n). record-at count input n k (r ++ more) less)
-      (λ (most : n ≤ k).
-        let same : n ≡ k = omega (arith, within, most) in
-        subst (λ (m : ℕ). take 20 (drop (20 * m) (front ++ (r ++ more))) ≡ record_bytes (state count (3 * (4 * m + input))) (4 * m + input)) same
-        (ap (λ (w : List ℕ). take 20 w) (drop-at (20 * n) front (r ++ more) (length-records count input n))
-        ∙ take-at 20 r more (length-record (state count (3 * (4 * n + input))) (4 * n + input))))
-      (cases_lt k n))
+    (λ (less : k < n). record-at count input n k (r ++ more) less)
+    (λ (most : n ≤ k).
+    let same : n ≡ k = omega (arith, within, most) in
+    subst (λ (m : ℕ). take 20 (drop (20 * m) (front ++ (r ++ more))) ≡ record_bytes (state count (3 * (4 * m + input))) (4 * m + input)) same
+    (ap (λ (w : List ℕ). take 20 w) (drop-at (20 * n) front (r ++ more) (length-records count input n))
+    ∙ take-at 20 r more (length-record (state count (3 * (4 * n + input))) (4 * n + input))))
+    (cases_lt k n))
 
 -- ---- one record more
 

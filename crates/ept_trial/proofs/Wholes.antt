@@ -60,10 +60,11 @@ point-in count lists size each i within =
     let number = are.length_is in
     let inside : i / 4 < records_of count (i % 4) = omega (arith, within) in
     let at = item-at (get_or lists (i % 4) []) (i / 4) (omega (arith, inside, number)) in
-    let same : 4 * (i / 4) + i % 4 ≡ i = omega arith in
-    (at.0,
-    in-all lists (i % 4) [] at.0 input (i / 4, omega (arith, inside, number), at.1),
-    subst (λ (j : ℕ). IsTrialPoint count j at.0) same (subst (λ (p : Point). IsTrialPoint count (4 * (i / 4) + i % 4) p) at.1 (are.each (i / 4) at.0 inside)))
+    let same : 4 * (i / 4) + i % 4 ≡ i = omega arith in (
+      at.0,
+      in-all lists (i % 4) [] at.0 input (i / 4, omega (arith, inside, number), at.1),
+      subst (λ (j : ℕ). IsTrialPoint count j at.0) same (subst (λ (p : Point). IsTrialPoint count (4 * (i / 4) + i % 4) p) at.1 (are.each (i / 4) at.0 inside)),
+    )
 
 module _ (count : ℕ) (few : count ≤ 10000000) (all : Files) (scans : HasScans count all) (scale : ℕ) (scale_is : scale ≡ 2) (limits : Option Bounds) (limits_are : limits ≡ Some trial_bounds) (inputs : List Input) (are : AreTrialInputs inputs) where
   list-are : (k : ℕ) (points : List Point) → HasPointsAt all scale limits inputs k points → AreRecords count k points
@@ -78,7 +79,7 @@ module _ (count : ℕ) (few : count ≤ 10000000) (all : Files) (scans : HasScan
       let lists_count = scan.are.count in
       let size : length scan.lists ≡ 4 = omega (arith, inputs_four, lists_count) in
       let each : (k : ℕ) (d : List Point) → k < length scan.lists → AreRecords count k (get_or scan.lists k d) =
-        λ k d within. list-are k (get_or scan.lists k d) (let e : 0 + k ≡ k = omega arith in subst (λ (j : ℕ). HasPointsAt all scale limits inputs j (get_or scan.lists k d)) e (scan.are.each k d within)) in
+      λ k d within. list-are k (get_or scan.lists k d) (let e : 0 + k ≡ k = omega arith in subst (λ (j : ℕ). HasPointsAt all scale limits inputs j (get_or scan.lists k d)) e (scan.are.each k d within)) in
       record {
         ascend = ascend;
         length_is = ap (λ (w : List Point). length w) scan.points_are ∙ four count scan.lists size each;

@@ -31,12 +31,7 @@ use std::alloc::Global;
 /// # Errors
 ///
 /// Want of memory, and nothing else.
-pub fn build_trial(
-    alloc: Global,
-    points: u32,
-    workers: u32,
-    cache: u32,
-) -> Result<Trial, Memory>
+pub fn build_trial(alloc: Global, points: u32, workers: u32, cache: u32) -> Result<Trial, Memory>
     requires few { points ≤ 10000000 }
     requires some { 1 ≤ workers }
     requires threads { workers ≤ 64 }

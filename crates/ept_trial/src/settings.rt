@@ -100,12 +100,7 @@ pub(crate) fn shelf_of(alloc: Global, count: u32) -> Result<SureShelf, Memory>
 }
 
 // The file of an input under its path.
-fn file(
-    alloc: Global,
-    path: &str,
-    count: u32,
-    input: u32,
-) -> Result<(String, Vec<u8>), Memory>
+fn file(alloc: Global, path: &str, count: u32, input: u32) -> Result<(String, Vec<u8>), Memory>
     requires few { count ≤ 10000000 }
     requires input { input ≤ 3 }
     ensures path { IfOk result (λ file. string_bytes file.0 ≡ path.now) }

@@ -19,11 +19,7 @@ use ept_sure::SureStore;
 use std::alloc::Global;
 
 /// What the files of a trial of so many points come to.
-pub(crate) fn tallied(
-    alloc: Global,
-    store: &mut SureStore,
-    points: u32,
-) -> Result<Trial, Memory>
+pub(crate) fn tallied(alloc: Global, store: &mut SureStore, points: u32) -> Result<Trial, Memory>
     requires { HasTrial points (store_files_of store.old) }
     ensures { IfOk result (IsTrialOf points) }
 {
@@ -65,12 +61,7 @@ fn only_memory(error: QueryError) -> Memory
 }
 
 // What the tiles of a plan come to.
-fn tally(
-    alloc: Global,
-    store: &SureStore,
-    plan: &QueryPlan,
-    points: u32,
-) -> Result<Trial, Memory>
+fn tally(alloc: Global, store: &SureStore, plan: &QueryPlan, points: u32) -> Result<Trial, Memory>
     ensures points { IfOk result (λ trial. trial.points ≡ points) }
     ensures tally { IfOk result (IsTallyOf (store_files_of store.now) (keys_of plan.now.tiles)) }
 {

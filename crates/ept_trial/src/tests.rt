@@ -5,8 +5,7 @@ use std::test::Fail;
 #[test]
 fn a_trial_of_no_points_has_the_root_alone(rt: HostRuntime) -> Result<(), Fail> {
     let trial = build_trial(rt.alloc(), 0, 1, 1)?;
-    assert_eq!(
-        rt;
+    assert_eq!(rt;
         trial,
         Trial {
             points: 0,
@@ -23,8 +22,7 @@ fn a_trial_of_no_points_has_the_root_alone(rt: HostRuntime) -> Result<(), Fail> 
 #[test]
 fn a_trial_of_one_point_has_its_bytes(rt: HostRuntime) -> Result<(), Fail> {
     let trial = build_trial(rt.alloc(), 1, 4, 64)?;
-    assert_eq!(
-        rt;
+    assert_eq!(rt;
         trial,
         Trial {
             points: 1,

@@ -14,8 +14,8 @@ returns c =
     let files = c.new.ensures.files ∙ ap (λ (l : List File). or_empty (content_of l)) all in
     λ input path is. ap (λ (f : Files). f path) files
     ∙ has-scans c.args.count c.in_ok-file.field-0 c.in_ok-file-2.field-0 c.in_ok-file-3.field-0 c.in_ok-file-4.field-0
-      (record { path_is = c.in_ok-file.ensures.path; bytes_are = c.in_ok-file.ensures.bytes })
-      (record { path_is = c.in_ok-file-2.ensures.path; bytes_are = c.in_ok-file-2.ensures.bytes })
-      (record { path_is = c.in_ok-file-3.ensures.path; bytes_are = c.in_ok-file-3.ensures.bytes })
-      (record { path_is = c.in_ok-file-4.ensures.path; bytes_are = c.in_ok-file-4.ensures.bytes })
-      input path is
+    (record { path_is = c.in_ok-file.ensures.path; bytes_are = c.in_ok-file.ensures.bytes })
+    (record { path_is = c.in_ok-file-2.ensures.path; bytes_are = c.in_ok-file-2.ensures.bytes })
+    (record { path_is = c.in_ok-file-3.ensures.path; bytes_are = c.in_ok-file-3.ensures.bytes })
+    (record { path_is = c.in_ok-file-4.ensures.path; bytes_are = c.in_ok-file-4.ensures.bytes })
+    input path is

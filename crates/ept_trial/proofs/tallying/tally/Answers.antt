@@ -14,6 +14,7 @@ loop-number-preserved c =
     let key = c.key-key.result in
     let within = slice_get_within keys c.loop-number.number key c.key-key.ensures in
     let at = get_or_from_slice_get keys c.loop-number.number key key c.key-key.ensures in
-    let deeper = c.max-depth.ensures ∙ ap (λ (k : VoxelKey). max k.depth c.loop-number.depth) c.key.view_is in
-    (deeper ∙ greatest-more keys c.loop-number.number key c.loop-number.depth within at c.loop-number.invariant.0,
-    sum-more (bytes_at (store_files_of c.args.store.now)) keys c.loop-number.number key c.loop-number.sum c.in_ok-sum.sum within at c.loop-number.invariant.1 c.in_ok-sum.ensures)
+    let deeper = c.max-depth.ensures ∙ ap (λ (k : VoxelKey). max k.depth c.loop-number.depth) c.key.view_is in (
+      deeper ∙ greatest-more keys c.loop-number.number key c.loop-number.depth within at c.loop-number.invariant.0,
+      sum-more (bytes_at (store_files_of c.args.store.now)) keys c.loop-number.number key c.loop-number.sum c.in_ok-sum.sum within at c.loop-number.invariant.1 c.in_ok-sum.ensures,
+    )
