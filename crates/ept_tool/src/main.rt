@@ -6,14 +6,11 @@
 mod again_tests;
 #[cfg(test)]
 mod build_tests;
-mod differences;
 mod heard;
 #[cfg(test)]
 mod message_tests;
-mod messages;
 #[cfg(test)]
 mod query_tests;
-mod sentences;
 #[cfg(test)]
 mod tests;
 #[cfg(test)]
@@ -23,10 +20,10 @@ mod watched;
 mod worked_tests;
 
 use crate::heard::Heard;
-use crate::messages::{message, plain};
 use crate::watched::Watched;
 use ept_base::{OpenGate, Sink};
 use ept_mem::{MemRoom, MemStore};
+use ept_messages::{message, plain};
 use ept_real::{RealShelf, RealSink, RealStore, SeenFiles, Telling};
 use ept_run::status::{DAMAGED, NOT_COMPLETE, OK};
 use ept_run::{Command, Refusal, command_of, refuse, run};

@@ -1,11 +1,9 @@
 //! The sentences of refusals: each line, and what is said of it.
 
-use crate::differences::{Differing, difference_sentence};
-use crate::messages::message;
-use crate::sentences::Names;
 use crate::tests::{at, file, las, texts};
 use ept_base::OpenGate;
 use ept_mem::{MemRoom, MemShelf, MemSink, MemStore};
+use ept_messages::{Differing, Names, difference_sentence, message};
 use ept_run::run;
 use std::alloc::{AllocError, Global};
 use std::process::Abort;

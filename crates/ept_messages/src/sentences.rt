@@ -31,19 +31,19 @@ pub(crate) struct Record<'a> {
 
 /// The files and the key that a sentence may name. What is not known, or not named, is empty.
 #[derive(Clone, Copy, Debug, Default)]
-pub(crate) struct Names<'a> {
+pub struct Names<'a> {
     /// The configuration of a build.
-    pub(crate) config: &'a str,
+    pub config: &'a str,
     /// The folder of a build.
-    pub(crate) out: &'a str,
+    pub out: &'a str,
     /// The input that the line names.
-    pub(crate) input: &'a str,
+    pub input: &'a str,
     /// Whether the configuration gives bounds.
-    pub(crate) has_bounds: bool,
+    pub has_bounds: bool,
     /// The key of the configuration that it may not have.
-    pub(crate) unknown: &'a str,
+    pub unknown: &'a str,
     /// The file that could not be opened or read.
-    pub(crate) unread: &'a str,
+    pub unread: &'a str,
 }
 
 /// What a line says, if it is that of a refusal.

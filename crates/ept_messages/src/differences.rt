@@ -17,14 +17,14 @@ const INPUT_KEYS: [&str; 4] = ["path", "scale", "shift", "expect"];
 /// The first field in which a configuration differs from what its folder keeps, with both values as JSON texts;
 /// of the inputs those of the first that differs, the given one empty where the list ends before it.
 #[derive(Clone, Copy, Debug, PartialEq, Eq)]
-pub(crate) struct Differing<'a> {
-    pub(crate) field: &'a str,
-    pub(crate) kept: &'a [u8],
-    pub(crate) given: &'a [u8],
+pub struct Differing<'a> {
+    pub field: &'a str,
+    pub kept: &'a [u8],
+    pub given: &'a [u8],
 }
 
 /// The sentence of a difference.
-pub(crate) fn difference_sentence(
+pub fn difference_sentence(
     alloc: Global,
     differing: &Differing<'_>,
     names: &Names<'_>,

@@ -35,7 +35,7 @@ const KEYS: [ConfigKey; 13] = [
 /// file that could not be opened or read, or what stands for it. The configuration is read again where an input,
 /// a key or a value of it is to be named, and so is the checkpoint in the store, the folder of a build, where it
 /// differs from what that keeps. Nothing is answered where there is nothing to say but what the status says.
-pub(crate) fn message<'x, H: Shelf, T: Store>(
+pub fn message<'x, H: Shelf, T: Store>(
     alloc: Global,
     words: &'x [String],
     line: &str,
@@ -199,7 +199,7 @@ fn is_known(key: &str) -> bool {
 }
 
 /// What a status says by itself.
-pub(crate) fn plain(status: u8) -> &'static str {
+pub fn plain(status: u8) -> &'static str {
     match status {
         USAGE => USAGE_SENTENCE,
         BAD_CONFIGURATION => "the configuration is refused",
