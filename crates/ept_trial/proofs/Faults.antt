@@ -1,5 +1,5 @@
 -- A device whose count of faults stays 0 has not failed.
-use Rattle.std.proofs.Common.{◌≡◌, ℕ, Result, Err, arith}
+use Rattle.std.proofs.Common.{◌≡◌, Result, Err, arith}
 use Rattle.ept_base.specs.Causes.{HasCauseOf}
 
 pub no-fault : {T E : Type 0} (e : E) (result : Result T E) → HasCauseOf e 0 0 result → result ≡ Err e → ⊥

@@ -1,5 +1,5 @@
 -- What the record of a generated point reads as.
-use Rattle.std.proofs.Common.{◌≡◌, ◌∙◌, ℕ, zero, suc, ℤ, pos, ◌+◌, ◌*◌, ◌/◌, ◌%◌, ◌<◌, ◌≤◌, ◌^◌, List, [], ◌∷◌, ◌++◌, FitsSigned, length, drop, refl, sym, ap, subst, arith}
+use Rattle.std.proofs.Common.{◌≡◌, ◌∙◌, ℕ, zero, suc, ℤ, pos, ◌+◌, ◌%◌, ◌<◌, ◌^◌, List, [], ◌∷◌, ◌++◌, FitsSigned, ap, arith}
 use Rattle.std.specs.Prelude.{replicate, ◌+ℤ◌, ◌*ℤ◌, slice_index_or}
 use Rattle.std.specs.Int.{w32, cast_signed}
 use Rattle.std.proofs.lemmas.Int.{ints}
@@ -8,16 +8,12 @@ use Rattle.byteorder.specs.Numbers.{little_number-reads_back}
 use Rattle.ept_num.specs.Generator.{after}
 use Rattle.ept_las.specs.declared.shift.Shift.{Shift}
 use Rattle.ept_las.specs.Words.{u16_at, i32_at}
-use Rattle.ept_las.specs.Words.{i8_at, bits}
-use Rattle.ept_las.specs.Format.{gps_place, colour_place}
-use Rattle.ept_las.specs.Pulses.{return_number_of, number_of_returns_of, scan_direction_of, edge_of, class_of, class_flags_of, channel_of, angle_rank_of, angle_of, source_id_of}
 use Rattle.ept_las.specs.PointRecord.{coordinate, intensity_of, IsOutOfUnits, IsPointOf}
 use Rattle.ept_point.specs.declared.point.Point.{Point}
 use Rattle.ept_space.specs.ClosedBox.{IsBetween}
 use Rattle.ept_config.specs.Extents.{IsWithin}
-use Rattle.ept_trial.specs.Trials.{state, draw, trial_bounds, IsTrialPoint}
+use Rattle.ept_trial.specs.Trials.{trial_bounds}
 use Rattle.ept_trial.specs.Scans.{drawn, record_bytes}
-use Rattle.ept_trial.proofs.States.{state-next}
 
 pub drawn-small : (at below : ℕ) → 0 < below → drawn at below < below
 drawn-small at below some = omega (arith, some)
@@ -75,13 +71,13 @@ stored-same raw factor by one none = (λ i. (raw *ℤ one i) +ℤ none i) ∙ it
     itself z = omega (arith, ints)
 
 module _ (shift : Shift) (keeps : KeepsPlaces shift) (at i : ℕ) where
-  x-stored : coordinate shift (record_bytes at i) 0 ≡ pos (drawn (after at) 100000)
+  pub x-stored : coordinate shift (record_bytes at i) 0 ≡ pos (drawn (after at) 100000)
   x-stored = stored-same _ shift.factor (slice_index_or shift.by 0 (pos 0)) keeps.factor_is (ap (λ (b : List ℤ). slice_index_or b 0 (pos 0)) keeps.by_is) ∙ x-at at i
 
-  y-stored : coordinate shift (record_bytes at i) 1 ≡ pos (drawn (after (after at)) 100000)
+  pub y-stored : coordinate shift (record_bytes at i) 1 ≡ pos (drawn (after (after at)) 100000)
   y-stored = stored-same _ shift.factor (slice_index_or shift.by 1 (pos 0)) keeps.factor_is (ap (λ (b : List ℤ). slice_index_or b 1 (pos 0)) keeps.by_is) ∙ y-at at i
 
-  z-stored : coordinate shift (record_bytes at i) 2 ≡ pos (drawn (after (after (after at))) 1000)
+  pub z-stored : coordinate shift (record_bytes at i) 2 ≡ pos (drawn (after (after (after at))) 1000)
   z-stored = stored-same _ shift.factor (slice_index_or shift.by 2 (pos 0)) keeps.factor_is (ap (λ (b : List ℤ). slice_index_or b 2 (pos 0)) keeps.by_is) ∙ z-at at i
 
   -- no coordinate is out of units
@@ -106,51 +102,4 @@ module _ (shift : Shift) (keeps : KeepsPlaces shift) (at i : ℕ) where
     x = between-small _ 99999 p.x (drawn-small (after at) 100000 (omega arith)) (is.x_is ∙ x-stored);
     y = between-small _ 99999 p.y (drawn-small (after (after at)) 100000 (omega arith)) (is.y_is ∙ y-stored);
     z = between-small _ 999 p.z (drawn-small (after (after (after at))) 1000 (omega arith)) (is.z_is ∙ z-stored);
-  }
-
--- ---- the point that the record holds
-
-module _ (count n input : ℕ) (few : input < 4) (shift : Shift) (keeps : KeepsPlaces shift) where
-  here : ℕ
-  here = 4 * n + input
-
-  at-of : ℕ
-  at-of = state count (3 * (4 * n + input))
-
-  drawn-next : (k below : ℕ) (s : ℕ) → s ≡ state count (3 * (4 * n + input) + k) → drawn s below ≡ draw count (3 * (4 * n + input) + k) below
-  drawn-next k below s is = ap (λ (m : ℕ). drawn m below) is
-
-  one-more : after (state count (3 * (4 * n + input))) ≡ state count (3 * (4 * n + input) + 1)
-  one-more = sym (state-next count (3 * (4 * n + input)) (3 * (4 * n + input) + 1) (omega arith))
-
-  two-more : after (after (state count (3 * (4 * n + input)))) ≡ state count (3 * (4 * n + input) + 2)
-  two-more = ap after one-more ∙ sym (state-next count (3 * (4 * n + input) + 1) (3 * (4 * n + input) + 2) (omega arith))
-
-  three-more : after (after (after (state count (3 * (4 * n + input))))) ≡ state count (3 * (4 * n + input) + 3)
-  three-more = ap after two-more ∙ sym (state-next count (3 * (4 * n + input) + 2) (3 * (4 * n + input) + 3) (omega arith))
-
-  pub point-is : (p : Point) → IsPointOf 0 shift input n (record_bytes (state count (3 * (4 * n + input))) (4 * n + input)) p → IsTrialPoint count (4 * n + input) p
-  unfolding record_bytes u16_at i8_at bits return_number_of number_of_returns_of scan_direction_of edge_of class_of class_flags_of channel_of angle_rank_of angle_of source_id_of gps_place colour_place
-  point-is p is = record {
-    x_is = is.x_is ∙ x-stored shift keeps (state count (3 * (4 * n + input))) (4 * n + input) ∙ ap pos (drawn-next 1 100000 _ one-more);
-    y_is = is.y_is ∙ y-stored shift keeps (state count (3 * (4 * n + input))) (4 * n + input) ∙ ap pos (drawn-next 2 100000 _ two-more);
-    z_is = is.z_is ∙ z-stored shift keeps (state count (3 * (4 * n + input))) (4 * n + input) ∙ ap pos (drawn-next 3 1000 _ three-more);
-    intensity_is = is.intensity_is ∙ intensity-at (state count (3 * (4 * n + input))) (4 * n + input);
-    return_number_is = is.return_number_is;
-    number_of_returns_is = is.number_of_returns_is;
-    scan_direction_is = is.scan_direction_is;
-    edge_is = is.edge_is;
-    class_is = is.class_is;
-    class_flags_is = is.class_flags_is;
-    channel_is = is.channel_is;
-    angle_rank_is = is.angle_rank_is;
-    angle_is = is.angle_is;
-    user_is = is.user_is;
-    source_id_is = is.source_id_is;
-    gps_is = is.gps_is;
-    red_is = is.red_is;
-    green_is = is.green_is;
-    blue_is = is.blue_is;
-    origin_is = is.origin_is ∙ (let e : input ≡ (4 * n + input) % 4 = omega (arith, few) in e);
-    number_is = is.number_is ∙ (let e : n ≡ (4 * n + input) / 4 = omega (arith, few) in e);
   }

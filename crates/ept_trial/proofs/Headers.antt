@@ -1,5 +1,5 @@
 -- What the header of a generated scan reads as.
-use Rattle.std.proofs.Common.{◌≡◌, ◌∙◌, ℕ, ◌+◌, ◌*◌, ◌<◌, ◌≤◌, ◌^◌, List, [], ◌∷◌, ◌++◌, length, take, drop, refl, sym, ap, subst, arith, length-append, length-take, inl, inr, Option, None, Ok, Err}
+use Rattle.std.proofs.Common.{◌≡◌, ◌∙◌, ℕ, ◌<◌, ◌≤◌, ◌^◌, List, ◌++◌, length, take, refl, arith, length-append, length-take, inl, inr, None, Ok}
 use Rattle.std.specs.Prelude.{replicate}
 use Rattle.byteorder.specs.Numbers.{little_number-reads_back}
 use Rattle.ept_las.specs.declared.header.Header.{Header}
@@ -7,7 +7,7 @@ use Rattle.ept_las.specs.declared.las_error.LasError.{LasError}
 use Rattle.ept_las.specs.declared.las_error.LasError.TheVariants.{Short, Signature, Version, HeaderSize, Compressed, Format, RecordLength, PointOffset, Expect, Truncated}
 use Rattle.ept_las.specs.Words.{u16_at, u32_at, bits}
 use Rattle.ept_las.specs.Format.{record_length}
-use Rattle.ept_las.specs.LasHeader.{HasFault, HeaderReadsAs, minor_of, header_size_of, point_offset_of, format_of, stated_length_of, legacy_points_of, points_of}
+use Rattle.ept_las.specs.LasHeader.{HasFault, HeaderReadsAs, header_size_of, point_offset_of, format_of, stated_length_of, points_of}
 use Rattle.ept_trial.specs.Scans.{header_bytes}
 
 pub length-header : (records : ℕ) → length (header_bytes records) ≡ 227

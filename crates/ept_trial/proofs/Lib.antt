@@ -2,12 +2,16 @@ mod States
 mod Records
 mod Headers
 mod Fields
+mod Generated
 mod Shelves
 mod Inputs
 mod Readings
 mod Wholes
 mod Refusals
 mod Tallies
+mod Containing
+mod Corners
 mod Nodes
+mod Once
 mod Outcomes
 mod Faults

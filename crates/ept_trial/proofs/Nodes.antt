@@ -1,24 +1,18 @@
 -- The nodes of a trial: the plan of everything has each, and each has its tile.
-use Rattle.std.proofs.Common.{◌≡◌, ◌∙◌, ◌↔◌, ℕ, zero, suc, ℤ, pos, ◌+◌, ◌-◌, ◌*◌, ◌^◌, ◌<◌, ◌≤◌, List, [], ◌∷◌, ◌++◌, Some, Option, Result, Ok, Err, length, map, get_or, refl, sym, ap, subst, arith, inl, inr, append_assoc, true}
+use Rattle.std.proofs.Common.{◌≡◌, ◌∙◌, ℕ, ◌^◌, ◌≤◌, List, [], ◌∷◌, ◌++◌, Some, Option, Result, Ok, Err, length, map, refl, sym, ap, subst, arith, inl, inr, append_assoc}
 use Rattle.std.specs.Prelude.{Contains, IsTrue, unwrap_or}
 use Rattle.std.specs.List.{All, flat_map}
-use Rattle.std.proofs.lemmas.Int.{ints}
-use Rattle.std.proofs.lemmas.Nat.{pow_pos}
-use Rattle.std.specs.Prelude.{◌+ℤ◌, ◌%◌, sum_by, IfOk}
-use lib.Count.{count_leading_zeros}
+use Rattle.std.specs.Prelude.{◌%◌, sum_by, IfOk}
 use Rattle.ept_base.specs.Files.{Files, SameFiles}
 use Rattle.ept_point.specs.declared.point.Point.{Point}
 use Rattle.ept_point.specs.Packed.{tile}
-use Rattle.ept_space.specs.declared.box3.Box3.{Box3}
 use Rattle.ept_space.specs.declared.cube.Rules.{Rules}
-use Rattle.ept_space.specs.Place.{Place}
-use Rattle.ept_space.specs.VoxelKey.{VoxelKey, IsKey}
-use Rattle.ept_space.specs.OctreeCube.{OctreeCube, IsFrom, InBox}
-use Rattle.ept_space.specs.ClosedBox.{IsBetween, IsIn}
+use Rattle.ept_space.specs.VoxelKey.{VoxelKey}
+use Rattle.ept_space.specs.OctreeCube.{OctreeCube}
 use Rattle.ept_space.specs.CubeOfBounds.{cube_of}
 use Rattle.ept_sample.specs.declared.tiles.Tile.{Tile}
 use Rattle.ept_sample.specs.Sampling.{sampling, is_node}
-use Rattle.ept_sample.specs.Nodes.{AreAscending, node_keys, tile_at, sampled}
+use Rattle.ept_sample.specs.Nodes.{node_keys, tile_at, sampled}
 use Rattle.ept_sample.specs.Members.{IsMember}
 use Rattle.ept_sample.specs.SamplingLaws.{CanBeSampled, KeysAreTheNodes, KeysAscend, NodesHaveKeys, NodesAreShallow}
 use Rattle.ept_sample.proofs.Ascending.{same_rising}
@@ -34,79 +28,14 @@ use Rattle.ept_query.specs.Search.{search_of, MeetsArea, HasDepth}
 use Rattle.ept_query.specs.Complete.{IsWholePlan}
 use Rattle.ept_save.specs.Complete.{IsComplete}
 use Rattle.ept_trial.specs.declared.trial.Trial.{Trial}
-use Rattle.ept_trial.specs.Trials.{trial_rules, trial_bounds, greatest, IsTrialOf}
+use Rattle.ept_trial.specs.Trials.{trial_rules, greatest, IsTrialOf}
+use Rattle.ept_trial.proofs.Containing.{contains-member, member-contains}
+use Rattle.ept_trial.proofs.Corners.{whole, meets-box, trial-depth}
 use Rattle.ept_trial.specs.Results.{bytes_at, HasTrial, IsTallyOf}
-
--- ---- members
-
-at-member : {X : Type 0} (xs : List X) (k : ℕ) (x d : X) → k < length xs → get_or xs k d ≡ x → IsMember x xs
-at-member [] k x d within is = absurd (omega (arith, within))
-at-member (y ∷ ys) zero x d within is = inl is
-at-member (y ∷ ys) (suc k) x d within is = inr (at-member ys k x d (omega (arith, within)) is)
-
-contains-member : {X : Type 0} (xs : List X) (x : X) → Contains xs x → IsMember x xs
-contains-member xs x has = at-member xs has.0 x x has.1 has.2
-
-member-contains : {X : Type 0} (xs : List X) (x : X) → IsMember x xs → Contains xs x
-member-contains [] x m = absurd m
-member-contains (y ∷ ys) x (inl is) = (0, omega arith, is)
-member-contains (y ∷ ys) x (inr m) =
-    let rest = member-contains ys x m in
-    (suc rest.0, omega (arith, rest.1), rest.2)
-
--- ---- the whole cube of a trial
-
-abbrev pub whole : Box3
-whole = record { min = pos 0 ∷ pos 0 ∷ pos 0 ∷ []; max = pos 131071 ∷ pos 131071 ∷ pos 131071 ∷ [] }
-
--- an index of a depth times the side of a box lies in the cube
-corner-below : (index depth : ℕ) → depth ≤ 10 → index < 2 ^ depth → index * 2 ^ (17 - depth) + 2 ^ (17 - depth) ≤ 131072
-corner-below index depth shallow within = by-depth depth shallow within
-  where
-    by-depth : (d : ℕ) → d ≤ 10 → index < 2 ^ d → index * 2 ^ (17 - d) + 2 ^ (17 - d) ≤ 131072
-    by-depth zero s w = omega (arith, w)
-    by-depth (suc zero) s w = omega (arith, w)
-    by-depth (suc (suc zero)) s w = omega (arith, w)
-    by-depth (suc (suc (suc zero))) s w = omega (arith, w)
-    by-depth (suc (suc (suc (suc zero)))) s w = omega (arith, w)
-    by-depth (suc (suc (suc (suc (suc zero))))) s w = omega (arith, w)
-    by-depth (suc (suc (suc (suc (suc (suc zero)))))) s w = omega (arith, w)
-    by-depth (suc (suc (suc (suc (suc (suc (suc zero))))))) s w = omega (arith, w)
-    by-depth (suc (suc (suc (suc (suc (suc (suc (suc zero)))))))) s w = omega (arith, w)
-    by-depth (suc (suc (suc (suc (suc (suc (suc (suc (suc zero))))))))) s w = omega (arith, w)
-    by-depth (suc (suc (suc (suc (suc (suc (suc (suc (suc (suc zero)))))))))) s w = omega (arith, w)
-    by-depth (suc (suc (suc (suc (suc (suc (suc (suc (suc (suc (suc d))))))))))) s w = absurd (omega (arith, s))
-
--- a coordinate of the corner of a box lies in the box and in the whole cube
-axis-box : (index depth : ℕ) → depth ≤ 10 → index < 2 ^ depth → IsFrom (pos 0 +ℤ pos (index * 2 ^ (17 - depth))) (2 ^ (17 - depth)) (pos (index * 2 ^ (17 - depth))) × IsBetween (pos 0) (pos 131071) (pos (index * 2 ^ (17 - depth)))
-axis-box index depth shallow within =
-    let some = pow_pos (17 - depth) in
-    let below = corner-below index depth shallow within in
-    let at = index * 2 ^ (17 - depth) in
-    axis-at at (2 ^ (17 - depth)) some below
-  where
-    axis-at : (n side : ℕ) → 0 < side → n + side ≤ 131072 → IsFrom (pos 0 +ℤ pos n) side (pos n) × IsBetween (pos 0) (pos 131071) (pos n)
-    axis-at n side some below = ((omega (arith, ints), omega (arith, ints, some)), (omega (arith, ints), omega (arith, ints, some, below)))
 
 module _ (kept : Kept) (points : List Point) (rules_are : rules_of kept ≡ trial_rules) where
   cube-is : cube_of kept.bounds kept.s kept.max_depth ≡ trial_rules.cube
   cube-is = ap (λ (r : Rules). r.cube) rules_are
-
-  meets-box : (cube : OctreeCube) (key : VoxelKey) → cube ≡ trial_rules.cube → IsKey key → key.depth ≤ 10 → (at : Place) × InBox cube key at × IsIn whole at
-  unfolding InBox cube_of count_leading_zeros
-  meets-box cube key is spelled shallow =
-      let x = axis-box key.x key.depth shallow spelled.x_in in
-      let y = axis-box key.y key.depth shallow spelled.y_in in
-      let z = axis-box key.z key.depth shallow spelled.z_in in
-      subst (λ (c : OctreeCube). (at : Place) × InBox c key at × IsIn whole at) (sym is) (
-        pos (key.x * 2 ^ (17 - key.depth)) ∷ pos (key.y * 2 ^ (17 - key.depth)) ∷ pos (key.z * 2 ^ (17 - key.depth)) ∷ [],
-        record { x = x.0; y = y.0; z = z.0 },
-        record { x = x.1; y = y.1; z = z.1 },
-      )
-
-  trial-depth : trial_rules.cube.depth ≡ 10
-  unfolding cube_of count_leading_zeros
-  trial-depth = refl
 
   module _ (the_keys : KeysAreTheNodes) (ascend : KeysAscend) (have_keys : NodesHaveKeys) (shallow : NodesAreShallow) (can : CanBeSampled (rules_of kept) points) where
     node-planned : (key : VoxelKey) → IsTrue (is_node (rules_of kept) points key) → HasDepth (search_of kept whole 0 32) key × MeetsArea (search_of kept whole 0 32) key

@@ -1,7 +1,6 @@
 -- What a build of a trial leaves, and why it is refused.
-use Rattle.std.proofs.Common.{◌≡◌, ◌∙◌, ℕ, ◌≤◌, List, Option, Some, None, Result, Ok, Err, refl, sym, ap, subst, arith}
-use Rattle.std.specs.Prelude.{IfOk, IfErr}
-use Rattle.ept_base.specs.Files.{Files, Tells}
+use Rattle.std.proofs.Common.{◌≡◌, ℕ, ◌≤◌, Some, None, refl, ap, subst}
+use Rattle.ept_base.specs.Files.{Files}
 use Rattle.ept_base.specs.Moves.{IsSettled}
 use Rattle.ept_sample.specs.IdLaws.{AscendingIsOrdered}
 use Rattle.ept_config.specs.declared.config.Config.{Config}

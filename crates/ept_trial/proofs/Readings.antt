@@ -1,5 +1,5 @@
 -- What the file of an input reads as: the generated points, and never a refusal.
-use Rattle.std.proofs.Common.{◌≡◌, ◌∙◌, ◌⊎◌, ℕ, suc, ◌+◌, ◌-◌, ◌*◌, ◌/◌, ◌<◌, ◌≤◌, ◌^◌, List, [], ◌++◌, Option, Some, None, Ok, Err, length, get_or, take, drop, refl, sym, ap, subst, arith, inl, inr}
+use Rattle.std.proofs.Common.{◌≡◌, ◌∙◌, ◌⊎◌, ℕ, ◌+◌, ◌*◌, ◌<◌, ◌≤◌, ◌^◌, List, [], ◌++◌, Option, Ok, Err, length, get_or, take, drop, refl, sym, ap, subst, arith, inl, inr}
 use Rattle.std.proofs.lemmas.List.{append-nil}
 use Rattle.std.proofs.Math.Seq.{drop-append_seam}
 use Rattle.ept_point.specs.declared.point.Point.{Point}
@@ -14,11 +14,12 @@ use Rattle.ept_scan.specs.declared.scan_error.ScanError.TheVariants.{SourceFault
 use Rattle.ept_scan.specs.Extents.{IsAllowed}
 use Rattle.ept_scan.specs.LasFile.{head_of, HasHeader, records_of as records_in, record_at, IsOutside, ArePointsOf}
 use Rattle.ept_scan.specs.Refusals.{FileIsRefused}
-use Rattle.ept_trial.specs.Trials.{trial_bounds, IsTrialPoint}
+use Rattle.ept_trial.specs.Trials.{IsTrialPoint}
 use Rattle.ept_trial.specs.Scans.{header_bytes, first_records, records_of, scan_bytes}
 use Rattle.ept_trial.proofs.Records.{record-of, length-records, record-at}
 use Rattle.ept_trial.proofs.Headers.{head, length-header, head-sound, head-says, SaysHeader}
-use Rattle.ept_trial.proofs.Fields.{in-units, in-bounds, point-is}
+use Rattle.ept_trial.proofs.Fields.{in-units, in-bounds}
+use Rattle.ept_trial.proofs.Generated.{point-is}
 use Rattle.ept_trial.proofs.Inputs.{IsOf}
 
 -- the points of an input: each fourth of all

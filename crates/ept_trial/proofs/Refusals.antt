@@ -1,5 +1,5 @@
 -- Of a trial a build is refused for want of memory alone, where no device fails; and the rules of its sampling.
-use Rattle.std.proofs.Common.{◌≡◌, ◌∙◌, ◌⊎◌, ◌≢◌, ⊎_elim, ℕ, ◌+◌, ◌<◌, ◌≤◌, List, Option, Some, None, length, refl, sym, ap, subst, arith, inl, inr}
+use Rattle.std.proofs.Common.{◌≡◌, ◌∙◌, ◌⊎◌, ⊎_elim, ℕ, ◌≤◌, List, Option, Some, None, length, refl, sym, subst, arith}
 use Rattle.std.specs.Prelude.{All}
 use lib.Count.{count_leading_zeros}
 use Rattle.ept_base.specs.Files.{Files}

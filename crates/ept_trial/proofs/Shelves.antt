@@ -1,11 +1,10 @@
 -- A shelf of the four files has the scan of each path.
-use Rattle.std.proofs.Common.{◌≡◌, ◌∙◌, ℕ, zero, suc, List, [], ◌∷◌, Option, Some, None, refl, sym, ap, subst, arith}
-use Rattle.std.specs.Prelude.{if◌then◌else◌, bytes_eq, codes, slice_get, string_bytes, String, Vec, unwrap_or}
+use Rattle.std.proofs.Common.{◌≡◌, ℕ, zero, suc, List, [], ◌∷◌, Some, None, subst}
+use Rattle.std.specs.Prelude.{if◌then◌else◌, bytes_eq, codes, string_bytes, String, Vec, unwrap_or}
 use Rattle.std.specs.declared.alloc.Global.{Global}
-use Rattle.ept_base.specs.Files.{Files}
 use Rattle.ept_mem.specs.Named.{content_of}
 use Rattle.ept_sure.specs.Objects.{or_empty}
-use Rattle.ept_trial.specs.Scans.{scan_bytes, paths, HasScans}
+use Rattle.ept_trial.specs.Scans.{scan_bytes, HasScans}
 
 abbrev pub File : Type 0
 File = String Global × Vec ℕ Global

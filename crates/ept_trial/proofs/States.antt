@@ -1,5 +1,5 @@
 -- The states of the generator, step by step.
-use Rattle.std.proofs.Common.{◌≡◌, ◌∙◌, ℕ, zero, suc, ◌+◌, ◌*◌, refl, sym, ap, arith}
+use Rattle.std.proofs.Common.{◌≡◌, ◌∙◌, ℕ, zero, suc, ◌+◌, ◌*◌, ap, arith}
 use Rattle.ept_num.specs.Generator.{after}
 use Rattle.ept_trial.specs.Trials.{state}
 

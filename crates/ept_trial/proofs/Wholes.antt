@@ -1,8 +1,8 @@
 -- The points of a scan of the inputs are the generated ones.
-use Rattle.std.proofs.Common.{◌≡◌, ◌∙◌, ℕ, zero, suc, ◌+◌, ◌-◌, ◌*◌, ◌/◌, ◌%◌, ◌<◌, ◌≤◌, List, [], ◌∷◌, ◌++◌, Option, Some, length, get_or, refl, sym, ap, subst, arith, length-append}
+use Rattle.std.proofs.Common.{◌≡◌, ◌∙◌, ℕ, zero, suc, ◌+◌, ◌*◌, ◌/◌, ◌%◌, ◌<◌, ◌≤◌, List, [], ◌∷◌, Option, Some, length, get_or, refl, sym, ap, subst, arith, ⊎_elim, length-append}
 use Rattle.std.specs.Prelude.{Contains}
 use Rattle.std.specs.List.{AllZip}
-use Rattle.std.proofs.lemmas.List.Elements.{Contains-append_left, Contains-append_right}
+use Rattle.std.proofs.lemmas.List.Elements.{Contains-append_left, Contains-append_right, Contains-append_cases}
 use Rattle.ept_base.specs.Files.{Files}
 use Rattle.ept_point.specs.declared.point.Point.{Point}
 use Rattle.ept_point.specs.Order.{IsAscending}
@@ -10,7 +10,7 @@ use Rattle.ept_space.specs.declared.bounds.Bounds.{Bounds}
 use Rattle.ept_config.specs.declared.input.Input.{Input}
 use Rattle.ept_scan.specs.declared.scan_done.ScanDone.{ScanDone}
 use Rattle.ept_scan.specs.Scans.{in_order, HasPointsAt, IsScan}
-use Rattle.ept_trial.specs.Trials.{trial_bounds, IsTrialPoint, HasTrialPoint, AreTrialPoints}
+use Rattle.ept_trial.specs.Trials.{trial_bounds, IsTrialPoint, IsTrialPointOf, HasTrialPoint, AreTrialPoints}
 use Rattle.ept_trial.specs.Scans.{records_of, HasScans, paths}
 use Rattle.ept_trial.specs.Settings.{IsTrialInput, AreTrialInputs}
 use Rattle.ept_trial.proofs.Inputs.{input-is}
@@ -66,6 +66,30 @@ point-in count lists size each i within =
       subst (λ (j : ℕ). IsTrialPoint count j at.0) same (subst (λ (p : Point). IsTrialPoint count (4 * (i / 4) + i % 4) p) at.1 (are.each (i / 4) at.0 inside)),
     )
 
+-- a point of all lists is one of a list
+out-of : (lists : List (List Point)) (p : Point) → Contains (in_order lists) p → (k : ℕ) × (k < length lists) × ((d : List Point) → Contains (get_or lists k d) p)
+out-of [] p has = (let none = has.1 in absurd (omega (arith, none)))
+out-of (l ∷ lists) p has =
+    ⊎_elim (λ (here : Contains l p). (0, omega arith, λ d. here))
+    (λ (there : Contains (in_order lists) p). (
+    let rest = out-of lists p there in
+    let less = rest.1 in
+    (suc rest.0, omega (arith, less), rest.2)))
+    (Contains-append_cases l (in_order lists) p has)
+
+-- so it is one of the generated ones
+point-of : (count : ℕ) (lists : List (List Point)) → length lists ≡ 4 → ((k : ℕ) (d : List Point) → k < length lists → AreRecords count k (get_or lists k d)) → (p : Point) → Contains (in_order lists) p → IsTrialPointOf count p
+point-of count lists size each p has =
+    let from = out-of lists p has in
+    let input = from.1 in
+    let are = each from.0 [] input in
+    let at = from.2 [] in
+    let number = are.length_is in
+    let place = at.1 in
+    let inside : at.0 < records_of count from.0 = omega (arith, place, number) in
+    let less : 4 * at.0 + from.0 < count = omega (arith, inside, input, size) in
+    (4 * at.0 + from.0, less, subst (λ (q : Point). IsTrialPoint count (4 * at.0 + from.0) q) at.2 (are.each at.0 p inside))
+
 module _ (count : ℕ) (few : count ≤ 10000000) (all : Files) (scans : HasScans count all) (scale : ℕ) (scale_is : scale ≡ 2) (limits : Option Bounds) (limits_are : limits ≡ Some trial_bounds) (inputs : List Input) (are : AreTrialInputs inputs) where
   list-are : (k : ℕ) (points : List Point) → HasPointsAt all scale limits inputs k points → AreRecords count k points
   list-are k points has =
@@ -84,4 +108,5 @@ module _ (count : ℕ) (few : count ≤ 10000000) (all : Files) (scans : HasScan
         ascend = ascend;
         length_is = ap (λ (w : List Point). length w) scan.points_are ∙ four count scan.lists size each;
         each = λ i within. subst (λ (w : List Point). HasTrialPoint count w i) (sym scan.points_are) (point-in count scan.lists size each i within);
+        only = λ p has. point-of count scan.lists size each p (subst (λ (w : List Point). Contains w p) scan.points_are has);
       }

@@ -50,11 +50,16 @@ pub record IsTrialPoint (count i : ℕ) (p : Point) : Type 0 where
 abbrev pub HasTrialPoint : ℕ → List Point → ℕ → Type 0
 HasTrialPoint count points i = (p : Point) × Contains points p × IsTrialPoint count i p
 
--- these are the points of the generated scans, input by input, as they are read: so many, each of them once
+-- a point is one of them
+abbrev pub IsTrialPointOf : ℕ → Point → Type 0
+IsTrialPointOf count p = (i : ℕ) × (i < count) × IsTrialPoint count i p
+
+-- these are the points of the generated scans, input by input, as they are read: so many, each of them and no others
 pub record AreTrialPoints (count : ℕ) (points : List Point) : Type 0 where
   pub ascend : IsAscending points
   pub length_is : length points ≡ count
   pub each : (i : ℕ) → i < count → HasTrialPoint count points i
+  pub only : (p : Point) → Contains points p → IsTrialPointOf count p
 
 -- ---- their octree
 
@@ -83,3 +88,7 @@ pub record IsTrialOf (count : ℕ) (trial : Trial) : Type 0 where
   pub nodes_are : trial.nodes ≡ length (node_keys trial_rules points)
   pub depth_is : trial.depth ≡ greatest (map (λ key. key.depth) (node_keys trial_rules points))
   pub sum_is : trial.sum ≡ sum_of_bytes points % 2 ^ 64
+
+-- so many points come to one thing. The statement stands on the contract of a function of `laws`
+abbrev pub TrialIsOne : Type 0
+TrialIsOne = (count : ℕ) (a b : Trial) → IsTrialOf count a → IsTrialOf count b → a ≡ b

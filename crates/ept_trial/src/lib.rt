@@ -2,6 +2,7 @@
 #![tactic(auto)]
 
 mod building;
+mod laws;
 mod scans;
 mod settings;
 mod tallying;
@@ -10,4 +11,5 @@ mod tests;
 mod trial;
 
 pub use building::build_trial;
+pub use laws::trial_once_law;
 pub use trial::Trial;
