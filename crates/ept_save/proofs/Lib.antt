@@ -15,4 +15,3 @@ pub mod SampledTiles
 pub mod SoundTiles
 pub mod ScanCounts
 mod DoneFiles
-mod NextRoot

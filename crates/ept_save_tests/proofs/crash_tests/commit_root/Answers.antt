@@ -7,7 +7,7 @@ use Rattle.ept_ckpt.specs.declared.node_line.NodeLine.{NodeLine}
 use Rattle.ept_ckpt.specs.declared.checkpoint.Checkpoint.{Checkpoint}
 use Rattle.ept_save.specs.Lines.{free_letter, with_line}
 use Rattle.ept_save.specs.View.{View}
-use Rattle.ept_save.proofs.NextRoot.{next-valid, valid-same}
+use Rattle.ept_save_tests.proofs.NextRoot.{next-valid, valid-same}
 use Rattle.ept_save_tests.proofs.crash_tests.commit_root.Goals as goal
 
 pub commit-requires-clause-valid : goal.commit-requires-clause-valid
