@@ -138,7 +138,8 @@ fn is_begun_filled_and_blank_again(rt: HostRuntime) -> Result<(), Fail> {
     assert!(rt; key.depth <= rules.cube.depth);
     let points = points_of(rt.alloc(), &[(0, TWO), (1, ONE)])?;
     assert!(rt; ids_ascend(points.as_slice()));
-    assert!(rt; ids_ascend(&points.as_slice()[..1]));
+    let first = points_of(rt.alloc(), &[(0, TWO)])?;
+    assert!(rt; ids_ascend(first.as_slice()));
     let mut node = Node::blank(MemSpill::new(rt.alloc(), Vec::new(rt.alloc())));
     assert_eq!(rt; node.state(), NodeState::Blank);
     node.begin(key, &rules);
@@ -153,7 +154,7 @@ fn is_begun_filled_and_blank_again(rt: HostRuntime) -> Result<(), Fail> {
     let refused = node.fill(rt.alloc(), 1, points.as_slice());
     assert_eq!(rt; refused, Err(GridError::OpenLoser { at: 1 }));
     assert_eq!(rt; node.count(), 0);
-    let filled = node.fill(rt.alloc(), 1, &points.as_slice()[..1]);
+    let filled = node.fill(rt.alloc(), 1, first.as_slice());
     assert!(rt; filled.is_ok());
     assert_eq!(rt; node.count(), 1);
     assert_eq!(rt; node.open_mask(), 1);
