@@ -10,8 +10,6 @@ mod ids;
 mod laws;
 mod place;
 mod rank;
-#[cfg(test)]
-mod tests;
 mod tiles;
 mod top_down;
 
