@@ -1,6 +1,6 @@
 //! Worked nodes, which points reach in batches.
 
-ghost use Rattle.std.specs.Prelude.{◌≡◌, ◌↔◌, ◌∷◌, [], pos, IsTrue};
+ghost use Rattle.std.specs.Prelude.{◌↔◌, [], IsTrue};
 ghost use Rattle.ept_sample.specs.Place.{AllInBox};
 
 use ept_fixtures::{point, small_rules};
