@@ -10,7 +10,8 @@ use std::fmt::Debug;
 use std::process::Abort;
 use std::test::Fail;
 
-// What `assert_eq!` writes is proved wherever it stands, so it stands here once.
+// What `assert_eq!` writes is proved wherever it stands, so it stands here once, and again only where a later line
+// has to know what it found.
 fn same<T: PartialEq + Debug>(rt: &impl Abort, found: &T, wanted: &T) {
     assert_eq!(rt; found, wanted);
 }
@@ -321,7 +322,7 @@ fn reads_defaults(rt: HostRuntime) -> Result<(), Fail> {
     same(&rt, &config.cache, &64);
     same(&rt, &config.max_nodes, &65_536);
     same(&rt, &config.checkpoint, &10_000_000);
-    same(&rt, &config.inputs.as_slice().len(), &1);
+    assert_eq!(rt; config.inputs.as_slice().len(), 1);
     let input = config.input(0);
     same(&rt, &input.path.as_str(), &"a.las");
     same(&rt, &input.scale, &2);
@@ -455,7 +456,7 @@ fn keeps_what_the_output_depends_on(rt: HostRuntime) -> Result<(), Fail> {
     same(&rt, &kept.bounds, &bounds);
     same(&rt, &kept.step, &6);
     same(&rt, &text_of(&kept.srs.horizontal), &"25832");
-    same(&rt, &kept.inputs.as_slice().len(), &2);
+    assert_eq!(rt; kept.inputs.as_slice().len(), 2);
     same(&rt, &kept.input(0).path.as_str(), &"a b.las");
     let again = kept.copy(rt.alloc())?;
     same(&rt, &again.s, &4);

@@ -15,7 +15,8 @@ use std::fmt::Debug;
 use std::process::Abort;
 use std::test::Fail;
 
-// What `assert_eq!` writes is proved wherever it stands, so it stands here once.
+// What `assert_eq!` writes is proved wherever it stands, so it stands here once, and again only where a later line
+// has to know what it found.
 fn same<T: PartialEq + Debug>(rt: &impl Abort, found: &T, wanted: &T) {
     assert_eq!(rt; found, wanted);
 }
@@ -478,7 +479,7 @@ fn an_input_that_was_inserted_may_be_absent(rt: HostRuntime) -> Result<(), Fail>
     same(&rt, &done.bounds, &found.kept.bounds);
 
     let points = points_behind(alloc, &mut shelf, &found, 3)?;
-    same(&rt, &points.len(), &2);
+    assert_eq!(rt; points.len(), 2);
     same(&rt, &[points[0].x, points[1].x], &[4, 5]);
     Ok(())
 }
@@ -566,7 +567,7 @@ fn two_formats_are_read_one_after_the_other(rt: HostRuntime) -> Result<(), Fail>
     same(&rt, &read.ended, &Ok(()));
     same(&rt, &read.again, &Ok(()));
     same(&rt, &read.drawn, &2);
-    same(&rt, &read.points.len(), &2);
+    assert_eq!(rt; read.points.len(), 2);
     same(&rt, &pack(&read.points[0]), &PACKED_7);
     same(&rt, &pack(&read.points[1]), &PACKED_1);
     Ok(())
@@ -598,7 +599,7 @@ fn each_version_has_each_format(rt: HostRuntime) -> Result<(), Fail> {
             let mut shelf = shelf_of(alloc, file, Vec::new(alloc), &[])?;
             let found = found_in(alloc, ONE, &mut shelf)?;
             let read = two_batches(alloc, &mut shelf, &found, [1, 1], 2)?;
-            same(&rt, &read.points.len(), &2);
+            assert_eq!(rt; read.points.len(), 2);
             let last = read.points[1];
             same(&rt, &[last.x, last.y, last.z], &[1, 2, 3]);
             same(&rt, &last.number, &1);
