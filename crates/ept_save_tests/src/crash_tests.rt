@@ -5,7 +5,7 @@ ghost use Rattle.std.specs.Option.{ForSome};
 ghost use Rattle.ept_space.specs.VoxelKey.{root};
 ghost use Rattle.ept_save.specs.Opening.{lines_of};
 
-use crate::tests::{file, packed_body, point};
+use crate::tests::{file, packed_body, point, same, same_at};
 use ept_ckpt::{Checkpoint, NodeLine};
 use ept_mem::{Crash, MemStore};
 use ept_point::{Point, tile_bytes};
@@ -137,7 +137,7 @@ fn whenever_it_stops_a_checkpoint_is_left_with_its_tiles(rt: HostRuntime) -> Res
         for passes in first..=last {
             for ((how, generation), done) in kinds.iter().zip(generations).zip(done) {
                 let found = left(alloc, passes, *how)?;
-                assert_eq!(rt; found, (generation, true, done), "{passes} passed, {how:?}");
+                same_at(&rt, &found, &(generation, true, done), &(passes, how));
             }
         }
     }
@@ -148,8 +148,12 @@ fn whenever_it_stops_a_checkpoint_is_left_with_its_tiles(rt: HostRuntime) -> Res
 fn with_every_call_passed_none_is_refused(rt: HostRuntime) -> Result<(), Fail> {
     let alloc = rt.alloc();
     let mut store = saved_store(alloc)?.with_fuse(20);
-    assert_eq!(rt; every_call(alloc, &mut store), Ok(()));
+    same(&rt, &every_call(alloc, &mut store), &Ok(()));
     let mut short = saved_store(alloc)?.with_fuse(19);
-    assert_eq!(rt; every_call(alloc, &mut short), Err(SaveError::StoreFault));
+    same(
+        &rt,
+        &every_call(alloc, &mut short),
+        &Err(SaveError::StoreFault),
+    );
     Ok(())
 }

@@ -6,7 +6,23 @@ use ept_point::Point;
 use ept_save::{SaveError, begin, close_done, is_done, open, open_done, save_tile};
 use ept_space::Key;
 use std::alloc::{AllocError, Global};
+use std::fmt::Debug;
+use std::process::Abort;
 use std::test::Fail;
+
+// What `assert_eq!` writes is proved wherever it stands, so it stands here once.
+pub(crate) fn same<T: PartialEq + Debug>(rt: &impl Abort, found: &T, wanted: &T) {
+    assert_eq!(rt; found, wanted);
+}
+
+pub(crate) fn same_at<T: PartialEq + Debug, P: Debug>(
+    rt: &impl Abort,
+    found: &T,
+    wanted: &T,
+    place: &P,
+) {
+    assert_eq!(rt; found, wanted, "at {place:?}");
+}
 
 // The body of a checkpoint of one input without points, and an empty root under letter a; behind the name
 // of the format and its version stands the generation.
@@ -115,9 +131,9 @@ fn length_of(store: &MemStore, name: &str) -> Option<usize> {
 fn the_counted_checkpoint_is_found_and_a_bad_one_is_told(rt: HostRuntime) -> Result<(), Fail> {
     let alloc = rt.alloc();
     let mut none = store_of(alloc, &[0], &[], true)?;
-    assert_eq!(rt; generation(alloc, &mut none), Ok(None));
+    same(&rt, &generation(alloc, &mut none), &Ok(None));
     let mut one = store_of(alloc, &[1], &[2], false)?;
-    assert_eq!(rt; generation(alloc, &mut one), Ok(Some(1)));
+    same(&rt, &generation(alloc, &mut one), &Ok(Some(1)));
     let mut alike = store_of(alloc, &[1], &[1], true)?;
     assert!(rt; is_bad_b(generation(alloc, &mut alike)));
     let mut absent = store_of(alloc, &[1], &[1], false)?;
@@ -133,9 +149,9 @@ fn a_tile_is_put_under_the_version_that_is_not_named(rt: HostRuntime) -> Result<
     begin(alloc, &mut store, &mut saved)?;
     let points: [Point; 0] = [];
     save_tile(alloc, &mut store, &mut saved, Key::ROOT, 0, &points)?;
-    assert_eq!(rt; length_of(&store, "ept-work/b/0-0-0-0.bin"), Some(0));
-    assert_eq!(rt; length_of(&store, "ept-work/a/0-0-0-0.bin"), None);
-    assert_eq!(rt; saved.current().map(|c| c.generation), Some(1));
+    same(&rt, &length_of(&store, "ept-work/b/0-0-0-0.bin"), &Some(0));
+    same(&rt, &length_of(&store, "ept-work/a/0-0-0-0.bin"), &None);
+    same(&rt, &saved.current().map(|c| c.generation), &Some(1));
     Ok(())
 }
 
@@ -143,12 +159,12 @@ fn a_tile_is_put_under_the_version_that_is_not_named(rt: HostRuntime) -> Result<
 fn the_done_gate_is_closed_and_opened(rt: HostRuntime) -> Result<(), Fail> {
     let alloc = rt.alloc();
     let mut store = MemStore::new(alloc, Vec::new(alloc), Vec::new(alloc));
-    assert_eq!(rt; is_done(alloc, &mut store), Ok(false));
+    same(&rt, &is_done(alloc, &mut store), &Ok(false));
     close_done(alloc, &mut store)?;
-    assert_eq!(rt; length_of(&store, "ept-work/done"), None);
+    same(&rt, &length_of(&store, "ept-work/done"), &None);
     open_done(&mut store)?;
-    assert_eq!(rt; is_done(alloc, &mut store), Ok(true));
+    same(&rt, &is_done(alloc, &mut store), &Ok(true));
     close_done(alloc, &mut store)?;
-    assert_eq!(rt; is_done(alloc, &mut store), Ok(false));
+    same(&rt, &is_done(alloc, &mut store), &Ok(false));
     Ok(())
 }
