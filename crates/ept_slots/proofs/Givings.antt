@@ -34,38 +34,38 @@ module _ {T N : Type 0} where
       let all : sum_by parts_of views ≡ whole = s.shared in let few : drawn ≤ most + sum_by refused_of views = s.counted in
       let each = each-put (IsFair most drawn) views id w (fair most drawn items views s) record { idle = λ _. refl; seldom = fv.seldom; overdrawn = fv.overdrawn } in
       let nothing : (u : View T N) (m : ℕ) (z : T) → w ≡ u → Holds u m z → ⊥ = λ u m z is h. holds-none w m z refl (ap (λ (a : View T N). a.hold) is ∙ h) in record {
-    held = λ j m u z e h. ⊎_elim (λ p. absurd (nothing u m z p.1 h))
-        (λ p. set_else items k m y (λ is. p.0 (s.one_holder j id k u v z x p.1 at (subst (λ (a : ℕ). Holds u a z) is h) hold)) ∙ s.held j m u z p.1 h) (at_set views id j w u e);
-    one_holder = λ i j m u t a b e f h g. ⊎_elim (λ p. absurd (nothing u m a p.1 h))
-        (λ p. ⊎_elim (λ q. absurd (nothing t m b q.1 g)) (λ q. s.one_holder i j m u t a b p.1 q.1 h g) (at_set views id j w t f)) (at_set views id i w u e);
-    shared = (let goal : sum_by parts_of (set views id w) ≡ whole = omega arith in goal);
-    idle = λ j u e. (each j u e).idle;
-    seldom = λ j u e. (each j u e).seldom;
-    overdrawn = λ j u e. (each j u e).overdrawn;
-    counted = (let goal : drawn ≤ most + sum_by refused_of (set views id w) = omega arith in goal);
-  }
+        held = λ j m u z e h. ⊎_elim (λ p. absurd (nothing u m z p.1 h))
+            (λ p. set_else items k m y (λ is. p.0 (s.one_holder j id k u v z x p.1 at (subst (λ (a : ℕ). Holds u a z) is h) hold)) ∙ s.held j m u z p.1 h) (at_set views id j w u e);
+        one_holder = λ i j m u t a b e f h g. ⊎_elim (λ p. absurd (nothing u m a p.1 h))
+            (λ p. ⊎_elim (λ q. absurd (nothing t m b q.1 g)) (λ q. s.one_holder i j m u t a b p.1 q.1 h g) (at_set views id j w t f)) (at_set views id i w u e);
+        shared = (let goal : sum_by parts_of (set views id w) ≡ whole = omega arith in goal);
+        idle = λ j u e. (each j u e).idle;
+        seldom = λ j u e. (each j u e).seldom;
+        overdrawn = λ j u e. (each j u e).overdrawn;
+        counted = (let goal : drawn ≤ most + sum_by refused_of (set views id w) = omega arith in goal);
+      }
 
 module _ {T N W : Type 0} where
   locks-given : (most drawn : ℕ) (words : List ℕ) (homes : List (maybe.Option (Slot T W))) (items : List T) (views : List (View T N)) (id k : ℕ) (v : View T N) (x y : T) (n : N) → Locks words homes items views → Seats most drawn items views → At views id v → Holds v k x
       → Locks (set words (k + 2) 0) (set homes k (some (Here y))) (set items k y) (set views id (given v n))
   locks-given most drawn words homes items views id k v x y n l s at hold = let w : View T N = given v n in let near : k < length items = at-below items k x (s.held id k v x at hold) in let long : length (set items k y) ≡ length items = length-set items k y in
       let deep : length homes ≡ length items + 1 = l.deep in let zero_now = lock-set words homes items views k 0 l near in record {
-    wide = length-set words (k + 2) 0 ∙ (l.wide ∙ ap (λ (z : ℕ). z + 2) (sym long));
-    deep = length-set homes k (some (Here y)) ∙ (deep ∙ ap (λ (z : ℕ). z + 1) (sym long));
-    at_home = λ j z e ne. ⊎_elim
-        (λ p. subst (λ (a : ℕ × T). At (set homes k (some (Here y))) a.0 (some (Here a.1))) (λ i. (sym p.0 i, p.1 i)) (set_here homes k (some (Here y)) (omega arith)))
-        (λ p. set_else homes k j (some (Here y)) p.0 ∙ l.at_home j z p.1 (λ one. ne (lock-stays words k 0 j p.0 ∙ one))) (at_set items k j y z e);
-    marked = λ j m u z e h. ⊎_elim (λ p. absurd (holds-none w m z refl (ap (λ (a : View T N). a.hold) p.1 ∙ h)))
-        (λ p. lock-stays words k 0 m (λ is. p.0 (s.one_holder j id k u v z x p.1 at (subst (λ (a : ℕ). Holds u a z) is h) hold)) ∙ l.marked j m u z p.1 h) (at_set views id j w u e);
-    taken_by = λ m h one. let other : m ≢ k = λ is. let a : lock_of (set words (k + 2) 0) k ≡ 1 = ap (lock_of (set words (k + 2) 0)) (sym is) ∙ one in let z : lock_of (set words (k + 2) 0) k ≡ 0 = zero_now in absurd (omega arith) in
-        let o = l.taken_by m (omega arith) (sym (lock-stays words k 0 m other) ∙ one) in
-        let apart : o.0 ≢ id = λ is. let uv : o.1 ≡ v = some-injective o.1 v (sym o.3 ∙ (ap (λ (i : ℕ). get_elem? views i) is ∙ at)) in other ((same-hold v m k o.2 x (ap (λ (a : View T N). a.hold) (sym uv) ∙ o.4) hold).0) in
-        (o.0, o.1, o.2, set_else views id o.0 w apart ∙ o.3, o.4);
-    list = l.list;
-    spare = subst (λ (z : ℕ). At (set homes k (some (Here y))) z (some (Spare l.list))) (sym long) (set_else homes k (length items) (some (Here y)) (λ e. omega arith) ∙ l.spare);
-    empty = l.empty;
-    room = subst (λ (z : ℕ). z ≤ vec_capacity l.list) (sym long) l.room;
-  }
+        wide = length-set words (k + 2) 0 ∙ (l.wide ∙ ap (λ (z : ℕ). z + 2) (sym long));
+        deep = length-set homes k (some (Here y)) ∙ (deep ∙ ap (λ (z : ℕ). z + 1) (sym long));
+        at_home = λ j z e ne. ⊎_elim
+            (λ p. subst (λ (a : ℕ × T). At (set homes k (some (Here y))) a.0 (some (Here a.1))) (λ i. (sym p.0 i, p.1 i)) (set_here homes k (some (Here y)) (omega arith)))
+            (λ p. set_else homes k j (some (Here y)) p.0 ∙ l.at_home j z p.1 (λ one. ne (lock-stays words k 0 j p.0 ∙ one))) (at_set items k j y z e);
+        marked = λ j m u z e h. ⊎_elim (λ p. absurd (holds-none w m z refl (ap (λ (a : View T N). a.hold) p.1 ∙ h)))
+            (λ p. lock-stays words k 0 m (λ is. p.0 (s.one_holder j id k u v z x p.1 at (subst (λ (a : ℕ). Holds u a z) is h) hold)) ∙ l.marked j m u z p.1 h) (at_set views id j w u e);
+        taken_by = λ m h one. let other : m ≢ k = λ is. let a : lock_of (set words (k + 2) 0) k ≡ 1 = ap (lock_of (set words (k + 2) 0)) (sym is) ∙ one in let z : lock_of (set words (k + 2) 0) k ≡ 0 = zero_now in absurd (omega arith) in
+            let o = l.taken_by m (omega arith) (sym (lock-stays words k 0 m other) ∙ one) in
+            let apart : o.0 ≢ id = λ is. let uv : o.1 ≡ v = some-injective o.1 v (sym o.3 ∙ (ap (λ (i : ℕ). get_elem? views i) is ∙ at)) in other ((same-hold v m k o.2 x (ap (λ (a : View T N). a.hold) (sym uv) ∙ o.4) hold).0) in
+            (o.0, o.1, o.2, set_else views id o.0 w apart ∙ o.3, o.4);
+        list = l.list;
+        spare = subst (λ (z : ℕ). At (set homes k (some (Here y))) z (some (Spare l.list))) (sym long) (set_else homes k (length items) (some (Here y)) (λ e. omega arith) ∙ l.spare);
+        empty = l.empty;
+        room = subst (λ (z : ℕ). z ≤ vec_capacity l.list) (sym long) l.room;
+      }
 
 module _ {T N W : Type 0} (holds : ℕ → List T → List (View T N) → Type 0) (most : ℕ) where
   gives_slot : (tells : View T N → T → W → N → Type 0) (n id k : ℕ) (v : View T N) (x y : T) (w : W) → Holds v k x → Gives holds most id v k y (tells v y w)

@@ -5,6 +5,8 @@ use mathlib.Core.Path.{Path}
 use Rattle.atomic_table.specs.Table.{Me, rest}
 use Rattle.ept_slots.specs.declared.slot.Slot.{Slot}
 use Rattle.ept_slots.specs.declared.slot.Slot.TheVariants.{Out, Here, Said, Spare}
+use Rattle.std.specs.declared.alloc.Global.{Global}
+use Rattle.std.specs.declared.vec.Vec.{Vec}
 use Rattle.ept_slots.specs.declared.view.View.{View}
 use Rattle.ept_slots.specs.Views.{Holds, HoldsNothing}
 use Rattle.ept_slots.specs.Seating.{emptied}
@@ -39,6 +41,9 @@ module _ {T W : Type 0} where
 
   pub same-said : (s : Slot T W) (x y : W) → s ≡ Said x → s ≡ Said y → x ≡ y
   same-said s x y e f = cc
+
+  pub same-spare : (s : Slot T W) (a b : Vec T Global) → s ≡ Spare a → s ≡ Spare b → a ≡ b
+  same-spare s a b e f = cc
 
   pub told-said : (s : Option (Slot T W)) (x y : W) → s ≡ some (Said x) → s ≡ some (Said y) → x ≡ y
   told-said s x y e f = cc

@@ -6,3 +6,5 @@ pub mod Hands
 pub mod Takings
 pub mod Givings
 pub mod Notings
+pub mod Layings
+pub mod Ends

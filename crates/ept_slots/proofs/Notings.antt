@@ -34,7 +34,7 @@ module _ {T N : Type 0} (most : ℕ) where
       let all : sum_by parts_of views ≡ whole = s.shared in let each = fair most drawn items views s in let mine = each id v at in
       reseat most drawn (drawn + 1) items views (set views id w) s (mirrors-put views id v w at refl) (omega arith)
       (each-put (IsFair most (drawn + 1)) views id w (λ j u e. let f = each j u e in record { idle = f.idle; seldom = f.seldom; overdrawn = λ o. let h = f.overdrawn o in omega arith })
-          record { idle = mine.idle; seldom = mine.seldom; overdrawn = λ o. let h = mine.overdrawn o in omega arith }) (omega arith)
+      record { idle = mine.idle; seldom = mine.seldom; overdrawn = λ o. let h = mine.overdrawn o in omega arith }) (omega arith)
 
   refused-seats : (drawn : ℕ) (items : List T) (views : List (View T N)) (id : ℕ) (v : View T N) (n : N) → Seats most drawn items views → At views id v → most ≤ drawn → v.refused < v.parts → Seats most (drawn + 1) items (set views id (refused v n))
   refused-seats drawn items views id v n s at full share = let w : View T N = refused v n in let sp : sum_by parts_of (set views id w) + v.parts ≡ sum_by parts_of views + v.parts = sum-put parts_of views id v w at in
@@ -42,7 +42,7 @@ module _ {T N : Type 0} (most : ℕ) where
       let all : sum_by parts_of views ≡ whole = s.shared in let few : drawn ≤ most + sum_by refused_of views = s.counted in let each = fair most drawn items views s in let mine = each id v at in
       reseat most drawn (drawn + 1) items views (set views id w) s (mirrors-put views id v w at refl) (omega arith)
       (each-put (IsFair most (drawn + 1)) views id w (λ j u e. let f = each j u e in record { idle = f.idle; seldom = f.seldom; overdrawn = λ o. omega arith })
-          record { idle = mine.idle; seldom = omega arith; overdrawn = λ o. omega arith }) (omega arith)
+      record { idle = mine.idle; seldom = omega arith; overdrawn = λ o. omega arith }) (omega arith)
 
   over : (drawn : ℕ) (v w : View T N) → IsFair most drawn v → IsFair most drawn w → 0 < v.refused + w.refused → most < drawn
   over drawn v w f g h = ⊎_elim (λ p. f.overdrawn p) (λ p. g.overdrawn (omega arith)) (cases_lt 0 v.refused)
@@ -76,12 +76,12 @@ module _ {T N W : Type 0} (holds : ℕ → List T → List (View T N) → Type 0
   pub looks_seat : (tells : View T N → ℕ → N → Type 0) (n id : ℕ) (me : Me (Slot T W) (View T N)) → Looks holds most id me.0 (tells me.0)
       → Allows (Lies most holds) n id me 0 (λ y. y) (play_look tells (step n 0 0 0 none) me)
   looks_seat tells n id me law s r wide at _ = let o = law (drawn_of s.words) r.items s.views r.seats r.kept at in (
-      noted me.0 o.0,
-      keeps,
-      tt,
-      renoted s r 0 (get_or s.words 0 0) id me.0 o.0 at refl o.1,
-      (o.0, refl, o.2),
-    )
+    noted me.0 o.0,
+    keeps,
+    tt,
+    renoted s r 0 (get_or s.words 0 0) id me.0 o.0 at refl o.1,
+    (o.0, refl, o.2),
+  )
 
   counter-set : (s : State (Slot T W) (View T N)) (r : Lies most holds s) (a : ℕ) → drawn_of (set s.words 0 a) ≡ a
   counter-set s r a = let wide : length s.words ≡ length r.items + 2 = r.locks.wide in get_or-set_same s.words 0 a 0 (omega arith)
@@ -133,7 +133,7 @@ module _ {T N W : Type 0} (holds : ℕ → List T → List (View T N) → Type 0
         locks = relock s.words s.words s.homes r.items s.views (mid ++ b ∷ []) r.locks refl (λ _. refl) same;
         seats = reseat most drawn drawn r.items s.views (mid ++ b ∷ []) r.seats same (omega arith)
             (each-last (IsFair most drawn) mid b (each-put (IsFair most drawn) s.views id a each record { idle = λ e. absurd (omega arith); seldom = omega arith; overdrawn = mine.overdrawn })
-                record { idle = λ _. refl; seldom = omega arith; overdrawn = λ e. absurd (omega arith) }) (omega arith);
+            record { idle = λ _. refl; seldom = omega arith; overdrawn = λ e. absurd (omega arith) }) (omega arith);
         kept = law drawn r.items s.views r.seats r.kept at;
       }
 
@@ -149,6 +149,6 @@ module _ {T N W : Type 0} (holds : ℕ → List T → List (View T N) → Type 0
         locks = relock s.words s.words s.homes r.items s.views (set mid j b) r.locks refl (λ _. refl) same;
         seats = reseat most drawn drawn r.items s.views (set mid j b) r.seats same (omega arith)
             (each-put (IsFair most drawn) mid j b (each-put (IsFair most drawn) s.views id a each record { idle = λ e. mine.idle (omega arith); seldom = (let x : v.refused ≤ v.parts = mine.seldom in let y : w.refused ≤ w.parts = its.seldom in omega arith); overdrawn = λ e. over most drawn v w mine its e })
-                record { idle = λ _. refl; seldom = omega arith; overdrawn = λ e. absurd (omega arith) }) (omega arith);
+            record { idle = λ _. refl; seldom = omega arith; overdrawn = λ e. absurd (omega arith) }) (omega arith);
         kept = law drawn r.items s.views r.seats r.kept at other apart;
       }

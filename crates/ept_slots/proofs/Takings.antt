@@ -48,8 +48,8 @@ module _ {T N W : Type 0} where
     taken_by = λ m h one. dite (ℕ_discrete m k)
         (λ is. (id, w, x, put-here views id v w at, subst (λ (z : ℕ). Holds w z x) (sym is) holds))
         (λ ne. let o = l.taken_by m h (sym (lock-stays words k 1 m ne) ∙ one) in
-            let other : o.0 ≢ id = λ is. let uv : o.1 ≡ v = some-injective o.1 v (sym o.3 ∙ (ap (λ (i : ℕ). get_elem? views i) is ∙ at)) in holds-none v m o.2 idle (ap (λ (z : View T N). z.hold) (sym uv) ∙ o.4) in
-            (o.0, o.1, o.2, set_else views id o.0 w other ∙ o.3, o.4));
+        let other : o.0 ≢ id = λ is. let uv : o.1 ≡ v = some-injective o.1 v (sym o.3 ∙ (ap (λ (i : ℕ). get_elem? views i) is ∙ at)) in holds-none v m o.2 idle (ap (λ (z : View T N). z.hold) (sym uv) ∙ o.4) in
+        (o.0, o.1, o.2, set_else views id o.0 w other ∙ o.3, o.4));
     list = l.list;
     spare = set_else homes k (length items) none (λ e. omega arith) ∙ l.spare;
     empty = l.empty;
@@ -63,20 +63,20 @@ module _ {T N : Type 0} where
       let sr : sum_by refused_of (set views id w) + v.refused ≡ sum_by refused_of views + w.refused = sum-put refused_of views id v w at in
       let all : sum_by parts_of views ≡ whole = s.shared in let few : drawn ≤ most + sum_by refused_of views = s.counted in
       let each = each-put (IsFair most drawn) views id w (fair most drawn items views s) record { idle = λ e. (let z : v.parts ≡ 0 = sym p ∙ e in absurd (omega arith)); seldom = (let a : v.refused ≤ v.parts = fv.seldom in omega arith); overdrawn = λ o. fv.overdrawn (subst (λ (z : ℕ). 0 < z) r o) } in record {
-    held = λ j m u y e h. ⊎_elim
-        (λ q. let o = same-hold w k m x y holds (ap (λ (z : View T N). z.hold) q.1 ∙ h) in subst (λ (z : ℕ × T). At items z.0 z.1) (λ i. (o.0 i, o.1 i)) here)
-        (λ q. s.held j m u y q.1 h) (at_set views id j w u e);
-    one_holder = λ i j m u t y z e f h g. ⊎_elim
-        (λ q. ⊎_elim (λ q'. q.0 ∙ sym q'.0)
+        held = λ j m u y e h. ⊎_elim
+            (λ q. let o = same-hold w k m x y holds (ap (λ (z : View T N). z.hold) q.1 ∙ h) in subst (λ (z : ℕ × T). At items z.0 z.1) (λ i. (o.0 i, o.1 i)) here)
+            (λ q. s.held j m u y q.1 h) (at_set views id j w u e);
+        one_holder = λ i j m u t y z e f h g. ⊎_elim
+            (λ q. ⊎_elim (λ q'. q.0 ∙ sym q'.0)
             (λ q'. let o = same-hold w k m x y holds (ap (λ (a : View T N). a.hold) q.1 ∙ h) in absurd (free j t z q'.1 (subst (λ (a : ℕ). Holds t a z) (sym o.0) g))) (at_set views id j w t f))
-        (λ q. ⊎_elim (λ q'. let o = same-hold w k m x z holds (ap (λ (a : View T N). a.hold) q'.1 ∙ g) in absurd (free i u y q.1 (subst (λ (a : ℕ). Holds u a y) (sym o.0) h)))
+            (λ q. ⊎_elim (λ q'. let o = same-hold w k m x z holds (ap (λ (a : View T N). a.hold) q'.1 ∙ g) in absurd (free i u y q.1 (subst (λ (a : ℕ). Holds u a y) (sym o.0) h)))
             (λ q'. s.one_holder i j m u t y z q.1 q'.1 h g) (at_set views id j w t f)) (at_set views id i w u e);
-    shared = (let goal : sum_by parts_of (set views id w) ≡ whole = omega arith in goal);
-    idle = λ j u e. (each j u e).idle;
-    seldom = λ j u e. (each j u e).seldom;
-    overdrawn = λ j u e. (each j u e).overdrawn;
-    counted = (let goal : drawn ≤ most + sum_by refused_of (set views id w) = omega arith in goal);
-  }
+        shared = (let goal : sum_by parts_of (set views id w) ≡ whole = omega arith in goal);
+        idle = λ j u e. (each j u e).idle;
+        seldom = λ j u e. (each j u e).seldom;
+        overdrawn = λ j u e. (each j u e).overdrawn;
+        counted = (let goal : drawn ≤ most + sum_by refused_of (set views id w) = omega arith in goal);
+      }
 
 module _ {T N W : Type 0} (holds : ℕ → List T → List (View T N) → Type 0) (most : ℕ) where
   -- what a step has to show, once the word became m
@@ -93,7 +93,7 @@ module _ {T N W : Type 0} (holds : ℕ → List T → List (View T N) → Type 0
       let told = play_take tells (step n (k + 2) old 1 none) me in let deep : length s.homes ≡ length items + 1 = r.locks.deep in let drawn : ℕ = drawn_of s.words in
       exchanged y old 1 (Goes s (k + 2) id me (told y))
       (λ hit. let w : length s.homes ≡ n = wide in let inside : k < length items = omega arith in let x = there items k inside in let was : lock_of s.words k ≢ 1 = λ one. free_old (sym hit ∙ one) in
-          let free : IsFree views k = λ j u z e h. was (r.locks.marked j k u z e h) in let o = law drawn items views x.0 r.seats r.kept at x.1 free in let same = sym (drawn-stays s.words k 1) in (
+      let free : IsFree views k = λ j u z e h. was (r.locks.marked j k u z e h) in let o = law drawn items views x.0 r.seats r.kept at x.1 free in let same = sym (drawn-stays s.words k 1) in (
         taken v k x.0 o.0,
         takes k (Here x.0),
         r.locks.at_home k x.0 x.1 was,

@@ -4,3 +4,4 @@ pub mod Asks
 pub mod Locks
 pub mod Plays
 pub mod Seating
+pub mod Laid

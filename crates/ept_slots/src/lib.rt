@@ -6,6 +6,8 @@
 //! (`SlotRule`), and each call asks that its step keep that fact (`specs/Asks.antt`).
 #![tactic(auto)]
 
+mod laying;
+mod making;
 mod plays;
 mod rule;
 mod shares;

@@ -23,7 +23,9 @@ impl<T, W> Slot<T, W> {
         requires { (item : T) × (self ≡ Here item) }
         ensures { self ≡ Here result }
     {
-        let Slot::Here(item) = self else { unreachable!() };
+        let Slot::Here(item) = self else {
+            unreachable!()
+        };
         item
     }
 
@@ -31,7 +33,9 @@ impl<T, W> Slot<T, W> {
         requires { (said : W) × (self ≡ Said said) }
         ensures { self ≡ Said result }
     {
-        let Slot::Said(said) = self else { unreachable!() };
+        let Slot::Said(said) = self else {
+            unreachable!()
+        };
         said
     }
 
@@ -39,7 +43,9 @@ impl<T, W> Slot<T, W> {
         requires { (list : Vec T Global) × (self ≡ Spare list) }
         ensures { self ≡ Spare result }
     {
-        let Slot::Spare(list) = self else { unreachable!() };
+        let Slot::Spare(list) = self else {
+            unreachable!()
+        };
         list
     }
 

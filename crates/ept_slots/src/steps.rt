@@ -21,11 +21,7 @@ impl<T, N, W, K, R: SlotRule<T, N, K>> Slots<T, N, W, K, R> {
     }
 
     /// One try to take what lies in a slot: None where its lock was held, and then nothing changed.
-    pub fn try_take<M: Take<T, N>>(
-        &self,
-        seat: &mut SlotSeat<T, N, W>,
-        slot: usize,
-    ) -> Option<T>
+    pub fn try_take<M: Take<T, N>>(&self, seat: &mut SlotSeat<T, N, W>, slot: usize) -> Option<T>
         requires seat { IsSeatOf R.most self.now seat.old }
         requires idle { HoldsNothing (view seat.old) × (0 < (view seat.old).parts) }
         requires slot { slot < count_of self.now }
@@ -93,12 +89,7 @@ impl<T, N, W, K, R: SlotRule<T, N, K>> Slots<T, N, W, K, R> {
     }
 
     /// A step of the holder of a slot that changes its note alone. What is said comes back.
-    pub fn note<M: Note<T, N, W>>(
-        &self,
-        seat: &mut SlotSeat<T, N, W>,
-        slot: usize,
-        said: W,
-    ) -> W
+    pub fn note<M: Note<T, N, W>>(&self, seat: &mut SlotSeat<T, N, W>, slot: usize, said: W) -> W
         requires seat { IsSeatOf R.most self.now seat.old }
         requires slot { slot < count_of self.now }
         requires held { (x : T) × Holds (view seat.old) slot x }
