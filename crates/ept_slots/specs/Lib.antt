@@ -1,0 +1,7 @@
+pub mod Views
+pub mod Seats
+pub mod Asks
+pub mod Locks
+pub mod Plays
+pub mod Seating
+pub mod Laid

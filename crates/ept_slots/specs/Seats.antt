@@ -1,0 +1,26 @@
+-- What holds at each moment of every table of slots, as plain data: how many slots were drawn, what lies in each slot, and what each seat knows.
+-- Of a held slot the list of items has what lay there when it was taken.
+use Rattle.std.specs.Prelude.{◌≡◌, ℕ, ◌+◌, ◌<◌, ◌≤◌, List}
+use Rattle.std.specs.List.{sum_by}
+use Rattle.ept_slots.specs.declared.view.View.{View}
+use Rattle.ept_slots.specs.Views.{At, Holds, HoldsNothing, whole, parts_of, refused_of}
+
+pub record Seats {T N : Type 0} (most drawn : ℕ) (items : List T) (views : List (View T N)) : Type 0 where
+  -- what a seat holds is what lies there, and no other seat holds it
+  pub held : (id k : ℕ) (v : View T N) (x : T) → At views id v → Holds v k x → At items k x
+  pub one_holder : (i j k : ℕ) (v w : View T N) (x y : T) → At views i v → At views j w → Holds v k x → Holds w k y → i ≡ j
+  -- the seats have the whole among them, and one without a part holds nothing
+  pub shared : sum_by parts_of views ≡ whole
+  pub idle : (id : ℕ) (v : View T N) → At views id v → v.parts ≡ 0 → HoldsNothing v
+  -- a seat is refused at most as often as it has parts, and never before the limit is passed, which only refused draws pass
+  pub seldom : (id : ℕ) (v : View T N) → At views id v → v.refused ≤ v.parts
+  pub overdrawn : (id : ℕ) (v : View T N) → At views id v → 0 < v.refused → most < drawn
+  pub counted : drawn ≤ most + sum_by refused_of views
+
+-- no seat holds the slot
+abbrev pub IsFree : {T N : Type 0} → List (View T N) → ℕ → Type 0
+IsFree {T} {N} views k = (id : ℕ) (v : View T N) (x : T) → At views id v → ¬ Holds v k x
+
+-- no other seat has a part
+abbrev pub IsAlone : {T N : Type 0} → List (View T N) → ℕ → Type 0
+IsAlone {T} {N} views id = (j : ℕ) (w : View T N) → At views j w → ¬ (j ≡ id) → w.parts ≡ 0

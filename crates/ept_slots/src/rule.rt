@@ -1,0 +1,35 @@
+//! The caller's rule, and the rule of the table behind it.
+ghost use Rattle.std.specs.Prelude.{ℕ, List};
+ghost use Rattle.ept_slots.specs.declared.view.View.{View};
+ghost use Rattle.ept_slots.specs.Views.{first_view};
+ghost use Rattle.ept_slots.specs.Locks.{Lies};
+
+use crate::slot::Slot;
+use crate::view::View;
+use atomic_table::TableRule;
+use std::marker::PhantomData;
+
+/// The caller's rule of a table of slots with items `T`, whose seats note `N`. It may read a key `K`,
+/// which is fixed when the table is made.
+pub trait SlotRule<T, N, K> {
+    /// Of how many slots were drawn, what lies in each slot (of a held one what lay there when it was
+    /// taken) and what each seat knows.
+    ghost holds: { K → ℕ → List T → List (View T N) → Type 0 };
+
+    /// Up to which number slots are drawn.
+    ghost most: { K → ℕ };
+
+    /// The note of the first seat.
+    ghost first: { K → N };
+}
+
+/// The rule of the table behind: the locks, the shares, the counter, and the caller's rule.
+pub struct Locked<R> {
+    rule: PhantomData<R>,
+}
+
+impl<T, N, W, K, R: SlotRule<T, N, K>> TableRule<Slot<T, W>, View<T, N>, K> for Locked<R> {
+    ghost holds = { λ about. Lies (R.most about) (R.holds about) };
+
+    ghost first = { λ about. first_view (R.most about) (R.first about) };
+}

@@ -1,0 +1,21 @@
+//! What a seat knows. No value of these types is made: they are for contracts and proofs.
+
+/// A slot that a seat holds, and what it took there.
+pub struct Held<T> {
+    pub slot: usize,
+    pub item: T,
+}
+
+/// What a seat of a table knows.
+pub struct View<T, N> {
+    /// Up to which number slots are drawn.
+    pub most: u32,
+    /// Its part of the whole that all seats share. A seat that ended has none.
+    pub parts: u64,
+    /// How often it was refused a slot: at most as often as it has parts.
+    pub refused: u64,
+    /// The slot that it holds, if it holds one.
+    pub hold: Option<Held<T>>,
+    /// What the caller's rule has it know.
+    pub note: N,
+}

@@ -1,0 +1,15 @@
+pub mod Lists
+pub mod Keys
+pub mod Counting
+pub mod Mirrors
+pub mod Moves
+pub mod Seating
+pub mod Flown
+pub mod ReaderBack
+pub mod SlotDrawn
+pub mod Full
+pub mod Refused
+pub mod Arrival
+pub mod Telling
+pub mod Ending
+pub mod Beginning

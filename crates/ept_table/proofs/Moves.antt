@@ -1,0 +1,109 @@
+-- Steps that leave what lies in the slots.
+use Rattle.std.proofs.Common.{◌≡◌, ◌∙◌, ℕ, ◌+◌, ◌<◌, ◌≤◌, ◌==◌, ◌||◌, Bool, true, false, ◌⊎◌, inl, inr, List, [], ◌∷◌, ◌++◌, map, length, set, refl, sym, ap, subst, arith, Option, Some, None}
+use Rattle.std.specs.List.{flat_map, list_any}
+use Rattle.std.specs.List.Sorted.{IsPermutation}
+use Rattle.std.proofs.lemmas.List.{append-nil, append_assoc}
+use Rattle.std.proofs.lemmas.Bool.{eqb-true}
+use Rattle.std.proofs.lemmas.List.Concat.{flat_map-append}
+use Rattle.std.proofs.lemmas.List.Sorted.{IsPermutation-refl, IsPermutation-sym, IsPermutation-trans, IsPermutation-append_left, IsPermutation-append_right}
+use Rattle.ept_scan.specs.declared.read_error.ReadError.{ReadError}
+use Rattle.ept_sample.specs.Members.{IsMember}
+use Rattle.ept_sample.proofs.Members.{member-any, IsMember-left, IsMember-right, IsMember-append}
+use Rattle.ept_sample.proofs.Choices.{or_cases, or_left, or_right}
+use Rattle.ept_core.specs.declared.flight.Flight.{Flight}
+use Rattle.ept_table.specs.declared.note.Told.{Told}
+use Rattle.ept_table.specs.declared.note.Note.{Note}
+use Rattle.ept_table.specs.declared.note.Carried.{Carried}
+use Rattle.ept_table.specs.declared.note.Draw.{Draw}
+use Rattle.ept_table.specs.declared.taken.Taken.{Taken}
+use Rattle.ept_table.specs.At.{At}
+use Rattle.ept_table.specs.View.{View, NotesFull, flights_of, all_flights}
+use Rattle.ept_table.specs.Shown.{IsOver, KeyOf, HasSlot, Drew, Holds}
+use Rattle.ept_table.specs.Steps.{holding, given_back, noting, with_parts, new_seat, joined, IsSpent, wishing, abandoned, together, lacks_slot}
+use Rattle.ept_table.proofs.Lists.{at-same, at-below, at-set, at-other, set-at, set-again, length-set, at-left, at-end, end-at, flat-out, set-set, set-apart}
+use Rattle.ept_table.proofs.Mirrors.{alike-holds}
+
+same_flights : (v : View) → IsPermutation (flights_of v) (flights_of v)
+same_flights v = IsPermutation-refl (flights_of v)
+
+module _ (told : Told) (drawn : ℕ) (items : List Taken) (views : List View) (i : ℕ) (v : View) (h : Holds told drawn items views) (at : At views i v) where
+  -- ---- a slot is taken
+
+  pub take-keeps : (k : ℕ) (x : Taken) → v.hold ≡ None → Holds told drawn items (set views i (holding v k x))
+  take-keeps k x free = alike-holds told drawn items views i v (holding v k x) at (record {
+    knows = h.seats.knows i v at;
+    idle = λ e. h.seats.idle i v at free;
+    spent = h.seats.spent i v at;
+    full = h.seats.full_above i v at;
+    given = omega arith;
+    failures = refl;
+    flights = same_flights v;
+    carried = λ c n. n;
+    draws = inl (h.seats.idle i v at free, h.seats.idle i v at free);
+  }) (λ n. n) h
+
+  -- ---- what is held is given back as it was taken
+
+  returned : v.note.draws ≡ [] → Holds told drawn items (set views i (given_back v v.note))
+  returned none = alike-holds told drawn items views i v (given_back v v.note) at (record {
+    knows = h.seats.knows i v at;
+    idle = λ e. none;
+    spent = h.seats.spent i v at;
+    full = h.seats.full_above i v at;
+    given = omega arith;
+    failures = refl;
+    flights = same_flights v;
+    carried = λ c n. n;
+    draws = inl (none, none);
+  }) (λ n. n) h
+
+  pub return-keeps : (k : ℕ) (x : Taken) → At items k x → v.note.draws ≡ [] → Holds told drawn (set items k x) (set views i (given_back v v.note))
+  return-keeps k x there none =
+      subst (λ (xs : List Taken). Holds told drawn xs (set views i (given_back v v.note))) (sym (set-again there)) (returned none)
+
+  -- ---- an octant is noted
+
+  pub wish-keeps : (o : ℕ) → Holds told drawn items (set views i (noting v (wishing v.note o)))
+  wish-keeps o = alike-holds told drawn items views i v (noting v (wishing v.note o)) at (record {
+    knows = h.seats.knows i v at;
+    idle = h.seats.idle i v at;
+    spent = h.seats.spent i v at;
+    full = h.seats.full_above i v at;
+    given = omega arith;
+    failures = refl;
+    flights = same_flights v;
+    carried = λ c n. n;
+    draws = inr (refl, refl, refl);
+  }) (λ n. n) h
+
+  -- ---- flights are abandoned
+
+  none_keyed : (slot : ℕ) (c : Carried) → slot ≡ 0 → HasSlot told drawn h.keys slot c.flight.key → IsOver told drawn
+  unfolding KeyOf
+  none_keyed slot c zero (inl over) = over.1
+  none_keyed slot c zero (inr key) =
+      let nowhere : KeyOf h.keys 0 c.flight.key = subst (λ (n : ℕ). KeyOf h.keys n c.flight.key) zero key in absurd nowhere
+
+  lacks_over : lacks_slot v.note.flights ≡ true → IsOver told drawn
+  lacks_over lacks =
+      let c = member-any (λ (c : Carried). c.slot == 0) v.note.flights lacks in
+      none_keyed c.0.slot c.0 (eqb-true c.0.slot 0 c.2) (h.tree.carried i v c.0 at c.1)
+
+  pub abandon-keeps : 0 < v.parts → v.hold ≡ None → Holds told drawn items (set views i (noting v (abandoned v.note)))
+  abandon-keeps some free = alike-holds told drawn items views i v (noting v (abandoned v.note)) at (record {
+    knows = h.seats.knows i v at;
+    idle = h.seats.idle i v at;
+    spent = λ e. absurd (omega (arith, e, some));
+    full = λ n. elim n [
+      | inl more ↦ h.seats.full_above i v at (inl more)
+      | inr over ↦ elim (or_cases v.note.over (lacks_slot v.note.flights) over) [
+          | inl was ↦ h.seats.full_above i v at (inr was)
+          | inr lacks ↦ lacks_over lacks
+        ]
+    ];
+    given = omega arith;
+    failures = refl;
+    flights = same_flights v;
+    carried = λ c n. absurd n;
+    draws = inl (h.seats.idle i v at free, h.seats.idle i v at free);
+  }) (λ n. elim n [ inl more ↦ inl more | inr over ↦ inr (or_left v.note.over (lacks_slot v.note.flights) over) ]) h

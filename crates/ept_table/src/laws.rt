@@ -1,0 +1,55 @@
+//! The laws of a table, each on the contract of a function that does nothing.
+
+ghost use Rattle.ept_table.specs.Laws.{TakeKeeps, ReturnKeeps, WishKeeps, AbandonKeeps, SplitKeeps, JoinKeeps, ReadKeeps, DrawKeeps, RefusalKeeps, RefusalIsTrue, ArrivalKeeps, TakeFits, LackIsTooMany, FullIsTooMany, StateKeepsLaw, FirstSeatHolds, BeginningIsLanded, LastSeatTells, LandedIsSampling};
+
+/// A seat may take a slot, give it back as it was, note an octant and abandon its flights.
+pub fn move_law()
+    ensures take { TakeKeeps }
+    ensures give_back { ReturnKeeps }
+    ensures wish { WishKeeps }
+    ensures abandon { AbandonKeeps }
+{}
+
+/// A seat may be divided, and may end in another.
+pub fn seat_law()
+    ensures split { SplitKeeps }
+    ensures join { JoinKeeps }
+{}
+
+/// The reader may be given back with points drawn.
+pub fn read_law()
+    ensures { ReadKeeps }
+{}
+
+/// A slot may be drawn for the child of an octant. Where all are drawn that is refused, and the sampling has more nodes.
+pub fn draw_law()
+    ensures draw { DrawKeeps }
+    ensures refusal { RefusalKeeps }
+    ensures too_many { RefusalIsTrue }
+{}
+
+/// A node may be given back at which a flight has arrived.
+pub fn arrival_law()
+    ensures { ArrivalKeeps }
+{}
+
+/// What a seat takes fits it, and where slots are lacking there may not be as many nodes as the sampling has.
+pub fn take_law()
+    ensures fits { TakeFits }
+    ensures lacks { LackIsTooMany }
+    ensures full { FullIsTooMany }
+{}
+
+/// At every moment the table and its seats show a state that keeps the law of the machine.
+pub fn state_law()
+    ensures { StateKeepsLaw }
+{}
+
+/// How a table begins and how it ends. Where nothing flies at the end, the nodes are the sampling of the
+/// points that were drawn.
+pub fn end_law()
+    ensures first { FirstSeatHolds }
+    ensures beginning { BeginningIsLanded }
+    ensures last { LastSeatTells }
+    ensures sampling { LandedIsSampling }
+{}

@@ -1,0 +1,15 @@
+//! The table of an octree's nodes: each node stands in a slot of its own, and points are brought down
+//! to them by seats, which take one item at a time.
+//!
+//! At every moment the table and its seats show a state of `ept_core`'s machine.
+#![tactic(auto)]
+
+mod laws;
+mod note;
+mod taken;
+
+pub use laws::{
+    arrival_law, draw_law, end_law, move_law, read_law, seat_law, state_law, take_law,
+};
+pub use note::{Carried, Counted, Draw, Note, Told};
+pub use taken::{Cell, Progress, Taken};

@@ -1,0 +1,63 @@
+//! What a seat knows of the table. It is for proofs: no value of these types is made.
+
+use ept_core::Flight;
+use ept_point::{List, Point};
+use ept_scan::ReadError;
+use ept_space::{Bounds, Rules};
+
+/// An input, as the first reading has found it: its place in the list of inputs, how many points it has,
+/// and where they lie.
+pub struct Counted {
+    pub origin: u32,
+    pub points: u32,
+    pub limits: Option<Bounds>,
+}
+
+/// What a table is told once, and each seat knows.
+pub struct Told {
+    /// The rules of the sampling.
+    pub rules: Rules,
+    /// All points, where files and sources tell.
+    pub points: List<Point>,
+    /// How many nodes there may be.
+    pub most: u32,
+    /// How many points are drawn at the end of the reader's allowance.
+    pub end: u64,
+    /// How many points the inputs have.
+    pub total: u64,
+    /// The inputs that the reader has.
+    pub inputs: List<Counted>,
+    /// Files and sources tell what they hold.
+    pub tells: bool,
+}
+
+/// A flight, and the slot of the node that it goes to: 0 where there is none.
+pub struct Carried {
+    pub slot: u32,
+    pub flight: Flight,
+}
+
+/// A slot that was drawn for the child of an octant.
+pub struct Draw {
+    pub slot: u32,
+    pub octant: u8,
+}
+
+/// What a seat notes.
+pub struct Note {
+    pub told: Told,
+    /// The flights that it carries.
+    pub flights: List<Carried>,
+    /// The flights that it, or a seat that it joined, abandoned.
+    pub gone: List<Flight>,
+    /// The slots drawn in this visit.
+    pub draws: List<Draw>,
+    /// The octant for which a slot is drawn next.
+    pub wish: u8,
+    /// It abandoned a flight without a slot.
+    pub over: bool,
+    /// How many points were drawn as it last gave the reader back.
+    pub given: u64,
+    /// The refusals by which the reader that it gave back has failed.
+    pub failures: List<ReadError>,
+}
