@@ -307,25 +307,23 @@ const ENDS: &str = r#"
 #[test]
 fn reads_defaults(rt: HostRuntime) -> Result<(), Fail> {
     let config = read_config(rt.alloc(), br#"{"input":"a.las","scale":2}"#)?;
-    same(&rt, &config.scale, &2);
-    same(&rt, &config.offset, &[0, 0, 0]);
+    same(&rt, &(config.scale, config.offset), &(2, [0, 0, 0]));
     same(&rt, &config.bounds, &None);
-    same(&rt, &config.s, &7);
-    same(&rt, &config.threshold, &4096);
-    same(&rt, &config.max_depth, &32);
-    same(&rt, &config.step, &0);
+    same(&rt, &(config.s, config.threshold), &(7, 4096));
+    same(&rt, &(config.max_depth, config.step), &(32, 0));
     assert!(rt; config.srs.authority.is_none());
     assert!(rt; config.srs.horizontal.is_none());
     assert!(rt; config.srs.vertical.is_none());
     assert!(rt; config.srs.wkt.is_none());
-    same(&rt, &config.threads, &4);
-    same(&rt, &config.cache, &64);
-    same(&rt, &config.max_nodes, &65_536);
-    same(&rt, &config.checkpoint, &10_000_000);
+    same(&rt, &(config.threads, config.cache), &(4, 64));
+    same(
+        &rt,
+        &(config.max_nodes, config.checkpoint),
+        &(65_536, 10_000_000),
+    );
     assert_eq!(rt; config.inputs.as_slice().len(), 1);
     let input = config.input(0);
-    same(&rt, &input.path.as_str(), &"a.las");
-    same(&rt, &input.scale, &2);
+    same(&rt, &(input.path.as_str(), input.scale), &("a.las", 2));
     same(&rt, &input.shift, &[0, 0, 0]);
     same(&rt, &input.expect, &None);
     Ok(())
@@ -344,40 +342,45 @@ const FULL: &str = r#"{
 #[test]
 fn reads_each_key(rt: HostRuntime) -> Result<(), Fail> {
     let config = read_config(rt.alloc(), FULL.as_bytes())?;
-    same(&rt, &config.scale, &3);
-    same(&rt, &config.offset, &[500_000, -5_000_000, 7]);
+    same(
+        &rt,
+        &(config.scale, config.offset),
+        &(3, [500_000, -5_000_000, 7]),
+    );
     let bounds = Bounds {
         min: [-1, -2, -3],
         max: [4, 5, 6],
     };
     same(&rt, &config.bounds, &Some(bounds));
-    same(&rt, &config.s, &4);
-    same(&rt, &config.threshold, &3);
-    same(&rt, &config.max_depth, &5);
-    same(&rt, &config.step, &6);
+    same(&rt, &(config.s, config.threshold), &(4, 3));
+    same(&rt, &(config.max_depth, config.step), &(5, 6));
     same(&rt, &text_of(&config.srs.authority), &"EPSG");
     same(&rt, &text_of(&config.srs.horizontal), &"25832");
     same(&rt, &text_of(&config.srs.vertical), &"7837");
     same(&rt, &text_of(&config.srs.wkt), &"");
-    same(&rt, &config.threads, &7);
-    same(&rt, &config.cache, &8);
-    same(&rt, &config.max_nodes, &9);
-    same(&rt, &config.checkpoint, &2);
+    same(&rt, &(config.threads, config.cache), &(7, 8));
+    same(&rt, &(config.max_nodes, config.checkpoint), &(9, 2));
+    Ok(())
+}
+
+#[test]
+fn reads_each_key_of_an_input(rt: HostRuntime) -> Result<(), Fail> {
+    let config = read_config(rt.alloc(), FULL.as_bytes())?;
     let [first, second] = config.inputs.as_slice() else {
         return Err(Fail::new("another number of inputs"));
     };
-    same(&rt, &first.path.as_str(), &"a b.las");
-    same(&rt, &first.scale, &3);
-    same(&rt, &second.path.as_str(), &"\u{e4}.las");
-    same(&rt, &second.scale, &1);
+    same(&rt, &(first.path.as_str(), first.scale), &("a b.las", 3));
+    same(
+        &rt,
+        &(second.path.as_str(), second.scale),
+        &("\u{e4}.las", 1),
+    );
     same(&rt, &second.shift, &[-8, 9, 10]);
     let Some(expect) = second.expect else {
         return Err(Fail::new("no expected bytes"));
     };
-    same(&rt, &expect[0], &0);
-    same(&rt, &expect[10], &10);
-    same(&rt, &expect[46], &46);
-    same(&rt, &expect[47], &255);
+    same(&rt, &(expect[0], expect[10]), &(0, 10));
+    same(&rt, &(expect[46], expect[47]), &(46, 255));
     Ok(())
 }
 

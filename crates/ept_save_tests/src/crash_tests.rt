@@ -26,13 +26,19 @@ fn points(intensity: u16) -> [Point; 2] {
 fn saved_store(alloc: Global) -> Result<MemStore, Fail> {
     let mut tile = Vec::new(alloc);
     tile_bytes(&points(0), &mut tile)?;
+    let body_a = packed_body(alloc, 2, 2)?;
+    let body_b = packed_body(alloc, 1, 2)?;
     let mut files = Vec::new(alloc);
-    files.push(file(alloc, "ept-work/gate-a", &[1])?)?;
-    files.push(file(alloc, "ept-work/gate-b", &[1])?)?;
-    files.push(file(alloc, "ept-work/body-a", &packed_body(alloc, 2, 2)?)?)?;
-    files.push(file(alloc, "ept-work/body-b", &packed_body(alloc, 1, 2)?)?)?;
-    files.push(file(alloc, "ept-work/a/0-0-0-0.bin", &tile)?)?;
-    files.push(file(alloc, "ept-work/done", &[1])?)?;
+    for (name, bytes) in [
+        ("ept-work/gate-a", [1].as_slice()),
+        ("ept-work/gate-b", &[1]),
+        ("ept-work/body-a", &body_a),
+        ("ept-work/body-b", &body_b),
+        ("ept-work/a/0-0-0-0.bin", &tile),
+        ("ept-work/done", &[1]),
+    ] {
+        files.push(file(alloc, name, bytes)?)?;
+    }
     Ok(MemStore::new(alloc, files, Vec::new(alloc)))
 }
 

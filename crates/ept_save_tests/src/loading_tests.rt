@@ -55,35 +55,19 @@ fn a_root_is_loaded_and_a_damaged_one_is_told(rt: HostRuntime) -> Result<(), Fai
     let (first, second) = (point(0, [1, 1, 1], 0), point(1, [2, 2, 2], 0));
     let tile = tile_of(alloc, &[first, second])?;
     same(&rt, &loaded(alloc, Some(&tile))?, &Ok((2, 2)));
-    let damaged = Err(SaveError::TileDamaged { key: Key::ROOT });
-    same_at(&rt, &loaded(alloc, None)?, &damaged, &"it is absent");
-    same_at(
-        &rt,
-        &loaded(alloc, Some(without_end(&tile)))?,
-        &damaged,
-        &"it is cut by one byte",
-    );
     let fewer = tile_of(alloc, &[first])?;
-    same_at(
-        &rt,
-        &loaded(alloc, Some(&fewer))?,
-        &damaged,
-        &"it has another count",
-    );
     let swapped = tile_of(alloc, &[second, first])?;
-    same_at(
-        &rt,
-        &loaded(alloc, Some(&swapped))?,
-        &damaged,
-        &"the ids do not ascend",
-    );
     let outside = tile_of(alloc, &[first, point(1, [2, 2, 9], 0)])?;
-    same_at(
-        &rt,
-        &loaded(alloc, Some(&outside))?,
-        &damaged,
-        &"a point is outside",
-    );
+    let damaged = Err(SaveError::TileDamaged { key: Key::ROOT });
+    for (tile, context) in [
+        (None, "it is absent"),
+        (Some(without_end(&tile)), "it is cut by one byte"),
+        (Some(fewer.as_slice()), "it has another count"),
+        (Some(swapped.as_slice()), "the ids do not ascend"),
+        (Some(outside.as_slice()), "a point is outside"),
+    ] {
+        same_at(&rt, &loaded(alloc, tile)?, &damaged, &context);
+    }
     Ok(())
 }
 

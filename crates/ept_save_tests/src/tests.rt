@@ -46,20 +46,23 @@ pub(crate) fn packed_body(
     generation: u8,
     points: u8,
 ) -> Result<Vec<u8>, AllocError> {
-    let mut bytes = Vec::from_slice(alloc, b"EPTW\x01\0\0\0")?;
-    bytes.extend_from_slice(&[generation, 0, 0, 0, 0, 0, 0, 0])?;
-    bytes.extend_from_slice(
+    let mut bytes = Vec::new(alloc);
+    for piece in [
+        b"EPTW\x01\0\0\0".as_slice(),
+        &[generation, 0, 0, 0, 0, 0, 0, 0],
         b"\x02\x01\x01\0\x03\0\0\0\
         \0\0\0\0\0\0\0\0\0\0\0\0\0\0\0\0\0\0\0\0\0\0\0\0\
         \0\0\0\0\0\0\0\0\0\0\0\0\x03\0\0\0\x03\0\0\0\x03\0\0\0\0\
         \x01\0\0\0\x05\0\0\0a.las\x02\0\0\0\0\0\0\0\0\0\0\0\0\0\0\0\0\0\0\0\0\0\0\0\0\0",
-    )?;
-    bytes.extend_from_slice(&[points, 0, 0, 0, 0, 0, 0, 0])?;
-    bytes.extend_from_slice(b"\x01\x01\0\0\0\x01\0\0\0\x01\0\0\0\x02\0\0\0\x02\0\0\0\x02\0\0\0")?;
-    bytes.extend_from_slice(&[points, 0, 0, 0, 0, 0, 0, 0])?;
-    bytes.extend_from_slice(b"\x01\0\0\0\0\0\0\0\0\0\0\0\0\0\0\0\0")?;
-    bytes.extend_from_slice(&[points, 0, 0, 0, 0, 0, 0, 0])?;
-    bytes.extend_from_slice(&[0, 0])?;
+        &[points, 0, 0, 0, 0, 0, 0, 0],
+        b"\x01\x01\0\0\0\x01\0\0\0\x01\0\0\0\x02\0\0\0\x02\0\0\0\x02\0\0\0",
+        &[points, 0, 0, 0, 0, 0, 0, 0],
+        b"\x01\0\0\0\0\0\0\0\0\0\0\0\0\0\0\0\0",
+        &[points, 0, 0, 0, 0, 0, 0, 0],
+        &[0, 0],
+    ] {
+        bytes.extend_from_slice(piece)?;
+    }
     Ok(bytes)
 }
 
@@ -95,19 +98,21 @@ pub(crate) fn file(
     name: &str,
     bytes: &[u8],
 ) -> Result<(String, Vec<u8>), AllocError> {
-    Ok((
-        String::from_str(alloc, name)?,
-        Vec::from_slice(alloc, bytes)?,
-    ))
+    let name = String::from_str(alloc, name)?;
+    Ok((name, Vec::from_slice(alloc, bytes)?))
 }
 
 // A store in which both gates hold these bytes, and both bodies are that of the checkpoint, or b's is absent.
 fn store_of(alloc: Global, a: &[u8], b: &[u8], has_b: bool) -> Result<MemStore, AllocError> {
     let body = body(alloc)?;
     let mut files = Vec::new(alloc);
-    files.push(file(alloc, "ept-work/gate-a", a)?)?;
-    files.push(file(alloc, "ept-work/gate-b", b)?)?;
-    files.push(file(alloc, "ept-work/body-a", &body)?)?;
+    for (name, bytes) in [
+        ("ept-work/gate-a", a),
+        ("ept-work/gate-b", b),
+        ("ept-work/body-a", &body),
+    ] {
+        files.push(file(alloc, name, bytes)?)?;
+    }
     if has_b {
         files.push(file(alloc, "ept-work/body-b", &body)?)?;
     }
@@ -117,10 +122,6 @@ fn store_of(alloc: Global, a: &[u8], b: &[u8], has_b: bool) -> Result<MemStore, 
 fn generation(alloc: Global, store: &mut MemStore) -> Result<Option<u64>, SaveError> {
     let saved = open(alloc, store)?;
     Ok(saved.current().map(|c| c.generation))
-}
-
-fn is_bad_b(found: Result<Option<u64>, SaveError>) -> bool {
-    matches!(found, Err(SaveError::BadCheckpoint { letter: Letter::B }))
 }
 
 fn length_of(store: &MemStore, name: &str) -> Option<usize> {
@@ -134,10 +135,11 @@ fn the_counted_checkpoint_is_found_and_a_bad_one_is_told(rt: HostRuntime) -> Res
     same(&rt, &generation(alloc, &mut none), &Ok(None));
     let mut one = store_of(alloc, &[1], &[2], false)?;
     same(&rt, &generation(alloc, &mut one), &Ok(Some(1)));
+    let bad_b = Err(SaveError::BadCheckpoint { letter: Letter::B });
     let mut alike = store_of(alloc, &[1], &[1], true)?;
-    assert!(rt; is_bad_b(generation(alloc, &mut alike)));
+    same(&rt, &generation(alloc, &mut alike), &bad_b);
     let mut absent = store_of(alloc, &[1], &[1], false)?;
-    assert!(rt; is_bad_b(generation(alloc, &mut absent)));
+    same(&rt, &generation(alloc, &mut absent), &bad_b);
     Ok(())
 }
 
