@@ -2,10 +2,11 @@
 
 ghost use Rattle.std.specs.Prelude.{[]};
 
+use ept_fixtures::{point, small_rules};
 use ept_grid::{Grid, GridError, Outgoing};
 use ept_point::Point;
 use ept_sample::ids_ascend;
-use ept_space::{Cube, Key, Rules};
+use ept_space::Key;
 use std::alloc::{AllocError, Global};
 use std::fmt::Debug;
 use std::process::Abort;
@@ -99,44 +100,6 @@ static CASES: [Case<'static>; 7] = [
     },
 ];
 
-// The rules over the bounds 0 to 7 on each axis, with a span of 2 cells.
-fn rules(threshold: u64) -> Rules {
-    let cube = Cube {
-        corner: [0, 0, 0],
-        e: 3,
-        s: 1,
-        depth: 2,
-    };
-    Rules { cube, threshold }
-}
-
-// A point of which only the id and the place matter.
-fn point(number: u32, place: [i32; 3]) -> Point {
-    Point {
-        x: place[0],
-        y: place[1],
-        z: place[2],
-        intensity: 0,
-        return_number: 1,
-        number_of_returns: 1,
-        scan_direction: 0,
-        edge: 0,
-        class: 0,
-        class_flags: 0,
-        channel: 0,
-        angle_rank: 0,
-        angle: 0,
-        user: 0,
-        source_id: 0,
-        gps: [0; 8],
-        red: 0,
-        green: 0,
-        blue: 0,
-        origin: 0,
-        number,
-    }
-}
-
 fn points_of(alloc: Global, recorded: &[Recorded]) -> Result<Vec<Point>, AllocError> {
     let mut points = Vec::new(alloc);
     for (number, place) in recorded {
@@ -165,7 +128,7 @@ fn feed(grid: &mut Grid, point: Point, out: &mut Outgoing) -> Result<(), Fail> {
 #[test]
 fn takes_in_the_worked_points(rt: HostRuntime) -> Result<(), Fail> {
     for case in CASES.iter() {
-        let mut grid = Grid::new(rt.alloc(), Key::ROOT, &rules(case.threshold));
+        let mut grid = Grid::new(rt.alloc(), Key::ROOT, &small_rules(case.threshold));
         let mut out = Outgoing::new(rt.alloc());
         for (number, place) in case.points {
             feed(&mut grid, point(*number, *place), &mut out)?;
@@ -218,7 +181,7 @@ fn makes_nodes_of_tiles(rt: HostRuntime) -> Result<(), Fail> {
         (root, 2, 2, &[(0, ONE), (1, ONE), (2, ONE)], None),
     ];
     for (key, threshold, mask, recorded, fault) in cases {
-        let rules = rules(threshold);
+        let rules = small_rules(threshold);
         let points = points_of(rt.alloc(), recorded)?;
         assert!(rt; ids_ascend(points.as_slice()));
         assert!(rt; key.depth <= rules.cube.depth);

@@ -3,8 +3,8 @@
 ghost use Rattle.std.specs.Prelude.{◌≡◌, ◌<◌};
 
 use crate::tests::same;
+use ept_fixtures::point;
 use ept_grid::{Grid, Outgoing, Steps};
-use ept_point::Point;
 use ept_space::{Cube, Key, Rules};
 use std::marker::Brand;
 use std::sync::ledger::{Blank, Ledger};
@@ -12,33 +12,6 @@ use std::test::Fail;
 
 // The number of each point, and its place.
 const POINTS: [(u32, [i32; 3]); 3] = [(0, [1, 1, 1]), (1, [1, 1, 5]), (2, [5, 5, 5])];
-
-// A point of which only the id and the place matter.
-fn point(number: u32, place: [i32; 3]) -> Point {
-    Point {
-        x: place[0],
-        y: place[1],
-        z: place[2],
-        intensity: 0,
-        return_number: 1,
-        number_of_returns: 1,
-        scan_direction: 0,
-        edge: 0,
-        class: 0,
-        class_flags: 0,
-        channel: 0,
-        angle_rank: 0,
-        angle: 0,
-        user: 0,
-        source_id: 0,
-        gps: [0; 8],
-        red: 0,
-        green: 0,
-        blue: 0,
-        origin: 0,
-        number,
-    }
-}
 
 // The number of the winner of a cell, where the cell lies in the node's box and has one.
 fn number_of_winner<L: Ledger>(grid: &Grid, cell: [u32; 3], blank: Blank) -> Option<u32>

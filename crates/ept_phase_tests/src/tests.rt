@@ -26,29 +26,7 @@ fn same_at<T: PartialEq + Debug, P: Debug>(rt: &impl Abort, found: &T, wanted: &
 
 // A point of the first input.
 fn point(number: u32, place: i32) -> Point {
-    Point {
-        x: place,
-        y: place,
-        z: place,
-        intensity: 0,
-        return_number: 1,
-        number_of_returns: 1,
-        scan_direction: 0,
-        edge: 0,
-        class: 0,
-        class_flags: 0,
-        channel: 0,
-        angle_rank: 0,
-        angle: 0,
-        user: 0,
-        source_id: 0,
-        gps: [0; 8],
-        red: 0,
-        green: 0,
-        blue: 0,
-        origin: 0,
-        number,
-    }
+    ept_fixtures::point(number, [place; 3])
 }
 
 // The body of a checkpoint of one input with three points between 0 and 3 on each axis, where an octant opens
