@@ -1,6 +1,6 @@
 //! Builds that are stopped and run again, and builds to which inputs are added.
 
-use crate::tests::{FIRST, Refusal, at, file, las, told};
+use crate::tests::{FIRST, Refusal, at, file, las, same, same_at, told};
 use ept_base::OpenGate;
 use ept_build::{Summary, build};
 use ept_config::read_config;
@@ -29,12 +29,17 @@ fn shelf(alloc: Global) -> Result<MemShelf, AllocError> {
     let mut files = Vec::new(alloc);
     let first: [&[u8]; 3] = [&at(1, 1, 1), &at(2, 2, 2), &at(3, 3, 3)];
     let second: [&[u8]; 3] = [&at(1, 1, 1), &at(6, 6, 6), &at(5, 5, 5)];
-    files.push(file(alloc, "a.las", las(alloc, &FIRST, &first)?)?)?;
-    files.push(file(alloc, "b.las", las(alloc, &FIRST, &second)?)?)?;
-    files.push(file(alloc, "c.las", las(alloc, &FIRST, &[&at(0, 7, 0)])?)?)?;
+    let third: [&[u8]; 1] = [&at(0, 7, 0)];
     let one = at(1, 1, 1);
-    let five: [&[u8]; 5] = [&one, &one, &one, &one, &one];
-    files.push(file(alloc, "d.las", las(alloc, &FIRST, &five)?)?)?;
+    let fourth: [&[u8]; 5] = [&one, &one, &one, &one, &one];
+    for (name, records) in [
+        ("a.las", first.as_slice()),
+        ("b.las", second.as_slice()),
+        ("c.las", third.as_slice()),
+        ("d.las", fourth.as_slice()),
+    ] {
+        files.push(file(alloc, name, las(alloc, &FIRST, records)?)?)?;
+    }
     Ok(MemShelf::new(alloc, files, Vec::new(alloc), Vec::new(alloc)))
 }
 
@@ -91,7 +96,7 @@ fn current(alloc: Global, store: &mut MemStore) -> Result<(u64, u64), AllocError
 /// Compares the files of the output of two stores.
 fn compare(rt: &impl Abort, left: &MemStore, want: &MemStore, context: &str) {
     for name in NAMES {
-        assert_eq!(rt; left.file(name), want.file(name), "{name} {context}");
+        same_at(rt, &left.file(name), &want.file(name), &(name, context));
     }
 }
 
@@ -105,9 +110,13 @@ fn a_stopped_build_goes_on(rt: HostRuntime) -> Result<(), Fail> {
         nodes: 4,
     });
     let mut whole = empty(alloc);
-    assert_eq!(rt; built(alloc, &mut whole, TWO, 2)?, done);
-    assert_eq!(rt; whole.file("ept-hierarchy/0-0-0-0.json"), Some(HIERARCHY));
-    assert_eq!(rt; current(alloc, &mut whole)?, (6, 3));
+    same(&rt, &built(alloc, &mut whole, TWO, 2)?, &done);
+    same(
+        &rt,
+        &whole.file("ept-hierarchy/0-0-0-0.json"),
+        &Some(HIERARCHY),
+    );
+    same(&rt, &current(alloc, &mut whole)?, &(6, 3));
     let mut first = u64::MAX;
     for calls in 0..70 {
         for how in [Crash::Old, Crash::New, Crash::Absent, Crash::Junk] {
@@ -120,7 +129,7 @@ fn a_stopped_build_goes_on(rt: HostRuntime) -> Result<(), Fail> {
                 inserted <= 6 && inserted % 2 == 0 && generation == inserted / 2,
                 "{calls} {inserted}"
             );
-            assert_eq!(rt; built(alloc, &mut store, TWO, 2)?, done, "{calls}");
+            same_at(&rt, &built(alloc, &mut store, TWO, 2)?, &done, &calls);
             compare(&rt, &store, &whole, "again");
         }
     }
@@ -138,26 +147,32 @@ fn an_input_is_added(rt: HostRuntime) -> Result<(), Fail> {
         nodes: 4,
     });
     let mut whole = empty(alloc);
-    assert_eq!(rt; built(alloc, &mut whole, THREE, 2)?, done);
+    same(&rt, &built(alloc, &mut whole, THREE, 2)?, &done);
     let mut store = empty(alloc);
     assert!(rt; built(alloc, &mut store, TWO, 2)?.is_ok());
-    assert_eq!(rt; built(alloc, &mut store, THREE, 2)?, done);
+    same(&rt, &built(alloc, &mut store, THREE, 2)?, &done);
     compare(&rt, &store, &whole, "added");
-    assert_eq!(rt; current(alloc, &mut whole)?, (7, 4));
-    assert_eq!(rt; current(alloc, &mut store)?, (7, 4));
-    assert_eq!(rt;
-        store
+    same(&rt, &current(alloc, &mut whole)?, &(7, 4));
+    same(&rt, &current(alloc, &mut store)?, &(7, 4));
+    same(
+        &rt,
+        &store
             .file("ept-data/0-0-0-0.bin")
             .map_or(0, |bytes| bytes.len()),
-        3 * 49
+        &(3 * 49),
     );
     let differs = Err(Refusal::Differs { field: Field::Span });
-    assert_eq!(rt; built(alloc, &mut store, THREE, 4)?, differs);
     let fewer = Err(Refusal::Differs {
         field: Field::Input,
     });
-    assert_eq!(rt; built(alloc, &mut store, TWO, 2)?, fewer);
-    assert_eq!(rt; built(alloc, &mut store, THREE, 2)?, done);
+    for (inputs, span, answer) in [(THREE, 4, differs), (TWO, 2, fewer), (THREE, 2, done)] {
+        same_at(
+            &rt,
+            &built(alloc, &mut store, inputs, span)?,
+            &answer,
+            &inputs,
+        );
+    }
     compare(&rt, &store, &whole, "again");
     Ok(())
 }
@@ -181,16 +196,18 @@ fn phases_before_too_many_nodes_are_kept(rt: HostRuntime) -> Result<(), Fail> {
         (3, done, (5, 3)),
         (1, done, (5, 3)),
     ] {
-        assert_eq!(rt;
-            built_by(alloc, &mut store, "\"d.las\"", 2, most)?,
-            answer,
-            "{most}"
+        same_at(
+            &rt,
+            &built_by(alloc, &mut store, "\"d.las\"", 2, most)?,
+            &answer,
+            &most,
         );
-        assert_eq!(rt; current(alloc, &mut store)?, left, "{most}");
+        same_at(&rt, &current(alloc, &mut store)?, &left, &most);
     }
-    assert_eq!(rt;
-        store.file("ept-hierarchy/0-0-0-0.json"),
-        Some(b"{\"0-0-0-0\":1,\"1-0-0-0\":1,\"2-0-0-0\":3}".as_slice())
+    same(
+        &rt,
+        &store.file("ept-hierarchy/0-0-0-0.json"),
+        &Some(b"{\"0-0-0-0\":1,\"1-0-0-0\":1,\"2-0-0-0\":3}".as_slice()),
     );
     Ok(())
 }

@@ -6,8 +6,23 @@ use ept_config::read_config;
 use ept_mem::{MemRoom, MemShelf, MemStore};
 use ept_meta::Field;
 use std::alloc::{AllocError, Global};
+use std::fmt::Debug;
 use std::process::Abort;
 use std::test::Fail;
+
+// What `assert_eq!` writes is proved wherever it stands, so it stands here once.
+pub(crate) fn same<T: PartialEq + Debug>(rt: &impl Abort, found: &T, wanted: &T) {
+    assert_eq!(rt; found, wanted);
+}
+
+pub(crate) fn same_at<T: PartialEq + Debug, P: Debug>(
+    rt: &impl Abort,
+    found: &T,
+    wanted: &T,
+    place: &P,
+) {
+    assert_eq!(rt; found, wanted, "at {place:?}");
+}
 
 /// The fields of a LAS header that differ between the test's files.
 pub(crate) struct Kind {
@@ -158,11 +173,11 @@ fn compare(
     want: Result<Summary, Refusal>,
     files: &[(&str, Option<&[u8]>)],
 ) {
-    assert_eq!(rt; told(&left.answer), want);
+    same(rt, &told(&left.answer), &want);
     for (name, bytes) in files {
-        assert_eq!(rt; left.store.file(name), *bytes, "{name}");
+        same_at(rt, &left.store.file(name), bytes, name);
     }
-    assert_eq!(rt; left.store.file("other"), Some(b"kept".as_slice()));
+    same(rt, &left.store.file("other"), &Some(b"kept".as_slice()));
 }
 
 const SMALLEST: &str = "{\"input\":\"a.las\",\"scale\":2,\"bounds\":[0,0,0,7,7,7],\"span\":2}";
@@ -245,7 +260,7 @@ fn a_deeper_node_is_linked(rt: HostRuntime) -> Result<(), Fail> {
                 ("ept-hierarchy/2-0-0-0.json", is_built.then_some(last)),
             ],
         );
-        assert_eq!(rt; left.store.file("ept.json").is_some(), is_built);
+        same(&rt, &left.store.file("ept.json").is_some(), &is_built);
     }
     Ok(())
 }
@@ -356,13 +371,19 @@ fn each_call_of_the_store_may_fail(rt: HostRuntime) -> Result<(), Fail> {
             })
         };
         compare(&rt, &left, want, &[]);
-        assert_eq!(rt;
-            left.store.file("ept-build.json").is_some(),
-            call > 15,
-            "{call}"
+        same_at(
+            &rt,
+            &left.store.file("ept-build.json").is_some(),
+            &(call > 15),
+            &call,
         );
         let gate = left.store.file("ept-work/done");
-        assert_eq!(rt; gate == Some(b"\x01".as_slice()), call > 18, "{call}");
+        same_at(
+            &rt,
+            &(gate == Some(b"\x01".as_slice())),
+            &(call > 18),
+            &call,
+        );
     }
     Ok(())
 }
@@ -397,7 +418,7 @@ fn refused_inputs_leave_nothing(rt: HostRuntime) -> Result<(), Fail> {
         )?;
         let left = build_of(alloc, text.as_str(), files, None)?;
         compare(&rt, &left, want, &[]);
-        assert_eq!(rt; left.store.file("ept.json").is_some(), want.is_ok());
+        same(&rt, &left.store.file("ept.json").is_some(), &want.is_ok());
     }
     Ok(())
 }

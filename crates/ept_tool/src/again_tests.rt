@@ -1,6 +1,6 @@
 //! Builds over a folder that an earlier build has left.
 
-use crate::tests::{BUILD, at, file, las, texts};
+use crate::tests::{BUILD, at, file, las, same, same_at, texts};
 use ept_base::{OpenGate, Store};
 use ept_mem::{Crash, MemRoom, MemShelf, MemSink, MemStore};
 use ept_run::run;
@@ -98,8 +98,8 @@ fn expect(
     if found.out.bytes() != line.as_bytes() {
         found = build(alloc, store, configuration)?;
     }
-    assert_eq!(rt; found.status, status, "{line}");
-    assert_eq!(rt; found.out.bytes(), line.as_bytes(), "{line}");
+    same_at(rt, &found.status, &status, &line);
+    same_at(rt, &found.out.bytes(), &line.as_bytes(), &line);
     Ok(())
 }
 
@@ -143,14 +143,14 @@ fn expect_kept(rt: &impl Abort, alloc: Global) -> Result<(), AllocError> {
     ] {
         expect(rt, alloc, &mut store, configuration, want)?;
         for name in NAMES {
-            assert_eq!(rt; store.file(name), whole.file(name), "{name}");
+            same_at(rt, &store.file(name), &whole.file(name), &name);
         }
     }
     let mut both = MemStore::new(alloc, Vec::new(alloc), Vec::new(alloc));
     expect(rt, alloc, &mut both, BOTH, (0, "points 2 nodes 1\n"))?;
     expect(rt, alloc, &mut store, BOTH, (0, "points 2 nodes 1\n"))?;
     for name in NAMES {
-        assert_eq!(rt; store.file(name), both.file(name), "{name}");
+        same_at(rt, &store.file(name), &both.file(name), &name);
     }
     Ok(())
 }
@@ -178,7 +178,7 @@ fn expect_damage(rt: &impl Abort, alloc: Global) -> Result<(), AllocError> {
 /// Compares the files of the output, with these tiles, of two stores.
 fn compare(rt: &impl Abort, found: &MemStore, want: &MemStore, context: &str) {
     for name in NAMES.iter().chain(&TILES) {
-        assert_eq!(rt; found.file(name), want.file(name), "{name} {context}");
+        same_at(rt, &found.file(name), &want.file(name), &(name, context));
     }
 }
 
@@ -233,9 +233,10 @@ fn expect_phases(rt: &impl Abort, alloc: Global) -> Result<(), AllocError> {
             configuration,
             (0, "points 5 nodes 3\n"),
         )?;
-        assert_eq!(rt;
-            store.file("ept-hierarchy/0-0-0-0.json"),
-            Some(b"{\"0-0-0-0\":1,\"1-0-0-0\":1,\"2-0-0-0\":3}".as_slice())
+        same(
+            rt,
+            &store.file("ept-hierarchy/0-0-0-0.json"),
+            &Some(b"{\"0-0-0-0\":1,\"1-0-0-0\":1,\"2-0-0-0\":3}".as_slice()),
         );
     }
     Ok(())

@@ -1,6 +1,6 @@
 //! The sentences of refusals: each line, and what is said of it.
 
-use crate::tests::{at, file, las, texts};
+use crate::tests::{at, file, las, same, same_at, texts};
 use ept_base::OpenGate;
 use ept_mem::{MemRoom, MemShelf, MemSink, MemStore};
 use ept_messages::{Differing, Names, difference_sentence, message};
@@ -55,7 +55,7 @@ fn expect_over(
     let Ok(found) = message(alloc, &words, line, "flights/b.las", &mut shelf, store) else {
         return Err(AllocError);
     };
-    assert_eq!(rt; found.as_ref().map(|text| text.as_str()), want, "{line}");
+    same_at(rt, &found.as_ref().map(|text| text.as_str()), &want, &line);
     Ok(())
 }
 
@@ -281,7 +281,7 @@ fn both_values_of_a_difference_are_told(rt: HostRuntime) -> Result<(), Fail> {
         };
         let found = difference_sentence(alloc, &differing, &names)?;
         let want = format!(in alloc; "{sentence}{advice}")?;
-        assert_eq!(rt; found, want, "{field}");
+        same_at(&rt, &found, &want, &field);
     }
     // Bytes that are no text.
     let differing = Differing {
@@ -293,7 +293,7 @@ fn both_values_of_a_difference_are_told(rt: HostRuntime) -> Result<(), Fail> {
     let want = format!(in alloc;
         "out was built with `srs` \"Müller\", and survey.json has \"M\\xfcller\\xc3\"{VALUE}"
     )?;
-    assert_eq!(rt; found, want);
+    same(&rt, &found, &want);
     Ok(())
 }
 
@@ -334,7 +334,7 @@ fn built(rt: &impl Abort, alloc: Global) -> Result<MemStore, AllocError> {
     if status == 9 {
         return Err(AllocError);
     }
-    assert_eq!(rt; status, 0);
+    same(rt, &status, &0);
     Ok(store)
 }
 

@@ -1,7 +1,8 @@
 //! Queries through `run`, over folders in memory.
 
 use crate::tests::{
-    Answer, BUILD, Failing, Given, Shelved, at, carry_out, las, may_lack_memory, texts,
+    Answer, BUILD, Failing, Given, Shelved, at, carry_out, las, may_lack_memory, same, same_at,
+    texts,
 };
 use crate::worked_tests::packed;
 use ept_base::{OpenGate, Store};
@@ -45,7 +46,7 @@ fn folder(rt: &impl Abort, alloc: Global, files: &[File]) -> Result<MemStore, Al
     if may_lack_memory(&built, (0, "points 2 nodes 2\n")) {
         built = carry_out(alloc, given)?;
     }
-    assert_eq!(rt; built.status, 0);
+    same(rt, &built.status, &0);
     let mut store = built.store;
     for (name, bytes) in files {
         if store.put(name, bytes).is_err() {
@@ -84,8 +85,8 @@ fn expect(
     if found.status == 9 || found.out.bytes() != want.1 {
         found = ask(alloc, folder(rt, alloc, files)?, asked, Vec::new(alloc))?;
     }
-    assert_eq!(rt; found.status, want.0, "{} {}", asked.0, asked.1);
-    assert_eq!(rt; found.out.bytes(), want.1, "{} {}", asked.0, asked.1);
+    same_at(rt, &found.status, &want.0, &asked);
+    same_at(rt, &found.out.bytes(), &want.1, &asked);
     Ok(())
 }
 
@@ -103,30 +104,17 @@ fn expect_points(rt: &impl Abort, alloc: Global) -> Result<(), AllocError> {
     let first = packed(alloc, &[([1, 1, 1], 0, 0)])?;
     let second = packed(alloc, &[([3, 3, 3], 1, 0)])?;
     let both = packed(alloc, &[([1, 1, 1], 0, 0), ([3, 3, 3], 1, 0)])?;
-    expect(rt, alloc, &[], ALL, (0, both.as_slice()))?;
-    expect(
-        rt,
-        alloc,
-        &[],
-        ("3,3,3,3,3,3", "0,2"),
-        (0, second.as_slice()),
-    )?;
-    expect(rt, alloc, &[], ("3,3,3,3,3,3", "0,0"), (0, NOTHING))?;
-    expect(rt, alloc, &[], ("0,0,0,3,3,3", "0,2"), (0, both.as_slice()))?;
-    expect(
-        rt,
-        alloc,
-        &[],
-        ("0,0,0,3,3,3", "0,0"),
-        (0, first.as_slice()),
-    )?;
-    expect(
-        rt,
-        alloc,
-        &[],
-        ("100,100,100,101,101,101", "0,2"),
-        (0, NOTHING),
-    )
+    for (asked, want) in [
+        (ALL, both.as_slice()),
+        (("3,3,3,3,3,3", "0,2"), second.as_slice()),
+        (("3,3,3,3,3,3", "0,0"), NOTHING),
+        (("0,0,0,3,3,3", "0,2"), both.as_slice()),
+        (("0,0,0,3,3,3", "0,0"), first.as_slice()),
+        (("100,100,100,101,101,101", "0,2"), NOTHING),
+    ] {
+        expect(rt, alloc, &[], asked, (0, want))?;
+    }
+    Ok(())
 }
 
 #[test]
@@ -142,10 +130,15 @@ fn each_query_that_is_refused_has_its_status(rt: HostRuntime) -> Result<(), Fail
 // and those before it are.
 fn expect_refusals(rt: &impl Abort, alloc: Global) -> Result<(), AllocError> {
     let first = packed(alloc, &[([1, 1, 1], 0, 0)])?;
-    expect(rt, alloc, &[SHUT], ALL, (6, NOTHING))?;
-    expect(rt, alloc, &[NO_BUILD], ALL, (8, NOTHING))?;
-    expect(rt, alloc, &[NO_ROOT], ALL, (8, NOTHING))?;
-    expect(rt, alloc, &[NO_TILE], ALL, (8, first.as_slice()))
+    for (file, status, want) in [
+        (SHUT, 6, NOTHING),
+        (NO_BUILD, 8, NOTHING),
+        (NO_ROOT, 8, NOTHING),
+        (NO_TILE, 8, first.as_slice()),
+    ] {
+        expect(rt, alloc, &[file], ALL, (status, want))?;
+    }
+    Ok(())
 }
 
 #[test]
@@ -171,7 +164,7 @@ fn expect_cut(rt: &impl Abort, alloc: Global, call: u64, bytes: &[u8]) -> Result
     if found.status == 9 {
         return Err(AllocError);
     }
-    assert_eq!(rt; found.status, 7);
-    assert_eq!(rt; found.out.bytes(), bytes);
+    same(rt, &found.status, &7);
+    same(rt, &found.out.bytes(), &bytes);
     Ok(())
 }

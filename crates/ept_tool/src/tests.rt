@@ -4,8 +4,23 @@ use ept_base::OpenGate;
 use ept_mem::{MemRoom, MemShelf, MemSink, MemStore};
 use ept_run::run;
 use std::alloc::{AllocError, Global};
+use std::fmt::Debug;
 use std::process::Abort;
 use std::test::Fail;
+
+// What `assert_eq!` writes is proved wherever it stands, so it stands here once.
+pub(crate) fn same<T: PartialEq + Debug>(rt: &impl Abort, found: &T, wanted: &T) {
+    assert_eq!(rt; found, wanted);
+}
+
+pub(crate) fn same_at<T: PartialEq + Debug, P: Debug>(
+    rt: &impl Abort,
+    found: &T,
+    wanted: &T,
+    place: &P,
+) {
+    assert_eq!(rt; found, wanted, "at {place:?}");
+}
 
 /// The bounds 0 to 7 on each axis, and two cells an axis.
 pub(crate) const CONFIGURATION: &str =
@@ -172,17 +187,19 @@ pub(crate) fn may_lack_memory(found: &Answer, want: (u8, &str)) -> bool {
 /// Compares an answer with its status, its line, and whether the metadata stand in the store.
 pub(crate) fn compare(rt: &impl Abort, found: &Answer, want: (u8, &str), is_complete: bool) {
     let (status, line) = want;
-    assert_eq!(rt; found.status, status, "{line}");
-    assert_eq!(rt; found.out.bytes(), line.as_bytes(), "{line}");
-    assert_eq!(rt;
-        found.store.file("ept.json").is_some(),
-        is_complete,
-        "{line}"
+    same_at(rt, &found.status, &status, &line);
+    same_at(rt, &found.out.bytes(), &line.as_bytes(), &line);
+    same_at(
+        rt,
+        &found.store.file("ept.json").is_some(),
+        &is_complete,
+        &line,
     );
-    assert_eq!(rt;
-        found.store.file("other"),
-        Some(b"kept".as_slice()),
-        "{line}"
+    same_at(
+        rt,
+        &found.store.file("other"),
+        &Some(b"kept".as_slice()),
+        &line,
     );
 }
 

@@ -1,6 +1,8 @@
 //! Worked builds through `run`: the line, and the bytes of the files that are left.
 
-use crate::tests::{Answer, BUILD, Failing, Given, Shelved, at, carry_out, las, may_lack_memory};
+use crate::tests::{
+    Answer, BUILD, Failing, Given, Shelved, at, carry_out, las, may_lack_memory, same, same_at,
+};
 use std::alloc::{AllocError, Global};
 use std::process::Abort;
 use std::test::Fail;
@@ -47,14 +49,14 @@ fn built(rt: &impl Abort, alloc: Global, row: &Row<'_>) -> Result<Answer, AllocE
     if may_lack_memory(&found, (0, row.line)) {
         found = carry_out(alloc, given)?;
     }
-    assert_eq!(rt; found.status, 0, "{}", row.line);
-    assert_eq!(rt; found.out.bytes(), row.line.as_bytes());
+    same_at(rt, &found.status, &0, &row.line);
+    same(rt, &found.out.bytes(), &row.line.as_bytes());
     Ok(found)
 }
 
 /// Compares a file that is left.
 fn expect_file(rt: &impl Abort, found: &Answer, name: &str, bytes: &[u8]) {
-    assert_eq!(rt; found.store.file(name), Some(bytes), "{name}");
+    same_at(rt, &found.store.file(name), &Some(bytes), &name);
 }
 
 /// Whether a file that is left has this text in it.
