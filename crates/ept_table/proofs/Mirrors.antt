@@ -97,9 +97,14 @@ module _ (told : Told) (before after : ℕ) (goes : Goes told before after) (ite
 
   drawn-mirror : (keys : List VoxelKey) (k : ℕ) (key : VoxelKey) → IsDrawn keys old k key → IsDrawn keys new k key
   drawn-mirror keys k key d = record {
-    held = d.held; taken = d.taken; draw = d.draw; parent = d.parent;
+    held = d.held;
+    taken = d.taken;
+    draw = d.draw;
+    parent = d.parent;
     drew = m.drew d.held d.taken d.draw d.drew;
-    held_is = d.held_is; slot_is = d.slot_is; key_is = d.key_is;
+    held_is = d.held_is;
+    slot_is = d.slot_is;
+    key_is = d.key_is;
   }
 
   tree-mirror : (keys : List VoxelKey) → Tree told before keys items old → Tree told after keys items new
@@ -158,7 +163,7 @@ pub record Alike (told : Told) (drawn : ℕ) (v w : View) : Type 0 where
   pub carried : (c : Carried) → IsMember c w.note.flights → IsMember c v.note.flights
   pub draws : ((v.note.draws ≡ []) × (w.note.draws ≡ [])) ⊎ ((v.hold ≡ w.hold) × (v.note.draws ≡ w.note.draws) × (v.note.flights ≡ w.note.flights))
 
-none_some : {X : Type 0} {x : X} → None ≡ Some x → ⊥
+pub none_some : {X : Type 0} {x : X} → None ≡ Some x → ⊥
 none_some e = cc
 
 pub holder-parts : {items : List Taken} {views : List View} → AreLocked items views → {i : ℕ} {v : View} → At views i v → {held : ℕ} {x : Taken} → v.hold ≡ Some (held, x) → v.parts ≡ 0 → ⊥

@@ -23,6 +23,10 @@ use Rattle.ept_table.specs.Steps.{holding, given_back, noting, with_parts, new_s
 use Rattle.ept_table.proofs.Lists.{at-same, at-below, at-set, at-other, set-at, set-again, length-set, at-left, at-end, end-at, flat-out, set-set, set-apart}
 use Rattle.ept_table.proofs.Mirrors.{alike-holds}
 
+pub lacks-one : (flights : List Carried) → lacks_slot flights ≡ true → (c : Carried) × IsMember c flights × (c.slot ≡ 0)
+lacks-one flights lacks =
+    let c = member-any (λ (c : Carried). c.slot == 0) flights lacks in (c.0, c.1, eqb-true c.0.slot 0 c.2)
+
 same_flights : (v : View) → IsPermutation (flights_of v) (flights_of v)
 same_flights v = IsPermutation-refl (flights_of v)
 
@@ -86,8 +90,7 @@ module _ (told : Told) (drawn : ℕ) (items : List Taken) (views : List View) (i
 
   lacks_over : lacks_slot v.note.flights ≡ true → IsOver told drawn
   lacks_over lacks =
-      let c = member-any (λ (c : Carried). c.slot == 0) v.note.flights lacks in
-      none_keyed c.0.slot c.0 (eqb-true c.0.slot 0 c.2) (h.tree.carried i v c.0 at c.1)
+      let c = lacks-one v.note.flights lacks in none_keyed c.0.slot c.0 c.2 (h.tree.carried i v c.0 at c.1)
 
   pub abandon-keeps : 0 < v.parts → v.hold ≡ None → Holds told drawn items (set views i (noting v (abandoned v.note)))
   abandon-keeps some free = alike-holds told drawn items views i v (noting v (abandoned v.note)) at (record {
@@ -97,9 +100,9 @@ module _ (told : Told) (drawn : ℕ) (items : List Taken) (views : List View) (i
     full = λ n. elim n [
       | inl more ↦ h.seats.full_above i v at (inl more)
       | inr over ↦ elim (or_cases v.note.over (lacks_slot v.note.flights) over) [
-          | inl was ↦ h.seats.full_above i v at (inr was)
-          | inr lacks ↦ lacks_over lacks
-        ]
+        | inl was ↦ h.seats.full_above i v at (inr was)
+        | inr lacks ↦ lacks_over lacks
+      ]
     ];
     given = omega arith;
     failures = refl;

@@ -216,8 +216,14 @@ module _ (told : Told) (drawn : ℕ) (items : List Taken) (views : List View) (i
 
   child_is : (k : ℕ) (key : VoxelKey) → IsChild items k key → IsChild next_items k key
   child_is k key c = record {
-    parent = c.parent; cell = c.cell; octant = c.octant; at = standing_is c.parent c.cell c.at;
-    low = c.low; opened = c.opened; slot_is = c.slot_is; key_is = c.key_is;
+    parent = c.parent;
+    cell = c.cell;
+    octant = c.octant;
+    at = standing_is c.parent c.cell c.at;
+    low = c.low;
+    opened = c.opened;
+    slot_is = c.slot_is;
+    key_is = c.key_is;
   }
 
   still_drew : (held : ℕ) (x : Taken) (d : Draw) → Drew views held x d → Drew next_views held x d
@@ -227,14 +233,23 @@ module _ (told : Told) (drawn : ℕ) (items : List Taken) (views : List View) (i
 
   drawn_is : (k : ℕ) (key : VoxelKey) → IsDrawn h.keys views k key → IsDrawn h.keys next_views k key
   drawn_is k key d = record {
-    held = d.held; taken = d.taken; draw = d.draw; parent = d.parent;
+    held = d.held;
+    taken = d.taken;
+    draw = d.draw;
+    parent = d.parent;
     drew = still_drew d.held d.taken d.draw d.drew;
-    held_is = d.held_is; slot_is = d.slot_is; key_is = d.key_is;
+    held_is = d.held_is;
+    slot_is = d.slot_is;
+    key_is = d.key_is;
   }
 
   draw_is : (fs : List Carried) (held : ℕ) (x : Taken) (d : Draw) → IsDraw told h.keys items fs held x d → IsDraw told h.keys next_items fs held x d
   draw_is fs held x d r = record {
-    parent = r.parent; held_is = r.held_is; low = r.low; closed = r.closed; key_is = r.key_is;
+    parent = r.parent;
+    held_is = r.held_is;
+    low = r.low;
+    closed = r.closed;
+    key_is = r.key_is;
     blank = blank_is d.slot r.blank;
     opens = r.opens;
   }

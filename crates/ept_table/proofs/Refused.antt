@@ -9,7 +9,7 @@ use Rattle.ept_table.specs.View.{View, flights_of}
 use Rattle.ept_table.specs.Shown.{IsOver, Holds, AreLocked}
 use Rattle.ept_table.specs.Steps.{refused_more, MayDraw}
 use Rattle.ept_table.proofs.Mirrors.{Goes, alike-goes, holder-parts}
-use Rattle.ept_table.proofs.Full.{too-many}
+use Rattle.ept_table.proofs.TooMany.{too-many}
 
 module _ (told : Told) (drawn : ℕ) (items : List Taken) (views : List View) (i : ℕ) (v : View) (held : ℕ) (x : Taken) (h : Holds told drawn items views) (locks : AreLocked items views) (at : At views i v) (holds : v.hold ≡ Some (held, x)) (may : MayDraw told v held x v.note.wish) (all_drawn : told.most ≤ drawn) where
   pub refusal-is-true : told.tells ≡ true → told.most < length (node_keys told.rules (take told.end told.points))

@@ -100,9 +100,9 @@ module _ (told : Told) (drawn : ℕ) (items : List Taken) (views : List View) (h
       elim (set-at (set views i both) j spent a) [
         | inl s ↦ subst (λ (z : View). P z) s.1 end
         | inr o ↦ elim (set-at views i both o.1) [
-            | inl s ↦ subst (λ (z : View). P z) s.1 new
-            | inr p ↦ others k u p.1
-          ]
+          | inl s ↦ subst (λ (z : View). P z) s.1 new
+          | inr p ↦ others k u p.1
+        ]
       ]
 
   kept : (P : View → Type 0) → (P v → P both) → (P w → P both) → ((k : ℕ) × (u : View) × At views k u × P u) → (k : ℕ) × (u : View) × At next k u × P u
@@ -110,9 +110,9 @@ module _ (told : Told) (drawn : ℕ) (items : List Taken) (views : List View) (h
       elim (same_or_not k i) [
         | inl one ↦ (i, both, here, first (subst (λ (z : View). P z) (at-same (subst (λ (n : ℕ). At views n u) one a) at) p))
         | inr not_one ↦ elim (same_or_not k j) [
-            | inl two ↦ (i, both, here, second (subst (λ (z : View). P z) (at-same (subst (λ (n : ℕ). At views n u) two a) other) p))
-            | inr not_two ↦ (k, u, at-other j spent (at-other i both a not_one) not_two, p)
-          ]
+          | inl two ↦ (i, both, here, second (subst (λ (z : View). P z) (at-same (subst (λ (n : ℕ). At views n u) two a) other) p))
+          | inr not_two ↦ (k, u, at-other j spent (at-other i both a not_one) not_two, p)
+        ]
       ]
 
   no_draws : w.note.draws ≡ []

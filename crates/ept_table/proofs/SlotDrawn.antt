@@ -171,10 +171,14 @@ module _ (told : Told) (drawn : ℕ) (items : List Taken) (views : List View) (i
 
   drawn_is : (k : ℕ) (a : VoxelKey) → IsDrawn h.keys views k a → IsDrawn next_keys next k a
   drawn_is k a d = record {
-    held = d.held; taken = d.taken; draw = d.draw; parent = d.parent;
+    held = d.held;
+    taken = d.taken;
+    draw = d.draw;
+    parent = d.parent;
     drew = still_drew d.held d.taken d.draw d.drew;
     held_is = key-grown h.keys key d.held d.parent d.held_is;
-    slot_is = d.slot_is; key_is = d.key_is;
+    slot_is = d.slot_is;
+    key_is = d.key_is;
   }
 
   abbrev now : Draw
@@ -185,7 +189,10 @@ module _ (told : Told) (drawn : ℕ) (items : List Taken) (views : List View) (i
 
   drawn_now : (k : ℕ) (a : VoxelKey) → k ≡ length h.keys + 1 → key ≡ a → IsDrawn next_keys next k a
   drawn_now k a e same = record {
-    held = held; taken = x; draw = now; parent = may.goes_there.0.flight.key;
+    held = held;
+    taken = x;
+    draw = now;
+    parent = may.goes_there.0.flight.key;
     drew = record { seat = i; view = w; at = here; hold = holds; noted = inl refl };
     held_is = key-grown h.keys key held may.goes_there.0.flight.key mine_key;
     slot_is = omega (arith, e, all_drawn);
@@ -196,18 +203,22 @@ module _ (told : Told) (drawn : ℕ) (items : List Taken) (views : List View) (i
   draw_grown fs k y d r = record {
     parent = r.parent;
     held_is = key-grown h.keys key k r.parent r.held_is;
-    low = r.low; closed = r.closed;
+    low = r.low;
+    closed = r.closed;
     key_is = key-grown h.keys key d.slot (child r.parent d.octant) r.key_is;
-    blank = r.blank; opens = r.opens;
+    blank = r.blank;
+    opens = r.opens;
   }
 
   draw_now : IsDraw told next_keys items v.note.flights held x now
   draw_now = record {
     parent = may.goes_there.0.flight.key;
     held_is = key-grown h.keys key held may.goes_there.0.flight.key mine_key;
-    low = may.low; closed = may.closed;
+    low = may.low;
+    closed = may.closed;
     key_is = key-last h.keys key slot (omega (arith, all_drawn));
-    blank = blank_there; opens = may.opens;
+    blank = blank_there;
+    opens = may.opens;
   }
 
   mine_draws : (k : ℕ) (y : Taken) (d : Draw) → v.hold ≡ Some (k, y) → IsMember d (now ∷ v.note.draws) → IsDraw told next_keys items v.note.flights k y d
@@ -239,22 +250,22 @@ module _ (told : Told) (drawn : ℕ) (items : List Taken) (views : List View) (i
       two_slots j k a m n =
           elim (key-cases h.keys key j a m) [
             | inl old ↦ elim (key-cases h.keys key k a n) [
-                | inl also ↦ h.tree.distinct j k a old also
-                | inr new ↦ absurd (fresh j (subst (λ (b : VoxelKey). KeyOf h.keys j b) (sym new.1) old))
-              ]
+              | inl also ↦ h.tree.distinct j k a old also
+              | inr new ↦ absurd (fresh j (subst (λ (b : VoxelKey). KeyOf h.keys j b) (sym new.1) old))
+            ]
             | inr new ↦ elim (key-cases h.keys key k a n) [
-                | inl old ↦ absurd (fresh k (subst (λ (b : VoxelKey). KeyOf h.keys k b) (sym new.1) old))
-                | inr also ↦ new.0 ∙ sym also.0
-              ]
+              | inl old ↦ absurd (fresh k (subst (λ (b : VoxelKey). KeyOf h.keys k b) (sym new.1) old))
+              | inr also ↦ new.0 ∙ sym also.0
+            ]
           ]
 
       born_so : (k : ℕ) (a : VoxelKey) → KeyOf next_keys k a → (k ≡ 1) ⊎ (IsChild items k a ⊎ IsDrawn next_keys next k a)
       born_so k a m =
           elim (key-cases h.keys key k a m) [
             | inl old ↦ elim (h.tree.born k a old) [
-                | inl top ↦ inl top
-                | inr more ↦ elim more [ inl c ↦ inr (inl c) | inr d ↦ inr (inr (drawn_is k a d)) ]
-              ]
+              | inl top ↦ inl top
+              | inr more ↦ elim more [ inl c ↦ inr (inl c) | inr d ↦ inr (inr (drawn_is k a d)) ]
+            ]
             | inr new ↦ inr (inr (drawn_now k a new.0 new.1))
           ]
 

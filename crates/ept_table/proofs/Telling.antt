@@ -25,7 +25,7 @@ use Rattle.ept_table.specs.Shown.{IsOver, KeyOf, HasSlot, IsSound, FitsReader, s
 use Rattle.ept_table.specs.Tells.{IsTooMany, FitsFlight, FitsChild, Fits, ShowsLaw}
 use Rattle.ept_table.proofs.Lists.{at-same, at-member}
 use Rattle.ept_table.proofs.Keys.{no_key, key-same, key-low}
-use Rattle.ept_table.proofs.Full.{points-as, node-taken}
+use Rattle.ept_table.proofs.TooMany.{points-as, node-taken}
 use Rattle.ept_table.proofs.ReaderBack.{reading-same}
 
 -- a slot of a drawn key is no greater than the most

@@ -179,9 +179,9 @@ module _ (told : Told) (drawn : ℕ) (items : List Taken) (views : List View) (h
               let same : key ≡ root = key-same h.keys 1 key root (subst (λ (n : ℕ). KeyOf h.keys n key) top is) h.tree.first in
               ap (λ (j : VoxelKey). is_node told.rules first j) same ∙ is_node-root told.rules first
           | inr more ↦ elim more [
-              | inl c ↦ ap (λ (j : VoxelKey). is_node told.rules first j) (sym c.key_is) ∙ open-is_node c.parent c.cell c.octant c.at c.low c.opened
-              | inr d ↦ drawn_is_node k key d
-            ]
+            | inl c ↦ ap (λ (j : VoxelKey). is_node told.rules first j) (sym c.key_is) ∙ open-is_node c.parent c.cell c.octant c.at c.low c.opened
+            | inr d ↦ drawn_is_node k key d
+          ]
         ]
 
     -- ---- the refused draw
@@ -223,13 +223,13 @@ module _ (told : Told) (drawn : ℕ) (items : List Taken) (views : List View) (h
       different j k key a b =
           elim (key-cases h.keys wanted (suc j) key (place_key j key a)) [
             | inl old ↦ elim (key-cases h.keys wanted (suc k) key (place_key k key b)) [
-                | inl too ↦ (let e : suc j ≡ suc k = h.tree.distinct (suc j) (suc k) key old too in omega (arith, e))
-                | inr new ↦ absurd (fresh (suc j) (subst (λ (n : VoxelKey). KeyOf h.keys (suc j) n) (sym new.1) old))
-              ]
+              | inl too ↦ (let e : suc j ≡ suc k = h.tree.distinct (suc j) (suc k) key old too in omega (arith, e))
+              | inr new ↦ absurd (fresh (suc j) (subst (λ (n : VoxelKey). KeyOf h.keys (suc j) n) (sym new.1) old))
+            ]
             | inr new ↦ elim (key-cases h.keys wanted (suc k) key (place_key k key b)) [
-                | inl old ↦ absurd (fresh (suc k) (subst (λ (n : VoxelKey). KeyOf h.keys (suc k) n) (sym new.1) old))
-                | inr too ↦ omega (arith, new.0, too.0)
-              ]
+              | inl old ↦ absurd (fresh (suc k) (subst (λ (n : VoxelKey). KeyOf h.keys (suc k) n) (sym new.1) old))
+              | inr too ↦ omega (arith, new.0, too.0)
+            ]
           ]
 
       each_is_node : (k : ℕ) (key : VoxelKey) → KeyOf all_keys k key → is_node told.rules first key ≡ true
