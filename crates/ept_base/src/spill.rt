@@ -1,4 +1,4 @@
-ghost use Rattle.std.specs.Prelude.{◌≡◌, ◌≢◌, ◌+◌, ◌-◌, ◌^◌, ◌≤◌, min, ℕ, List, Option, IfOk, OnOk, OnErr, IsErrOf};
+ghost use Rattle.std.specs.Prelude.{◌≡◌, ◌≢◌, ◌-◌, ◌≤◌, ℕ, List, Option, IfOk, OnOk, OnErr, IsErrOf};
 ghost use Rattle.ept_base.specs.Causes.{Rose, HasCause, HasCauseOf};
 ghost use Rattle.ept_base.specs.Files.{Tells, StepsBy, AnyChange};
 ghost use Rattle.ept_base.specs.Devices.{LoadsFront, counts_on};

@@ -1,6 +1,6 @@
 //! What is the same of two configurations.
 
-ghost use Rattle.std.specs.Prelude.{◌≡◌, ◌≢◌, ◌⊎◌, ◌≤◌, ◌↔◌, IsTrue, length, take};
+ghost use Rattle.std.specs.Prelude.{◌≡◌, ◌↔◌, IsTrue};
 ghost use Rattle.ept_batch.specs.Differing.{ArePrefix};
 ghost use Rattle.ept_batch.specs.Alike.{AreAlikeTo};
 

@@ -3,7 +3,5 @@
 
 mod differing;
 mod equal;
-#[cfg(test)]
-mod tests;
 
 pub use differing::{Difference, first_difference};

@@ -6,7 +6,7 @@ mod Encoded
 mod KeySearch
 mod Lengths
 mod NodeText
-pub mod Paired
+mod Paired
 mod ReadBodies
 mod ReadNodes
 mod ReadNumbers

@@ -1,9 +1,8 @@
 -- When the nodes of a checkpoint are a whole octree.
-use Rattle.std.specs.Prelude.{◌≡◌, ℕ, ◌<◌, ◌==◌, Bool, true, List, map, sum_by, All, AllPairs}
+use Rattle.std.specs.Prelude.{◌≡◌, ℕ, ◌<◌, ◌==◌, Bool, true, List, map, sum_by, All}
 use Rattle.std.specs.List.{list_any}
 use Rattle.std.specs.Int.{bit_at}
-use Rattle.std.specs.declared.cmp.Ordering.TheVariants.{Less}
-use Rattle.ept_space.specs.VoxelKey.{VoxelKey, key_cmp, same_key, root, parent, child}
+use Rattle.ept_space.specs.VoxelKey.{VoxelKey, same_key, root, parent, child, AreAscending}
 use Rattle.ept_ckpt.specs.declared.node_line.NodeLine.{NodeLine}
 
 abbrev pub keys_of : List NodeLine → List VoxelKey
@@ -24,7 +23,7 @@ TellsChildren keys line =
 
 -- The keys ascend, the root is one of them, and so is the parent of each other; the masks tell the children.
 pub record AreWholeOctree (nodes : List NodeLine) : Type 0 where
-  pub ascend : AllPairs (λ a b. key_cmp a b ≡ Less) (keys_of nodes)
+  pub ascend : AreAscending (keys_of nodes)
   pub rooted : is_among (keys_of nodes) root ≡ true
   pub parents : All (HasParent (keys_of nodes)) (keys_of nodes)
   pub children : All (TellsChildren (keys_of nodes)) nodes

@@ -1,6 +1,6 @@
-pub mod Wholes
-pub mod Objects
-pub mod Signed
+mod Wholes
+mod Objects
+mod Signed
 mod Places
 mod EachInput
 mod Faults

@@ -30,8 +30,8 @@ pub use input::Input;
 pub use kept::Kept;
 pub use laws::{facts_law, object_law, required_law, text_law, threads_law};
 pub use limits::{
-    EXPECT_WIDTH, MAX_CACHE, MAX_CHECKPOINT, MAX_DEPTH, MAX_INPUTS, MAX_LENGTH, MAX_NODES,
-    MAX_OFFSET, MAX_PATH, MAX_SCALE, MAX_SHIFT, MAX_SRS_TEXT, MAX_STEP, MAX_THREADS, MAX_THRESHOLD,
+    EXPECT_WIDTH, MAX_DEPTH, MAX_INPUTS, MAX_LENGTH, MAX_OFFSET, MAX_PATH, MAX_SCALE, MAX_SHIFT,
+    MAX_SRS_TEXT, MAX_STEP, MAX_THRESHOLD,
 };
 pub use reader::{read_config, read_value};
 pub use source_count::{SourceCount, total_of};

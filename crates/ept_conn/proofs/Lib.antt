@@ -2,11 +2,11 @@ mod HeadEnds
 pub mod TurnLemmas
 pub mod Sending
 pub mod Wanting
-pub mod Plans
-pub mod Ending
+mod Plans
+mod Ending
 pub mod Histories
-pub mod Falling
+mod Falling
 pub mod Conversing
 pub mod Unanswered
-pub mod Undamaged
-pub mod Complete
+mod Undamaged
+mod Complete

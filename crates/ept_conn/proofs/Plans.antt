@@ -5,13 +5,12 @@ use Rattle.std.proofs.lemmas.List.{get_or_default}
 use Rattle.ept_base.specs.Files.{Files}
 use Rattle.ept_point.specs.Packed.{tile}
 use Rattle.ept_space.specs.declared.box3.Box3.{Box3}
-use Rattle.ept_space.specs.VoxelKey.{VoxelKey, root}
+use Rattle.ept_space.specs.VoxelKey.{VoxelKey, root, AreAscending}
 use Rattle.ept_sample.specs.Members.{IsMember}
 use Rattle.ept_sample.proofs.Ascending.{IsOrder, IsRising, same_rising}
 use Rattle.ept_sample.proofs.KeyOrder.{key_before, key_order, IsRising-AllPairs}
 use Rattle.ept_hier.specs.Hierarchy.{Node, keys_of}
 use Rattle.ept_http.specs.QueryWords.{IsOrdered}
-use Rattle.ept_sample.specs.Nodes.{AreAscending}
 use Rattle.ept_query.specs.Planning.{IsPlanFor}
 use Rattle.ept_query.specs.Damage.{HasTile}
 use Rattle.ept_query.specs.Parts.{Plan, node_at, IsPartOf}

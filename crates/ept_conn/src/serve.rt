@@ -3,7 +3,6 @@
 ghost use Rattle.std.specs.Prelude.{◌≡◌, ◌≢◌, ◌⊎◌, ◌<◌, ◌≤◌, ℕ, [], Some, IfSome, IfNone, length, drop};
 ghost use Rattle.ept_base.specs.Causes.{Rose};
 ghost use Rattle.ept_base.specs.Files.{Files, SameFiles, StepsBy, Tells};
-ghost use Rattle.ept_base.specs.Links.{Wire};
 ghost use Rattle.ept_base.specs.Moves.{Moves};
 ghost use Rattle.ept_conn.specs.Answers.{Served};
 ghost use Rattle.ept_conn.specs.Served.{IsServed};

@@ -5,12 +5,11 @@ use Rattle.std.specs.Prelude.{◌++◌}
 use Rattle.ept_point.specs.declared.point.Point.{Point}
 use Rattle.ept_point.specs.Order.{IsAscending}
 use Rattle.ept_space.specs.declared.cube.Rules.{Rules}
-use Rattle.ept_space.specs.VoxelKey.{VoxelKey, root, child, is_below}
+use Rattle.ept_space.specs.VoxelKey.{VoxelKey, root, child, is_below, AreAscending}
 use Rattle.ept_space.specs.OctreeCube.{InBox}
 use Rattle.ept_sample.specs.Place.{place}
 use Rattle.ept_sample.specs.Ids.{HasDistinctIds}
 use Rattle.ept_sample.specs.Arrivals.{loses, losers, octant}
-use Rattle.ept_sample.specs.Nodes.{AreAscending}
 use Rattle.ept_sample.specs.SamplingLaws.{CanBeSampled}
 use Rattle.ept_sample.specs.Members.{IsMember}
 use Rattle.ept_core.specs.declared.flight.Flight.{Flight}

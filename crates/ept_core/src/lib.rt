@@ -15,8 +15,6 @@ mod machine;
 mod node;
 mod play;
 mod steps;
-#[cfg(test)]
-mod tests;
 mod turn;
 
 pub use engine::Core;

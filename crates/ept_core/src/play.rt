@@ -1,7 +1,6 @@
 //! What is done with a core.
 
 ghost use Rattle.std.specs.Prelude.{◌≡◌, ◌↔◌, IsTrue, [], map, OnOk, OnErr, IfOk, IfErr, All};
-ghost use Rattle.std.specs.Bool.{OnTrue};
 ghost use Rattle.ept_sample.specs.Place.{AllInCube};
 ghost use Rattle.ept_sample.specs.Ids.{HasDistinctIds};
 ghost use Rattle.ept_sample.specs.Nodes.{sampled};

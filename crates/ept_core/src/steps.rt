@@ -1,8 +1,8 @@
 //! The steps of a core.
 
-ghost use Rattle.std.specs.Prelude.{◌≡◌, ◌≤◌, ◌<◌, ◌≢◌, ◌↔◌, ◌++◌, ◌∷◌, [], ℕ, Bool, true, false, IsTrue, vec_len, length, take, drop, count_by, OnOk, OnErr, IfOk, MatchOption, slice_index_or, remove};
-ghost use Rattle.ept_core.specs.State.{State, node_at, has_node, has_open};
-ghost use Rattle.ept_core.specs.Steps.{drawn, arrived, moved, is_of, IsFlight};
+ghost use Rattle.std.specs.Prelude.{◌≡◌, ◌≤◌, ◌<◌, ℕ, true, false, length, take, count_by, OnOk, OnErr, IfOk, MatchOption, slice_index_or, remove};
+ghost use Rattle.ept_core.specs.State.{node_at, has_node, has_open};
+ghost use Rattle.ept_core.specs.Steps.{drawn, arrived, moved, is_of};
 ghost use Rattle.ept_core.specs.Law.{KeepsLaw};
 ghost use Rattle.ept_core.specs.Machine.{state_of, IsEffect};
 ghost use Rattle.ept_core.specs.declared.flight.Flight.{Flight};

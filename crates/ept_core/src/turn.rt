@@ -1,6 +1,6 @@
 //! One event, with its refusals.
 
-ghost use Rattle.std.specs.Prelude.{◌≡◌, ◌≤◌, ◌<◌, OnOk, OnErr, IfErr, true, false, Result};
+ghost use Rattle.std.specs.Prelude.{◌≡◌, ◌<◌, OnOk, OnErr, IfErr, true, false, Result};
 ghost use Rattle.ept_core.specs.declared.event.Event.TheVariants.{Draw, Arrive, Evict, Reload};
 ghost use Rattle.ept_core.specs.Law.{KeepsLaw};
 ghost use Rattle.ept_core.specs.Steps.{Step};

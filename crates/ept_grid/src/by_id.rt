@@ -2,7 +2,6 @@
 
 ghost use Rattle.std.specs.Prelude.{◌≡◌, ◌<◌, ◌≤◌, ◌+◌, ◌++◌, IfOk, IfSome, OnOk, OnErr, length, position, vec_len, vec_capacity};
 ghost use Rattle.ept_sample.specs.Ids.{comes_before, placed_by_id, in_id_order};
-ghost use Rattle.ept_grid.specs.Outgoing.{all_points};
 ghost use Rattle.ept_grid.specs.Settling.{winners};
 ghost use Rattle.ept_grid.specs.Contents.{contents};
 

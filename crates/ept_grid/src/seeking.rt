@@ -1,7 +1,6 @@
 //! The search for the winner of a cell.
 
-ghost use Rattle.std.specs.Prelude.{◌≡◌, ◌⊎◌, ◌<◌, ◌≤◌, ◌+◌, ◌-◌, ◌*◌, ◌^◌, MatchOption, length, slice_index, slice_index_or};
-ghost use Rattle.ept_space.specs.OctreeCube.{InBox};
+ghost use Rattle.std.specs.Prelude.{◌≡◌, ◌<◌, ◌≤◌, ◌+◌, ◌-◌, ◌*◌, ◌^◌, MatchOption, length, slice_index, slice_index_or};
 ghost use Rattle.ept_sample.specs.Place.{AllInBox, AllInCube};
 ghost use Rattle.ept_grid.specs.Settling.{winners};
 ghost use Rattle.ept_grid.specs.Columns.{spots_of, nexts_of, IsChained, IsAlone, StandsAt, in_column};

@@ -1,6 +1,6 @@
 //! The points of a node from a tile.
 
-ghost use Rattle.std.specs.Prelude.{◌≡◌, ◌≢◌, ◌<◌, ◌≤◌, ◌+◌, ◌↔◌, IsTrue, ℕ, ◌&&◌, ◌==◌, not, true, false, IfOk, IfErr, OnOk, MatchOption, length, position, take, vec_len, vec_capacity, min, ◌*◌, ◌^◌};
+ghost use Rattle.std.specs.Prelude.{◌≡◌, ◌≢◌, ◌<◌, ◌≤◌, ◌+◌, ◌↔◌, IsTrue, ℕ, ◌&&◌, ◌==◌, not, true, false, IfOk, IfErr, OnOk, MatchOption, length, position, take, vec_capacity, min, ◌*◌, ◌^◌};
 ghost use Rattle.std.specs.Bool.{OnFalse};
 ghost use Rattle.ept_point.specs.Order.{IsAscending};
 ghost use Rattle.ept_space.specs.OctreeCube.{InBox};

@@ -1,6 +1,6 @@
 //! Worked nodes, from outside the program.
 
-ghost use Rattle.std.specs.Prelude.{◌≡◌, ◌∷◌, [], pos};
+ghost use Rattle.std.specs.Prelude.{[]};
 
 use ept_grid::{Grid, GridError, Outgoing};
 use ept_point::Point;

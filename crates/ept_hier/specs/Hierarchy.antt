@@ -1,11 +1,10 @@
 -- The hierarchy of a dataset in files (Entwine Point Tile 1.1.0, "ept-hierarchy").
 --
 -- `step` is how many depths stand in one file; with 0 all nodes stand in the root's.
-use Rattle.std.specs.Prelude.{◌≡◌, ℕ, ◌+◌, ◌<◌, ◌%◌, ℤ, pos, negsuc, Bool, ◌&&◌, ◌||◌, ◌==◌, nat_le, nat_lt, List, ◌++◌, map, filter, if◌then◌else◌, codes, Contains, AllPairs}
+use Rattle.std.specs.Prelude.{◌≡◌, ℕ, ◌+◌, ◌<◌, ◌%◌, ℤ, pos, negsuc, Bool, ◌&&◌, ◌||◌, ◌==◌, nat_le, nat_lt, List, ◌++◌, map, filter, if◌then◌else◌, codes, Contains}
 use Rattle.std.specs.Fmt.{signed_decimal}
 use Rattle.std.specs.List.{join_by}
-use Rattle.std.specs.declared.cmp.Ordering.TheVariants.{Less}
-use Rattle.ept_space.specs.VoxelKey.{VoxelKey, root, parent, same_key, is_within, key_cmp}
+use Rattle.ept_space.specs.VoxelKey.{VoxelKey, root, parent, same_key, is_within, AreAscending}
 use Rattle.ept_space.specs.KeyText.{key_text}
 use Rattle.ept_hier.specs.declared.file.HierFile.{HierFile}
 
@@ -67,7 +66,7 @@ hierarchy step nodes = map (file_of step nodes) (filter (λ (n : Node). has_file
 
 -- the keys ascend
 unfoldable pub KeysAscend : List Node → Type 0
-KeysAscend nodes = AllPairs (λ a b. key_cmp a b ≡ Less) (keys_of nodes)
+KeysAscend nodes = AreAscending (keys_of nodes)
 
 -- each node's parent is one of them, so that the root comes first
 unfoldable pub HaveParents : List Node → Type 0

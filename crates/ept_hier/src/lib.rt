@@ -12,8 +12,6 @@ mod laws;
 mod open_text;
 mod order;
 mod reader;
-#[cfg(test)]
-mod tests;
 
 pub use file::HierFile;
 pub use files::hierarchy_files;

@@ -12,8 +12,6 @@ mod laws;
 mod query;
 mod request;
 mod target;
-#[cfg(test)]
-mod tests;
 
 pub use answer::{HeadKind, response_head};
 pub use asked::Asked;

@@ -9,8 +9,6 @@ mod place;
 mod point_record;
 mod pulse;
 mod shift;
-#[cfg(test)]
-mod tests;
 mod words;
 
 pub use format::{is_format, record_length};

@@ -1,4 +1,4 @@
-ghost use Rattle.std.specs.Prelude.{◌≡◌, ◌⊎◌, ◌+◌, ◌-◌, ◌^◌, ◌≤◌, ◌↔◌, [], min, IsTrue, Some, None, Contains};
+ghost use Rattle.std.specs.Prelude.{◌≡◌, ◌⊎◌, ◌+◌, ◌-◌, ◌^◌, ◌≤◌, ◌↔◌, min, IsTrue, Some, None, Contains};
 ghost use Rattle.ept_base.specs.Causes.{Rose};
 ghost use Rattle.ept_mem.specs.Fuse.{one_less};
 

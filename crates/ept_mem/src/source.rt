@@ -1,4 +1,4 @@
-ghost use Rattle.std.specs.Prelude.{◌≡◌, ◌≤◌, ℕ, Some, length, drop};
+ghost use Rattle.std.specs.Prelude.{◌≡◌, ◌≤◌, Some, length};
 ghost use Rattle.ept_mem.specs.Named.{content_of};
 
 use crate::named::find;

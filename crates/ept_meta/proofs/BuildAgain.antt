@@ -6,11 +6,11 @@ use Rattle.ept_config.specs.declared.kept.Kept.{Kept}
 use Rattle.ept_config.specs.Ranges.{LayoutInRange, BoundsInRange}
 use Rattle.ept_config.proofs.FactsTell.{inputs_same, srs_same}
 use Rattle.ept_meta.specs.BuildText.{build_text}
-use Rattle.ept_meta.specs.BuildReading.{KeptFacts, kept_facts, told}
+use Rattle.ept_meta.specs.BuildReading.{BuildFacts, build_facts, told}
 use Rattle.ept_meta.proofs.BuildRead.{build_told}
 
 -- what has the same facts is the same
-kept_same : (a b : Kept) → kept_facts a ≡ kept_facts b → a ≡ b
+kept_same : (a b : Kept) → build_facts a ≡ build_facts b → a ≡ b
 kept_same a b e = λ i. record {
   scale = (e i).scale;
   offset = (e i).offset;
@@ -31,13 +31,13 @@ kept_same a b e = λ i. record {
     list : a.inputs ≡ b.inputs
     list = inputs_same a.inputs b.inputs (λ i. (e i).inputs)
 
-same_facts : (a b : KeptFacts) → Some a ≡ Some b → a ≡ b
+same_facts : (a b : BuildFacts) → Some a ≡ Some b → a ≡ b
 same_facts a b same = cc
 
 -- what the build file of `kept` was read as is `kept`
-pub read_again : (bytes : List ℕ) (found kept : Kept) → told bytes ≡ Some (kept_facts found) → bytes ≡ build_text kept → kept ≡ found
+pub read_again : (bytes : List ℕ) (found kept : Kept) → told bytes ≡ Some (build_facts found) → bytes ≡ build_text kept → kept ≡ found
 read_again bytes found kept read is =
-    kept_same kept found (same_facts (kept_facts kept) (kept_facts found) (sym (ap told is ∙ build_told kept) ∙ read))
+    kept_same kept found (same_facts (build_facts kept) (build_facts found) (sym (ap told is ∙ build_told kept) ∙ read))
 
 -- bytes that tell nothing are no build file
 pub told_nothing : (bytes : List ℕ) → told bytes ≡ None → (kept : Kept) → bytes ≢ build_text kept

@@ -29,7 +29,7 @@ use Rattle.ept_config.specs.Values.{natural, natural_at, span, span_at, offset, 
 use Rattle.ept_config.specs.Configuration.{work_at, values, settings, object_reading, value_reading}
 use Rattle.ept_meta.specs.SrsObject.{given, members}
 use Rattle.ept_meta.specs.BuildText.{build_text}
-use Rattle.ept_meta.specs.BuildReading.{kept_facts, told}
+use Rattle.ept_meta.specs.BuildReading.{build_facts, told}
 use Rattle.ept_meta.proofs.JsonTexts.{ordered, items_ordered}
 use Rattle.ept_meta.proofs.BuildData.{numbers, natural_value, wholes_value, bounds_value, texts_value, srs_value, expect_value, input_value, inputs_value, build_value, digits_are, span_most, build_document}
 
@@ -248,6 +248,6 @@ value_read k =
     )
     refl
 
-pub build_told : (k : Kept) → told (build_text k) ≡ Some (kept_facts k)
+pub build_told : (k : Kept) → told (build_text k) ≡ Some (build_facts k)
 unfolding told
 build_told k = rw (build_document k, value_read k) refl

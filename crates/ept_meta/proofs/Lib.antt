@@ -1,4 +1,4 @@
-pub mod Passed
+mod Passed
 mod Near
 mod Joining
 mod Members

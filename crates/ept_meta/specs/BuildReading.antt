@@ -14,7 +14,7 @@ use Rattle.ept_meta.specs.declared.meta_error.MetaError.{MetaError}
 use Rattle.ept_meta.specs.declared.meta_error.MetaError.TheVariants.{Form, Memory}
 
 -- what an output depends on, as numbers and lists
-pub record KeptFacts : Type 0 where
+pub record BuildFacts : Type 0 where
   pub scale : ℕ
   pub offset : List ℤ
   pub bounds : Bounds
@@ -25,8 +25,8 @@ pub record KeptFacts : Type 0 where
   pub srs : SrsFacts
   pub inputs : List InputFacts
 
-abbrev pub kept_facts : Kept → KeptFacts
-kept_facts kept = record {
+abbrev pub build_facts : Kept → BuildFacts
+build_facts kept = record {
   scale = kept.scale;
   offset = kept.offset;
   bounds = kept.bounds;
@@ -39,7 +39,7 @@ kept_facts kept = record {
 }
 
 -- a configuration with these bounds, without how much of the machine it uses
-abbrev pub within : Facts → Bounds → KeptFacts
+abbrev pub within : Facts → Bounds → BuildFacts
 within facts bounds = record {
   scale = facts.scale;
   offset = facts.offset;
@@ -53,11 +53,11 @@ within facts bounds = record {
 }
 
 -- a configuration with its bounds, where it has some
-abbrev pub with_bounds : Facts → Option KeptFacts
+abbrev pub with_bounds : Facts → Option BuildFacts
 with_bounds facts = option_map (within facts) facts.bounds
 
 -- what bytes tell as the text of a configuration with bounds
-unfoldable pub told : List ℕ → Option KeptFacts
+unfoldable pub told : List ℕ → Option BuildFacts
 told bytes = option_and_then (λ d. option_and_then with_bounds (result_ok (value_reading d))) (document bytes)
 
 -- ---- what the refusals of the readers are told as

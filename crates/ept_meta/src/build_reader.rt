@@ -3,7 +3,7 @@
 ghost use Rattle.std.specs.Prelude.{◌≡◌, ◌≢◌, ◌↔◌, Some, None, Err, IfOk, IsTrue};
 ghost use Rattle.ept_config.specs.declared.kept.Kept.{Kept};
 ghost use Rattle.ept_meta.specs.BuildText.{build_text};
-ghost use Rattle.ept_meta.specs.BuildReading.{told, kept_facts};
+ghost use Rattle.ept_meta.specs.BuildReading.{told, build_facts};
 
 use crate::build::build_json;
 use crate::meta_error::MetaError;
@@ -38,7 +38,7 @@ pub fn read_build_json(alloc: Global, bytes: &[u8]) -> Result<Kept, MetaError>
 // What bytes tell as the text of a configuration with bounds.
 #[tactic(auto, unfolding(crate::specs::BuildReading::told))]
 fn kept_in(alloc: Global, bytes: &[u8]) -> Result<Kept, MetaError>
-    ensures told { IfOk result (λ kept. told bytes.now ≡ Some (kept_facts kept)) }
+    ensures told { IfOk result (λ kept. told bytes.now ≡ Some (build_facts kept)) }
     ensures refused { result ≡ Err MetaError.Form → told bytes.now ≡ None }
 {
     let value = document(alloc, bytes)?;

@@ -1,6 +1,6 @@
 //! The pieces of a JSON text (RFC 8259).
 
-ghost use Rattle.std.specs.Prelude.{◌≡◌, ◌++◌, [], ℤ, OnOk, codes, if◌then◌else◌};
+ghost use Rattle.std.specs.Prelude.{◌≡◌, ◌++◌, [], OnOk, codes, if◌then◌else◌};
 ghost use Rattle.std.specs.Fmt.{decimal, signed_decimal};
 ghost use Rattle.std.specs.List.{flat_map};
 ghost use Rattle.ept_meta.specs.Json.{quoted, escaped, number_member, wholes, wholes_text};

@@ -4,7 +4,6 @@ ghost use Rattle.std.specs.Prelude.{◌≡◌, ◌<◌, ◌≤◌, ◌^◌, ◌+
 ghost use Rattle.ept_config.specs.InputRanges.{AreThreeWithin};
 ghost use Rattle.ept_space.specs.Place.{coordinate};
 ghost use Rattle.ept_space.specs.CubeOfBounds.{cube_of};
-ghost use Rattle.ept_space.specs.OctreeCube.{OctreeCube};
 ghost use Rattle.ept_meta.specs.Units.{coordinate_text, corner_text, box_text, bounds_text};
 ghost use Rattle.ept_meta.specs.Units.{cube_text, far_corner};
 

@@ -7,8 +7,6 @@ mod body;
 mod node;
 mod site;
 mod state;
-#[cfg(test)]
-mod tests;
 
 pub use node::Node;
 pub use state::NodeState;

@@ -1,7 +1,6 @@
 //! The nodes of a table's slots.
 
-ghost use Rattle.std.specs.Prelude.{◌≡◌, ◌≢◌, ◌<◌, ◌≤◌, ◌+◌, ◌++◌, ◌↔◌, [], ℕ, Bool, List, true, length, count_by, slice_index, slice_set, OnOk, OnErr, IfErr};
-ghost use Rattle.std.specs.List.{All};
+ghost use Rattle.std.specs.Prelude.{◌≡◌, ◌≢◌, ◌<◌, ◌≤◌, ◌+◌, ◌++◌, [], ℕ, Bool, List, true, length, count_by, slice_index, slice_set, OnOk, OnErr, IfErr};
 ghost use Rattle.ept_point.specs.declared.point.Point.{Point};
 ghost use Rattle.ept_point.specs.Order.{IsAscending};
 ghost use Rattle.ept_space.specs.VoxelKey.{child};
@@ -15,7 +14,7 @@ ghost use Rattle.ept_grid.specs.Tile.{IsTile, IsTileFault};
 ghost use Rattle.ept_core.specs.State as core;
 ghost use Rattle.ept_core.specs.Steps.{resumed_node};
 ghost use Rattle.ept_node.specs.declared.state.NodeState.TheVariants.{Blank, Resident};
-ghost use Rattle.ept_node.specs.Shown.{bare, empty_node, no_children, file_of, state_of, node_of, children_of, ShowsTheSame, HasRoom};
+ghost use Rattle.ept_node.specs.Shown.{empty_node, no_children, file_of, state_of, node_of, children_of, ShowsTheSame, HasRoom};
 ghost use Rattle.ept_node.specs.Batch.{HasTaken, StandsFor, seen, Arrives};
 
 use crate::batch::take_in;

@@ -5,11 +5,10 @@ use Rattle.std.specs.Int.{bit_at}
 use Rattle.std.specs.declared.cmp.Ordering.TheVariants.{Less}
 use Rattle.std.proofs.lemmas.List.{length-append}
 use Rattle.std.proofs.lemmas.List.Sums.{sum_by-cons}
-use Rattle.ept_space.specs.VoxelKey.{VoxelKey, IsKey, root, child, parent, octant_of, same_key, key_cmp}
+use Rattle.ept_space.specs.VoxelKey.{VoxelKey, IsKey, root, child, parent, octant_of, same_key, key_cmp, AreAscending}
 use Rattle.ept_space.proofs.Within.{same_key-true, same_key-same}
 use Rattle.ept_space.proofs.Family.{parent-child, octant_of-child, octant_of-below, child-parent, depth-child}
 use Rattle.ept_sample.specs.Members.{IsMember}
-use Rattle.ept_sample.specs.Nodes.{AreAscending}
 use Rattle.ept_sample.proofs.Members.{member-any, any-member, IsMember-map, member-map, all-member, All-members}
 use Rattle.ept_sample.proofs.KeyOrder.{IsRising-AllPairs}
 use Rattle.ept_grid.specs.Mask.{opened}

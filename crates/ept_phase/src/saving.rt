@@ -1,6 +1,6 @@
 //! An octree as the next checkpoint.
 
-ghost use Rattle.std.specs.Prelude.{◌≡◌, ◌⊎◌, true, false, Some, Err, Ok, IfOk, IfErr, OnOk, OnErr, length};
+ghost use Rattle.std.specs.Prelude.{◌≡◌, ◌⊎◌, true, false, Some, Err, Ok, IfErr, OnOk, OnErr};
 ghost use Rattle.ept_base.specs.Causes.{HasCauseOf};
 ghost use Rattle.ept_base.specs.Files.{Files, SameFiles, SameBut, Tells};
 ghost use Rattle.ept_base.specs.Moves.{Moves, SameImages};

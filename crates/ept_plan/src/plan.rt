@@ -1,6 +1,6 @@
 //! The plan of a build.
 
-ghost use Rattle.std.specs.Prelude.{◌≡◌, ◌⊎◌, List, Err, Some, None, IsOk, IfOk, IfErr, length};
+ghost use Rattle.std.specs.Prelude.{◌≡◌, ◌⊎◌, List, Err, Some, None, IsOk, IfOk, IfErr};
 ghost use Rattle.ept_base.specs.Causes.{HasCauseOf};
 ghost use Rattle.ept_base.specs.Files.{Tells};
 ghost use Rattle.ept_point.specs.declared.point.Point.{Point};

@@ -7,8 +7,6 @@ mod list;
 mod memory;
 mod packed;
 mod point;
-#[cfg(test)]
-mod tests;
 mod text;
 mod tile;
 

@@ -1,6 +1,6 @@
 //! A tile: packed points, one after another.
 
-ghost use Rattle.std.specs.Prelude.{◌≡◌, ◌≢◌, ◌∷◌, ◌%◌, [], ◌++◌, ◌+◌, ℕ, List, Result, OnOk, OnErr, IfOk, IfErr, IfSome, Ok, Err, Option, length, take, vec_len};
+ghost use Rattle.std.specs.Prelude.{◌≡◌, ◌≢◌, ◌%◌, ◌++◌, ◌+◌, List, Result, OnOk, OnErr, IfOk, IfErr, IfSome, Ok, Err, Option, length};
 ghost use Rattle.ept_point.specs.declared.point.Point.{Point};
 ghost use Rattle.ept_point.specs.declared.tile.TileError.{TileError};
 ghost use Rattle.ept_point.specs.Packed.{packed, tile};

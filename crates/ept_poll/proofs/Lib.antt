@@ -1,8 +1,8 @@
 mod Statuses
 mod Passing
-pub mod Standing
-pub mod Causing
-pub mod Answering
-pub mod Running
-pub mod Polling
-pub mod Calling
+mod Standing
+mod Causing
+mod Answering
+mod Running
+mod Polling
+mod Calling

@@ -5,8 +5,6 @@ mod conn;
 mod laws;
 mod link;
 mod mem;
-#[cfg(test)]
-mod tests;
 
 pub use conn::PollConn;
 pub use laws::polls_law;

@@ -1,6 +1,6 @@
 //! A link in memory that is polled.
 
-ghost use Rattle.std.specs.Prelude.{◌≡◌, ◌≢◌, ◌↔◌, ◌≤◌, [], Contains};
+ghost use Rattle.std.specs.Prelude.{◌≡◌, ◌↔◌, ◌≤◌, [], Contains};
 ghost use Rattle.ept_base.specs.Causes.{Rose};
 ghost use Rattle.ept_base.specs.Devices.{counts_on};
 
@@ -107,7 +107,7 @@ impl MemPollLink {
 }
 
 impl PollLink for MemPollLink {
-    ghost use Rattle.std.specs.Prelude.{Some, ◌<◌, IfOk, length, min, take};
+    ghost use Rattle.std.specs.Prelude.{Some, ◌<◌, length, min, take};
     ghost use Rattle.std.specs.Io.{ReadsAtMost, WritesAtMost};
     ghost use Rattle.futures.specs.Poll.{IfReady, OnPending};
     ghost use Rattle.futures.specs.Task.{Keeps};

@@ -5,8 +5,6 @@
 mod hierarchy;
 mod laws;
 mod publishing;
-#[cfg(test)]
-mod tests;
 mod texts;
 mod tiles;
 

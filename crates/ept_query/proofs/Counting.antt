@@ -7,10 +7,9 @@ use Rattle.std.proofs.lemmas.List.Elements.{All-head}
 use Rattle.std.proofs.lemmas.Map.Keys.{IsDistinct-from_apart}
 use Rattle.std.proofs.lemmas.Map.Made.{length-le_from_is_member}
 use Rattle.std.proofs.lemmas.Map.Views.{Contains-from_any, list_any-from_Contains}
-use Rattle.ept_space.specs.VoxelKey.{VoxelKey, IsKey, IsBefore, key_cmp}
+use Rattle.ept_space.specs.VoxelKey.{VoxelKey, IsKey, IsBefore, key_cmp, AreAscending}
 use Rattle.ept_space.proofs.KeyOrder.{key_cmp_total, key_cmp-less, key_cmp-equal}
 use Rattle.ept_space.proofs.KeyTexts.{index-small}
-use Rattle.ept_sample.specs.Nodes.{AreAscending}
 
 pub same-from : (one two : VoxelKey) → eq_by_cmp key_cmp one two ≡ true → one ≡ two
 same-from one two same = key_cmp-equal one two (tied (key_cmp one two) same)

@@ -10,9 +10,8 @@ use Rattle.std.proofs.lemmas.Cmp.{eq_by_cmp_equiv}
 use Rattle.std.proofs.lemmas.Map.Keys.{IsDistinct-from_apart, Less-from_sorted}
 use Rattle.std.proofs.lemmas.Map.Views.{Contains-from_lookup, lookup-from_Contains}
 use Rattle.ept_base.specs.Files.{Files, SameFiles, StepsBy, Tells}
-use Rattle.ept_space.specs.VoxelKey.{VoxelKey, key_cmp}
+use Rattle.ept_space.specs.VoxelKey.{VoxelKey, key_cmp, AreAscending}
 use Rattle.ept_space.proofs.KeyOrder.{key_cmp_total}
-use Rattle.ept_sample.specs.Nodes.{AreAscending}
 use Rattle.ept_hier.specs.Hierarchy.{Entry, Node, keys_of}
 use Rattle.ept_meta.specs.Output.{hierarchy_name}
 use Rattle.ept_query.specs.declared.search.Search.{Search}

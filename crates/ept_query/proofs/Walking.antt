@@ -9,10 +9,9 @@ use Rattle.std.proofs.Math.Nat.{mul-le-mul_right}
 use Rattle.std.proofs.lemmas.List.Elements.{All-contains, Contains-get_or, Contains-append_left, Contains-push, Contains-push_cases}
 use Rattle.std.proofs.lemmas.List.Quantifiers.{all_pairs_push}
 use Rattle.ept_base.specs.Files.{Files}
-use Rattle.ept_space.specs.VoxelKey.{VoxelKey, root, is_within, IsBefore, key_cmp}
+use Rattle.ept_space.specs.VoxelKey.{VoxelKey, root, is_within, IsBefore, key_cmp, AreAscending}
 use Rattle.ept_space.proofs.KeyOrder.{key_cmp_total, key_cmp-less, key_cmp-before, key_cmp-same}
 use Rattle.ept_space.proofs.Within.{depth-within, is_within-unique}
-use Rattle.ept_sample.specs.Nodes.{AreAscending}
 use Rattle.ept_sample.proofs.Members.{IsMember-contains, contains-IsMember}
 use Rattle.ept_hier.specs.Hierarchy.{Entry, stands_in, is_link}
 use Rattle.ept_hier.specs.Reading.{IsReading}

@@ -4,9 +4,8 @@ use Rattle.std.specs.Io.KnownBytes.{Appends}
 use Rattle.ept_base.specs.Devices.{AppendsPrefix}
 use Rattle.ept_point.specs.declared.point.Point.{Point}
 use Rattle.ept_space.specs.declared.box3.Box3.{Box3}
-use Rattle.ept_space.specs.VoxelKey.{VoxelKey}
+use Rattle.ept_space.specs.VoxelKey.{VoxelKey, AreAscending}
 use Rattle.ept_sample.specs.Sampling.{sampling, is_node}
-use Rattle.ept_sample.specs.Nodes.{AreAscending}
 use Rattle.ept_config.specs.declared.kept.Kept.{Kept}
 use Rattle.ept_hier.specs.Hierarchy.{Node, keys_of}
 use Rattle.ept_meta.specs.Output.{rules_of}

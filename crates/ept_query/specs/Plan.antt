@@ -1,8 +1,7 @@
 -- Which files of a folder a query reads. The folder may hold anything.
 use Rattle.std.specs.Prelude.{◌≡◌, ℕ, ◌↔◌, pos, negsuc, List, Contains, Some}
 use Rattle.ept_base.specs.Files.{Files}
-use Rattle.ept_space.specs.VoxelKey.{VoxelKey, root}
-use Rattle.ept_sample.specs.Nodes.{AreAscending}
+use Rattle.ept_space.specs.VoxelKey.{VoxelKey, root, AreAscending}
 use Rattle.ept_config.specs.declared.kept.Kept.{Kept}
 use Rattle.ept_hier.specs.Hierarchy.{Entry, Node, keys_of}
 use Rattle.ept_meta.specs.Output.{build_file_name}

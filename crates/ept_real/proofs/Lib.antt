@@ -1,2 +1,2 @@
-pub mod Climbs
-pub mod Members
+mod Climbs
+mod Members

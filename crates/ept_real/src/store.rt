@@ -1,4 +1,4 @@
-ghost use Rattle.std.specs.Prelude.{◌≡◌, ◌≢◌, ◌≤◌, ◌⊎◌, ℕ, List, [], false, true, Bool, Contains, IsOk, IsTrue, IfOk, IsErrOf, OnOk, OnErr, Err, string_bytes};
+ghost use Rattle.std.specs.Prelude.{◌≡◌, ◌≢◌, ◌≤◌, ◌⊎◌, ℕ, List, [], false, true, Contains, IsOk, IsTrue, IfOk, IsErrOf, OnOk, OnErr, Err, string_bytes};
 ghost use Rattle.ept_base.specs.Causes.{Rose, HasCauseOf};
 ghost use Rattle.ept_base.specs.Devices.{Gets, counts_on};
 ghost use Rattle.ept_base.specs.Files.{SameFiles, SameBut, Puts, Removes, Tells, StepsBy};

@@ -1,4 +1,4 @@
-ghost use Rattle.std.specs.Prelude.{◌≡◌, ℕ, List, [], Contains, OnOk, OnErr};
+ghost use Rattle.std.specs.Prelude.{◌≡◌, ℕ, List, [], Contains, OnOk};
 ghost use Rattle.ept_real.specs.Joined.{joined};
 ghost use Rattle.ept_real.specs.Ways.{Keeps, IsAbove, IsHolder, IsOnWay};
 

@@ -1,6 +1,6 @@
 //! The commands: each answers the line that it ends with, or why it is refused.
 
-ghost use Rattle.std.specs.Prelude.{◌≡◌, ◌≢◌, ◌⊎◌, ◌≤◌, ◌+◌, ◌^◌, ℕ, [], ◌∷◌, take, Err, Some, IsOk, IfOk, IfErr, OnOk};
+ghost use Rattle.std.specs.Prelude.{◌≡◌, ◌⊎◌, ◌≤◌, ◌+◌, ◌^◌, ℕ, [], ◌∷◌, take, Err, Some, IsOk, IfOk, IfErr, OnOk};
 ghost use Rattle.ept_base.specs.Causes.{HasCauseOf};
 ghost use Rattle.ept_base.specs.Files.{Files, SameFiles, Tells};
 ghost use Rattle.ept_base.specs.Moves.{Moves, IsSettled};

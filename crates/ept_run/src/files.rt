@@ -1,7 +1,7 @@
 //! The files that the words name.
 
 ghost use Rattle.std.specs.Prelude.{◌≡◌, ◌≤◌, ◌+◌, ◌^◌, ℕ, [], ◌∷◌, IfOk, IfErr, OnOk, length, take};
-ghost use Rattle.ept_base.specs.Causes.{HasCause, HasCauseOf};
+ghost use Rattle.ept_base.specs.Causes.{HasCauseOf};
 ghost use Rattle.ept_base.specs.Files.{Tells};
 ghost use Rattle.ept_scan.specs.Asking.{AsksFor};
 ghost use Rattle.ept_run.specs.Requests.{HasFront, HasConfiguration, ConfigurationIsRefused, IsOfConfiguration, HasHeader, InfoIsRefused, IsOfHeader};

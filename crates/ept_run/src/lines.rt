@@ -2,7 +2,6 @@
 
 ghost use Rattle.std.specs.Prelude.{◌≡◌, ◌++◌, IfOk, OnOk};
 ghost use Rattle.std.specs.Fmt.{decimal};
-ghost use Rattle.ept_config.specs.Refusals.{code_of, key_text_of};
 ghost use Rattle.ept_las.specs.LasHeader as las;
 ghost use Rattle.ept_space.specs.KeyText as space;
 ghost use Rattle.ept_run.specs.Lines.{summary_text, header_text, trial_text, key_text, config_text, las_text, number_text, record_text, name_of, letter_text, refusal_text, line_of};

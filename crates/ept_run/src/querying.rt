@@ -1,6 +1,6 @@
 //! The query of a run.
 
-ghost use Rattle.std.specs.Prelude.{◌≡◌, ◌+◌, ℕ};
+ghost use Rattle.std.specs.Prelude.{◌≡◌};
 ghost use Rattle.ept_base.specs.Causes.{Rose};
 ghost use Rattle.ept_base.specs.Files.{SameFiles};
 ghost use Rattle.ept_base.specs.Moves.{Moves};

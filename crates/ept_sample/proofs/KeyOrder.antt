@@ -3,10 +3,10 @@ use Rattle.std.proofs.Common.{◌≡◌, ℕ, suc, ◌<◌, Bool, true, Ordering
 use Rattle.std.specs.declared.cmp.Ordering.TheVariants.{Less, Equal, Greater}
 use Rattle.std.specs.Ordering.{nat_cmp, ordering_then, is_lt, match_ordering}
 use Rattle.std.proofs.lemmas.Bool.Decides.{nat_tests}
-use Rattle.ept_space.specs.VoxelKey.{VoxelKey, key_cmp}
+use Rattle.ept_space.specs.VoxelKey.{VoxelKey, key_cmp, AreAscending}
 use Rattle.ept_space.proofs.Family.{same-parts}
 use Rattle.std.proofs.lemmas.Bool.{false≢true}
-use Rattle.ept_sample.specs.Nodes.{AreAscending, with_key, in_key_order}
+use Rattle.ept_sample.specs.Nodes.{with_key, in_key_order}
 use Rattle.std.proofs.lemmas.List.Kept.{AllPairs-cons}
 use Rattle.ept_sample.specs.Members.{IsMember}
 use Rattle.ept_sample.proofs.Members.{contains-IsMember, All-members}

@@ -1,6 +1,5 @@
 -- The sampling as a list of tiles, in key order.
-use Rattle.std.specs.Prelude.{◌≡◌, ℕ, zero, suc, List, [], ◌∷◌, ◌++◌, map, filter, AllPairs}
-use Rattle.std.specs.declared.cmp.Ordering.TheVariants.{Less}
+use Rattle.std.specs.Prelude.{ℕ, zero, suc, List, [], ◌∷◌, ◌++◌, map, filter}
 use Rattle.std.specs.List.{flat_map}
 use Rattle.std.specs.Ordering.{match_ordering}
 use Rattle.ept_point.specs.declared.point.Point.{Point}
@@ -26,10 +25,6 @@ with_key key (k ∷ keys) = match_ordering (key_cmp key k) (key ∷ k ∷ keys) 
 abbrev pub in_key_order : List VoxelKey → List VoxelKey
 in_key_order [] = []
 in_key_order (key ∷ keys) = with_key key (in_key_order keys)
-
--- the keys ascend, each once
-abbrev pub AreAscending : List VoxelKey → Type 0
-AreAscending keys = AllPairs (λ a b. key_cmp a b ≡ Less) keys
 
 -- the root, and the keys of the boxes that points lie in
 abbrev pub candidate_keys : OctreeCube → List Point → List VoxelKey

@@ -4,13 +4,13 @@ use Rattle.std.specs.List.{flat_map}
 use Rattle.ept_point.specs.declared.point.Point.{Point}
 use Rattle.ept_point.specs.Order.{IsAscending}
 use Rattle.ept_space.specs.declared.cube.Rules.{Rules}
-use Rattle.ept_space.specs.VoxelKey.{VoxelKey, IsKey, root, parent}
+use Rattle.ept_space.specs.VoxelKey.{VoxelKey, IsKey, root, parent, AreAscending}
 use Rattle.ept_space.specs.OctreeCube.{IsCube}
 use Rattle.ept_sample.specs.declared.tiles.Tile.{Tile}
 use Rattle.ept_sample.specs.Place.{AllInCube, AllInBox}
 use Rattle.ept_sample.specs.Ids.{HasDistinctIds}
 use Rattle.ept_sample.specs.Sampling.{sampling, is_node}
-use Rattle.ept_sample.specs.Nodes.{AreAscending, node_keys, sampled}
+use Rattle.ept_sample.specs.Nodes.{node_keys, sampled}
 
 -- points of a cube, with distinct ids
 pub record CanBeSampled (rules : Rules) (points : List Point) : Type 0 where

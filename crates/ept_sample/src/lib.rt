@@ -10,14 +10,11 @@ mod ids;
 mod laws;
 mod place;
 mod rank;
-#[cfg(test)]
-mod tests;
 mod tiles;
 mod top_down;
 
 pub use arrivals::{
-    OCTANTS, child_of, count_in_octant, has_children, in_octant, is_too_many, leaves, loses,
-    losing, opening, staying,
+    OCTANTS, child_of, in_octant, is_too_many, leaves, loses, losing, opening, staying,
 };
 pub use ids::{ids_ascend, in_id_order};
 pub use laws::{arrival_law, batch_law, beat_law, id_law, node_law, point_law};

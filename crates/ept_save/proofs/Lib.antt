@@ -2,11 +2,11 @@ pub mod NamesDiffer
 pub mod Moving
 pub mod Keeping
 pub mod Standing
-pub mod Inserting
-pub mod Free
+mod Inserting
+mod Free
 mod CommitSteps
 mod Next
-pub mod Newer
+mod Newer
 mod Guarding
 pub mod LoadedLines
 pub mod WorkNames

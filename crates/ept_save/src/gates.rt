@@ -1,6 +1,6 @@
 //! Gates: files that are open where they hold exactly the one byte 1.
 
-ghost use Rattle.std.specs.Prelude.{◌≡◌, ◌↔◌, ℕ, Some, IfOk, IfErr, OnOk, IsTrue};
+ghost use Rattle.std.specs.Prelude.{◌≡◌, ◌↔◌, Some, IfOk, IfErr, OnOk, IsTrue};
 ghost use Rattle.ept_base.specs.Causes.{HasCauseOf};
 ghost use Rattle.ept_base.specs.Devices.{counts_on};
 ghost use Rattle.ept_base.specs.Files.{Files, SameFiles, SameBut, Tells, StepsBy};

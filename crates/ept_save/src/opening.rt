@@ -1,12 +1,11 @@
 //! Opening the checkpoints of a store.
 
-ghost use Rattle.std.specs.Prelude.{◌≡◌, ◌≢◌, ◌⊎◌, Some, Err, IfOk, IfErr, OnOk, false};
+ghost use Rattle.std.specs.Prelude.{◌≡◌, ◌≢◌, ◌⊎◌, Some, Err, IfOk, IfErr, false};
 ghost use Rattle.ept_base.specs.Causes.{HasCauseOf};
 ghost use Rattle.ept_base.specs.Files.{Files, SameFiles, Tells, StepsBy};
 ghost use Rattle.ept_base.specs.Moves.{Elapses, Moves, SameImages, IsSettled};
 ghost use Rattle.ept_ckpt.specs.declared.letter.Letter.TheVariants as letter;
 ghost use Rattle.ept_ckpt.specs.declared.letter.Letter as l;
-ghost use Rattle.ept_ckpt.specs.declared.checkpoint.Checkpoint as c;
 ghost use Rattle.ept_save.specs.Current.{Current, HasCurrent};
 ghost use Rattle.ept_save.specs.Opening.{IsBroken, IsBad, IsFound, AreAlike, lines_of};
 ghost use Rattle.ept_save.specs.Errors.{IsStores};

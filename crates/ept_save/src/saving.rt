@@ -16,7 +16,7 @@ ghost use Rattle.ept_save.specs.Errors.{IsStores};
 use crate::error::SaveError;
 use crate::gates::close_gate;
 use crate::names::{gate_name, work_tile_name};
-use crate::saved::{Line, Saved};
+use crate::saved::Saved;
 use ept_base::Store;
 use ept_ckpt::Letter;
 use ept_point::{Point, tile_bytes};

@@ -26,7 +26,6 @@ pub use laws::{
 };
 pub use open::reader;
 pub use read_error::ReadError;
-pub use reading::MAX_POINTS;
 pub use scan_done::ScanDone;
 pub use scan_error::ScanError;
 pub use second_reading::Reader;

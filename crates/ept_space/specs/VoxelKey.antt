@@ -1,7 +1,8 @@
 -- Keys of nodes, `D-X-Y-Z` (Entwine Point Tile 1.1.0, "Keys").
 use Rattle.std.specs.declared.cmp.Ordering.{Ordering}
+use Rattle.std.specs.declared.cmp.Ordering.TheVariants.{Less}
 use Rattle.std.specs.Ordering.{nat_cmp, ordering_then}
-use Rattle.std.specs.Prelude.{◌≡◌, ℕ, ◌+◌, ◌-◌, ◌*◌, ◌/◌, ◌%◌, ◌^◌, ◌<◌, ◌≤◌, Bool, ◌&&◌, ◌⊎◌, ◌==◌, nat_le, nat_lt}
+use Rattle.std.specs.Prelude.{◌≡◌, ℕ, ◌+◌, ◌-◌, ◌*◌, ◌/◌, ◌%◌, ◌^◌, ◌<◌, ◌≤◌, Bool, ◌&&◌, ◌⊎◌, ◌==◌, List, AllPairs, nat_le, nat_lt}
 
 -- a depth, and the index of a box on each axis among the boxes of that depth
 pub record VoxelKey : Type 0 where
@@ -70,3 +71,7 @@ IsBefore a b =
 abbrev pub key_cmp : VoxelKey → VoxelKey → Ordering
 key_cmp a b =
     ordering_then (nat_cmp a.depth b.depth) (ordering_then (nat_cmp a.x b.x) (ordering_then (nat_cmp a.y b.y) (nat_cmp a.z b.z)))
+
+-- the keys ascend, each once
+abbrev pub AreAscending : List VoxelKey → Type 0
+AreAscending keys = AllPairs (λ a b. key_cmp a b ≡ Less) keys

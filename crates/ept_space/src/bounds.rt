@@ -1,7 +1,5 @@
 //! The bounds of a set of points.
 
-ghost use Rattle.std.specs.Prelude.{◌≡◌};
-
 /// The places from `min` to `max`, both included, on each axis, in the order x, y, z. The type does not
 /// keep `min` at most `max`.
 #[derive(Clone, Copy, Debug, PartialEq, Eq)]

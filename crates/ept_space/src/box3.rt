@@ -1,6 +1,6 @@
 //! Closed boxes of places.
 
-ghost use Rattle.std.specs.Prelude.{◌≡◌, ℕ, ◌+◌, ◌-◌, ◌*◌, ◌^◌, ◌<◌, ◌≤◌, ◌↔◌, IsTrue, ℤ, pos, ◌+ℤ◌, ◌≤ℤ◌, FitsSigned};
+ghost use Rattle.std.specs.Prelude.{◌+◌, ◌-◌, ◌*◌, ◌^◌, ◌<◌, ◌≤◌, ◌↔◌, IsTrue, ℤ, pos, ◌+ℤ◌, FitsSigned};
 ghost use Rattle.std.specs.Int.{w32};
 ghost use Rattle.ept_space.specs.Place.{Place};
 ghost use Rattle.ept_space.specs.OctreeCube.{IsFrom, InBox};

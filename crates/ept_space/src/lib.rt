@@ -24,6 +24,3 @@ pub use laws::{
 };
 pub use places::{cell, centre_distance, octant};
 pub use text::{key_text, read_key};
-
-#[cfg(test)]
-mod tests;

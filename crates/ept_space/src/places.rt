@@ -2,7 +2,7 @@
 //!
 //! A build asks these at each node that a point comes to, so each is a few shifts and no loop.
 
-ghost use Rattle.std.specs.Prelude.{◌≡◌, ℕ, ◌+◌, ◌-◌, ◌*◌, ◌/◌, ◌%◌, ◌^◌, ◌<◌, ◌≤◌};
+ghost use Rattle.std.specs.Prelude.{◌≡◌, ◌+◌, ◌-◌, ◌*◌, ◌%◌, ◌^◌, ◌<◌, ◌≤◌};
 ghost use Rattle.std.specs.Int.{abs_diff};
 ghost use Rattle.ept_space.specs.OctreeCube.{InBox, InCube, offset, octant_at, cell_at, distance_at};
 

@@ -1,6 +1,6 @@
 //! The texts of keys.
 
-ghost use Rattle.std.specs.Prelude.{◌≡◌, ◌≢◌, ℕ, ◌+◌, ◌^◌, ◌<◌, ◌≤◌, List, ◌∷◌, ◌++◌, length, take, drop, slice_index, codes, decimal, Some, IfSome, IfNone, IsSomeAnd};
+ghost use Rattle.std.specs.Prelude.{◌≡◌, ◌≢◌, ℕ, ◌+◌, ◌^◌, ◌<◌, ◌≤◌, List, ◌∷◌, ◌++◌, length, take, slice_index, decimal, Some, IfSome, IfNone, IsSomeAnd};
 ghost use Rattle.ept_space.specs.VoxelKey.{VoxelKey, IsKey};
 ghost use Rattle.ept_space.specs.KeyText.{key_text};
 

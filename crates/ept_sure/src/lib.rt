@@ -11,6 +11,3 @@ mod store;
 pub use room::{SureFile, SureRoom};
 pub use shelf::{SureShelf, SureSource};
 pub use store::SureStore;
-
-#[cfg(test)]
-mod tests;

@@ -3,6 +3,6 @@ mod Descending
 pub mod Growing
 mod Inside
 mod Regrouping
-pub mod Resuming
+mod Resuming
 mod Together
 pub mod Wholeness

@@ -1,10 +1,9 @@
 -- Which nodes an octree has, whatever points they have.
 use Rattle.std.specs.Prelude.{◌≡◌, ◌⊎◌, ℕ, ◌<◌, true, List, [], length, map}
-use Rattle.ept_space.specs.VoxelKey.{VoxelKey, root, child}
+use Rattle.ept_space.specs.VoxelKey.{VoxelKey, root, child, AreAscending}
 use Rattle.ept_sample.specs.Members.{IsMember}
 use Rattle.ept_grid.specs.Mask.{opened}
 use Rattle.ept_grid.specs.Outgoing.{Leaving, points_at}
-use Rattle.ept_sample.specs.Nodes.{AreAscending}
 use Rattle.ept_core.specs.State.{Entry, keys_of, node_at, has_node, has_open}
 use Rattle.ept_tree.specs.declared.arrival.Arrival.{Arrival}
 use Rattle.ept_tree.specs.Tree.{Branch, entry_of}

@@ -5,8 +5,6 @@
 mod arrival;
 mod laws;
 mod octree;
-#[cfg(test)]
-mod tests;
 mod tree_error;
 
 pub use laws::sampled_law;

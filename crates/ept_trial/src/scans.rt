@@ -3,7 +3,7 @@
 ghost use Rattle.std.specs.Prelude.{◌≡◌, ◌≤◌, ◌<◌, ◌+◌, ◌*◌, ◌++◌, IfOk, OnOk};
 ghost use Rattle.byteorder.specs.Endian.{little_bytes};
 ghost use Rattle.ept_trial.specs.Trials.{state};
-ghost use Rattle.ept_trial.specs.Scans.{drawn, record_bytes, header_bytes, records_of, scan_bytes};
+ghost use Rattle.ept_trial.specs.Scans.{drawn, record_bytes, header_bytes, scan_bytes};
 
 use ept_num::lcg;
 use ept_point::Memory;

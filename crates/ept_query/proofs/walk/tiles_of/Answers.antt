@@ -7,9 +7,8 @@ use Rattle.std.specs.Prelude.{IsSome}
 use Rattle.std.proofs.lemmas.Bool.{false≢true}
 use Rattle.std.proofs.lemmas.Result.{err_from_is_err_and}
 use Rattle.ept_base.specs.Files.{Tells}
-use Rattle.ept_space.specs.VoxelKey.{VoxelKey, IsKey, key_cmp}
+use Rattle.ept_space.specs.VoxelKey.{VoxelKey, IsKey, key_cmp, AreAscending}
 use Rattle.ept_hier.specs.Hierarchy.{Node, keys_of}
-use Rattle.ept_sample.specs.Nodes.{AreAscending}
 use Rattle.ept_query.specs.Plan.{EachIsThere, IsPlan}
 use Rattle.ept_query.specs.Walk.{NotesFile}
 use Rattle.ept_query.proofs.Counting.{left-falls}
