@@ -4,7 +4,14 @@ use ept_ckpt::{Checkpoint, CkptError, Letter, read_ckpt, write_ckpt};
 use ept_point::Text;
 use ept_space::{Bounds, Key, child};
 use std::alloc::{AllocError, Global};
+use std::fmt::Debug;
+use std::process::Abort;
 use std::test::Fail;
+
+// What `assert_eq!` writes is proved wherever it stands, so it stands here once.
+fn same<T: PartialEq + Debug>(rt: &impl Abort, found: &T, wanted: &T) {
+    assert_eq!(rt; found, wanted);
+}
 
 // The body of a checkpoint of two inputs and two nodes, piece by piece.
 static PIECES: [&[u8]; 13] = [
@@ -108,7 +115,7 @@ fn has_nodes(c: &Checkpoint) -> bool {
 fn reads_and_writes_a_body(rt: HostRuntime) -> Result<(), Fail> {
     let body = worked_body(rt.alloc())?;
     let checkpoint = read_ckpt(rt.alloc(), &body)?;
-    assert_eq!(rt; (checkpoint.generation, checkpoint.inserted), (2, 5));
+    same(&rt, &(checkpoint.generation, checkpoint.inserted), &(2, 5));
     assert!(rt; has_settings(&checkpoint) && has_reference(&checkpoint));
     assert!(rt; has_inputs(&checkpoint) && has_counts(&checkpoint));
     assert!(rt; has_nodes(&checkpoint));
@@ -129,10 +136,22 @@ fn refuses_each_part_and_each_longer_one(rt: HostRuntime) -> Result<(), Fail> {
         );
     }
     body.push(0)?;
-    assert!(rt; read_ckpt(rt.alloc(), &body).err() == Some(CkptError::Length));
+    same(
+        &rt,
+        &read_ckpt(rt.alloc(), &body).err(),
+        &Some(CkptError::Length),
+    );
     // The name and the version are one field.
-    assert!(rt; read_ckpt(rt.alloc(), b"EPTX\x01\0\0").err() == Some(CkptError::Length));
-    assert!(rt; read_ckpt(rt.alloc(), b"EPTX\x01\0\0\0").err() == Some(CkptError::Version));
+    same(
+        &rt,
+        &read_ckpt(rt.alloc(), b"EPTX\x01\0\0").err(),
+        &Some(CkptError::Length),
+    );
+    same(
+        &rt,
+        &read_ckpt(rt.alloc(), b"EPTX\x01\0\0\0").err(),
+        &Some(CkptError::Version),
+    );
     Ok(())
 }
 

@@ -6,7 +6,15 @@ use ept_config::{
 use ept_point::Text;
 use ept_space::Bounds;
 use std::alloc::Global;
+use std::fmt::Debug;
+use std::process::Abort;
 use std::test::Fail;
+
+// What `assert_eq!` writes is proved wherever it stands, so it stands here once, and again only where a later line
+// has to know what it found.
+fn same<T: PartialEq + Debug>(rt: &impl Abort, found: &T, wanted: &T) {
+    assert_eq!(rt; found, wanted);
+}
 
 fn range(key: ConfigKey) -> ConfigError {
     ConfigError::Range { key }
@@ -299,27 +307,25 @@ const ENDS: &str = r#"
 #[test]
 fn reads_defaults(rt: HostRuntime) -> Result<(), Fail> {
     let config = read_config(rt.alloc(), br#"{"input":"a.las","scale":2}"#)?;
-    assert_eq!(rt; config.scale, 2);
-    assert_eq!(rt; config.offset, [0, 0, 0]);
-    assert_eq!(rt; config.bounds, None);
-    assert_eq!(rt; config.s, 7);
-    assert_eq!(rt; config.threshold, 4096);
-    assert_eq!(rt; config.max_depth, 32);
-    assert_eq!(rt; config.step, 0);
+    same(&rt, &(config.scale, config.offset), &(2, [0, 0, 0]));
+    same(&rt, &config.bounds, &None);
+    same(&rt, &(config.s, config.threshold), &(7, 4096));
+    same(&rt, &(config.max_depth, config.step), &(32, 0));
     assert!(rt; config.srs.authority.is_none());
     assert!(rt; config.srs.horizontal.is_none());
     assert!(rt; config.srs.vertical.is_none());
     assert!(rt; config.srs.wkt.is_none());
-    assert_eq!(rt; config.threads, 4);
-    assert_eq!(rt; config.cache, 64);
-    assert_eq!(rt; config.max_nodes, 65_536);
-    assert_eq!(rt; config.checkpoint, 10_000_000);
+    same(&rt, &(config.threads, config.cache), &(4, 64));
+    same(
+        &rt,
+        &(config.max_nodes, config.checkpoint),
+        &(65_536, 10_000_000),
+    );
     assert_eq!(rt; config.inputs.as_slice().len(), 1);
     let input = config.input(0);
-    assert_eq!(rt; input.path.as_str(), "a.las");
-    assert_eq!(rt; input.scale, 2);
-    assert_eq!(rt; input.shift, [0, 0, 0]);
-    assert_eq!(rt; input.expect, None);
+    same(&rt, &(input.path.as_str(), input.scale), &("a.las", 2));
+    same(&rt, &input.shift, &[0, 0, 0]);
+    same(&rt, &input.expect, &None);
     Ok(())
 }
 
@@ -336,47 +342,52 @@ const FULL: &str = r#"{
 #[test]
 fn reads_each_key(rt: HostRuntime) -> Result<(), Fail> {
     let config = read_config(rt.alloc(), FULL.as_bytes())?;
-    assert_eq!(rt; config.scale, 3);
-    assert_eq!(rt; config.offset, [500_000, -5_000_000, 7]);
+    same(
+        &rt,
+        &(config.scale, config.offset),
+        &(3, [500_000, -5_000_000, 7]),
+    );
     let bounds = Bounds {
         min: [-1, -2, -3],
         max: [4, 5, 6],
     };
-    assert_eq!(rt; config.bounds, Some(bounds));
-    assert_eq!(rt; config.s, 4);
-    assert_eq!(rt; config.threshold, 3);
-    assert_eq!(rt; config.max_depth, 5);
-    assert_eq!(rt; config.step, 6);
-    assert_eq!(rt; text_of(&config.srs.authority), "EPSG");
-    assert_eq!(rt; text_of(&config.srs.horizontal), "25832");
-    assert_eq!(rt; text_of(&config.srs.vertical), "7837");
-    assert_eq!(rt; text_of(&config.srs.wkt), "");
-    assert_eq!(rt; config.threads, 7);
-    assert_eq!(rt; config.cache, 8);
-    assert_eq!(rt; config.max_nodes, 9);
-    assert_eq!(rt; config.checkpoint, 2);
+    same(&rt, &config.bounds, &Some(bounds));
+    same(&rt, &(config.s, config.threshold), &(4, 3));
+    same(&rt, &(config.max_depth, config.step), &(5, 6));
+    same(&rt, &text_of(&config.srs.authority), &"EPSG");
+    same(&rt, &text_of(&config.srs.horizontal), &"25832");
+    same(&rt, &text_of(&config.srs.vertical), &"7837");
+    same(&rt, &text_of(&config.srs.wkt), &"");
+    same(&rt, &(config.threads, config.cache), &(7, 8));
+    same(&rt, &(config.max_nodes, config.checkpoint), &(9, 2));
+    Ok(())
+}
+
+#[test]
+fn reads_each_key_of_an_input(rt: HostRuntime) -> Result<(), Fail> {
+    let config = read_config(rt.alloc(), FULL.as_bytes())?;
     let [first, second] = config.inputs.as_slice() else {
         return Err(Fail::new("another number of inputs"));
     };
-    assert_eq!(rt; first.path.as_str(), "a b.las");
-    assert_eq!(rt; first.scale, 3);
-    assert_eq!(rt; second.path.as_str(), "\u{e4}.las");
-    assert_eq!(rt; second.scale, 1);
-    assert_eq!(rt; second.shift, [-8, 9, 10]);
+    same(&rt, &(first.path.as_str(), first.scale), &("a b.las", 3));
+    same(
+        &rt,
+        &(second.path.as_str(), second.scale),
+        &("\u{e4}.las", 1),
+    );
+    same(&rt, &second.shift, &[-8, 9, 10]);
     let Some(expect) = second.expect else {
         return Err(Fail::new("no expected bytes"));
     };
-    assert_eq!(rt; expect[0], 0);
-    assert_eq!(rt; expect[10], 10);
-    assert_eq!(rt; expect[46], 46);
-    assert_eq!(rt; expect[47], 255);
+    same(&rt, &(expect[0], expect[10]), &(0, 10));
+    same(&rt, &(expect[46], expect[47]), &(46, 255));
     Ok(())
 }
 
 #[test]
 fn answers_as_the_tables_say(rt: HostRuntime) {
     for table in [TEXTS, NUMBERS, LISTS, INPUTS, REFERENCES, ORDER, ENDS] {
-        assert_eq!(rt; first_wrong(rt.alloc(), table), None);
+        same(&rt, &first_wrong(rt.alloc(), table), &None);
     }
 }
 
@@ -386,47 +397,54 @@ fn keeps_to_lengths(rt: HostRuntime) -> Result<(), Fail> {
     let alloc = rt.alloc();
     let front = r#"{"scale":0,"input":""#;
     let text = filled(alloc, front, b'a', 4096, r#""}"#)?;
-    assert_eq!(rt; refusal_of(alloc, text.as_slice()), None);
+    same(&rt, &refusal_of(alloc, text.as_slice()), &None);
     let text = filled(alloc, front, b'a', 4097, r#""}"#)?;
-    assert_eq!(rt;
-        refusal_of(alloc, text.as_slice()),
-        Some(range(ConfigKey::Input))
+    same(
+        &rt,
+        &refusal_of(alloc, text.as_slice()),
+        &Some(range(ConfigKey::Input)),
     );
 
     let front = r#"{"scale":0,"input":"a","srs":{"wkt":""#;
     let text = filled(alloc, front, b'a', 65_536, r#""}}"#)?;
-    assert_eq!(rt; refusal_of(alloc, text.as_slice()), None);
+    same(&rt, &refusal_of(alloc, text.as_slice()), &None);
     let text = filled(alloc, front, b'a', 65_537, r#""}}"#)?;
-    assert_eq!(rt;
-        refusal_of(alloc, text.as_slice()),
-        Some(range(ConfigKey::Srs))
+    same(
+        &rt,
+        &refusal_of(alloc, text.as_slice()),
+        &Some(range(ConfigKey::Srs)),
     );
 
     let text = many_inputs(alloc, 65_535)?;
-    assert_eq!(rt; refusal_of(alloc, text.as_slice()), None);
+    same(&rt, &refusal_of(alloc, text.as_slice()), &None);
     let text = many_inputs(alloc, 65_536)?;
-    assert_eq!(rt;
-        refusal_of(alloc, text.as_slice()),
-        Some(range(ConfigKey::Input))
+    same(
+        &rt,
+        &refusal_of(alloc, text.as_slice()),
+        &Some(range(ConfigKey::Input)),
     );
 
     let front = r#"{"scale":0,"input":"a"}"#;
     let text = filled(alloc, front, b' ', 16_777_193, "")?;
-    assert_eq!(rt; text.len(), MAX_LENGTH);
-    assert_eq!(rt; refusal_of(alloc, text.as_slice()), None);
+    same(&rt, &text.len(), &MAX_LENGTH);
+    same(&rt, &refusal_of(alloc, text.as_slice()), &None);
     let text = filled(alloc, "", b'!', 16_777_217, "")?;
-    assert_eq!(rt; refusal_of(alloc, text.as_slice()), Some(ConfigError::Long));
+    same(
+        &rt,
+        &refusal_of(alloc, text.as_slice()),
+        &Some(ConfigError::Long),
+    );
     Ok(())
 }
 
 #[test]
 fn refuses_what_is_no_text(rt: HostRuntime) {
     let alloc = rt.alloc();
-    assert_eq!(rt; refusal_of(alloc, b""), Some(ConfigError::Json));
+    same(&rt, &refusal_of(alloc, b""), &Some(ConfigError::Json));
     let invalid = refusal_of(alloc, b"{\"input\":\"\xff\",\"scale\":2}");
-    assert_eq!(rt; invalid, Some(ConfigError::Json));
+    same(&rt, &invalid, &Some(ConfigError::Json));
     let marked = refusal_of(alloc, b"\xef\xbb\xbf{\"input\":\"a\",\"scale\":2}");
-    assert_eq!(rt; marked, Some(ConfigError::Json));
+    same(&rt, &marked, &Some(ConfigError::Json));
 }
 
 #[test]
@@ -437,15 +455,15 @@ fn keeps_what_the_output_depends_on(rt: HostRuntime) -> Result<(), Fail> {
         max: [7, 8, 9],
     };
     let kept = config.kept(rt.alloc(), &bounds)?;
-    assert_eq!(rt; kept.scale, 3);
-    assert_eq!(rt; kept.bounds, bounds);
-    assert_eq!(rt; kept.step, 6);
-    assert_eq!(rt; text_of(&kept.srs.horizontal), "25832");
+    same(&rt, &kept.scale, &3);
+    same(&rt, &kept.bounds, &bounds);
+    same(&rt, &kept.step, &6);
+    same(&rt, &text_of(&kept.srs.horizontal), &"25832");
     assert_eq!(rt; kept.inputs.as_slice().len(), 2);
-    assert_eq!(rt; kept.input(0).path.as_str(), "a b.las");
+    same(&rt, &kept.input(0).path.as_str(), &"a b.las");
     let again = kept.copy(rt.alloc())?;
-    assert_eq!(rt; again.s, 4);
-    assert_eq!(rt; again.inputs.as_slice().len(), 2);
+    same(&rt, &again.s, &4);
+    same(&rt, &again.inputs.as_slice().len(), &2);
     Ok(())
 }
 

@@ -1,5 +1,6 @@
 //! Connections over a link in memory, from a folder in memory whose files are written out by hand.
 
+use crate::tests::same;
 use ept_conn::{End, serve_link};
 use ept_mem::{MemLink, MemStore};
 use ept_query::QueryFile;
@@ -118,15 +119,15 @@ fn requests_are_answered_however_they_are_cut(rt: HostRuntime) -> Result<(), Fai
         for size in [1, 1000] {
             let mut store = store_of(alloc, &FOLDER, &[])?;
             let mut link = link_of(alloc, request, size, &[])?;
-            assert_eq!(rt; serve_link(alloc, &mut link, &mut store), End::Closed);
-            assert_eq!(rt; link.written(), answer.as_slice());
+            same(&rt, &serve_link(alloc, &mut link, &mut store), &End::Closed);
+            same(&rt, &link.written(), &answer.as_slice());
         }
     }
     for size in [1, 7, 100_000] {
         let mut store = store_of(alloc, &FOLDER, &[])?;
         let mut link = link_of(alloc, &requests, size, &[])?;
-        assert_eq!(rt; serve_link(alloc, &mut link, &mut store), End::Closed);
-        assert_eq!(rt; link.written(), answers.as_slice());
+        same(&rt, &serve_link(alloc, &mut link, &mut store), &End::Closed);
+        same(&rt, &link.written(), &answers.as_slice());
     }
     Ok(())
 }
@@ -206,8 +207,8 @@ fn what_is_damaged_or_not_complete_is_told(rt: HostRuntime) -> Result<(), Fail> 
     for ((from, to), request, end, answer) in DAMAGED {
         let mut store = store_of(alloc, &FOLDER[from..to], &[])?;
         let mut link = link_of(alloc, request, 10_000, &[])?;
-        assert_eq!(rt; serve_link(alloc, &mut link, &mut store), end);
-        assert_eq!(rt; link.written(), answer);
+        same(&rt, &serve_link(alloc, &mut link, &mut store), &end);
+        same(&rt, &link.written(), &answer);
     }
     Ok(())
 }
@@ -229,8 +230,8 @@ fn a_fault_ends_the_connection(rt: HostRuntime) -> Result<(), Fail> {
     for (store_fails, link_fails, end, answer) in FAILING {
         let mut store = store_of(alloc, &FOLDER, store_fails)?;
         let mut link = link_of(alloc, GET_TILE, 10_000, link_fails)?;
-        assert_eq!(rt; serve_link(alloc, &mut link, &mut store), end);
-        assert_eq!(rt; link.written(), answer);
+        same(&rt, &serve_link(alloc, &mut link, &mut store), &end);
+        same(&rt, &link.written(), &answer);
     }
     Ok(())
 }

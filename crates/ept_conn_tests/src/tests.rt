@@ -3,7 +3,14 @@
 use ept_conn::{Conn, ConnError, Turn};
 use ept_http::Asked;
 use std::alloc::Global;
+use std::fmt::Debug;
+use std::process::Abort;
 use std::test::Fail;
+
+// What `assert_eq!` writes is proved wherever it stands, so it stands here once.
+pub(crate) fn same<T: PartialEq + Debug>(rt: &impl Abort, found: &T, wanted: &T) {
+    assert_eq!(rt; found, wanted);
+}
 
 // A turn, written out.
 #[derive(Clone, Copy, Debug, PartialEq, Eq)]
@@ -53,8 +60,8 @@ fn take_turns(conn: &mut Conn, seen: usize) -> Result<Option<usize>, Fail> {
 fn gives_turns_of_one_piece(rt: HostRuntime) -> Result<(), Fail> {
     let mut conn = Conn::new(rt.alloc());
     conn.feed(STREAM)?;
-    assert_eq!(rt; take_turns(&mut conn, 0)?, Some(5));
-    assert_eq!(rt; conn.feed(b"GET"), Err(ConnError::Closed));
+    same(&rt, &take_turns(&mut conn, 0)?, &Some(5));
+    same(&rt, &conn.feed(b"GET"), &Err(ConnError::Closed));
     Ok(())
 }
 
@@ -71,7 +78,7 @@ fn gives_turns_byte_by_byte(rt: HostRuntime) -> Result<(), Fail> {
         };
         seen = count;
     }
-    assert_eq!(rt; seen, 5);
+    same(&rt, &seen, &5);
     Ok(())
 }
 
@@ -108,7 +115,7 @@ fn looks_at_8192_bytes(rt: HostRuntime) -> Result<(), Fail> {
     ];
     for (length, want, ends) in cases {
         let head = head_of(rt.alloc(), length)?;
-        assert_eq!(rt; head.len(), length);
+        same(&rt, &head.len(), &length);
         match turn_of(rt.alloc(), head.as_slice())? {
             Some(turn) => assert!(rt; is_wanted(&turn, &want, ends), "at {length}"),
             None => panic!(rt; "no turn at {length}"),

@@ -2,6 +2,7 @@
 
 ghost use Rattle.std.specs.Prelude.{◌<◌};
 
+use crate::tests::same;
 use ept_grid::{Grid, Outgoing};
 use ept_point::Point;
 use ept_space::{Cube, Key, Rules};
@@ -245,10 +246,11 @@ fn loses_no_point_whose_id_stands_twice(rt: HostRuntime) -> Result<(), Fail> {
         }
         let mut kept = Vec::new(rt.alloc());
         grid.points_into(&mut kept)?;
-        assert_eq!(rt; grid.count(), kept.len() as u64);
-        assert_eq!(rt;
-            kept.len().wrapping_add(points_out(&out)),
-            ARRIVALS as usize
+        same(&rt, &grid.count(), &(kept.len() as u64));
+        same(
+            &rt,
+            &kept.len().wrapping_add(points_out(&out)),
+            &(ARRIVALS as usize),
         );
         assert!(rt;
             kept.as_slice()

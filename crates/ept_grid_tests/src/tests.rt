@@ -7,7 +7,14 @@ use ept_point::Point;
 use ept_sample::ids_ascend;
 use ept_space::{Cube, Key, Rules};
 use std::alloc::{AllocError, Global};
+use std::fmt::Debug;
+use std::process::Abort;
 use std::test::Fail;
+
+// What `assert_eq!` writes is proved wherever it stands, so it stands here once.
+pub(crate) fn same<T: PartialEq + Debug>(rt: &impl Abort, found: &T, wanted: &T) {
+    assert_eq!(rt; found, wanted);
+}
 
 // The number of a point in the one scan, and its place.
 type Recorded = (u32, [i32; 3]);
@@ -166,12 +173,12 @@ fn takes_in_the_worked_points(rt: HostRuntime) -> Result<(), Fail> {
         let mut kept = Vec::new(rt.alloc());
         grid.points_into(&mut kept)?;
         assert!(rt; have_numbers(kept.as_slice(), case.kept));
-        assert_eq!(rt; grid.count(), case.kept.len() as u64);
-        assert_eq!(rt; grid.open_mask(), case.mask);
+        same(&rt, &grid.count(), &(case.kept.len() as u64));
+        same(&rt, &grid.open_mask(), &case.mask);
         assert!(rt; case.octant < 8);
         assert!(rt; have_numbers(out.points(case.octant), case.sent));
         out.clear();
-        assert_eq!(rt; out.points(case.octant).len(), 0);
+        same(&rt, &out.points(case.octant).len(), &0);
     }
     Ok(())
 }
@@ -217,11 +224,11 @@ fn makes_nodes_of_tiles(rt: HostRuntime) -> Result<(), Fail> {
         assert!(rt; key.depth <= rules.cube.depth);
         match Grid::from_tile(rt.alloc(), key, &rules, mask, points.as_slice()) {
             Ok(grid) => {
-                assert_eq!(rt; None, fault);
-                assert_eq!(rt; grid.count(), recorded.len() as u64);
-                assert_eq!(rt; grid.open_mask(), mask);
+                same(&rt, &fault, &None);
+                same(&rt, &grid.count(), &(recorded.len() as u64));
+                same(&rt, &grid.open_mask(), &mask);
             }
-            Err(error) => assert_eq!(rt; Some(error), fault),
+            Err(error) => same(&rt, &Some(error), &fault),
         }
     }
     Ok(())

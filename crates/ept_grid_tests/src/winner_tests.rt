@@ -2,6 +2,7 @@
 
 ghost use Rattle.std.specs.Prelude.{◌≡◌, ◌<◌};
 
+use crate::tests::same;
 use ept_grid::{Grid, Outgoing, Steps};
 use ept_point::Point;
 use ept_space::{Cube, Key, Rules};
@@ -78,9 +79,9 @@ fn finds_the_winners_of_cells(rt: HostRuntime) -> Result<(), Fail> {
             grid.arrive(arriving, &mut out);
         }
     }
-    assert_eq!(rt; number_in(&grid, [0, 0, 1]), Some(1));
-    assert_eq!(rt; number_in(&grid, [0, 0, 0]), Some(0));
-    assert_eq!(rt; number_in(&grid, [1, 1, 1]), Some(2));
-    assert_eq!(rt; number_in(&grid, [1, 0, 0]), None);
+    same(&rt, &number_in(&grid, [0, 0, 1]), &Some(1));
+    same(&rt, &number_in(&grid, [0, 0, 0]), &Some(0));
+    same(&rt, &number_in(&grid, [1, 1, 1]), &Some(2));
+    same(&rt, &number_in(&grid, [1, 0, 0]), &None);
     Ok(())
 }

@@ -4,7 +4,14 @@ use ept_config::{Kept, SourceCount, read_config};
 use ept_meta::{MetaError, build_json, ept_json, manifest_json, read_build_json};
 use ept_space::Bounds;
 use std::alloc::Global;
+use std::fmt::Debug;
+use std::process::Abort;
 use std::test::Fail;
+
+// What `assert_eq!` writes is proved wherever it stands, so it stands here once.
+fn same<T: PartialEq + Debug>(rt: &impl Abort, found: &T, wanted: &T) {
+    assert_eq!(rt; found, wanted);
+}
 
 // Metadata: the configuration, the extent and number of the points, and the pieces of the text.
 #[derive(Drop)]
@@ -209,7 +216,7 @@ fn writes_metadata(rt: HostRuntime) -> Result<(), Fail> {
         let kept = kept_of(alloc, row.config)?;
         let mut text = joined(alloc, &[])?;
         ept_json(&kept, row.extent.as_ref(), row.points, &mut text)?;
-        assert_eq!(rt; text.as_slice(), joined(alloc, row.text)?.as_slice());
+        same(&rt, &text.as_slice(), &joined(alloc, row.text)?.as_slice());
     }
     Ok(())
 }
@@ -224,7 +231,11 @@ fn writes_manifests(rt: HostRuntime) -> Result<(), Fail> {
         }
         let mut text = joined(alloc, &[])?;
         manifest_json(&kept, row.counts, &mut text)?;
-        assert_eq!(rt; text.as_slice(), joined(alloc, &[row.text])?.as_slice());
+        same(
+            &rt,
+            &text.as_slice(),
+            &joined(alloc, &[row.text])?.as_slice(),
+        );
     }
     Ok(())
 }
@@ -236,7 +247,11 @@ fn writes_build_files(rt: HostRuntime) -> Result<(), Fail> {
         let kept = kept_of(alloc, row.config)?;
         let mut text = joined(alloc, &[])?;
         build_json(&kept, &mut text)?;
-        assert_eq!(rt; text.as_slice(), joined(alloc, &[row.text])?.as_slice());
+        same(
+            &rt,
+            &text.as_slice(),
+            &joined(alloc, &[row.text])?.as_slice(),
+        );
     }
     Ok(())
 }
@@ -272,7 +287,7 @@ fn reads_build_files(rt: HostRuntime) -> Result<(), Fail> {
         };
         let mut text = Vec::new(alloc);
         build_json(&kept, &mut text)?;
-        assert_eq!(rt; text.as_slice(), row.text.as_bytes());
+        same(&rt, &text.as_slice(), &row.text.as_bytes());
     }
     Ok(())
 }

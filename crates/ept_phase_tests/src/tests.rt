@@ -11,7 +11,18 @@ use ept_sample::are_in_cube;
 use ept_save::{SaveError, open};
 use ept_space::{Key, child};
 use std::alloc::{AllocError, Global};
+use std::fmt::Debug;
+use std::process::Abort;
 use std::test::Fail;
+
+// What `assert_eq!` writes is proved wherever it stands, so it stands here once.
+fn same<T: PartialEq + Debug>(rt: &impl Abort, found: &T, wanted: &T) {
+    assert_eq!(rt; found, wanted);
+}
+
+fn same_at<T: PartialEq + Debug, P: Debug>(rt: &impl Abort, found: &T, wanted: &T, place: &P) {
+    assert_eq!(rt; found, wanted, "at {place:?}");
+}
 
 // A point of the first input.
 fn point(number: u32, place: i32) -> Point {
@@ -44,28 +55,29 @@ fn point(number: u32, place: i32) -> Point {
 // at its first loser: its root, with the tile of this letter and all points but one, and below it the node
 // 1-0-0-0 with one point, whose tile is under letter a.
 fn body(alloc: Global, generation: u8, inserted: u8, letter: u8) -> Result<Vec<u8>, AllocError> {
-    let mut bytes = Vec::from_slice(alloc, b"EPTW\x01\0\0\0")?;
-    bytes.extend_from_slice(&[generation, 0, 0, 0, 0, 0, 0, 0])?;
-    bytes.extend_from_slice(
+    let mut bytes = Vec::new(alloc);
+    for piece in [
+        b"EPTW\x01\0\0\0".as_slice(),
+        &[generation, 0, 0, 0, 0, 0, 0, 0],
         b"\x02\x01\x01\0\0\0\0\0\
         \0\0\0\0\0\0\0\0\0\0\0\0\0\0\0\0\0\0\0\0\0\0\0\0\
         \0\0\0\0\0\0\0\0\0\0\0\0\x03\0\0\0\x03\0\0\0\x03\0\0\0\0\
         \x01\0\0\0\x05\0\0\0a.las\x02\0\0\0\0\0\0\0\0\0\0\0\0\0\0\0\0\0\0\0\0\0\0\0\0\0\
         \x03\0\0\0\0\0\0\0\x01\0\0\0\0\0\0\0\0\0\0\0\0\x03\0\0\0\x03\0\0\0\x03\0\0\0",
-    )?;
-    bytes.extend_from_slice(&[inserted, 0, 0, 0, 0, 0, 0, 0, 2, 0, 0, 0])?;
-    bytes.extend_from_slice(&[0, 0, 0, 0, 0, 0, 0, 0, 0, 0, 0, 0, 0])?;
-    bytes.extend_from_slice(&[inserted.saturating_sub(1), 0, 0, 0, 0, 0, 0, 0, 1, letter])?;
-    bytes.extend_from_slice(&[1, 0, 0, 0, 0, 0, 0, 0, 0, 0, 0, 0, 0])?;
-    bytes.extend_from_slice(&[1, 0, 0, 0, 0, 0, 0, 0, 0, 0])?;
+        &[inserted, 0, 0, 0, 0, 0, 0, 0, 2, 0, 0, 0],
+        &[0, 0, 0, 0, 0, 0, 0, 0, 0, 0, 0, 0, 0],
+        &[inserted.saturating_sub(1), 0, 0, 0, 0, 0, 0, 0, 1, letter],
+        &[1, 0, 0, 0, 0, 0, 0, 0, 0, 0, 0, 0, 0],
+        &[1, 0, 0, 0, 0, 0, 0, 0, 0, 0],
+    ] {
+        bytes.extend_from_slice(piece)?;
+    }
     Ok(bytes)
 }
 
 fn file(alloc: Global, name: &str, bytes: &[u8]) -> Result<(String, Vec<u8>), AllocError> {
-    Ok((
-        String::from_str(alloc, name)?,
-        Vec::from_slice(alloc, bytes)?,
-    ))
+    let name = String::from_str(alloc, name)?;
+    Ok((name, Vec::from_slice(alloc, bytes)?))
 }
 
 fn tile_of(alloc: Global, points: &[Point]) -> Result<Vec<u8>, Fail> {
@@ -77,13 +89,18 @@ fn tile_of(alloc: Global, points: &[Point]) -> Result<Vec<u8>, Fail> {
 // A store with a checkpoint of which two points are inserted. Both lie at 0, in one cell of the root, so the first
 // stays there; the lower node's tile has these points.
 fn store_of(alloc: Global, below: &[Point]) -> Result<MemStore, Fail> {
-    let mut files = Vec::new(alloc);
-    files.push(file(alloc, "ept-work/gate-a", &[1])?)?;
-    files.push(file(alloc, "ept-work/body-a", &body(alloc, 1, 2, 0)?)?)?;
+    let body = body(alloc, 1, 2, 0)?;
     let root = tile_of(alloc, &[point(0, 0)])?;
-    files.push(file(alloc, "ept-work/a/0-0-0-0.bin", &root)?)?;
     let below = tile_of(alloc, below)?;
-    files.push(file(alloc, "ept-work/a/1-0-0-0.bin", &below)?)?;
+    let mut files = Vec::new(alloc);
+    for (name, bytes) in [
+        ("ept-work/gate-a", [1].as_slice()),
+        ("ept-work/body-a", &body),
+        ("ept-work/a/0-0-0-0.bin", &root),
+        ("ept-work/a/1-0-0-0.bin", &below),
+    ] {
+        files.push(file(alloc, name, bytes)?)?;
+    }
     Ok(MemStore::new(alloc, files, Vec::new(alloc)))
 }
 
@@ -135,27 +152,38 @@ fn save_next(alloc: Global, store: &mut MemStore, next: Point) -> Result<bool, F
     Ok(true)
 }
 
-fn bytes_of<'a>(store: &'a MemStore, name: &str) -> &'a [u8] {
-    store.file(name).unwrap_or(&[])
+fn expect_file(rt: &impl Abort, store: &MemStore, name: &str, wanted: &[u8]) {
+    same_at(rt, &store.file(name), &Some(wanted), &name);
+}
+
+// The files of the first checkpoint, which stay as they were.
+fn expect_first(rt: &impl Abort, alloc: Global, store: &MemStore) -> Result<(), Fail> {
+    expect_file(rt, store, "ept-work/gate-a", &[1]);
+    expect_file(rt, store, "ept-work/body-a", &body(alloc, 1, 2, 0)?);
+    let root = tile_of(alloc, &[point(0, 0)])?;
+    expect_file(rt, store, "ept-work/a/0-0-0-0.bin", &root);
+    Ok(())
+}
+
+// The files of the second checkpoint.
+fn expect_second(rt: &impl Abort, alloc: Global, store: &MemStore) -> Result<(), Fail> {
+    expect_file(rt, store, "ept-work/gate-b", &[1]);
+    expect_file(rt, store, "ept-work/body-b", &body(alloc, 2, 3, 1)?);
+    let both = tile_of(alloc, &[point(0, 0), point(2, 3)])?;
+    expect_file(rt, store, "ept-work/b/0-0-0-0.bin", &both);
+    same(rt, &store.file("ept-work/b/1-0-0-0.bin"), &None);
+    Ok(())
 }
 
 #[test]
 fn of_an_octree_only_the_tile_that_changed_is_put(rt: HostRuntime) -> Result<(), Fail> {
     let alloc = rt.alloc();
     let mut store = store_of(alloc, &[point(1, 0)])?;
-    let (body_a, root) = (body(alloc, 1, 2, 0)?, tile_of(alloc, &[point(0, 0)])?);
-    assert_eq!(rt; loaded(alloc, &mut store, 2)?, Some(Ok(2)));
-    assert!(rt; save_next(alloc, &mut store, point(2, 3))?);
-    assert!(rt; bytes_of(&store, "ept-work/gate-a") == [1].as_slice());
-    assert!(rt; bytes_of(&store, "ept-work/body-a") == body_a.as_slice());
-    assert!(rt; bytes_of(&store, "ept-work/a/0-0-0-0.bin") == root.as_slice());
-    assert!(rt; bytes_of(&store, "ept-work/gate-b") == [1].as_slice());
-    let body_b = body(alloc, 2, 3, 1)?;
-    assert!(rt; bytes_of(&store, "ept-work/body-b") == body_b.as_slice());
-    let both = tile_of(alloc, &[point(0, 0), point(2, 3)])?;
-    assert!(rt; bytes_of(&store, "ept-work/b/0-0-0-0.bin") == both.as_slice());
-    assert!(rt; store.file("ept-work/b/1-0-0-0.bin").is_none());
-    assert_eq!(rt; loaded(alloc, &mut store, 2)?, Some(Ok(2)));
+    same(&rt, &loaded(alloc, &mut store, 2)?, &Some(Ok(2)));
+    same(&rt, &save_next(alloc, &mut store, point(2, 3))?, &true);
+    expect_first(&rt, alloc, &store)?;
+    expect_second(&rt, alloc, &store)?;
+    same(&rt, &loaded(alloc, &mut store, 2)?, &Some(Ok(2)));
     Ok(())
 }
 
@@ -165,11 +193,12 @@ fn a_damaged_tile_is_told_by_its_key(rt: HostRuntime) -> Result<(), Fail> {
     let mut none = store_of(alloc, &[])?;
     let key = child(&Key::ROOT, 0);
     let damaged = LoadError::Save(SaveError::TileDamaged { key });
-    assert_eq!(rt; loaded(alloc, &mut none, 2)?, Some(Err(damaged)));
+    same(&rt, &loaded(alloc, &mut none, 2)?, &Some(Err(damaged)));
     let mut many = store_of(alloc, &[point(1, 0)])?;
-    assert_eq!(rt;
-        loaded(alloc, &mut many, 1)?,
-        Some(Err(LoadError::TooManyNodes))
+    same(
+        &rt,
+        &loaded(alloc, &mut many, 1)?,
+        &Some(Err(LoadError::TooManyNodes)),
     );
     Ok(())
 }

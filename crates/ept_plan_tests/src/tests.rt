@@ -8,7 +8,14 @@ use ept_save::{Saved, open};
 use ept_scan::ScanError;
 use ept_space::Bounds;
 use std::alloc::{AllocError, Global};
+use std::fmt::Debug;
+use std::process::Abort;
 use std::test::Fail;
+
+// What `assert_eq!` writes is proved wherever it stands, so it stands here once.
+fn same<T: PartialEq + Debug>(rt: &impl Abort, found: &T, wanted: &T) {
+    assert_eq!(rt; found, wanted);
+}
 
 // The front of a configuration that goes on from the checkpoints below. Of a key that stands twice the last counts.
 const FRONT: &str =
@@ -57,10 +64,8 @@ fn configured(alloc: Global, more: &str) -> Result<Config, Fail> {
 }
 
 fn file(alloc: Global, name: &str, bytes: &[u8]) -> Result<(String, Vec<u8>), AllocError> {
-    Ok((
-        String::from_str(alloc, name)?,
-        Vec::from_slice(alloc, bytes)?,
-    ))
+    let name = String::from_str(alloc, name)?;
+    Ok((name, Vec::from_slice(alloc, bytes)?))
 }
 
 // A folder without a checkpoint.
@@ -71,16 +76,15 @@ fn fresh(alloc: Global) -> Result<Saved, Fail> {
 
 // A folder with the checkpoint of `a.las`, or of this and `b.las`.
 fn saved(alloc: Global, has_other: bool) -> Result<Saved, Fail> {
-    let mut body = Vec::from_slice(alloc, SETTINGS)?;
-    if has_other {
-        body.extend_from_slice(b"\x02\0\0\0")?;
-        body.extend_from_slice(TWO_POINTS)?;
-        body.extend_from_slice(NO_POINTS)?;
+    let (inputs, other) = if has_other {
+        ([2, 0, 0, 0], NO_POINTS)
     } else {
-        body.extend_from_slice(b"\x01\0\0\0")?;
-        body.extend_from_slice(TWO_POINTS)?;
+        ([1, 0, 0, 0], b"".as_slice())
+    };
+    let mut body = Vec::new(alloc);
+    for piece in [SETTINGS, &inputs, TWO_POINTS, other, INSERTED] {
+        body.extend_from_slice(piece)?;
     }
-    body.extend_from_slice(INSERTED)?;
     let mut files = Vec::new(alloc);
     files.push(file(alloc, "ept-work/gate-a", &[1])?)?;
     files.push(file(alloc, "ept-work/body-a", &body)?)?;
@@ -171,9 +175,9 @@ fn a_first_plan_has_all_inputs(rt: HostRuntime) -> Result<(), Fail> {
         return Err(Fail::new("no plan"));
     };
     let counts = [count(2, Some(cube(1, 2)))];
-    assert_eq!(rt; plan.counts.as_slice(), counts.as_slice());
-    assert_eq!(rt; (plan.points, plan.inserted), (2, 0));
-    assert_eq!(rt; plan.kept.bounds, cube(0, 3));
+    same(&rt, &plan.counts.as_slice(), &counts.as_slice());
+    same(&rt, &(plan.points, plan.inserted), &(2, 0));
+    same(&rt, &plan.kept.bounds, &cube(0, 3));
     assert!(rt; asked_for(&shelf, "a.las"));
     Ok(())
 }
@@ -188,9 +192,9 @@ fn a_next_plan_opens_the_new_input_alone(rt: HostRuntime) -> Result<(), Fail> {
         return Err(Fail::new("no plan"));
     };
     let counts = [count(2, Some(cube(1, 2))), count(3, Some(cube(0, 3)))];
-    assert_eq!(rt; plan.counts.as_slice(), counts.as_slice());
-    assert_eq!(rt; (plan.points, plan.inserted), (5, 2));
-    assert_eq!(rt; plan.kept.inputs.as_slice().len(), 2);
+    same(&rt, &plan.counts.as_slice(), &counts.as_slice());
+    same(&rt, &(plan.points, plan.inserted), &(5, 2));
+    same(&rt, &plan.kept.inputs.as_slice().len(), &2);
     assert!(rt; asked_for(&shelf, "b.las"));
     Ok(())
 }
@@ -254,9 +258,13 @@ fn a_new_input_is_refused_as_the_scan_refuses_it(rt: HostRuntime) -> Result<(), 
         source: 1,
         number: 1,
     };
-    assert_eq!(rt; refusal(alloc, more, &[1, 4])?, Some(outside));
+    same(&rt, &refusal(alloc, more, &[1, 4])?, &Some(outside));
     let absent = r#","input":["a.las","c.las"]"#;
-    assert_eq!(rt; refusal(alloc, absent, &[])?, Some(ScanError::SourceFault));
+    same(
+        &rt,
+        &refusal(alloc, absent, &[])?,
+        &Some(ScanError::SourceFault),
+    );
     Ok(())
 }
 
@@ -269,7 +277,7 @@ fn bounds_that_are_not_given_are_the_kept_ones_or_the_extent(rt: HostRuntime) ->
     let Ok(found) = make_plan(alloc, &config, &mut shelf, &saved) else {
         return Err(Fail::new("no plan"));
     };
-    assert_eq!(rt; found.kept.bounds, cube(1, 2));
+    same(&rt, &found.kept.bounds, &cube(1, 2));
     let mut empty = shelf_of(alloc, "a.las", &[])?;
     let refused = make_plan(alloc, &config, &mut empty, &saved);
     assert!(rt; matches!(refused, Err(PlanError::Scan(ScanError::NoBounds))));

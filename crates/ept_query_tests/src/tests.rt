@@ -5,8 +5,15 @@ use ept_mem::{MemSink, MemStore};
 use ept_query::{QueryError, QueryFile, query, query_plan, query_tile};
 use ept_space::{Box3, Key};
 use std::alloc::{AllocError, Global};
+use std::fmt::Debug;
 use std::process::Abort;
 use std::test::Fail;
+
+// What `assert_eq!` writes is proved wherever it stands, so it stands here once, and again only where a later line
+// has to know what it found.
+fn same<T: PartialEq + Debug>(rt: &impl Abort, found: &T, wanted: &T) {
+    assert_eq!(rt; found, wanted);
+}
 
 // A file of a folder.
 type File<'a> = (&'a str, &'a [u8]);
@@ -100,12 +107,12 @@ fn the_points_of_a_box_and_of_depths_are_answered(rt: HostRuntime) -> Result<(),
         let mut store = store_of(alloc, &files)?;
         let mut out = sink(alloc);
         let count = query(alloc, &mut store, &cube(least, greatest), depths, &mut out);
-        assert_eq!(rt; count, Ok(expected.len() as u64));
+        same(&rt, &count, &Ok(expected.len() as u64));
         let mut bytes = Vec::new(alloc);
         for (place, number) in expected {
             bytes.extend_from_slice(&packed(*place, *number))?;
         }
-        assert_eq!(rt; out.bytes(), bytes.as_slice());
+        same(&rt, &out.bytes(), &bytes.as_slice());
     }
     Ok(())
 }
@@ -132,14 +139,22 @@ fn a_plan_has_the_keys_in_order_and_its_tiles_their_points(rt: HostRuntime) -> R
     let plan = query_plan(alloc, &mut store, &cube(2, 3), (0, 2))?;
     assert_eq!(rt; plan.len(), 2);
     assert!(rt; !plan.is_empty());
-    assert_eq!(rt; plan.key(0), Key::ROOT);
-    assert_eq!(rt; plan.key(1), BELOW);
+    same(&rt, &plan.key(0), &Key::ROOT);
+    same(&rt, &plan.key(1), &BELOW);
     let mut bytes = Vec::new(alloc);
     bytes.push(9)?;
-    assert_eq!(rt; query_tile(alloc, &mut store, &plan, 0, &mut bytes), Ok(0));
+    same(
+        &rt,
+        &query_tile(alloc, &mut store, &plan, 0, &mut bytes),
+        &Ok(0),
+    );
     assert!(rt; bytes.is_empty());
-    assert_eq!(rt; query_tile(alloc, &mut store, &plan, 1, &mut bytes), Ok(1));
-    assert_eq!(rt; bytes.as_slice(), one.as_slice());
+    same(
+        &rt,
+        &query_tile(alloc, &mut store, &plan, 1, &mut bytes),
+        &Ok(1),
+    );
+    same(&rt, &bytes.as_slice(), &one.as_slice());
     Ok(())
 }
 
@@ -153,8 +168,8 @@ fn expect_refusal(
     let mut store = store_of(alloc, files)?;
     let mut out = sink(alloc);
     let found = query(alloc, &mut store, &cube(0, 7), (0, 2), &mut out);
-    assert_eq!(rt; found, Err(want.0));
-    assert_eq!(rt; out.bytes().len(), want.1);
+    same(rt, &found, &Err(want.0));
+    same(rt, &out.bytes().len(), &want.1);
     Ok(())
 }
 
@@ -239,8 +254,8 @@ fn expect_tile(
     }
     let mut out = sink(alloc);
     let found = query(alloc, &mut store, &cube(0, 7), (0, 2), &mut out);
-    assert_eq!(rt; found, Err(want.0));
-    assert_eq!(rt; out.bytes().len(), want.1);
+    same(rt, &found, &Err(want.0));
+    same(rt, &out.bytes().len(), &want.1);
     Ok(())
 }
 
@@ -260,10 +275,10 @@ fn faults_of_the_store_and_of_the_sink_are_told(rt: HostRuntime) -> Result<(), F
         let mut store = store_failing(alloc, &files, fails)?;
         let mut out = sink(alloc);
         let found = query(alloc, &mut store, &cube(0, 7), (0, 2), &mut out);
-        assert_eq!(rt; found, Err(QueryError::StoreFault));
+        same(&rt, &found, &Err(QueryError::StoreFault));
         assert!(rt; out.bytes().is_empty());
         let again = query(alloc, &mut store, &cube(0, 7), (0, 2), &mut out);
-        assert_eq!(rt; again, Ok(1));
+        same(&rt, &again, &Ok(1));
     }
     for write in 0..7u64 {
         let mut fails = Vec::new(alloc);
@@ -271,8 +286,8 @@ fn faults_of_the_store_and_of_the_sink_are_told(rt: HostRuntime) -> Result<(), F
         let mut store = store_of(alloc, &files)?;
         let mut out = MemSink::new(alloc, 7, fails);
         let found = query(alloc, &mut store, &cube(0, 7), (0, 2), &mut out);
-        assert_eq!(rt; found, Err(QueryError::SinkFault));
-        assert_eq!(rt; out.bytes(), &zero[..7 * write as usize]);
+        same(&rt, &found, &Err(QueryError::SinkFault));
+        same(&rt, &out.bytes(), &&zero[..7 * write as usize]);
     }
     Ok(())
 }
@@ -379,8 +394,8 @@ fn a_plain_filter_of_all_rows_finds_the_same(rt: HostRuntime) -> Result<(), Fail
             let expected = filtered(alloc, &area, depths)?;
             let mut out = sink(alloc);
             let count = query(alloc, &mut store, &area, depths, &mut out);
-            assert_eq!(rt; count, Ok(expected.len() as u64 / 49));
-            assert_eq!(rt; out.bytes(), expected.as_slice());
+            same(&rt, &count, &Ok(expected.len() as u64 / 49));
+            same(&rt, &out.bytes(), &expected.as_slice());
         }
     }
     Ok(())

@@ -3,7 +3,7 @@
 use crate::progress::{Ending, Progress, Role, Telling, role_of};
 use crate::tests::flushing::{Disk, Seen};
 use crate::tests::writers::Pieces;
-use crate::tests::{enter, pattern, read_by};
+use crate::tests::{enter, pattern, read_by, same, same_at};
 use crate::{RealShelf, RealSink, RealStore, SeenFiles};
 use ept_base::{Shelf, Sink, Store};
 use std::alloc::{AllocError, Global};
@@ -29,7 +29,7 @@ fn each_file_has_its_role(rt: HostRuntime) -> Result<(), Fail> {
         ("/a/out", "/a/out/ept.json", Role::Output),
         ("/a/out", "out/ept.json", Role::Input),
     ] {
-        assert_eq!(rt; role_of(folder, path), role, "{path} in {folder}");
+        same_at(&rt, &role_of(folder, path), &role, &(path, folder));
     }
     Ok(())
 }
@@ -157,7 +157,7 @@ fn a_build_tells_how_far_it_is(rt: HostRuntime) -> Result<(), Fail> {
     for (call, want) in CALLS {
         make(alloc, &mut shelf, &mut store, call)?;
         let said = seen.said.try_replace(String::new(alloc))?;
-        assert_eq!(rt; last_line(said.as_str()), want, "{call:?}");
+        same_at(&rt, &last_line(said.as_str()), &want, &call);
     }
     Ok(())
 }
@@ -180,10 +180,11 @@ fn a_build_goes_on_where_nothing_is_told(rt: HostRuntime) -> Result<(), Fail> {
         }
         files.end();
         let said = seen.said.try_replace(String::new(alloc))?;
-        assert_eq!(rt; said.as_str(), "", "{is_mute}");
-        assert_eq!(rt;
-            fs::read(&rt, "out/ept-data/0-0-0-0.bin")?.as_slice(),
-            b"points".as_slice()
+        same_at(&rt, &said.as_str(), &"", &is_mute);
+        same(
+            &rt,
+            &fs::read(&rt, "out/ept-data/0-0-0-0.bin")?.as_slice(),
+            &b"points".as_slice(),
         );
     }
     Ok(())
@@ -231,9 +232,9 @@ fn a_line_comes_now_and_then(rt: HostRuntime) -> Result<(), Fail> {
     ] {
         want.push_str(over(alloc, line)?.as_str())?;
     }
-    assert_eq!(rt; told(&rt, Telling::Terminal)?, want);
+    same(&rt, &told(&rt, Telling::Terminal)?, &want);
     let lines = "test: reading 1, 6 MB; checkpoints 0; files put 0, flushed 0\n\
         test: reading 1, 9 MB; checkpoints 0; files put 0, flushed 0\n";
-    assert_eq!(rt; told(&rt, Telling::Lines)?.as_str(), lines);
+    same(&rt, &told(&rt, Telling::Lines)?.as_str(), &lines);
     Ok(())
 }

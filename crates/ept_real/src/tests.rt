@@ -10,8 +10,24 @@ use ept_base::{
     Failed, GetError, Link, PutError, Shelf, Sink, Source, Store, read_full, write_full,
 };
 use std::alloc::{AllocError, Global};
+use std::fmt::Debug;
+use std::process::Abort;
 use std::test::Fail;
 use std::{env, fs};
+
+// What `assert_eq!` writes is proved wherever it stands, so it stands here once.
+pub(crate) fn same<T: PartialEq + Debug>(rt: &impl Abort, found: &T, wanted: &T) {
+    assert_eq!(rt; found, wanted);
+}
+
+pub(crate) fn same_at<T: PartialEq + Debug, P: Debug>(
+    rt: &impl Abort,
+    found: &T,
+    wanted: &T,
+    place: &P,
+) {
+    assert_eq!(rt; found, wanted, "at {place:?}");
+}
 
 // Puts a test into an empty folder of its own.
 pub(crate) fn enter(rt: &HostRuntime, name: &str) -> Result<(), Fail> {
@@ -59,17 +75,17 @@ fn a_source_gives_its_file(rt: HostRuntime) -> Result<(), Fail> {
     let mut source = shelf.open("long")?;
     for size in [333, 65_535, 65_536, 150_001] {
         let read = read_by(alloc, &mut source, size)?;
-        assert_eq!(rt; read.as_slice(), long.as_slice(), "by {size}");
-        assert_eq!(rt; source.read(&mut [0; 5]), Ok(0), "by {size}");
-        assert_eq!(rt; source.rewind(), Ok(()), "by {size}");
+        same_at(&rt, &read.as_slice(), &long.as_slice(), &size);
+        same_at(&rt, &source.read(&mut [0; 5]), &Ok(0), &size);
+        same_at(&rt, &source.rewind(), &Ok(()), &size);
         let mut front = vec![in alloc; 0u8; 70_001]?;
-        assert_eq!(rt; read_full(&mut source, &mut front), Ok(70_001), "by {size}");
+        same_at(&rt, &read_full(&mut source, &mut front), &Ok(70_001), &size);
         assert!(rt; long.starts_with(&front), "by {size}");
-        assert_eq!(rt; source.rewind(), Ok(()), "by {size}");
+        same_at(&rt, &source.rewind(), &Ok(()), &size);
     }
-    assert_eq!(rt; (source.faults, source.given), (0, 1_080_016));
+    same(&rt, &(source.faults, source.given), &(0, 1_080_016));
     shelf.retire(source);
-    assert_eq!(rt; (shelf.faults, shelf.given), (0, 1_080_016));
+    same(&rt, &(shelf.faults, shelf.given), &(0, 1_080_016));
     Ok(())
 }
 
@@ -85,22 +101,22 @@ fn what_can_not_be_read_is_a_fault(rt: HostRuntime) -> Result<(), Fail> {
             matches!(shelf.open(path), Err(GetError::Failed)),
             "at {path}"
         );
-        assert_eq!(rt; shelf.faults, faults, "at {path}");
+        same_at(&rt, &shelf.faults, &faults, &path);
     }
     let mut source = shelf.open("file")?;
     let mut into = [9; 4];
-    assert_eq!(rt; read_full(&mut source, &mut into), Ok(3));
-    assert_eq!(rt; into, *b"one\x09");
-    assert_eq!(rt; source.rewind(), Ok(()));
+    same(&rt, &read_full(&mut source, &mut into), &Ok(3));
+    same(&rt, &into, b"one\x09");
+    same(&rt, &source.rewind(), &Ok(()));
     fs::remove_file(&rt, "file")?;
-    assert_eq!(rt; source.read(&mut into), Err(Failed));
-    assert_eq!(rt; source.read(&mut into), Err(Failed));
-    assert_eq!(rt; into, *b"one\x09");
+    same(&rt, &source.read(&mut into), &Err(Failed));
+    same(&rt, &source.read(&mut into), &Err(Failed));
+    same(&rt, &into, b"one\x09");
     fs::create_dir(&rt, "file")?;
-    assert_eq!(rt; source.read(&mut into), Err(Failed));
-    assert_eq!(rt; (source.faults, source.given), (3, 3));
+    same(&rt, &source.read(&mut into), &Err(Failed));
+    same(&rt, &(source.faults, source.given), &(3, 3));
     shelf.retire(source);
-    assert_eq!(rt; (shelf.faults, shelf.given), (5, 3));
+    same(&rt, &(shelf.faults, shelf.given), &(5, 3));
     Ok(())
 }
 
@@ -116,13 +132,13 @@ fn many_sources_may_be_open(rt: HostRuntime) -> Result<(), Fail> {
     }
     let mut into = [0; 7];
     for source in &mut sources {
-        assert_eq!(rt; read_full(source, &mut into), Ok(6));
-        assert_eq!(rt; into, *b"points\0");
+        same(&rt, &read_full(source, &mut into), &Ok(6));
+        same(&rt, &into, b"points\0");
     }
     for source in sources {
         shelf.retire(source);
     }
-    assert_eq!(rt; (shelf.faults, shelf.given), (0, 12_000));
+    same(&rt, &(shelf.faults, shelf.given), &(0, 12_000));
     Ok(())
 }
 
@@ -132,24 +148,29 @@ fn a_store_keeps_its_files(rt: HostRuntime) -> Result<(), Fail> {
     let alloc = rt.alloc();
     let mut store = RealStore::new(alloc, &rt, "new/out");
     let mut into = Vec::from_slice(alloc, b"before")?;
-    assert_eq!(rt; store.get("deep/down/file", &mut into), Ok(false));
-    assert_eq!(rt; into.as_slice(), b"".as_slice());
-    assert_eq!(rt; store.remove("deep/down/file"), Ok(()));
-    assert_eq!(rt; store.sync(), Ok(()));
-    assert_eq!(rt; store.put("deep/down/file", b"the first"), Ok(()));
-    assert_eq!(rt; store.put("file", b"other"), Ok(()));
-    assert_eq!(rt; store.put("gone", b""), Ok(()));
-    assert_eq!(rt; store.remove("gone"), Ok(()));
-    assert_eq!(rt; store.put("deep/down/file", b"one"), Ok(()));
-    assert_eq!(rt; store.sync(), Ok(()));
-    assert_eq!(rt; store.sync(), Ok(()));
-    assert_eq!(rt; store.get("deep/down/file", &mut into), Ok(true));
-    assert_eq!(rt; into.as_slice(), b"one".as_slice());
-    assert_eq!(rt;
-        fs::read(&rt, "new/out/file")?.as_slice(),
-        b"other".as_slice()
+    same(&rt, &store.get("deep/down/file", &mut into), &Ok(false));
+    same(&rt, &into.as_slice(), &b"".as_slice());
+    same(&rt, &store.remove("deep/down/file"), &Ok(()));
+    same(&rt, &store.sync(), &Ok(()));
+    for (name, bytes) in [
+        ("deep/down/file", b"the first".as_slice()),
+        ("file", b"other"),
+        ("gone", b""),
+    ] {
+        same_at(&rt, &store.put(name, bytes), &Ok(()), &name);
+    }
+    same(&rt, &store.remove("gone"), &Ok(()));
+    same(&rt, &store.put("deep/down/file", b"one"), &Ok(()));
+    same(&rt, &store.sync(), &Ok(()));
+    same(&rt, &store.sync(), &Ok(()));
+    same(&rt, &store.get("deep/down/file", &mut into), &Ok(true));
+    same(&rt, &into.as_slice(), &b"one".as_slice());
+    same(
+        &rt,
+        &fs::read(&rt, "new/out/file")?.as_slice(),
+        &b"other".as_slice(),
     );
-    assert_eq!(rt; (store.faults, store.gets), (0, 2));
+    same(&rt, &(store.faults, store.gets), &(0, 2));
     Ok(())
 }
 
@@ -159,25 +180,26 @@ fn a_store_refuses_names_that_can_not_be(rt: HostRuntime) -> Result<(), Fail> {
     let alloc = rt.alloc();
     let mut store = RealStore::new(alloc, &rt, "out");
     let mut into = Vec::new(alloc);
-    assert_eq!(rt; store.put("file", b"one"), Ok(()));
-    assert_eq!(rt; store.put("folder/file", b"two"), Ok(()));
-    assert_eq!(rt; store.get("file", &mut into), Ok(true));
+    same(&rt, &store.put("file", b"one"), &Ok(()));
+    same(&rt, &store.put("folder/file", b"two"), &Ok(()));
+    same(&rt, &store.get("file", &mut into), &Ok(true));
     for name in ["file/below", "file/far/below", "folder"] {
-        assert_eq!(rt; store.put(name, b"x"), Err(PutError::Failed), "at {name}");
-        assert_eq!(rt;
-            store.get(name, &mut into),
-            Err(GetError::Failed),
-            "at {name}"
+        same_at(&rt, &store.put(name, b"x"), &Err(PutError::Failed), &name);
+        same_at(
+            &rt,
+            &store.get(name, &mut into),
+            &Err(GetError::Failed),
+            &name,
         );
-        assert_eq!(rt; store.remove(name), Err(PutError::Failed), "at {name}");
-        assert_eq!(rt; into.as_slice(), b"one".as_slice(), "at {name}");
+        same_at(&rt, &store.remove(name), &Err(PutError::Failed), &name);
+        same_at(&rt, &into.as_slice(), &b"one".as_slice(), &name);
     }
-    assert_eq!(rt; (store.faults, store.gets), (9, 4));
-    assert_eq!(rt; store.sync(), Ok(()));
-    assert_eq!(rt; store.remove("file"), Ok(()));
-    assert_eq!(rt; store.remove("file"), Ok(()));
-    assert_eq!(rt; store.get("file", &mut into), Ok(false));
-    assert_eq!(rt; store.sync(), Ok(()));
+    same(&rt, &(store.faults, store.gets), &(9, 4));
+    same(&rt, &store.sync(), &Ok(()));
+    same(&rt, &store.remove("file"), &Ok(()));
+    same(&rt, &store.remove("file"), &Ok(()));
+    same(&rt, &store.get("file", &mut into), &Ok(false));
+    same(&rt, &store.sync(), &Ok(()));
     Ok(())
 }
 
@@ -210,10 +232,11 @@ fn a_sync_flushes_the_way_to_a_file(rt: HostRuntime) -> Result<(), Fail> {
             "there/new/far//file\nthere\nthere/new\nthere/new/far//\n",
         ),
     ] {
-        assert_eq!(rt;
-            flushed_for(&rt, folder, name)?.as_str(),
-            want,
-            "at {folder}"
+        same_at(
+            &rt,
+            &flushed_for(&rt, folder, name)?.as_str(),
+            &want,
+            &folder,
         );
     }
     Ok(())
@@ -227,21 +250,23 @@ fn each_file_is_flushed_once(rt: HostRuntime) -> Result<(), Fail> {
     let disk = Disk::new(&rt, &seen)?;
     let mut store = RealStore::new(alloc, &disk, "out");
     for name in ["a/one", "two", "a/one", "gone"] {
-        assert_eq!(rt; store.put(name, b"x"), Ok(()), "at {name}");
+        same_at(&rt, &store.put(name, b"x"), &Ok(()), &name);
     }
-    assert_eq!(rt; store.remove("gone"), Ok(()));
+    same(&rt, &store.remove("gone"), &Ok(()));
     for want in ["out/a/one\nout/two\n.\nout/\nout/a\n", ""] {
-        assert_eq!(rt; store.sync(), Ok(()));
-        assert_eq!(rt;
-            seen.flushed.try_replace(String::new(alloc))?.as_str(),
-            want
+        same(&rt, &store.sync(), &Ok(()));
+        same(
+            &rt,
+            &seen.flushed.try_replace(String::new(alloc))?.as_str(),
+            &want,
         );
     }
-    assert_eq!(rt; store.remove("a/one"), Ok(()));
-    assert_eq!(rt; store.sync(), Ok(()));
-    assert_eq!(rt;
-        seen.flushed.try_replace(String::new(alloc))?.as_str(),
-        ".\nout/\nout/a\n"
+    same(&rt, &store.remove("a/one"), &Ok(()));
+    same(&rt, &store.sync(), &Ok(()));
+    same(
+        &rt,
+        &seen.flushed.try_replace(String::new(alloc))?.as_str(),
+        &".\nout/\nout/a\n",
     );
     Ok(())
 }
@@ -260,15 +285,16 @@ fn what_was_read_is_flushed(rt: HostRuntime) -> Result<(), Fail> {
     // What another wrote, what this store has flushed, and what it has put since.
     for (puts, want) in [(false, whole), (false, ""), (true, whole), (false, "")] {
         if puts {
-            assert_eq!(rt; store.put("a/one", b"anew"), Ok(()));
+            same(&rt, &store.put("a/one", b"anew"), &Ok(()));
         }
-        assert_eq!(rt; store.get("a/one", &mut into), Ok(true));
-        assert_eq!(rt; store.get("a/none", &mut into), Ok(false));
-        assert_eq!(rt; store.sync(), Ok(()));
-        assert_eq!(rt;
-            seen.flushed.try_replace(String::new(alloc))?.as_str(),
-            want,
-            "{puts}"
+        same(&rt, &store.get("a/one", &mut into), &Ok(true));
+        same(&rt, &store.get("a/none", &mut into), &Ok(false));
+        same(&rt, &store.sync(), &Ok(()));
+        same_at(
+            &rt,
+            &seen.flushed.try_replace(String::new(alloc))?.as_str(),
+            &want,
+            &puts,
         );
     }
     Ok(())
@@ -284,16 +310,17 @@ fn a_sync_is_refused_for_good(rt: HostRuntime) -> Result<(), Fail> {
         seen.to_fault.set(nth);
         let disk = Disk::new(&rt, &seen)?;
         let mut store = RealStore::new(alloc, &disk, "out");
-        assert_eq!(rt; store.put("a/one", b"x"), Ok(()));
-        assert_eq!(rt; store.put("two", b"x"), Ok(()));
+        same(&rt, &store.put("a/one", b"x"), &Ok(()));
+        same(&rt, &store.put("two", b"x"), &Ok(()));
         for faults in 1..4 {
-            assert_eq!(rt; store.sync(), Err(PutError::Failed), "at {nth}");
-            assert_eq!(rt; store.faults, faults, "at {nth}");
-            assert_eq!(rt; store.put("three", b"x"), Ok(()), "at {nth}");
+            same_at(&rt, &store.sync(), &Err(PutError::Failed), &nth);
+            same_at(&rt, &store.faults, &faults, &nth);
+            same_at(&rt, &store.put("three", b"x"), &Ok(()), &nth);
         }
-        assert_eq!(rt;
-            seen.flushed.try_replace(String::new(alloc))?.as_str(),
-            want
+        same(
+            &rt,
+            &seen.flushed.try_replace(String::new(alloc))?.as_str(),
+            &want,
         );
     }
     Ok(())
@@ -304,64 +331,91 @@ fn a_file_that_went_can_not_be_flushed(rt: HostRuntime) -> Result<(), Fail> {
     enter(&rt, "went")?;
     let alloc = rt.alloc();
     let mut store = RealStore::new(alloc, &rt, "out");
-    assert_eq!(rt; store.put("a/one", b"x"), Ok(()));
+    same(&rt, &store.put("a/one", b"x"), &Ok(()));
     fs::remove_dir_all(&rt, "out/a")?;
-    assert_eq!(rt; store.sync(), Err(PutError::Failed));
-    assert_eq!(rt; store.put("a/one", b"x"), Ok(()));
-    assert_eq!(rt; store.sync(), Err(PutError::Failed));
-    assert_eq!(rt; store.faults, 2);
+    same(&rt, &store.sync(), &Err(PutError::Failed));
+    same(&rt, &store.put("a/one", b"x"), &Ok(()));
+    same(&rt, &store.sync(), &Err(PutError::Failed));
+    same(&rt, &store.faults, &2);
     Ok(())
 }
 
 #[test]
-fn a_sink_writes_to_its_writer(rt: HostRuntime) -> Result<(), Fail> {
-    enter(&rt, "sink")?;
-    let alloc = rt.alloc();
-    let mut sink = RealSink::new(Pieces::new(alloc, 3));
-    assert_eq!(rt; sink.write(b"points"), Ok(3));
-    assert_eq!(rt; write_full(&mut sink, b" 1234\n"), Ok(()));
-    assert_eq!(rt; sink.write(b""), Ok(0));
-    assert_eq!(rt; sink.out.taken.as_slice(), b"poi 1234\n".as_slice());
-    assert_eq!(rt; (sink.faults, sink.out.flushes), (0, 4));
-    let mut none = RealSink::new(Pieces::new(alloc, 0));
-    assert_eq!(rt; none.write(b"x"), Err(Failed));
-    assert_eq!(rt; none.write(b""), Ok(0));
-    assert_eq!(rt; none.faults, 1);
+fn a_sink_writes_to_its_writer(rt: HostRuntime) {
+    let mut sink = RealSink::new(Pieces::new(rt.alloc(), 3));
+    same(&rt, &sink.write(b"points"), &Ok(3));
+    same(&rt, &write_full(&mut sink, b" 1234\n"), &Ok(()));
+    same(&rt, &sink.write(b""), &Ok(0));
+    same(&rt, &sink.out.taken.as_slice(), &b"poi 1234\n".as_slice());
+    same(&rt, &(sink.faults, sink.out.flushes), &(0, 4));
+}
+
+#[test]
+fn a_sink_whose_writer_can_not_write_tells_it(rt: HostRuntime) {
+    let mut none = RealSink::new(Pieces::new(rt.alloc(), 0));
+    same(&rt, &none.write(b"x"), &Err(Failed));
+    same(&rt, &none.write(b""), &Ok(0));
+    same(&rt, &none.faults, &1);
     for writes in [false, true] {
         let mut unable = RealSink::new(Unable { writes });
-        assert_eq!(rt; unable.write(b"x"), Err(Failed));
-        assert_eq!(rt; write_full(&mut unable, b"y"), Err(Failed));
-        assert_eq!(rt; unable.faults, 2);
+        same(&rt, &unable.write(b"x"), &Err(Failed));
+        same(&rt, &write_full(&mut unable, b"y"), &Err(Failed));
+        same(&rt, &unable.faults, &2);
     }
+}
+
+#[test]
+fn a_sink_writes_to_a_file(rt: HostRuntime) -> Result<(), Fail> {
+    enter(&rt, "sink")?;
     let mut said = RealSink::new(fs::create(&rt, "said")?);
-    assert_eq!(rt; write_full(&mut said, b"points 1\n"), Ok(()));
-    assert_eq!(rt; fs::read(&rt, "said")?.as_slice(), b"points 1\n".as_slice());
+    same(&rt, &write_full(&mut said, b"points 1\n"), &Ok(()));
+    same(
+        &rt,
+        &fs::read(&rt, "said")?.as_slice(),
+        &b"points 1\n".as_slice(),
+    );
     let mut full = RealSink::new(fs::create(&rt, "/dev/full")?);
-    assert_eq!(rt; full.write(b"x"), Err(Failed));
+    same(&rt, &full.write(b"x"), &Err(Failed));
     Ok(())
 }
 
 #[test]
-fn a_link_reads_and_writes_its_stream(rt: HostRuntime) -> Result<(), Fail> {
-    let alloc = rt.alloc();
+fn a_link_reads_and_writes_its_stream(rt: HostRuntime) {
     let mut into = [9; 5];
-    let mut link = RealLink::new(Peer::new(alloc, b"abcd", false, 2));
-    assert_eq!(rt; link.read(&mut into[..0]), Ok(0));
-    assert_eq!(rt; (link.read(&mut into), &into), (Ok(3), b"abc\x09\x09"));
-    assert_eq!(rt; (link.read(&mut into), &into), (Ok(1), b"dbc\x09\x09"));
-    assert_eq!(rt; link.read(&mut into), Ok(0));
-    assert_eq!(rt; link.write(b"xyz"), Ok(2));
-    assert_eq!(rt; link.write(b""), Ok(0));
-    assert_eq!(rt; link.stream().writer.taken.as_slice(), b"xy".as_slice());
-    assert_eq!(rt; link.faults, 0);
-    let mut broken = RealLink::new(Peer::new(alloc, b"a", true, 0));
-    assert_eq!(rt; broken.read(&mut into), Ok(1));
-    assert_eq!(rt;
-        (broken.read(&mut into), &into),
-        (Err(Failed), b"abc\x09\x09")
+    let mut link = RealLink::new(Peer::new(rt.alloc(), b"abcd", false, 2));
+    same(&rt, &link.read(&mut into[..0]), &Ok(0));
+    same(
+        &rt,
+        &(link.read(&mut into), &into),
+        &(Ok(3), b"abc\x09\x09"),
     );
-    assert_eq!(rt; broken.write(b"x"), Err(Failed));
-    assert_eq!(rt; broken.write(b""), Ok(0));
-    assert_eq!(rt; broken.faults, 2);
-    Ok(())
+    same(
+        &rt,
+        &(link.read(&mut into), &into),
+        &(Ok(1), b"dbc\x09\x09"),
+    );
+    same(&rt, &link.read(&mut into), &Ok(0));
+    same(&rt, &link.write(b"xyz"), &Ok(2));
+    same(&rt, &link.write(b""), &Ok(0));
+    same(
+        &rt,
+        &link.stream().writer.taken.as_slice(),
+        &b"xy".as_slice(),
+    );
+    same(&rt, &link.faults, &0);
+}
+
+#[test]
+fn a_link_whose_stream_breaks_tells_it(rt: HostRuntime) {
+    let mut into = *b"dbc\x09\x09";
+    let mut broken = RealLink::new(Peer::new(rt.alloc(), b"a", true, 0));
+    same(&rt, &broken.read(&mut into), &Ok(1));
+    same(
+        &rt,
+        &(broken.read(&mut into), &into),
+        &(Err(Failed), b"abc\x09\x09"),
+    );
+    same(&rt, &broken.write(b"x"), &Err(Failed));
+    same(&rt, &broken.write(b""), &Ok(0));
+    same(&rt, &broken.faults, &2);
 }

@@ -5,7 +5,7 @@ ghost use Rattle.std.specs.Option.{ForSome};
 ghost use Rattle.ept_space.specs.VoxelKey.{root};
 ghost use Rattle.ept_save.specs.Opening.{lines_of};
 
-use crate::tests::{file, packed_body, point};
+use crate::tests::{file, packed_body, point, same, same_at};
 use ept_ckpt::{Checkpoint, NodeLine};
 use ept_mem::{Crash, MemStore};
 use ept_point::{Point, tile_bytes};
@@ -26,13 +26,19 @@ fn points(intensity: u16) -> [Point; 2] {
 fn saved_store(alloc: Global) -> Result<MemStore, Fail> {
     let mut tile = Vec::new(alloc);
     tile_bytes(&points(0), &mut tile)?;
+    let body_a = packed_body(alloc, 2, 2)?;
+    let body_b = packed_body(alloc, 1, 2)?;
     let mut files = Vec::new(alloc);
-    files.push(file(alloc, "ept-work/gate-a", &[1])?)?;
-    files.push(file(alloc, "ept-work/gate-b", &[1])?)?;
-    files.push(file(alloc, "ept-work/body-a", &packed_body(alloc, 2, 2)?)?)?;
-    files.push(file(alloc, "ept-work/body-b", &packed_body(alloc, 1, 2)?)?)?;
-    files.push(file(alloc, "ept-work/a/0-0-0-0.bin", &tile)?)?;
-    files.push(file(alloc, "ept-work/done", &[1])?)?;
+    for (name, bytes) in [
+        ("ept-work/gate-a", [1].as_slice()),
+        ("ept-work/gate-b", &[1]),
+        ("ept-work/body-a", &body_a),
+        ("ept-work/body-b", &body_b),
+        ("ept-work/a/0-0-0-0.bin", &tile),
+        ("ept-work/done", &[1]),
+    ] {
+        files.push(file(alloc, name, bytes)?)?;
+    }
     Ok(MemStore::new(alloc, files, Vec::new(alloc)))
 }
 
@@ -137,7 +143,7 @@ fn whenever_it_stops_a_checkpoint_is_left_with_its_tiles(rt: HostRuntime) -> Res
         for passes in first..=last {
             for ((how, generation), done) in kinds.iter().zip(generations).zip(done) {
                 let found = left(alloc, passes, *how)?;
-                assert_eq!(rt; found, (generation, true, done), "{passes} passed, {how:?}");
+                same_at(&rt, &found, &(generation, true, done), &(passes, how));
             }
         }
     }
@@ -148,8 +154,12 @@ fn whenever_it_stops_a_checkpoint_is_left_with_its_tiles(rt: HostRuntime) -> Res
 fn with_every_call_passed_none_is_refused(rt: HostRuntime) -> Result<(), Fail> {
     let alloc = rt.alloc();
     let mut store = saved_store(alloc)?.with_fuse(20);
-    assert_eq!(rt; every_call(alloc, &mut store), Ok(()));
+    same(&rt, &every_call(alloc, &mut store), &Ok(()));
     let mut short = saved_store(alloc)?.with_fuse(19);
-    assert_eq!(rt; every_call(alloc, &mut short), Err(SaveError::StoreFault));
+    same(
+        &rt,
+        &every_call(alloc, &mut short),
+        &Err(SaveError::StoreFault),
+    );
     Ok(())
 }

@@ -1,6 +1,6 @@
 //! Loading from folders with a damaged body or tile.
 
-use crate::tests::{file, packed_body, point};
+use crate::tests::{file, packed_body, point, same, same_at};
 use ept_ckpt::Letter;
 use ept_mem::MemStore;
 use ept_point::{Point, tile_bytes};
@@ -54,32 +54,20 @@ fn a_root_is_loaded_and_a_damaged_one_is_told(rt: HostRuntime) -> Result<(), Fai
     let alloc = rt.alloc();
     let (first, second) = (point(0, [1, 1, 1], 0), point(1, [2, 2, 2], 0));
     let tile = tile_of(alloc, &[first, second])?;
-    assert_eq!(rt; loaded(alloc, Some(&tile))?, Ok((2, 2)));
-    let damaged = Err(SaveError::TileDamaged { key: Key::ROOT });
-    assert_eq!(rt; loaded(alloc, None)?, damaged, "it is absent");
-    assert_eq!(rt;
-        loaded(alloc, Some(without_end(&tile)))?,
-        damaged,
-        "it is cut by one byte"
-    );
+    same(&rt, &loaded(alloc, Some(&tile))?, &Ok((2, 2)));
     let fewer = tile_of(alloc, &[first])?;
-    assert_eq!(rt;
-        loaded(alloc, Some(&fewer))?,
-        damaged,
-        "it has another count"
-    );
     let swapped = tile_of(alloc, &[second, first])?;
-    assert_eq!(rt;
-        loaded(alloc, Some(&swapped))?,
-        damaged,
-        "the ids do not ascend"
-    );
     let outside = tile_of(alloc, &[first, point(1, [2, 2, 9], 0)])?;
-    assert_eq!(rt;
-        loaded(alloc, Some(&outside))?,
-        damaged,
-        "a point is outside"
-    );
+    let damaged = Err(SaveError::TileDamaged { key: Key::ROOT });
+    for (tile, context) in [
+        (None, "it is absent"),
+        (Some(without_end(&tile)), "it is cut by one byte"),
+        (Some(fewer.as_slice()), "it has another count"),
+        (Some(swapped.as_slice()), "the ids do not ascend"),
+        (Some(outside.as_slice()), "a point is outside"),
+    ] {
+        same_at(&rt, &loaded(alloc, tile)?, &damaged, &context);
+    }
     Ok(())
 }
 
@@ -89,12 +77,12 @@ fn a_body_that_is_cut_or_of_another_version_is_told(rt: HostRuntime) -> Result<(
     let body = packed_body(alloc, 1, 2)?;
     let bad = Some(SaveError::BadCheckpoint { letter: Letter::A });
     let mut cut = store_of(alloc, without_end(&body), None)?;
-    assert_eq!(rt; open(alloc, &mut cut).err(), bad);
+    same(&rt, &open(alloc, &mut cut).err(), &bad);
     let mut other = packed_body(alloc, 1, 2)?;
     if let Some(byte) = other.get_mut(0) {
         *byte = b'e';
     }
     let mut changed = store_of(alloc, &other, None)?;
-    assert_eq!(rt; open(alloc, &mut changed).err(), bad);
+    same(&rt, &open(alloc, &mut changed).err(), &bad);
     Ok(())
 }

@@ -6,7 +6,23 @@ use ept_point::Point;
 use ept_save::{SaveError, begin, close_done, is_done, open, open_done, save_tile};
 use ept_space::Key;
 use std::alloc::{AllocError, Global};
+use std::fmt::Debug;
+use std::process::Abort;
 use std::test::Fail;
+
+// What `assert_eq!` writes is proved wherever it stands, so it stands here once.
+pub(crate) fn same<T: PartialEq + Debug>(rt: &impl Abort, found: &T, wanted: &T) {
+    assert_eq!(rt; found, wanted);
+}
+
+pub(crate) fn same_at<T: PartialEq + Debug, P: Debug>(
+    rt: &impl Abort,
+    found: &T,
+    wanted: &T,
+    place: &P,
+) {
+    assert_eq!(rt; found, wanted, "at {place:?}");
+}
 
 // The body of a checkpoint of one input without points, and an empty root under letter a; behind the name
 // of the format and its version stands the generation.
@@ -30,20 +46,23 @@ pub(crate) fn packed_body(
     generation: u8,
     points: u8,
 ) -> Result<Vec<u8>, AllocError> {
-    let mut bytes = Vec::from_slice(alloc, b"EPTW\x01\0\0\0")?;
-    bytes.extend_from_slice(&[generation, 0, 0, 0, 0, 0, 0, 0])?;
-    bytes.extend_from_slice(
+    let mut bytes = Vec::new(alloc);
+    for piece in [
+        b"EPTW\x01\0\0\0".as_slice(),
+        &[generation, 0, 0, 0, 0, 0, 0, 0],
         b"\x02\x01\x01\0\x03\0\0\0\
         \0\0\0\0\0\0\0\0\0\0\0\0\0\0\0\0\0\0\0\0\0\0\0\0\
         \0\0\0\0\0\0\0\0\0\0\0\0\x03\0\0\0\x03\0\0\0\x03\0\0\0\0\
         \x01\0\0\0\x05\0\0\0a.las\x02\0\0\0\0\0\0\0\0\0\0\0\0\0\0\0\0\0\0\0\0\0\0\0\0\0",
-    )?;
-    bytes.extend_from_slice(&[points, 0, 0, 0, 0, 0, 0, 0])?;
-    bytes.extend_from_slice(b"\x01\x01\0\0\0\x01\0\0\0\x01\0\0\0\x02\0\0\0\x02\0\0\0\x02\0\0\0")?;
-    bytes.extend_from_slice(&[points, 0, 0, 0, 0, 0, 0, 0])?;
-    bytes.extend_from_slice(b"\x01\0\0\0\0\0\0\0\0\0\0\0\0\0\0\0\0")?;
-    bytes.extend_from_slice(&[points, 0, 0, 0, 0, 0, 0, 0])?;
-    bytes.extend_from_slice(&[0, 0])?;
+        &[points, 0, 0, 0, 0, 0, 0, 0],
+        b"\x01\x01\0\0\0\x01\0\0\0\x01\0\0\0\x02\0\0\0\x02\0\0\0\x02\0\0\0",
+        &[points, 0, 0, 0, 0, 0, 0, 0],
+        b"\x01\0\0\0\0\0\0\0\0\0\0\0\0\0\0\0\0",
+        &[points, 0, 0, 0, 0, 0, 0, 0],
+        &[0, 0],
+    ] {
+        bytes.extend_from_slice(piece)?;
+    }
     Ok(bytes)
 }
 
@@ -79,19 +98,21 @@ pub(crate) fn file(
     name: &str,
     bytes: &[u8],
 ) -> Result<(String, Vec<u8>), AllocError> {
-    Ok((
-        String::from_str(alloc, name)?,
-        Vec::from_slice(alloc, bytes)?,
-    ))
+    let name = String::from_str(alloc, name)?;
+    Ok((name, Vec::from_slice(alloc, bytes)?))
 }
 
 // A store in which both gates hold these bytes, and both bodies are that of the checkpoint, or b's is absent.
 fn store_of(alloc: Global, a: &[u8], b: &[u8], has_b: bool) -> Result<MemStore, AllocError> {
     let body = body(alloc)?;
     let mut files = Vec::new(alloc);
-    files.push(file(alloc, "ept-work/gate-a", a)?)?;
-    files.push(file(alloc, "ept-work/gate-b", b)?)?;
-    files.push(file(alloc, "ept-work/body-a", &body)?)?;
+    for (name, bytes) in [
+        ("ept-work/gate-a", a),
+        ("ept-work/gate-b", b),
+        ("ept-work/body-a", &body),
+    ] {
+        files.push(file(alloc, name, bytes)?)?;
+    }
     if has_b {
         files.push(file(alloc, "ept-work/body-b", &body)?)?;
     }
@@ -103,10 +124,6 @@ fn generation(alloc: Global, store: &mut MemStore) -> Result<Option<u64>, SaveEr
     Ok(saved.current().map(|c| c.generation))
 }
 
-fn is_bad_b(found: Result<Option<u64>, SaveError>) -> bool {
-    matches!(found, Err(SaveError::BadCheckpoint { letter: Letter::B }))
-}
-
 fn length_of(store: &MemStore, name: &str) -> Option<usize> {
     store.file(name).map(|bytes| bytes.len())
 }
@@ -115,13 +132,14 @@ fn length_of(store: &MemStore, name: &str) -> Option<usize> {
 fn the_counted_checkpoint_is_found_and_a_bad_one_is_told(rt: HostRuntime) -> Result<(), Fail> {
     let alloc = rt.alloc();
     let mut none = store_of(alloc, &[0], &[], true)?;
-    assert_eq!(rt; generation(alloc, &mut none), Ok(None));
+    same(&rt, &generation(alloc, &mut none), &Ok(None));
     let mut one = store_of(alloc, &[1], &[2], false)?;
-    assert_eq!(rt; generation(alloc, &mut one), Ok(Some(1)));
+    same(&rt, &generation(alloc, &mut one), &Ok(Some(1)));
+    let bad_b = Err(SaveError::BadCheckpoint { letter: Letter::B });
     let mut alike = store_of(alloc, &[1], &[1], true)?;
-    assert!(rt; is_bad_b(generation(alloc, &mut alike)));
+    same(&rt, &generation(alloc, &mut alike), &bad_b);
     let mut absent = store_of(alloc, &[1], &[1], false)?;
-    assert!(rt; is_bad_b(generation(alloc, &mut absent)));
+    same(&rt, &generation(alloc, &mut absent), &bad_b);
     Ok(())
 }
 
@@ -133,9 +151,9 @@ fn a_tile_is_put_under_the_version_that_is_not_named(rt: HostRuntime) -> Result<
     begin(alloc, &mut store, &mut saved)?;
     let points: [Point; 0] = [];
     save_tile(alloc, &mut store, &mut saved, Key::ROOT, 0, &points)?;
-    assert_eq!(rt; length_of(&store, "ept-work/b/0-0-0-0.bin"), Some(0));
-    assert_eq!(rt; length_of(&store, "ept-work/a/0-0-0-0.bin"), None);
-    assert_eq!(rt; saved.current().map(|c| c.generation), Some(1));
+    same(&rt, &length_of(&store, "ept-work/b/0-0-0-0.bin"), &Some(0));
+    same(&rt, &length_of(&store, "ept-work/a/0-0-0-0.bin"), &None);
+    same(&rt, &saved.current().map(|c| c.generation), &Some(1));
     Ok(())
 }
 
@@ -143,12 +161,12 @@ fn a_tile_is_put_under_the_version_that_is_not_named(rt: HostRuntime) -> Result<
 fn the_done_gate_is_closed_and_opened(rt: HostRuntime) -> Result<(), Fail> {
     let alloc = rt.alloc();
     let mut store = MemStore::new(alloc, Vec::new(alloc), Vec::new(alloc));
-    assert_eq!(rt; is_done(alloc, &mut store), Ok(false));
+    same(&rt, &is_done(alloc, &mut store), &Ok(false));
     close_done(alloc, &mut store)?;
-    assert_eq!(rt; length_of(&store, "ept-work/done"), None);
+    same(&rt, &length_of(&store, "ept-work/done"), &None);
     open_done(&mut store)?;
-    assert_eq!(rt; is_done(alloc, &mut store), Ok(true));
+    same(&rt, &is_done(alloc, &mut store), &Ok(true));
     close_done(alloc, &mut store)?;
-    assert_eq!(rt; is_done(alloc, &mut store), Ok(false));
+    same(&rt, &is_done(alloc, &mut store), &Ok(false));
     Ok(())
 }

@@ -11,7 +11,15 @@ use ept_point::{List, PACKED_LENGTH, Point, pack};
 use ept_scan::{ReadError, ScanDone, ScanError, reader, scan, whole_extent};
 use ept_space::Bounds;
 use std::alloc::{AllocError, Global};
+use std::fmt::Debug;
+use std::process::Abort;
 use std::test::Fail;
+
+// What `assert_eq!` writes is proved wherever it stands, so it stands here once, and again only where a later line
+// has to know what it found.
+fn same<T: PartialEq + Debug>(rt: &impl Abort, found: &T, wanted: &T) {
+    assert_eq!(rt; found, wanted);
+}
 
 // The bounds 0 to 7 on each axis.
 const SEVEN: &str = "{\"input\":[\"a.las\",\"b.las\"],\"scale\":2,\"bounds\":[0,0,0,7,7,7]}";
@@ -129,7 +137,7 @@ fn the_first_fault_of_a_header_is_named(rt: HostRuntime) -> Result<(), Fail> {
         let mut file = plain(alloc, &[[1, 1, 1]])?;
         put(&mut file, at, bytes);
         let expected = ScanError::BadLas { source: 0, fault };
-        assert_eq!(rt; refusal(alloc, ONE, file)?, Some(expected));
+        same(&rt, &refusal(alloc, ONE, file)?, &Some(expected));
     }
     Ok(())
 }
@@ -144,18 +152,19 @@ fn a_file_ends_where_its_records_do(rt: HostRuntime) -> Result<(), Fail> {
         source: 0,
         fault: LasError::Truncated { number: 2 },
     };
-    assert_eq!(rt; refusal(alloc, ONE, cut)?, Some(truncated));
+    same(&rt, &refusal(alloc, ONE, cut)?, &Some(truncated));
 
     let mut longer = plain(alloc, &places)?;
     longer.extend_from_slice(&[9; 100])?;
-    assert_eq!(rt; refusal(alloc, ONE, longer)?, None);
+    same(&rt, &refusal(alloc, ONE, longer)?, &None);
 
     let mut short = plain(alloc, &[])?;
     short.truncate(226);
     let fault = LasError::Short;
-    assert_eq!(rt;
-        refusal(alloc, ONE, short)?,
-        Some(ScanError::BadLas { source: 0, fault })
+    same(
+        &rt,
+        &refusal(alloc, ONE, short)?,
+        &Some(ScanError::BadLas { source: 0, fault }),
     );
     Ok(())
 }
@@ -168,11 +177,11 @@ fn points_lie_within_the_bounds(rt: HostRuntime) -> Result<(), Fail> {
         source: 0,
         number: 1,
     };
-    assert_eq!(rt; refusal(alloc, ONE, outside)?, Some(refused));
+    same(&rt, &refusal(alloc, ONE, outside)?, &Some(refused));
 
     let wider = "{\"input\":\"a.las\",\"scale\":2,\"bounds\":[0,0,0,8,8,8]}";
     let within = plain(alloc, &[[7, 7, 7], [8, 0, 0]])?;
-    assert_eq!(rt; refusal(alloc, wider, within)?, None);
+    same(&rt, &refusal(alloc, wider, within)?, &None);
 
     let first = plain(alloc, &[[1, 2, 3]])?;
     let second = plain(alloc, &[[0, 0, 0], [0, 0, 0], [0, -1, 0]])?;
@@ -180,9 +189,10 @@ fn points_lie_within_the_bounds(rt: HostRuntime) -> Result<(), Fail> {
         source: 1,
         number: 2,
     };
-    assert_eq!(rt;
-        scan_both(alloc, SEVEN, first, second)?.err(),
-        Some(refused)
+    same(
+        &rt,
+        &scan_both(alloc, SEVEN, first, second)?.err(),
+        &Some(refused),
     );
 
     // A raw coordinate times its factor is no stored one.
@@ -192,7 +202,7 @@ fn points_lie_within_the_bounds(rt: HostRuntime) -> Result<(), Fail> {
         source: 0,
         number: 0,
     };
-    assert_eq!(rt; refusal(alloc, coarse, far)?, Some(refused));
+    same(&rt, &refusal(alloc, coarse, far)?, &Some(refused));
     Ok(())
 }
 
@@ -200,7 +210,11 @@ fn points_lie_within_the_bounds(rt: HostRuntime) -> Result<(), Fail> {
 fn bounds_are_those_given_or_the_extent(rt: HostRuntime) -> Result<(), Fail> {
     let alloc = rt.alloc();
     let none = plain(alloc, &[])?;
-    assert_eq!(rt; refusal(alloc, UNBOUNDED, none)?, Some(ScanError::NoBounds));
+    same(
+        &rt,
+        &refusal(alloc, UNBOUNDED, none)?,
+        &Some(ScanError::NoBounds),
+    );
 
     let both = "{\"input\":[\"a.las\",\"b.las\"],\"scale\":2}";
     let first = plain(alloc, &[[1, 2, 3], [0, 5, 3]])?;
@@ -222,12 +236,12 @@ fn bounds_are_those_given_or_the_extent(rt: HostRuntime) -> Result<(), Fail> {
             }),
         },
     ];
-    assert_eq!(rt; done.counts.as_slice(), counts.as_slice());
+    same(&rt, &done.counts.as_slice(), &counts.as_slice());
     let whole = Bounds {
         min: [-4, 2, 3],
         max: [1, 5, 9],
     };
-    assert_eq!(rt; done.bounds, whole);
+    same(&rt, &done.bounds, &whole);
 
     let empty = plain(alloc, &[])?;
     let one = plain(alloc, &[[7, 0, 7]])?;
@@ -245,12 +259,12 @@ fn bounds_are_those_given_or_the_extent(rt: HostRuntime) -> Result<(), Fail> {
             }),
         },
     ];
-    assert_eq!(rt; done.counts.as_slice(), counts.as_slice());
+    same(&rt, &done.counts.as_slice(), &counts.as_slice());
     let given = Bounds {
         min: [0, 0, 0],
         max: [7, 7, 7],
     };
-    assert_eq!(rt; done.bounds, given);
+    same(&rt, &done.bounds, &given);
     Ok(())
 }
 
@@ -280,7 +294,7 @@ fn the_whole_extent_is_that_of_each_input(rt: HostRuntime) -> Result<(), Fail> {
         min: [-1, -3, 10],
         max: [5, 6, 20],
     };
-    assert_eq!(rt; whole_extent(&counts), Some(whole));
+    same(&rt, &whole_extent(&counts), &Some(whole));
     Ok(())
 }
 
@@ -298,9 +312,10 @@ fn a_stated_number_may_be_too_great(rt: HostRuntime) -> Result<(), Fail> {
             points: 4_294_967_296,
         },
     )?;
-    assert_eq!(rt;
-        refusal(alloc, ONE, file)?,
-        Some(ScanError::TooManyPoints { source: 0 })
+    same(
+        &rt,
+        &refusal(alloc, ONE, file)?,
+        &Some(ScanError::TooManyPoints { source: 0 }),
     );
     Ok(())
 }
@@ -319,7 +334,7 @@ fn coordinates_are_scaled_and_shifted(rt: HostRuntime) -> Result<(), Fail> {
             max: [35, 30, 23],
         }),
     }];
-    assert_eq!(rt; done.counts.as_slice(), counts.as_slice());
+    same(&rt, &done.counts.as_slice(), &counts.as_slice());
     Ok(())
 }
 
@@ -329,13 +344,14 @@ fn scales_may_be_expected(rt: HostRuntime) -> Result<(), Fail> {
     let config =
         "{\"input\":[{\"path\":\"a.las\",\"expect\":\"000000000000000000000000000000000000000000000000000000000000000000000000000000000000000000000000\"}],\"scale\":2,\"bounds\":[0,0,0,7,7,7]}";
     let file = plain(alloc, &[[3, 3, 3]])?;
-    assert_eq!(rt; refusal(alloc, config, file)?, None);
+    same(&rt, &refusal(alloc, config, file)?, &None);
     let mut other = plain(alloc, &[[3, 3, 3]])?;
     put(&mut other, 178, &[1]);
     let fault = LasError::Expect;
-    assert_eq!(rt;
-        refusal(alloc, config, other)?,
-        Some(ScanError::BadLas { source: 0, fault })
+    same(
+        &rt,
+        &refusal(alloc, config, other)?,
+        &Some(ScanError::BadLas { source: 0, fault }),
     );
     Ok(())
 }
@@ -430,9 +446,9 @@ fn a_reading_goes_on_behind_any_record(rt: HostRuntime) -> Result<(), Fail> {
     let found = found_in(alloc, SEVEN, &mut shelf)?;
     for drawn in 0..6 {
         let points = points_behind(alloc, &mut shelf, &found, drawn)?;
-        assert_eq!(rt; points.len() as u64 + drawn, 5);
+        same(&rt, &(points.len() as u64 + drawn), &5);
         for (k, point) in points.iter().enumerate() {
-            assert_eq!(rt; i64::from(point.x), k as i64 + drawn as i64 + 1);
+            same(&rt, &i64::from(point.x), &(k as i64 + drawn as i64 + 1));
         }
     }
     Ok(())
@@ -459,12 +475,12 @@ fn an_input_that_was_inserted_may_be_absent(rt: HostRuntime) -> Result<(), Fail>
             max: [5, 5, 5],
         }),
     }];
-    assert_eq!(rt; done.counts.as_slice(), counts.as_slice());
-    assert_eq!(rt; done.bounds, found.kept.bounds);
+    same(&rt, &done.counts.as_slice(), &counts.as_slice());
+    same(&rt, &done.bounds, &found.kept.bounds);
 
     let points = points_behind(alloc, &mut shelf, &found, 3)?;
     assert_eq!(rt; points.len(), 2);
-    assert_eq!(rt; [points[0].x, points[1].x], [4, 5]);
+    same(&rt, &[points[0].x, points[1].x], &[4, 5]);
     Ok(())
 }
 
@@ -486,9 +502,10 @@ fn a_new_input_lies_within_the_kept_bounds(rt: HostRuntime) -> Result<(), Fail> 
         source: 1,
         number: 1,
     };
-    assert_eq!(rt;
-        scan(alloc, &mut shelf, &config, last, Some(found.kept.bounds)).err(),
-        Some(refused)
+    same(
+        &rt,
+        &scan(alloc, &mut shelf, &config, last, Some(found.kept.bounds)).err(),
+        &Some(refused),
     );
     Ok(())
 }
@@ -547,12 +564,12 @@ fn two_formats_are_read_one_after_the_other(rt: HostRuntime) -> Result<(), Fail>
     let mut shelf = mixed(alloc)?;
     let found = found_in(alloc, SEVEN, &mut shelf)?;
     let read = two_batches(alloc, &mut shelf, &found, [1, 5], 9)?;
-    assert_eq!(rt; read.ended, Ok(()));
-    assert_eq!(rt; read.again, Ok(()));
-    assert_eq!(rt; read.drawn, 2);
+    same(&rt, &read.ended, &Ok(()));
+    same(&rt, &read.again, &Ok(()));
+    same(&rt, &read.drawn, &2);
     assert_eq!(rt; read.points.len(), 2);
-    assert_eq!(rt; pack(&read.points[0]), PACKED_7);
-    assert_eq!(rt; pack(&read.points[1]), PACKED_1);
+    same(&rt, &pack(&read.points[0]), &PACKED_7);
+    same(&rt, &pack(&read.points[1]), &PACKED_1);
     Ok(())
 }
 
@@ -584,8 +601,8 @@ fn each_version_has_each_format(rt: HostRuntime) -> Result<(), Fail> {
             let read = two_batches(alloc, &mut shelf, &found, [1, 1], 2)?;
             assert_eq!(rt; read.points.len(), 2);
             let last = read.points[1];
-            assert_eq!(rt; [last.x, last.y, last.z], [1, 2, 3]);
-            assert_eq!(rt; last.number, 1);
+            same(&rt, &[last.x, last.y, last.z], &[1, 2, 3]);
+            same(&rt, &last.number, &1);
         }
     }
     Ok(())
@@ -605,12 +622,12 @@ fn the_allowance_ends_a_batch(rt: HostRuntime) -> Result<(), Fail> {
         let mut shelf = shelf_of(alloc, first, second, &[])?;
         let found = found_in(alloc, SEVEN, &mut shelf)?;
         let read = two_batches(alloc, &mut shelf, &found, sizes, allowed)?;
-        assert_eq!(rt; read.ended, Ok(()));
-        assert_eq!(rt; read.again, Ok(()));
-        assert_eq!(rt; read.drawn, drawn);
-        assert_eq!(rt; read.points.len() as u64, drawn);
+        same(&rt, &read.ended, &Ok(()));
+        same(&rt, &read.again, &Ok(()));
+        same(&rt, &read.drawn, &drawn);
+        same(&rt, &(read.points.len() as u64), &drawn);
         for (k, point) in read.points.iter().enumerate() {
-            assert_eq!(rt; i64::from(point.x), k as i64 + 1);
+            same(&rt, &i64::from(point.x), &(k as i64 + 1));
         }
     }
     Ok(())
@@ -631,10 +648,10 @@ fn a_changed_file_is_told(rt: HostRuntime) -> Result<(), Fail> {
         let changed = Err(ReadError::SourceChanged { source: 0, number });
         let mut shelf = shelf_of(alloc, file, Vec::new(alloc), &[])?;
         let read = two_batches(alloc, &mut shelf, &found, [2, 0], 2)?;
-        assert_eq!(rt; read.ended, changed);
-        assert_eq!(rt; read.again, changed);
-        assert_eq!(rt; read.drawn, 0);
-        assert_eq!(rt; read.points.len(), 0);
+        same(&rt, &read.ended, &changed);
+        same(&rt, &read.again, &changed);
+        same(&rt, &read.drawn, &0);
+        same(&rt, &read.points.len(), &0);
     }
     Ok(())
 }
@@ -645,9 +662,10 @@ fn faults_of_sources_are_told(rt: HostRuntime) -> Result<(), Fail> {
     let config = read_config(alloc, ONE.as_bytes())?;
     let file = plain(alloc, &[[1, 1, 1]])?;
     let mut shelf = shelf_of(alloc, file, Vec::new(alloc), &[0])?;
-    assert_eq!(rt;
-        scan(alloc, &mut shelf, &config, 0, None).err(),
-        Some(ScanError::SourceFault)
+    same(
+        &rt,
+        &scan(alloc, &mut shelf, &config, 0, None).err(),
+        &Some(ScanError::SourceFault),
     );
 
     let file = plain(alloc, &[[1, 1, 1]])?;
@@ -658,13 +676,17 @@ fn faults_of_sources_are_told(rt: HostRuntime) -> Result<(), Fail> {
         let file = plain(alloc, &[[1, 1, 1]])?;
         let mut shelf = shelf_of(alloc, file, Vec::new(alloc), &[call])?;
         let read = two_batches(alloc, &mut shelf, &found, [1, 1], 1)?;
-        assert_eq!(rt; read.ended, failed);
-        assert_eq!(rt; read.again, failed);
-        assert_eq!(rt; read.points.len(), 0);
+        same(&rt, &read.ended, &failed);
+        same(&rt, &read.again, &failed);
+        same(&rt, &read.points.len(), &0);
     }
 
     let other = "{\"input\":\"c.las\",\"scale\":2}";
     let none = plain(alloc, &[])?;
-    assert_eq!(rt; refusal(alloc, other, none)?, Some(ScanError::SourceFault));
+    same(
+        &rt,
+        &refusal(alloc, other, none)?,
+        &Some(ScanError::SourceFault),
+    );
     Ok(())
 }

@@ -1,0 +1,2 @@
+mod Planted
+mod Retiring

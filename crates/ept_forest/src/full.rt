@@ -1,0 +1,5 @@
+//! That no slot is left.
+
+/// Each slot is drawn.
+#[derive(Clone, Copy, Debug, PartialEq, Eq)]
+pub struct Full;
