@@ -1,5 +1,7 @@
 -- The rule of a table over the items as they are.
 use Rattle.std.proofs.Common.{◌≡◌, ◌∙◌, ℕ, zero, suc, ◌+◌, ◌<◌, ◌≤◌, ◌⊎◌, inl, inr, List, [], ◌∷◌, ◌++◌, map, length, set, refl, sym, ap, subst, arith, Option, Some, None}
+use Rattle.std.proofs.Common.{reverse}
+use Rattle.std.proofs.lemmas.List.{reverse-append}
 use mathlib.Core.Option.{some, some-injective, some-ne-none}
 use lib.ListN.{get_elem?}
 use Rattle.ept_table.specs.At.{LiesAt, At}
@@ -35,3 +37,8 @@ pub map-set : {X Y : Type 0} (f : X → Y) (xs : List X) (i : ℕ) (x : X) → m
 map-set f [] i x = refl
 map-set f (y ∷ ys) zero x = refl
 map-set {X} {Y} f (y ∷ ys) (suc i) x = ap (λ (w : List Y). f y ∷ w) (map-set f ys i x)
+
+-- ---- the last of a list that is turned round
+
+pub turned-last : {X : Type 0} (xs : List X) (x : X) → reverse (xs ++ x ∷ []) ≡ x ∷ reverse xs
+turned-last xs x = reverse-append xs (x ∷ [])

@@ -16,3 +16,4 @@ pub mod Beginning
 pub mod Glue
 pub mod Visiting
 pub mod Allowed
+pub mod Rows

@@ -8,3 +8,4 @@ pub mod Laws
 pub mod Item
 pub mod Standing
 pub mod Visits
+pub mod Row

@@ -1,6 +1,6 @@
 //! A table of nodes and its seats.
 
-ghost use Rattle.std.specs.Prelude.{◌≡◌, ◌<◌, ◌≤◌, [], true, IfOk, OnErr};
+ghost use Rattle.std.specs.Prelude.{◌≡◌, ◌+◌, ◌<◌, ◌≤◌, [], true, vec_capacity, IfOk, OnErr};
 ghost use Rattle.ept_table.specs.Tells.{IsTooMany, Fits, ShowsLaw};
 ghost use Rattle.ept_table.specs.declared.done.Done as done_of;
 ghost use Rattle.ept_table.specs.declared.done.Said.TheVariants.{Did};
@@ -19,6 +19,7 @@ use crate::rule::{
     Abandoning, Dividing, Drawing, Giving, Joining, Looking, Rule, Scan, Taking, Wishing,
 };
 use ept_base::Source;
+use ept_node::Node;
 use ept_slots::{SlotSeat, Slots};
 use std::sync::Wait;
 
@@ -33,6 +34,12 @@ pub struct Full;
 /// blank one.
 pub struct NodeTable<F, S: Source, J: Scan> {
     pub(crate) slots: Slots<Item<F, S>, Note, Said, (), Rule<F, S, J>>,
+    // The list that the nodes came in, which is emptied.
+    pub(crate) spare: Vec<Node<F>>,
+    pub(crate) most: u32,
+    ghost empty: { spare.items ≡ [] },
+    ghost room: { count_of slots ≤ vec_capacity spare + 1 },
+    ghost limit: { count_of slots ≡ most + 1 },
 }
 
 impl<F, S: Source, J: Scan> NodeTable<F, S, J> {
