@@ -1,20 +1,17 @@
 -- Each step on a table of slots is allowed by the rule of a table of nodes.
-use Rattle.std.proofs.Common.{◌≡◌, ◌∙◌, ℕ, zero, suc, ◌+◌, ◌-◌, ◌/◌, ◌<◌, ◌≤◌, true, false, ◌⊎◌, inl, inr, List, [], ◌∷◌, ◌++◌, map, length, set, refl, sym, ap, subst, arith, Option, Some, None, MatchOption}
-use Rattle.std.specs.Prelude.{⊤}
+use Rattle.std.proofs.Common.{◌≡◌, ◌∙◌, ℕ, ◌+◌, ◌-◌, ◌/◌, ◌<◌, true, inl, inr, List, [], ◌∷◌, ◌++◌, map, set, refl, sym, ap, subst, arith, Option, Some, None, MatchOption}
 use Rattle.std.proofs.lemmas.List.{map-append}
 use mathlib.Core.Option.{some}
 use lib.ListN.{get_elem?}
 use Rattle.ept_slots.specs.declared.view.View as slots
 use Rattle.ept_slots.specs.declared.view.Held.{Held}
 use Rattle.ept_slots.specs.Views as views
-use Rattle.ept_slots.specs.Seats.{Seats, IsAlone}
+use Rattle.ept_slots.specs.Seats.{Seats}
 use Rattle.ept_slots.specs.Seating.{Ended}
 use Rattle.ept_slots.specs.Asks.{Takes, Gives, Notes, Looks, Draws, IsRefused, Splits, Joins}
-use Rattle.ept_sample.specs.Members.{IsMember}
 use Rattle.ept_table.specs.declared.item.Item.{Item}
 use Rattle.ept_table.specs.declared.note.Note.{Note}
 use Rattle.ept_table.specs.declared.note.Told.{Told}
-use Rattle.ept_table.specs.declared.note.Carried.{Carried}
 use Rattle.ept_table.specs.declared.done.Done.{Done}
 use Rattle.ept_table.specs.declared.done.Said.TheVariants.{Did, Wish}
 use Rattle.ept_table.specs.declared.taken.Taken.{Taken}
@@ -22,8 +19,8 @@ use Rattle.ept_table.specs.declared.taken.Taken.TheVariants.{Blank}
 use Rattle.ept_table.specs.At.{At}
 use Rattle.ept_table.specs.View.{View}
 use Rattle.ept_table.specs.Shown.{Holds, AreLocked}
-use Rattle.ept_table.specs.Steps.{holding, given_back, noting, refused_more, wishing, drawing, abandoned, beginning, together, lacks_slot, joined, first_note, MayDraw, IsSpent}
-use Rattle.ept_table.specs.Tells.{IsTooMany, Fits, ShowsLaw, IsLanded, IsLast, IsEnded}
+use Rattle.ept_table.specs.Steps.{holding, given_back, noting, refused_more, wishing, drawing, abandoned, beginning, together, lacks_slot, first_note, MayDraw, IsSpent}
+use Rattle.ept_table.specs.Tells.{IsTooMany, Fits, ShowsLaw, IsLast, IsEnded}
 use Rattle.ept_table.specs.Item.{seen, Filed}
 use Rattle.ept_table.specs.Standing.{seen_hold, known, Stands}
 use Rattle.ept_table.specs.Visits.{note_after, note_said, Visits}
@@ -35,6 +32,7 @@ use Rattle.ept_table.proofs.Moves.{take-keeps, wish-keeps, abandon-keeps, lacks-
 use Rattle.ept_table.proofs.Seating.{split-keeps, join-keeps}
 use Rattle.ept_table.proofs.Telling.{take-fits, lack-is-too-many, state-keeps-law}
 use Rattle.ept_table.proofs.Visiting.{visit-keeps}
+use Rattle.ept_table.proofs.Ending.{last-seat-tells}
 use Rattle.ept_table.proofs.Mirrors.{none_some}
 
 abbrev pair_or : ℕ → Taken → Option (ℕ × Taken) → ℕ × Taken
@@ -209,3 +207,14 @@ module _ (F S : Type 0) (whole left : S → Option (List ℕ)) (given faults : S
       let none : (know w).hold ≡ None = ap (λ (o : Option (Held ItemOf)). seen_hold whole o) free in
       let is : map know new ≡ set (set (map know seats) id (know both)) j (know spent) = map-set know (set seats id both) j spent ∙ ap (λ (vs : List View). set vs j (know spent)) (map-set know seats id both) in
       same_items drawn items seats new (set (set (map know seats) id (know both)) j (know spent)) (sym is) h drawn (join-keeps told drawn (map see items) (map know seats) h.rule id j (know v) (know w) (know spent) (at_known seats id v at) (at_known seats j w other) apart more none landed spent-one))
+
+  -- ---- the end
+
+  pub ended-known : (drawn : ℕ) (items : List ItemOf) (id : ℕ) (v : ViewOf) → Ended rule told.most id v drawn items → views.HoldsNothing v → IsEnded told drawn (map see items) (know v)
+  ended-known drawn items id v e free =
+      last-seat-tells told drawn (map see items) (map know e.0) id (know v) e.2.rule (locks drawn items e.0 e.1) (at_known e.0 id v e.3) alone (ap (λ (o : Option (Held ItemOf)). seen_hold whole o) free)
+    where
+      alone : IsLast (map know e.0) id
+      alone j w a apart =
+          let r = map-at know e.0 j w a in
+          sym (ap (λ (z : View). z.parts) r.2) ∙ e.4 j r.0 (at-to e.0 j r.0 r.1) apart

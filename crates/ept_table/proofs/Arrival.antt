@@ -1,22 +1,21 @@
 -- A flight has arrived at its node.
-use Rattle.std.proofs.Common.{◌≡◌, ◌∙◌, ℕ, zero, suc, ◌+◌, ◌<◌, ◌≤◌, Bool, true, false, ◌⊎◌, inl, inr, List, [], ◌∷◌, ◌++◌, map, length, set, refl, sym, ap, subst, arith, Option, Some, None, sum_by}
-use Rattle.std.specs.List.{flat_map, remove}
+use Rattle.std.proofs.Common.{◌≡◌, ◌∙◌, ℕ, ◌+◌, ◌<◌, ◌≤◌, true, false, ◌⊎◌, inl, inr, List, [], ◌∷◌, ◌++◌, map, length, set, refl, sym, ap, subst, arith, Some, None, sum_by}
+use Rattle.std.specs.List.{remove}
 use Rattle.std.specs.List.Sorted.{IsPermutation}
-use Rattle.std.proofs.lemmas.List.{append-nil, append_assoc, map-append}
+use Rattle.std.proofs.lemmas.List.{append-nil, map-append}
 use Rattle.std.proofs.lemmas.Bool.{false≢true}
 use Rattle.std.proofs.lemmas.List.Sorted.{IsPermutation-refl, IsPermutation-sym, IsPermutation-trans, IsPermutation-append_left, IsPermutation-append_comm, IsPermutation-map, IsPermutation-remove}
 use Rattle.ept_point.specs.declared.point.Point.{Point}
 use Rattle.ept_space.specs.VoxelKey.{VoxelKey, root, same_key, child}
-use Rattle.ept_scan.specs.declared.read_error.ReadError.{ReadError}
 use Rattle.ept_sample.specs.Ids.{HasDistinctIds, in_id_order}
 use Rattle.ept_sample.specs.Members.{IsMember}
-use Rattle.ept_sample.proofs.Members.{IsMember-left, IsMember-right, IsMember-append, IsMember-map, member-map, IsMember-flat_map}
+use Rattle.ept_sample.proofs.Members.{IsMember-left, IsMember-right, IsMember-append, IsMember-map, member-map}
 use Rattle.ept_sample.proofs.IdLaws.{IsMember-IsPermutation}
 use Rattle.ept_sample.proofs.Choices.{either}
 use Rattle.ept_sample.proofs.KeyOrder.{with_key-put}
 use Rattle.ept_core.specs.declared.flight.Flight.{Flight}
 use Rattle.ept_core.specs.declared.node.Node as core
-use Rattle.ept_core.specs.State.{State, Entry, flown, node_at, has_node, keys_of}
+use Rattle.ept_core.specs.State.{State, Entry, node_at, has_node, keys_of}
 use Rattle.ept_core.specs.Law.{KeepsLaw}
 use Rattle.ept_core.specs.Flying.{EachIsReordered}
 use Rattle.ept_core.specs.Steps as steps
@@ -27,20 +26,18 @@ use Rattle.ept_core.proofs.Regrouping.{order-free}
 use Rattle.ept_grid.specs.Node.{is_open_in}
 use Rattle.ept_node.specs.Batch.{seen}
 use Rattle.ept_table.specs.declared.note.Told.{Told}
-use Rattle.ept_table.specs.declared.note.Note.{Note}
 use Rattle.ept_table.specs.declared.note.Carried.{Carried}
 use Rattle.ept_table.specs.declared.note.Draw.{Draw}
 use Rattle.ept_table.specs.declared.taken.Cell.{Cell}
-use Rattle.ept_table.specs.declared.taken.Progress.{Progress}
 use Rattle.ept_table.specs.declared.taken.Taken.{Taken}
 use Rattle.ept_table.specs.declared.taken.Taken.TheVariants.{Blank, Standing, Reading}
 use Rattle.ept_table.specs.At.{At}
 use Rattle.ept_table.specs.Taken.{points_of, count_of, is_open_at, slot_at, as_node}
 use Rattle.ept_table.specs.View.{View, NotesFull, IsNothing, flights_of, all_flights}
 use Rattle.ept_table.specs.Shown.{IsOver, KeyOf, HasSlot, IsSound, IsSoundFlight, IsChild, Drew, IsDrawn, IsDraw, Seats, Base, Tree, shown, Shows, Holds, AreLocked}
-use Rattle.ept_table.specs.Steps.{given_back, arrived, HasChild, GoesBelow, IsArrival, HasArrived}
+use Rattle.ept_table.specs.Steps.{given_back, arrived, GoesBelow, IsArrival, HasArrived}
 use Rattle.ept_table.proofs.Lists.{same_or_not, at-same, at-below, at-get, at-member, at-set, at-other, set-at, set-set, set-again, length-set, between, flat-more, sum-set}
-use Rattle.ept_table.proofs.Keys.{no_key, key-same, key-low, child-key, child-octant, child-root, child-apart}
+use Rattle.ept_table.proofs.Keys.{key-same, key-low, child-key, child-octant, child-root, child-apart}
 use Rattle.ept_table.proofs.Flown.{weight, weight-append}
 use Rattle.ept_table.proofs.Mirrors.{flown-same, each-same, holder-parts}
 use Rattle.ept_table.proofs.SlotDrawn.{some_same}

@@ -1,26 +1,19 @@
 -- Steps that leave what lies in the slots.
-use Rattle.std.proofs.Common.{◌≡◌, ◌∙◌, ℕ, ◌+◌, ◌<◌, ◌≤◌, ◌==◌, ◌||◌, Bool, true, false, ◌⊎◌, inl, inr, List, [], ◌∷◌, ◌++◌, map, length, set, refl, sym, ap, subst, arith, Option, Some, None}
-use Rattle.std.specs.List.{flat_map, list_any}
+use Rattle.std.proofs.Common.{◌≡◌, ℕ, ◌<◌, ◌==◌, true, inl, inr, List, [], set, refl, sym, subst, arith, None}
 use Rattle.std.specs.List.Sorted.{IsPermutation}
-use Rattle.std.proofs.lemmas.List.{append-nil, append_assoc}
 use Rattle.std.proofs.lemmas.Bool.{eqb-true}
-use Rattle.std.proofs.lemmas.List.Concat.{flat_map-append}
-use Rattle.std.proofs.lemmas.List.Sorted.{IsPermutation-refl, IsPermutation-sym, IsPermutation-trans, IsPermutation-append_left, IsPermutation-append_right}
-use Rattle.ept_scan.specs.declared.read_error.ReadError.{ReadError}
+use Rattle.std.proofs.lemmas.List.Sorted.{IsPermutation-refl}
 use Rattle.ept_sample.specs.Members.{IsMember}
-use Rattle.ept_sample.proofs.Members.{member-any, IsMember-left, IsMember-right, IsMember-append}
-use Rattle.ept_sample.proofs.Choices.{or_cases, or_left, or_right}
-use Rattle.ept_core.specs.declared.flight.Flight.{Flight}
+use Rattle.ept_sample.proofs.Members.{member-any}
+use Rattle.ept_sample.proofs.Choices.{or_cases, or_left}
 use Rattle.ept_table.specs.declared.note.Told.{Told}
-use Rattle.ept_table.specs.declared.note.Note.{Note}
 use Rattle.ept_table.specs.declared.note.Carried.{Carried}
-use Rattle.ept_table.specs.declared.note.Draw.{Draw}
 use Rattle.ept_table.specs.declared.taken.Taken.{Taken}
 use Rattle.ept_table.specs.At.{At}
-use Rattle.ept_table.specs.View.{View, NotesFull, flights_of, all_flights}
-use Rattle.ept_table.specs.Shown.{IsOver, KeyOf, HasSlot, Drew, Holds}
-use Rattle.ept_table.specs.Steps.{holding, given_back, noting, with_parts, new_seat, joined, IsSpent, wishing, abandoned, together, lacks_slot}
-use Rattle.ept_table.proofs.Lists.{at-same, at-below, at-set, at-other, set-at, set-again, length-set, at-left, at-end, end-at, flat-out, set-set, set-apart}
+use Rattle.ept_table.specs.View.{View, flights_of}
+use Rattle.ept_table.specs.Shown.{IsOver, KeyOf, HasSlot, Holds}
+use Rattle.ept_table.specs.Steps.{holding, given_back, noting, wishing, abandoned, lacks_slot}
+use Rattle.ept_table.proofs.Lists.{set-again}
 use Rattle.ept_table.proofs.Mirrors.{alike-holds}
 
 pub lacks-one : (flights : List Carried) → lacks_slot flights ≡ true → (c : Carried) × IsMember c flights × (c.slot ≡ 0)

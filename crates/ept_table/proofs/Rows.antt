@@ -1,6 +1,6 @@
 -- The reader and the nodes as they lie in slots.
-use Rattle.std.proofs.Common.{◌≡◌, ◌∙◌, ℕ, zero, suc, ◌+◌, ◌<◌, ◌≤◌, ◌⊎◌, inl, inr, List, [], ◌∷◌, ◌++◌, map, reverse, length, refl, sym, ap, subst, arith, Option}
-use Rattle.std.proofs.lemmas.List.{reverse-reverse, reverse-append, append_assoc, length-append}
+use Rattle.std.proofs.Common.{◌≡◌, ◌∙◌, ℕ, zero, suc, ◌+◌, ◌<◌, ◌≤◌, List, [], ◌∷◌, ◌++◌, map, reverse, length, refl, sym, ap, subst, arith, Option}
+use Rattle.std.proofs.lemmas.List.{reverse-reverse, reverse-append, append_assoc}
 use Rattle.ept_scan.specs.declared.second_reading.Reader.{Reader}
 use Rattle.ept_node.specs.declared.node.Node as node
 use Rattle.ept_slots.specs.Views.{first_view, whole}
@@ -8,8 +8,7 @@ use Rattle.ept_table.specs.declared.item.Item.{Item}
 use Rattle.ept_table.specs.declared.item.Item.TheVariants as items
 use Rattle.ept_table.specs.declared.note.Told.{Told}
 use Rattle.ept_table.specs.At.{At}
-use Rattle.ept_table.specs.Shown.{IsOver}
-use Rattle.ept_table.specs.Steps.{first_note, first_seat}
+use Rattle.ept_table.specs.Steps.{first_note}
 use Rattle.ept_table.specs.Tells.{IsLanded}
 use Rattle.ept_table.specs.Item.{taken_as, seen_node, seen_reader, seen, IsFiled, Filed}
 use Rattle.ept_table.specs.Standing.{Stands}
@@ -20,7 +19,7 @@ use Rattle.ept_table.specs.declared.taken.Taken.{Taken}
 use Rattle.ept_table.specs.declared.taken.Taken.TheVariants.{Reading}
 use Rattle.ept_table.specs.View.{View}
 use Rattle.ept_table.specs.Shown.{Holds}
-use Rattle.ept_node.specs.Shown.{state_of}
+use Rattle.ept_node.specs.Shown.{state_of, node_of, children_of}
 use Rattle.ept_node.specs.declared.state.NodeState.{NodeState}
 use Rattle.ept_node.specs.declared.state.NodeState.TheVariants as states
 use Rattle.ept_table.proofs.Lists.{at-head, at-next, at-rest, at-zero, nothing-at}
@@ -143,14 +142,26 @@ module _ {F S : Type 0} where
         absurd (no_reader (at-head h.base.at_first))
       where
         no_reader : {q : Progress} → seen_node n ≡ Reading q → ⊥
-        no_reader e = not_reading (state_of n) e
+        no_reader e = not_reading (record { node = node_of n; children = children_of n }) (state_of n) e
           where
-            not_reading : {q : Progress} {c : Cell} (s : NodeState) → taken_as s c ≡ Reading q → ⊥
-            not_reading states.Blank e = cc
-            not_reading states.Resident e = cc
+            not_reading : {q : Progress} (c : Cell) (s : NodeState) → taken_as s c ≡ Reading q → ⊥
+            not_reading c states.Blank e = cc
+            not_reading c states.Resident e = cc
     closed-row drawn (items.Reader r ∷ xs) views h =
         let rest = as_nodes xs (λ k x a q e. (
-            let b : At (map (seen whole_of) (items.Reader r ∷ xs)) (suc k) (seen whole_of x) = at-map (seen whole_of) (items.Reader r ∷ xs) (suc k) x (at-next (items.Reader r) xs k x a) in
-            let z : suc k ≡ 0 = h.base.one_reader (suc k) (seen_reader whole_of q) (subst (λ (t : Taken). At (map (seen whole_of) (items.Reader r ∷ xs)) (suc k) t) (ap (seen whole_of) e) b) in
-            omega (arith, z))) in
+        let b : At (map (seen whole_of) (items.Reader r ∷ xs)) (suc k) (seen whole_of x) = at-map (seen whole_of) (items.Reader r ∷ xs) (suc k) x (at-next (items.Reader r) xs k x a) in
+        let z : suc k ≡ 0 = h.base.one_reader (suc k) (seen_reader whole_of q) (subst (λ (t : Taken). At (map (seen whole_of) (items.Reader r ∷ xs)) (suc k) t) (ap (seen whole_of) e) b) in
+        omega (arith, z))) in
         (r, rest.0, ap (λ (w : List (Item F S)). items.Reader r ∷ w) rest.1)
+
+    pub filed-first : (xs : List (Item F S)) (r : Reader S) (ns : List (node.Node F)) → xs ≡ items_of r ns → ((k : ℕ) (x : Item F S) → At xs k x → Filed whole_of left given faults told x) → IsFiled whole_of left given faults told r
+    filed-first xs r ns e filed =
+        filed 0 (items.Reader r) (subst (λ (w : List (Item F S)). At w 0 (items.Reader r)) (sym e) (at-zero (items.Reader r) (map as_item ns)))
+
+    pub closed-most : (drawn : ℕ) (xs : List (Item F S)) (views : List View) (r : Reader S) (ns : List (node.Node F)) → Holds told drawn (map (seen whole_of) xs) views → xs ≡ items_of r ns → length ns ≡ told.most
+    closed-most drawn xs views r ns h e =
+        let size : length (map (seen whole_of) xs) ≡ told.most + 1 = h.base.size in
+        let same : length (map (seen whole_of) xs) ≡ length xs = length-map (seen whole_of) xs in
+        let both : length xs ≡ length (items_of r ns) = ap (λ (w : List (Item F S)). length w) e in
+        let nodes : length (map as_item ns) ≡ length ns = length-map as_item ns in
+        omega (arith, size, same, both, nodes)

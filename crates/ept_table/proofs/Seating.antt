@@ -1,6 +1,5 @@
 -- Seats that are made of seats, and that end in seats.
-use Rattle.std.proofs.Common.{◌≡◌, ◌∙◌, ℕ, ◌+◌, ◌<◌, ◌≤◌, ◌||◌, Bool, true, false, ◌⊎◌, inl, inr, List, [], ◌∷◌, ◌++◌, map, length, set, refl, sym, ap, subst, arith, Option, Some, None}
-use Rattle.std.specs.List.{flat_map}
+use Rattle.std.proofs.Common.{◌≡◌, ◌∙◌, ℕ, ◌<◌, ◌≤◌, ◌⊎◌, inl, inr, List, [], ◌∷◌, ◌++◌, map, set, refl, sym, ap, subst, arith, Some, None}
 use Rattle.std.specs.List.Sorted.{IsPermutation}
 use Rattle.std.proofs.lemmas.List.{append-nil, append_assoc}
 use Rattle.std.proofs.lemmas.Bool.{false≢true}
@@ -12,7 +11,6 @@ use Rattle.ept_sample.proofs.Members.{IsMember-left, IsMember-right, IsMember-ap
 use Rattle.ept_sample.proofs.Choices.{or_cases, or_left, or_right}
 use Rattle.ept_core.specs.declared.flight.Flight.{Flight}
 use Rattle.ept_table.specs.declared.note.Told.{Told}
-use Rattle.ept_table.specs.declared.note.Note.{Note}
 use Rattle.ept_table.specs.declared.note.Carried.{Carried}
 use Rattle.ept_table.specs.declared.note.Draw.{Draw}
 use Rattle.ept_table.specs.declared.taken.Taken.{Taken}
@@ -20,7 +18,7 @@ use Rattle.ept_table.specs.At.{At}
 use Rattle.ept_table.specs.View.{View, NotesFull, IsNothing, flights_of, all_flights}
 use Rattle.ept_table.specs.Shown.{IsOver, Drew, Holds}
 use Rattle.ept_table.specs.Steps.{with_parts, new_seat, joined, IsSpent}
-use Rattle.ept_table.proofs.Lists.{same_or_not, at-same, at-below, at-set, at-other, set-at, length-set, at-left, end-at, flat-out, set-set, set-apart}
+use Rattle.ept_table.proofs.Lists.{same_or_not, at-same, at-below, at-set, at-other, set-at, at-left, end-at, flat-out, set-set, set-apart}
 use Rattle.ept_table.proofs.Mirrors.{Mirrors, SomeFailure, stays, mirrors-hold, alike-holds, none_of}
 
 -- ---- a seat is divided

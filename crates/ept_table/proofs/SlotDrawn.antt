@@ -1,33 +1,27 @@
 -- A slot is drawn for the child of an octant.
-use Rattle.std.proofs.Common.{◌≡◌, ◌∙◌, ℕ, zero, suc, ◌+◌, ◌<◌, ◌≤◌, min, Bool, true, false, ◌⊎◌, inl, inr, List, [], ◌∷◌, ◌++◌, length, take, set, refl, sym, ap, subst, arith, Option, Some, None, sum_by}
-use Rattle.std.specs.List.{flat_map}
+use Rattle.std.proofs.Common.{◌≡◌, ◌∙◌, ℕ, ◌+◌, ◌<◌, ◌≤◌, true, false, ◌⊎◌, inl, inr, List, [], ◌∷◌, ◌++◌, length, set, refl, sym, ap, subst, arith, Option, Some, None, sum_by}
 use Rattle.std.specs.List.Sorted.{IsPermutation}
 use Rattle.std.proofs.lemmas.List.{length-append}
 use Rattle.std.proofs.lemmas.Bool.{false≢true}
 use Rattle.std.proofs.lemmas.List.Sorted.{IsPermutation-refl, IsPermutation-sym}
 use Rattle.ept_space.specs.VoxelKey.{VoxelKey, root, child}
-use Rattle.ept_scan.specs.declared.read_error.ReadError.{ReadError}
 use Rattle.ept_sample.specs.Members.{IsMember}
 use Rattle.ept_sample.proofs.IdLaws.{IsMember-IsPermutation}
-use Rattle.ept_core.specs.declared.flight.Flight.{Flight}
 use Rattle.ept_core.proofs.Regrouping.{order-free}
 use Rattle.ept_grid.specs.Node.{is_open_in}
 use Rattle.ept_table.specs.declared.note.Told.{Told}
-use Rattle.ept_table.specs.declared.note.Note.{Note}
 use Rattle.ept_table.specs.declared.note.Carried.{Carried}
 use Rattle.ept_table.specs.declared.note.Draw.{Draw}
 use Rattle.ept_table.specs.declared.taken.Cell.{Cell}
-use Rattle.ept_table.specs.declared.taken.Progress.{Progress}
 use Rattle.ept_table.specs.declared.taken.Taken.{Taken}
-use Rattle.ept_table.specs.declared.taken.Taken.TheVariants.{Blank, Standing, Reading}
+use Rattle.ept_table.specs.declared.taken.Taken.TheVariants.{Blank, Standing}
 use Rattle.ept_table.specs.At.{At}
 use Rattle.ept_table.specs.Taken.{count_of, is_open_at, slot_at}
 use Rattle.ept_table.specs.View.{View, NotesFull, IsNothing, flights_of, all_flights}
-use Rattle.ept_table.specs.Shown.{IsOver, KeyOf, HasSlot, OpensOctant, IsChild, Drew, IsDrawn, IsDraw, Seats, Base, Tree, shown, Shows, Holds, AreLocked}
+use Rattle.ept_table.specs.Shown.{IsOver, KeyOf, HasSlot, IsChild, Drew, IsDrawn, IsDraw, Seats, Base, Tree, shown, Shows, Holds, AreLocked}
 use Rattle.ept_table.specs.Steps.{noting, drawing, MayDraw}
 use Rattle.ept_table.proofs.Lists.{same_or_not, at-same, at-below, below-at, at-set, at-other, set-at, flat-same}
-use Rattle.ept_table.proofs.Keys.{no_key, key-same, key-low, key-grown, key-last, key-cases, child-key, child-octant, child-root}
-use Rattle.ept_table.proofs.Flown.{weight}
+use Rattle.ept_table.proofs.Keys.{key-same, key-grown, key-last, key-cases, child-key, child-octant, child-root}
 use Rattle.ept_table.proofs.Mirrors.{flown-same, each-same, holder-parts}
 
 pub some_same : {X : Type 0} {a b : X} → Some a ≡ Some b → a ≡ b

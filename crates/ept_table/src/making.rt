@@ -116,7 +116,11 @@ fn given_up<F: SpillFile, S>(apart: Apart<F, S>, used: u32) -> Unmade<F, S>
 }
 
 // The items of a table. Or there was no memory.
-fn lay<F, S>(alloc: Global, mut nodes: Vec<Node<F>>, reader: Reader<S>) -> Result<Laid<F, S>, Apart<F, S>>
+fn lay<F, S>(
+    alloc: Global,
+    mut nodes: Vec<Node<F>>,
+    reader: Reader<S>,
+) -> Result<Laid<F, S>, Apart<F, S>>
     ensures items { IfOk result (λ laid. laid.items.items ≡ items_of reader nodes.items) }
     ensures spare { IfOk result (λ laid. (laid.spare.items ≡ []) × (length nodes.items ≤ vec_capacity laid.spare)) }
     ensures refused { IfErr result (λ apart. (apart.nodes.items ≡ nodes.items) × (apart.reader ≡ reader)) }
@@ -151,9 +155,7 @@ fn take_apart<F, S>(laid: Laid<F, S>) -> Apart<F, S>
     } = laid;
     items.reverse();
     let first = items.pop();
-    let Some(first) = first else {
-        unreachable!()
-    };
+    let Some(first) = first else { unreachable!() };
     let reader = reader_in(first);
     while let Some(item) = items.pop() {
         nodes.push_reserved(node_in(item));

@@ -1,4 +1,4 @@
-use Rattle.std.proofs.Common.{◌≡◌, ◌∙◌, ℕ, suc, ◌+◌, ◌≤◌, [], ◌∷◌, ◌++◌, map, reverse, length, vec_len, vec_capacity, refl, sym, ap, subst, arith, length-append}
+use Rattle.std.proofs.Common.{◌≡◌, ◌∙◌, suc, ◌+◌, ◌≤◌, [], ◌∷◌, ◌++◌, reverse, length, vec_capacity, sym, ap, arith, length-append}
 use Rattle.ept_table.specs.Row.{items_of}
 use Rattle.ept_table.proofs.Rows.{cons-parts, reader-same, turned, turned-again, back-step, one-more-back}
 use Rattle.ept_table.proofs.making.take_apart.Goals as goal
@@ -13,8 +13,7 @@ loop-item-init g c =
     let all = turned c.args.laid.items.items c.pop-first.new.self.items c.in-Some.first (sym c.reverse.ensures.items ∙ c.in-Some.ensures.items) in
     let parts = cons-parts _ _ _ _ (sym all ∙ c.requires.items.2) in
     let reader = reader-same (c.requires.items.0) c.reader_in-reader.result (sym parts.0 ∙ c.reader_in-reader.ensures) in
-    let none : length c.args.laid.spare.items ≡ 0 = ap length c.requires.spare in
-    (
+    let none : length c.args.laid.spare.items ≡ 0 = ap length c.requires.spare in (
       c.requires.items.1,
       c.requires.items.2 ∙ (ap (λ r. items_of r c.requires.items.1) reader ∙ ap (λ ns. items_of c.reader_in-reader.result (ns ++ c.requires.items.1)) (sym c.requires.spare)),
       parts.1,
@@ -35,8 +34,7 @@ loop-item-preserved g c =
     let room : length c.loop-item.nodes.items + length i.0 ≤ vec_capacity c.loop-item.nodes = i.3 in
     let same : vec_capacity c.push_reserved.new.self ≡ vec_capacity c.loop-item.nodes = c.push_reserved.ensures.capacity in
     let longer : length c.push_reserved.new.self.items ≡ length c.loop-item.nodes.items + 1 = ap length now ∙ length-append c.loop-item.nodes.items (c.node_in.result ∷ []) in
-    let fewer : length i.0 ≡ suc (length step.1) = ap length step.2 in
-    (
+    let fewer : length i.0 ≡ suc (length step.1) = ap length step.2 in (
       step.1,
       one-more-back c.reader_in-reader.result c.args.laid.items.items c.loop-item.nodes.items i.0 step.1 step.0 c.node_in.result c.in-Some-pop.item c.push_reserved.new.self.items i.1 step.2 step.3 c.node_in.ensures now,
       step.4,

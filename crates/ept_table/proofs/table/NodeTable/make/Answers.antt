@@ -1,4 +1,4 @@
-use Rattle.std.proofs.Common.{◌≡◌, ◌∙◌, ℕ, ◌+◌, ◌≤◌, [], ◌∷◌, length, vec_len, vec_capacity, sym, ap, subst, arith}
+use Rattle.std.proofs.Common.{◌≡◌, ◌∙◌, ℕ, ◌≤◌, [], ◌∷◌, length, vec_len, sym, ap, subst, arith}
 use Rattle.ept_slots.specs.Views.{first_view}
 use Rattle.ept_forest.specs.Slots.{nodes_of, used_of}
 use Rattle.ept_table.specs.Steps.{first_note}
