@@ -1,20 +1,20 @@
 -- The table at the start, and at the end.
-use Rattle.std.proofs.Common.{◌≡◌, ℕ, zero, suc, ◌+◌, ◌<◌, ◌≤◌, ◌≢◌, List, [], ◌∷◌, map, length, replicate, get_or, set, sym, refl, ap, subst, ◌∙◌, arith, length-set, get_or-set_same, get_or-set_other}
+use Rattle.std.proofs.Common.{◌≡◌, ℕ, zero, suc, ◌+◌, ◌<◌, ◌≤◌, ◌≢◌, List, [], ◌∷◌, length, replicate, get_or, set, sym, refl, ap, subst, ◌∙◌, arith, length-set, get_or-set_same, get_or-set_other}
 use Rattle.std.proofs.lemmas.List.{length-map, length-replicate, get_or-replicate}
 use Rattle.std.specs.List.{sum_by}
 use mathlib.Core.Logic.{dite}
 use mathlib.Core.Option.{some, some-injective, some-ne-none}
 use native.Mathlib.Decide.{ℕ_discrete}
 use lib.ListN.{get_elem?}
-use Rattle.atomic_table.specs.Table.{State, opening, Final, Seen}
+use Rattle.atomic_table.specs.Table.{opening, Final, Seen}
 use Rattle.atomic_table.proofs.Lists.{at_map, set_else}
 use Rattle.ept_slots.specs.declared.slot.Slot.{Slot}
 use Rattle.ept_slots.specs.declared.slot.Slot.TheVariants.{Here, Spare}
 use Rattle.ept_slots.specs.declared.view.View.{View}
-use Rattle.ept_slots.specs.Views.{At, Holds, HoldsNothing, whole, parts_of, refused_of, first_view, spent_view}
+use Rattle.ept_slots.specs.Views.{At, Holds, HoldsNothing, whole, parts_of, first_view, spent_view}
 use Rattle.ept_slots.specs.Seats.{Seats, IsAlone}
 use Rattle.ept_slots.specs.Laid.{IsLaid}
-use Rattle.ept_slots.specs.Locks.{drawn_of, lock_of, Locks, Lies}
+use Rattle.ept_slots.specs.Locks.{drawn_of, lock_of, Lies}
 use Rattle.ept_slots.specs.Seating.{Ended}
 use Rattle.ept_slots.proofs.Places.{at-below}
 use Rattle.ept_slots.proofs.Sums.{sum-put, at-le-sum}

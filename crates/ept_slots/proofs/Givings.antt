@@ -1,20 +1,17 @@
 -- A give keeps the rule of the table.
-use Rattle.std.proofs.Common.{◌≡◌, ℕ, eqb, ◌+◌, ◌<◌, ◌≤◌, ◌≢◌, ◌⊎◌, List, [], ◌∷◌, length, get_or, set, sym, refl, ap, subst, ◌∙◌, ⊎_elim, arith, length-set}
+use Rattle.std.proofs.Common.{◌≡◌, ℕ, eqb, ◌+◌, ◌<◌, ◌≤◌, ◌≢◌, List, [], ◌∷◌, length, get_or, set, sym, refl, ap, subst, ◌∙◌, ⊎_elim, arith, length-set}
 use Rattle.std.specs.List.{sum_by}
-use Rattle.std.specs.Prelude.{None}
 use Rattle.std.specs.Vec.{vec_capacity}
-use mathlib.Core.Logic.{dite}
 use mathlib.Core.Option.{none, some, some-injective}
 use mathlib.Core.Option as maybe
-use native.Mathlib.Decide.{ℕ_discrete}
 use prog.Atomic.{either}
 use lib.ListN.{get_elem?}
-use Rattle.atomic_table.specs.Table.{State, Me, step, gives, Allows}
+use Rattle.atomic_table.specs.Table.{Me, step, gives, Allows}
 use Rattle.atomic_table.proofs.Lists.{at_set, set_here, set_else, exchanged}
 use Rattle.ept_slots.specs.declared.slot.Slot.{Slot}
 use Rattle.ept_slots.specs.declared.slot.Slot.TheVariants.{Here, Said, Spare}
 use Rattle.ept_slots.specs.declared.view.View.{View}
-use Rattle.ept_slots.specs.Views.{At, Holds, HoldsNothing, whole, parts_of, refused_of, given}
+use Rattle.ept_slots.specs.Views.{At, Holds, whole, parts_of, refused_of, given}
 use Rattle.ept_slots.specs.Seats.{Seats}
 use Rattle.ept_slots.specs.Asks.{Gives}
 use Rattle.ept_slots.specs.Locks.{drawn_of, lock_of, Locks, Lies}

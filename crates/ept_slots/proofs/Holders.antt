@@ -1,7 +1,7 @@
 -- Which seats hold which slots, where views change.
-use Rattle.std.proofs.Common.{◌≡◌, ℕ, ◌+◌, ◌<◌, ◌≤◌, ◌≢◌, ◌⊎◌, List, [], ◌∷◌, ◌++◌, length, set, sym, refl, ap, subst, ◌∙◌, ⊎_elim}
-use Rattle.std.specs.Prelude.{Option, Some, None}
-use mathlib.Core.Option.{some, some-injective}
+use Rattle.std.proofs.Common.{◌≡◌, ℕ, List, [], ◌∷◌, ◌++◌, set, sym, ap, subst, ◌∙◌, ⊎_elim}
+use Rattle.std.specs.Prelude.{Some}
+use mathlib.Core.Option.{some-injective}
 use mathlib.Core.Logic.{dite}
 use lib.ListN.{get_elem?}
 use native.Mathlib.Decide.{ℕ_discrete}

@@ -1,11 +1,11 @@
 -- What the crate's own facts come to where views change.
-use Rattle.std.proofs.Common.{◌≡◌, ℕ, ◌+◌, ◌-◌, ◌/◌, ◌<◌, ◌≤◌, ◌≢◌, ◌⊎◌, List, [], ◌∷◌, ◌++◌, length, get_or, set, sym, refl, ap, subst, ◌∙◌, ⊎_elim, arith}
+use Rattle.std.proofs.Common.{◌≡◌, ℕ, ◌+◌, ◌<◌, ◌≤◌, List, length, set, sym, subst, ◌∙◌, arith}
 use Rattle.std.specs.List.{sum_by}
 use mathlib.Core.Option.{some, some-injective}
 use mathlib.Core.Option as maybe
 use Rattle.ept_slots.specs.declared.slot.Slot.{Slot}
 use Rattle.ept_slots.specs.declared.view.View.{View}
-use Rattle.ept_slots.specs.Views.{At, Holds, HoldsNothing, whole, parts_of, refused_of}
+use Rattle.ept_slots.specs.Views.{At, HoldsNothing, whole, parts_of, refused_of}
 use Rattle.ept_slots.specs.Seats.{Seats}
 use Rattle.ept_slots.specs.Locks.{lock_of, Locks}
 use Rattle.ept_slots.proofs.Holders.{Mirrors, mirrors-put, each-put}

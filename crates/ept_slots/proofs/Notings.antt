@@ -1,15 +1,13 @@
 -- The steps that change no slot: a note, a look, a draw, a split and a join.
-use Rattle.std.proofs.Common.{◌≡◌, ℕ, eqb, ◌+◌, ◌-◌, ◌/◌, ◌%◌, ◌^◌, ◌<◌, ◌≤◌, ◌≢◌, ◌⊎◌, List, [], ◌∷◌, ◌++◌, length, get_or, set, sym, refl, ap, subst, ◌∙◌, ⊎_elim, arith, length-set, get_or-set_other, get_or-set_same}
+use Rattle.std.proofs.Common.{◌≡◌, ℕ, eqb, ◌+◌, ◌-◌, ◌/◌, ◌%◌, ◌^◌, ◌<◌, ◌≤◌, List, [], ◌∷◌, ◌++◌, length, get_or, set, sym, refl, ap, subst, ◌∙◌, ⊎_elim, arith, length-set, get_or-set_other, get_or-set_same}
 use Rattle.std.proofs.Math.Nat.{mod-eq_of_lt}
 use Rattle.std.proofs.lemmas.List.{set-get_or}
 use Rattle.std.proofs.lemmas.List.Sums.{sum_by_push}
 use Rattle.std.proofs.lemmas.Bool.{cases_lt}
 use Rattle.std.specs.List.{sum_by}
-use Rattle.std.specs.Prelude.{Option, Some, None}
-use mathlib.Core.Option.{none, some, some-injective}
-use mathlib.Core.Option as maybe
+use Rattle.std.specs.Prelude.{Option}
+use mathlib.Core.Option.{none, some}
 use prog.Atomic.{either}
-use lib.ListN.{get_elem?}
 use Rattle.atomic_table.specs.Table.{State, Me, step, keeps, Allows, Splits, Joins}
 use Rattle.atomic_table.proofs.Lists.{set_else, exchanged}
 use Rattle.ept_slots.specs.declared.slot.Slot.{Slot}
@@ -19,11 +17,10 @@ use Rattle.ept_slots.specs.Views.{At, Holds, HoldsNothing, whole, parts_of, refu
 use Rattle.ept_slots.specs.Seats.{Seats}
 use Rattle.ept_slots.specs.Asks.{Notes, Looks, Draws, IsRefused}
 use Rattle.ept_slots.specs.Asks as asks
-use Rattle.ept_slots.specs.Locks.{drawn_of, lock_of, Locks, Lies}
+use Rattle.ept_slots.specs.Locks.{drawn_of, Lies}
 use Rattle.ept_slots.specs.Plays.{play_note, play_look, play_draw}
-use Rattle.ept_slots.proofs.Places.{put-here}
 use Rattle.ept_slots.proofs.Sums.{sum-put, sum-le}
-use Rattle.ept_slots.proofs.Holders.{Mirrors, mirrors-put, mirrors-last, mirrors-both, each-put, each-last}
+use Rattle.ept_slots.proofs.Holders.{mirrors-put, mirrors-last, mirrors-both, each-put, each-last}
 use Rattle.ept_slots.proofs.Keeping.{IsFair, fair, reseat, reseat-noted, relock}
 use Rattle.ept_slots.proofs.Hands.{told-said}
 use Rattle.ept_slots.proofs.Takings.{Goes}

@@ -1,7 +1,6 @@
 -- Lists read by place.
-use Rattle.std.proofs.Common.{◌≡◌, ℕ, zero, suc, ◌+◌, ◌<◌, ◌≢◌, List, [], ◌∷◌, length, set, sym, refl, arith}
-use mathlib.Core.Option.{some, some-ne-none}
-use lib.ListN.{get_elem?}
+use Rattle.std.proofs.Common.{ℕ, zero, suc, ◌<◌, List, [], ◌∷◌, length, set, sym, refl, arith}
+use mathlib.Core.Option.{some-ne-none}
 use Rattle.atomic_table.proofs.Lists.{set_here}
 use Rattle.ept_slots.specs.Views.{At}
 

@@ -1,12 +1,12 @@
 -- What a clause says of a table of slots and of its seats.
-use Rattle.std.specs.Prelude.{◌≡◌, ◌<◌, ℕ, List, [], ◌∷◌, length, Option, Some, None}
+use Rattle.std.specs.Prelude.{◌≡◌, ℕ, List, [], ◌∷◌, Option, Some, None}
 use Rattle.atomic_table.specs.declared.shared.Seat.{Seat}
 use Rattle.ept_slots.specs.declared.slot.Slot.{Slot}
 use Rattle.ept_slots.specs.declared.slot.Slot.TheVariants.{Out}
 use Rattle.ept_slots.specs.declared.slots.Slots.{Slots}
 use Rattle.ept_slots.specs.declared.view.Held.{Held}
 use Rattle.ept_slots.specs.declared.view.View.{View}
-use Rattle.ept_slots.specs.Views.{At, HoldsNothing}
+use Rattle.ept_slots.specs.Views.{At}
 use Rattle.ept_slots.specs.Seats.{Seats, IsAlone}
 
 abbrev pub SlotSeat : Type 0 → Type 0 → Type 0 → Type 0

@@ -1,8 +1,7 @@
 -- What a seat knows, and what each step makes of it.
-use Rattle.std.specs.Prelude.{◌≡◌, ℕ, ◌+◌, ◌-◌, ◌/◌, List, Option, Some, None}
+use Rattle.std.specs.Prelude.{◌≡◌, ℕ, ◌+◌, ◌-◌, ◌/◌, List, Some, None}
 use mathlib.Core.Option.{some}
 use lib.ListN.{get_elem?}
-use Rattle.ept_slots.specs.declared.view.Held.{Held}
 use Rattle.ept_slots.specs.declared.view.View.{View}
 
 -- x stands at the place i

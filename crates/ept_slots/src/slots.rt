@@ -29,11 +29,13 @@ pub struct Slots<T, N, W, K, R: SlotRule<T, N, K>> {
 }
 
 /// There was no memory. The items come back.
+#[derive(Drop)]
 pub struct Refused<T> {
     pub items: Vec<T, Global>,
 }
 
 /// What a table held when it was closed.
+#[derive(Drop)]
 pub struct Ending<T> {
     /// The items in the order of their slots.
     pub items: Vec<T, Global>,

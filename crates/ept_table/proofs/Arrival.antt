@@ -1,22 +1,21 @@
 -- A flight has arrived at its node.
-use Rattle.std.proofs.Common.{◌≡◌, ◌∙◌, ℕ, zero, suc, ◌+◌, ◌<◌, ◌≤◌, Bool, true, false, ◌⊎◌, inl, inr, List, [], ◌∷◌, ◌++◌, map, length, set, refl, sym, ap, subst, arith, Option, Some, None, sum_by}
-use Rattle.std.specs.List.{flat_map, remove}
+use Rattle.std.proofs.Common.{◌≡◌, ◌∙◌, ℕ, ◌+◌, ◌<◌, ◌≤◌, true, false, ◌⊎◌, inl, inr, List, [], ◌∷◌, ◌++◌, map, length, set, refl, sym, ap, subst, arith, Some, None, sum_by}
+use Rattle.std.specs.List.{remove}
 use Rattle.std.specs.List.Sorted.{IsPermutation}
-use Rattle.std.proofs.lemmas.List.{append-nil, append_assoc, map-append}
+use Rattle.std.proofs.lemmas.List.{append-nil, map-append}
 use Rattle.std.proofs.lemmas.Bool.{false≢true}
 use Rattle.std.proofs.lemmas.List.Sorted.{IsPermutation-refl, IsPermutation-sym, IsPermutation-trans, IsPermutation-append_left, IsPermutation-append_comm, IsPermutation-map, IsPermutation-remove}
 use Rattle.ept_point.specs.declared.point.Point.{Point}
 use Rattle.ept_space.specs.VoxelKey.{VoxelKey, root, same_key, child}
-use Rattle.ept_scan.specs.declared.read_error.ReadError.{ReadError}
 use Rattle.ept_sample.specs.Ids.{HasDistinctIds, in_id_order}
 use Rattle.ept_sample.specs.Members.{IsMember}
-use Rattle.ept_sample.proofs.Members.{IsMember-left, IsMember-right, IsMember-append, IsMember-map, member-map, IsMember-flat_map}
+use Rattle.ept_sample.proofs.Members.{IsMember-left, IsMember-right, IsMember-append, IsMember-map, member-map}
 use Rattle.ept_sample.proofs.IdLaws.{IsMember-IsPermutation}
 use Rattle.ept_sample.proofs.Choices.{either}
 use Rattle.ept_sample.proofs.KeyOrder.{with_key-put}
 use Rattle.ept_core.specs.declared.flight.Flight.{Flight}
 use Rattle.ept_core.specs.declared.node.Node as core
-use Rattle.ept_core.specs.State.{State, Entry, flown, node_at, has_node, keys_of}
+use Rattle.ept_core.specs.State.{State, Entry, node_at, has_node, keys_of}
 use Rattle.ept_core.specs.Law.{KeepsLaw}
 use Rattle.ept_core.specs.Flying.{EachIsReordered}
 use Rattle.ept_core.specs.Steps as steps
@@ -27,24 +26,22 @@ use Rattle.ept_core.proofs.Regrouping.{order-free}
 use Rattle.ept_grid.specs.Node.{is_open_in}
 use Rattle.ept_node.specs.Batch.{seen}
 use Rattle.ept_table.specs.declared.note.Told.{Told}
-use Rattle.ept_table.specs.declared.note.Note.{Note}
 use Rattle.ept_table.specs.declared.note.Carried.{Carried}
 use Rattle.ept_table.specs.declared.note.Draw.{Draw}
 use Rattle.ept_table.specs.declared.taken.Cell.{Cell}
-use Rattle.ept_table.specs.declared.taken.Progress.{Progress}
 use Rattle.ept_table.specs.declared.taken.Taken.{Taken}
 use Rattle.ept_table.specs.declared.taken.Taken.TheVariants.{Blank, Standing, Reading}
 use Rattle.ept_table.specs.At.{At}
 use Rattle.ept_table.specs.Taken.{points_of, count_of, is_open_at, slot_at, as_node}
 use Rattle.ept_table.specs.View.{View, NotesFull, IsNothing, flights_of, all_flights}
 use Rattle.ept_table.specs.Shown.{IsOver, KeyOf, HasSlot, IsSound, IsSoundFlight, IsChild, Drew, IsDrawn, IsDraw, Seats, Base, Tree, shown, Shows, Holds, AreLocked}
-use Rattle.ept_table.specs.Steps.{given_back, arrived, HasChild, GoesBelow, IsArrival, HasArrived}
+use Rattle.ept_table.specs.Steps.{given_back, arrived, GoesBelow, IsArrival, HasArrived}
 use Rattle.ept_table.proofs.Lists.{same_or_not, at-same, at-below, at-get, at-member, at-set, at-other, set-at, set-set, set-again, length-set, between, flat-more, sum-set}
-use Rattle.ept_table.proofs.Keys.{no_key, key-same, key-low, child-key, child-octant, child-root, child-apart}
+use Rattle.ept_table.proofs.Keys.{key-same, key-low, child-key, child-octant, child-root, child-apart}
 use Rattle.ept_table.proofs.Flown.{weight, weight-append}
 use Rattle.ept_table.proofs.Mirrors.{flown-same, each-same, holder-parts}
 use Rattle.ept_table.proofs.SlotDrawn.{some_same}
-use Rattle.ept_table.proofs.Full.{points-as, node-taken}
+use Rattle.ept_table.proofs.TooMany.{points-as, node-taken}
 
 standing_same : {a b : Cell} → Standing a ≡ Standing b → a ≡ b
 standing_same {a} {b} e = ap from e
@@ -216,11 +213,11 @@ module _ (told : Told) (drawn : ℕ) (items : List Taken) (views : List View) (i
       elim (either (is_open_at x o)) [
         | inl was ↦ subst (λ (n : ℕ). HasSlot told drawn h.keys n (child f.key o)) (sym ((arr.children o low).kept was)) (old_child x o refl low was)
         | inr wasn't ↦ elim ((arr.children o low).drawn wasn't opened) [
-            | inl d ↦ (
-                let key = (drawn_key d.0 d.1).1 in
-                inr (subst (λ (n : ℕ). KeyOf h.keys n (child f.key o)) (sym d.3) (subst (λ (p : ℕ). KeyOf h.keys d.0.slot (child f.key p)) d.2 key)))
-            | inr none ↦ inl (none.0, h.seats.full_above i v at (inl none.1))
-          ]
+          | inl d ↦ (
+              let key = (drawn_key d.0 d.1).1 in
+              inr (subst (λ (n : ℕ). KeyOf h.keys n (child f.key o)) (sym d.3) (subst (λ (p : ℕ). KeyOf h.keys d.0.slot (child f.key p)) d.2 key)))
+          | inr none ↦ inl (none.0, h.seats.full_above i v at (inl none.1))
+        ]
       ]
 
   new_child_key : (o : ℕ) → o < 8 → is_open_in y.node o ≡ true → HasSlot told drawn h.keys (slot_of o) (child y.node.key o)
@@ -229,7 +226,13 @@ module _ (told : Told) (drawn : ℕ) (items : List Taken) (views : List View) (i
 
   is_child : (o : ℕ) (slot : ℕ) (key : VoxelKey) → o < 8 → is_open_in y.node o ≡ true → slot_of o ≡ slot → child f.key o ≡ key → IsChild next_items slot key
   is_child o slot key low opened slot_is key_is = record {
-    parent = k; cell = y; octant = o; at = now; low = low; opened = opened; slot_is = slot_is;
+    parent = k;
+    cell = y;
+    octant = o;
+    at = now;
+    low = low;
+    opened = opened;
+    slot_is = slot_is;
     key_is = ap (λ (a : VoxelKey). child a o) arr.key ∙ key_is;
   }
 
@@ -242,9 +245,15 @@ module _ (told : Told) (drawn : ℕ) (items : List Taken) (views : List View) (i
             let same_slot : slot_of d.octant ≡ slot = (arr.children d.octant d.low).kept was ∙ (ap (λ (z : Taken). slot_at z d.octant) e ∙ d.slot_is) in
             is_child d.octant slot key d.low (arr.stays_open d.octant d.low was) same_slot (ap (λ (a : VoxelKey). child a d.octant) (sym (old_key d.cell e)) ∙ d.key_is))
         | inr apart ↦ record {
-            parent = d.parent; cell = d.cell; octant = d.octant; at = at-other k (Standing y) d.at apart;
-            low = d.low; opened = d.opened; slot_is = d.slot_is; key_is = d.key_is;
-          }
+          parent = d.parent;
+          cell = d.cell;
+          octant = d.octant;
+          at = at-other k (Standing y) d.at apart;
+          low = d.low;
+          opened = d.opened;
+          slot_is = d.slot_is;
+          key_is = d.key_is;
+        }
       ]
 
   lands_there : (d : Carried) → ((d.slot ≡ 1) ⊎ IsChild items d.slot d.flight.key) → (d.slot ≡ 1) ⊎ IsChild next_items d.slot d.flight.key
@@ -337,13 +346,13 @@ module _ (told : Told) (drawn : ℕ) (items : List Taken) (views : List View) (i
   other_awaited j d o apart a low opened b =
       let blank = blank_was (slot_at (Standing d) o) b in
       other_flies (child d.node.key o) (λ e. (
-          elim (h.tree.children j d o a low opened) [
-            | inl none ↦ (
-                let first : At items 0 Blank = subst (λ (n : ℕ). At items n Blank) none.0 blank.1 in
-                let no : Reading h.reader ≡ Blank = at-same h.base.at_first first in
-                absurd (cc))
-            | inr is ↦ blank.0 (h.tree.distinct (slot_at (Standing d) o) k f.key (subst (λ (key : VoxelKey). KeyOf h.keys (slot_at (Standing d) o) key) (sym e) is) its_key)
-          ])) (h.tree.awaited j d o a low opened blank.1)
+      elim (h.tree.children j d o a low opened) [
+        | inl none ↦ (
+            let first : At items 0 Blank = subst (λ (n : ℕ). At items n Blank) none.0 blank.1 in
+            let no : Reading h.reader ≡ Blank = at-same h.base.at_first first in
+            absurd (cc))
+        | inr is ↦ blank.0 (h.tree.distinct (slot_at (Standing d) o) k f.key (subst (λ (key : VoxelKey). KeyOf h.keys (slot_at (Standing d) o) key) (sym e) is) its_key)
+      ])) (h.tree.awaited j d o a low opened blank.1)
 
   mine_drew : (d : Draw) (slot : ℕ) (key parent : VoxelKey) → IsMember d v.note.draws → KeyOf h.keys k parent → d.slot ≡ slot → child parent d.octant ≡ key → IsChild next_items slot key
   mine_drew d slot key parent m held_is slot_is key_is =
@@ -361,10 +370,15 @@ module _ (told : Told) (drawn : ℕ) (items : List Taken) (views : List View) (i
             let slot_same : k ≡ d.held = ap (λ (p : ℕ × Taken). p.0) pair in
             inl (mine_drew d.draw slot key d.parent (subst (λ (u : View). IsMember d.draw u.note.draws) mine r.noted) (subst (λ (n : ℕ). KeyOf h.keys n d.parent) (sym slot_same) d.held_is) d.slot_is d.key_is))
         | inr apart ↦ inr (record {
-            held = d.held; taken = d.taken; draw = d.draw; parent = d.parent;
-            drew = record { seat = d.drew.seat; view = d.drew.view; at = at-other i w d.drew.at apart; hold = d.drew.hold; noted = d.drew.noted };
-            held_is = d.held_is; slot_is = d.slot_is; key_is = d.key_is;
-          })
+          held = d.held;
+          taken = d.taken;
+          draw = d.draw;
+          parent = d.parent;
+          drew = record { seat = d.drew.seat; view = d.drew.view; at = at-other i w d.drew.at apart; hold = d.drew.hold; noted = d.drew.noted };
+          held_is = d.held_is;
+          slot_is = d.slot_is;
+          key_is = d.key_is;
+        })
       ]
 
   -- no other seat has drawn the slot to which the flight went
@@ -388,7 +402,11 @@ module _ (told : Told) (drawn : ℕ) (items : List Taken) (views : List View) (i
 
   draw_is : (j : ℕ) (u : View) (held : ℕ) (z : Taken) (d : Draw) → At views j u → u.hold ≡ Some (held, z) → IsDraw told h.keys items u.note.flights held z d → IsDraw told h.keys next_items u.note.flights held z d
   draw_is j u held z d a hold r = record {
-    parent = r.parent; held_is = r.held_is; low = r.low; closed = r.closed; key_is = r.key_is;
+    parent = r.parent;
+    held_is = r.held_is;
+    low = r.low;
+    closed = r.closed;
+    key_is = r.key_is;
     blank = at-other k (Standing y) r.blank (λ same. not_drawn j u held z d a hold r same);
     opens = r.opens;
   }

@@ -1,20 +1,17 @@
 -- The root alone, and a reader of all points.
-use Rattle.std.proofs.Common.{◌≡◌, ◌∙◌, ℕ, zero, suc, ◌+◌, ◌<◌, ◌≤◌, Bool, true, false, ◌⊎◌, inl, inr, List, [], ◌∷◌, map, length, drop, refl, sym, ap, subst, arith, Option, Some, None, sum_by}
+use Rattle.std.proofs.Common.{◌≡◌, ◌∙◌, ℕ, zero, suc, ◌<◌, Bool, true, false, inl, inr, List, [], ◌∷◌, map, length, drop, refl, sym, ap, subst, arith, Some, None, sum_by}
 use Rattle.std.specs.List.{All}
 use Rattle.std.proofs.lemmas.Bool.{false≢true}
 use Rattle.std.proofs.lemmas.List.Sums.{sum_by-cons}
 use Rattle.std.proofs.lemmas.List.Elements.{All-nil}
 use Rattle.ept_point.specs.declared.point.Point.{Point}
-use Rattle.ept_space.specs.VoxelKey.{VoxelKey, root, same_key}
+use Rattle.ept_space.specs.VoxelKey.{VoxelKey, root}
 use Rattle.ept_space.specs.OctreeCube.{InBox}
-use Rattle.ept_space.proofs.Within.{same_key-true}
 use Rattle.ept_sample.specs.Place.{place}
 use Rattle.ept_sample.specs.Arrivals.{none_open, all_octants}
-use Rattle.ept_sample.specs.Members.{IsMember}
 use Rattle.ept_core.specs.declared.node.Node as core
-use Rattle.ept_core.specs.State.{State, Entry, blank, node_at, has_node, has_open}
+use Rattle.ept_core.specs.State.{State, blank, node_at, has_node, has_open}
 use Rattle.ept_core.specs.Law.{KeepsLaw}
-use Rattle.ept_core.specs.Steps.{begun}
 use Rattle.ept_core.proofs.CoreLaws.{begun-keeps}
 use Rattle.ept_core.proofs.NodeMap.{has_node-key}
 use Rattle.ept_grid.specs.Mask.{opened}
@@ -29,10 +26,10 @@ use Rattle.ept_table.specs.declared.taken.Taken.{Taken}
 use Rattle.ept_table.specs.declared.taken.Taken.TheVariants.{Blank, Standing, Reading}
 use Rattle.ept_table.specs.At.{At}
 use Rattle.ept_table.specs.Taken.{count_of, slot_at}
-use Rattle.ept_table.specs.Shown.{KeyOf, IsTold, IsSound, Shows, shown, Holds}
+use Rattle.ept_table.specs.Shown.{KeyOf, IsTold, IsSound, Shows}
 use Rattle.ept_table.specs.Steps.{IsPlanted}
 use Rattle.ept_table.specs.Tells.{IsLanded}
-use Rattle.ept_table.proofs.Lists.{at-same, at-head, at-rest, at-next, at-zero, nothing-at}
+use Rattle.ept_table.proofs.Lists.{at-same, at-rest, at-next, at-zero, nothing-at}
 
 -- where each has none there are none
 none_in_all : {X : Type 0} (f : X → ℕ) (xs : List X) → ((i : ℕ) (x : X) → At xs i x → f x ≡ 0) → sum_by f xs ≡ 0

@@ -1,35 +1,33 @@
 -- How a table begins and ends.
-use Rattle.std.proofs.Common.{◌≡◌, ◌∙◌, ℕ, zero, suc, ◌+◌, ◌<◌, ◌≤◌, Bool, true, false, ◌⊎◌, inl, inr, List, [], ◌∷◌, ◌++◌, map, length, take, drop, min, refl, sym, ap, subst, arith, Option, Some, None, sum_by}
+use Rattle.std.proofs.Common.{◌≡◌, ◌∙◌, ℕ, zero, suc, ◌<◌, ◌≤◌, true, ◌⊎◌, inl, inr, List, [], ◌∷◌, ◌++◌, map, take, drop, refl, sym, ap, subst, arith, Some, None}
 use Rattle.std.specs.List.{flat_map}
 use Rattle.std.specs.List.Sorted.{IsPermutation}
-use Rattle.std.proofs.lemmas.List.{append-nil, take-append-drop}
+use Rattle.std.proofs.lemmas.List.{take-append-drop}
 use Rattle.std.proofs.lemmas.Bool.{false≢true}
 use Rattle.std.proofs.lemmas.List.Concat.{flat_map-cons}
 use Rattle.std.proofs.lemmas.List.Sorted.{IsPermutation-refl}
 use Rattle.ept_point.specs.declared.point.Point.{Point}
-use Rattle.ept_space.specs.VoxelKey.{VoxelKey, root, child}
+use Rattle.ept_space.specs.VoxelKey.{child}
 use Rattle.ept_scan.specs.declared.read_error.ReadError.{ReadError}
 use Rattle.ept_sample.specs.Sampling.{is_node}
 use Rattle.ept_sample.specs.Members.{IsMember}
 use Rattle.ept_core.specs.declared.flight.Flight.{Flight}
 use Rattle.ept_core.specs.declared.node.Node as core
-use Rattle.ept_core.specs.State.{State, Entry, node_at, has_node, has_open}
+use Rattle.ept_core.specs.State.{State, has_open}
 use Rattle.ept_core.proofs.CoreLaws.{landed-sampled, landed-opens}
 use Rattle.ept_grid.specs.Node.{is_open_in}
-use Rattle.ept_node.specs.Batch.{seen}
 use Rattle.ept_node.proofs.Bridges.{seen-stands}
 use Rattle.ept_table.specs.declared.note.Told.{Told}
 use Rattle.ept_table.specs.declared.note.Carried.{Carried}
-use Rattle.ept_table.specs.declared.note.Draw.{Draw}
 use Rattle.ept_table.specs.declared.taken.Cell.{Cell}
 use Rattle.ept_table.specs.declared.taken.Progress.{Progress}
 use Rattle.ept_table.specs.declared.taken.Taken.{Taken}
-use Rattle.ept_table.specs.declared.taken.Taken.TheVariants.{Blank, Standing, Reading}
+use Rattle.ept_table.specs.declared.taken.Taken.TheVariants.{Standing, Reading}
 use Rattle.ept_table.specs.At.{At}
 use Rattle.ept_table.specs.View.{View, NotesFull, IsNothing, flights_of, all_flights}
-use Rattle.ept_table.specs.Shown.{IsOver, Drew, shown, Shows, Holds, AreLocked}
+use Rattle.ept_table.specs.Shown.{IsOver, shown, Shows, Holds, AreLocked}
 use Rattle.ept_table.specs.Steps.{first_seat}
-use Rattle.ept_table.specs.Tells.{IsTooMany, IsLanded, IsSampling, HasNothing, IsLast, IsEnded}
+use Rattle.ept_table.specs.Tells.{IsLanded, IsSampling, HasNothing, IsLast, IsEnded}
 use Rattle.ept_table.proofs.Lists.{same_or_not, at-same, at-head, at-rest, at-next, at-zero, nothing-at}
 use Rattle.ept_table.proofs.Mirrors.{Mirrors, SomeFull, SomeFailure, stays, mirrors-hold, none_of}
 use Rattle.ept_table.proofs.ReaderBack.{reading-same}

@@ -1,12 +1,11 @@
 -- How many points are on their way.
 use Rattle.std.proofs.Common.{◌≡◌, ◌∙◌, ℕ, suc, ◌+◌, List, ◌++◌, length, take, drop, set, ap, arith}
 use Rattle.std.proofs.lemmas.List.{length-append}
-use Rattle.std.proofs.lemmas.List.Concat.{flat_map-append, length-flat_map}
+use Rattle.std.proofs.lemmas.List.Concat.{flat_map-append}
 use Rattle.std.specs.List.{flat_map}
 use Rattle.ept_point.specs.declared.point.Point.{Point}
 use Rattle.ept_core.specs.declared.flight.Flight.{Flight}
 use Rattle.ept_core.specs.State.{flown}
-use Rattle.ept_table.specs.declared.note.Carried.{Carried}
 use Rattle.ept_table.specs.At.{At}
 use Rattle.ept_table.specs.View.{View, flights_of, all_flights}
 use Rattle.ept_table.proofs.Lists.{flat-at, flat-set}

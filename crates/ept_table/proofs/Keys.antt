@@ -1,5 +1,5 @@
 -- The keys of the drawn slots.
-use Rattle.std.proofs.Common.{◌≡◌, ◌∙◌, ℕ, zero, suc, ◌+◌, ◌<◌, ◌≤◌, ◌⊎◌, inl, inr, List, [], ◌∷◌, ◌++◌, length, refl, sym, ap, subst, arith}
+use Rattle.std.proofs.Common.{◌≡◌, ◌∙◌, ℕ, zero, suc, ◌+◌, ◌<◌, ◌≤◌, ◌⊎◌, inl, inr, List, [], ◌∷◌, ◌++◌, length, sym, ap, subst, arith}
 use Rattle.ept_space.specs.VoxelKey.{VoxelKey, root, child, parent, octant_of}
 use Rattle.ept_space.proofs.Family.{parent-child, octant_of-child, depth-child}
 use Rattle.ept_table.specs.At.{At}

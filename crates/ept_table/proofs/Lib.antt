@@ -7,9 +7,13 @@ pub mod Seating
 pub mod Flown
 pub mod ReaderBack
 pub mod SlotDrawn
-pub mod Full
+pub mod TooMany
 pub mod Refused
 pub mod Arrival
 pub mod Telling
 pub mod Ending
 pub mod Beginning
+pub mod Glue
+pub mod Visiting
+pub mod Allowed
+pub mod Rows

@@ -1,11 +1,8 @@
 -- Seats that know something else, of which the rule says the same.
-use Rattle.std.proofs.Common.{◌≡◌, ◌∙◌, ℕ, ◌+◌, ◌<◌, ◌≤◌, ◌⊎◌, inl, inr, List, [], ◌∷◌, ◌++◌, length, min, take, set, refl, sym, ap, subst, arith, Option, Some, None, sum_by, true}
-use Rattle.std.specs.Prelude.{⊤}
-use Rattle.std.specs.List.{flat_map}
+use Rattle.std.proofs.Common.{◌≡◌, ◌∙◌, ℕ, ◌+◌, ◌<◌, ◌≤◌, ◌⊎◌, inl, inr, List, [], ◌∷◌, length, min, take, set, refl, sym, ap, subst, arith, Some, None, sum_by, true}
 use Rattle.std.specs.List.Sorted.{IsPermutation}
 use Rattle.std.proofs.lemmas.List.Concat.{length-flat_map}
 use Rattle.std.proofs.lemmas.List.Sorted.{IsPermutation-sym, IsPermutation-refl, sum_by-IsPermutation}
-use Rattle.ept_point.specs.declared.point.Point.{Point}
 use Rattle.ept_space.specs.VoxelKey.{VoxelKey, child}
 use Rattle.ept_sample.specs.Nodes.{node_keys}
 use Rattle.ept_scan.specs.declared.read_error.ReadError.{ReadError}
@@ -13,7 +10,7 @@ use Rattle.ept_sample.specs.Members.{IsMember}
 use Rattle.ept_sample.proofs.IdLaws.{IsMember-IsPermutation}
 use Rattle.ept_core.specs.declared.flight.Flight.{Flight}
 use Rattle.ept_core.specs.State.{flown}
-use Rattle.ept_core.specs.Flying.{IsReordered, EachIsReordered}
+use Rattle.ept_core.specs.Flying.{EachIsReordered}
 use Rattle.ept_core.proofs.Regrouping.{order-free}
 use Rattle.ept_table.specs.declared.note.Told.{Told}
 use Rattle.ept_table.specs.declared.note.Carried.{Carried}
@@ -24,7 +21,7 @@ use Rattle.ept_table.specs.declared.taken.Taken.TheVariants.{Standing}
 use Rattle.ept_table.specs.At.{At}
 use Rattle.ept_table.specs.Taken.{count_of, slot_at}
 use Rattle.ept_table.specs.View.{View, NotesFull, IsNothing, flights_of, all_flights}
-use Rattle.ept_table.specs.Shown.{IsOver, HasSlot, Drew, IsDrawn, IsDraw, OpensOctant, Seats, Base, Tree, shown, Shows, Holds, AreLocked}
+use Rattle.ept_table.specs.Shown.{IsOver, HasSlot, Drew, IsDrawn, IsDraw, Seats, Base, Tree, shown, Shows, Holds, AreLocked}
 use Rattle.ept_table.proofs.Lists.{same_or_not, at-same, at-below, at-set, at-other, set-at, flat-same}
 
 -- some seat notes that all slots are drawn
@@ -97,9 +94,14 @@ module _ (told : Told) (before after : ℕ) (goes : Goes told before after) (ite
 
   drawn-mirror : (keys : List VoxelKey) (k : ℕ) (key : VoxelKey) → IsDrawn keys old k key → IsDrawn keys new k key
   drawn-mirror keys k key d = record {
-    held = d.held; taken = d.taken; draw = d.draw; parent = d.parent;
+    held = d.held;
+    taken = d.taken;
+    draw = d.draw;
+    parent = d.parent;
     drew = m.drew d.held d.taken d.draw d.drew;
-    held_is = d.held_is; slot_is = d.slot_is; key_is = d.key_is;
+    held_is = d.held_is;
+    slot_is = d.slot_is;
+    key_is = d.key_is;
   }
 
   tree-mirror : (keys : List VoxelKey) → Tree told before keys items old → Tree told after keys items new
@@ -158,7 +160,7 @@ pub record Alike (told : Told) (drawn : ℕ) (v w : View) : Type 0 where
   pub carried : (c : Carried) → IsMember c w.note.flights → IsMember c v.note.flights
   pub draws : ((v.note.draws ≡ []) × (w.note.draws ≡ [])) ⊎ ((v.hold ≡ w.hold) × (v.note.draws ≡ w.note.draws) × (v.note.flights ≡ w.note.flights))
 
-none_some : {X : Type 0} {x : X} → None ≡ Some x → ⊥
+pub none_some : {X : Type 0} {x : X} → None ≡ Some x → ⊥
 none_some e = cc
 
 pub holder-parts : {items : List Taken} {views : List View} → AreLocked items views → {i : ℕ} {v : View} → At views i v → {held : ℕ} {x : Taken} → v.hold ≡ Some (held, x) → v.parts ≡ 0 → ⊥

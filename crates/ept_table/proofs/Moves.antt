@@ -1,27 +1,24 @@
 -- Steps that leave what lies in the slots.
-use Rattle.std.proofs.Common.{◌≡◌, ◌∙◌, ℕ, ◌+◌, ◌<◌, ◌≤◌, ◌==◌, ◌||◌, Bool, true, false, ◌⊎◌, inl, inr, List, [], ◌∷◌, ◌++◌, map, length, set, refl, sym, ap, subst, arith, Option, Some, None}
-use Rattle.std.specs.List.{flat_map, list_any}
+use Rattle.std.proofs.Common.{◌≡◌, ℕ, ◌<◌, ◌==◌, true, inl, inr, List, [], set, refl, sym, subst, arith, None}
 use Rattle.std.specs.List.Sorted.{IsPermutation}
-use Rattle.std.proofs.lemmas.List.{append-nil, append_assoc}
 use Rattle.std.proofs.lemmas.Bool.{eqb-true}
-use Rattle.std.proofs.lemmas.List.Concat.{flat_map-append}
-use Rattle.std.proofs.lemmas.List.Sorted.{IsPermutation-refl, IsPermutation-sym, IsPermutation-trans, IsPermutation-append_left, IsPermutation-append_right}
-use Rattle.ept_scan.specs.declared.read_error.ReadError.{ReadError}
+use Rattle.std.proofs.lemmas.List.Sorted.{IsPermutation-refl}
 use Rattle.ept_sample.specs.Members.{IsMember}
-use Rattle.ept_sample.proofs.Members.{member-any, IsMember-left, IsMember-right, IsMember-append}
-use Rattle.ept_sample.proofs.Choices.{or_cases, or_left, or_right}
-use Rattle.ept_core.specs.declared.flight.Flight.{Flight}
+use Rattle.ept_sample.proofs.Members.{member-any}
+use Rattle.ept_sample.proofs.Choices.{or_cases, or_left}
 use Rattle.ept_table.specs.declared.note.Told.{Told}
-use Rattle.ept_table.specs.declared.note.Note.{Note}
 use Rattle.ept_table.specs.declared.note.Carried.{Carried}
-use Rattle.ept_table.specs.declared.note.Draw.{Draw}
 use Rattle.ept_table.specs.declared.taken.Taken.{Taken}
 use Rattle.ept_table.specs.At.{At}
-use Rattle.ept_table.specs.View.{View, NotesFull, flights_of, all_flights}
-use Rattle.ept_table.specs.Shown.{IsOver, KeyOf, HasSlot, Drew, Holds}
-use Rattle.ept_table.specs.Steps.{holding, given_back, noting, with_parts, new_seat, joined, IsSpent, wishing, abandoned, together, lacks_slot}
-use Rattle.ept_table.proofs.Lists.{at-same, at-below, at-set, at-other, set-at, set-again, length-set, at-left, at-end, end-at, flat-out, set-set, set-apart}
+use Rattle.ept_table.specs.View.{View, flights_of}
+use Rattle.ept_table.specs.Shown.{IsOver, KeyOf, HasSlot, Holds}
+use Rattle.ept_table.specs.Steps.{holding, given_back, noting, wishing, abandoned, lacks_slot}
+use Rattle.ept_table.proofs.Lists.{set-again}
 use Rattle.ept_table.proofs.Mirrors.{alike-holds}
+
+pub lacks-one : (flights : List Carried) → lacks_slot flights ≡ true → (c : Carried) × IsMember c flights × (c.slot ≡ 0)
+lacks-one flights lacks =
+    let c = member-any (λ (c : Carried). c.slot == 0) flights lacks in (c.0, c.1, eqb-true c.0.slot 0 c.2)
 
 same_flights : (v : View) → IsPermutation (flights_of v) (flights_of v)
 same_flights v = IsPermutation-refl (flights_of v)
@@ -86,8 +83,7 @@ module _ (told : Told) (drawn : ℕ) (items : List Taken) (views : List View) (i
 
   lacks_over : lacks_slot v.note.flights ≡ true → IsOver told drawn
   lacks_over lacks =
-      let c = member-any (λ (c : Carried). c.slot == 0) v.note.flights lacks in
-      none_keyed c.0.slot c.0 (eqb-true c.0.slot 0 c.2) (h.tree.carried i v c.0 at c.1)
+      let c = lacks-one v.note.flights lacks in none_keyed c.0.slot c.0 c.2 (h.tree.carried i v c.0 at c.1)
 
   pub abandon-keeps : 0 < v.parts → v.hold ≡ None → Holds told drawn items (set views i (noting v (abandoned v.note)))
   abandon-keeps some free = alike-holds told drawn items views i v (noting v (abandoned v.note)) at (record {
@@ -97,9 +93,9 @@ module _ (told : Told) (drawn : ℕ) (items : List Taken) (views : List View) (i
     full = λ n. elim n [
       | inl more ↦ h.seats.full_above i v at (inl more)
       | inr over ↦ elim (or_cases v.note.over (lacks_slot v.note.flights) over) [
-          | inl was ↦ h.seats.full_above i v at (inr was)
-          | inr lacks ↦ lacks_over lacks
-        ]
+        | inl was ↦ h.seats.full_above i v at (inr was)
+        | inr lacks ↦ lacks_over lacks
+      ]
     ];
     given = omega arith;
     failures = refl;

@@ -1,29 +1,25 @@
 -- The reader is given back.
-use Rattle.std.proofs.Common.{◌≡◌, ◌∙◌, ℕ, zero, suc, ◌+◌, ◌<◌, ◌≤◌, Bool, true, false, ◌⊎◌, inl, inr, List, [], ◌∷◌, ◌++◌, map, length, take, drop, set, refl, sym, ap, subst, arith, Option, Some, None, sum_by}
-use Rattle.std.specs.List.{flat_map}
+use Rattle.std.proofs.Common.{◌≡◌, ◌∙◌, ℕ, ◌+◌, ◌<◌, ◌≤◌, true, ◌⊎◌, inl, inr, List, [], ◌∷◌, ◌++◌, map, length, take, drop, set, refl, sym, ap, subst, arith, Option, Some, None, sum_by}
 use Rattle.std.specs.List.Sorted.{IsPermutation}
 use Rattle.std.proofs.lemmas.List.{append_assoc, drop-drop}
 use Rattle.std.proofs.lemmas.List.{map-append}
 use Rattle.std.proofs.lemmas.List.Sorted.{IsPermutation-sym, IsPermutation-append_right, IsPermutation-append_comm}
 use Rattle.ept_sample.proofs.IdLaws.{IsMember-IsPermutation}
 use Rattle.ept_point.specs.declared.point.Point.{Point}
-use Rattle.ept_space.specs.VoxelKey.{VoxelKey, root, child}
+use Rattle.ept_space.specs.VoxelKey.{VoxelKey, root}
 use Rattle.ept_space.specs.OctreeCube.{InBox, InCube}
 use Rattle.ept_space.proofs.PlaceKeys.{InBox-root}
 use Rattle.ept_scan.specs.declared.read_error.ReadError.{ReadError}
 use Rattle.ept_sample.specs.Place.{place}
 use Rattle.ept_sample.specs.Members.{IsMember}
-use Rattle.ept_sample.proofs.Members.{All-members, IsMember-left, IsMember-right, IsMember-append, IsMember-map, member-map}
+use Rattle.ept_sample.proofs.Members.{All-members, IsMember-left, IsMember-append}
 use Rattle.ept_core.specs.declared.flight.Flight.{Flight}
-use Rattle.ept_core.specs.State.{State, flown, Entry}
-use Rattle.ept_core.specs.Law.{KeepsLaw}
+use Rattle.ept_core.specs.State.{State}
 use Rattle.ept_core.specs.Steps as core
 use Rattle.ept_core.proofs.Leaving.{flown-flight}
 use Rattle.ept_core.proofs.OtherSteps.{draw-keeps}
 use Rattle.ept_core.proofs.Regrouping.{order-free}
-use Rattle.ept_grid.specs.Node.{is_open_in}
 use Rattle.ept_table.specs.declared.note.Told.{Told}
-use Rattle.ept_table.specs.declared.note.Note.{Note}
 use Rattle.ept_table.specs.declared.note.Carried.{Carried}
 use Rattle.ept_table.specs.declared.note.Draw.{Draw}
 use Rattle.ept_table.specs.declared.taken.Cell.{Cell}
@@ -35,8 +31,8 @@ use Rattle.ept_table.specs.Taken.{count_of, slot_at}
 use Rattle.ept_table.specs.View.{View, NotesFull, IsNothing, flights_of, all_flights}
 use Rattle.ept_table.specs.Shown.{IsOver, KeyOf, HasSlot, IsSoundFlight, FitsReader, IsChild, Drew, IsDrawn, IsDraw, Seats, Base, Tree, shown, Shows, Holds, AreLocked}
 use Rattle.ept_table.specs.Steps.{given_back, read, failures_of, carried_to, HasRead}
-use Rattle.ept_table.proofs.Lists.{same_or_not, at-same, at-below, at-set, at-other, set-at, length-set, flat-cases, flat-stays, flat-more, sum-set}
-use Rattle.ept_table.proofs.Flown.{weight, weight-append, weight-set}
+use Rattle.ept_table.proofs.Lists.{same_or_not, at-same, at-below, at-set, at-other, set-at, length-set, flat-more, sum-set}
+use Rattle.ept_table.proofs.Flown.{weight, weight-append}
 use Rattle.ept_table.proofs.Mirrors.{flown-same, each-same, holder-parts}
 
 -- ---- small facts
@@ -216,8 +212,14 @@ module _ (told : Told) (drawn : ℕ) (items : List Taken) (views : List View) (i
 
   child_is : (k : ℕ) (key : VoxelKey) → IsChild items k key → IsChild next_items k key
   child_is k key c = record {
-    parent = c.parent; cell = c.cell; octant = c.octant; at = standing_is c.parent c.cell c.at;
-    low = c.low; opened = c.opened; slot_is = c.slot_is; key_is = c.key_is;
+    parent = c.parent;
+    cell = c.cell;
+    octant = c.octant;
+    at = standing_is c.parent c.cell c.at;
+    low = c.low;
+    opened = c.opened;
+    slot_is = c.slot_is;
+    key_is = c.key_is;
   }
 
   still_drew : (held : ℕ) (x : Taken) (d : Draw) → Drew views held x d → Drew next_views held x d
@@ -227,14 +229,23 @@ module _ (told : Told) (drawn : ℕ) (items : List Taken) (views : List View) (i
 
   drawn_is : (k : ℕ) (key : VoxelKey) → IsDrawn h.keys views k key → IsDrawn h.keys next_views k key
   drawn_is k key d = record {
-    held = d.held; taken = d.taken; draw = d.draw; parent = d.parent;
+    held = d.held;
+    taken = d.taken;
+    draw = d.draw;
+    parent = d.parent;
     drew = still_drew d.held d.taken d.draw d.drew;
-    held_is = d.held_is; slot_is = d.slot_is; key_is = d.key_is;
+    held_is = d.held_is;
+    slot_is = d.slot_is;
+    key_is = d.key_is;
   }
 
   draw_is : (fs : List Carried) (held : ℕ) (x : Taken) (d : Draw) → IsDraw told h.keys items fs held x d → IsDraw told h.keys next_items fs held x d
   draw_is fs held x d r = record {
-    parent = r.parent; held_is = r.held_is; low = r.low; closed = r.closed; key_is = r.key_is;
+    parent = r.parent;
+    held_is = r.held_is;
+    low = r.low;
+    closed = r.closed;
+    key_is = r.key_is;
     blank = blank_is d.slot r.blank;
     opens = r.opens;
   }

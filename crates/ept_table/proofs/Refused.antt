@@ -1,15 +1,15 @@
 -- A draw that is refused.
-use Rattle.std.proofs.Common.{◌≡◌, ◌∙◌, ℕ, ◌+◌, ◌<◌, ◌≤◌, min, true, ◌⊎◌, inl, inr, List, length, take, set, refl, sym, subst, arith, Option, Some, None}
+use Rattle.std.proofs.Common.{◌≡◌, ℕ, ◌+◌, ◌<◌, ◌≤◌, true, inl, inr, List, length, take, set, refl, arith, Some}
 use Rattle.std.proofs.lemmas.List.Sorted.{IsPermutation-refl}
 use Rattle.ept_sample.specs.Nodes.{node_keys}
 use Rattle.ept_table.specs.declared.note.Told.{Told}
 use Rattle.ept_table.specs.declared.taken.Taken.{Taken}
 use Rattle.ept_table.specs.At.{At}
 use Rattle.ept_table.specs.View.{View, flights_of}
-use Rattle.ept_table.specs.Shown.{IsOver, Holds, AreLocked}
+use Rattle.ept_table.specs.Shown.{Holds, AreLocked}
 use Rattle.ept_table.specs.Steps.{refused_more, MayDraw}
 use Rattle.ept_table.proofs.Mirrors.{Goes, alike-goes, holder-parts}
-use Rattle.ept_table.proofs.Full.{too-many}
+use Rattle.ept_table.proofs.TooMany.{too-many}
 
 module _ (told : Told) (drawn : ℕ) (items : List Taken) (views : List View) (i : ℕ) (v : View) (held : ℕ) (x : Taken) (h : Holds told drawn items views) (locks : AreLocked items views) (at : At views i v) (holds : v.hold ≡ Some (held, x)) (may : MayDraw told v held x v.note.wish) (all_drawn : told.most ≤ drawn) where
   pub refusal-is-true : told.tells ≡ true → told.most < length (node_keys told.rules (take told.end told.points))

@@ -1,6 +1,5 @@
 -- Seats that are made of seats, and that end in seats.
-use Rattle.std.proofs.Common.{◌≡◌, ◌∙◌, ℕ, ◌+◌, ◌<◌, ◌≤◌, ◌||◌, Bool, true, false, ◌⊎◌, inl, inr, List, [], ◌∷◌, ◌++◌, map, length, set, refl, sym, ap, subst, arith, Option, Some, None}
-use Rattle.std.specs.List.{flat_map}
+use Rattle.std.proofs.Common.{◌≡◌, ◌∙◌, ℕ, ◌<◌, ◌≤◌, ◌⊎◌, inl, inr, List, [], ◌∷◌, ◌++◌, map, set, refl, sym, ap, subst, arith, Some, None}
 use Rattle.std.specs.List.Sorted.{IsPermutation}
 use Rattle.std.proofs.lemmas.List.{append-nil, append_assoc}
 use Rattle.std.proofs.lemmas.Bool.{false≢true}
@@ -12,7 +11,6 @@ use Rattle.ept_sample.proofs.Members.{IsMember-left, IsMember-right, IsMember-ap
 use Rattle.ept_sample.proofs.Choices.{or_cases, or_left, or_right}
 use Rattle.ept_core.specs.declared.flight.Flight.{Flight}
 use Rattle.ept_table.specs.declared.note.Told.{Told}
-use Rattle.ept_table.specs.declared.note.Note.{Note}
 use Rattle.ept_table.specs.declared.note.Carried.{Carried}
 use Rattle.ept_table.specs.declared.note.Draw.{Draw}
 use Rattle.ept_table.specs.declared.taken.Taken.{Taken}
@@ -20,7 +18,7 @@ use Rattle.ept_table.specs.At.{At}
 use Rattle.ept_table.specs.View.{View, NotesFull, IsNothing, flights_of, all_flights}
 use Rattle.ept_table.specs.Shown.{IsOver, Drew, Holds}
 use Rattle.ept_table.specs.Steps.{with_parts, new_seat, joined, IsSpent}
-use Rattle.ept_table.proofs.Lists.{same_or_not, at-same, at-below, at-set, at-other, set-at, length-set, at-left, end-at, flat-out, set-set, set-apart}
+use Rattle.ept_table.proofs.Lists.{same_or_not, at-same, at-below, at-set, at-other, set-at, at-left, end-at, flat-out, set-set, set-apart}
 use Rattle.ept_table.proofs.Mirrors.{Mirrors, SomeFailure, stays, mirrors-hold, alike-holds, none_of}
 
 -- ---- a seat is divided
@@ -100,9 +98,9 @@ module _ (told : Told) (drawn : ℕ) (items : List Taken) (views : List View) (h
       elim (set-at (set views i both) j spent a) [
         | inl s ↦ subst (λ (z : View). P z) s.1 end
         | inr o ↦ elim (set-at views i both o.1) [
-            | inl s ↦ subst (λ (z : View). P z) s.1 new
-            | inr p ↦ others k u p.1
-          ]
+          | inl s ↦ subst (λ (z : View). P z) s.1 new
+          | inr p ↦ others k u p.1
+        ]
       ]
 
   kept : (P : View → Type 0) → (P v → P both) → (P w → P both) → ((k : ℕ) × (u : View) × At views k u × P u) → (k : ℕ) × (u : View) × At next k u × P u
@@ -110,9 +108,9 @@ module _ (told : Told) (drawn : ℕ) (items : List Taken) (views : List View) (h
       elim (same_or_not k i) [
         | inl one ↦ (i, both, here, first (subst (λ (z : View). P z) (at-same (subst (λ (n : ℕ). At views n u) one a) at) p))
         | inr not_one ↦ elim (same_or_not k j) [
-            | inl two ↦ (i, both, here, second (subst (λ (z : View). P z) (at-same (subst (λ (n : ℕ). At views n u) two a) other) p))
-            | inr not_two ↦ (k, u, at-other j spent (at-other i both a not_one) not_two, p)
-          ]
+          | inl two ↦ (i, both, here, second (subst (λ (z : View). P z) (at-same (subst (λ (n : ℕ). At views n u) two a) other) p))
+          | inr not_two ↦ (k, u, at-other j spent (at-other i both a not_one) not_two, p)
+        ]
       ]
 
   no_draws : w.note.draws ≡ []

@@ -1,33 +1,27 @@
 -- A slot is drawn for the child of an octant.
-use Rattle.std.proofs.Common.{◌≡◌, ◌∙◌, ℕ, zero, suc, ◌+◌, ◌<◌, ◌≤◌, min, Bool, true, false, ◌⊎◌, inl, inr, List, [], ◌∷◌, ◌++◌, length, take, set, refl, sym, ap, subst, arith, Option, Some, None, sum_by}
-use Rattle.std.specs.List.{flat_map}
+use Rattle.std.proofs.Common.{◌≡◌, ◌∙◌, ℕ, ◌+◌, ◌<◌, ◌≤◌, true, false, ◌⊎◌, inl, inr, List, [], ◌∷◌, ◌++◌, length, set, refl, sym, ap, subst, arith, Option, Some, None, sum_by}
 use Rattle.std.specs.List.Sorted.{IsPermutation}
 use Rattle.std.proofs.lemmas.List.{length-append}
 use Rattle.std.proofs.lemmas.Bool.{false≢true}
 use Rattle.std.proofs.lemmas.List.Sorted.{IsPermutation-refl, IsPermutation-sym}
 use Rattle.ept_space.specs.VoxelKey.{VoxelKey, root, child}
-use Rattle.ept_scan.specs.declared.read_error.ReadError.{ReadError}
 use Rattle.ept_sample.specs.Members.{IsMember}
 use Rattle.ept_sample.proofs.IdLaws.{IsMember-IsPermutation}
-use Rattle.ept_core.specs.declared.flight.Flight.{Flight}
 use Rattle.ept_core.proofs.Regrouping.{order-free}
 use Rattle.ept_grid.specs.Node.{is_open_in}
 use Rattle.ept_table.specs.declared.note.Told.{Told}
-use Rattle.ept_table.specs.declared.note.Note.{Note}
 use Rattle.ept_table.specs.declared.note.Carried.{Carried}
 use Rattle.ept_table.specs.declared.note.Draw.{Draw}
 use Rattle.ept_table.specs.declared.taken.Cell.{Cell}
-use Rattle.ept_table.specs.declared.taken.Progress.{Progress}
 use Rattle.ept_table.specs.declared.taken.Taken.{Taken}
-use Rattle.ept_table.specs.declared.taken.Taken.TheVariants.{Blank, Standing, Reading}
+use Rattle.ept_table.specs.declared.taken.Taken.TheVariants.{Blank, Standing}
 use Rattle.ept_table.specs.At.{At}
 use Rattle.ept_table.specs.Taken.{count_of, is_open_at, slot_at}
 use Rattle.ept_table.specs.View.{View, NotesFull, IsNothing, flights_of, all_flights}
-use Rattle.ept_table.specs.Shown.{IsOver, KeyOf, HasSlot, OpensOctant, IsChild, Drew, IsDrawn, IsDraw, Seats, Base, Tree, shown, Shows, Holds, AreLocked}
+use Rattle.ept_table.specs.Shown.{IsOver, KeyOf, HasSlot, IsChild, Drew, IsDrawn, IsDraw, Seats, Base, Tree, shown, Shows, Holds, AreLocked}
 use Rattle.ept_table.specs.Steps.{noting, drawing, MayDraw}
 use Rattle.ept_table.proofs.Lists.{same_or_not, at-same, at-below, below-at, at-set, at-other, set-at, flat-same}
-use Rattle.ept_table.proofs.Keys.{no_key, key-same, key-low, key-grown, key-last, key-cases, child-key, child-octant, child-root}
-use Rattle.ept_table.proofs.Flown.{weight}
+use Rattle.ept_table.proofs.Keys.{key-same, key-grown, key-last, key-cases, child-key, child-octant, child-root}
 use Rattle.ept_table.proofs.Mirrors.{flown-same, each-same, holder-parts}
 
 pub some_same : {X : Type 0} {a b : X} → Some a ≡ Some b → a ≡ b
@@ -171,10 +165,14 @@ module _ (told : Told) (drawn : ℕ) (items : List Taken) (views : List View) (i
 
   drawn_is : (k : ℕ) (a : VoxelKey) → IsDrawn h.keys views k a → IsDrawn next_keys next k a
   drawn_is k a d = record {
-    held = d.held; taken = d.taken; draw = d.draw; parent = d.parent;
+    held = d.held;
+    taken = d.taken;
+    draw = d.draw;
+    parent = d.parent;
     drew = still_drew d.held d.taken d.draw d.drew;
     held_is = key-grown h.keys key d.held d.parent d.held_is;
-    slot_is = d.slot_is; key_is = d.key_is;
+    slot_is = d.slot_is;
+    key_is = d.key_is;
   }
 
   abbrev now : Draw
@@ -185,7 +183,10 @@ module _ (told : Told) (drawn : ℕ) (items : List Taken) (views : List View) (i
 
   drawn_now : (k : ℕ) (a : VoxelKey) → k ≡ length h.keys + 1 → key ≡ a → IsDrawn next_keys next k a
   drawn_now k a e same = record {
-    held = held; taken = x; draw = now; parent = may.goes_there.0.flight.key;
+    held = held;
+    taken = x;
+    draw = now;
+    parent = may.goes_there.0.flight.key;
     drew = record { seat = i; view = w; at = here; hold = holds; noted = inl refl };
     held_is = key-grown h.keys key held may.goes_there.0.flight.key mine_key;
     slot_is = omega (arith, e, all_drawn);
@@ -196,18 +197,22 @@ module _ (told : Told) (drawn : ℕ) (items : List Taken) (views : List View) (i
   draw_grown fs k y d r = record {
     parent = r.parent;
     held_is = key-grown h.keys key k r.parent r.held_is;
-    low = r.low; closed = r.closed;
+    low = r.low;
+    closed = r.closed;
     key_is = key-grown h.keys key d.slot (child r.parent d.octant) r.key_is;
-    blank = r.blank; opens = r.opens;
+    blank = r.blank;
+    opens = r.opens;
   }
 
   draw_now : IsDraw told next_keys items v.note.flights held x now
   draw_now = record {
     parent = may.goes_there.0.flight.key;
     held_is = key-grown h.keys key held may.goes_there.0.flight.key mine_key;
-    low = may.low; closed = may.closed;
+    low = may.low;
+    closed = may.closed;
     key_is = key-last h.keys key slot (omega (arith, all_drawn));
-    blank = blank_there; opens = may.opens;
+    blank = blank_there;
+    opens = may.opens;
   }
 
   mine_draws : (k : ℕ) (y : Taken) (d : Draw) → v.hold ≡ Some (k, y) → IsMember d (now ∷ v.note.draws) → IsDraw told next_keys items v.note.flights k y d
@@ -239,22 +244,22 @@ module _ (told : Told) (drawn : ℕ) (items : List Taken) (views : List View) (i
       two_slots j k a m n =
           elim (key-cases h.keys key j a m) [
             | inl old ↦ elim (key-cases h.keys key k a n) [
-                | inl also ↦ h.tree.distinct j k a old also
-                | inr new ↦ absurd (fresh j (subst (λ (b : VoxelKey). KeyOf h.keys j b) (sym new.1) old))
-              ]
+              | inl also ↦ h.tree.distinct j k a old also
+              | inr new ↦ absurd (fresh j (subst (λ (b : VoxelKey). KeyOf h.keys j b) (sym new.1) old))
+            ]
             | inr new ↦ elim (key-cases h.keys key k a n) [
-                | inl old ↦ absurd (fresh k (subst (λ (b : VoxelKey). KeyOf h.keys k b) (sym new.1) old))
-                | inr also ↦ new.0 ∙ sym also.0
-              ]
+              | inl old ↦ absurd (fresh k (subst (λ (b : VoxelKey). KeyOf h.keys k b) (sym new.1) old))
+              | inr also ↦ new.0 ∙ sym also.0
+            ]
           ]
 
       born_so : (k : ℕ) (a : VoxelKey) → KeyOf next_keys k a → (k ≡ 1) ⊎ (IsChild items k a ⊎ IsDrawn next_keys next k a)
       born_so k a m =
           elim (key-cases h.keys key k a m) [
             | inl old ↦ elim (h.tree.born k a old) [
-                | inl top ↦ inl top
-                | inr more ↦ elim more [ inl c ↦ inr (inl c) | inr d ↦ inr (inr (drawn_is k a d)) ]
-              ]
+              | inl top ↦ inl top
+              | inr more ↦ elim more [ inl c ↦ inr (inl c) | inr d ↦ inr (inr (drawn_is k a d)) ]
+            ]
             | inr new ↦ inr (inr (drawn_now k a new.0 new.1))
           ]
 

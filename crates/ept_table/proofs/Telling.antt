@@ -1,17 +1,14 @@
 -- What steps tell.
-use Rattle.std.proofs.Common.{◌≡◌, ◌∙◌, ℕ, ◌+◌, ◌<◌, ◌≤◌, Bool, true, false, ◌⊎◌, inl, inr, List, [], ◌∷◌, ◌++◌, map, length, drop, min, refl, sym, ap, subst, arith, Option, Some, None}
+use Rattle.std.proofs.Common.{◌≡◌, ◌∙◌, ℕ, ◌<◌, ◌≤◌, Bool, true, false, ◌⊎◌, inl, inr, List, ◌++◌, map, length, drop, min, refl, ap, subst, arith}
 use Rattle.std.proofs.lemmas.Bool.{false≢true}
 use Rattle.ept_point.specs.declared.point.Point.{Point}
 use Rattle.ept_space.specs.VoxelKey.{VoxelKey, child}
 use Rattle.ept_sample.specs.Ids.{HasDistinctIds}
 use Rattle.ept_sample.specs.Members.{IsMember}
 use Rattle.ept_sample.proofs.Members.{IsMember-left, IsMember-right, IsMember-map, IsMember-flat_map}
-use Rattle.ept_core.specs.declared.flight.Flight.{Flight}
 use Rattle.ept_core.specs.declared.node.Node as core
-use Rattle.ept_core.specs.State.{has_node, node_at}
 use Rattle.ept_core.proofs.CoreLaws.{distinct-flight}
 use Rattle.ept_grid.specs.Node.{is_open_in}
-use Rattle.ept_node.specs.Batch.{seen}
 use Rattle.ept_table.specs.declared.note.Told.{Told}
 use Rattle.ept_table.specs.declared.note.Carried.{Carried}
 use Rattle.ept_table.specs.declared.taken.Cell.{Cell}
@@ -19,13 +16,13 @@ use Rattle.ept_table.specs.declared.taken.Progress.{Progress}
 use Rattle.ept_table.specs.declared.taken.Taken.{Taken}
 use Rattle.ept_table.specs.declared.taken.Taken.TheVariants.{Blank, Standing, Reading}
 use Rattle.ept_table.specs.At.{At}
-use Rattle.ept_table.specs.Taken.{points_of, is_open_at, slot_at, as_node}
+use Rattle.ept_table.specs.Taken.{slot_at}
 use Rattle.ept_table.specs.View.{View, NotesFull, flights_of, all_flights}
-use Rattle.ept_table.specs.Shown.{IsOver, KeyOf, HasSlot, IsSound, FitsReader, shown, Shows, Holds, AreLocked}
+use Rattle.ept_table.specs.Shown.{IsOver, KeyOf, HasSlot, FitsReader, shown, Shows, Holds, AreLocked}
 use Rattle.ept_table.specs.Tells.{IsTooMany, FitsFlight, FitsChild, Fits, ShowsLaw}
 use Rattle.ept_table.proofs.Lists.{at-same, at-member}
 use Rattle.ept_table.proofs.Keys.{no_key, key-same, key-low}
-use Rattle.ept_table.proofs.Full.{points-as, node-taken}
+use Rattle.ept_table.proofs.TooMany.{points-as, node-taken}
 use Rattle.ept_table.proofs.ReaderBack.{reading-same}
 
 -- a slot of a drawn key is no greater than the most

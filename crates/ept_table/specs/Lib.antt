@@ -5,3 +5,7 @@ pub mod Shown
 pub mod Steps
 pub mod Tells
 pub mod Laws
+pub mod Item
+pub mod Standing
+pub mod Visits
+pub mod Row

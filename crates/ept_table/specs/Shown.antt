@@ -29,7 +29,7 @@
 --   the reader has the inputs that it was given, its place and its allowance add up to what they were, and its place is
 --     not before that of the reader which any seat last gave back: `FitsReader`, `Base.given`;
 --   the points of the nodes and of the flights add up to those drawn: `Base.adds_up`.
-use Rattle.std.specs.Prelude.{◌≡◌, ℕ, zero, suc, ◌+◌, ◌<◌, ◌≤◌, min, Bool, true, false, ◌⊎◌, List, [], ◌∷◌, ◌++◌, length, take, drop, Option, Some, None, sum_by}
+use Rattle.std.specs.Prelude.{◌≡◌, ℕ, zero, suc, ◌+◌, ◌<◌, ◌≤◌, min, true, false, ◌⊎◌, List, [], ◌++◌, length, take, drop, Some, None, sum_by}
 use Rattle.ept_point.specs.declared.point.Point.{Point}
 use Rattle.ept_space.specs.declared.bounds.Bounds.{Bounds}
 use Rattle.ept_space.specs.VoxelKey.{VoxelKey, root, child}
@@ -41,7 +41,6 @@ use Rattle.ept_sample.specs.Ids.{in_id_order}
 use Rattle.ept_sample.specs.Arrivals.{is_open}
 use Rattle.ept_sample.specs.Nodes.{node_keys}
 use Rattle.ept_sample.specs.Members.{IsMember}
-use Rattle.ept_sample.specs.SamplingLaws.{CanBeSampled}
 use Rattle.ept_grid.specs.Node.{is_open_in}
 use Rattle.ept_core.specs.declared.flight.Flight.{Flight}
 use Rattle.ept_core.specs.State.{State, Entry, node_at, has_node, flown}
@@ -56,8 +55,8 @@ use Rattle.ept_table.specs.declared.taken.Progress.{Progress}
 use Rattle.ept_table.specs.declared.taken.Taken.{Taken}
 use Rattle.ept_table.specs.declared.taken.Taken.TheVariants.{Blank, Standing, Reading}
 use Rattle.ept_table.specs.At.{At}
-use Rattle.ept_table.specs.Taken.{points_of, count_of, is_open_at, slot_at, as_node}
-use Rattle.ept_table.specs.View.{View, NotesFull, IsNothing, flights_of, all_flights}
+use Rattle.ept_table.specs.Taken.{points_of, count_of, is_open_at, slot_at}
+use Rattle.ept_table.specs.View.{View, NotesFull, IsNothing, all_flights}
 
 -- ---- what a table is told
 

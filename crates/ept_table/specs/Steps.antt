@@ -7,11 +7,9 @@ use Rattle.ept_space.specs.OctreeCube.{InCube}
 use Rattle.ept_scan.specs.declared.read_error.ReadError.{ReadError}
 use Rattle.ept_sample.specs.Place.{place}
 use Rattle.ept_sample.specs.Ids.{HasDistinctIds, in_id_order}
-use Rattle.ept_sample.specs.Arrivals.{is_open}
 use Rattle.ept_sample.specs.Members.{IsMember}
 use Rattle.ept_core.specs.declared.flight.Flight.{Flight}
 use Rattle.ept_core.specs.State.{flown}
-use Rattle.ept_core.specs.Law.{HasPoint}
 use Rattle.ept_core.specs.Steps.{node_after, flights_after}
 use Rattle.ept_core.specs.Flying.{EachIsReordered}
 use Rattle.ept_grid.specs.Node.{is_open_in}
@@ -26,7 +24,7 @@ use Rattle.ept_table.specs.declared.taken.Taken.{Taken}
 use Rattle.ept_table.specs.declared.taken.Taken.TheVariants.{Blank, Standing, Reading}
 use Rattle.ept_table.specs.At.{At}
 use Rattle.ept_table.specs.Taken.{points_of, is_open_at, slot_at, as_node}
-use Rattle.ept_table.specs.View.{View, flights_of}
+use Rattle.ept_table.specs.View.{View}
 use Rattle.ept_node.specs.Shown.{empty_node}
 use Rattle.ept_sample.specs.SamplingLaws.{CanBeSampled}
 use Rattle.ept_table.specs.Shown.{IsSound, IsSoundFlight, OpensOctant, FitsReader}

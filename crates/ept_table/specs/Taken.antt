@@ -1,11 +1,10 @@
 -- What lies in a slot.
-use Rattle.std.specs.Prelude.{ℕ, Bool, false, List, [], map, length, slice_index}
+use Rattle.std.specs.Prelude.{ℕ, Bool, false, List, [], length, slice_index}
 use Rattle.ept_point.specs.declared.point.Point.{Point}
 use Rattle.ept_grid.specs.Node.{is_open_in}
 use Rattle.ept_core.specs.declared.node.Node as core
 use Rattle.ept_core.specs.State.{blank}
 use Rattle.ept_node.specs.Batch.{seen}
-use Rattle.ept_table.specs.declared.taken.Cell.{Cell}
 use Rattle.ept_table.specs.declared.taken.Taken.{Taken}
 use Rattle.ept_table.specs.declared.taken.Taken.TheVariants.{Blank, Standing, Reading}
 

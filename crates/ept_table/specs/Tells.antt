@@ -1,15 +1,14 @@
 -- What steps on a table tell a seat.
-use Rattle.std.specs.Prelude.{◌≡◌, ℕ, ◌<◌, ◌≤◌, true, false, ◌⊎◌, List, [], ◌++◌, map, length, take, drop, Option, Some, None}
+use Rattle.std.specs.Prelude.{◌≡◌, ℕ, ◌<◌, ◌≤◌, true, false, ◌⊎◌, List, [], ◌++◌, map, length, take, drop, Some}
 use Rattle.ept_point.specs.declared.point.Point.{Point}
 use Rattle.ept_space.specs.VoxelKey.{VoxelKey, child}
-use Rattle.ept_sample.specs.declared.tiles.Tile.{Tile}
 use Rattle.ept_scan.specs.declared.read_error.ReadError.{ReadError}
 use Rattle.ept_sample.specs.Ids.{HasDistinctIds}
 use Rattle.ept_sample.specs.Sampling.{is_node}
 use Rattle.ept_sample.specs.Nodes.{node_keys, sampled}
 use Rattle.ept_sample.specs.Members.{IsMember}
 use Rattle.ept_core.specs.declared.flight.Flight.{Flight}
-use Rattle.ept_core.specs.State.{State, Entry, node_at, has_node, has_open, tile_of}
+use Rattle.ept_core.specs.State.{State, Entry, node_at, has_node, tile_of}
 use Rattle.ept_core.specs.Law.{KeepsLaw}
 use Rattle.ept_grid.specs.Node.{is_open_in}
 use Rattle.ept_node.specs.Batch.{seen}

@@ -4,12 +4,20 @@
 //! At every moment the table and its seats show a state of `ept_core`'s machine.
 #![tactic(auto)]
 
+mod done;
+mod item;
 mod laws;
+mod making;
 mod note;
+mod rule;
+mod table;
 mod taken;
 
-pub use laws::{
-    arrival_law, draw_law, end_law, move_law, read_law, seat_law, state_law, take_law,
-};
+pub use done::{Done, Said};
+pub use item::Item;
+pub use laws::{arrival_law, draw_law, end_law, move_law, read_law, seat_law, state_law, take_law};
+pub use making::Unmade;
 pub use note::{Carried, Counted, Draw, Note, Told};
+pub use rule::{Rule, Scan};
+pub use table::{Full, NodeTable, Seat};
 pub use taken::{Cell, Progress, Taken};

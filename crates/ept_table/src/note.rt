@@ -32,6 +32,7 @@ pub struct Told {
 }
 
 /// A flight, and the slot of the node that it goes to: 0 where there is none.
+#[derive(Debug, Drop)]
 pub struct Carried {
     pub slot: u32,
     pub flight: Flight,

@@ -1,4 +1,4 @@
-use Rattle.std.proofs.Common.{rules, ◌≡◌, ℕ, ◌+◌, ◌<◌, ◌≤◌, List, [], ◌∷◌, ◌++◌, length, reverse, vec_len, vec_capacity, sym, subst, ◌∙◌, ap, arith}
+use Rattle.std.proofs.Common.{◌≡◌, ◌+◌, ◌≤◌, length, reverse, vec_len, vec_capacity, sym, subst, arith}
 use Rattle.ept_slots.specs.Laid.{IsLaid}
 use Rattle.ept_slots.proofs.Layings.{IsHalf, half-start, half-step, half-length, half-end, laid, no-items}
 use Rattle.ept_slots.proofs.laying.lay_out.Goals as goal

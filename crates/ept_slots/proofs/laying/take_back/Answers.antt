@@ -1,4 +1,4 @@
-use Rattle.std.proofs.Common.{rules, ◌≡◌, ℕ, ◌+◌, ◌<◌, ◌≤◌, List, [], ◌∷◌, ◌++◌, map, length, reverse, vec_len, vec_capacity, refl, sym, subst, ◌∙◌, ap, arith, length-append}
+use Rattle.std.proofs.Common.{◌≡◌, ◌+◌, ◌≤◌, [], ◌∷◌, ◌++◌, map, length, reverse, vec_len, vec_capacity, sym, subst, ◌∙◌, ap, arith, length-append}
 use Rattle.std.proofs.lemmas.List.{reverse-reverse, append_assoc, append-nil}
 use Rattle.ept_slots.specs.Laid.{IsLaid}
 use Rattle.ept_slots.proofs.Hands.{same-spare, same-item}

@@ -1,4 +1,4 @@
-use Rattle.std.proofs.Common.{rules, refl, ap, subst, ◌∙◌, [], ◌∷◌}
+use Rattle.std.proofs.Common.{rules, refl, ap, subst, ◌∙◌, ◌∷◌}
 use Rattle.ept_slots.specs.declared.slot.Slot.TheVariants.{Here}
 use Rattle.ept_slots.specs.Views.{given}
 use Rattle.ept_slots.proofs.Givings.{gives_seat}

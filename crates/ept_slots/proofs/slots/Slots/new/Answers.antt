@@ -1,5 +1,5 @@
-use Rattle.std.proofs.Common.{◌≡◌, ℕ, ◌+◌, ◌<◌, ◌≤◌, [], ◌∷◌, length, vec_len, replicate, ◌^◌, sym, subst, ◌∙◌, ap, arith}
-use Rattle.ept_slots.specs.Views.{whole, first_view}
+use Rattle.std.proofs.Common.{◌≡◌, ℕ, ◌+◌, ◌<◌, ◌≤◌, [], ◌∷◌, length, replicate, ◌^◌, subst, ◌∙◌, ap, arith}
+use Rattle.ept_slots.specs.Views.{first_view}
 use Rattle.ept_slots.specs.Laid.{IsLaid}
 use Rattle.ept_slots.proofs.Ends.{starts, first-words}
 use Rattle.ept_slots.proofs.Layings.{laid-same}

@@ -1,4 +1,4 @@
-use Rattle.std.proofs.Common.{rules, arith, refl, sym, ap, ◌∙◌, ℕ, ◌+◌, ◌<◌, ◌≡◌, subst, ◌∷◌}
+use Rattle.std.proofs.Common.{rules, arith, refl, ap, ◌∙◌, ◌+◌, ◌<◌, ◌≡◌, subst, ◌∷◌}
 use Rattle.ept_slots.proofs.Takings.{takes_slot}
 use Rattle.ept_slots.proofs.Hands.{seat-is, hand-none, led, behind, in-hand, same-item}
 use Rattle.ept_slots.specs.declared.slot.Slot.TheVariants.{Out}

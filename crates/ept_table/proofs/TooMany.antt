@@ -1,10 +1,8 @@
 -- Where all slots are drawn and one more is asked for, the sampling has more nodes.
-use Rattle.std.proofs.Common.{◌≡◌, ◌∙◌, ℕ, zero, suc, ◌+◌, ◌-◌, ◌<◌, ◌≤◌, min, Bool, true, false, ◌||◌, ◌⊎◌, inl, inr, List, [], ◌∷◌, ◌++◌, map, length, take, drop, refl, sym, ap, subst, arith, Option, Some, None}
+use Rattle.std.proofs.Common.{◌≡◌, ◌∙◌, ℕ, suc, ◌+◌, ◌-◌, ◌<◌, ◌≤◌, Bool, true, false, ◌||◌, inl, inr, List, [], ◌∷◌, ◌++◌, map, length, take, drop, refl, sym, ap, subst, arith, Some}
 use Rattle.std.proofs.lemmas.List.{take-append-drop, length-append, drop-drop}
-use Rattle.std.proofs.lemmas.Bool.{false≢true}
-use Rattle.std.proofs.lemmas.List.Elements.{All-append}
 use Rattle.ept_point.specs.declared.point.Point.{Point}
-use Rattle.ept_space.specs.VoxelKey.{VoxelKey, root, same_key, child}
+use Rattle.ept_space.specs.VoxelKey.{VoxelKey, root, child}
 use Rattle.ept_space.specs.OctreeCube.{InCube}
 use Rattle.ept_sample.specs.Place.{place}
 use Rattle.ept_sample.specs.Ids.{in_id_order}
@@ -12,14 +10,12 @@ use Rattle.ept_sample.specs.Arrivals.{is_open, overflows}
 use Rattle.ept_sample.specs.Sampling.{is_node}
 use Rattle.ept_sample.specs.Nodes.{node_keys}
 use Rattle.ept_sample.specs.Members.{IsMember}
-use Rattle.ept_sample.proofs.Members.{IsMember-left, IsMember-right, IsMember-flat_map, IsMember-map, all-member, All-members}
-use Rattle.ept_sample.proofs.Choices.{either, is_false}
+use Rattle.ept_sample.proofs.Members.{IsMember-left, IsMember-flat_map, IsMember-map, all-member, All-members}
 use Rattle.ept_sample.proofs.SamplingLaws.{is_node-root}
 use Rattle.ept_sample.proofs.NodeLaws.{node_keys-IsMember}
 use Rattle.ept_core.specs.declared.flight.Flight.{Flight}
 use Rattle.ept_core.specs.declared.node.Node as core
 use Rattle.ept_core.specs.State.{State, Entry, blank, node_at, has_node, has_open}
-use Rattle.ept_core.specs.Law.{KeepsLaw}
 use Rattle.ept_core.specs.Steps as steps
 use Rattle.ept_core.proofs.NodeMap.{node_at-here, node_at-absent, key-has_node, same_key-apart}
 use Rattle.ept_core.proofs.Leaving.{node_after-open}
@@ -30,18 +26,16 @@ use Rattle.ept_node.specs.Batch.{seen}
 use Rattle.ept_node.proofs.Bridges.{seen-stands}
 use Rattle.ept_table.specs.declared.note.Told.{Told}
 use Rattle.ept_table.specs.declared.note.Carried.{Carried}
-use Rattle.ept_table.specs.declared.note.Draw.{Draw}
 use Rattle.ept_table.specs.declared.taken.Cell.{Cell}
-use Rattle.ept_table.specs.declared.taken.Progress.{Progress}
 use Rattle.ept_table.specs.declared.taken.Taken.{Taken}
 use Rattle.ept_table.specs.declared.taken.Taken.TheVariants.{Blank, Standing, Reading}
 use Rattle.ept_table.specs.At.{At}
 use Rattle.ept_table.specs.Taken.{points_of, is_open_at, as_node}
 use Rattle.ept_table.specs.View.{View, flights_of, all_flights}
-use Rattle.ept_table.specs.Shown.{KeyOf, OpensOctant, IsChild, Drew, IsDrawn, IsDraw, shown, Shows, Holds, AreLocked}
+use Rattle.ept_table.specs.Shown.{KeyOf, OpensOctant, Drew, IsDrawn, IsDraw, shown, Shows, Holds, AreLocked}
 use Rattle.ept_table.specs.Steps.{MayDraw}
 use Rattle.ept_table.proofs.Lists.{at-same, at-member, member-at}
-use Rattle.ept_table.proofs.Keys.{no_key, key-same, key-low, key-grown, key-last, key-cases}
+use Rattle.ept_table.proofs.Keys.{no_key, key-same, key-low, key-cases}
 use Rattle.ept_table.proofs.Counting.{AreDifferent, member-cut, no-more}
 use Rattle.ept_table.proofs.SlotDrawn.{held-key, no-slot-yet}
 
@@ -179,9 +173,9 @@ module _ (told : Told) (drawn : ℕ) (items : List Taken) (views : List View) (h
               let same : key ≡ root = key-same h.keys 1 key root (subst (λ (n : ℕ). KeyOf h.keys n key) top is) h.tree.first in
               ap (λ (j : VoxelKey). is_node told.rules first j) same ∙ is_node-root told.rules first
           | inr more ↦ elim more [
-              | inl c ↦ ap (λ (j : VoxelKey). is_node told.rules first j) (sym c.key_is) ∙ open-is_node c.parent c.cell c.octant c.at c.low c.opened
-              | inr d ↦ drawn_is_node k key d
-            ]
+            | inl c ↦ ap (λ (j : VoxelKey). is_node told.rules first j) (sym c.key_is) ∙ open-is_node c.parent c.cell c.octant c.at c.low c.opened
+            | inr d ↦ drawn_is_node k key d
+          ]
         ]
 
     -- ---- the refused draw
@@ -223,13 +217,13 @@ module _ (told : Told) (drawn : ℕ) (items : List Taken) (views : List View) (h
       different j k key a b =
           elim (key-cases h.keys wanted (suc j) key (place_key j key a)) [
             | inl old ↦ elim (key-cases h.keys wanted (suc k) key (place_key k key b)) [
-                | inl too ↦ (let e : suc j ≡ suc k = h.tree.distinct (suc j) (suc k) key old too in omega (arith, e))
-                | inr new ↦ absurd (fresh (suc j) (subst (λ (n : VoxelKey). KeyOf h.keys (suc j) n) (sym new.1) old))
-              ]
+              | inl too ↦ (let e : suc j ≡ suc k = h.tree.distinct (suc j) (suc k) key old too in omega (arith, e))
+              | inr new ↦ absurd (fresh (suc j) (subst (λ (n : VoxelKey). KeyOf h.keys (suc j) n) (sym new.1) old))
+            ]
             | inr new ↦ elim (key-cases h.keys wanted (suc k) key (place_key k key b)) [
-                | inl old ↦ absurd (fresh (suc k) (subst (λ (n : VoxelKey). KeyOf h.keys (suc k) n) (sym new.1) old))
-                | inr too ↦ omega (arith, new.0, too.0)
-              ]
+              | inl old ↦ absurd (fresh (suc k) (subst (λ (n : VoxelKey). KeyOf h.keys (suc k) n) (sym new.1) old))
+              | inr too ↦ omega (arith, new.0, too.0)
+            ]
           ]
 
       each_is_node : (k : ℕ) (key : VoxelKey) → KeyOf all_keys k key → is_node told.rules first key ≡ true

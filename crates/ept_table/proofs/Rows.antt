@@ -1,0 +1,167 @@
+-- The reader and the nodes as they lie in slots.
+use Rattle.std.proofs.Common.{◌≡◌, ◌∙◌, ℕ, zero, suc, ◌+◌, ◌<◌, ◌≤◌, List, [], ◌∷◌, ◌++◌, map, reverse, length, refl, sym, ap, subst, arith, Option}
+use Rattle.std.proofs.lemmas.List.{reverse-reverse, reverse-append, append_assoc}
+use Rattle.ept_scan.specs.declared.second_reading.Reader.{Reader}
+use Rattle.ept_node.specs.declared.node.Node as node
+use Rattle.ept_slots.specs.Views.{first_view, whole}
+use Rattle.ept_table.specs.declared.item.Item.{Item}
+use Rattle.ept_table.specs.declared.item.Item.TheVariants as items
+use Rattle.ept_table.specs.declared.note.Told.{Told}
+use Rattle.ept_table.specs.At.{At}
+use Rattle.ept_table.specs.Steps.{first_note}
+use Rattle.ept_table.specs.Tells.{IsLanded}
+use Rattle.ept_table.specs.Item.{taken_as, seen_node, seen_reader, seen, IsFiled, Filed}
+use Rattle.ept_table.specs.Standing.{Stands}
+use Rattle.ept_table.specs.Row.{items_of, row}
+use Rattle.ept_table.specs.declared.taken.Cell.{Cell}
+use Rattle.ept_table.specs.declared.taken.Progress.{Progress}
+use Rattle.ept_table.specs.declared.taken.Taken.{Taken}
+use Rattle.ept_table.specs.declared.taken.Taken.TheVariants.{Reading}
+use Rattle.ept_table.specs.View.{View}
+use Rattle.ept_table.specs.Shown.{Holds}
+use Rattle.ept_node.specs.Shown.{state_of, node_of, children_of}
+use Rattle.ept_node.specs.declared.state.NodeState.{NodeState}
+use Rattle.ept_node.specs.declared.state.NodeState.TheVariants as states
+use Rattle.ept_table.proofs.Lists.{at-head, at-next, at-rest, at-zero, nothing-at}
+use Rattle.ept_table.proofs.Glue.{at-map}
+use Rattle.ept_table.proofs.Ending.{first-seat-holds}
+
+-- ---- lists
+
+pub cons-parts : {X : Type 0} (x y : X) (xs ys : List X) → x ∷ xs ≡ y ∷ ys → (x ≡ y) × (xs ≡ ys)
+cons-parts {X} x y xs ys e = (ap (first_of x) e, ap rest_of e)
+  where
+    first_of : X → List X → X
+    first_of d [] = d
+    first_of d (z ∷ zs) = z
+
+    rest_of : List X → List X
+    rest_of [] = []
+    rest_of (z ∷ zs) = zs
+
+-- the list whose last one is at the front when it is turned round
+pub turned : {X : Type 0} (xs front : List X) (x : X) → reverse xs ≡ front ++ x ∷ [] → xs ≡ x ∷ reverse front
+turned xs front x e = sym (reverse-reverse xs) ∙ (ap reverse e ∙ reverse-append front (x ∷ []))
+
+pub turned-again : {X : Type 0} (xs front : List X) (x : X) → xs ≡ front ++ x ∷ [] → reverse xs ≡ x ∷ reverse front
+turned-again xs front x e = ap reverse e ∙ reverse-append front (x ∷ [])
+
+pub length-map : {X Y : Type 0} (f : X → Y) (xs : List X) → length (map f xs) ≡ length xs
+length-map f [] = refl
+length-map f (x ∷ xs) = ap suc (length-map f xs)
+
+module _ {F S : Type 0} where
+  abbrev as_item : node.Node F → Item F S
+  as_item n = items.Node n
+
+  node_same : (a b : node.Node F) → as_item a ≡ as_item b → a ≡ b
+  node_same a b e = ap from e
+    where
+      from : Item F S → node.Node F
+      from (items.Node n) = n
+      from (items.Reader r) = a
+
+  pub reader-same : (a b : Reader S) → (let x : Item F S = items.Reader a in x) ≡ items.Reader b → a ≡ b
+  reader-same a b e = ap from e
+    where
+      from : Item F S → Reader S
+      from (items.Node n) = a
+      from (items.Reader r) = r
+
+  -- ---- taken apart
+
+  pub back-step : (x : Item F S) (xs : List (Item F S)) (rest : List (node.Node F)) → x ∷ xs ≡ map as_item rest → (n : node.Node F) × (ns : List (node.Node F)) × (rest ≡ n ∷ ns) × (x ≡ as_item n) × (xs ≡ map as_item ns)
+  back-step x xs [] e = absurd (cc)
+  back-step x xs (n ∷ ns) e = let p = cons-parts x (as_item n) xs (map as_item ns) e in (n, ns, refl, p.0, p.1)
+
+  pub one-more-back : (r : Reader S) (all : List (Item F S)) (before rest ns : List (node.Node F)) (n m : node.Node F) (x : Item F S) (now : List (node.Node F)) → all ≡ items_of r (before ++ rest) → rest ≡ n ∷ ns → x ≡ as_item n → x ≡ as_item m → now ≡ before ++ m ∷ [] → all ≡ items_of r (now ++ ns)
+  one-more-back r all before rest ns n m x now e f is it g =
+      let same : n ≡ m = node_same n m (sym is ∙ it) in
+      let list : before ++ rest ≡ now ++ ns = ap (λ (w : List (node.Node F)). before ++ w) f ∙ (ap (λ (w : node.Node F). before ++ w ∷ ns) same ∙ (sym (append_assoc before (m ∷ []) ns) ∙ ap (λ (w : List (node.Node F)). w ++ ns) (sym g))) in
+      e ∙ ap (λ (w : List (node.Node F)). items_of r w) list
+
+  pub nothing-back : (ns : List (node.Node F)) → (let none : List (Item F S) = [] in none) ≡ map as_item ns → ns ≡ []
+  nothing-back [] e = refl
+  nothing-back (n ∷ ns) e = absurd (cc)
+
+  map_same : (ns ms : List (node.Node F)) → map as_item ns ≡ map as_item ms → ns ≡ ms
+  map_same [] [] e = refl
+  map_same [] (m ∷ ms) e = absurd (cc)
+  map_same (n ∷ ns) [] e = absurd (cc)
+  map_same (n ∷ ns) (m ∷ ms) e =
+      let p = cons-parts (as_item n) (as_item m) (map as_item ns) (map as_item ms) e in
+      ap (λ (w : node.Node F). w ∷ ns) (node_same n m p.0) ∙ ap (λ (w : List (node.Node F)). m ∷ w) (map_same ns ms p.1)
+
+  pub items-same : (r q : Reader S) (ns ms : List (node.Node F)) → items_of r ns ≡ items_of q ms → (r ≡ q) × (ns ≡ ms)
+  items-same r q ns ms e =
+      let p = cons-parts (items.Reader r) (items.Reader q) (map as_item ns) (map as_item ms) e in
+      (reader-same r q p.0, map_same ns ms p.1)
+
+  -- ---- a table is made
+
+  module _ (whole_of left : S → Option (List ℕ)) (given faults : S → ℕ) (told : Told) where
+    nodes_filed : (ns : List (node.Node F)) (k : ℕ) (x : Item F S) → At (map as_item ns) k x → Filed whole_of left given faults told x
+    nodes_filed [] k x a = absurd (nothing-at a)
+    nodes_filed (n ∷ ns) zero x a = subst (λ (z : Item F S). Filed whole_of left given faults told z) (at-head a) tt
+    nodes_filed (n ∷ ns) (suc k) x a = nodes_filed ns k x (at-rest (as_item n) (map as_item ns) k x a)
+
+    all_filed : (r : Reader S) (ns : List (node.Node F)) → IsFiled whole_of left given faults told r → (k : ℕ) (x : Item F S) → At (items_of r ns) k x → Filed whole_of left given faults told x
+    all_filed r ns filed zero x a = subst (λ (z : Item F S). Filed whole_of left given faults told z) (at-head a) filed
+    all_filed r ns filed (suc k) x a = nodes_filed ns k x (at-rest (items.Reader r) (map as_item ns) k x a)
+
+    pub make-stands : (most used : ℕ) (r : Reader S) (ns : List (node.Node F)) (all : List (Item F S)) → all ≡ items_of r ns → IsLanded told used (row whole_of r ns) → IsFiled whole_of left given faults told r → Stands whole_of left given faults told used all (first_view most (first_note told) ∷ [])
+    make-stands most used r ns all e landed filed =
+        subst (λ (xs : List (Item F S)). Stands whole_of left given faults told used xs (first_view most (first_note told) ∷ [])) (sym e) (record { rule = first-seat-holds told used (row whole_of r ns) whole landed; filed = all_filed r ns filed })
+
+    pub landed-low : (used : ℕ) (r : Reader S) (ns : List (node.Node F)) → IsLanded told used (row whole_of r ns) → used ≤ told.most
+    landed-low used r ns landed = not_over (λ over. nothing-at (landed.seats.above_full over).2)
+      where
+        not_over : (told.most < used → ⊥) → used ≤ told.most
+        not_over apart = omega (arith, apart)
+
+    pub landed-most : (used : ℕ) (r : Reader S) (ns : List (node.Node F)) → IsLanded told used (row whole_of r ns) → length ns ≡ told.most
+    landed-most used r ns landed =
+        let size : length (row whole_of r ns) ≡ told.most + 1 = landed.base.size in
+        let same : length (row whole_of r ns) ≡ length (items_of r ns) = length-map (seen whole_of) (items_of r ns) in
+        let nodes : length (map as_item ns) ≡ length ns = length-map as_item ns in
+        omega (arith, size, same, nodes)
+
+    -- ---- a table is closed
+
+    -- what lies in the slots of a table is the reader and nodes behind it
+    as_nodes : (xs : List (Item F S)) → ((k : ℕ) (x : Item F S) → At xs k x → (r : Reader S) → (x ≡ items.Reader r) → ⊥) → (ns : List (node.Node F)) × (xs ≡ map as_item ns)
+    as_nodes [] none = ([], refl)
+    as_nodes (items.Node n ∷ xs) none =
+        let more = as_nodes xs (λ k x a. none (suc k) x (at-next (items.Node n) xs k x a)) in
+        (n ∷ more.0, ap (λ (w : List (Item F S)). items.Node n ∷ w) more.1)
+    as_nodes (items.Reader r ∷ xs) none = absurd (none 0 (items.Reader r) (at-zero (items.Reader r) xs) r refl)
+
+    pub closed-row : (drawn : ℕ) (xs : List (Item F S)) (views : List View) → Holds told drawn (map (seen whole_of) xs) views → (r : Reader S) × (ns : List (node.Node F)) × (xs ≡ items_of r ns)
+    closed-row drawn [] views h = absurd (nothing-at h.base.at_first)
+    closed-row drawn (items.Node n ∷ xs) views h =
+        absurd (no_reader (at-head h.base.at_first))
+      where
+        no_reader : {q : Progress} → seen_node n ≡ Reading q → ⊥
+        no_reader e = not_reading (record { node = node_of n; children = children_of n }) (state_of n) e
+          where
+            not_reading : {q : Progress} (c : Cell) (s : NodeState) → taken_as s c ≡ Reading q → ⊥
+            not_reading c states.Blank e = cc
+            not_reading c states.Resident e = cc
+    closed-row drawn (items.Reader r ∷ xs) views h =
+        let rest = as_nodes xs (λ k x a q e. (
+        let b : At (map (seen whole_of) (items.Reader r ∷ xs)) (suc k) (seen whole_of x) = at-map (seen whole_of) (items.Reader r ∷ xs) (suc k) x (at-next (items.Reader r) xs k x a) in
+        let z : suc k ≡ 0 = h.base.one_reader (suc k) (seen_reader whole_of q) (subst (λ (t : Taken). At (map (seen whole_of) (items.Reader r ∷ xs)) (suc k) t) (ap (seen whole_of) e) b) in
+        omega (arith, z))) in
+        (r, rest.0, ap (λ (w : List (Item F S)). items.Reader r ∷ w) rest.1)
+
+    pub filed-first : (xs : List (Item F S)) (r : Reader S) (ns : List (node.Node F)) → xs ≡ items_of r ns → ((k : ℕ) (x : Item F S) → At xs k x → Filed whole_of left given faults told x) → IsFiled whole_of left given faults told r
+    filed-first xs r ns e filed =
+        filed 0 (items.Reader r) (subst (λ (w : List (Item F S)). At w 0 (items.Reader r)) (sym e) (at-zero (items.Reader r) (map as_item ns)))
+
+    pub closed-most : (drawn : ℕ) (xs : List (Item F S)) (views : List View) (r : Reader S) (ns : List (node.Node F)) → Holds told drawn (map (seen whole_of) xs) views → xs ≡ items_of r ns → length ns ≡ told.most
+    closed-most drawn xs views r ns h e =
+        let size : length (map (seen whole_of) xs) ≡ told.most + 1 = h.base.size in
+        let same : length (map (seen whole_of) xs) ≡ length xs = length-map (seen whole_of) xs in
+        let both : length xs ≡ length (items_of r ns) = ap (λ (w : List (Item F S)). length w) e in
+        let nodes : length (map as_item ns) ≡ length ns = length-map as_item ns in
+        omega (arith, size, same, both, nodes)

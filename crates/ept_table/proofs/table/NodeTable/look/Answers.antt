@@ -1,0 +1,5 @@
+use Rattle.ept_table.proofs.Allowed.{looks-allowed}
+use Rattle.ept_table.proofs.table.NodeTable.look.Goals as goal
+
+pub look-requires-clause-rule : goal.look-requires-clause-rule
+look-requires-clause-rule g c = looks-allowed g.row.F.Denot g.row.S.Denot g.S.Source.whole g.S.Source.left g.S.Source.given g.S.Source.faults g.J.Scan.told c.args.seat.now.id c.args.seat.now.me.0

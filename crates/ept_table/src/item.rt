@@ -1,0 +1,14 @@
+//! What lies in the slots of a table of nodes.
+
+use ept_node::Node;
+use ept_scan::Reader;
+
+/// What lies in a slot: the reader in slot 0, a node in each other one.
+///
+/// It can't be dropped where a spill file or a source can't.
+pub enum Item<F, S> {
+    /// A node, or a blank one.
+    Node(Node<F>),
+    /// The reader.
+    Reader(Reader<S>),
+}

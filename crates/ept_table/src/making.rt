@@ -1,0 +1,187 @@
+//! How a table of nodes is made, and how it is closed.
+
+ghost use Rattle.std.specs.Prelude.{◌≡◌, ◌+◌, ◌≤◌, ℕ, [], List, length, min, vec_len, vec_capacity, IfOk, IfErr};
+ghost use Rattle.ept_scan.specs.declared.second_reading.Reader as reader_of;
+ghost use Rattle.ept_node.specs.declared.node.Node as node_of;
+ghost use Rattle.ept_slots.specs.Views.{HoldsNothing, whole};
+ghost use Rattle.ept_slots.specs.Seating.{view, count_of, IsSeatOf};
+ghost use Rattle.ept_forest.specs.Slots.{nodes_of, used_of};
+ghost use Rattle.ept_table.specs.declared.item.Item.TheVariants as items;
+ghost use Rattle.ept_table.specs.Steps.{first_seat};
+ghost use Rattle.ept_table.specs.Tells.{IsLanded, IsEnded};
+ghost use Rattle.ept_table.specs.Item.{IsFiled};
+ghost use Rattle.ept_table.specs.Row.{items_of, row};
+ghost use Rattle.ept_table.specs.Standing.{known};
+
+use crate::item::Item;
+use crate::rule::Scan;
+use crate::table::{NodeTable, Seat};
+use ept_base::{Source, SpillFile};
+use ept_forest::Forest;
+use ept_node::Node;
+use ept_scan::Reader;
+use ept_slots::Slots;
+use std::alloc::Global;
+
+/// There was no memory for a table. The forest and the reader come back.
+pub struct Unmade<F, S> {
+    pub forest: Forest<F>,
+    pub reader: Reader<S>,
+}
+
+// A reader and nodes that are in no table.
+struct Apart<F, S> {
+    nodes: Vec<Node<F>>,
+    reader: Reader<S>,
+}
+
+// Items in the order of their slots, and the list that their nodes came in.
+struct Laid<F, S> {
+    items: Vec<Item<F, S>>,
+    spare: Vec<Node<F>>,
+}
+
+impl<F: SpillFile, S: Source, J: Scan> NodeTable<F, S, J> {
+    /// A table of the nodes of a forest and a reader, and its first seat. Nothing flies, and no slot is held.
+    ///
+    /// # Errors
+    ///
+    /// Where there is no memory the forest and the reader come back.
+    pub fn make(
+        alloc: Global,
+        forest: Forest<F>,
+        reader: Reader<S>,
+    ) -> Result<(NodeTable<F, S, J>, Seat<F, S>), Unmade<F, S>>
+        requires landed { IsLanded J.told (used_of forest) (row S.whole reader (nodes_of forest)) }
+        requires filed { IsFiled S.whole S.left S.given S.faults J.told reader }
+        ensures seat { IfOk result (λ r. IsSeatOf (λ _. J.told.most) r.0.slots r.1) }
+        ensures known { IfOk result (λ r. known S.whole (view r.1) ≡ first_seat J.told whole) }
+        ensures slots { IfOk result (λ r. count_of r.0.slots ≡ J.told.most + 1) }
+        ensures forest { IfErr result (λ r. (nodes_of r.forest ≡ nodes_of forest) × (used_of r.forest ≡ used_of forest)) }
+        ensures reader { IfErr result (λ r. r.reader ≡ reader) }
+    {
+        let (nodes, used) = forest.into_nodes();
+        let Ok(most) = u32::try_from(nodes.len()) else {
+            return Err(Unmade {
+                forest: Forest::from_nodes(nodes, used),
+                reader,
+            });
+        };
+        let laid = match lay(alloc, nodes, reader) {
+            Ok(laid) => laid,
+            Err(apart) => return Err(given_up(apart, used)),
+        };
+        let Laid { items, spare } = laid;
+        match Slots::new(alloc, items, used, most, &()) {
+            Ok((slots, seat)) => Ok((NodeTable { slots, spare, most }, seat)),
+            Err(refused) => {
+                let ept_slots::Refused { items } = refused;
+                Err(given_up(take_apart(Laid { items, spare }), used))
+            }
+        }
+    }
+
+    /// Ends a table, of which this is the last seat, and gives the forest and the reader back. It takes no memory.
+    pub fn close(self, seat: Seat<F, S>) -> (Forest<F>, Reader<S>)
+        requires seat { IsSeatOf (λ _. J.told.most) self.slots seat }
+        requires idle { HoldsNothing (view seat) × ((view seat).parts ≡ whole) }
+        requires slots { count_of self.slots ≡ J.told.most + 1 }
+        ensures ended { (drawn : ℕ) × (used_of result.0 ≡ min drawn J.told.most)
+            × IsEnded J.told drawn (row S.whole result.1 (nodes_of result.0)) (known S.whole (view seat)) }
+        ensures filed { IsFiled S.whole S.left S.given S.faults J.told result.1 }
+    {
+        let NodeTable { slots, spare, most } = self;
+        let ending = slots.close(seat);
+        let ept_slots::Ending { items, drawn } = ending;
+        let used = if drawn < u64::from(most) {
+            drawn as u32
+        } else {
+            most
+        };
+        let Apart { nodes, reader } = take_apart(Laid { items, spare });
+        (Forest::from_nodes(nodes, used), reader)
+    }
+}
+
+// The forest of nodes of which so many slots are drawn, and the reader.
+fn given_up<F: SpillFile, S>(apart: Apart<F, S>, used: u32) -> Unmade<F, S>
+    ensures forest { (nodes_of result.forest ≡ apart.nodes.items) × (used_of result.forest ≡ used) }
+    ensures reader { result.reader ≡ apart.reader }
+{
+    let Apart { nodes, reader } = apart;
+    Unmade {
+        forest: Forest::from_nodes(nodes, used),
+        reader,
+    }
+}
+
+// The items of a table. Or there was no memory.
+fn lay<F, S>(
+    alloc: Global,
+    mut nodes: Vec<Node<F>>,
+    reader: Reader<S>,
+) -> Result<Laid<F, S>, Apart<F, S>>
+    ensures items { IfOk result (λ laid. laid.items.items ≡ items_of reader nodes.items) }
+    ensures spare { IfOk result (λ laid. (laid.spare.items ≡ []) × (length nodes.items ≤ vec_capacity laid.spare)) }
+    ensures refused { IfErr result (λ apart. (apart.nodes.items ≡ nodes.items) × (apart.reader ≡ reader)) }
+{
+    let Some(count) = nodes.len().checked_add(1) else {
+        return Err(Apart { nodes, reader });
+    };
+    let Ok(mut items) = Vec::with_capacity(alloc, count) else {
+        return Err(Apart { nodes, reader });
+    };
+    items.push_reserved(Item::Reader(reader));
+    nodes.reverse();
+    while let Some(node) = nodes.pop() {
+        items.push_reserved(Item::Node(node));
+    }
+    Ok(Laid {
+        items,
+        spare: nodes,
+    })
+}
+
+// The reader and the nodes of a table, in the list that they came in.
+fn take_apart<F, S>(laid: Laid<F, S>) -> Apart<F, S>
+    requires items { (reader : reader_of.Reader S) × (nodes : List (node_of.Node F))
+        × (laid.items.items ≡ items_of reader nodes) × (length nodes ≤ vec_capacity laid.spare) }
+    requires spare { laid.spare.items ≡ [] }
+    ensures { laid.items.items ≡ items_of result.reader result.nodes.items }
+{
+    let Laid {
+        mut items,
+        spare: mut nodes,
+    } = laid;
+    items.reverse();
+    let first = items.pop();
+    let Some(first) = first else { unreachable!() };
+    let reader = reader_in(first);
+    while let Some(item) = items.pop() {
+        nodes.push_reserved(node_in(item));
+    }
+    items.destroy_empty();
+    Apart { nodes, reader }
+}
+
+// The node of an item.
+fn node_in<F, S>(item: Item<F, S>) -> Node<F>
+    requires { (node : node_of.Node F) × (item ≡ items.Node node) }
+    ensures { item ≡ items.Node result }
+{
+    let Item::Node(node) = item else {
+        unreachable!()
+    };
+    node
+}
+
+// The reader of an item.
+fn reader_in<F, S>(item: Item<F, S>) -> Reader<S>
+    requires { (reader : reader_of.Reader S) × (item ≡ items.Reader reader) }
+    ensures { item ≡ items.Reader result }
+{
+    let Item::Reader(reader) = item else {
+        unreachable!()
+    };
+    reader
+}

@@ -1,0 +1,113 @@
+//! The rule of a table of nodes, and what its steps tell.
+
+ghost use Rattle.std.specs.Prelude.{◌≡◌, true, false, Some, None, MatchOption};
+ghost use Rattle.ept_table.specs.declared.note.Told.{Told};
+ghost use Rattle.ept_table.specs.Steps.{wishing, drawing, abandoned, beginning, together, lacks_slot, first_note};
+ghost use Rattle.ept_table.specs.Tells.{IsTooMany, Fits, ShowsLaw};
+ghost use Rattle.ept_table.specs.Item.{seen, Filed};
+ghost use Rattle.ept_table.specs.Standing.{known, Stands};
+ghost use Rattle.ept_table.specs.Visits.{note_said};
+
+use crate::done::Said;
+use crate::item::Item;
+use crate::note::Note;
+use atomic_table::{Join, Split};
+use ept_base::Source;
+use ept_slots::{Draw, Give, Look, Note as Noted, SlotRule, Take};
+use std::marker::PhantomData;
+
+/// What a table is told: it is known where the table is made, and is no part of the code.
+pub trait Scan {
+    /// What the table is told.
+    ghost told: { Told };
+}
+
+/// The rule of a table of nodes.
+pub struct Rule<F, S, J> {
+    marker: PhantomData<(F, S, J)>,
+}
+
+impl<F, S: Source, J: Scan> SlotRule<Item<F, S>, Note, ()> for Rule<F, S, J> {
+    ghost holds = { λ _ drawn items views. Stands S.whole S.left S.given S.faults J.told drawn items views };
+
+    ghost most = { λ _. J.told.most };
+
+    ghost first = { λ _. first_note J.told };
+}
+
+/// An item is taken: it fits the seat.
+pub struct Taking<F, S, J> {
+    marker: PhantomData<(F, S, J)>,
+}
+
+impl<F, S: Source, J: Scan> Take<Item<F, S>, Note> for Taking<F, S, J> {
+    ghost tells = { λ v k x n. (n ≡ v.note) × Fits J.told (known S.whole v) k (seen S.whole x)
+        × Filed S.whole S.left S.given S.faults J.told x };
+}
+
+/// An item is given back.
+pub struct Giving<F, S> {
+    marker: PhantomData<(F, S)>,
+}
+
+impl<F, S: Source> Give<Item<F, S>, Note, Said> for Giving<F, S> {
+    ghost tells = { λ v y said n. n ≡ note_said v.note (seen S.whole y) said };
+}
+
+/// An octant is noted.
+pub struct Wishing<F, S> {
+    marker: PhantomData<(F, S)>,
+}
+
+impl<F, S: Source> Noted<Item<F, S>, Note, Said> for Wishing<F, S> {
+    ghost use Rattle.ept_table.specs.declared.taken.Taken.TheVariants.{Blank};
+
+    ghost tells = { λ v said n. n ≡ note_said v.note Blank said };
+}
+
+/// A slot is drawn for the octant that is noted, or refused since there may not be as many nodes as the sampling has.
+pub struct Drawing<F, S, J> {
+    marker: PhantomData<(F, S, J)>,
+}
+
+impl<F, S: Source, J: Scan> Draw<Item<F, S>, Note> for Drawing<F, S, J> {
+    ghost tells = { λ v drawn n. MatchOption drawn ((n ≡ v.note) × IsTooMany J.told) (λ k. n ≡ drawing v.note k) };
+}
+
+/// The table and the seats show a state that keeps the law.
+pub struct Looking<F, S, J> {
+    marker: PhantomData<(F, S, J)>,
+}
+
+impl<F, S: Source, J: Scan> Look<Item<F, S>, Note> for Looking<F, S, J> {
+    ghost tells = { λ v _ n. (n ≡ v.note) × (J.told.tells ≡ true → ShowsLaw J.told (known S.whole v)) };
+}
+
+/// The flights of the seat are abandoned.
+pub struct Abandoning<F, S, J> {
+    marker: PhantomData<(F, S, J)>,
+}
+
+impl<F, S: Source, J: Scan> Look<Item<F, S>, Note> for Abandoning<F, S, J> {
+    ghost tells = { λ v _ n. (n ≡ abandoned v.note) × (lacks_slot v.note.flights ≡ true → IsTooMany J.told) };
+}
+
+/// A seat is divided.
+pub struct Dividing;
+
+impl Split<Note> for Dividing {
+    ghost left = { λ n. n };
+
+    ghost right = { λ n. beginning n };
+}
+
+/// A seat ends in another.
+pub struct Joining<J> {
+    marker: PhantomData<J>,
+}
+
+impl<J: Scan> Join<Note> for Joining<J> {
+    ghost both = { λ n m. together n m };
+
+    ghost spent = { first_note J.told };
+}

@@ -1,0 +1,167 @@
+//! A table of nodes and its seats.
+
+ghost use Rattle.std.specs.Prelude.{◌≡◌, ◌+◌, ◌<◌, ◌≤◌, [], true, vec_capacity, IfOk, OnErr};
+ghost use Rattle.ept_table.specs.Tells.{IsTooMany, Fits, ShowsLaw};
+ghost use Rattle.ept_table.specs.declared.done.Done as done_of;
+ghost use Rattle.ept_table.specs.declared.done.Said.TheVariants.{Did};
+ghost use Rattle.ept_table.specs.declared.item.Item as item_of;
+ghost use Rattle.ept_table.specs.Steps.{holding, given_back, noting, refused_more, wishing, drawing, abandoned, beginning, together, lacks_slot, MayDraw};
+ghost use Rattle.ept_table.specs.Item.{seen, Filed};
+ghost use Rattle.ept_table.specs.Standing.{known};
+ghost use Rattle.ept_table.specs.Visits.{note_after, Visits};
+ghost use Rattle.ept_slots.specs.Views.{Holds, HoldsNothing, left_of, right_of, both_of};
+ghost use Rattle.ept_slots.specs.Seating.{view, count_of, IsSeatOf};
+
+use crate::done::{Done, Said};
+use crate::item::Item;
+use crate::note::Note;
+use crate::rule::{
+    Abandoning, Dividing, Drawing, Giving, Joining, Looking, Rule, Scan, Taking, Wishing,
+};
+use ept_base::Source;
+use ept_node::Node;
+use ept_slots::{SlotSeat, Slots};
+use std::sync::Wait;
+
+/// A token of no bytes with which a worker steps on a table.
+pub type Seat<F, S> = SlotSeat<Item<F, S>, Note, Said>;
+
+/// All slots are drawn.
+#[derive(Clone, Copy, Debug, PartialEq, Eq)]
+pub struct Full;
+
+/// A table of nodes that workers share: slot 0 has the reader, slot 1 the root's node, and each other slot a node or a
+/// blank one.
+pub struct NodeTable<F, S: Source, J: Scan> {
+    pub(crate) slots: Slots<Item<F, S>, Note, Said, (), Rule<F, S, J>>,
+    // The list that the nodes came in, which is emptied.
+    pub(crate) spare: Vec<Node<F>>,
+    pub(crate) most: u32,
+    ghost empty: { spare.items ≡ [] },
+    ghost room: { count_of slots ≤ vec_capacity spare + 1 },
+    ghost limit: { count_of slots ≡ most + 1 },
+}
+
+impl<F, S: Source, J: Scan> NodeTable<F, S, J> {
+    /// Takes what lies in a slot, as soon as that is free. The seat is its holder then.
+    pub fn take<H: Wait>(&self, rt: &H, seat: &mut Seat<F, S>, slot: u32) -> Item<F, S>
+        requires seat { IsSeatOf (λ _. J.told.most) self.now.slots seat.old }
+        requires idle { HoldsNothing (view seat.old) × (0 < (view seat.old).parts) }
+        requires slot { slot < count_of self.now.slots }
+        ensures seat { IsSeatOf (λ _. J.told.most) self.now.slots seat.new }
+        ensures holds { Holds (view seat.new) slot result }
+        ensures known { known S.whole (view seat.new) ≡ holding (known S.whole (view seat.old)) slot (seen S.whole result) }
+        ensures fits { Fits J.told (known S.whole (view seat.old)) slot (seen S.whole result) }
+        ensures filed { Filed S.whole S.left S.given S.faults J.told result }
+    {
+        self.slots
+            .take::<Taking<F, S, J>, H>(rt, seat, slot as usize)
+    }
+
+    /// Gives an item back into the slot that the seat holds, and frees the slot. What the visit did comes back, with the
+    /// flights that leave.
+    pub fn give(&self, seat: &mut Seat<F, S>, slot: u32, item: Item<F, S>, done: Done) -> Done
+        requires seat { IsSeatOf (λ _. J.told.most) self.now.slots seat.old }
+        requires visit { (x : item_of.Item F S) × Holds (view seat.old) slot x
+            × Visits J.told (known S.whole (view seat.old)) slot (seen S.whole x) (seen S.whole item) done }
+        requires slot { slot < count_of self.now.slots }
+        requires filed { Filed S.whole S.left S.given S.faults J.told item }
+        ensures seat { IsSeatOf (λ _. J.told.most) self.now.slots seat.new }
+        ensures known { known S.whole (view seat.new)
+            ≡ given_back (known S.whole (view seat.old)) (note_after (view seat.old).note (seen S.whole item) done) }
+        ensures done { result ≡ done }
+    {
+        let said = self
+            .slots
+            .give::<Giving<F, S>>(seat, slot as usize, item, Said::Did(done));
+        done_said(said)
+    }
+
+    /// Draws a slot for the child of an octant of the node that the seat holds, and answers its number.
+    ///
+    /// # Errors
+    ///
+    /// `Full` where all slots are drawn. Where files and sources tell, the sampling of the points up to the end of the
+    /// allowance has more nodes then than there may be.
+    pub fn draw_slot(&self, seat: &mut Seat<F, S>, slot: u32, octant: u8) -> Result<u32, Full>
+        requires seat { IsSeatOf (λ _. J.told.most) self.now.slots seat.old }
+        requires may { (x : item_of.Item F S) × Holds (view seat.old) slot x
+            × MayDraw J.told (known S.whole (view seat.old)) slot (seen S.whole x) octant }
+        requires slot { slot < count_of self.now.slots }
+        requires share { (view seat.old).refused < (view seat.old).parts }
+        ensures seat { IsSeatOf (λ _. J.told.most) self.now.slots seat.new }
+        ensures ok { IfOk result (λ n. (0 < n) × (n ≤ J.told.most) × (known S.whole (view seat.new)
+            ≡ noting (known S.whole (view seat.old)) (drawing (wishing (view seat.old).note octant) n))) }
+        ensures full { OnErr result (known S.whole (view seat.new)
+            ≡ refused_more (noting (known S.whole (view seat.old)) (wishing (view seat.old).note octant))) }
+        ensures too_many { OnErr result (IsTooMany J.told) }
+    {
+        let _said = self
+            .slots
+            .note::<Wishing<F, S>>(seat, slot as usize, Said::Wish(octant));
+        match self.slots.draw::<Drawing<F, S, J>>(seat) {
+            Some(number) => Ok(number),
+            None => Err(Full),
+        }
+    }
+
+    /// Looks at the table. Where files and sources tell, it and its seats show a state that keeps the law of the machine.
+    pub fn look(&self, seat: &mut Seat<F, S>)
+        requires { IsSeatOf (λ _. J.told.most) self.now.slots seat.old }
+        ensures seat { IsSeatOf (λ _. J.told.most) self.now.slots seat.new }
+        ensures same { known S.whole (view seat.new) ≡ known S.whole (view seat.old) }
+        ensures law { J.told.tells ≡ true → ShowsLaw J.told (known S.whole (view seat.old)) }
+    {
+        self.slots.look::<Looking<F, S, J>>(seat);
+    }
+
+    /// Abandons the flights of a seat, which the seat that ends it takes over. Where one has no slot there may not be as
+    /// many nodes as the sampling has, where files and sources tell.
+    pub fn abandon(&self, seat: &mut Seat<F, S>)
+        requires seat { IsSeatOf (λ _. J.told.most) self.now.slots seat.old }
+        requires idle { HoldsNothing (view seat.old) × (0 < (view seat.old).parts) }
+        ensures seat { IsSeatOf (λ _. J.told.most) self.now.slots seat.new }
+        ensures known { known S.whole (view seat.new)
+            ≡ noting (known S.whole (view seat.old)) (abandoned (view seat.old).note) }
+        ensures too_many { lacks_slot (view seat.old).note.flights ≡ true → IsTooMany J.told }
+    {
+        self.slots.look::<Abandoning<F, S, J>>(seat);
+    }
+
+    /// A new seat without flights, with half of the share of this one.
+    pub fn split(&self, seat: &mut Seat<F, S>) -> Seat<F, S>
+        requires seat { IsSeatOf (λ _. J.told.most) self.now.slots seat.old }
+        requires share { (1 < (view seat.old).parts) × ((view seat.old).refused ≡ 0) }
+        ensures seat { IsSeatOf (λ _. J.told.most) self.now.slots seat.new }
+        ensures new_seat { IsSeatOf (λ _. J.told.most) self.now.slots result }
+        ensures left { view seat.new ≡ left_of (view seat.old) (view seat.old).note }
+        ensures right { view result ≡ right_of (view seat.old) (beginning (view seat.old).note) }
+    {
+        self.slots.split::<Dividing>(seat)
+    }
+
+    /// Ends a seat that holds no slot and carries no flight. This one has its share, and takes over its abandoned flights
+    /// and its notes of refusals.
+    pub fn join(&self, seat: &mut Seat<F, S>, other: Seat<F, S>)
+        requires seat { IsSeatOf (λ _. J.told.most) self.now.slots seat.old }
+        requires other { IsSeatOf (λ _. J.told.most) self.now.slots other }
+        requires share { 0 < (view seat.old).parts }
+        requires idle { HoldsNothing (view other) }
+        requires landed { (view other).note.flights ≡ [] }
+        ensures seat { IsSeatOf (λ _. J.told.most) self.now.slots seat.new }
+        ensures both { view seat.new ≡ both_of (view seat.old) (view other) (together (view seat.old).note (view other).note) }
+    {
+        self.slots.join::<Joining<J>>(seat, other);
+    }
+}
+
+// What a visit did, as it was said.
+fn done_said(said: Said) -> Done
+    requires { (done : done_of.Done) × (said ≡ Did done) }
+    ensures { said ≡ Did result }
+{
+    match said {
+        Said::Did(done) => done,
+        Said::Wish(_) => unreachable!(),
+    }
+}
