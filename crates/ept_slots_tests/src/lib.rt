@@ -1,0 +1,7 @@
+//! Tests of `ept_slots`, which is proved once for them.
+#![tactic(auto)]
+
+#[cfg(test)]
+mod tests;
+#[cfg(test)]
+mod trade;

@@ -1,0 +1,65 @@
+use crate::trade::{Drawn, Traded, draw_twice, take_first, trade_apart};
+use std::test::Fail;
+
+#[test]
+fn two_traders_lose_nothing(rt: HostRuntime) -> Result<(), Fail> {
+    for _ in 0..100 {
+        let items = [5u64, 7, 9].to_vec(rt.alloc())?;
+        let Ok(
+            Traded {
+                items,
+                first,
+                second,
+            },
+        ) = trade_apart(&rt, rt.alloc(), items, 21)
+        else {
+            panic!(rt; "no memory")
+        };
+        let mut sum = first.wrapping_add(second);
+        for x in items.as_slice() {
+            sum = sum.wrapping_add(*x);
+        }
+        assert_eq!(rt; (sum, items.len()), (21, 3));
+    }
+    Ok(())
+}
+
+#[test]
+fn one_slot_is_drawn_once(rt: HostRuntime) -> Result<(), Fail> {
+    let items = [5u64, 7, 9].to_vec(rt.alloc())?;
+    let Ok(
+        Drawn {
+            first,
+            second,
+            seen,
+            ending,
+        },
+    ) = draw_twice(rt.alloc(), items, 21)
+    else {
+        panic!(rt; "no memory")
+    };
+    assert_eq!(rt; (first, second, seen, ending.drawn), (Some(1), None, 2, 2));
+    assert_eq!(rt; ending.items.as_slice(), [5, 7, 9].as_slice());
+    Ok(())
+}
+
+#[test]
+fn a_table_may_have_no_slots(rt: HostRuntime) -> Result<(), Fail> {
+    let none = Vec::new(rt.alloc());
+    let Ok(drawn) = draw_twice(rt.alloc(), none, 0) else {
+        panic!(rt; "no memory")
+    };
+    assert_eq!(rt; (drawn.ending.items.len(), drawn.first), (0, Some(1)));
+    Ok(())
+}
+
+#[test]
+fn a_free_slot_is_taken_at_once(rt: HostRuntime) -> Result<(), Fail> {
+    let items = [5u64, 7, 9].to_vec(rt.alloc())?;
+    let Ok((ending, taken)) = take_first(rt.alloc(), items, 21) else {
+        panic!(rt; "no memory")
+    };
+    assert_eq!(rt; (taken, ending.drawn), (Some(5), 0));
+    assert_eq!(rt; ending.items.as_slice(), [0, 7, 9].as_slice());
+    Ok(())
+}
