@@ -9,3 +9,4 @@ pub mod Item
 pub mod Standing
 pub mod Visits
 pub mod Row
+pub mod Table
