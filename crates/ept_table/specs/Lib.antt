@@ -10,3 +10,4 @@ pub mod Standing
 pub mod Visits
 pub mod Row
 pub mod Table
+pub mod Nothing
