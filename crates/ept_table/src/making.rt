@@ -3,14 +3,14 @@
 ghost use Rattle.std.specs.Prelude.{true, None, ◌≡◌, ◌+◌, ◌≤◌, ℕ, [], List, length, min, vec_len, vec_capacity, IfOk, IfErr};
 ghost use Rattle.ept_scan.specs.declared.second_reading.Reader as reader_of;
 ghost use Rattle.ept_node.specs.declared.node.Node as node_of;
-ghost use Rattle.ept_slots.specs.Views.{HoldsNothing, whole};
+ghost use Rattle.ept_slots.specs.Views.{HoldsNothing, first_view, whole};
 ghost use Rattle.ept_slots.specs.Seating.{view};
 ghost use Rattle.ept_forest.specs.Slots.{nodes_of, used_of, IsPlanted};
 ghost use Rattle.ept_sample.specs.SamplingLaws.{CanBeSampled};
 ghost use Rattle.ept_scan.specs.Reader.{drawn_of, refusal_of};
 ghost use Rattle.ept_table.specs.Shown.{IsTold, FitsReader};
 ghost use Rattle.ept_table.specs.declared.item.Item.TheVariants as items;
-ghost use Rattle.ept_table.specs.Steps.{first_seat};
+ghost use Rattle.ept_table.specs.Steps.{first_note};
 ghost use Rattle.ept_table.specs.Tells.{IsLanded, IsEnded};
 ghost use Rattle.ept_table.specs.Item.{seen_reader, IsFiled};
 ghost use Rattle.ept_table.specs.Row.{items_of, row};
@@ -63,7 +63,7 @@ impl<F: SpillFile, S: Source, J: Scan> NodeTable<F, S, J> {
         requires filed { IsFiled S.whole S.left S.given S.faults J.told reader }
         requires rules { rules.now ≡ J.told.rules }
         ensures seat { IfOk result (λ r. IsSeat J.told r.0 r.1) }
-        ensures known { IfOk result (λ r. known S.whole (view r.1) ≡ first_seat J.told whole) }
+        ensures first { IfOk result (λ r. view r.1 ≡ first_view J.told.most (first_note J.told)) }
         ensures slots { IfOk result (λ r. slots_of r.0 ≡ J.told.most + 1) }
         ensures rules { IfOk result (λ r. rules_of r.0 ≡ J.told.rules) }
         ensures forest { IfErr result (λ r. (nodes_of r.forest ≡ nodes_of forest) × (used_of r.forest ≡ used_of forest)) }
