@@ -17,3 +17,4 @@ pub mod Glue
 pub mod Visiting
 pub mod Allowed
 pub mod Rows
+pub mod Planting

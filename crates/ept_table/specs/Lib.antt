@@ -9,3 +9,5 @@ pub mod Item
 pub mod Standing
 pub mod Visits
 pub mod Row
+pub mod Table
+pub mod Nothing

@@ -16,7 +16,7 @@ mod taken;
 pub use done::{Done, Said};
 pub use item::Item;
 pub use laws::{arrival_law, draw_law, end_law, move_law, read_law, seat_law, state_law, take_law};
-pub use making::Unmade;
+pub use making::{Unmade, plant_law};
 pub use note::{Carried, Counted, Draw, Note, Told};
 pub use rule::{Rule, Scan};
 pub use table::{Full, NodeTable, Seat};

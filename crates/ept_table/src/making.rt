@@ -1,15 +1,18 @@
 //! How a table of nodes is made, and how it is closed.
 
-ghost use Rattle.std.specs.Prelude.{◌≡◌, ◌+◌, ◌≤◌, ℕ, [], List, length, min, vec_len, vec_capacity, IfOk, IfErr};
+ghost use Rattle.std.specs.Prelude.{true, None, ◌≡◌, ◌+◌, ◌≤◌, ℕ, [], List, length, min, vec_len, vec_capacity, IfOk, IfErr};
 ghost use Rattle.ept_scan.specs.declared.second_reading.Reader as reader_of;
 ghost use Rattle.ept_node.specs.declared.node.Node as node_of;
-ghost use Rattle.ept_slots.specs.Views.{HoldsNothing, whole};
-ghost use Rattle.ept_slots.specs.Seating.{view, count_of, IsSeatOf};
-ghost use Rattle.ept_forest.specs.Slots.{nodes_of, used_of};
+ghost use Rattle.ept_slots.specs.Views.{HoldsNothing, first_view, whole};
+ghost use Rattle.ept_slots.specs.Seating.{view};
+ghost use Rattle.ept_forest.specs.Slots.{nodes_of, used_of, IsPlanted};
+ghost use Rattle.ept_sample.specs.SamplingLaws.{CanBeSampled};
+ghost use Rattle.ept_scan.specs.Reader.{drawn_of, refusal_of};
+ghost use Rattle.ept_table.specs.Shown.{IsTold, FitsReader};
 ghost use Rattle.ept_table.specs.declared.item.Item.TheVariants as items;
-ghost use Rattle.ept_table.specs.Steps.{first_seat};
+ghost use Rattle.ept_table.specs.Steps.{first_note};
 ghost use Rattle.ept_table.specs.Tells.{IsLanded, IsEnded};
-ghost use Rattle.ept_table.specs.Item.{IsFiled};
+ghost use Rattle.ept_table.specs.Item.{seen_reader, IsFiled};
 ghost use Rattle.ept_table.specs.Row.{items_of, row};
 ghost use Rattle.ept_table.specs.Standing.{known};
 
@@ -21,6 +24,7 @@ use ept_forest::Forest;
 use ept_node::Node;
 use ept_scan::Reader;
 use ept_slots::Slots;
+use ept_space::Rules;
 use std::alloc::Global;
 
 /// There was no memory for a table. The forest and the reader come back.
@@ -42,6 +46,8 @@ struct Laid<F, S> {
 }
 
 impl<F: SpillFile, S: Source, J: Scan> NodeTable<F, S, J> {
+    ghost use Rattle.ept_table.specs.Table.{slots_of, rules_of, IsSeat};
+
     /// A table of the nodes of a forest and a reader, and its first seat. Nothing flies, and no slot is held.
     ///
     /// # Errors
@@ -51,12 +57,15 @@ impl<F: SpillFile, S: Source, J: Scan> NodeTable<F, S, J> {
         alloc: Global,
         forest: Forest<F>,
         reader: Reader<S>,
+        rules: &Rules,
     ) -> Result<(NodeTable<F, S, J>, Seat<F, S>), Unmade<F, S>>
         requires landed { IsLanded J.told (used_of forest) (row S.whole reader (nodes_of forest)) }
         requires filed { IsFiled S.whole S.left S.given S.faults J.told reader }
-        ensures seat { IfOk result (λ r. IsSeatOf (λ _. J.told.most) r.0.slots r.1) }
-        ensures known { IfOk result (λ r. known S.whole (view r.1) ≡ first_seat J.told whole) }
-        ensures slots { IfOk result (λ r. count_of r.0.slots ≡ J.told.most + 1) }
+        requires rules { rules.now ≡ J.told.rules }
+        ensures seat { IfOk result (λ r. IsSeat J.told r.0 r.1) }
+        ensures first { IfOk result (λ r. view r.1 ≡ first_view J.told.most (first_note J.told)) }
+        ensures slots { IfOk result (λ r. slots_of r.0 ≡ J.told.most + 1) }
+        ensures rules { IfOk result (λ r. rules_of r.0 ≡ J.told.rules) }
         ensures forest { IfErr result (λ r. (nodes_of r.forest ≡ nodes_of forest) × (used_of r.forest ≡ used_of forest)) }
         ensures reader { IfErr result (λ r. r.reader ≡ reader) }
     {
@@ -73,7 +82,15 @@ impl<F: SpillFile, S: Source, J: Scan> NodeTable<F, S, J> {
         };
         let Laid { items, spare } = laid;
         match Slots::new(alloc, items, used, most, &()) {
-            Ok((slots, seat)) => Ok((NodeTable { slots, spare, most }, seat)),
+            Ok((slots, seat)) => {
+                let table = NodeTable {
+                    slots,
+                    spare,
+                    most,
+                    rules: *rules,
+                };
+                Ok((table, seat))
+            }
             Err(refused) => {
                 let ept_slots::Refused { items } = refused;
                 Err(given_up(take_apart(Laid { items, spare }), used))
@@ -83,14 +100,19 @@ impl<F: SpillFile, S: Source, J: Scan> NodeTable<F, S, J> {
 
     /// Ends a table, of which this is the last seat, and gives the forest and the reader back. It takes no memory.
     pub fn close(self, seat: Seat<F, S>) -> (Forest<F>, Reader<S>)
-        requires seat { IsSeatOf (λ _. J.told.most) self.slots seat }
+        requires seat { IsSeat J.told self seat }
         requires idle { HoldsNothing (view seat) × ((view seat).parts ≡ whole) }
-        requires slots { count_of self.slots ≡ J.told.most + 1 }
+        requires slots { slots_of self ≡ J.told.most + 1 }
         ensures ended { (drawn : ℕ) × (used_of result.0 ≡ min drawn J.told.most)
             × IsEnded J.told drawn (row S.whole result.1 (nodes_of result.0)) (known S.whole (view seat)) }
         ensures filed { IsFiled S.whole S.left S.given S.faults J.told result.1 }
     {
-        let NodeTable { slots, spare, most } = self;
+        let NodeTable {
+            slots,
+            spare,
+            most,
+            rules: _rules,
+        } = self;
         let ending = slots.close(seat);
         let ept_slots::Ending { items, drawn } = ending;
         let used = if drawn < u64::from(most) {
@@ -102,6 +124,18 @@ impl<F: SpillFile, S: Source, J: Scan> NodeTable<F, S, J> {
         (Forest::from_nodes(nodes, used), reader)
     }
 }
+
+/// With a new forest, and a reader of all points that has drawn none, a table may be made.
+pub fn plant_law<F: SpillFile, S: Source, J: Scan>(forest: &Forest<F>, reader: &Reader<S>)
+    requires told { IsTold J.told }
+    requires points { J.told.tells ≡ true → CanBeSampled J.told.rules J.told.points
+        × (length J.told.points ≡ J.told.total) }
+    requires planted { IsPlanted F.faults F.keeps J.told.most J.told.rules forest.now }
+    requires fits { FitsReader J.told (seen_reader S.whole reader.now) }
+    requires undrawn { drawn_of reader.now ≡ 0 }
+    requires sound { refusal_of reader.now ≡ None }
+    ensures { IsLanded J.told (used_of forest.now) (row S.whole reader.now (nodes_of forest.now)) }
+{}
 
 // The forest of nodes of which so many slots are drawn, and the reader.
 fn given_up<F: SpillFile, S>(apart: Apart<F, S>, used: u32) -> Unmade<F, S>

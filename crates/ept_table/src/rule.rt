@@ -14,12 +14,18 @@ use crate::note::Note;
 use atomic_table::{Join, Split};
 use ept_base::Source;
 use ept_slots::{Draw, Give, Look, Note as Noted, SlotRule, Take};
-use std::marker::PhantomData;
+use std::marker::{Brand, PhantomData};
 
 /// What a table is told: it is known where the table is made, and is no part of the code.
 pub trait Scan {
     /// What the table is told.
     ghost told: { Told };
+}
+
+impl Scan for Brand {
+    ghost use Rattle.ept_table.specs.Nothing.{nothing_told};
+
+    ghost told = { nothing_told };
 }
 
 /// The rule of a table of nodes.

@@ -10,7 +10,7 @@ ghost use Rattle.ept_table.specs.Item.{seen, Filed};
 ghost use Rattle.ept_table.specs.Standing.{known};
 ghost use Rattle.ept_table.specs.Visits.{note_after, Visits};
 ghost use Rattle.ept_slots.specs.Views.{Holds, HoldsNothing, left_of, right_of, both_of};
-ghost use Rattle.ept_slots.specs.Seating.{view, count_of, IsSeatOf};
+ghost use Rattle.ept_slots.specs.Seating.{view, count_of};
 
 use crate::done::{Done, Said};
 use crate::item::Item;
@@ -21,6 +21,7 @@ use crate::rule::{
 use ept_base::Source;
 use ept_node::Node;
 use ept_slots::{SlotSeat, Slots};
+use ept_space::Rules;
 use std::sync::Wait;
 
 /// A token of no bytes with which a worker steps on a table.
@@ -37,18 +38,28 @@ pub struct NodeTable<F, S: Source, J: Scan> {
     // The list that the nodes came in, which is emptied.
     pub(crate) spare: Vec<Node<F>>,
     pub(crate) most: u32,
+    pub(crate) rules: Rules,
     ghost empty: { spare.items ≡ [] },
     ghost room: { count_of slots ≤ vec_capacity spare + 1 },
     ghost limit: { count_of slots ≡ most + 1 },
 }
 
 impl<F, S: Source, J: Scan> NodeTable<F, S, J> {
+    ghost use Rattle.ept_table.specs.Table.{slots_of, rules_of, IsSeat};
+
+    /// The rules of the sampling.
+    pub fn rules(&self) -> &Rules
+        ensures { result.now ≡ rules_of self.now }
+    {
+        &self.rules
+    }
+
     /// Takes what lies in a slot, as soon as that is free. The seat is its holder then.
     pub fn take<H: Wait>(&self, rt: &H, seat: &mut Seat<F, S>, slot: u32) -> Item<F, S>
-        requires seat { IsSeatOf (λ _. J.told.most) self.now.slots seat.old }
+        requires seat { IsSeat J.told self.now seat.old }
         requires idle { HoldsNothing (view seat.old) × (0 < (view seat.old).parts) }
-        requires slot { slot < count_of self.now.slots }
-        ensures seat { IsSeatOf (λ _. J.told.most) self.now.slots seat.new }
+        requires slot { slot < slots_of self.now }
+        ensures seat { IsSeat J.told self.now seat.new }
         ensures holds { Holds (view seat.new) slot result }
         ensures known { known S.whole (view seat.new) ≡ holding (known S.whole (view seat.old)) slot (seen S.whole result) }
         ensures fits { Fits J.told (known S.whole (view seat.old)) slot (seen S.whole result) }
@@ -61,12 +72,12 @@ impl<F, S: Source, J: Scan> NodeTable<F, S, J> {
     /// Gives an item back into the slot that the seat holds, and frees the slot. What the visit did comes back, with the
     /// flights that leave.
     pub fn give(&self, seat: &mut Seat<F, S>, slot: u32, item: Item<F, S>, done: Done) -> Done
-        requires seat { IsSeatOf (λ _. J.told.most) self.now.slots seat.old }
+        requires seat { IsSeat J.told self.now seat.old }
         requires visit { (x : item_of.Item F S) × Holds (view seat.old) slot x
             × Visits J.told (known S.whole (view seat.old)) slot (seen S.whole x) (seen S.whole item) done }
-        requires slot { slot < count_of self.now.slots }
+        requires slot { slot < slots_of self.now }
         requires filed { Filed S.whole S.left S.given S.faults J.told item }
-        ensures seat { IsSeatOf (λ _. J.told.most) self.now.slots seat.new }
+        ensures seat { IsSeat J.told self.now seat.new }
         ensures known { known S.whole (view seat.new)
             ≡ given_back (known S.whole (view seat.old)) (note_after (view seat.old).note (seen S.whole item) done) }
         ensures done { result ≡ done }
@@ -84,12 +95,12 @@ impl<F, S: Source, J: Scan> NodeTable<F, S, J> {
     /// `Full` where all slots are drawn. Where files and sources tell, the sampling of the points up to the end of the
     /// allowance has more nodes then than there may be.
     pub fn draw_slot(&self, seat: &mut Seat<F, S>, slot: u32, octant: u8) -> Result<u32, Full>
-        requires seat { IsSeatOf (λ _. J.told.most) self.now.slots seat.old }
+        requires seat { IsSeat J.told self.now seat.old }
         requires may { (x : item_of.Item F S) × Holds (view seat.old) slot x
             × MayDraw J.told (known S.whole (view seat.old)) slot (seen S.whole x) octant }
-        requires slot { slot < count_of self.now.slots }
+        requires slot { slot < slots_of self.now }
         requires share { (view seat.old).refused < (view seat.old).parts }
-        ensures seat { IsSeatOf (λ _. J.told.most) self.now.slots seat.new }
+        ensures seat { IsSeat J.told self.now seat.new }
         ensures ok { IfOk result (λ n. (0 < n) × (n ≤ J.told.most) × (known S.whole (view seat.new)
             ≡ noting (known S.whole (view seat.old)) (drawing (wishing (view seat.old).note octant) n))) }
         ensures full { OnErr result (known S.whole (view seat.new)
@@ -107,8 +118,8 @@ impl<F, S: Source, J: Scan> NodeTable<F, S, J> {
 
     /// Looks at the table. Where files and sources tell, it and its seats show a state that keeps the law of the machine.
     pub fn look(&self, seat: &mut Seat<F, S>)
-        requires { IsSeatOf (λ _. J.told.most) self.now.slots seat.old }
-        ensures seat { IsSeatOf (λ _. J.told.most) self.now.slots seat.new }
+        requires { IsSeat J.told self.now seat.old }
+        ensures seat { IsSeat J.told self.now seat.new }
         ensures same { known S.whole (view seat.new) ≡ known S.whole (view seat.old) }
         ensures law { J.told.tells ≡ true → ShowsLaw J.told (known S.whole (view seat.old)) }
     {
@@ -118,9 +129,9 @@ impl<F, S: Source, J: Scan> NodeTable<F, S, J> {
     /// Abandons the flights of a seat, which the seat that ends it takes over. Where one has no slot there may not be as
     /// many nodes as the sampling has, where files and sources tell.
     pub fn abandon(&self, seat: &mut Seat<F, S>)
-        requires seat { IsSeatOf (λ _. J.told.most) self.now.slots seat.old }
+        requires seat { IsSeat J.told self.now seat.old }
         requires idle { HoldsNothing (view seat.old) × (0 < (view seat.old).parts) }
-        ensures seat { IsSeatOf (λ _. J.told.most) self.now.slots seat.new }
+        ensures seat { IsSeat J.told self.now seat.new }
         ensures known { known S.whole (view seat.new)
             ≡ noting (known S.whole (view seat.old)) (abandoned (view seat.old).note) }
         ensures too_many { lacks_slot (view seat.old).note.flights ≡ true → IsTooMany J.told }
@@ -130,10 +141,10 @@ impl<F, S: Source, J: Scan> NodeTable<F, S, J> {
 
     /// A new seat without flights, with half of the share of this one.
     pub fn split(&self, seat: &mut Seat<F, S>) -> Seat<F, S>
-        requires seat { IsSeatOf (λ _. J.told.most) self.now.slots seat.old }
+        requires seat { IsSeat J.told self.now seat.old }
         requires share { (1 < (view seat.old).parts) × ((view seat.old).refused ≡ 0) }
-        ensures seat { IsSeatOf (λ _. J.told.most) self.now.slots seat.new }
-        ensures new_seat { IsSeatOf (λ _. J.told.most) self.now.slots result }
+        ensures seat { IsSeat J.told self.now seat.new }
+        ensures new_seat { IsSeat J.told self.now result }
         ensures left { view seat.new ≡ left_of (view seat.old) (view seat.old).note }
         ensures right { view result ≡ right_of (view seat.old) (beginning (view seat.old).note) }
     {
@@ -143,12 +154,12 @@ impl<F, S: Source, J: Scan> NodeTable<F, S, J> {
     /// Ends a seat that holds no slot and carries no flight. This one has its share, and takes over its abandoned flights
     /// and its notes of refusals.
     pub fn join(&self, seat: &mut Seat<F, S>, other: Seat<F, S>)
-        requires seat { IsSeatOf (λ _. J.told.most) self.now.slots seat.old }
-        requires other { IsSeatOf (λ _. J.told.most) self.now.slots other }
+        requires seat { IsSeat J.told self.now seat.old }
+        requires other { IsSeat J.told self.now other }
         requires share { 0 < (view seat.old).parts }
         requires idle { HoldsNothing (view other) }
         requires landed { (view other).note.flights ≡ [] }
-        ensures seat { IsSeatOf (λ _. J.told.most) self.now.slots seat.new }
+        ensures seat { IsSeat J.told self.now seat.new }
         ensures both { view seat.new ≡ both_of (view seat.old) (view other) (together (view seat.old).note (view other).note) }
     {
         self.slots.join::<Joining<J>>(seat, other);

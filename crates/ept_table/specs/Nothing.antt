@@ -1,0 +1,14 @@
+-- A table that is told nothing: no node, no input and no point.
+use Rattle.std.specs.Prelude.{false, []}
+use Rattle.ept_table.specs.declared.note.Told.{Told}
+
+abbrev pub nothing_told : Told
+nothing_told = record {
+  rules = record { cube = record { corner = []; e = 0; s = 0; depth = 0 }; threshold = 0 };
+  points = [];
+  most = 0;
+  end = 0;
+  total = 0;
+  inputs = [];
+  tells = false;
+}
