@@ -50,7 +50,7 @@ fn cubes_of_bounds(rt: HostRuntime) {
 }
 
 #[test]
-#[tactic(auto, unfolding(crate::specs::OctreeCube::InCube))]
+#[tactic(auto, unfolding(ept_space::specs::OctreeCube::InCube))]
 fn places_of_a_small_cube(rt: HostRuntime) {
     let cube = small_cube();
     assert_eq!(rt; centre_distance(&cube, 0, [1, 1, 1]), 12);
@@ -61,7 +61,7 @@ fn places_of_a_small_cube(rt: HostRuntime) {
 }
 
 #[test]
-#[tactic(auto, unfolding(crate::specs::OctreeCube::InBox))]
+#[tactic(auto, unfolding(ept_space::specs::OctreeCube::InBox))]
 fn boxes_of_a_small_cube(rt: HostRuntime) {
     let cube = small_cube();
     let root = Key::ROOT;
