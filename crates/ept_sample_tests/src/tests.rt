@@ -20,8 +20,27 @@ struct Case<'a> {
 // A point of which only the id and the place matter.
 fn point(origin: u32, number: u32, place: [i32; 3]) -> Point {
     Point {
+        x: place[0],
+        y: place[1],
+        z: place[2],
+        intensity: 0,
+        return_number: 1,
+        number_of_returns: 1,
+        scan_direction: 0,
+        edge: 0,
+        class: 0,
+        class_flags: 0,
+        channel: 0,
+        angle_rank: 0,
+        angle: 0,
+        user: 0,
+        source_id: 0,
+        gps: [0; 8],
+        red: 0,
+        green: 0,
+        blue: 0,
         origin,
-        ..ept_fixtures::point(number, place)
+        number,
     }
 }
 

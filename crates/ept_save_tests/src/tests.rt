@@ -69,8 +69,27 @@ pub(crate) fn packed_body(
 // A point of the first input.
 pub(crate) fn point(number: u32, place: [i32; 3], intensity: u16) -> Point {
     Point {
+        x: place[0],
+        y: place[1],
+        z: place[2],
         intensity,
-        ..ept_fixtures::point(number, place)
+        return_number: 1,
+        number_of_returns: 1,
+        scan_direction: 0,
+        edge: 0,
+        class: 0,
+        class_flags: 0,
+        channel: 0,
+        angle_rank: 0,
+        angle: 0,
+        user: 0,
+        source_id: 0,
+        gps: [0; 8],
+        red: 0,
+        green: 0,
+        blue: 0,
+        origin: 0,
+        number,
     }
 }
 
