@@ -29,17 +29,12 @@ fn shelf(alloc: Global) -> Result<MemShelf, AllocError> {
     let mut files = Vec::new(alloc);
     let first: [&[u8]; 3] = [&at(1, 1, 1), &at(2, 2, 2), &at(3, 3, 3)];
     let second: [&[u8]; 3] = [&at(1, 1, 1), &at(6, 6, 6), &at(5, 5, 5)];
-    let third: [&[u8]; 1] = [&at(0, 7, 0)];
+    files.push(file(alloc, "a.las", las(alloc, &FIRST, &first)?)?)?;
+    files.push(file(alloc, "b.las", las(alloc, &FIRST, &second)?)?)?;
+    files.push(file(alloc, "c.las", las(alloc, &FIRST, &[&at(0, 7, 0)])?)?)?;
     let one = at(1, 1, 1);
-    let fourth: [&[u8]; 5] = [&one, &one, &one, &one, &one];
-    for (name, records) in [
-        ("a.las", first.as_slice()),
-        ("b.las", second.as_slice()),
-        ("c.las", third.as_slice()),
-        ("d.las", fourth.as_slice()),
-    ] {
-        files.push(file(alloc, name, las(alloc, &FIRST, records)?)?)?;
-    }
+    let five: [&[u8]; 5] = [&one, &one, &one, &one, &one];
+    files.push(file(alloc, "d.las", las(alloc, &FIRST, &five)?)?)?;
     Ok(MemShelf::new(alloc, files, Vec::new(alloc), Vec::new(alloc)))
 }
 
