@@ -106,13 +106,9 @@ pub(crate) fn file(
 fn store_of(alloc: Global, a: &[u8], b: &[u8], has_b: bool) -> Result<MemStore, AllocError> {
     let body = body(alloc)?;
     let mut files = Vec::new(alloc);
-    for (name, bytes) in [
-        ("ept-work/gate-a", a),
-        ("ept-work/gate-b", b),
-        ("ept-work/body-a", &body),
-    ] {
-        files.push(file(alloc, name, bytes)?)?;
-    }
+    files.push(file(alloc, "ept-work/gate-a", a)?)?;
+    files.push(file(alloc, "ept-work/gate-b", b)?)?;
+    files.push(file(alloc, "ept-work/body-a", &body)?)?;
     if has_b {
         files.push(file(alloc, "ept-work/body-b", &body)?)?;
     }
