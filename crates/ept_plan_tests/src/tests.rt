@@ -76,15 +76,16 @@ fn fresh(alloc: Global) -> Result<Saved, Fail> {
 
 // A folder with the checkpoint of `a.las`, or of this and `b.las`.
 fn saved(alloc: Global, has_other: bool) -> Result<Saved, Fail> {
-    let (inputs, other) = if has_other {
-        ([2, 0, 0, 0], NO_POINTS)
+    let mut body = Vec::from_slice(alloc, SETTINGS)?;
+    if has_other {
+        body.extend_from_slice(b"\x02\0\0\0")?;
+        body.extend_from_slice(TWO_POINTS)?;
+        body.extend_from_slice(NO_POINTS)?;
     } else {
-        ([1, 0, 0, 0], b"".as_slice())
-    };
-    let mut body = Vec::new(alloc);
-    for piece in [SETTINGS, &inputs, TWO_POINTS, other, INSERTED] {
-        body.extend_from_slice(piece)?;
+        body.extend_from_slice(b"\x01\0\0\0")?;
+        body.extend_from_slice(TWO_POINTS)?;
     }
+    body.extend_from_slice(INSERTED)?;
     let mut files = Vec::new(alloc);
     files.push(file(alloc, "ept-work/gate-a", &[1])?)?;
     files.push(file(alloc, "ept-work/body-a", &body)?)?;
