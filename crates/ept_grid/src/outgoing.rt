@@ -100,6 +100,14 @@ impl Lane {
     {
         self.points.clear();
     }
+
+    // Takes the points with their place in memory.
+    fn take(&mut self, alloc: Global) -> Vec<Point>
+        ensures taken { result.items ≡ self.old.points }
+        ensures none { self.new.points ≡ [] }
+    {
+        std::mem::replace(&mut self.points, Vec::new(alloc))
+    }
 }
 
 /// The points that leave a node: a list for each octant.
@@ -250,6 +258,16 @@ impl Outgoing {
             lane.reserve(more)?;
         }
         Ok(())
+    }
+
+    /// Takes the points that leave for an octant, with their place in memory. It takes no memory.
+    pub fn take(&mut self, alloc: Global, octant: u8) -> Vec<Point>
+        requires { octant < OCTANTS }
+        ensures taken { result.items ≡ points_at self.old octant }
+        ensures none { points_at self.new octant ≡ [] }
+        ensures others { (o : ℕ) → o ≢ octant → points_at self.new o ≡ points_at self.old o }
+    {
+        self.lanes[octant as usize].take(alloc)
     }
 
     /// Takes the points away. The room stays, and this takes no memory.
