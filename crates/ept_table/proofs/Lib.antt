@@ -18,3 +18,4 @@ pub mod Visiting
 pub mod Allowed
 pub mod Rows
 pub mod Planting
+pub mod Inside

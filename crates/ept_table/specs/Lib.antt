@@ -11,3 +11,4 @@ pub mod Visits
 pub mod Row
 pub mod Table
 pub mod Nothing
+pub mod Scanned

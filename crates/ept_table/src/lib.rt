@@ -10,6 +10,7 @@ mod laws;
 mod making;
 mod note;
 mod rule;
+mod scanned;
 mod table;
 mod taken;
 
@@ -19,5 +20,6 @@ pub use laws::{arrival_law, draw_law, end_law, move_law, read_law, seat_law, sta
 pub use making::{Unmade, plant_law};
 pub use note::{Carried, Counted, Draw, Note, Told};
 pub use rule::{Rule, Scan};
+pub use scanned::scanned_law;
 pub use table::{Full, NodeTable, Seat};
 pub use taken::{Cell, Progress, Taken};
