@@ -1,0 +1,10 @@
+use Rattle.std.proofs.Common.{sym, subst, List}
+use Rattle.std.specs.Prelude.{All}
+use Rattle.ept_config.specs.declared.source_count.SourceCount.{SourceCount}
+use Rattle.ept_scan.specs.Opening.{IsFileOf}
+use Rattle.ept_scan.specs.Reader.{files_of}
+use Rattle.ept_table_fixtures.proofs.seating.seated.Goals as goal
+
+pub scanned_law-requires-clause-files : goal.scanned_law-requires-clause-files
+scanned_law-requires-clause-files g c =
+    subst (λ (w : List SourceCount). All (IsFileOf c.args.known.kept w) (files_of g.S.Source.whole c.args.known.reader)) (sym c.as_slice.ensures) c.requires.known.files

@@ -1,0 +1,93 @@
+//! Tables that give back what they were made of.
+
+ghost use Rattle.std.specs.Prelude.{◌≤◌};
+
+use crate::session::{Found, Left, session};
+use ept_forest::{Forest, Full};
+use ept_mem::{MemRoom, MemSource, MemSpill};
+use ept_space::Key;
+use ept_table_fixtures::{read_known, shelf_of};
+use std::fmt::Debug;
+use std::marker::Brand;
+use std::process::Abort;
+use std::test::Fail;
+
+// What `assert_eq!` writes is proved wherever it stands, so it stands here once.
+fn same<T: PartialEq + Debug>(rt: &impl Abort, found: &T, wanted: &T) {
+    assert_eq!(rt; found, wanted);
+}
+
+const CONFIG: &str = r#"{"input":"a.las","scale":0,"bounds":[0,0,0,7,7,7],"span":2,"minNodeSize":0,"maxDepth":2}"#;
+
+// What a session at a table of so many nodes found, how many slots were drawn then, what a further draw gave, and the
+// places of the points that the reader gave after it.
+#[derive(Drop)]
+struct Visited {
+    found: Option<[Found; 4]>,
+    used: u32,
+    more: Result<u32, Full>,
+    places: Vec<[i32; 3]>,
+}
+
+fn visited(rt: &HostRuntime, most: u32, places: &[[i32; 3]]) -> Result<Visited, Fail>
+    requires { 1 ≤ most }
+{
+    let alloc = rt.alloc();
+    let mut shelf = shelf_of(alloc, places)?;
+    let mut room = MemRoom::new(alloc, Vec::new(alloc), Vec::new(alloc));
+    let Some(known) = read_known(alloc, &mut shelf, CONFIG, 9) else {
+        return Err(Fail::new("no reader"));
+    };
+    let forest = match Forest::new(alloc, &mut room, most, &known.rules) {
+        Ok(forest) => forest,
+        Err(refused) => {
+            known.reader.retire_all(&mut shelf);
+            return Err(refused.into());
+        }
+    };
+    let Left {
+        mut forest,
+        mut reader,
+        found,
+    } = session::<MemSpill, MemSource, Brand, HostRuntime>(rt, alloc, forest, known, most);
+    let used = forest.used();
+    let more = forest.add();
+    let mut points = Vec::new(alloc);
+    let read = reader.next_batch(9, &mut points);
+    forest.retire_all(&mut room);
+    reader.retire_all(&mut shelf);
+    read?;
+    let mut places = Vec::new(alloc);
+    for point in points.as_slice() {
+        places.push([point.x, point.y, point.z])?;
+    }
+    Ok(Visited {
+        found,
+        used,
+        more,
+        places,
+    })
+}
+
+#[test]
+fn a_table_gives_back_what_it_was_made_of(rt: HostRuntime) -> Result<(), Fail> {
+    let reader = Found::Reader { drawn: 0 };
+    let root = Found::Node {
+        key: Key::ROOT,
+        count: 0,
+        opened: 0,
+    };
+    let some = [[1, 1, 1], [1, 1, 5], [5, 5, 5]];
+    for (most, places, last, more) in [
+        (1, [].as_slice(), root, Err(Full)),
+        (3, [].as_slice(), Found::Blank, Ok(2)),
+        (1, some.as_slice(), root, Err(Full)),
+        (3, some.as_slice(), Found::Blank, Ok(2)),
+    ] {
+        let visited = visited(&rt, most, places)?;
+        same(&rt, &visited.found, &Some([reader, root, last, root]));
+        same(&rt, &(visited.used, visited.more), &(1, more));
+        same(&rt, &visited.places.as_slice(), &places);
+    }
+    Ok(())
+}
