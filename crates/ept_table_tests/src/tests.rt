@@ -6,10 +6,12 @@ use crate::session::{Found, Left, session};
 use ept_forest::{Forest, Full};
 use ept_mem::{MemRoom, MemSource, MemSpill};
 use ept_space::Key;
-use ept_table_fixtures::{read_known, shelf_of};
+use ept_table_fixtures::{Known, read_known, shelf_of};
+use std::alloc::Global;
 use std::fmt::Debug;
 use std::marker::Brand;
 use std::process::Abort;
+use std::sync::Wait;
 use std::test::Fail;
 
 // What `assert_eq!` writes is proved wherever it stands, so it stands here once.
@@ -17,7 +19,8 @@ fn same<T: PartialEq + Debug>(rt: &impl Abort, found: &T, wanted: &T) {
     assert_eq!(rt; found, wanted);
 }
 
-const CONFIG: &str = r#"{"input":"a.las","scale":0,"bounds":[0,0,0,7,7,7],"span":2,"minNodeSize":0,"maxDepth":2}"#;
+const CONFIG: &str =
+    r#"{"input":"a.las","scale":0,"bounds":[0,0,0,7,7,7],"span":2,"minNodeSize":0,"maxDepth":2}"#;
 
 // What a session at a table of so many nodes found, how many slots were drawn then, what a further draw gave, and the
 // places of the points that the reader gave after it.
@@ -29,10 +32,14 @@ struct Visited {
     places: Vec<[i32; 3]>,
 }
 
-fn visited(rt: &HostRuntime, most: u32, places: &[[i32; 3]]) -> Result<Visited, Fail>
+fn hold_session<H: Wait>(
+    rt: &H,
+    alloc: Global,
+    most: u32,
+    places: &[[i32; 3]],
+) -> Result<Visited, Fail>
     requires { 1 ≤ most }
 {
-    let alloc = rt.alloc();
     let mut shelf = shelf_of(alloc, places)?;
     let mut room = MemRoom::new(alloc, Vec::new(alloc), Vec::new(alloc));
     let Some(known) = read_known(alloc, &mut shelf, CONFIG, 9) else {
@@ -41,7 +48,14 @@ fn visited(rt: &HostRuntime, most: u32, places: &[[i32; 3]]) -> Result<Visited, 
     let forest = match Forest::new(alloc, &mut room, most, &known.rules) {
         Ok(forest) => forest,
         Err(refused) => {
-            known.reader.retire_all(&mut shelf);
+            let Known {
+                reader,
+                rules: _,
+                kept: _,
+                counts: _,
+                points: _,
+            } = known;
+            reader.retire_all(&mut shelf);
             return Err(refused.into());
         }
     };
@@ -49,7 +63,7 @@ fn visited(rt: &HostRuntime, most: u32, places: &[[i32; 3]]) -> Result<Visited, 
         mut forest,
         mut reader,
         found,
-    } = session::<MemSpill, MemSource, Brand, HostRuntime>(rt, alloc, forest, known, most);
+    } = session::<MemSpill, MemSource, Brand, H>(rt, alloc, forest, known, most);
     let used = forest.used();
     let more = forest.add();
     let mut points = Vec::new(alloc);
@@ -69,25 +83,39 @@ fn visited(rt: &HostRuntime, most: u32, places: &[[i32; 3]]) -> Result<Visited, 
     })
 }
 
+const READER: Found = Found::Reader { drawn: 0 };
+
+const ROOT: Found = Found::Node {
+    key: Key::ROOT,
+    count: 0,
+    opened: 0,
+};
+
+// At a table of so many nodes the last slot has this, and a further draw gives that.
+fn expect_session<H: Wait + Abort>(
+    rt: &H,
+    alloc: Global,
+    most: u32,
+    places: &[[i32; 3]],
+    last: Found,
+    more: Result<u32, Full>,
+) -> Result<(), Fail>
+    requires { 1 ≤ most }
+{
+    let visited = hold_session(rt, alloc, most, places)?;
+    same(rt, &visited.found, &Some([READER, ROOT, last, ROOT]));
+    same(rt, &visited.used, &1);
+    same(rt, &visited.more, &more);
+    same(rt, &visited.places.as_slice(), &places);
+    Ok(())
+}
+
 #[test]
 fn a_table_gives_back_what_it_was_made_of(rt: HostRuntime) -> Result<(), Fail> {
-    let reader = Found::Reader { drawn: 0 };
-    let root = Found::Node {
-        key: Key::ROOT,
-        count: 0,
-        opened: 0,
-    };
+    let alloc = rt.alloc();
     let some = [[1, 1, 1], [1, 1, 5], [5, 5, 5]];
-    for (most, places, last, more) in [
-        (1, [].as_slice(), root, Err(Full)),
-        (3, [].as_slice(), Found::Blank, Ok(2)),
-        (1, some.as_slice(), root, Err(Full)),
-        (3, some.as_slice(), Found::Blank, Ok(2)),
-    ] {
-        let visited = visited(&rt, most, places)?;
-        same(&rt, &visited.found, &Some([reader, root, last, root]));
-        same(&rt, &(visited.used, visited.more), &(1, more));
-        same(&rt, &visited.places.as_slice(), &places);
-    }
-    Ok(())
+    expect_session(&rt, alloc, 1, &[], ROOT, Err(Full))?;
+    expect_session(&rt, alloc, 3, &[], Found::Blank, Ok(2))?;
+    expect_session(&rt, alloc, 1, &some, ROOT, Err(Full))?;
+    expect_session(&rt, alloc, 3, &some, Found::Blank, Ok(2))
 }
