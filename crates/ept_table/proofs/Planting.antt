@@ -1,6 +1,6 @@
 -- A new forest, and a reader of all points.
 use Rattle.std.proofs.Common.{◌≡◌, ◌∙◌, ℕ, zero, suc, ◌+◌, ◌<◌, true, List, [], ◌∷◌, map, length, slice_index, refl, sym, ap, subst, arith, Option, None}
-use Rattle.ept_space.specs.VoxelKey.{VoxelKey, root}
+use Rattle.ept_space.specs.VoxelKey.{root}
 use Rattle.ept_sample.specs.SamplingLaws.{CanBeSampled}
 use Rattle.ept_sample.proofs.Members.{all-member}
 use Rattle.ept_scan.specs.declared.second_reading.Reader.{Reader}
