@@ -18,3 +18,7 @@ pub mod Visiting
 pub mod Allowed
 pub mod Rows
 pub mod Planting
+mod ByKey
+mod LandedNodes
+mod ResumedNodes
+mod GoingOn

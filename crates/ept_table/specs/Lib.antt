@@ -11,3 +11,5 @@ pub mod Visits
 pub mod Row
 pub mod Table
 pub mod Nothing
+pub mod Octree
+pub mod OctreeLaws
