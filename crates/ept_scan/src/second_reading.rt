@@ -65,6 +65,7 @@ impl<S: Source> Reader<S> {
         ensures allowed { allowed_of self.new
             ≡ allowed_of self.old - (if is_ok result then batch_of n self.old else 0) }
         ensures left { OnOk result (left_of self.new + batch_of n self.old ≡ left_of self.old) }
+        ensures left_unchanged { OnErr result (left_of self.new ≡ left_of self.old) }
         ensures points { OnOk result
             ((points : List at.Point) × (out.new.items ≡ out.old.items ++ points)
             × (length points ≡ batch_of n self.old) × All (LiesIn (files_of S.whole self.old)) points) }

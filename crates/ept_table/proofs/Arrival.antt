@@ -1,5 +1,5 @@
 -- A flight has arrived at its node.
-use Rattle.std.proofs.Common.{◌≡◌, ◌∙◌, ℕ, ◌+◌, ◌<◌, ◌≤◌, true, false, ◌⊎◌, inl, inr, List, [], ◌∷◌, ◌++◌, map, length, set, refl, sym, ap, subst, arith, Some, None, sum_by}
+use Rattle.std.proofs.Common.{◌≡◌, ◌∙◌, ℕ, suc, ◌+◌, ◌<◌, ◌≤◌, true, false, ◌⊎◌, inl, inr, List, [], ◌∷◌, ◌++◌, map, length, set, refl, sym, ap, subst, arith, Some, None, sum_by}
 use Rattle.std.specs.List.{remove}
 use Rattle.std.specs.List.Sorted.{IsPermutation}
 use Rattle.std.proofs.lemmas.List.{append-nil, map-append}
@@ -388,7 +388,7 @@ module _ (told : Told) (drawn : ℕ) (items : List Taken) (views : List View) (i
       elim (h.tree.lands i v c at c_among (omega (arith, goes_there, is_node))) [
         | inl top ↦ (
             let first : k ≡ 1 = sym goes_there ∙ top in
-            let root_key : f.key ≡ root = key-same h.keys 1 f.key root (subst (λ (n : ℕ). KeyOf h.keys n f.key) first its_key) h.tree.first in
+            let root_key : f.key ≡ root = key-same h.keys 1 f.key root (subst (λ (n : ℕ). KeyOf h.keys n f.key) first its_key) (h.tree.first 0 root h.is_told.top) in
             child-root is.parent d.octant (sym key ∙ root_key))
         | inr b ↦ (
             let both : child b.cell.node.key b.octant ≡ child is.parent d.octant = b.key_is ∙ key in
@@ -411,11 +411,11 @@ module _ (told : Told) (drawn : ℕ) (items : List Taken) (views : List View) (i
     opens = r.opens;
   }
 
-  rooted_now : (d : Cell) × At next_items 1 (Standing d)
-  rooted_now =
-      elim (same_or_not 1 k) [
+  stands_still : (n : ℕ) (key : VoxelKey) → At told.begun n key → (d : Cell) × At next_items (suc n) (Standing d)
+  stands_still n key b =
+      elim (same_or_not (suc n) k) [
         | inl same ↦ (y, subst (λ (n : ℕ). At next_items n (Standing y)) (sym same) now)
-        | inr apart ↦ (h.tree.rooted.0, at-other k (Standing y) h.tree.rooted.1 apart)
+        | inr apart ↦ let r = h.tree.rooted n key b in (r.0, at-other k (Standing y) r.1 apart)
       ]
 
   next_tree : Tree told drawn h.keys next_items next_views
@@ -423,7 +423,7 @@ module _ (told : Told) (drawn : ℕ) (items : List Taken) (views : List View) (i
     counted = h.tree.counted;
     first = h.tree.first;
     distinct = h.tree.distinct;
-    rooted = rooted_now;
+    rooted = stands_still;
     undrawn = λ j z a far. elim (set-at items k (Standing y) a) [ inl s ↦ absurd (let low = key-low h.keys k f.key its_key in omega (arith, low.1, far, s.0)) | inr o ↦ h.tree.undrawn j z o.1 far ];
     carried = λ j u g a m. each (λ u. IsMember g u.note.flights → HasSlot told drawn h.keys g.slot g.flight.key) (carried_mine g) (λ j u apart a m. h.tree.carried j u g a m) j u a m;
     lands = λ j u g a m some. each (λ u. IsMember g u.note.flights → (g.slot ≡ 1) ⊎ IsChild next_items g.slot g.flight.key) (λ m. lands_mine g m some) (λ j u apart a m. lands_there g (h.tree.lands j u g a m some)) j u a m;

@@ -29,7 +29,7 @@ use Rattle.ept_table.specs.Taken.{count_of, slot_at}
 use Rattle.ept_table.specs.Shown.{KeyOf, IsTold, IsSound, Shows}
 use Rattle.ept_table.specs.Steps.{IsPlanted}
 use Rattle.ept_table.specs.Tells.{IsLanded}
-use Rattle.ept_table.proofs.Lists.{at-same, at-rest, at-next, at-zero, nothing-at}
+use Rattle.ept_table.proofs.Lists.{at-same, at-head, at-rest, at-next, at-zero, nothing-at}
 
 -- where each has none there are none
 none_in_all : {X : Type 0} (f : X → ℕ) (xs : List X) → ((i : ℕ) (x : X) → At xs i x → f x ≡ 0) → sum_by f xs ≡ 0
@@ -59,6 +59,10 @@ one_key (suc (suc i)) key m = absurd (nothing-at (at-rest root [] i key m))
 root_key : KeyOf (root ∷ []) 1 root
 unfolding KeyOf
 root_key = at-zero root []
+
+one_there : (i : ℕ) (key : VoxelKey) → At (root ∷ []) i key → (i ≡ 0) × (root ≡ key)
+one_there zero key a = (refl, at-head a)
+one_there (suc i) key a = absurd (nothing-at (at-rest root [] i key a))
 
 root_alone : (e : core.Node) (key : VoxelKey) → has_node ((root, e) ∷ []) key ≡ true → root ≡ key
 root_alone e key is =
@@ -139,6 +143,19 @@ module _ (told : Told) (items : List Taken) (r : Progress) (top : Cell) (is_told
     total = (p.points tells).1;
   }
 
+  -- the root is the one node that stands
+  alone : (i : ℕ) (key : VoxelKey) → At told.begun i key → (i ≡ 0) × (root ≡ key)
+  alone i key b = one_there i key (subst (λ (keys : List VoxelKey). At keys i key) p.begun b)
+
+  first_key : (i : ℕ) (key : VoxelKey) → At told.begun i key → KeyOf (root ∷ []) (suc i) key
+  first_key i key b =
+      let one = alone i key b in
+      subst (λ (n : ℕ). KeyOf (root ∷ []) (suc n) key) (sym one.0) (subst (λ (k : VoxelKey). KeyOf (root ∷ []) 1 k) one.1 root_key)
+
+  first_stands : (i : ℕ) (key : VoxelKey) → At told.begun i key → (c : Cell) × At items (suc i) (Standing c)
+  first_stands i key b =
+      (top, subst (λ (n : ℕ). At items (suc n) (Standing top)) (sym (alone i key b).0) p.at_top)
+
   pub beginning-landed : IsLanded told 1 items
   beginning-landed = record {
     keys = root ∷ [];
@@ -166,9 +183,9 @@ module _ (told : Told) (items : List Taken) (r : Progress) (top : Cell) (is_told
     };
     tree = record {
       counted = omega (arith, is_told.some);
-      first = root_key;
+      first = first_key;
       distinct = λ j k key a b. one_key j key a ∙ sym (one_key k key b);
-      rooted = (top, p.at_top);
+      rooted = first_stands;
       undrawn = λ k x a more. p.blank k x a (omega (arith, more));
       carried = λ i v c a. absurd (nothing-at a);
       lands = λ i v c a. absurd (nothing-at a);

@@ -128,9 +128,11 @@ module _ (told : Told) (drawn : ℕ) (items : List Taken) (views : List View) (i
 
   pub last-seat-tells : IsEnded told drawn items v
   last-seat-tells = record {
+    size = h.base.size;
     reader = h.reader;
     at_first = h.base.at_first;
     fits = h.base.fits;
+    given = h.base.given i v at;
     failed = λ e is. failure_mine e (h.base.failed e is);
     noted = λ e m. h.base.noted i v e at m;
     landed = landed;

@@ -7,6 +7,7 @@ use Rattle.ept_point.specs.declared.point.Point.{Point}
 use Rattle.ept_space.specs.declared.bounds.Bounds.{Bounds}
 use Rattle.ept_space.specs.OctreeCube.{OctreeCube, InCube}
 use Rattle.ept_space.specs.CubeOfBounds.{InBounds, IsInside, IsCubeOf}
+use Rattle.ept_space.specs.VoxelKey.{root}
 use Rattle.ept_space.proofs.Extents.{InCube-bounds}
 use Rattle.ept_sample.specs.Place.{place}
 use Rattle.ept_sample.proofs.Members.{member-map, all-member}
@@ -20,6 +21,7 @@ use Rattle.ept_scan.specs.Reader.{files_of}
 use Rattle.ept_scan.specs.Queue.{Held}
 use Rattle.ept_table.specs.declared.note.Counted.{Counted}
 use Rattle.ept_table.specs.declared.note.Told.{Told}
+use Rattle.ept_table.specs.At.{At}
 use Rattle.ept_table.specs.Shown.{LiesInInput, IsTold, FitsReader}
 use Rattle.ept_table.specs.Item.{counted, seen_reader}
 use Rattle.ept_table.specs.Scanned.{told_of}
@@ -44,7 +46,7 @@ counted_inside kept counts files cube of_bounds sound known p lies =
     let extent : file.count.extent ≡ Some lies.extent = sym file.reads.limits_are ∙ limits in
     InCube-bounds kept.bounds kept.s kept.max_depth cube (place p) of_bounds (inside_within kept.bounds lies.extent p (count.inside lies.extent extent) lies.within)
 
-module _ {S : Type 0} (whole : S → Option (List ℕ)) (told : Told) (reader : Reader S) (is : told ≡ told_of whole reader told.rules told.most told.tells told.points) where
+module _ {S : Type 0} (whole : S → Option (List ℕ)) (told : Told) (reader : Reader S) (is : told ≡ told_of whole reader told.rules told.most told.begun told.tells told.points) where
   pub scanned-fits : FitsReader told (seen_reader whole reader)
   scanned-fits = record {
     inputs = ap (λ (t : Told). t.inputs) (sym is);
@@ -52,8 +54,9 @@ module _ {S : Type 0} (whole : S → Option (List ℕ)) (told : Told) (reader : 
     total = ap (λ (t : Told). t.total) (sym is);
   }
 
-  pub scanned-told : (kept : Kept) (counts : List SourceCount) → 0 < told.most → IsCubeOf kept.bounds kept.s kept.max_depth told.rules.cube → All (IsCount kept.bounds) counts → All (IsFileOf kept counts) (files_of whole reader) → IsTold told
-  scanned-told kept counts some of_bounds sound known = record {
+  pub scanned-told : (kept : Kept) (counts : List SourceCount) → 0 < told.most → At told.begun 0 root → IsCubeOf kept.bounds kept.s kept.max_depth told.rules.cube → All (IsCount kept.bounds) counts → All (IsFileOf kept counts) (files_of whole reader) → IsTold told
+  scanned-told kept counts some top of_bounds sound known = record {
     some = some;
+    top = top;
     in_cube = λ p lies. counted_inside kept counts (files_of whole reader) told.rules.cube of_bounds sound known p (subst (λ (w : List Counted). LiesInInput w p) (sym scanned-fits.inputs) lies);
   }

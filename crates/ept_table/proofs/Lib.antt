@@ -18,4 +18,8 @@ pub mod Visiting
 pub mod Allowed
 pub mod Rows
 pub mod Planting
+mod ByKey
+mod LandedNodes
+mod ResumedNodes
+mod GoingOn
 pub mod Inside

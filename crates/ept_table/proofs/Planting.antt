@@ -1,5 +1,6 @@
 -- A new forest, and a reader of all points.
-use Rattle.std.proofs.Common.{◌≡◌, ◌∙◌, ℕ, zero, suc, ◌+◌, ◌<◌, true, List, ◌∷◌, map, length, slice_index, refl, sym, ap, subst, arith, Option, None}
+use Rattle.std.proofs.Common.{◌≡◌, ◌∙◌, ℕ, zero, suc, ◌+◌, ◌<◌, true, List, [], ◌∷◌, map, length, slice_index, refl, sym, ap, subst, arith, Option, None}
+use Rattle.ept_space.specs.VoxelKey.{root}
 use Rattle.ept_sample.specs.SamplingLaws.{CanBeSampled}
 use Rattle.ept_sample.proofs.Members.{all-member}
 use Rattle.ept_scan.specs.declared.second_reading.Reader.{Reader}
@@ -37,7 +38,7 @@ none_at (suc (suc (suc (suc (suc (suc zero)))))) low = refl
 none_at (suc (suc (suc (suc (suc (suc (suc zero))))))) low = refl
 none_at (suc (suc (suc (suc (suc (suc (suc (suc o)))))))) low = absurd (omega (arith, low))
 
-module _ {F S : Type 0} (faults keeps : F → ℕ) (whole : S → Option (List ℕ)) (told : Told) (forest : Forest F) (reader : Reader S) (is_told : IsTold told) (points : told.tells ≡ true → CanBeSampled told.rules told.points × (length told.points ≡ told.total)) (p : IsPlanted faults keeps told.most told.rules forest) (fits : FitsReader told (seen_reader whole reader)) (undrawn : drawn_of reader ≡ 0) (sound : refusal_of reader ≡ None) where
+module _ {F S : Type 0} (faults keeps : F → ℕ) (whole : S → Option (List ℕ)) (told : Told) (forest : Forest F) (reader : Reader S) (is_told : IsTold told) (points : told.tells ≡ true → CanBeSampled told.rules told.points × (length told.points ≡ told.total)) (begun : told.begun ≡ root ∷ []) (p : IsPlanted faults keeps told.most told.rules forest) (fits : FitsReader told (seen_reader whole reader)) (undrawn : drawn_of reader ≡ 0) (sound : refusal_of reader ≡ None) where
   abbrev as_item : node.Node F → Item F S
   as_item n = items.Node n
 
@@ -87,6 +88,7 @@ module _ {F S : Type 0} (faults keeps : F → ℕ) (whole : S → Option (List �
   planted : steps.IsPlanted told all (seen_reader whole reader) top
   planted = record {
     size = size;
+    begun = begun;
     at_first = at-zero (Reading (seen_reader whole reader)) behind;
     fits = fits;
     undrawn = undrawn;

@@ -1,5 +1,5 @@
 -- The reader is given back.
-use Rattle.std.proofs.Common.{◌≡◌, ◌∙◌, ℕ, ◌+◌, ◌<◌, ◌≤◌, true, ◌⊎◌, inl, inr, List, [], ◌∷◌, ◌++◌, map, length, take, drop, set, refl, sym, ap, subst, arith, Option, Some, None, sum_by}
+use Rattle.std.proofs.Common.{◌≡◌, ◌∙◌, ℕ, suc, ◌+◌, ◌<◌, ◌≤◌, true, ◌⊎◌, inl, inr, List, [], ◌∷◌, ◌++◌, map, length, take, drop, set, refl, sym, ap, subst, arith, Option, Some, None, sum_by}
 use Rattle.std.specs.List.Sorted.{IsPermutation}
 use Rattle.std.proofs.lemmas.List.{append_assoc, drop-drop}
 use Rattle.std.proofs.lemmas.List.{map-append}
@@ -261,7 +261,7 @@ module _ (told : Told) (drawn : ℕ) (items : List Taken) (views : List View) (i
         | inl before ↦ h.tree.carried i v c at before
         | inr now ↦
             let s = fresh_slot points c now in
-            inr (subst (λ (n : ℕ). KeyOf h.keys n c.flight.key) (sym s.0) (subst (λ (key : VoxelKey). KeyOf h.keys 1 key) (sym s.1) h.tree.first))
+            inr (subst (λ (n : ℕ). KeyOf h.keys n c.flight.key) (sym s.0) (subst (λ (key : VoxelKey). KeyOf h.keys 1 key) (sym s.1) (h.tree.first 0 root h.is_told.top)))
       ]
 
   lands_there : (c : Carried) → ((c.slot ≡ 1) ⊎ IsChild items c.slot c.flight.key) → (c.slot ≡ 1) ⊎ IsChild next_items c.slot c.flight.key
@@ -280,7 +280,7 @@ module _ (told : Told) (drawn : ℕ) (items : List Taken) (views : List View) (i
     counted = h.tree.counted;
     first = h.tree.first;
     distinct = h.tree.distinct;
-    rooted = (h.tree.rooted.0, standing_is 1 h.tree.rooted.0 h.tree.rooted.1);
+    rooted = λ n key b. let r = h.tree.rooted n key b in (r.0, standing_is (suc n) r.0 r.1);
     undrawn = λ k x a more. elim (set-at items 0 (Reading new) a) [ inl s ↦ absurd (omega (arith, more, s.0)) | inr o ↦ h.tree.undrawn k x o.1 more ];
     carried = λ j u c a m. each (λ u. IsMember c u.note.flights → HasSlot told drawn h.keys c.slot c.flight.key) (carried_mine c) (λ j u apart a m. h.tree.carried j u c a m) j u a m;
     lands = λ j u c a m some. each (λ u. IsMember c u.note.flights → (c.slot ≡ 1) ⊎ IsChild next_items c.slot c.flight.key) (λ m. lands_mine c m some) (λ j u apart a m. lands_there c (h.tree.lands j u c a m some)) j u a m;

@@ -1,5 +1,5 @@
 -- A slot is drawn for the child of an octant.
-use Rattle.std.proofs.Common.{◌≡◌, ◌∙◌, ℕ, ◌+◌, ◌<◌, ◌≤◌, true, false, ◌⊎◌, inl, inr, List, [], ◌∷◌, ◌++◌, length, set, refl, sym, ap, subst, arith, Option, Some, None, sum_by}
+use Rattle.std.proofs.Common.{◌≡◌, ◌∙◌, ℕ, suc, ◌+◌, ◌<◌, ◌≤◌, true, false, ◌⊎◌, inl, inr, List, [], ◌∷◌, ◌++◌, length, set, refl, sym, ap, subst, arith, Option, Some, None, sum_by}
 use Rattle.std.specs.List.Sorted.{IsPermutation}
 use Rattle.std.proofs.lemmas.List.{length-append}
 use Rattle.std.proofs.lemmas.Bool.{false≢true}
@@ -76,7 +76,7 @@ module _ (told : Told) (drawn : ℕ) (items : List Taken) (views : List View) (i
   pub no-slot-yet : (k : ℕ) → KeyOf h.keys k (child parent_key o) → ⊥
   no-slot-yet k is =
       elim (h.tree.born k (child parent_key o) is) [
-        | inl top ↦ child-root parent_key o (key-same h.keys 1 (child parent_key o) root (subst (λ (n : ℕ). KeyOf h.keys n (child parent_key o)) top is) h.tree.first)
+        | inl top ↦ child-root parent_key o (key-same h.keys 1 (child parent_key o) root (subst (λ (n : ℕ). KeyOf h.keys n (child parent_key o)) top is) (h.tree.first 0 root h.is_told.top))
         | inr more ↦ elim more [ inl c ↦ not_child k c | inr d ↦ not_drawn k d ]
       ]
 
@@ -223,7 +223,7 @@ module _ (told : Told) (drawn : ℕ) (items : List Taken) (views : List View) (i
   next_tree : Tree told slot next_keys items next
   next_tree = record {
     counted = (let n : length next_keys ≡ length h.keys + 1 = length-append h.keys (key ∷ []) in omega (arith, n, all_drawn, left));
-    first = key-grown h.keys key 1 root h.tree.first;
+    first = λ n old b. key-grown h.keys key (suc n) old (h.tree.first n old b);
     distinct = two_slots;
     rooted = h.tree.rooted;
     undrawn = λ k y a more. h.tree.undrawn k y a (let n : length next_keys ≡ length h.keys + 1 = length-append h.keys (key ∷ []) in omega (arith, more, n));

@@ -93,6 +93,7 @@ module _ (told : Told) (drawn : ℕ) (items : List Taken) (views : List View) (i
 
     pub take-fits : Fits told v k x
     take-fits = record {
+      is_told = h.is_told;
       reader = reader_here;
       node = node_here x refl;
       sound = λ d e. h.base.sound k d (subst (λ (z : Taken). At items k z) e a);

@@ -170,7 +170,7 @@ module _ (told : Told) (drawn : ℕ) (items : List Taken) (views : List View) (h
     key-is_node k key is =
         elim (h.tree.born k key is) [
           | inl top ↦
-              let same : key ≡ root = key-same h.keys 1 key root (subst (λ (n : ℕ). KeyOf h.keys n key) top is) h.tree.first in
+              let same : key ≡ root = key-same h.keys 1 key root (subst (λ (n : ℕ). KeyOf h.keys n key) top is) (h.tree.first 0 root h.is_told.top) in
               ap (λ (j : VoxelKey). is_node told.rules first j) same ∙ is_node-root told.rules first
           | inr more ↦ elim more [
             | inl c ↦ ap (λ (j : VoxelKey). is_node told.rules first j) (sym c.key_is) ∙ open-is_node c.parent c.cell c.octant c.at c.low c.opened

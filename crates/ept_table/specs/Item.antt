@@ -1,6 +1,7 @@
 -- Items as plain data, and what is known of them besides.
-use Rattle.std.specs.Prelude.{◌≡◌, ⊤, ℕ, true, List, map, drop, Option, None}
+use Rattle.std.specs.Prelude.{◌≡◌, ⊤, ℕ, true, List, map, drop, Option, Some, None}
 use Rattle.ept_scan.specs.declared.second_reading.Reader.{Reader}
+use Rattle.ept_scan.specs.declared.read_error.ReadError.TheVariants.{SourceChanged}
 use Rattle.ept_scan.specs.Queue as queue
 use Rattle.ept_scan.specs.Reader.{drawn_of, allowed_of, left_of, refusal_of, files_of, IsRest, IsReader}
 use Rattle.ept_node.specs.declared.state.NodeState.{NodeState}
@@ -43,11 +44,12 @@ module _ {S : Type 0} (whole : S → Option (List ℕ)) where
   seen (items.Node node) = seen_node node
   seen (items.Reader r) = Reading (seen_reader r)
 
--- Of a reader it is known that it stands before its next record, or has a refusal. Where files and sources tell, and it has not
--- failed, its batches are the points from its place on.
+-- Of a reader it is known that it stands before its next record, or has a refusal. Where files and sources tell, that is no
+-- change of an input, and if it has not failed, its batches are the points from its place on.
 pub record IsFiled {S : Type 0} (whole left : S → Option (List ℕ)) (given faults : S → ℕ) (told : Told) (r : Reader S) : Type 0 where
   pub reader : IsReader whole left given faults r
   pub rest : told.tells ≡ true → refusal_of r ≡ None → IsRest whole r (drop (drawn_of r) told.points)
+  pub no_change : told.tells ≡ true → (source number : ℕ) → refusal_of r ≡ Some (SourceChanged source number) → ⊥
 
 abbrev pub Filed : {F S : Type 0} → (S → Option (List ℕ)) → (S → Option (List ℕ)) → (S → ℕ) → (S → ℕ) → Told → item.Item F S → Type 0
 Filed whole left given faults told (items.Node node) = ⊤

@@ -11,4 +11,6 @@ pub mod Visits
 pub mod Row
 pub mod Table
 pub mod Nothing
+pub mod Octree
+pub mod OctreeLaws
 pub mod Scanned

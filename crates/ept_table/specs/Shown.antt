@@ -15,7 +15,8 @@
 --   where they tell and all slots are drawn, the sampling up to the end of the allowance has more nodes: `Tree.full_over`;
 --   a flight in a seat's view is noted with the slot of its key, or with none once all slots are drawn, and that slot is
 --     slot 1 or the child slot of an open octant: `Tree.carried`, `Tree.lands`;
---   slot 1 has the root's key, and the node of a drawn slot has that slot's key: `Tree.first`, `Base.keyed`;
+--   the slots from 1 on have the keys of the nodes that stood as the table was made, the root's first, and nodes stand there still:
+--     `Tree.first`, `Tree.rooted`, `IsTold.top`; the node of a drawn slot has that slot's key: `Base.keyed`;
 --   the node of a slot that is not drawn is blank: `Tree.undrawn`; so is that of a slot noted as drawn: `IsDraw.blank`;
 --   each node has the rules of the forest, its points lie in its box, it is no deeper than the greatest depth, and there
 --     no octant is open: `IsSound`;
@@ -69,9 +70,11 @@ pub record LiesInInput (inputs : List Counted) (p : Point) : Type 0 where
   pub limits : input.limits ≡ Some extent
   pub within : IsWithin extent p
 
--- there may be a node, and the points of the inputs lie in the cube
+-- there may be a node, the root is the first of those that stood as the table was made, and the points of the inputs lie in
+-- the cube
 pub record IsTold (told : Told) : Type 0 where
   pub some : 0 < told.most
+  pub top : At told.begun 0 root
   pub in_cube : (p : Point) → LiesInInput told.inputs p → InCube told.rules.cube (place p)
 
 -- ---- slots
@@ -189,9 +192,9 @@ pub record IsDraw (told : Told) (keys : List VoxelKey) (items : List Taken) (fli
 
 pub record Tree (told : Told) (drawn : ℕ) (keys : List VoxelKey) (items : List Taken) (views : List View) : Type 0 where
   pub counted : length keys ≡ min drawn told.most
-  pub first : KeyOf keys 1 root
+  pub first : (i : ℕ) (key : VoxelKey) → At told.begun i key → KeyOf keys (suc i) key
   pub distinct : (j k : ℕ) (key : VoxelKey) → KeyOf keys j key → KeyOf keys k key → j ≡ k
-  pub rooted : (c : Cell) × At items 1 (Standing c)
+  pub rooted : (i : ℕ) (key : VoxelKey) → At told.begun i key → (c : Cell) × At items (suc i) (Standing c)
   pub undrawn : (k : ℕ) (x : Taken) → At items k x → length keys < k → x ≡ Blank
   pub carried : (i : ℕ) (v : View) (c : Carried) → At views i v → IsMember c v.note.flights → HasSlot told drawn keys c.slot c.flight.key
   pub lands : (i : ℕ) (v : View) (c : Carried) → At views i v → IsMember c v.note.flights → 0 < c.slot → (c.slot ≡ 1) ⊎ IsChild items c.slot c.flight.key

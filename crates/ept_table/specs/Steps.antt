@@ -197,6 +197,7 @@ first_seat told parts = record { parts = parts; refused = 0; hold = None; note =
 -- The root without points in slot 1, no node in any other slot, and in slot 0 a reader that has drawn nothing.
 pub record IsPlanted (told : Told) (items : List Taken) (r : Progress) (top : Cell) : Type 0 where
   pub size : length items ≡ told.most + 1
+  pub begun : told.begun ≡ root ∷ []
   pub at_first : At items 0 (Reading r)
   pub fits : FitsReader told r
   pub undrawn : r.drawn ≡ 0

@@ -1,5 +1,5 @@
 -- What steps on a table tell a seat.
-use Rattle.std.specs.Prelude.{◌≡◌, ℕ, ◌<◌, ◌≤◌, true, false, ◌⊎◌, List, [], ◌++◌, map, length, take, drop, Some}
+use Rattle.std.specs.Prelude.{◌≡◌, ℕ, ◌+◌, ◌<◌, ◌≤◌, true, false, ◌⊎◌, List, [], ◌++◌, map, length, take, drop, Some}
 use Rattle.ept_point.specs.declared.point.Point.{Point}
 use Rattle.ept_space.specs.VoxelKey.{VoxelKey, child}
 use Rattle.ept_scan.specs.declared.read_error.ReadError.{ReadError}
@@ -21,7 +21,7 @@ use Rattle.ept_table.specs.declared.taken.Taken.TheVariants.{Blank, Standing, Re
 use Rattle.ept_table.specs.At.{At}
 use Rattle.ept_table.specs.Taken.{points_of, is_open_at, slot_at}
 use Rattle.ept_table.specs.View.{View, NotesFull}
-use Rattle.ept_table.specs.Shown.{IsSound, IsSoundFlight, FitsReader, Holds}
+use Rattle.ept_table.specs.Shown.{IsTold, IsSound, IsSoundFlight, FitsReader, Holds}
 
 -- where files and sources tell, the sampling of the points up to the end of the allowance has more nodes than there may be
 abbrev pub IsTooMany : Told → Type 0
@@ -44,6 +44,7 @@ pub record FitsChild (told : Told) (x : Taken) (o : ℕ) : Type 0 where
 
 -- What lies in a slot: the reader in slot 0, a node or a blank one in each other one.
 pub record Fits (told : Told) (v : View) (k : ℕ) (x : Taken) : Type 0 where
+  pub is_told : IsTold told
   pub reader : k ≡ 0 → (r : Progress) × (x ≡ Reading r) × FitsReader told r × (v.note.given ≤ r.drawn)
   pub node : 0 < k → (x ≡ Blank) ⊎ ((d : Cell) × (x ≡ Standing d))
   pub sound : (d : Cell) → x ≡ Standing d → IsSound told d
@@ -89,9 +90,11 @@ IsLast views i = (j : ℕ) (w : View) → At views j w → (j ≡ i → ⊥) →
 
 -- How a table ended of which this was the last seat.
 pub record IsEnded (told : Told) (drawn : ℕ) (items : List Taken) (v : View) : Type 0 where
+  pub size : length items ≡ told.most + 1
   pub reader : Progress
   pub at_first : At items 0 (Reading reader)
   pub fits : FitsReader told reader
+  pub given : v.note.given ≤ reader.drawn
   pub failed : (e : ReadError) → reader.failed ≡ Some e → IsMember e v.note.failures
   pub noted : (e : ReadError) → IsMember e v.note.failures → reader.failed ≡ Some e
   pub landed : HasNothing v → IsLanded told drawn items

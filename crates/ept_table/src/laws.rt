@@ -1,6 +1,7 @@
 //! The laws of a table, each on the contract of a function that does nothing.
 
 ghost use Rattle.ept_table.specs.Laws.{TakeKeeps, ReturnKeeps, WishKeeps, AbandonKeeps, SplitKeeps, JoinKeeps, ReadKeeps, DrawKeeps, RefusalKeeps, RefusalIsTrue, ArrivalKeeps, TakeFits, LackIsTooMany, FullIsTooMany, StateKeepsLaw, FirstSeatHolds, BeginningIsLanded, LastSeatTells, LandedIsSampling};
+ghost use Rattle.ept_table.specs.OctreeLaws.{LandedFillsSlots, LandedKeepsBegun, LandedIsSound, LandedIsRead, LandedIsWhole, LandedIsSampled, LandedGoesOn, ResumedIsLanded};
 
 /// A seat may take a slot, give it back as it was, note an octant and abandon its flights.
 pub fn move_law()
@@ -52,4 +53,26 @@ pub fn end_law()
     ensures beginning { BeginningIsLanded }
     ensures last { LastSeatTells }
     ensures sampling { LandedIsSampling }
+{}
+
+/// What is landed tells of the nodes: they stand in the first slots, each that stood as the table was made in its own; each
+/// key has one slot, and each open octant the slot of its child; they are sound and a whole octree, and have the points that
+/// were drawn. Where files and sources tell, they are the sampling of these.
+pub fn landed_law()
+    ensures slots { LandedFillsSlots }
+    ensures begun { LandedKeepsBegun }
+    ensures sound { LandedIsSound }
+    ensures read { LandedIsRead }
+    ensures whole { LandedIsWhole }
+    ensures sampled { LandedIsSampled }
+{}
+
+/// What is landed goes on: with another end of the reader's allowance it is landed too, and no node may go.
+pub fn go_on_law()
+    ensures { LandedGoesOn }
+{}
+
+/// The nodes of a checkpoint, in slots and linked, are landed with the reader that has drawn their points.
+pub fn resume_law()
+    ensures { ResumedIsLanded }
 {}

@@ -16,7 +16,10 @@ mod taken;
 
 pub use done::{Done, Said};
 pub use item::Item;
-pub use laws::{arrival_law, draw_law, end_law, move_law, read_law, seat_law, state_law, take_law};
+pub use laws::{
+    arrival_law, draw_law, end_law, go_on_law, landed_law, move_law, read_law, resume_law,
+    seat_law, state_law, take_law,
+};
 pub use making::{Unmade, plant_law};
 pub use note::{Carried, Counted, Draw, Note, Told};
 pub use rule::{Rule, Scan};

@@ -1,11 +1,12 @@
 //! How a table of nodes is made, and how it is closed.
 
-ghost use Rattle.std.specs.Prelude.{true, None, ◌≡◌, ◌+◌, ◌≤◌, ℕ, [], List, length, min, vec_len, vec_capacity, IfOk, IfErr};
+ghost use Rattle.std.specs.Prelude.{true, None, ◌≡◌, ◌+◌, ◌≤◌, ℕ, [], ◌∷◌, List, length, min, vec_len, vec_capacity, IfOk, IfErr};
 ghost use Rattle.ept_scan.specs.declared.second_reading.Reader as reader_of;
 ghost use Rattle.ept_node.specs.declared.node.Node as node_of;
 ghost use Rattle.ept_slots.specs.Views.{HoldsNothing, first_view, whole};
 ghost use Rattle.ept_slots.specs.Seating.{view};
 ghost use Rattle.ept_forest.specs.Slots.{nodes_of, used_of, IsPlanted};
+ghost use Rattle.ept_space.specs.VoxelKey.{root};
 ghost use Rattle.ept_sample.specs.SamplingLaws.{CanBeSampled};
 ghost use Rattle.ept_scan.specs.Reader.{drawn_of, refusal_of};
 ghost use Rattle.ept_table.specs.Shown.{IsTold, FitsReader};
@@ -130,6 +131,7 @@ pub fn plant_law<F: SpillFile, S: Source, J: Scan>(forest: &Forest<F>, reader: &
     requires told { IsTold J.told }
     requires points { J.told.tells ≡ true → CanBeSampled J.told.rules J.told.points
         × (length J.told.points ≡ J.told.total) }
+    requires begun { J.told.begun ≡ root ∷ [] }
     requires planted { IsPlanted F.faults F.keeps J.told.most J.told.rules forest.now }
     requires fits { FitsReader J.told (seen_reader S.whole reader.now) }
     requires undrawn { drawn_of reader.now ≡ 0 }

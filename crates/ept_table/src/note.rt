@@ -3,7 +3,7 @@
 use ept_core::Flight;
 use ept_point::{List, Point};
 use ept_scan::ReadError;
-use ept_space::{Bounds, Rules};
+use ept_space::{Bounds, Key, Rules};
 
 /// An input, as the first reading has found it: its place in the list of inputs, how many points it has,
 /// and where they lie.
@@ -21,6 +21,8 @@ pub struct Told {
     pub points: List<Point>,
     /// How many nodes there may be.
     pub most: u32,
+    /// The keys of the nodes that stand as the table is made, in the order of their slots: that of slot 1 first.
+    pub begun: List<Key>,
     /// How many points are drawn at the end of the reader's allowance.
     pub end: u64,
     /// How many points the inputs have.

@@ -2,9 +2,11 @@
 
 ghost use Rattle.std.specs.Prelude.{◌≡◌, ◌<◌, All};
 ghost use Rattle.ept_space.specs.CubeOfBounds.{IsCubeOf};
+ghost use Rattle.ept_space.specs.VoxelKey.{root};
 ghost use Rattle.ept_config.specs.Counts.{IsCount};
 ghost use Rattle.ept_scan.specs.Opening.{IsFileOf};
 ghost use Rattle.ept_scan.specs.Reader.{files_of};
+ghost use Rattle.ept_table.specs.At.{At};
 ghost use Rattle.ept_table.specs.Shown.{IsTold, FitsReader};
 ghost use Rattle.ept_table.specs.Item.{seen_reader};
 ghost use Rattle.ept_table.specs.Scanned.{told_of};
@@ -16,8 +18,9 @@ use ept_scan::Reader;
 
 /// Of a reader of inputs that were counted within the bounds of the cube a table may be told, and the reader fits it.
 pub fn scanned_law<S: Source, J: Scan>(reader: &Reader<S>, kept: &Kept, counts: &[SourceCount])
-    requires told { J.told ≡ told_of S.whole reader.now J.told.rules J.told.most J.told.tells J.told.points }
+    requires told { J.told ≡ told_of S.whole reader.now J.told.rules J.told.most J.told.begun J.told.tells J.told.points }
     requires some { 0 < J.told.most }
+    requires top { At J.told.begun 0 root }
     requires cube { IsCubeOf kept.now.bounds kept.now.s kept.now.max_depth J.told.rules.cube }
     requires counts { All (IsCount kept.now.bounds) counts.now }
     requires files { All (IsFileOf kept.now counts.now) (files_of S.whole reader.now) }

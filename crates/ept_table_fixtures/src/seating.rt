@@ -1,6 +1,7 @@
 //! A table that is made of a new forest and a reader of which all points are known.
 
-ghost use Rattle.std.specs.Prelude.{◌≡◌, ◌+◌, ◌≤◌, true, IfOk, IfErr};
+ghost use Rattle.std.specs.Prelude.{◌≡◌, ◌+◌, ◌≤◌, true, [], ◌∷◌, IfOk, IfErr};
+ghost use Rattle.ept_space.specs.VoxelKey.{root};
 ghost use Rattle.ept_slots.specs.Views.{first_view};
 ghost use Rattle.ept_slots.specs.Seating.{view};
 ghost use Rattle.ept_forest.specs.Slots.{nodes_of, used_of, IsPlanted};
@@ -22,7 +23,7 @@ pub fn seated<F: SpillFile, S: Source, J: Scan>(
     known: Known<S>,
     most: u32,
 ) -> Result<(NodeTable<F, S, J>, Seat<F, S>), Unmade<F, S>>
-    requires told { J.told ≡ told_of S.whole known.reader known.rules most true known.points.items }
+    requires told { J.told ≡ told_of S.whole known.reader known.rules most (root ∷ []) true known.points.items }
     requires known { IsKnown S.whole S.left S.given S.faults known }
     requires some { 1 ≤ most }
     requires planted { IsPlanted F.faults F.keeps most known.rules forest }

@@ -1,6 +1,7 @@
 //! A session at a table, in which nothing is drawn.
 
-ghost use Rattle.std.specs.Prelude.{◌≡◌, ◌<◌, ◌≤◌, true};
+ghost use Rattle.std.specs.Prelude.{◌≡◌, ◌<◌, ◌≤◌, true, [], ◌∷◌};
+ghost use Rattle.ept_space.specs.VoxelKey.{root};
 ghost use Rattle.ept_scan.specs.Reader.{IsReader};
 ghost use Rattle.ept_slots.specs.Seating.{view};
 ghost use Rattle.ept_forest.specs.Slots.{IsPlanted};
@@ -81,7 +82,7 @@ pub fn session<F: SpillFile, S: Source, J: Scan, H: Wait>(
     known: Known<S>,
     most: u32,
 ) -> Left<F, S>
-    requires told { J.told ≡ told_of S.whole known.reader known.rules most true known.points.items }
+    requires told { J.told ≡ told_of S.whole known.reader known.rules most (root ∷ []) true known.points.items }
     requires known { IsKnown S.whole S.left S.given S.faults known }
     requires some { 1 ≤ most }
     requires planted { IsPlanted F.faults F.keeps most known.rules forest }

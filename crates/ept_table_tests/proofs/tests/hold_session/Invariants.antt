@@ -1,4 +1,5 @@
-use Rattle.std.specs.Prelude.{true, Some}
+use Rattle.std.specs.Prelude.{true, [], ◌∷◌, Some}
+use Rattle.ept_space.specs.VoxelKey.{root}
 use Rattle.ept_mem.specs.declared.source.MemSource.{MemSource}
 use Rattle.ept_mem.specs.Objects.{source_bytes}
 use Rattle.ept_table.specs.Scanned.{told_of}
@@ -6,4 +7,4 @@ use Rattle.ept_table_tests.proofs.tests.hold_session.Given as goal
 
 -- what the known reader has
 abbrev pub ghosts-session : goal.ghosts-session
-ghosts-session g a = record { told = told_of (λ (source : MemSource). Some (source_bytes source)) a.known.reader a.known.rules a.most true a.known.points.items }
+ghosts-session g a = record { told = told_of (λ (source : MemSource). Some (source_bytes source)) a.known.reader a.known.rules a.most (root ∷ []) true a.known.points.items }
