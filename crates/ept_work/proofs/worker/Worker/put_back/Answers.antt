@@ -1,0 +1,4 @@
+use Rattle.ept_work.proofs.worker.Worker.put_back.Goals as goal
+
+pub returns-clause-rest : goal.returns-clause-rest
+returns-clause-rest g c = ?

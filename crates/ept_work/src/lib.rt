@@ -1,0 +1,13 @@
+//! Workers that bring points down the tree of a table of nodes: each with a seat of the table and the flights that it
+//! carries.
+#![tactic(auto)]
+
+mod error;
+mod opening;
+mod sending;
+mod visit;
+mod worker;
+
+pub use error::WorkError;
+pub use visit::{Landing, Visit};
+pub use worker::Worker;

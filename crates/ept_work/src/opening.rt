@@ -1,0 +1,103 @@
+//! Slots for the children of octants that open.
+
+ghost use Rattle.std.specs.Prelude.{◌≡◌, ◌+◌, ◌<◌, ◌&&◌, not, false};
+ghost use Rattle.ept_grid.specs.Mask.{opened};
+ghost use Rattle.ept_node.specs.Shown.{node_of};
+ghost use Rattle.ept_slots.specs.Seating.{view};
+ghost use Rattle.ept_table.specs.Standing.{known};
+ghost use Rattle.ept_table.specs.Table.{slots_of, IsSeat};
+ghost use Rattle.ept_work.specs.Visiting.{cell_of, IsOpening};
+ghost use Rattle.ept_work.specs.Opening.{MayOpen, HasOpened};
+ghost use Rattle.ept_grid.specs.declared.octants.TheConstants.{OCTANTS};
+
+use ept_base::Source;
+use ept_grid::OCTANTS;
+use ept_node::Node;
+use ept_table::{NodeTable, Scan, Seat};
+
+/// A node that has opened octants, and whether a slot for a child was refused.
+pub(crate) struct Opening<F> {
+    pub(crate) node: Node<F>,
+    pub(crate) is_full: bool,
+}
+
+/// Draws slots for the children of the octants of a node that were closed and are open, until one is refused.
+pub(crate) fn open_children<F, S: Source, J: Scan>(
+    table: &NodeTable<F, S, J>,
+    seat: &mut Seat<F, S>,
+    node: Node<F>,
+    slot: u32,
+    before: u8,
+) -> Opening<F>
+    requires seat { IsSeat J.told table.now seat.old }
+    requires slots { slots_of table.now ≡ J.told.most + 1 }
+    requires may { MayOpen J.told (known S.whole (view seat.old)) slot before node }
+    requires unopened { HasOpened J.told (known S.whole (view seat.old)) (cell_of node) 0 false }
+    ensures seat { IsSeat J.told table.now seat.new }
+    ensures view { IsOpening (known S.whole (view seat.old)) (known S.whole (view seat.new)) }
+    ensures may { MayOpen J.told (known S.whole (view seat.new)) slot before result.node }
+    ensures node { node_of result.node ≡ node_of node }
+    ensures opened { HasOpened J.told (known S.whole (view seat.new)) (cell_of result.node) 8 result.is_full }
+{
+    let mut opening = Opening {
+        node,
+        is_full: false,
+    };
+    for octant in 0..OCTANTS {
+        opening = open_child(table, seat, opening, slot, before, octant);
+    }
+    opening
+}
+
+// Draws a slot for the child of an octant, if it was closed and is open, and none was refused.
+fn open_child<F, S: Source, J: Scan>(
+    table: &NodeTable<F, S, J>,
+    seat: &mut Seat<F, S>,
+    opening: Opening<F>,
+    slot: u32,
+    before: u8,
+    octant: u8,
+) -> Opening<F>
+    requires seat { IsSeat J.told table.now seat.old }
+    requires slots { slots_of table.now ≡ J.told.most + 1 }
+    requires low { octant < OCTANTS }
+    requires may { MayOpen J.told (known S.whole (view seat.old)) slot before opening.node }
+    requires opened { HasOpened J.told (known S.whole (view seat.old)) (cell_of opening.node) octant opening.is_full }
+    ensures seat { IsSeat J.told table.now seat.new }
+    ensures view { IsOpening (known S.whole (view seat.old)) (known S.whole (view seat.new)) }
+    ensures may { MayOpen J.told (known S.whole (view seat.new)) slot before result.node }
+    ensures node { node_of result.node ≡ node_of opening.node }
+    ensures opened { HasOpened J.told (known S.whole (view seat.new)) (cell_of result.node) (octant + 1) result.is_full }
+{
+    let Opening { mut node, is_full } = opening;
+    let mask = node.open_mask();
+    if !asks(is_full, before, mask, octant) {
+        return Opening { node, is_full };
+    }
+    match table.draw_slot(seat, slot, octant) {
+        Ok(child) => {
+            node.set_child(octant, child);
+            Opening { node, is_full }
+        }
+        Err(_) => Opening {
+            node,
+            is_full: true,
+        },
+    }
+}
+
+// Whether a slot is asked for: none was refused, and the octant is in the second set and not in the first.
+fn asks(is_full: bool, before: u8, after: u8, octant: u8) -> bool
+    requires { octant < OCTANTS }
+    ensures { result ≡ (not is_full && (not (opened before octant) && opened after octant)) }
+{
+    !is_full && !is_open(before, octant) && is_open(after, octant)
+}
+
+// Whether the octant is in the set.
+fn is_open(mask: u8, octant: u8) -> bool
+    requires { octant < OCTANTS }
+    ensures { result ≡ opened mask octant }
+{
+    mask >> octant & 1 == 1
+}

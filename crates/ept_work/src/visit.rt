@@ -1,0 +1,333 @@
+//! A visit of a node, in its three parts.
+
+ghost use Rattle.std.specs.Prelude.{◌≡◌, ◌+◌, ◌<◌, ◌≤◌, ◌⊎◌, ◌++◌, ℕ, [], Ok, Err, IfOk, IfErr, OnOk, OnErr, true, false, length, vec_len, vec_capacity};
+ghost use Rattle.ept_node.specs.declared.node.Node as node_of_type;
+ghost use Rattle.ept_node.specs.Shown.{state_of, node_of, children_of, no_children};
+ghost use Rattle.ept_grid.specs.Outgoing.{points_at};
+ghost use Rattle.ept_sample.specs.Place.{AllInBox};
+ghost use Rattle.ept_node.specs.declared.state.NodeState.TheVariants.{Blank, Resident};
+ghost use Rattle.ept_slots.specs.Views.{Holds};
+ghost use Rattle.ept_slots.specs.Seating.{view};
+ghost use Rattle.ept_table.specs.declared.item.Item.TheVariants as items;
+ghost use Rattle.ept_table.specs.declared.taken.Taken as taken_of;
+ghost use Rattle.ept_table.specs.Item.{seen_node};
+ghost use Rattle.ept_table.specs.Standing.{known};
+ghost use Rattle.ept_table.specs.Steps.{given_back};
+ghost use Rattle.ept_work.specs.Rest.{IsIdle, IsAtRest};
+ghost use Rattle.ept_work.specs.Visiting.{IsBegun, IsVisit, TakesUp, IsLanding, HasRoom, IsVisitCause, IsOpening, leaving, Visits};
+ghost use Rattle.ept_work.specs.Meeting.{Meets};
+
+use crate::error::WorkError;
+use crate::opening::{Opening, open_children};
+use crate::sending::send_on;
+use crate::worker::{Worker, fresh_in, take_over};
+use ept_base::{Gate, Source};
+use ept_grid::Outgoing;
+use ept_node::{Node, NodeState};
+use ept_point::{List, Memory, Point};
+use ept_space::{Key, Rules};
+use ept_table::{Carried, Done, Item, NodeTable, Scan};
+use std::alloc::Global;
+use std::mem;
+use std::sync::Wait;
+
+/// A node that a worker holds, at which its last flight has not arrived yet.
+pub struct Visit<F> {
+    pub(crate) node: Node<F>,
+    pub(crate) slot: u32,
+    pub(crate) number: u32,
+    pub(crate) was_blank: bool,
+}
+
+/// A node that a worker holds, at which its last flight has arrived, with the flights that go on.
+pub struct Landing<F> {
+    pub(crate) node: Node<F>,
+    pub(crate) slot: u32,
+    pub(crate) number: u32,
+    pub(crate) fresh: Vec<Carried>,
+    pub(crate) is_full: bool,
+}
+
+impl<F, S: Source> Worker<F, S> {
+    ghost use Rattle.ept_table.specs.Table.{slots_of, rules_of, IsSeat};
+    ghost use Rattle.ept_work.specs.Worker.{seat_of, number_of, knows};
+
+    /// Takes the node to which the last flight goes, as soon as it is free. A blank one is begun with the key of the
+    /// flight.
+    ///
+    /// # Errors
+    ///
+    /// `TooManyNodes` where the flight has no slot, and `Memory` where there are too many flights to be counted.
+    pub fn take_up<H: Wait, J: Scan>(
+        &mut self,
+        rt: &H,
+        table: &NodeTable<F, S, J>,
+    ) -> Result<Visit<F>, WorkError>
+        requires seat { IsSeat J.told table.now (seat_of self.old) }
+        requires rest { IsAtRest J.told (knows S.whole self.old) }
+        requires slots { slots_of table.now ≡ J.told.most + 1 }
+        requires rules { rules_of table.now ≡ J.told.rules }
+        requires some { 0 < length (knows S.whole self.old).note.flights }
+        ensures seat { IsSeat J.told table.now (seat_of self.new) }
+        ensures number { number_of self.new ≡ number_of self.old }
+        ensures ok { IfOk result (TakesUp J.told (knows S.whole self.old) (knows S.whole self.new)) }
+        ensures unchanged { OnErr result (knows S.whole self.new ≡ knows S.whole self.old) }
+        ensures refused { IfErr result (IsVisitCause J.told (knows S.whole self.new)) }
+    {
+        let Ok(number) = u32::try_from(self.flights.len() - 1) else {
+            return Err(WorkError::Memory);
+        };
+        let carried = &self.flights[number as usize];
+        let slot = carried.slot;
+        let key = carried.flight.key;
+        if slot == 0 {
+            return Err(WorkError::TooManyNodes);
+        }
+        let item = table.take(rt, &mut self.seat, slot);
+        Ok(begun(node_in(item), slot, number, key, table.rules()))
+    }
+
+    /// Lets the last flight arrive at the node, draws slots for the children of the octants that it opens until that is
+    /// refused, and makes the flights that go on. All memory is reserved first, so that nothing is refused once the points
+    /// have arrived.
+    ///
+    /// # Errors
+    ///
+    /// Where there is no memory the visit comes back as it was.
+    pub fn land<J: Scan>(
+        &mut self,
+        alloc: Global,
+        table: &NodeTable<F, S, J>,
+        visit: Visit<F>,
+    ) -> Result<Landing<F>, Visit<F>>
+        requires seat { IsSeat J.told table.now (seat_of self.old) }
+        requires visit { IsVisit J.told (knows S.whole self.old) visit }
+        requires slots { slots_of table.now ≡ J.told.most + 1 }
+        requires rules { rules_of table.now ≡ J.told.rules }
+        ensures seat { IsSeat J.told table.now (seat_of self.new) }
+        ensures number { number_of self.new ≡ number_of self.old }
+        ensures opens { IsOpening (knows S.whole self.old) (knows S.whole self.new) }
+        ensures ok { IfOk result (λ landing. IsLanding J.told (knows S.whole self.new) landing × HasRoom self.new landing) }
+        ensures unchanged { OnErr result (knows S.whole self.new ≡ knows S.whole self.old) }
+        ensures refused { IfErr result (IsVisit J.told (knows S.whole self.new)) }
+    {
+        if self.reserve().is_err() {
+            return Err(visit);
+        }
+        let Visit {
+            node,
+            slot,
+            number,
+            was_blank,
+        } = visit;
+        let before = node.open_mask();
+        let flight = &self.flights[number as usize].flight;
+        let actor = flight.actor;
+        self.out.clear();
+        let node = match arrived(alloc, node, flight.points.as_slice(), &mut self.out) {
+            Ok(node) => node,
+            Err(node) => {
+                return Err(Visit {
+                    node,
+                    slot,
+                    number,
+                    was_blank,
+                });
+            }
+        };
+        let Opening { node, is_full } = open_children(table, &mut self.seat, node, slot, before);
+        let fresh = mem::replace(&mut self.fresh, Vec::new(alloc));
+        let fresh = send_on(alloc, &node, actor, &mut self.out, fresh);
+        Ok(Landing {
+            node,
+            slot,
+            number,
+            fresh,
+            is_full,
+        })
+    }
+
+    /// Gives the node back at which the last flight has arrived. The flights that go on are carried in its place.
+    ///
+    /// # Errors
+    ///
+    /// `TooManyNodes` where a slot was refused.
+    pub fn leave<J: Scan>(
+        &mut self,
+        table: &NodeTable<F, S, J>,
+        landing: Landing<F>,
+    ) -> Result<(), WorkError>
+        requires seat { IsSeat J.told table.now (seat_of self.old) }
+        requires landing { IsLanding J.told (knows S.whole self.old) landing }
+        requires room { HasRoom self.old landing }
+        requires slots { slots_of table.now ≡ J.told.most + 1 }
+        ensures seat { IsSeat J.told table.now (seat_of self.new) }
+        ensures number { number_of self.new ≡ number_of self.old }
+        ensures knows { knows S.whole self.new ≡ leaving (knows S.whole self.old) landing.number landing.fresh.items }
+        ensures idle { IsIdle (knows S.whole self.new) }
+        ensures rest { OnOk result (IsAtRest J.told (knows S.whole self.new)) }
+        ensures refused { IfErr result (IsVisitCause J.told (knows S.whole self.new)) }
+    {
+        let Landing {
+            node,
+            slot,
+            number,
+            fresh,
+            is_full,
+        } = landing;
+        let done = Done::Arrive {
+            number,
+            fresh: List::of(fresh),
+        };
+        let done = table.give(&mut self.seat, slot, Item::Node(node), done);
+        let _landed = self.flights.pop();
+        self.fresh = take_over(&mut self.flights, fresh_in(done));
+        if is_full {
+            return Err(WorkError::TooManyNodes);
+        }
+        Ok(())
+    }
+
+    /// Gives the node back as it was taken. The flight is carried on.
+    pub fn put_back<J: Scan>(&mut self, table: &NodeTable<F, S, J>, visit: Visit<F>)
+        requires seat { IsSeat J.told table.now (seat_of self.old) }
+        requires visit { IsVisit J.told (knows S.whole self.old) visit }
+        requires slots { slots_of table.now ≡ J.told.most + 1 }
+        ensures seat { IsSeat J.told table.now (seat_of self.new) }
+        ensures number { number_of self.new ≡ number_of self.old }
+        ensures knows { knows S.whole self.new ≡ given_back (knows S.whole self.old) (knows S.whole self.old).note }
+        ensures rest { IsAtRest J.told (knows S.whole self.new) }
+    {
+        let Visit {
+            node,
+            slot,
+            number: _number,
+            was_blank,
+        } = visit;
+        let node = as_taken(node, was_blank);
+        let _done = table.give(&mut self.seat, slot, Item::Node(node), Done::Nothing);
+    }
+
+    /// Visits the node of the last flight. The gate is entered once, while the node is held.
+    ///
+    /// # Errors
+    ///
+    /// `TooManyNodes` and `Memory`. No node is held afterwards.
+    pub fn visit<H: Wait, G: Gate, J: Scan>(
+        &mut self,
+        rt: &H,
+        alloc: Global,
+        table: &NodeTable<F, S, J>,
+        gate: &G,
+    ) -> Result<(), WorkError>
+        requires seat { IsSeat J.told table.now (seat_of self.old) }
+        requires rest { IsAtRest J.told (knows S.whole self.old) }
+        requires slots { slots_of table.now ≡ J.told.most + 1 }
+        requires rules { rules_of table.now ≡ J.told.rules }
+        requires some { 0 < length (knows S.whole self.old).note.flights }
+        ensures seat { IsSeat J.told table.now (seat_of self.new) }
+        ensures number { number_of self.new ≡ number_of self.old }
+        ensures visits { OnOk result (Visits J.told (knows S.whole self.old) (knows S.whole self.new)) }
+        ensures rest { OnOk result (IsAtRest J.told (knows S.whole self.new)) }
+        ensures idle { IsIdle (knows S.whole self.new) }
+        ensures refused { IfErr result (IsVisitCause J.told (knows S.whole self.new)) }
+    {
+        let visit = self.take_up(rt, table)?;
+        visit.enter(self.number, gate);
+        match self.land(alloc, table, visit) {
+            Ok(landing) => self.leave(table, landing),
+            Err(visit) => {
+                self.put_back(table, visit);
+                Err(WorkError::Memory)
+            }
+        }
+    }
+
+    // Reserves the memory of a visit: a node has eight children.
+    fn reserve(&mut self) -> Result<(), Memory>
+        ensures seat { self.new.seat ≡ self.old.seat }
+        ensures number { self.new.number ≡ self.old.number }
+        ensures flights { self.new.flights.items ≡ self.old.flights.items }
+        ensures room { OnOk result (vec_len self.new.flights + 8 ≤ vec_capacity self.new.flights) }
+        ensures fresh { OnOk result (8 ≤ vec_capacity self.new.fresh) }
+    {
+        self.flights.reserve(8)?;
+        self.fresh.reserve(8)?;
+        Ok(())
+    }
+}
+
+impl<F> Visit<F> {
+    // Enters the gate.
+    fn enter<G: Gate>(&self, worker: u32, gate: &G)
+        requires { state_of self.now.node ≡ Resident }
+    {
+        let key = self.node.key();
+        gate.entered(worker, key.depth, key.x, key.y, key.z);
+    }
+}
+
+// The node of a key: one that was taken, or one that begins in place of a blank one.
+fn begun<F>(mut node: Node<F>, slot: u32, number: u32, key: Key, rules: &Rules) -> Visit<F>
+    requires low { key.depth ≤ rules.now.cube.depth }
+    requires standing { state_of node ≡ Resident → ((node_of node).key ≡ key) × ((node_of node).rules ≡ rules.now) }
+    ensures slot { (result.slot ≡ slot) × (result.number ≡ number) }
+    ensures node { IsBegun rules.now (seen_node node) key result.node result.was_blank }
+{
+    let was_blank = node.state() == NodeState::Blank;
+    if was_blank {
+        node.begin(key, rules);
+    }
+    Visit {
+        node,
+        slot,
+        number,
+        was_blank,
+    }
+}
+
+// The node as it was taken.
+fn as_taken<F>(mut node: Node<F>, was_blank: bool) -> Node<F>
+    requires resident { state_of node ≡ Resident }
+    requires blank { was_blank ≡ true → ((node_of node).points ≡ []) × ((node_of node).mask ≡ 0) × (children_of node ≡ no_children) }
+    ensures blank { was_blank ≡ true → state_of result ≡ Blank }
+    ensures standing { was_blank ≡ false → result ≡ node }
+{
+    if was_blank {
+        node.unbegin();
+    }
+    node
+}
+
+// Lets points arrive at a node, whose leaving points are added to an empty list. Or there was no memory, and the node is
+// as it was.
+fn arrived<F>(
+    alloc: Global,
+    mut node: Node<F>,
+    points: &[Point],
+    out: &mut Outgoing,
+) -> Result<Node<F>, Node<F>>
+    requires resident { state_of node ≡ Resident }
+    requires inside { AllInBox (node_of node).rules.cube (node_of node).key points.now }
+    requires some { 0 < length points.now }
+    requires empty { (o : ℕ) → points_at out.old o ≡ [] }
+    ensures ok { IfOk result (λ new. Meets (node_of node) (node_of new) points.now out.new) }
+    ensures state { IfOk result (λ new. (state_of new ≡ Resident) × (children_of new ≡ children_of node)) }
+    ensures refused { IfErr result (λ new. (state_of new ≡ Resident) × (node_of new ≡ node_of node) × (children_of new ≡ children_of node)) }
+{
+    match node.arrive_batch(alloc, points, out) {
+        Ok(()) => Ok(node),
+        Err(_) => Err(node),
+    }
+}
+
+// The node of an item.
+fn node_in<F, S>(item: Item<F, S>) -> Node<F>
+    requires { (node : node_of_type.Node F) × (item ≡ items.Node node) }
+    ensures { item ≡ items.Node result }
+{
+    let Item::Node(node) = item else {
+        unreachable!()
+    };
+    node
+}

@@ -1,0 +1,238 @@
+//! A worker, and how it draws a batch.
+
+ghost use Rattle.std.specs.Prelude.{◌≡◌, ◌+◌, ◌++◌, ◌<◌, ◌≤◌, ℕ, List, [], IfOk, IfErr, OnOk, OnErr, Some, None, ◌≢◌, true, false, length, vec_len, vec_capacity};
+ghost use Rattle.ept_point.specs.declared.point.Point as at;
+ghost use Rattle.ept_space.specs.VoxelKey.{root};
+ghost use Rattle.ept_scan.specs.declared.second_reading.Reader as reader_of;
+ghost use Rattle.ept_scan.specs.declared.read_error.ReadError.TheVariants as errors;
+ghost use Rattle.ept_scan.specs.Reader.{batch_of, refusal_of};
+ghost use Rattle.ept_slots.specs.Seating.{view};
+ghost use Rattle.ept_table.specs.declared.item.Item.TheVariants as items;
+ghost use Rattle.ept_table.specs.Item.{seen_reader, IsFiled};
+ghost use Rattle.ept_table.specs.Shown.{IsTold, FitsReader};
+ghost use Rattle.ept_table.specs.Standing.{known};
+ghost use Rattle.ept_table.specs.declared.done.Done.TheVariants as done_of;
+ghost use Rattle.ept_table.specs.Visits.{fresh_of};
+ghost use Rattle.ept_table.specs.Steps.{noting, abandoned, lacks_slot, carried_to, HasRead};
+ghost use Rattle.ept_table.specs.Tells.{IsTooMany};
+ghost use Rattle.ept_work.specs.Rest.{IsIdle, IsAtRest};
+ghost use Rattle.ept_work.specs.Drawing.{DrawsBatch, DrawsNone, IsReadCause, answer_of};
+
+use crate::error::WorkError;
+use ept_base::Source;
+use ept_core::Flight;
+use ept_grid::Outgoing;
+use ept_point::{List, Point};
+use ept_scan::{ReadError, Reader};
+use ept_space::Key;
+use ept_table::{Carried, Done, Item, NodeTable, Scan, Seat};
+use std::alloc::Global;
+use std::mem;
+use std::sync::Wait;
+
+// How many records are drawn at a time.
+const BATCH: usize = 1_024;
+
+// The slot of the root's node.
+const ROOT_SLOT: u32 = 1;
+
+/// A seat of a table with the flights that it carries.
+pub struct Worker<F, S> {
+    pub(crate) seat: Seat<F, S>,
+    pub(crate) flights: Vec<Carried>,
+    pub(crate) number: u32,
+    // The points that leave a node while a flight arrives at it, and the flights in which they go on.
+    pub(crate) out: Outgoing,
+    pub(crate) fresh: Vec<Carried>,
+    ghost carries: { (view seat).note.flights ≡ flights.items },
+    ghost emptied: { fresh.items ≡ [] },
+}
+
+impl<F, S: Source> Worker<F, S> {
+    ghost use Rattle.ept_table.specs.Table.{slots_of, IsSeat};
+    ghost use Rattle.ept_work.specs.Worker.{seat_of, number_of, knows};
+
+    /// A worker of this number with a seat that carries no flight. It takes no memory.
+    pub fn new(alloc: Global, seat: Seat<F, S>, number: u32) -> Worker<F, S>
+        requires { (view seat).note.flights ≡ [] }
+        ensures seat { seat_of result ≡ seat }
+        ensures number { number_of result ≡ number }
+    {
+        Worker {
+            seat,
+            flights: Vec::new(alloc),
+            number,
+            out: Outgoing::new(alloc),
+            fresh: Vec::new(alloc),
+        }
+    }
+
+    /// The seat of a worker that carries no flight.
+    pub fn into_seat(self) -> Seat<F, S>
+        ensures { result ≡ seat_of self }
+    {
+        let Worker {
+            seat,
+            flights: _flights,
+            number: _number,
+            out: _out,
+            fresh: _fresh,
+        } = self;
+        seat
+    }
+
+    /// Whether it carries no flight.
+    pub fn is_empty(&self) -> bool
+        ensures empty { result ≡ true → (view (seat_of self.now)).note.flights ≡ [] }
+        ensures some { result ≡ false → 0 < length (view (seat_of self.now)).note.flights }
+    {
+        self.flights.is_empty()
+    }
+
+    /// Takes the reader as soon as it is free, draws a batch of at most 1,024 records, and gives it back. The points fly
+    /// to the root. Answers whether there were any.
+    ///
+    /// # Errors
+    ///
+    /// The refusal of the reader, which the seat then notes, and `Memory`.
+    pub fn draw<H: Wait, J: Scan>(
+        &mut self,
+        rt: &H,
+        alloc: Global,
+        table: &NodeTable<F, S, J>,
+    ) -> Result<bool, WorkError>
+        requires seat { IsSeat J.told table.now (seat_of self.old) }
+        requires rest { IsAtRest J.told (knows S.whole self.old) }
+        requires slots { slots_of table.now ≡ J.told.most + 1 }
+        ensures seat { IsSeat J.told table.now (seat_of self.new) }
+        ensures number { number_of self.new ≡ number_of self.old }
+        ensures rest { IsAtRest J.told (knows S.whole self.new) }
+        ensures ok { IfOk result (DrawsBatch J.told (number_of self.old) (knows S.whole self.old) (knows S.whole self.new)) }
+        ensures refused { IfErr result (λ e. IsReadCause (knows S.whole self.new) e
+            × DrawsNone J.told (number_of self.old) (knows S.whole self.old) (knows S.whole self.new)) }
+    {
+        let batch = Vec::with_capacity(alloc, BATCH)?;
+        self.flights.reserve(1)?;
+        self.fresh.reserve(1)?;
+        let item = table.take(rt, &mut self.seat, 0);
+        let Drawn {
+            reader,
+            batch,
+            read,
+        } = read_batch::<S, J>(reader_in(item), batch);
+        let is_some = !batch.is_empty();
+        let fresh = mem::replace(&mut self.fresh, Vec::new(alloc));
+        let fresh = launched(fresh, self.number, batch);
+        let done = Done::Draw {
+            fresh: List::of(fresh),
+        };
+        let done = table.give(&mut self.seat, 0, Item::Reader(reader), done);
+        self.fresh = take_over(&mut self.flights, fresh_in(done));
+        answer(read, is_some)
+    }
+
+    /// Abandons its flights, which the seat that ends its seat takes over. Where one has no slot there may not be as many
+    /// nodes as the sampling has.
+    pub fn abandon<J: Scan>(&mut self, table: &NodeTable<F, S, J>)
+        requires seat { IsSeat J.told table.now (seat_of self.old) }
+        requires idle { IsIdle (knows S.whole self.old) }
+        ensures seat { IsSeat J.told table.now (seat_of self.new) }
+        ensures number { number_of self.new ≡ number_of self.old }
+        ensures knows { knows S.whole self.new ≡ noting (knows S.whole self.old) (abandoned (knows S.whole self.old).note) }
+        ensures too_many { lacks_slot (knows S.whole self.old).note.flights ≡ true → IsTooMany J.told }
+    {
+        table.abandon(&mut self.seat);
+        self.flights.clear();
+    }
+}
+
+// A reader that was read, and what came of it.
+struct Drawn<S> {
+    reader: Reader<S>,
+    batch: Vec<Point>,
+    read: Result<(), ReadError>,
+}
+
+// Draws a batch into an empty list.
+fn read_batch<S: Source, J: Scan>(mut reader: Reader<S>, mut batch: Vec<Point>) -> Drawn<S>
+    requires told { IsTold J.told }
+    requires fits { FitsReader J.told (seen_reader S.whole reader) }
+    requires filed { IsFiled S.whole S.left S.given S.faults J.told reader }
+    requires empty { batch.items ≡ [] }
+    ensures reads { HasRead J.told (seen_reader S.whole reader) (seen_reader S.whole result.reader) result.batch.items
+        × IsFiled S.whole S.left S.given S.faults J.told result.reader }
+    ensures sound { OnOk result.read (refusal_of result.reader ≡ None) }
+    ensures batch { OnOk result.read (length result.batch.items ≡ batch_of 1024 reader) }
+    ensures none { OnErr result.read (result.batch.items ≡ []) }
+    ensures failed { IfErr result.read (λ e. e ≢ errors.Memory → refusal_of result.reader ≡ Some e) }
+{
+    let read = reader.next_batch(BATCH, &mut batch);
+    Drawn {
+        reader,
+        batch,
+        read,
+    }
+}
+
+// What a draw answers.
+fn answer(read: Result<(), ReadError>, is_some: bool) -> Result<bool, WorkError>
+    ensures { result ≡ answer_of read is_some }
+{
+    read?;
+    Ok(is_some)
+}
+
+// The flights with that of points to the root, if there are points. There is room for it.
+fn launched(mut fresh: Vec<Carried>, number: u32, batch: Vec<Point>) -> Vec<Carried>
+    requires empty { fresh.items ≡ [] }
+    requires room { 1 ≤ vec_capacity fresh }
+    ensures { result.items ≡ carried_to number 1 root batch.items }
+{
+    if !batch.is_empty() {
+        fresh.push_reserved(Carried {
+            slot: ROOT_SLOT,
+            flight: Flight {
+                actor: number,
+                key: Key::ROOT,
+                points: List::of(batch),
+            },
+        });
+    }
+    fresh
+}
+
+// Moves flights to the end of others, which have room for them, and answers their emptied list.
+pub(crate) fn take_over(flights: &mut Vec<Carried>, mut fresh: Vec<Carried>) -> Vec<Carried>
+    requires { vec_len flights.old + length fresh.items ≤ vec_capacity flights.old }
+    ensures flights { flights.new.items ≡ flights.old.items ++ fresh.items }
+    ensures emptied { result.items ≡ [] }
+{
+    let _ = flights.append(&mut fresh);
+    fresh
+}
+
+// The flights of what a visit did.
+pub(crate) fn fresh_in(done: Done) -> Vec<Carried>
+    requires { done ≡ done_of.Nothing → ⊥ }
+    ensures { result.items ≡ fresh_of done }
+{
+    match done {
+        Done::Draw { fresh } => fresh.into_vec(),
+        Done::Arrive {
+            number: _number,
+            fresh,
+        } => fresh.into_vec(),
+        Done::Nothing => unreachable!(),
+    }
+}
+
+// The reader of an item.
+fn reader_in<F, S>(item: Item<F, S>) -> Reader<S>
+    requires { (reader : reader_of.Reader S) × (item ≡ items.Reader reader) }
+    ensures { item ≡ items.Reader result }
+{
+    let Item::Reader(reader) = item else {
+        unreachable!()
+    };
+    reader
+}
