@@ -1,4 +1,4 @@
-use Rattle.std.proofs.Common.{ap, refl, sym, subst, List}
+use Rattle.std.proofs.Common.{[], ap, sym, subst, List}
 use Rattle.std.specs.Prelude.{All}
 use Rattle.ept_space.specs.VoxelKey.{VoxelKey, root}
 use Rattle.ept_config.specs.declared.source_count.SourceCount.{SourceCount}
@@ -6,11 +6,12 @@ use Rattle.ept_scan.specs.Opening.{IsFileOf}
 use Rattle.ept_scan.specs.Reader.{files_of}
 use Rattle.ept_table.specs.declared.note.Told.{Told}
 use Rattle.ept_table.specs.At.{At}
+use Rattle.ept_table.proofs.Lists.{at-zero}
 use Rattle.ept_table_fixtures.proofs.seating.seated.Goals as goal
 
 pub scanned_law-requires-clause-top : goal.scanned_law-requires-clause-top
 scanned_law-requires-clause-top g c =
-    subst (λ (w : List VoxelKey). At w 0 root) (sym (ap (λ (t : Told). t.begun) c.requires.told)) (record { lies = refl })
+    subst (λ (w : List VoxelKey). At w 0 root) (sym (ap (λ (t : Told). t.begun) c.requires.told)) (at-zero root [])
 
 pub scanned_law-requires-clause-files : goal.scanned_law-requires-clause-files
 scanned_law-requires-clause-files g c =
