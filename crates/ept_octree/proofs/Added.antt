@@ -1,0 +1,148 @@
+-- A node of a checkpoint is added.
+use Rattle.std.proofs.Common.{◌≡◌, ◌∙◌, ℕ, suc, ◌<◌, ◌≤◌, false, cond, inl, inr, List, [], ◌∷◌, map, length, set, refl, sym, ap, subst, arith, Option, Some, None, Result}
+use Rattle.std.specs.Prelude.{is_some, OnOk, OnErr}
+use Rattle.std.specs.BTreeMap.{is_at, insert_entry}
+use Rattle.std.specs.Map.{remove_entry}
+use Rattle.std.proofs.lemmas.Bool.{false≢true}
+use Rattle.ept_point.specs.declared.point.Point.{Point}
+use Rattle.ept_space.specs.declared.cube.Rules.{Rules}
+use Rattle.ept_space.specs.VoxelKey.{VoxelKey, root, same_key, key_cmp, AreAscending}
+use Rattle.ept_core.proofs.NodeMap.{same_key-self}
+use Rattle.ept_grid.specs.Node as grid
+use Rattle.ept_grid.specs.declared.error.GridError.{GridError}
+use Rattle.ept_grid.specs.Tile.{IsTile, IsTileFault}
+use Rattle.ept_node.specs.declared.node.Node as node
+use Rattle.ept_node.specs.declared.state.NodeState.TheVariants as states
+use Rattle.ept_node.specs.Shown.{node_of, state_of}
+use Rattle.ept_table.specs.At.{At}
+use Rattle.ept_table.specs.Octree.{Branch}
+use Rattle.ept_octree.specs.Index.{Site, in_slot, in_slots, branches, slot_of, node_in, IsSoundBy, IsIndex}
+use Rattle.ept_octree.specs.Adding.{filled, IsFree}
+use Rattle.ept_octree.specs.declared.error.AddError.{AddError}
+use Rattle.ept_octree.proofs.Placing.{either-way, on-ok, both-ok, on-err, its-slot, put-in, same-in, long-in, length-in, sound-filled, free-slot, root-there, none-below, index-more, branches-more, put-removed, root-node, index-root, branches-root, named-some, named-none}
+
+module _ {F : Type 0} (rules : Rules) (used : ℕ) (ns : List (node.Node F)) (sites : List Site) (index : IsIndex rules used (in_slots ns) sites) (key : VoxelKey) (free : IsFree key (branches (in_slots ns) sites)) where
+  abbrev nodes : List Branch
+  nodes = branches (in_slots ns) sites
+
+  -- ---- the root
+
+  module _ (is_root : key ≡ root) (n : node.Node F) (at : At ns 0 n) where
+    alone : (g : grid.Node) × (nodes ≡ (let b : Branch = (root, g) in b) ∷ []) × (g.points ≡ [])
+    alone =
+        elim free [
+          | inl none ↦ absurd (root-there rules used (in_slots ns) sites index (λ b m e. none b m (e ∙ sym is_root)))
+          | inr r ↦ (r.1, r.2, r.3)
+        ]
+
+    its : (h : grid.Node) × (node_in (in_slots ns) 1 ≡ Some h) × (h.key ≡ root) × (h.rules ≡ rules) × (h.points ≡ [])
+    its = root-node rules used (in_slots ns) sites index alone.0 alone.1 alone.2
+
+    shown : (state_of n ≡ states.Resident) × (node_of n ≡ its.0)
+    shown = named-some (state_of n) (node_of n) its.0 (sym (its-slot ns 0 n at) ∙ its.1)
+
+    pub root-resident : state_of n ≡ states.Resident
+    root-resident = shown.0
+
+    pub root-empty : (node_of n).points ≡ []
+    root-empty = ap (λ (g : grid.Node). g.points) shown.1 ∙ its.4
+
+    root_key : (node_of n).key ≡ key
+    root_key = ap (λ (g : grid.Node). g.key) shown.1 ∙ (its.2 ∙ sym is_root)
+
+    root_rules : (node_of n).rules ≡ rules
+    root_rules = ap (λ (g : grid.Node). g.rules) shown.1 ∙ its.3
+
+    module _ (m : node.Node F) (mask : ℕ) (points : List Point) (r : Result (Unit {0}) AddError) (tile : OnOk r (IsTile (node_of n).key (node_of n).rules mask points)) where
+      as_asked : (P : VoxelKey → Rules → Type 0) → P (node_of n).key (node_of n).rules → P key rules
+      as_asked P p =
+          subst (λ (rs : Rules). P key rs) root_rules (subst (λ (k : VoxelKey). P k (node_of n).rules) root_key p)
+
+      pub root-tile : OnOk r (IsTile key rules mask points)
+      root-tile =
+          on-ok r (IsTile (node_of n).key (node_of n).rules mask points) (IsTile key rules mask points) tile (as_asked (λ k rs. IsTile k rs mask points))
+
+      pub root-fault : (fault : GridError) → IsTileFault (node_of n).key (node_of n).rules mask points fault → IsTileFault key rules mask points fault
+      root-fault fault = as_asked (λ k rs. IsTileFault k rs mask points fault)
+
+      module _ (low : key.depth ≤ rules.cube.depth) (ok : OnOk r (in_slot m ≡ Some (filled (node_of n).key (node_of n).rules mask points))) (same : OnErr r (in_slot m ≡ in_slot n)) where
+        abbrev Put : Type 0
+        Put = in_slot m ≡ Some (filled key rules mask points)
+
+        put_ok : OnOk r Put
+        put_ok =
+            on-ok r (in_slot m ≡ Some (filled (node_of n).key (node_of n).rules mask points)) Put ok (as_asked (λ k rs. in_slot m ≡ Some (filled k rs mask points)))
+
+        now_in : Put → in_slots (set ns 0 m) ≡ set (in_slots ns) 1 (Some (filled key rules mask points))
+        now_in put =
+            put-in ns 0 n at m ∙ ap (λ (x : Option grid.Node). set (in_slots ns) 1 x) put
+
+        sound_now : IsTile key rules mask points → IsSoundBy rules (filled key rules mask points)
+        sound_now t = sound-filled key rules mask points t low
+
+        pub root-index : IsIndex rules used (in_slots (set ns 0 m)) sites
+        root-index =
+            either-way r (Put × IsTile key rules mask points) (in_slot m ≡ in_slot n) (IsIndex rules used (in_slots (set ns 0 m)) sites) (both-ok r Put (IsTile key rules mask points) put_ok root-tile) same
+            (λ p. subst (λ (w : List (Option grid.Node)). IsIndex rules used w sites) (sym (now_in p.0)) (index-root rules used (in_slots ns) sites index alone.0 alone.1 alone.2 (filled key rules mask points) is_root (sound_now p.1) (map in_slot ns) refl))
+            (λ e. subst (λ (w : List (Option grid.Node)). IsIndex rules used w sites) (sym (same-in ns 0 n at m e)) index)
+
+        pub root-ok : OnOk r (branches (in_slots (set ns 0 m)) sites ≡ insert_entry key_cmp nodes key (filled key rules mask points))
+        root-ok =
+            on-ok r (Put × IsTile key rules mask points) (branches (in_slots (set ns 0 m)) sites ≡ insert_entry key_cmp nodes key (filled key rules mask points)) (both-ok r Put (IsTile key rules mask points) put_ok root-tile)
+            (λ p. ap (λ (w : List (Option grid.Node)). branches w sites) (now_in p.0)
+            ∙ (branches-root rules used (in_slots ns) sites index alone.0 alone.1 alone.2 (filled key rules mask points) is_root (sound_now p.1) (map in_slot ns) refl
+            ∙ ap (λ (k : VoxelKey). insert_entry key_cmp nodes k (filled key rules mask points)) (sym is_root)))
+
+        pub root-err : OnErr r (branches (in_slots (set ns 0 m)) sites ≡ nodes)
+        root-err =
+            on-err r (in_slot m ≡ in_slot n) (branches (in_slots (set ns 0 m)) sites ≡ nodes) same (λ e. ap (λ (w : List (Option grid.Node)). branches w sites) (same-in ns 0 n at m e))
+
+  -- ---- another node
+
+  module _ (other : same_key key root ≡ false) where
+    not_root : key ≡ root → ⊥
+    not_root e =
+        false≢true (sym other ∙ (ap (λ (k : VoxelKey). same_key k root) e ∙ same_key-self root))
+
+    pub no-slot : slot_of sites key ≡ None
+    no-slot =
+        elim free [
+          | inl none ↦ free-slot rules used (in_slots ns) sites index key none
+          | inr r ↦ absurd (not_root r.0)
+        ]
+
+    module _ (place : ℕ) (at_used : place ≡ used) (n : node.Node F) (at : At ns place n) where
+      pub next-blank : state_of n ≡ states.Blank
+      next-blank =
+          named-none (state_of n) (node_of n) (ap (λ (x : Option grid.Node). is_some x) (sym (its-slot ns place n at)) ∙ index.blank (suc place) (omega (arith, at_used)))
+
+      module _ (m : node.Node F) where
+        pub kept-in : in_slot m ≡ None → in_slots (set ns place m) ≡ in_slots ns
+        kept-in none =
+            same-in ns place n at m (none ∙ sym (sym (its-slot ns place n at) ∙ none-below rules used (in_slots ns) sites index (suc place) (omega (arith, at_used))))
+
+        module _ (mask : ℕ) (points : List Point) (after : List Site) (put : in_slot m ≡ Some (filled key rules mask points)) (tile : IsTile key rules mask points) (low : key.depth ≤ rules.cube.depth) (is : after ≡ insert_entry key_cmp sites key (suc used)) (finds : (q : VoxelKey) → slot_of after q ≡ cond (is_at (key_cmp key) q) (Some (suc used)) (slot_of sites q)) (ascend : AreAscending (map (λ (s : Site). s.0) after)) where
+          now_there : in_slots (set ns place m) ≡ set (in_slots ns) (suc used) (Some (filled key rules mask points))
+          now_there =
+              put-in ns place n at m
+              ∙ (ap (λ (x : Option grid.Node). set (in_slots ns) (suc place) x) put
+              ∙ ap (λ (k : ℕ). set (in_slots ns) (suc k) (Some (filled key rules mask points))) at_used)
+
+          room : suc used < length (in_slots ns)
+          room = omega (arith, length-in ns, long-in ns place n at, at_used)
+
+          sound : IsSoundBy rules (filled key rules mask points)
+          sound = sound-filled key rules mask points tile low
+
+          pub added-index : IsIndex rules (suc used) (in_slots (set ns place m)) after
+          added-index =
+              subst (λ (w : List (Option grid.Node)). IsIndex rules (suc used) w after) (sym now_there) (index-more rules used (in_slots ns) sites index after (filled key rules mask points) room no-slot sound is finds ascend)
+
+          pub added-nodes : branches (in_slots (set ns place m)) after ≡ insert_entry key_cmp nodes key (filled key rules mask points)
+          added-nodes =
+              ap (λ (w : List (Option grid.Node)). branches w after) now_there ∙ branches-more rules used (in_slots ns) sites index after (filled key rules mask points) room no-slot sound is finds ascend
+
+    -- the site that was put is taken out again
+    pub as-before : (k : ℕ) (after again : List Site) → after ≡ insert_entry key_cmp sites key k → again ≡ remove_entry (is_at (key_cmp key)) after → again ≡ sites
+    as-before k after again is out =
+        out ∙ (ap (λ (w : List Site). remove_entry (is_at (key_cmp key)) w) is ∙ put-removed sites key k no-slot)

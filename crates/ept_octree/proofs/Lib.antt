@@ -1,0 +1,4 @@
+pub mod Sites
+pub mod Rooting
+pub mod Placing
+pub mod Added

@@ -1,0 +1,31 @@
+use Rattle.std.proofs.Common.{◌≡◌, [], cond, Some, List, map, subst, arith}
+use Rattle.std.specs.BTreeMap.{is_at, insert_entry}
+use Rattle.ept_space.specs.VoxelKey.{VoxelKey, root, key_cmp, AreAscending}
+use Rattle.ept_sample.proofs.KeyOrder.{AllPairs-IsRising}
+use Rattle.ept_core.proofs.Lookups.{sorted-rising}
+use Rattle.ept_node.specs.Shown.{file_of}
+use Rattle.ept_forest.specs.Slots as forest
+use Rattle.ept_octree.specs.Index.{Site, slot_of}
+use Rattle.ept_octree.proofs.Rooting.{none-together, planted-index, planted-linked}
+use Rattle.ept_octree.proofs.octree.Octree.new.Goals as goal
+
+pub invariant_of-result-clause-indexed : goal.invariant_of-result-clause-indexed
+invariant_of-result-clause-indexed g c =
+    let none = c.new-slots.ensures.empty in
+    let sites : List Site = c.insert.new.self.entries in
+    let put : sites ≡ insert_entry key_cmp [] root 1 = subst (λ (es : List Site). sites ≡ insert_entry key_cmp es root 1) none c.in-Ok.ensures.entries in
+    let finds : (q : VoxelKey) → slot_of sites q ≡ cond (is_at (key_cmp root) q) (Some 1) (slot_of [] q) = subst (λ (es : List Site). (q : VoxelKey) → slot_of sites q ≡ cond (is_at (key_cmp root) q) (Some 1) (slot_of es q)) none c.in-Ok.ensures.updates.0 in
+    let ascend : AreAscending (map (λ (s : Site). s.0) sites) = AllPairs-IsRising (map (λ (s : Site). s.0) sites) (sorted-rising (map (λ (s : Site). s.0) sites) c.in-Ok.ensures.ordered) in
+    planted-index g.F.SpillFile.faults g.F.SpillFile.keeps c.args.most c.args.rules.now c.in_ok-forest.forest c.in_ok-forest.ensures.planted c.requires sites put finds ascend
+
+pub returns-in-Ok-clause-linked : goal.returns-in-Ok-clause-linked
+returns-in-Ok-clause-linked g c =
+    planted-linked g.F.SpillFile.faults g.F.SpillFile.keeps c.args.most c.args.rules.now c.in_ok-forest.forest c.in_ok-forest.ensures.planted
+
+pub returns-in-Ok-clause-fresh : goal.returns-in-Ok-clause-fresh
+returns-in-Ok-clause-fresh g c =
+    none-together (λ node. g.F.SpillFile.faults (file_of node)) (forest.nodes_of c.in_ok-forest.forest) c.in_ok-forest.ensures.planted.fresh
+
+pub returns-in-Err-clause-unkept : goal.returns-in-Err-clause-unkept
+returns-in-Err-clause-unkept g c =
+    omega (arith, c.retire_all.ensures.counted, none-together (λ node. g.F.SpillFile.keeps (file_of node)) (forest.nodes_of c.in_ok-forest.forest) c.in_ok-forest.ensures.planted.unused, c.in_ok-forest.ensures.counted)

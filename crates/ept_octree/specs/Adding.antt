@@ -1,0 +1,29 @@
+-- A node that is added.
+use Rattle.std.specs.Prelude.{◌≡◌, ◌⊎◌, ℕ, List, [], ◌∷◌}
+use Rattle.ept_point.specs.declared.point.Point.{Point}
+use Rattle.ept_space.specs.declared.cube.Rules.{Rules}
+use Rattle.ept_space.specs.VoxelKey.{VoxelKey, root}
+use Rattle.ept_sample.specs.Members.{IsMember}
+use Rattle.ept_grid.specs.Node as grid
+use Rattle.ept_grid.specs.declared.error.GridError.{GridError}
+use Rattle.ept_grid.specs.declared.error.GridError.TheVariants as faults
+use Rattle.ept_table.specs.Octree.{Branch}
+use Rattle.ept_octree.specs.declared.error.AddError.{AddError}
+use Rattle.ept_octree.specs.declared.error.AddError.TheVariants as errors
+
+-- the node of a key with these points and open octants
+abbrev pub filled : VoxelKey → Rules → ℕ → List Point → grid.Node
+filled key rules mask points = record { key = key; rules = rules; points = points; mask = mask; room = 0 }
+
+-- no node has the key, or it is the root and there is no other node, nor a point
+abbrev pub IsFree : VoxelKey → List Branch → Type 0
+IsFree key nodes =
+    ((b : Branch) → IsMember b nodes → b.0 ≡ key → ⊥) ⊎ ((key ≡ root) × (g : grid.Node) × (nodes ≡ (let b : Branch = (root, g) in b) ∷ []) × (g.points ≡ []))
+
+-- want of memory, or what is wrong with the tile
+abbrev pub of_grid : GridError → AddError
+of_grid faults.Memory = errors.Memory
+of_grid (faults.Outside at) = errors.Damaged (faults.Outside at)
+of_grid (faults.OpenLoser at) = errors.Damaged (faults.OpenLoser at)
+of_grid (faults.TooMany o) = errors.Damaged (faults.TooMany o)
+of_grid faults.Deep = errors.Damaged faults.Deep

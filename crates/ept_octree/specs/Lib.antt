@@ -1,0 +1,4 @@
+pub mod Index
+pub mod Adding
+pub mod Octree
+pub mod Props

@@ -1,0 +1,57 @@
+-- An octree, as its callers see it.
+use Rattle.std.specs.Prelude.{ℕ, List, map, length}
+use Rattle.ept_point.specs.declared.point.Point.{Point}
+use Rattle.ept_space.specs.declared.cube.Rules.{Rules}
+use Rattle.ept_space.specs.VoxelKey.{VoxelKey}
+use Rattle.ept_node.specs.Shown.{file_of}
+use Rattle.ept_forest.specs.declared.forest.Forest.{Forest}
+use Rattle.ept_forest.specs.Slots as forest
+use Rattle.ept_table.specs.Octree.{Branch, entry_of, points_in, keys_in, AreNodes, AreWhole, KeepsNodes, AreLinked}
+use Rattle.ept_octree.specs.declared.octree.Octree.{Octree}
+use Rattle.ept_octree.specs.Index.{in_slots, taken_in, branches}
+
+module _ {F : Type 0} where
+  -- the forest in whose slots its nodes stand
+  abbrev pub forest_of : Octree F → Forest F
+  forest_of octree = octree.forest
+
+  -- the rules of its sampling
+  abbrev pub rules_of : Octree F → Rules
+  rules_of octree = octree.rules
+
+  -- how many nodes it may have
+  abbrev pub most_of : Octree F → ℕ
+  most_of octree = length (forest.nodes_of (forest_of octree))
+
+  -- its nodes by their keys, in key order
+  abbrev pub nodes_of : Octree F → List Branch
+  nodes_of octree = branches (in_slots (forest.nodes_of (forest_of octree))) octree.slots.entries
+
+  -- the points of all its nodes
+  abbrev pub points_of : Octree F → List Point
+  points_of octree = points_in (nodes_of octree)
+
+  -- the spill files of its slots
+  abbrev pub files_of : Octree F → List F
+  files_of octree = map file_of (forest.nodes_of (forest_of octree))
+
+  -- the keys of its nodes in the order of their slots: those of the nodes that stand as a table is made of it
+  abbrev pub begun_of : Octree F → List VoxelKey
+  begun_of octree = keys_in (taken_in (forest.nodes_of (forest_of octree)))
+
+  -- each node has its key and the octree's rules
+  abbrev pub HasOwnNodes : Octree F → Type 0
+  HasOwnNodes octree = AreNodes (rules_of octree) (nodes_of octree)
+
+  -- its nodes are a whole octree, whatever points they have
+  abbrev pub IsWhole : Octree F → Type 0
+  IsWhole octree = AreWhole (map entry_of (nodes_of octree))
+
+  -- each open octant has the slot of its child
+  abbrev pub IsLinked : Octree F → Type 0
+  IsLinked octree = AreLinked (taken_in (forest.nodes_of (forest_of octree)))
+
+  -- an octree that was whole is whole, and no node is gone
+  abbrev pub GrowsWhole : Octree F → Octree F → Type 0
+  GrowsWhole old new =
+      IsWhole old → IsWhole new × KeepsNodes (map entry_of (nodes_of old)) (map entry_of (nodes_of new))

@@ -1,0 +1,11 @@
+//! The octree between the phases of a build: nodes in the slots of a forest, and the slot of each key.
+#![tactic(auto)]
+
+mod adding;
+mod error;
+mod linking;
+mod octree;
+mod resting;
+
+pub use error::AddError;
+pub use octree::Octree;

@@ -1,0 +1,1 @@
+//! The slots of the children.

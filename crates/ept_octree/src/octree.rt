@@ -1,0 +1,116 @@
+//! An octree, and its nodes one at a time.
+
+ghost use Rattle.std.specs.Prelude.{◌≡◌, ◌≤◌, ◌<◌, ◌+◌, ◌∷◌, ◌++◌, [], ℕ, true, OnOk, OnErr, IfOk, length, map};
+ghost use Rattle.ept_base.specs.Causes.{HasCauseOf, Rose};
+ghost use Rattle.ept_base.specs.Devices.{counts_on};
+ghost use Rattle.ept_base.specs.declared.errors.PutError.TheVariants as put;
+ghost use Rattle.ept_space.specs.VoxelKey.{root};
+ghost use Rattle.ept_forest.specs.Slots as trees;
+ghost use Rattle.ept_node.specs.Shown.{empty_node};
+ghost use Rattle.ept_table.specs.Octree.{key_of};
+ghost use Rattle.ept_octree.specs.Index.{IsIndex, in_slots};
+ghost use Rattle.ept_octree.specs.Props.{props};
+
+use ept_base::{PutError, Room, SpillFile};
+use ept_forest::Forest;
+use ept_space::{Key, Rules};
+use std::alloc::Global;
+use std::collections::BTreeMap;
+
+/// An octree of nodes in the slots of a forest, between the phases of a build.
+///
+/// It can't be dropped where its spill files can't: their room takes them back by `retire_all`.
+pub struct Octree<F> {
+    pub(crate) forest: Forest<F>,
+    pub(crate) slots: BTreeMap<Key, u32>,
+    pub(crate) rules: Rules,
+    pub(crate) most: u32,
+    ghost indexed: { IsIndex rules (trees.used_of forest) (in_slots (trees.nodes_of forest)) slots.entries } by { Prim.hlevel props },
+    ghost limit: { most ≡ length (trees.nodes_of forest) },
+}
+
+impl<F: SpillFile> Octree<F> {
+    ghost use Rattle.ept_octree.specs.Octree.{forest_of, rules_of, most_of, nodes_of, points_of, files_of, HasOwnNodes, IsWhole, IsLinked};
+
+    /// The octree of no points, of at most so many nodes: its root. After a refusal the room has its files back.
+    ///
+    /// # Errors
+    ///
+    /// `Failed` where the room fails to make a file.
+    pub fn new<R: Room<File = F>>(
+        alloc: Global,
+        room: &mut R,
+        most: u32,
+        rules: &Rules,
+    ) -> Result<Octree<F>, PutError>
+        requires { 1 ≤ most }
+        ensures rules { IfOk result (λ octree. rules_of octree ≡ rules.now) }
+        ensures most { IfOk result (λ octree. most_of octree ≡ most) }
+        ensures root { IfOk result (λ octree. nodes_of octree ≡ (root, empty_node root rules.now) ∷ []) }
+        ensures linked { IfOk result IsLinked }
+        ensures fresh { IfOk result (λ octree. trees.faults_of F.faults (trees.nodes_of (forest_of octree)) ≡ 0) }
+        ensures counted { OnOk result (R.keeps room.new ≡ R.keeps room.old) }
+        ensures unkept { OnErr result (trees.told (R.keeps room.new) ≡ trees.told (R.keeps room.old)) }
+        ensures cause { HasCauseOf put.Failed (R.faults room.old) (R.faults room.new) result }
+    {
+        let forest = Forest::new(alloc, room, most, rules)?;
+        let mut slots = BTreeMap::new(alloc);
+        match slots.insert(Key::ROOT, 1) {
+            Ok(_) => Ok(Octree {
+                forest,
+                slots,
+                rules: *rules,
+                most,
+            }),
+            Err(_) => {
+                forest.retire_all(room);
+                Err(PutError::Memory)
+            }
+        }
+    }
+
+    /// The rules of the sampling.
+    pub fn rules(&self) -> &Rules
+        ensures { result.now ≡ rules_of self.now }
+    {
+        &self.rules
+    }
+
+    /// How many nodes it has.
+    pub fn len(&self) -> u64
+        ensures number { result ≡ length (nodes_of self.now) }
+        ensures few { length (nodes_of self.now) ≤ most_of self.now }
+        ensures own { HasOwnNodes self.now }
+    {
+        self.slots.len() as u64
+    }
+
+    /// Gives all spill files back to their room. It takes no memory.
+    pub fn retire_all<R: Room<File = F>>(self, room: &mut R)
+        ensures later { R.faults room.old ≤ R.faults room.new }
+        ensures failed { 0 < trees.faults_of F.faults (trees.nodes_of (forest_of self)) → Rose (R.faults room.old) (R.faults room.new) }
+        ensures sound { trees.faults_of F.faults (trees.nodes_of (forest_of self)) ≡ 0 → R.faults room.new ≡ R.faults room.old }
+        ensures counted { trees.told (R.keeps room.new) ≡ counts_on (R.keeps room.old) (trees.kept_by F.keeps (trees.nodes_of (forest_of self))) }
+    {
+        let Octree {
+            forest,
+            slots: _slots,
+            rules: _rules,
+            most: _most,
+        } = self;
+        forest.retire_all(room);
+    }
+
+    /// The forest in whose slots the nodes stand.
+    pub fn into_forest(self) -> Forest<F>
+        ensures { result ≡ forest_of self }
+    {
+        let Octree {
+            forest,
+            slots: _slots,
+            rules: _rules,
+            most: _most,
+        } = self;
+        forest
+    }
+}

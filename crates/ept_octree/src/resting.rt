@@ -1,0 +1,1 @@
+//! An octree and what a table has left.
