@@ -24,6 +24,7 @@ arrived-requires-clause-inside g c =
     let carried = carried-same v c.reserve.new.self.flights.items c.args.visit.number is.carried c.index.result.now is.is_last c.reserve.new.self.carries c.index.ensures in
     let points : c.as_slice.result.now ≡ is.carried.flight.points = c.as_slice.ensures ∙ ap (λ (d : Carried). d.flight.points) (sym carried) in
     visit-inside g.J.Scan.told v c.args.visit is c.as_slice.result.now points
+
 pub arrived-requires-clause-some : goal.arrived-requires-clause-some
 arrived-requires-clause-some g c =
     let seat = c.reserve.new.self.seat in
@@ -32,12 +33,14 @@ arrived-requires-clause-some g c =
     let carried = carried-same v c.reserve.new.self.flights.items c.args.visit.number is.carried c.index.result.now is.is_last c.reserve.new.self.carries c.index.ensures in
     let points : c.as_slice.result.now ≡ is.carried.flight.points = c.as_slice.ensures ∙ ap (λ (d : Carried). d.flight.points) (sym carried) in
     visit-some g.J.Scan.told v c.args.visit is c.as_slice.result.now points
+
 pub returns-in-Err-clause-refused : goal.returns-in-Err-clause-refused
 returns-in-Err-clause-refused g c =
     let seat = c.reserve.new.self.seat in
     let v = known g.S.Source.whole seat.me.0 in
     let is = subst (λ (s : SlotSeat (Item g.row.F.Denot g.row.S.Denot) Note Said). IsVisit g.J.Scan.told (known g.S.Source.whole s.me.0) c.args.visit) (sym c.reserve.ensures.seat) c.requires.visit in
     visit-again g.J.Scan.told v c.args.visit is c.in-Err.node c.in-Err.ensures.refused
+
 pub open_children-node-requires-clause-may : goal.open_children-node-requires-clause-may
 open_children-node-requires-clause-may g c =
     let seat = c.reserve.new.self.seat in
@@ -46,6 +49,7 @@ open_children-node-requires-clause-may g c =
     let carried = carried-same v c.reserve.new.self.flights.items c.args.visit.number is.carried c.index.result.now is.is_last c.reserve.new.self.carries c.index.ensures in
     let points : c.as_slice.result.now ≡ is.carried.flight.points = c.as_slice.ensures ∙ ap (λ (d : Carried). d.flight.points) (sym carried) in
     visit-may g.J.Scan.told v c.args.visit is c.as_slice.result.now points c.in-Ok.node c.arrived.new.out c.in-Ok.ensures.ok c.in-Ok.ensures.state c.open_mask-before.result c.open_mask-before.ensures
+
 pub open_children-node-requires-clause-unopened : goal.open_children-node-requires-clause-unopened
 open_children-node-requires-clause-unopened g c =
     let seat = c.reserve.new.self.seat in
@@ -54,6 +58,7 @@ open_children-node-requires-clause-unopened g c =
     let carried = carried-same v c.reserve.new.self.flights.items c.args.visit.number is.carried c.index.result.now is.is_last c.reserve.new.self.carries c.index.ensures in
     let points : c.as_slice.result.now ≡ is.carried.flight.points = c.as_slice.ensures ∙ ap (λ (d : Carried). d.flight.points) (sym carried) in
     visit-unopened g.J.Scan.told v c.args.visit is c.as_slice.result.now points c.in-Ok.node c.arrived.new.out c.in-Ok.ensures.ok c.in-Ok.ensures.state
+
 pub returns-clause-ok : goal.returns-clause-ok
 returns-clause-ok g c =
     let seat = c.reserve.new.self.seat in

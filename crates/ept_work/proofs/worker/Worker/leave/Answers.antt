@@ -21,16 +21,19 @@ give-done-requires-clause-visit g c =
     let told = g.J.Scan.told in
     let v = known g.S.Source.whole c.args.self.now.seat.me.0 in
     let item = known-item g.S.Source.whole c.args.self.now.seat.me.0 c.args.landing.slot is.taken is.holds in
-    let cell = cell_of c.args.landing.node in
-    (item.0, item.1, record {
-      carried = is.carried;
-      cell = cell;
-      its = is.is_last.its;
-      goes_there = is.goes_there;
-      is_node = is.is_node;
-      given = seen-resident c.args.landing.node is.resident;
-      has_arrived = subst (λ (x : Taken). HasArrived told v x is.carried.flight cell c.of.result) (sym item.2) (subst (λ (fs : List Carried). HasArrived told v is.taken is.carried.flight cell fs) (sym c.of.ensures) is.has_arrived);
-    })
+    let cell = cell_of c.args.landing.node in (
+      item.0,
+      item.1,
+      record {
+        carried = is.carried;
+        cell = cell;
+        its = is.is_last.its;
+        goes_there = is.goes_there;
+        is_node = is.is_node;
+        given = seen-resident c.args.landing.node is.resident;
+        has_arrived = subst (λ (x : Taken). HasArrived told v x is.carried.flight cell c.of.result) (sym item.2) (subst (λ (fs : List Carried). HasArrived told v is.taken is.carried.flight cell fs) (sym c.of.ensures) is.has_arrived);
+      },
+    )
 
 pub give-done-requires-clause-slot : goal.give-done-requires-clause-slot
 give-done-requires-clause-slot g c =
