@@ -2,3 +2,8 @@ pub mod Known
 pub mod Reading
 pub mod Opened
 pub mod Meeting
+pub mod Begun
+pub mod Carrying
+pub mod Inside
+pub mod Landed
+pub mod Arrivals

@@ -93,23 +93,26 @@ module _ {S : Type 0} (whole left : S → Option (List ℕ)) (given faults : S �
     many = ap length are ∙ batch.2
 
     pub read-ok : Reads points
-    read-ok = (record {
-      inputs = ap (λ (w : List queue.Held). map counted w) files;
-      drawn = omega (arith, drawn, many);
-      left = omega (arith, left_is, many);
-      allowed = omega (arith, allowed, many);
-      failed = λ e is. absurd (let none : None ≡ Some e = sym sound ∙ is in cc);
-      in_cube = λ p m. lies-in-cube p (all-member (LiesIn (files_of whole old)) p batch.0 batch.3 (subst (λ (w : List Point). IsMember p w) are m));
-      next = λ tells. (
-          let r = rest (drop (drawn_of old) told.points) (filed.rest tells sound) in
-          r.0 ∙ (ap (λ (w : List Point). w ++ take (batch_of n old) (drop (drawn_of old) told.points)) empty ∙ ap (λ (k : ℕ). take k (drop (drawn_of old) told.points)) (sym many)));
-    }, record {
-      reader = reader;
-      rest = λ tells none. (
-          let r = rest (drop (drawn_of old) told.points) (filed.rest tells sound) in
-          subst (λ (w : List Point). IsRest whole new w) (drop-drop (batch_of n old) (drawn_of old) told.points ∙ ap (λ (k : ℕ). drop k told.points) (sym drawn)) r.1);
-      no_change = λ tells source number is. (let none : None ≡ Some (read.SourceChanged source number) = sym still ∙ is in cc);
-    })
+    read-ok = (
+      record {
+        inputs = ap (λ (w : List queue.Held). map counted w) files;
+        drawn = omega (arith, drawn, many);
+        left = omega (arith, left_is, many);
+        allowed = omega (arith, allowed, many);
+        failed = λ e is. absurd (let none : None ≡ Some e = sym sound ∙ is in cc);
+        in_cube = λ p m. lies-in-cube p (all-member (LiesIn (files_of whole old)) p batch.0 batch.3 (subst (λ (w : List Point). IsMember p w) are m));
+        next = λ tells. (
+            let r = rest (drop (drawn_of old) told.points) (filed.rest tells sound) in
+            r.0 ∙ (ap (λ (w : List Point). w ++ take (batch_of n old) (drop (drawn_of old) told.points)) empty ∙ ap (λ (k : ℕ). take k (drop (drawn_of old) told.points)) (sym many)));
+      },
+      record {
+        reader = reader;
+        rest = λ tells none. (
+            let r = rest (drop (drawn_of old) told.points) (filed.rest tells sound) in
+            subst (λ (w : List Point). IsRest whole new w) (drop-drop (batch_of n old) (drawn_of old) told.points ∙ ap (λ (k : ℕ). drop k told.points) (sym drawn)) r.1);
+        no_change = λ tells source number is. (let none : None ≡ Some (read.SourceChanged source number) = sym still ∙ is in cc);
+      },
+    )
 
   -- ---- it was refused
 
@@ -164,11 +167,14 @@ module _ {S : Type 0} (whole left : S → Option (List ℕ)) (given faults : S �
     }
 
     pub read-err : Reads points
-    read-err = (subst (λ (w : List Point). HasRead told (seen_reader whole old) (seen_reader whole new) w) (sym nothing) has_read, record {
-      reader = reader;
-      rest = still_rest;
-      no_change = never_changed;
-    })
+    read-err = (
+      subst (λ (w : List Point). HasRead told (seen_reader whole old) (seen_reader whole new) w) (sym nothing) has_read,
+      record {
+        reader = reader;
+        rest = still_rest;
+        no_change = never_changed;
+      },
+    )
 
   -- ---- either
 

@@ -120,6 +120,8 @@ impl<F, S: Source> Worker<F, S> {
             number,
             was_blank,
         } = visit;
+        table.rules().cube.known();
+        node.known();
         let before = node.open_mask();
         let flight = &self.flights[number as usize].flight;
         let actor = flight.actor;
@@ -136,6 +138,8 @@ impl<F, S: Source> Worker<F, S> {
             }
         };
         let Opening { node, is_full } = open_children(table, &mut self.seat, node, slot, before);
+        node.known();
+        self.out.known();
         let fresh = mem::replace(&mut self.fresh, Vec::new(alloc));
         let fresh = send_on(alloc, &node, actor, &mut self.out, fresh);
         Ok(Landing {

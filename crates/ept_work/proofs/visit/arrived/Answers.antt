@@ -17,5 +17,5 @@ returns-in-Ok-clause-ok g c =
       together = λ test. omega (arith, e.together test, none-leaves c.args.out.now c.requires.empty test);
       sends = λ o low. subst (λ (w : List Point). SendsOn old new o w (points_at c.arrive_batch.new.out o)) (c.requires.empty o) (e.sends_on o low);
       opens = λ different. taken-opens old new c.args.points.now c.args.out.now c.arrive_batch.new.out (e.takes_in different) c.requires.some;
-      arrives = λ different. e.arrives different c.requires.some c.requires.empty;
+      arrives = λ different. e.arrives different c.requires.some (λ o low. c.requires.empty o);
     }

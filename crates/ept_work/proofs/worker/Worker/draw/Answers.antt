@@ -26,8 +26,12 @@ read_batch-reader-requires-clause-filed g c =
     subst (λ (x : Item g.row.F.Denot g.row.S.Denot). Filed g.S.Source.whole g.S.Source.left g.S.Source.given g.S.Source.faults g.J.Scan.told x) c.reader_in.ensures c.take-item.ensures.filed
 
 pub give-done-requires-clause-visit : goal.give-done-requires-clause-visit
-give-done-requires-clause-visit g c =
-    (c.take-item.result, c.take-item.ensures.holds, (c.read_batch-reader.result.batch.items, record {
+give-done-requires-clause-visit g c = (
+  c.take-item.result,
+  c.take-item.ensures.holds,
+  (
+    c.read_batch-reader.result.batch.items,
+    record {
       old = seen_reader g.S.Source.whole c.reader_in.result;
       new = seen_reader g.S.Source.whole c.read_batch-reader.result.reader;
       slot = refl;
@@ -36,7 +40,9 @@ give-done-requires-clause-visit g c =
       has_read = c.read_batch-reader.ensures.reads.0;
       actor = c.args.self.now.number;
       flies = c.of.ensures ∙ c.launched-fresh.ensures;
-    }))
+    },
+  ),
+)
 
 pub give-done-requires-clause-filed : goal.give-done-requires-clause-filed
 give-done-requires-clause-filed g c = c.read_batch-reader.ensures.reads.1
