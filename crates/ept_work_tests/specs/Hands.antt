@@ -1,0 +1,47 @@
+-- Workers between any two of their steps.
+use Rattle.std.specs.Prelude.{◌≡◌, ◌+◌, ℕ, List, [], Option}
+use Rattle.ept_slots.specs.Views.{whole}
+use Rattle.ept_table.specs.declared.note.Told.{Told}
+use Rattle.ept_table.specs.declared.table.NodeTable.{NodeTable}
+use Rattle.ept_table.specs.Table.{slots_of, rules_of, IsSeat}
+use Rattle.ept_work.specs.declared.worker.Worker.{Worker}
+use Rattle.ept_work.specs.Worker.{seat_of, knows}
+use Rattle.ept_work.specs.Rest.{IsIdle, IsAtRest}
+use Rattle.ept_work.specs.Visiting.{IsVisit, IsLanding, HasRoom}
+use Rattle.ept_work_tests.specs.declared.hands.Doing.{Doing}
+use Rattle.ept_work_tests.specs.declared.hands.Doing.TheVariants.{Rest, Up, Down, Ended}
+use Rattle.ept_work_tests.specs.declared.hands.Hand.{Hand}
+use Rattle.ept_work_tests.specs.declared.turns.Pair.{Pair}
+
+module _ {F S : Type 0} (contents : S → Option (List ℕ)) (told : Told) where
+  -- it carries no flight, and holds no slot
+  pub record HasEnded (worker : Worker F S) : Type 0 where
+    pub idle : IsIdle (knows contents worker)
+    pub landed : (knows contents worker).note.flights ≡ []
+
+  -- the worker is between these steps
+  abbrev pub IsAt : Worker F S → Doing F → Type 0
+  IsAt worker Rest = IsAtRest told (knows contents worker)
+  IsAt worker (Up visit) = IsVisit told (knows contents worker) visit
+  IsAt worker (Down landing) = IsLanding told (knows contents worker) landing × HasRoom worker landing
+  IsAt worker (Ended refused) = HasEnded worker
+
+  -- its share of the seats
+  abbrev pub parts_of : Worker F S → ℕ
+  parts_of worker = (knows contents worker).parts
+
+-- a table of which this is told
+pub record IsTable {F S J : Type 0} (told : Told) (table : NodeTable F S J) : Type 0 where
+  pub slots : slots_of table ≡ told.most + 1
+  pub rules : rules_of table ≡ told.rules
+
+-- a worker of the table, at some step
+pub record IsHand {F S J : Type 0} (contents : S → Option (List ℕ)) (told : Told) (table : NodeTable F S J) (hand : Hand F S) : Type 0 where
+  pub seat : IsSeat told table (seat_of hand.worker)
+  pub at : IsAt contents told hand.worker hand.doing
+
+-- two workers, which have all shares
+pub record IsPair {F S J : Type 0} (contents : S → Option (List ℕ)) (told : Told) (table : NodeTable F S J) (pair : Pair F S) : Type 0 where
+  pub first : IsHand contents told table pair.first
+  pub second : IsHand contents told table pair.second
+  pub shares : parts_of contents told pair.first.worker + parts_of contents told pair.second.worker ≡ whole

@@ -1,0 +1,236 @@
+//! What workers leave, beside the sampling of the points.
+
+ghost use Rattle.std.specs.Prelude.{◌≤◌};
+
+use crate::turns::{Worked, work_in_turns};
+use ept_forest::Forest;
+use ept_mem::{MemRoom, MemSource, MemSpill};
+use ept_node::{Node, NodeState};
+use ept_num::lcg;
+use ept_point::{Memory, Point};
+use ept_sample::{Tiles, are_in_cube, ids_ascend, sample};
+use ept_space::{Key, Rules};
+use ept_table_fixtures::{Known, read_known, shelf_of};
+use ept_work::WorkError;
+use std::alloc::{AllocError, Global};
+use std::fmt::Debug;
+use std::marker::Brand;
+use std::process::Abort;
+use std::sync::Wait;
+use std::test::Fail;
+
+// What `assert_eq!` writes is proved wherever it stands, so it stands here once.
+fn same<T: PartialEq + Debug>(rt: &impl Abort, found: &T, wanted: &T) {
+    assert_eq!(rt; found, wanted);
+}
+
+// The places 0 to 7 on each axis, and 0 to 31.
+const SMALL: &str =
+    r#"{"input":"a.las","scale":0,"bounds":[0,0,0,7,7,7],"span":2,"minNodeSize":0,"maxDepth":2}"#;
+
+const WIDE: &str =
+    r#"{"input":"a.las","scale":0,"bounds":[0,0,0,31,31,31],"span":2,"minNodeSize":3,"maxDepth":4}"#;
+
+// A node that stands in a slot.
+#[derive(Drop)]
+struct Standing {
+    key: Key,
+    points: Vec<Point>,
+}
+
+// All points and their rules, what stands then, and why the workers were refused.
+#[derive(Drop)]
+struct Built {
+    rules: Rules,
+    points: Vec<Point>,
+    standing: Vec<Standing>,
+    used: u32,
+    refused: [Option<WorkError>; 2],
+}
+
+// The nodes that are not blank, slot by slot.
+fn standing_in<F>(alloc: Global, nodes: &mut [Node<F>]) -> Result<Vec<Standing>, Memory> {
+    let mut standing = Vec::new(alloc);
+    for node in nodes.iter_mut() {
+        if node.state() == NodeState::Resident {
+            let mut points = Vec::new(alloc);
+            node.points_into(&mut points)?;
+            let key = node.key();
+            standing.push(Standing { key, points })?;
+        }
+    }
+    Ok(standing)
+}
+
+// Two workers that take these turns bring the points at these places down to at most so many nodes.
+fn build<H: Wait>(
+    rt: &H,
+    alloc: Global,
+    config: &str,
+    places: &[[i32; 3]],
+    most: u32,
+    turns: &[bool],
+) -> Result<Built, Fail>
+    requires { 1 ≤ most }
+{
+    let mut shelf = shelf_of(alloc, places)?;
+    let mut room = MemRoom::new(alloc, Vec::new(alloc), Vec::new(alloc));
+    let Some(known) = read_known(alloc, &mut shelf, config, 100_000) else {
+        return Err(Fail::new("no reader"));
+    };
+    let rules = known.rules;
+    let points = Vec::from_slice(alloc, &known.points);
+    let forest = match Forest::new(alloc, &mut room, most, &rules) {
+        Ok(forest) => forest,
+        Err(refused) => {
+            let Known {
+                reader,
+                rules: _,
+                kept: _,
+                counts: _,
+                points: _,
+            } = known;
+            reader.retire_all(&mut shelf);
+            return Err(refused.into());
+        }
+    };
+    let Worked {
+        forest,
+        reader,
+        refused,
+    } = work_in_turns::<MemSpill, MemSource, Brand, H>(rt, alloc, forest, known, most, turns);
+    reader.retire_all(&mut shelf);
+    let (mut nodes, used) = forest.into_nodes();
+    let standing = standing_in(alloc, &mut nodes);
+    Forest::from_nodes(nodes, used).retire_all(&mut room);
+    Ok(Built {
+        rules,
+        points: points?,
+        standing: standing?,
+        used,
+        refused,
+    })
+}
+
+// Whether the node of a key stands there, with the points of these numbers.
+fn stands(built: &Built, key: Key, numbers: &[u32]) -> bool {
+    built.standing.iter().any(|node| {
+        node.key == key
+            && node.points.len() == numbers.len()
+            && node
+                .points
+                .iter()
+                .zip(numbers.iter())
+                .all(|(point, number)| point.number == *number)
+    })
+}
+
+// The worked example of points that make three nodes.
+const PLACES: [[i32; 3]; 5] = [[1, 1, 1], [2, 2, 2], [3, 3, 3], [6, 6, 6], [5, 5, 5]];
+
+#[test]
+fn one_worker_makes_the_nodes_of_a_worked_example(rt: HostRuntime) -> Result<(), Fail> {
+    let alloc = rt.alloc();
+    let turns = [true; 40];
+    for most in [3, 4] {
+        let built = build(&rt, alloc, SMALL, &PLACES, most, &turns)?;
+        same(&rt, &built.refused, &[None, None]);
+        same(&rt, &(built.used, built.standing.len()), &(3, 3));
+        let low = Key {
+            depth: 1,
+            x: 0,
+            y: 0,
+            z: 0,
+        };
+        let high = Key {
+            depth: 1,
+            x: 1,
+            y: 1,
+            z: 1,
+        };
+        let is_built = stands(&built, Key::ROOT, &[1, 3])
+            && stands(&built, low, &[0, 2])
+            && stands(&built, high, &[4]);
+        same(&rt, &is_built, &true);
+    }
+    for most in [1, 2] {
+        let built = build(&rt, alloc, SMALL, &PLACES, most, &turns)?;
+        same(&rt, &built.refused, &[Some(WorkError::TooManyNodes), None]);
+        same(&rt, &built.used, &most);
+    }
+    Ok(())
+}
+
+// Numbers as if drawn by lot, the same in each run.
+#[derive(Drop)]
+struct Lot {
+    state: u64,
+}
+
+impl Lot {
+    fn next(&mut self) -> u64 {
+        self.state = lcg(self.state);
+        self.state >> 33
+    }
+
+    fn places(&mut self, alloc: Global, count: u32) -> Result<Vec<[i32; 3]>, AllocError> {
+        let mut places = Vec::new(alloc);
+        for _ in 0..count {
+            let mut place = [0; 3];
+            for coordinate in place.iter_mut() {
+                *coordinate = (self.next() % 32) as i32;
+            }
+            places.push(place)?;
+        }
+        Ok(places)
+    }
+
+    // Turns of which each worker has some at a time.
+    fn turns(&mut self, alloc: Global, count: u32) -> Result<Vec<bool>, AllocError> {
+        let mut turns = Vec::new(alloc);
+        let run = self.next() % 9 + 1;
+        let mut is_first = true;
+        for _ in 0..count {
+            if self.next() % run == 0 {
+                is_first = !is_first;
+            }
+            turns.push(is_first)?;
+        }
+        Ok(turns)
+    }
+}
+
+// Whether what stands is these tiles.
+fn are_same(standing: &[Standing], tiles: &Tiles) -> bool {
+    let tiles = tiles.tiles.as_slice();
+    standing.len() == tiles.len()
+        && tiles.iter().all(|tile| {
+            standing.iter().any(|node| node.key == tile.key
+                && node.points.as_slice() == tile.points.as_slice())
+        })
+}
+
+// More points than are drawn at a time, so that both workers carry flights.
+#[test]
+fn turns_by_lot_end_in_the_sampling(rt: HostRuntime) -> Result<(), Fail> {
+    let alloc = rt.alloc();
+    let mut lot = Lot { state: 7 };
+    let places = lot.places(alloc, 3_000)?;
+    let mut wanted = None;
+    for list in 0..12 {
+        let turns = lot.turns(alloc, 60_000)?;
+        let built = build(&rt, alloc, WIDE, &places, 4_000, &turns)?;
+        same(&rt, &built.refused, &[None, None]);
+        if wanted.is_none() {
+            built.rules.cube.known();
+            assert!(rt; ids_ascend(&built.points));
+            assert!(rt; are_in_cube(&built.points, &built.rules.cube));
+            wanted = Some(sample(alloc, &built.points, &built.rules)?);
+        }
+        let is_same = wanted
+            .as_ref()
+            .is_some_and(|tiles| are_same(&built.standing, tiles));
+        assert!(rt; is_same, "list {list}");
+    }
+    Ok(())
+}

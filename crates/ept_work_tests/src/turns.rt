@@ -1,0 +1,140 @@
+//! Two workers that take turns.
+
+ghost use Rattle.std.specs.Prelude.{◌≡◌, ◌≤◌, true, [], ◌∷◌};
+ghost use Rattle.ept_space.specs.VoxelKey.{root};
+ghost use Rattle.ept_forest.specs.Slots.{IsPlanted};
+ghost use Rattle.ept_table.specs.Scanned.{told_of};
+ghost use Rattle.ept_table_fixtures.specs.Known.{IsKnown};
+ghost use Rattle.ept_work_tests.specs.Hands.{IsTable, IsPair};
+
+use crate::hands::{Doing, Hand, Past, finish, step};
+use ept_base::{Source, SpillFile};
+use ept_forest::Forest;
+use ept_scan::Reader;
+use ept_table::{NodeTable, Scan, Unmade};
+use ept_table_fixtures::{Known, seated};
+use ept_work::{WorkError, Worker};
+use std::alloc::Global;
+use std::sync::Wait;
+
+/// Two workers of one table.
+pub struct Pair<F, S> {
+    pub first: Hand<F, S>,
+    pub second: Hand<F, S>,
+}
+
+/// What the work at a table leaves, and why the workers were refused, if they were.
+pub struct Worked<F, S> {
+    pub forest: Forest<F>,
+    pub reader: Reader<S>,
+    pub refused: [Option<WorkError>; 2],
+}
+
+// Whether the next step of one would have to wait for a node that the other may hold.
+fn may_wait<F, S: Source>(one: &Hand<F, S>, other: &Hand<F, S>) -> bool {
+    match (&one.doing, &other.doing) {
+        (Doing::Rest, Doing::Up(_) | Doing::Down(_)) => !one.worker.is_empty(),
+        _ => false,
+    }
+}
+
+// One of the workers makes a step. Where it would have to wait, the other one makes it.
+fn turn<F, S: Source, J: Scan, H: Wait>(
+    rt: &H,
+    alloc: Global,
+    table: &NodeTable<F, S, J>,
+    pair: Pair<F, S>,
+    is_first: bool,
+) -> Pair<F, S>
+    requires table { IsTable J.told table.now }
+    requires pair { IsPair S.whole J.told table.now pair }
+    ensures { IsPair S.whole J.told table.now result }
+{
+    let Pair { first, second } = pair;
+    let goes_first = if is_first {
+        !may_wait(&first, &second)
+    } else {
+        may_wait(&second, &first)
+    };
+    if goes_first {
+        Pair {
+            first: step(rt, alloc, table, first),
+            second,
+        }
+    } else {
+        Pair {
+            first,
+            second: step(rt, alloc, table, second),
+        }
+    }
+}
+
+// The workers take these turns.
+fn take_turns<F, S: Source, J: Scan, H: Wait>(
+    rt: &H,
+    alloc: Global,
+    table: &NodeTable<F, S, J>,
+    mut pair: Pair<F, S>,
+    turns: &[bool],
+) -> Pair<F, S>
+    requires table { IsTable J.told table.now }
+    requires pair { IsPair S.whole J.told table.now pair }
+    ensures { IsPair S.whole J.told table.now result }
+{
+    for is_first in turns {
+        pair = turn(rt, alloc, table, pair, *is_first);
+    }
+    pair
+}
+
+/// Two workers at a table of a new forest and a known reader take these turns, and end.
+pub fn work_in_turns<F: SpillFile, S: Source, J: Scan, H: Wait>(
+    rt: &H,
+    alloc: Global,
+    forest: Forest<F>,
+    known: Known<S>,
+    most: u32,
+    turns: &[bool],
+) -> Worked<F, S>
+    requires told { J.told ≡ told_of S.whole known.reader known.rules most (root ∷ []) true known.points.items }
+    requires known { IsKnown S.whole S.left S.given S.faults known }
+    requires some { 1 ≤ most }
+    requires planted { IsPlanted F.faults F.keeps most known.rules forest }
+{
+    let (table, mut seat) = match seated::<F, S, J>(alloc, forest, known, most) {
+        Ok(made) => made,
+        Err(unmade) => {
+            let Unmade { forest, reader } = unmade;
+            return Worked {
+                forest,
+                reader,
+                refused: [Some(WorkError::Memory), None],
+            };
+        }
+    };
+    let other = table.split(&mut seat);
+    let pair = Pair {
+        first: Hand {
+            worker: Worker::new(alloc, seat, 1),
+            doing: Doing::Rest,
+        },
+        second: Hand {
+            worker: Worker::new(alloc, other, 2),
+            doing: Doing::Rest,
+        },
+    };
+    let Pair { first, second } = take_turns(rt, alloc, &table, pair, turns);
+    let Past { worker, refused } = finish(&table, first);
+    let mut seat = worker.into_seat();
+    let Past {
+        worker,
+        refused: other_refused,
+    } = finish(&table, second);
+    table.join(&mut seat, worker.into_seat());
+    let (forest, reader) = table.close(seat);
+    Worked {
+        forest,
+        reader,
+        refused: [refused, other_refused],
+    }
+}
