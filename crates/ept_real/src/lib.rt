@@ -10,8 +10,6 @@ mod link;
 mod path_set;
 mod paths;
 mod progress;
-#[cfg(test)]
-mod progress_tests;
 mod seen_files;
 mod shelf;
 mod sink;
@@ -26,6 +24,3 @@ pub use shelf::RealShelf;
 pub use sink::RealSink;
 pub use source::RealSource;
 pub use store::RealStore;
-
-#[cfg(test)]
-mod tests;

@@ -12,10 +12,10 @@ const BLOCK: usize = 8192;
 /// A stream that takes none of some bytes fails.
 #[derive(Drop)]
 pub struct RealLink<S: Read + Write + Drop> {
-    pub(crate) stream: S,
+    stream: S,
     // What a read takes before it is handed on, so that a read that fails changes nothing.
     block: [u8; 8192],
-    pub(crate) faults: u64,
+    faults: u64,
 }
 
 impl<S: Read + Write + Drop> RealLink<S> {
@@ -39,6 +39,13 @@ impl<S: Read + Write + Drop> RealLink<S> {
         ensures { result.now ≡ link_stream self.now }
     {
         &self.stream
+    }
+
+    /// How many calls have failed.
+    pub fn faults(&self) -> u64
+        ensures { result ≡ link_faults self.now }
+    {
+        self.faults
     }
 
     /// Counts a fault.

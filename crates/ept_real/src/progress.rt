@@ -208,7 +208,7 @@ fn next_due(telling: Telling) -> u64 {
 }
 
 /// What a file is to a build.
-#[derive(Clone, Copy, Debug, PartialEq, Eq)]
+#[derive(Clone, Copy, PartialEq, Eq)]
 pub(crate) enum Role {
     /// The configuration or an input: no file of the folder.
     Input,

@@ -13,8 +13,8 @@ use std::rt::Files;
 pub struct RealShelf<'a, R: Files> {
     files: &'a R,
     alloc: Global,
-    pub(crate) faults: u64,
-    pub(crate) given: u64,
+    faults: u64,
+    given: u64,
     refused: Option<String>,
 }
 
@@ -47,6 +47,20 @@ impl<'a, R: Files> RealShelf<'a, R> {
             Some(path) => Some(path.as_str()),
             None => None,
         }
+    }
+
+    /// How many paths could not be opened, and how many sources had failed when they were taken back.
+    pub fn faults(&self) -> u64
+        ensures { result ≡ shelf_faults self.now }
+    {
+        self.faults
+    }
+
+    /// How many bytes the sources that were taken back have given.
+    pub fn given(&self) -> u64
+        ensures { result ≡ shelf_given self.now }
+    {
+        self.given
     }
 
     /// Counts a fault of the file of this path.

@@ -10,8 +10,8 @@ use std::io::Write;
 /// have been taken or not.
 #[derive(Drop)]
 pub struct RealSink<W: Write + Drop> {
-    pub(crate) out: W,
-    pub(crate) faults: u64,
+    out: W,
+    faults: u64,
 }
 
 impl<W: Write + Drop> RealSink<W> {
@@ -22,6 +22,13 @@ impl<W: Write + Drop> RealSink<W> {
         ensures sound { sink_faults result ≡ 0 }
     {
         RealSink { out, faults: 0 }
+    }
+
+    /// How many calls have failed.
+    pub fn faults(&self) -> u64
+        ensures { result ≡ sink_faults self.now }
+    {
+        self.faults
     }
 
     /// Counts a fault.

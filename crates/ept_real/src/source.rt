@@ -62,6 +62,20 @@ impl<'a, R: Files> RealSource<'a, R> {
         }
     }
 
+    /// How many calls have failed.
+    pub fn faults(&self) -> u64
+        ensures { result ≡ source_faults self.now }
+    {
+        self.faults
+    }
+
+    /// How many bytes were given.
+    pub fn given(&self) -> u64
+        ensures { result ≡ source_given self.now }
+    {
+        self.given
+    }
+
     /// Opens the file where the place is at its start.
     fn open(&mut self) -> io::Result<()>
         ensures faults { source_faults self.new ≡ source_faults self.old }

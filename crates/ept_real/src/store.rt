@@ -35,8 +35,8 @@ pub struct RealStore<'a, R: Files> {
     unsynced: Unsynced,
     flushed: PathSet,
     refused: bool,
-    pub(crate) faults: u64,
-    pub(crate) gets: u64,
+    faults: u64,
+    gets: u64,
 }
 
 /// Reads the whole of a file.
@@ -92,6 +92,20 @@ impl<'a, R: Files> RealStore<'a, R> {
             faults: 0,
             gets: 0,
         }
+    }
+
+    /// How many calls have failed.
+    pub fn faults(&self) -> u64
+        ensures { result ≡ store_faults self.now }
+    {
+        self.faults
+    }
+
+    /// How many calls of `get` there were.
+    pub fn gets(&self) -> u64
+        ensures { result ≡ store_gets self.now }
+    {
+        self.gets
     }
 
     /// Counts a fault.

@@ -5,16 +5,20 @@ use std::fs::{File, Metadata, OpenFile, OpenOptions};
 use std::io::{self, ErrorKind, Read, Seek, SeekFrom, Write};
 use std::rt::Files;
 use std::sync::Arc;
+use std::test::Fail;
 use std::time::{Clock, Duration};
 
 // What was flushed of a disk, and what was said; how many flushes there are to one that fails, where it is
-// not 0; the time in milliseconds, and by how much it goes on whenever it is asked for.
+// not 0; whether nothing can be said; whether each path is that of the file `one`; the time in milliseconds, and by
+// how much it goes on whenever it is asked for.
 #[derive(Drop)]
 pub(crate) struct Seen {
-    pub(crate) flushed: RefCell<String>,
-    pub(crate) said: RefCell<String>,
+    alloc: Global,
+    flushed: RefCell<String>,
+    said: RefCell<String>,
     pub(crate) to_fault: Cell<u32>,
     pub(crate) is_mute: Cell<bool>,
+    pub(crate) is_one: Cell<bool>,
     pub(crate) now: Cell<u64>,
     pub(crate) step: Cell<u64>,
 }
@@ -22,14 +26,26 @@ pub(crate) struct Seen {
 impl Seen {
     pub(crate) fn new(alloc: Global) -> Result<Arc<Self>, AllocError> {
         let seen = Seen {
+            alloc,
             flushed: RefCell::new(String::new(alloc)),
             said: RefCell::new(String::new(alloc)),
             to_fault: Cell::new(0),
             is_mute: Cell::new(false),
+            is_one: Cell::new(false),
             now: Cell::new(0),
             step: Cell::new(0),
         };
         Ok(Arc::new(alloc, seen)?)
+    }
+
+    // What was flushed since this was asked for last.
+    pub(crate) fn take_flushed(&self) -> Result<String, Fail> {
+        Ok(self.flushed.try_replace(String::new(self.alloc))?)
+    }
+
+    // What was said since this was asked for last.
+    pub(crate) fn take_said(&self) -> Result<String, Fail> {
+        Ok(self.said.try_replace(String::new(self.alloc))?)
     }
 }
 
@@ -98,6 +114,7 @@ impl Files for Disk {
     type Dir = <HostRuntime as Files>::Dir;
 
     fn open_file(&self, how: &OpenOptions, path: &str) -> io::Result<DiskFile> {
+        let path = if self.seen.is_one.get() { "one" } else { path };
         Ok(DiskFile {
             file: self.rt.open_file(how, path)?,
             path: String::from_str(self.rt.alloc(), path)?,

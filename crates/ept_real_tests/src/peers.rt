@@ -1,4 +1,4 @@
-use crate::tests::writers::Pieces;
+use crate::writers::Pieces;
 use std::alloc::Global;
 use std::io::{self, ErrorKind, Read, Write};
 
