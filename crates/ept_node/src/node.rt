@@ -139,6 +139,7 @@ impl<F> Node<F> {
         requires named { state_of self.old ≢ Blank }
         requires one_of_eight { octant < 8 }
         ensures children { children_of self.new ≡ slice_set (children_of self.old) octant slot }
+        ensures child { slice_index (children_of self.new) octant ≡ slot }
         ensures state { state_of self.new ≡ state_of self.old }
         ensures node { node_of self.new ≡ node_of self.old }
         ensures file { file_of self.new ≡ file_of self.old }
