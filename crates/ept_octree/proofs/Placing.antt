@@ -76,17 +76,17 @@ pub named-none : (s : NodeState) (g : grid.Node) → is_some (named s g) ≡ fal
 named-none states.Blank g is = refl
 named-none states.Resident g is = absurd (false≢true (sym is))
 
-none_is : (x : Option grid.Node) → is_some x ≡ false → x ≡ None
-none_is None is = refl
-none_is (Some g) is = absurd (false≢true (sym is))
+pub none-is : (x : Option grid.Node) → is_some x ≡ false → x ≡ None
+none-is None is = refl
+none-is (Some g) is = absurd (false≢true (sym is))
 
-some_is : (x : Option grid.Node) → is_some x ≡ true → (g : grid.Node) × (x ≡ Some g)
-some_is None is = absurd (false≢true is)
-some_is (Some g) is = (g, refl)
+pub some-is : (x : Option grid.Node) → is_some x ≡ true → (g : grid.Node) × (x ≡ Some g)
+some-is None is = absurd (false≢true is)
+some-is (Some g) is = (g, refl)
 
-none_or : (x : Option ℕ) → ((k : ℕ) → x ≡ Some k → ⊥) → x ≡ None
-none_or None never = refl
-none_or (Some k) never = absurd (never k refl)
+pub none-or : (x : Option ℕ) → ((k : ℕ) → x ≡ Some k → ⊥) → x ≡ None
+none-or None never = refl
+none-or (Some k) never = absurd (never k refl)
 
 -- ---- whether a key is the root's
 
@@ -151,7 +151,7 @@ module _ (rules : Rules) (used : ℕ) (slots : List (Option grid.Node)) (sites :
   -- no node has the key
   pub free-slot : (key : VoxelKey) → ((b : Branch) → IsMember b (branches slots sites) → b.0 ≡ key → ⊥) → slot_of sites key ≡ None
   free-slot key free =
-      none_or (slot_of sites key) (λ k is. free (branch_at slots (key, k)) (IsMember-map (branch_at slots) (key, k) sites (slot-member sites key k is)) refl)
+      none-or (slot_of sites key) (λ k is. free (branch_at slots (key, k)) (IsMember-map (branch_at slots) (key, k) sites (slot-member sites key k is)) refl)
 
   -- the root has a slot
   pub root-there : ((b : Branch) → IsMember b (branches slots sites) → b.0 ≡ root → ⊥) → ⊥
@@ -159,7 +159,7 @@ module _ (rules : Rules) (used : ℕ) (slots : List (Option grid.Node)) (sites :
       free (branch_at slots (root, 1)) (IsMember-map (branch_at slots) (root, 1) sites (slot-member sites root 1 index.rooted)) refl
 
   pub none-below : (k : ℕ) → used < k → node_in slots k ≡ None
-  none-below k low = none_is (node_in slots k) (index.blank k low)
+  none-below k low = none-is (node_in slots k) (index.blank k low)
 
   module _ (after : List Site) (h : grid.Node) (room : suc used < length slots) (free : slot_of sites h.key ≡ None) (sound : IsSoundBy rules h) (put : after ≡ insert_entry key_cmp sites h.key (suc used)) (finds : (q : VoxelKey) → slot_of after q ≡ cond (is_at (key_cmp h.key) q) (Some (suc used)) (slot_of sites q)) (ascend : AreAscending (map (λ (s : Site). s.0) after)) where
     abbrev now : List (Option grid.Node)

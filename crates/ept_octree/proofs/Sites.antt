@@ -63,7 +63,7 @@ some-seen x g is = ap key_seen is
 
 -- ---- lookups
 
-some-number : (a b : ℕ) → Some a ≡ Some b → a ≡ b
+pub some-number : (a b : ℕ) → Some a ≡ Some b → a ≡ b
 some-number a b e = ap from e
   where
     from : Option ℕ → ℕ

@@ -1,4 +1,5 @@
 pub mod Index
 pub mod Adding
 pub mod Octree
+pub mod Resting
 pub mod Props

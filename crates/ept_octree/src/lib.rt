@@ -9,3 +9,4 @@ mod resting;
 
 pub use error::AddError;
 pub use octree::Octree;
+pub use resting::rest_law;
