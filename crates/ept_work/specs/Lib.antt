@@ -6,3 +6,4 @@ pub mod Visiting
 pub mod Meeting
 pub mod Opening
 pub mod Sending
+pub mod Working

@@ -7,6 +7,7 @@ mod opening;
 mod sending;
 mod visit;
 mod worker;
+mod working;
 
 pub use error::WorkError;
 pub use visit::{Landing, Visit};

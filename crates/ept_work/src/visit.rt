@@ -234,6 +234,7 @@ impl<F, S: Source> Worker<F, S> {
         ensures visits { OnOk result (Visits J.told (knows S.whole self.old) (knows S.whole self.new)) }
         ensures rest { OnOk result (IsAtRest J.told (knows S.whole self.new)) }
         ensures idle { IsIdle (knows S.whole self.new) }
+        ensures share { (knows S.whole self.new).parts ≡ (knows S.whole self.old).parts }
         ensures refused { IfErr result (IsVisitCause J.told (knows S.whole self.new)) }
     {
         let visit = self.take_up(rt, table)?;

@@ -1,0 +1,15 @@
+use Rattle.std.proofs.Common.{◌≡◌}
+use Rattle.ept_table.specs.Table.{IsSeat}
+use Rattle.ept_work.specs.Worker.{seat_of, number_of, knows}
+use Rattle.ept_work.specs.Rest.{IsAtRest}
+use Rattle.ept_work.specs.Working.{Keeps}
+use Rattle.ept_work.proofs.worker.Worker.go_on.Given as goal
+
+abbrev pub invariant-loop : goal.invariant-loop
+invariant-loop g l =
+    (goal.iterator-loop g).can_next l.iterator'
+    × (goal.iterator-loop g).is_finite l.iterator'
+    × IsSeat g.J.Scan.told l.table (seat_of l.self)
+    × (number_of l.self ≡ number_of l.initial.self)
+    × IsAtRest g.J.Scan.told (knows g.S.Source.whole l.self)
+    × Keeps (knows g.S.Source.whole l.initial.self) (knows g.S.Source.whole l.self)

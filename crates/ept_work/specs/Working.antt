@@ -1,0 +1,51 @@
+-- The work of a worker, and of several.
+use Rattle.std.specs.Prelude.{◌≡◌, ⊤, ℕ, ◌⊎◌, Bool, true, false, List, [], Result, Ok, Err}
+use Rattle.ept_scan.specs.declared.read_error.ReadError.TheVariants as read
+use Rattle.ept_sample.specs.Members.{IsMember}
+use Rattle.ept_table.specs.declared.note.Told.{Told}
+use Rattle.ept_table.specs.Steps.{lacks_slot}
+use Rattle.ept_table.specs.Tells.{IsTooMany}
+use Rattle.ept_table.specs.View.{View, NotesFull}
+use Rattle.ept_work.specs.declared.error.WorkError.{WorkError}
+use Rattle.ept_work.specs.declared.error.WorkError.TheVariants.{SourceFault, SourceChanged, TooManyNodes, Memory}
+use Rattle.ept_work.specs.Rest.{IsIdle}
+use Rattle.ept_work.specs.Drawing.{HasDrawnAll}
+
+-- nothing was abandoned, refused or failed besides what the seat noted before
+pub record Keeps (v w : View) : Type 0 where
+  pub parts : w.parts ≡ v.parts
+  pub refused : w.refused ≡ v.refused
+  pub gone : w.note.gone ≡ v.note.gone
+  pub over : w.note.over ≡ v.note.over
+  pub failures : w.note.failures ≡ v.note.failures
+
+-- and the reader that it last gave back has drawn all that the allowance and the inputs have
+pub record HasWorked (told : Told) (v w : View) : Type 0 where
+  pub keeps : Keeps v w
+  pub all : HasDrawnAll told w
+
+-- it holds no slot and carries no flight
+pub record HasEnded (v w : View) : Type 0 where
+  pub idle : IsIdle w
+  pub landed : w.note.flights ≡ []
+  pub parts : w.parts ≡ v.parts
+
+-- the cause for which a worker goes no further
+abbrev pub IsStopped : Told → View → WorkError → Type 0
+IsStopped told v SourceFault = IsMember read.SourceFault v.note.failures
+IsStopped told v (SourceChanged source number) = IsMember (read.SourceChanged source number) v.note.failures
+IsStopped told v TooManyNodes = (NotesFull v × IsTooMany told) ⊎ (lacks_slot v.note.flights ≡ true)
+IsStopped told v Memory = ⊤
+
+-- The cause of a refusal: the reader has failed by it, which the seat notes; there may not be as many nodes as the
+-- sampling has, and the seat notes that all slots are drawn; or there was no memory.
+abbrev pub IsCause : Told → View → WorkError → Type 0
+IsCause told v SourceFault = IsMember read.SourceFault v.note.failures
+IsCause told v (SourceChanged source number) = IsMember (read.SourceChanged source number) v.note.failures
+IsCause told v TooManyNodes = NotesFull v × IsTooMany told
+IsCause told v Memory = ⊤
+
+-- the refusal of the first, or else that of the second
+abbrev pub first_refusal : Result (Unit {0}) WorkError → Result (Unit {0}) WorkError → Result (Unit {0}) WorkError
+first_refusal (Ok u) second = second
+first_refusal (Err e) second = Err e

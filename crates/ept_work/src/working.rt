@@ -1,0 +1,107 @@
+//! One worker, from the first batch to the last.
+
+ghost use Rattle.std.specs.Prelude.{◌≡◌, ◌+◌, ℕ, [], IfOk, IfErr, OnOk, OnErr, true, false};
+ghost use Rattle.ept_work.specs.Rest.{IsIdle, IsAtRest};
+ghost use Rattle.ept_work.specs.Drawing.{HasDrawnAll};
+ghost use Rattle.ept_work.specs.Working.{Keeps, HasWorked, HasEnded, IsStopped, IsCause};
+
+use crate::error::WorkError;
+use crate::worker::Worker;
+use ept_base::{Gate, Source};
+use ept_table::{NodeTable, Scan};
+use std::alloc::Global;
+use std::sync::Wait;
+
+impl<F, S: Source> Worker<F, S> {
+    ghost use Rattle.ept_table.specs.Table.{slots_of, rules_of, IsSeat};
+    ghost use Rattle.ept_work.specs.Worker.{seat_of, number_of, knows};
+
+    /// Works from the first batch to the last, one visit at a time, that of the newest flight first. A worker that is
+    /// refused abandons its flights. At the end it carries no flight and holds no slot, whatever the answer.
+    ///
+    /// # Errors
+    ///
+    /// The refusal of the reader, `TooManyNodes` and `Memory`.
+    pub fn work<H: Wait, G: Gate, J: Scan>(
+        &mut self,
+        rt: &H,
+        alloc: Global,
+        table: &NodeTable<F, S, J>,
+        gate: &G,
+    ) -> Result<(), WorkError>
+        requires seat { IsSeat J.told table.now (seat_of self.old) }
+        requires rest { IsAtRest J.told (knows S.whole self.old) }
+        requires slots { slots_of table.now ≡ J.told.most + 1 }
+        requires rules { rules_of table.now ≡ J.told.rules }
+        ensures seat { IsSeat J.told table.now (seat_of self.new) }
+        ensures number { number_of self.new ≡ number_of self.old }
+        ensures ended { HasEnded (knows S.whole self.old) (knows S.whole self.new) }
+        ensures ok { OnOk result (HasWorked J.told (knows S.whole self.old) (knows S.whole self.new)) }
+        ensures refused { IfErr result (IsCause J.told (knows S.whole self.new)) }
+    {
+        match self.go_on(rt, alloc, table, gate) {
+            Ok(()) => Ok(()),
+            Err(refused) => {
+                self.abandon(table);
+                Err(refused)
+            }
+        }
+    }
+
+    // Works as long as there are points and nothing is refused.
+    fn go_on<H: Wait, G: Gate, J: Scan>(
+        &mut self,
+        rt: &H,
+        alloc: Global,
+        table: &NodeTable<F, S, J>,
+        gate: &G,
+    ) -> Result<(), WorkError>
+        requires seat { IsSeat J.told table.now (seat_of self.old) }
+        requires rest { IsAtRest J.told (knows S.whole self.old) }
+        requires slots { slots_of table.now ≡ J.told.most + 1 }
+        requires rules { rules_of table.now ≡ J.told.rules }
+        ensures seat { IsSeat J.told table.now (seat_of self.new) }
+        ensures number { number_of self.new ≡ number_of self.old }
+        ensures idle { IsIdle (knows S.whole self.new) }
+        ensures parts { (knows S.whole self.new).parts ≡ (knows S.whole self.old).parts }
+        ensures ok { OnOk result (HasWorked J.told (knows S.whole self.old) (knows S.whole self.new)) }
+        ensures landed { OnOk result ((knows S.whole self.new).note.flights ≡ []) }
+        ensures refused { IfErr result (IsStopped J.told (knows S.whole self.new)) }
+    {
+        for _ in rt.forever() {
+            if !self.step(rt, alloc, table, gate)? {
+                return Ok(());
+            }
+        }
+        unreachable!()
+    }
+
+    // Visits the node of the last flight, or draws a batch where there is no flight. Answers whether there is more to do.
+    fn step<H: Wait, G: Gate, J: Scan>(
+        &mut self,
+        rt: &H,
+        alloc: Global,
+        table: &NodeTable<F, S, J>,
+        gate: &G,
+    ) -> Result<bool, WorkError>
+        requires seat { IsSeat J.told table.now (seat_of self.old) }
+        requires rest { IsAtRest J.told (knows S.whole self.old) }
+        requires slots { slots_of table.now ≡ J.told.most + 1 }
+        requires rules { rules_of table.now ≡ J.told.rules }
+        ensures seat { IsSeat J.told table.now (seat_of self.new) }
+        ensures number { number_of self.new ≡ number_of self.old }
+        ensures rest { OnOk result (IsAtRest J.told (knows S.whole self.new)) }
+        ensures idle { IsIdle (knows S.whole self.new) }
+        ensures parts { (knows S.whole self.new).parts ≡ (knows S.whole self.old).parts }
+        ensures keeps { OnOk result (Keeps (knows S.whole self.old) (knows S.whole self.new)) }
+        ensures landed { IfOk result (λ more. more ≡ false → (knows S.whole self.new).note.flights ≡ []) }
+        ensures all { IfOk result (λ more. more ≡ false → HasDrawnAll J.told (knows S.whole self.new)) }
+        ensures refused { IfErr result (IsStopped J.told (knows S.whole self.new)) }
+    {
+        if self.is_empty() {
+            return self.draw(rt, alloc, table);
+        }
+        self.visit(rt, alloc, table, gate)?;
+        Ok(true)
+    }
+}
