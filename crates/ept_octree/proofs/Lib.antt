@@ -5,3 +5,4 @@ pub mod Added
 pub mod Rested
 pub mod Sited
 pub mod Left
+pub mod Linked

@@ -36,9 +36,9 @@ use Rattle.ept_octree.proofs.Placing.{some-is, none-is, length-in}
 
 -- ---- one node
 
-seen_as : (s : NodeState) (c d : Cell) → taken_as s c ≡ taken.Standing d → (named s c.node ≡ Some d.node) × (c ≡ d)
-seen_as states.Blank c d is = absurd (cc)
-seen_as states.Resident c d is = (ap (λ (e : Cell). Some e.node) same, same)
+pub seen-as : (s : NodeState) (c d : Cell) → taken_as s c ≡ taken.Standing d → (named s c.node ≡ Some d.node) × (c ≡ d)
+seen-as states.Blank c d is = absurd (cc)
+seen-as states.Resident c d is = (ap (λ (e : Cell). Some e.node) same, same)
   where
     same : c ≡ d
     same = ap from is
@@ -87,7 +87,7 @@ module _ {F : Type 0} where
 
   standing_in : (ns : List (node.Node F)) (k : ℕ) (c : Cell) → At (map seen_node ns) k (taken.Standing c) → get_or (map in_slot ns) k None ≡ Some c.node
   standing_in [] k c a = absurd (nothing-at a)
-  standing_in (n ∷ ns) zero c a = (seen_as (state_of n) (cell n) c (at-head a)).0
+  standing_in (n ∷ ns) zero c a = (seen-as (state_of n) (cell n) c (at-head a)).0
   standing_in (n ∷ ns) (suc k) c a =
       standing_in ns k c (at-rest (seen_node n) (map seen_node ns) k (taken.Standing c) a)
 

@@ -2,4 +2,5 @@ pub mod Index
 pub mod Adding
 pub mod Octree
 pub mod Resting
+pub mod Linking
 pub mod Props

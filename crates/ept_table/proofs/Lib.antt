@@ -18,7 +18,7 @@ pub mod Visiting
 pub mod Allowed
 pub mod Rows
 pub mod Planting
-mod ByKey
+pub mod ByKey
 mod LandedNodes
 mod ResumedNodes
 mod GoingOn
