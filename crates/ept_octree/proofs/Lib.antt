@@ -6,3 +6,4 @@ pub mod Rested
 pub mod Sited
 pub mod Left
 pub mod Linked
+pub mod Walked

@@ -3,4 +3,5 @@ pub mod Adding
 pub mod Octree
 pub mod Resting
 pub mod Linking
+pub mod Walking
 pub mod Props

@@ -6,6 +6,7 @@ mod error;
 mod linking;
 mod octree;
 mod resting;
+mod walking;
 
 pub use error::AddError;
 pub use octree::Octree;
