@@ -1,9 +1,10 @@
 //! Tests of `ept_work`, which is proved once for them.
 #![tactic(auto)]
 
-#[cfg(test)]
 mod hands;
 #[cfg(test)]
 mod tests;
-#[cfg(test)]
 mod turns;
+
+pub use hands::{Doing, Hand, Past, finish, step};
+pub use turns::{Pair, Worked, work_in_turns};
