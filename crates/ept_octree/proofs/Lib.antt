@@ -7,3 +7,4 @@ pub mod Sited
 pub mod Left
 pub mod Linked
 pub mod Walked
+pub mod Begun

@@ -8,6 +8,7 @@ ghost use Rattle.ept_space.specs.VoxelKey.{root};
 ghost use Rattle.ept_forest.specs.Slots as trees;
 ghost use Rattle.ept_node.specs.Shown.{empty_node};
 ghost use Rattle.ept_table.specs.Octree.{key_of};
+ghost use Rattle.ept_table.specs.Octree.{AreSampled};
 ghost use Rattle.ept_octree.specs.Index.{IsIndex, in_slots};
 ghost use Rattle.ept_octree.specs.Props.{props};
 
@@ -47,12 +48,15 @@ impl<F: SpillFile> Octree<F> {
         ensures rules { IfOk result (λ octree. rules_of octree ≡ rules.now) }
         ensures most { IfOk result (λ octree. most_of octree ≡ most) }
         ensures root { IfOk result (λ octree. nodes_of octree ≡ (root, empty_node root rules.now) ∷ []) }
+        ensures whole { IfOk result IsWhole }
+        ensures sampled { IfOk result (λ octree. AreSampled rules.now [] (nodes_of octree)) }
         ensures linked { IfOk result IsLinked }
         ensures fresh { IfOk result (λ octree. trees.faults_of F.faults (trees.nodes_of (forest_of octree)) ≡ 0) }
         ensures counted { OnOk result (R.keeps room.new ≡ R.keeps room.old) }
         ensures unkept { OnErr result (trees.told (R.keeps room.new) ≡ trees.told (R.keeps room.old)) }
         ensures cause { HasCauseOf put.Failed (R.faults room.old) (R.faults room.new) result }
     {
+        rules.cube.known();
         let forest = Forest::new(alloc, room, most, rules)?;
         let mut slots = BTreeMap::new(alloc);
         match slots.insert(Key::ROOT, 1) {

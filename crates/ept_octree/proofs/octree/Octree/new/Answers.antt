@@ -1,12 +1,15 @@
-use Rattle.std.proofs.Common.{◌≡◌, [], cond, Some, List, map, subst, arith}
+use Rattle.std.proofs.Common.{◌≡◌, ◌∙◌, [], ◌∷◌, cond, Some, List, map, ap, sym, subst, arith}
 use Rattle.std.specs.BTreeMap.{is_at, insert_entry}
 use Rattle.ept_space.specs.VoxelKey.{VoxelKey, root, key_cmp, AreAscending}
 use Rattle.ept_sample.proofs.KeyOrder.{AllPairs-IsRising}
 use Rattle.ept_core.proofs.Lookups.{sorted-rising}
 use Rattle.ept_node.specs.Shown.{file_of}
 use Rattle.ept_forest.specs.Slots as forest
-use Rattle.ept_octree.specs.Index.{Site, slot_of}
-use Rattle.ept_octree.proofs.Rooting.{none-together, planted-index, planted-linked}
+use Rattle.ept_space.specs.declared.cube.Rules.{Rules}
+use Rattle.ept_table.specs.Octree.{entry_of, AreWhole, AreSampled}
+use Rattle.ept_octree.proofs.Begun.{root-whole, root-sampled, can-none}
+use Rattle.ept_octree.specs.Index.{in_slots, branches, Site, slot_of}
+use Rattle.ept_octree.proofs.Rooting.{none-together, planted-index, planted-linked, planted-root}
 use Rattle.ept_octree.proofs.octree.Octree.new.Goals as goal
 
 pub invariant_of-result-clause-indexed : goal.invariant_of-result-clause-indexed
@@ -29,3 +32,21 @@ returns-in-Ok-clause-fresh g c =
 pub returns-in-Err-clause-unkept : goal.returns-in-Err-clause-unkept
 returns-in-Err-clause-unkept g c =
     omega (arith, c.retire_all.ensures.counted, none-together (λ node. g.F.SpillFile.keeps (file_of node)) (forest.nodes_of c.in_ok-forest.forest) c.in_ok-forest.ensures.planted.unused, c.in_ok-forest.ensures.counted)
+
+pub returns-in-Ok-clause-whole : goal.returns-in-Ok-clause-whole
+returns-in-Ok-clause-whole g c =
+    let none = c.new-slots.ensures.empty in
+    let sites : List Site = c.insert.new.self.entries in
+    let rules : Rules = c.args.rules.now in
+    let put : sites ≡ insert_entry key_cmp [] root 1 = subst (λ (es : List Site). sites ≡ insert_entry key_cmp es root 1) none c.in-Ok.ensures.entries in
+    let nodes = ap (λ (w : List Site). branches (in_slots (forest.nodes_of c.in_ok-forest.forest)) w) put ∙ ap (λ w. branches w ((root, 1) ∷ [])) (planted-root g.F.SpillFile.faults g.F.SpillFile.keeps c.args.most rules c.in_ok-forest.forest c.in_ok-forest.ensures.planted) in
+    subst (λ w. AreWhole (map entry_of w)) (sym nodes) (root-whole rules)
+
+pub returns-in-Ok-clause-sampled : goal.returns-in-Ok-clause-sampled
+returns-in-Ok-clause-sampled g c =
+    let none = c.new-slots.ensures.empty in
+    let sites : List Site = c.insert.new.self.entries in
+    let rules : Rules = c.args.rules.now in
+    let put : sites ≡ insert_entry key_cmp [] root 1 = subst (λ (es : List Site). sites ≡ insert_entry key_cmp es root 1) none c.in-Ok.ensures.entries in
+    let nodes = ap (λ (w : List Site). branches (in_slots (forest.nodes_of c.in_ok-forest.forest)) w) put ∙ ap (λ w. branches w ((root, 1) ∷ [])) (planted-root g.F.SpillFile.faults g.F.SpillFile.keeps c.args.most rules c.in_ok-forest.forest c.in_ok-forest.ensures.planted) in
+    subst (λ w. AreSampled rules [] w) (sym nodes) (root-sampled rules (can-none rules c.known.ensures))
