@@ -263,12 +263,28 @@ impl<F, S: Source> Worker<F, S> {
 }
 
 impl<F> Visit<F> {
+    /// The slot of the node.
+    pub fn slot(&self) -> u32
+        ensures { result ≡ self.now.slot }
+    {
+        self.slot
+    }
+
     // Enters the gate.
     fn enter<G: Gate>(&self, worker: u32, gate: &G)
         requires { state_of self.now.node ≡ Resident }
     {
         let key = self.node.key();
         gate.entered(worker, key.depth, key.x, key.y, key.z);
+    }
+}
+
+impl<F> Landing<F> {
+    /// The slot of the node.
+    pub fn slot(&self) -> u32
+        ensures { result ≡ self.now.slot }
+    {
+        self.slot
     }
 }
 

@@ -50,7 +50,7 @@ pub struct Worker<F, S> {
 
 impl<F, S: Source> Worker<F, S> {
     ghost use Rattle.ept_table.specs.Table.{slots_of, IsSeat};
-    ghost use Rattle.ept_work.specs.Worker.{seat_of, number_of, knows};
+    ghost use Rattle.ept_work.specs.Worker.{seat_of, number_of, knows, slot_of_last};
 
     /// A worker of this number with a seat that carries no flight. It takes no memory.
     pub fn new(alloc: Global, seat: Seat<F, S>, number: u32) -> Worker<F, S>
@@ -87,6 +87,17 @@ impl<F, S: Source> Worker<F, S> {
         ensures some { result ≡ false → 0 < length (view (seat_of self.now)).note.flights }
     {
         self.flights.is_empty()
+    }
+
+    /// The slot of the node that is visited next, to which the last flight goes: 0 where it has none. None where no flight is
+    /// carried.
+    pub fn next_slot(&self) -> Option<u32>
+        ensures { result ≡ slot_of_last (knows S.whole self.now).note.flights }
+    {
+        match self.flights.last() {
+            Some(carried) => Some(carried.slot),
+            None => None,
+        }
     }
 
     /// Takes the reader as soon as it is free, draws a batch of at most 1,024 records, and gives it back. The points fly

@@ -217,7 +217,7 @@ fn turns_by_lot_end_in_the_sampling(rt: HostRuntime) -> Result<(), Fail> {
     let mut lot = Lot { state: 7 };
     let places = lot.places(alloc, 3_000)?;
     let mut wanted = None;
-    for list in 0..12 {
+    for list in 0..100 {
         let turns = lot.turns(alloc, 60_000)?;
         let built = build(&rt, alloc, WIDE, &places, 4_000, &turns)?;
         same(&rt, &built.refused, &[None, None]);

@@ -30,10 +30,19 @@ pub struct Worked<F, S> {
     pub refused: [Option<WorkError>; 2],
 }
 
-// Whether the next step of one would have to wait for a node that the other may hold.
+// The slot of the node that is held, if one is.
+fn held_slot<F>(doing: &Doing<F>) -> Option<u32> {
+    match doing {
+        Doing::Up(visit) => Some(visit.slot()),
+        Doing::Down(landing) => Some(landing.slot()),
+        Doing::Rest | Doing::Ended(_) => None,
+    }
+}
+
+// Whether the next step of one would have to wait for the node that the other holds.
 fn may_wait<F, S: Source>(one: &Hand<F, S>, other: &Hand<F, S>) -> bool {
-    match (&one.doing, &other.doing) {
-        (Doing::Rest, Doing::Up(_) | Doing::Down(_)) => !one.worker.is_empty(),
+    match (&one.doing, held_slot(&other.doing)) {
+        (Doing::Rest, Some(held)) => one.worker.next_slot() == Some(held),
         _ => false,
     }
 }
