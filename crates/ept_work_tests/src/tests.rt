@@ -128,6 +128,23 @@ fn stands(built: &Built, key: Key, numbers: &[u32]) -> bool {
 // The worked example of points that make three nodes.
 const PLACES: [[i32; 3]; 5] = [[1, 1, 1], [2, 2, 2], [3, 3, 3], [6, 6, 6], [5, 5, 5]];
 
+// The first two of them: the second displaces the first, which goes down.
+#[test]
+fn a_displaced_point_goes_down_to_the_second_slot(rt: HostRuntime) -> Result<(), Fail> {
+    let places = [[1, 1, 1], [2, 2, 2]];
+    let built = build(&rt, rt.alloc(), SMALL, &places, 3, &[true; 40])?;
+    let low = Key {
+        depth: 1,
+        x: 0,
+        y: 0,
+        z: 0,
+    };
+    same(&rt, &(built.used, built.standing.len()), &(2, 2));
+    let is_built = stands(&built, Key::ROOT, &[1]) && stands(&built, low, &[0]);
+    same(&rt, &is_built, &true);
+    Ok(())
+}
+
 #[test]
 fn one_worker_makes_the_nodes_of_a_worked_example(rt: HostRuntime) -> Result<(), Fail> {
     let alloc = rt.alloc();
