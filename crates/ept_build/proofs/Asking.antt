@@ -26,9 +26,6 @@ pub asks-none : (old : Option Paths) → AsksFor [] old old
 asks-none None = tt
 asks-none (Some before) = sym (append-nil before)
 
-pub front-none : (paths : Paths) (old new : Option Paths) → new ≡ old → AsksFront paths old new
-front-none paths old new same = (0, subst (λ (w : Option Paths). AsksFor [] old w) (sym same) (asks-none old))
-
 -- whether all were asked for, or a front of them
 pub opens-front : {T E : Type 0} (paths : Paths) (r : Result T E) (old new : Option Paths) → OpensThese paths r old new → AsksFront paths old new
 opens-front paths (Ok v) old new opens = (length paths, subst (λ (w : Paths). AsksFor w old new) (sym (take_all (length paths) paths (omega arith))) opens)

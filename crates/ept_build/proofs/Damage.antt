@@ -14,7 +14,7 @@ use Rattle.ept_save.specs.declared.error.SaveError.TheVariants as save
 use Rattle.ept_phase.proofs.Undamaged.{damaged-before}
 use Rattle.ept_plan.specs.Plans.{inputs_by}
 use Rattle.ept_build.specs.declared.error.BuildError.{BuildError}
-use Rattle.ept_build.specs.declared.error.BuildError.TheVariants.{StoreFault, BadCheckpoint, TileDamaged, Differs, SourceFault, BadLas, OutOfBounds, TooManyPoints, NoBounds, SourceChanged, TooManyNodes, Memory}
+use Rattle.ept_build.specs.declared.error.BuildError.TheVariants.{StoreFault, BadCheckpoint, TileDamaged, Differs, SourceFault, BadLas, OutOfBounds, TooManyPoints, NoBounds, SourceChanged, SpillFault, TooManyNodes, Memory}
 use Rattle.ept_build.specs.declared.summary.Summary.{Summary}
 use Rattle.ept_base.specs.declared.errors.PutError.{PutError}
 use Rattle.ept_base.specs.declared.errors.PutError.TheVariants as put
@@ -22,13 +22,9 @@ use Rattle.ept_scan.specs.declared.scan_error.ScanError.{ScanError}
 use Rattle.ept_scan.specs.declared.scan_error.ScanError.TheVariants as scan
 use Rattle.ept_plan.specs.declared.error.PlanError.{PlanError}
 use Rattle.ept_plan.specs.declared.error.PlanError.TheVariants as plan
-use Rattle.ept_insert.specs.declared.error.InsertError.{InsertError}
-use Rattle.ept_insert.specs.declared.error.InsertError.TheVariants as insert
-use Rattle.ept_scan.specs.declared.read_error.ReadError.{ReadError}
-use Rattle.ept_scan.specs.declared.read_error.ReadError.TheVariants as read
-use Rattle.ept_build.specs.Errors.{of_save, of_scan, of_plan, of_put, of_insert, of_read}
+use Rattle.ept_build.specs.Errors.{of_save, of_scan, of_plan, of_put}
 use Rattle.ept_build.specs.Building.{TellsDamage, Fails}
-use Rattle.ept_build.specs.Phases.{HasDamage, IsPhaseFault, IsStoreFault}
+use Rattle.ept_build.specs.Phases.{HasDamage, IsPhaseFault, IsRoomFault, IsStoreFault}
 
 -- a tile is damaged as before
 pub damaged-same : (current : Current) (key : VoxelKey) (old new : Files) → SameFiles old new → IsDamaged current key new → IsDamaged current key old
@@ -58,7 +54,8 @@ module _ (r : Result Summary BuildError) where
   -- the nodes are not loaded
   pub loading-tells : (e : BuildError) → r ≡ Err e → IsPhaseFault e → e ≢ SourceFault → ((source number : ℕ) → e ≢ SourceChanged source number) → e ≢ TooManyNodes → TellsDamage r ⊎ Fails r
   loading-tells StoreFault is only source same many = inr (inl is)
-  loading-tells Memory is only source same many = inr (inr (inr is))
+  loading-tells Memory is only source same many = inr (inr (inr (inr is)))
+  loading-tells SpillFault is only source same many = absurd only
   loading-tells (TileDamaged key) is only source same many = inl (key, is)
   loading-tells SourceFault is only source same many = absurd (source refl)
   loading-tells (SourceChanged s n) is only source same many = absurd (same s n refl)
@@ -73,7 +70,7 @@ module _ (r : Result Summary BuildError) where
   -- the checkpoints are not opened
   pub opening-fails : (e : SaveError) → r ≡ Err (of_save e) → IsStores e → Fails r
   opening-fails e is (inl fault) = inl (is ∙ ap (λ (w : SaveError). Err (of_save w)) fault)
-  opening-fails e is (inr memory) = inr (inr (is ∙ ap (λ (w : SaveError). Err (of_save w)) memory))
+  opening-fails e is (inr memory) = inr (inr (inr (is ∙ ap (λ (w : SaveError). Err (of_save w)) memory)))
 
 -- ---- a refusal that tells of no tile
 
@@ -103,21 +100,12 @@ pub store-no-tile : (e : BuildError) (key : VoxelKey) → IsStoreFault e → e �
 store-no-tile e key (inl fault) is = let same : StoreFault ≡ TileDamaged key = sym fault ∙ is in cc
 store-no-tile e key (inr memory) is = let same : Memory ≡ TileDamaged key = sym memory ∙ is in cc
 
+pub room-no-tile : (e : BuildError) (key : VoxelKey) → IsRoomFault e → e ≡ TileDamaged key → ⊥
+room-no-tile e key (inl fault) is = let same : SpillFault ≡ TileDamaged key = sym fault ∙ is in cc
+room-no-tile e key (inr memory) is = let same : Memory ≡ TileDamaged key = sym memory ∙ is in cc
+
 -- ---- something is left to be done
 
 pub nothing-left : {r : Result Summary BuildError} (config : Config) (start : Files) (current : Current) → (¬ IsDone start) ⊎ (inputs_by current < length config.inputs) → IsDone start → inputs_by current ≡ length config.inputs → TellsDamage r ⊎ Fails r
 nothing-left config start current (inl undone) done all = absurd (undone done)
 nothing-left config start current (inr less) done all = absurd (omega (arith, less, all))
-
--- ---- why a phase tells of a tile
-
-pub inserted-no-tile : (e : InsertError) (key : VoxelKey) → of_insert e ≡ TileDamaged key → ⊥
-inserted-no-tile insert.SourceFault key is = cc
-inserted-no-tile (insert.SourceChanged source number) key is = cc
-inserted-no-tile insert.TooManyNodes key is = cc
-inserted-no-tile insert.Memory key is = cc
-
-pub read-no-tile : (e : ReadError) (key : VoxelKey) → of_read e ≡ TileDamaged key → ⊥
-read-no-tile read.SourceFault key is = cc
-read-no-tile (read.SourceChanged source number) key is = cc
-read-no-tile read.Memory key is = cc

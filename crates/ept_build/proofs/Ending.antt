@@ -17,8 +17,7 @@ use Rattle.ept_scan.specs.Opening.{IsKeptScan}
 use Rattle.ept_scan.proofs.OneScan.{scan_once}
 use Rattle.ept_ckpt.specs.declared.letter.Letter.{Letter}
 use Rattle.ept_ckpt.specs.declared.checkpoint.Checkpoint.{Checkpoint}
-use Rattle.ept_tree.specs.Tree.{Branch, tile_of}
-use Rattle.ept_tree.specs.TreeLaws.{AreSampled}
+use Rattle.ept_table.specs.Octree.{Branch, tile_of, AreSampled}
 use Rattle.ept_meta.specs.Output.{File, IsOutput, IsOutputName, EachIsOutsideWork, AreCountsOf, rules_of, names_of, files_of, output}
 use Rattle.ept_meta.specs.OutputLaws.{OutputIsOne, FilesHaveOutputNames}
 use Rattle.ept_save.specs.Names.{gate_name, body_name, done_name, IsSavedName}
@@ -189,7 +188,5 @@ the-checkpoint plan None is = absurd is
 the-checkpoint plan (Some (letter, c)) is = (letter, c, refl, is)
 
 -- the files that are put, by what they are made of
-pub files-same : (plan : Plan) (extent : Option Bounds) (counts : List SourceCount) (nodes given : List Branch) → counts ≡ plan.counts → given ≡ nodes → files_of plan.kept counts extent plan.points (map tile_of given) ≡ files_of plan.kept plan.counts extent plan.points (map tile_of nodes)
-files-same plan extent counts nodes given same also =
-    ap (λ (w : List SourceCount). files_of plan.kept w extent plan.points (map tile_of given)) same
-    ∙ ap (λ (w : List Branch). files_of plan.kept plan.counts extent plan.points (map tile_of w)) also
+pub files-same : (plan : Plan) (extent : Option Bounds) (counts : List SourceCount) (nodes : List Branch) → counts ≡ plan.counts → files_of plan.kept counts extent plan.points (map tile_of nodes) ≡ files_of plan.kept plan.counts extent plan.points (map tile_of nodes)
+files-same plan extent counts nodes same = ap (λ (w : List SourceCount). files_of plan.kept w extent plan.points (map tile_of nodes)) same

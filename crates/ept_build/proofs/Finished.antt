@@ -129,11 +129,13 @@ module _ (same_sound : SameIsSound) (all start now : Files) (config : Config) (v
 
   pub starts-again : StandsFor view (files new) (may_leave new) → ScansAll all config view.current plan → Starts all config view plan now (files new) (may_leave new)
   starts-again stands scans = record {
-    told = told;
-    settled = subst (λ (w : Option Files). IsSettled w (may_leave new)) (sym told) still;
-    sound = same_sound all start now same sound;
-    has_current = has_same view.current start now same has;
-    stands = stands;
+    ready = record {
+      told = told;
+      settled = subst (λ (w : Option Files). IsSettled w (may_leave new)) (sym told) still;
+      sound = same_sound all start now same sound;
+      has_current = has_same view.current start now same has;
+      stands = stands;
+    };
     scans = scans;
   }
 

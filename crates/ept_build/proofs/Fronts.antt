@@ -1,5 +1,5 @@
 -- The first points of some.
-use Rattle.std.proofs.Common.{◌≡◌, ℕ, ◌+◌, List, [], ◌++◌, length, take, drop, sym, subst, arith}
+use Rattle.std.proofs.Common.{◌≡◌, ℕ, ◌+◌, List, ◌++◌, length, take, drop, sym, subst, arith}
 use Rattle.std.proofs.lemmas.List.{take-append-drop, take_all, drop-drop}
 use Rattle.std.proofs.lemmas.List.Elements.{All-take}
 use Rattle.std.proofs.Math.Seq.{take-add}
@@ -32,8 +32,3 @@ can-front rules n points can = record {
 
 pub all-front : (points : List Point) (n : ℕ) → length points ≡ n → take n points ≡ points
 all-front points n is = take_all n points (omega (arith, is))
-
--- no points have distinct ids
-pub none-distinct : HasDistinctIds []
-unfolding HasDistinctIds
-none-distinct p = omega arith

@@ -26,10 +26,7 @@ use Rattle.ept_scan.proofs.OneScan.{scan_once}
 use Rattle.ept_scan.proofs.Scanned.{scan_kept, scan_placed}
 use Rattle.ept_scan.proofs.Ascending.{scan_ascends}
 use Rattle.ept_ckpt.specs.declared.checkpoint.Checkpoint.{Checkpoint}
-use Rattle.ept_tree.specs.Tree.{Branch}
-use Rattle.ept_tree.specs.declared.octree.Tree.{Tree}
-use Rattle.ept_tree.specs.Grown as tree
-use Rattle.ept_tree.specs.TreeLaws.{AreSampled}
+use Rattle.ept_table.specs.Octree.{Branch, AreSampled}
 use Rattle.ept_meta.specs.Output.{File, IsOutput, rules_of, names_of, output}
 use Rattle.ept_meta.specs.OutputLaws.{OutputIsOne, PointsCanBeSampled, NamesGrow}
 use Rattle.ept_save.specs.Current.{Current, HasCurrent}
@@ -46,7 +43,7 @@ use Rattle.ept_plan.specs.Plans.{IsPlan, ScansAll, HasFirst, limits_by, inserted
 use Rattle.ept_sample.specs.SamplingLaws.{MorePointsHaveMoreNodes}
 use Rattle.ept_save.specs.Opening.{lines_of}
 use Rattle.ept_build.specs.Building.{HasPoints, HasCounts, HasTooManyNodes}
-use Rattle.ept_build.specs.Phases.{AreOfShelf, IsLoaded}
+use Rattle.ept_build.specs.Phases.{AreOfShelf, AreLoaded}
 use Rattle.ept_build.proofs.Numbers.{front-nodes, lines-number}
 use Rattle.ept_build.proofs.Ending.{counts-of, extent-of}
 use Rattle.ept_build.proofs.Fronts.{can-front}
@@ -84,9 +81,9 @@ has-counts shelf start config current plan scans has sound =
     (it.0, plan.kept.bounds, it.1)
 
 -- of a store that tells, the tiles of the checkpoint are those at the start
-told-tiles : (current : Current) (grown : Tree) (files : Option Files) (start : Files) → files ≡ Some start → OfCurrent current (λ (c : Checkpoint). Tells (λ all. NameTiles all (tree.nodes_of grown) c.nodes) files) → OfCurrent current (λ (c : Checkpoint). NameTiles start (tree.nodes_of grown) c.nodes)
-told-tiles None grown files start told of = tt
-told-tiles (Some (letter, c)) grown files start told of = told_some (λ (all : Files). NameTiles all (tree.nodes_of grown) c.nodes) files start told of
+told-tiles : (current : Current) (nodes : List Branch) (files : Option Files) (start : Files) → files ≡ Some start → OfCurrent current (λ (c : Checkpoint). Tells (λ all. NameTiles all nodes c.nodes) files) → OfCurrent current (λ (c : Checkpoint). NameTiles start nodes c.nodes)
+told-tiles None nodes files start told of = tt
+told-tiles (Some (letter, c)) nodes files start told of = told_some (λ (all : Files). NameTiles all nodes c.nodes) files start told of
 
 -- The points of all inputs and their output, and what is known of the octree that was loaded.
 pub record IsGround (shelf start : Files) (config : Config) (current : Current) (plan : Plan) (extent : Option Bounds) : Type 0 where
@@ -97,7 +94,7 @@ pub record IsGround (shelf start : Files) (config : Config) (current : Current) 
   pub names : HasNamesOf shelf current (names_of out)
   pub has_extent : HasExtent points extent
   pub has_points : HasPoints shelf config current plan.kept points
-  pub loaded : (grown : Tree) (files : Option Files) (inserted : ℕ) → inserted ≡ plan.inserted → files ≡ Some start → IsLoaded plan current grown files → AreSampled (rules_of plan.kept) (take inserted points) (tree.nodes_of grown)
+  pub loaded : (nodes : List Branch) (files : Option Files) (inserted : ℕ) → inserted ≡ plan.inserted → files ≡ Some start → AreLoaded plan current nodes files → AreSampled (rules_of plan.kept) (take inserted points) nodes
   pub lines : length (lines_of current) ≤ length (sampled (rules_of plan.kept) (take plan.inserted points))
 
 -- an extent of counts is one of the same counts
@@ -231,6 +228,6 @@ module _ (one_output : OutputIsOne) (can_be : PointsCanBeSampled) (grow : NamesG
     names = names;
     has_extent = has-extent;
     has_points = built-points;
-    loaded = λ grown files inserted same told its. subst (λ (n : ℕ). AreSampled (rules_of plan.kept) (take n points) (tree.nodes_of grown)) (sym same) (loaded-sampled (tree.nodes_of grown) its.told (told-tiles current grown files start told its.tiles) its.begun);
+    loaded = λ nodes files inserted same told its. subst (λ (n : ℕ). AreSampled (rules_of plan.kept) (take n points) nodes) (sym same) (loaded-sampled nodes its.told (told-tiles current nodes files start told its.tiles) its.begun);
     lines = lines-few;
   }

@@ -32,10 +32,10 @@ use Rattle.ept_plan.specs.Plans as plans
 use Rattle.ept_plan.specs.Plans.{limits_by}
 use Rattle.ept_build.specs.declared.summary.Summary.{Summary}
 use Rattle.ept_build.specs.declared.error.BuildError.{BuildError}
-use Rattle.ept_build.specs.declared.error.BuildError.TheVariants.{StoreFault, BadCheckpoint, TileDamaged, Differs, SourceFault, BadLas, OutOfBounds, TooManyPoints, NoBounds, SourceChanged, TooManyNodes, Memory}
+use Rattle.ept_build.specs.declared.error.BuildError.TheVariants.{StoreFault, BadCheckpoint, TileDamaged, Differs, SourceFault, BadLas, OutOfBounds, TooManyPoints, NoBounds, SourceChanged, SpillFault, TooManyNodes, Memory}
 use Rattle.ept_build.specs.Errors.{of_plan, of_scan, of_save, of_put}
-use Rattle.ept_build.specs.Building.{HasPoints, IsBuilt, IsRefusedAt, TellsDifference, Fails, node_count}
-use Rattle.ept_build.specs.Phases.{IsPhaseFault, IsStoreFault}
+use Rattle.ept_build.specs.Building.{HasPoints, IsBuilt, IsRefusedAt, IsEarly, TellsDifference, Fails, node_count}
+use Rattle.ept_build.specs.Phases.{IsPhaseFault, IsRoomFault, IsStoreFault}
 
 -- ---- one way to be found
 
@@ -110,7 +110,7 @@ plan-refused shelf config current (plan.Scan e) refused = scan-refused shelf con
 module _ (r : Result Summary BuildError) where
   pub plan-fails : (e : PlanError) → r ≡ Err (of_plan e) → plans.Stops {T = Plan} (Err e) → Fails r
   plan-fails e is (inl fault) = let same : e ≡ plan.Scan scan.SourceFault = cc in inr (inl (is ∙ ap (λ (w : PlanError). Err (of_plan w)) same))
-  plan-fails e is (inr memory) = let same : e ≡ plan.Scan scan.Memory = cc in inr (inr (is ∙ ap (λ (w : PlanError). Err (of_plan w)) same))
+  plan-fails e is (inr memory) = let same : e ≡ plan.Scan scan.Memory = cc in inr (inr (inr (is ∙ ap (λ (w : PlanError). Err (of_plan w)) same)))
 
   pub plan-accepted : (e : PlanError) → r ≡ Err (of_plan e) → IsOk {T = Plan} {E = PlanError} (Err e) ⊎ plans.Stops {T = Plan} (Err e) → IsOk r ⊎ Fails r
   plan-accepted e is (inl fine) = absurd (cc)
@@ -118,13 +118,18 @@ module _ (r : Result Summary BuildError) where
 
   pub stores-fails : (e : BuildError) → r ≡ Err e → IsStoreFault e → Fails r
   stores-fails e is (inl fault) = inl (is ∙ ap (λ (w : BuildError). Err w) fault)
-  stores-fails e is (inr memory) = inr (inr (is ∙ ap (λ (w : BuildError). Err w) memory))
+  stores-fails e is (inr memory) = inr (inr (inr (is ∙ ap (λ (w : BuildError). Err w) memory)))
+
+  pub room-fails : (e : BuildError) → r ≡ Err e → IsRoomFault e → Fails r
+  room-fails e is (inl fault) = inr (inr (inl (is ∙ ap (λ (w : BuildError). Err w) fault)))
+  room-fails e is (inr memory) = inr (inr (inr (is ∙ ap (λ (w : BuildError). Err w) memory)))
 
   -- what is left of the build is refused for a fault, or for too many nodes
   pub phase-accepted : (all : Files) (config : Config) (current : Current) (e : BuildError) → r ≡ Err e → IsPhaseFault e → IsRefusedAt all config current e → (kept : Kept) (points : List Point) → HasPoints all config current kept points → node_count kept points ≤ config.max_nodes → Fails r
   phase-accepted all config current StoreFault is only refused kept points has few = inl is
   phase-accepted all config current SourceFault is only refused kept points has few = inr (inl is)
-  phase-accepted all config current Memory is only refused kept points has few = inr (inr is)
+  phase-accepted all config current Memory is only refused kept points has few = inr (inr (inr is))
+  phase-accepted all config current SpillFault is only refused kept points has few = absurd only
   phase-accepted all config current TooManyNodes is only refused kept points has few = absurd (omega (arith, refused.many, few, count-once all config current refused.kept kept refused.points points refused.has_points has))
   phase-accepted all config current (TileDamaged key) is only refused kept points has few = absurd refused
   phase-accepted all config current (SourceChanged source number) is only refused kept points has few = absurd refused
@@ -140,6 +145,11 @@ pub store-refused : (all : Files) (config : Config) (current : Current) (e : Bui
 store-refused all config current e (inl fault) = subst (IsRefusedAt all config current) (sym fault) tt
 store-refused all config current e (inr memory) = subst (IsRefusedAt all config current) (sym memory) tt
 
+-- nor does a fault of the room
+pub room-refused : (all : Files) (config : Config) (current : Current) (e : BuildError) → IsRoomFault e → IsRefusedAt all config current e
+room-refused all config current e (inl fault) = subst (IsRefusedAt all config current) (sym fault) tt
+room-refused all config current e (inr memory) = subst (IsRefusedAt all config current) (sym memory) tt
+
 pub put-store : (e : PutError) → IsStoreFault (of_put e)
 put-store put.Failed = inl refl
 put-store put.Memory = inr refl
@@ -148,9 +158,29 @@ pub put-no-source : (e : PutError) → of_put e ≡ SourceFault → ⊥
 put-no-source put.Failed is = cc
 put-no-source put.Memory is = cc
 
+pub put-no-spill : (e : PutError) → of_put e ≡ SpillFault → ⊥
+put-no-spill put.Failed is = cc
+put-no-spill put.Memory is = cc
+
 pub put-failed : (e : PutError) → of_put e ≡ StoreFault → e ≡ put.Failed
 put-failed put.Failed is = refl
 put-failed put.Memory is = absurd (cc)
+
+-- nor is a cause that the phases may have
+pub phase-not-early : (e : BuildError) → IsPhaseFault e → IsEarly e → ⊥
+phase-not-early StoreFault only early = early
+phase-not-early (TileDamaged key) only early = early
+phase-not-early SourceFault only early = early
+phase-not-early (SourceChanged source number) only early = early
+phase-not-early SpillFault only early = early
+phase-not-early TooManyNodes only early = early
+phase-not-early Memory only early = early
+phase-not-early (BadCheckpoint letter) only early = only
+phase-not-early (Differs field one_text other) only early = only
+phase-not-early (BadLas source fault) only early = only
+phase-not-early (OutOfBounds source number) only early = only
+phase-not-early (TooManyPoints source) only early = only
+phase-not-early NoBounds only early = only
 
 -- what is left of the build is accepted, or fails
 pub built-accepted : (r : Result Summary BuildError) (all : Files) (config : Config) (current : Current) → IfErr r IsPhaseFault → IfErr r (IsRefusedAt all config current) → (kept : Kept) (points : List Point) → HasPoints all config current kept points → node_count kept points ≤ config.max_nodes → IsOk r ⊎ Fails r
@@ -166,7 +196,13 @@ module _ (r : Result Summary BuildError) where
 
   pub plan-differs : (e : PlanError) → r ≡ Err (of_plan e) → plans.TellsDifference {T = Plan} (Err e) → TellsDifference r ⊎ Fails r
   plan-differs e is (inl (d, same)) = let told : e ≡ plan.Differs d = cc in inl (d.field, d.kept, d.given, is ∙ ap (λ (w : PlanError). Err (of_plan w)) told)
-  plan-differs e is (inr memory) = let told : e ≡ plan.Scan scan.Memory = cc in inr (inr (inr (is ∙ ap (λ (w : PlanError). Err (of_plan w)) told)))
+  plan-differs e is (inr memory) = let told : e ≡ plan.Scan scan.Memory = cc in inr (inr (inr (inr (is ∙ ap (λ (w : PlanError). Err (of_plan w)) told))))
+
+-- an opened store has no bad checkpoint
+pub opened-not-bad : {X : Type 0} (x : X) (e : SaveError) → (◌≡◌ {A = Result X SaveError} (Ok x) (Err e)) ⊎ (◌≡◌ {A = Result X SaveError} (Ok x) (Err save.StoreFault)) ⊎ (◌≡◌ {A = Result X SaveError} (Ok x) (Err save.Memory)) → ⊥
+opened-not-bad x e (inl is) = cc
+opened-not-bad x e (inr (inl is)) = cc
+opened-not-bad x e (inr (inr is)) = cc
 
 -- a plan is no refusal
 pub plan-is-ok : (p : Plan) (e : PlanError) → (◌≡◌ {A = Result Plan PlanError} (Ok p) (Err e)) ⊎ plans.Stops {T = Plan} (Ok p) → ⊥
@@ -190,7 +226,8 @@ built-many (Err e) all config current start files now told only refused few buil
     by TooManyNodes only refused = inl refl
     by StoreFault only refused = inr (inl refl)
     by SourceFault only refused = inr (inr (inl refl))
-    by Memory only refused = inr (inr (inr refl))
+    by Memory only refused = inr (inr (inr (inr refl)))
+    by SpillFault only refused = absurd only
     by (TileDamaged key) only refused = absurd refused
     by (SourceChanged source number) only refused = absurd refused
     by (BadCheckpoint letter) only refused = absurd only
@@ -231,3 +268,11 @@ put-not-many put.Memory is = cc
 pub store-not-many : (e : BuildError) → IsStoreFault e → e ≡ TooManyNodes → ⊥
 store-not-many e (inl fault) is = let same : StoreFault ≡ TooManyNodes = sym fault ∙ is in cc
 store-not-many e (inr memory) is = let same : Memory ≡ TooManyNodes = sym memory ∙ is in cc
+
+pub room-not-many : (e : BuildError) → IsRoomFault e → e ≡ TooManyNodes → ⊥
+room-not-many e (inl fault) is = let same : SpillFault ≡ TooManyNodes = sym fault ∙ is in cc
+room-not-many e (inr memory) is = let same : Memory ≡ TooManyNodes = sym memory ∙ is in cc
+
+pub store-no-source : (e : BuildError) → IsStoreFault e → e ≡ SourceFault → ⊥
+store-no-source e (inl fault) is = let same : StoreFault ≡ SourceFault = sym fault ∙ is in cc
+store-no-source e (inr memory) is = let same : Memory ≡ SourceFault = sym memory ∙ is in cc

@@ -11,6 +11,7 @@ mod Ending
 mod Ground
 mod Refusals
 mod Judging
+mod Roomy
 mod Running
 mod UnderWay
 mod Damage

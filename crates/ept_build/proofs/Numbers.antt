@@ -1,35 +1,24 @@
 -- How many points and nodes a sampling has.
-use Rattle.std.proofs.Common.{◌≡◌, ◌∙◌, ℕ, suc, ◌≤◌, List, [], ◌∷◌, ◌++◌, length, take, drop, map, refl, sym, ap, subst, arith, length-append}
+use Rattle.std.proofs.Common.{◌≡◌, ◌∙◌, ℕ, suc, ◌≤◌, List, [], ◌∷◌, ◌++◌, length, take, drop, refl, sym, ap, subst, arith, length-append}
 use Rattle.std.specs.Prelude.{Contains}
-use Rattle.std.specs.List.{flat_map, AllZip}
+use Rattle.std.specs.List.{AllZip}
 use Rattle.std.proofs.lemmas.List.{take-append-drop, length-map}
 use Rattle.std.proofs.lemmas.List.Elements.{Contains-append_left}
-use Rattle.std.proofs.lemmas.List.Sorted.{length_permutation}
 use Rattle.std.proofs.lemmas.List.Sums.{sum_by-cons}
 use Rattle.ept_point.specs.declared.point.Point.{Point}
 use Rattle.ept_space.specs.declared.cube.Rules.{Rules}
 use Rattle.ept_sample.specs.declared.tiles.Tile.{Tile}
 use Rattle.ept_sample.specs.Nodes.{node_keys, tile_at, sampled}
-use Rattle.ept_sample.specs.SamplingLaws.{CanBeSampled, EachPointIsInOneNode, MorePointsHaveMoreNodes}
+use Rattle.ept_sample.specs.SamplingLaws.{CanBeSampled, MorePointsHaveMoreNodes}
 use Rattle.ept_ckpt.specs.declared.node_line.NodeLine.{NodeLine}
 use Rattle.ept_ckpt.specs.Octree as ckpt
-use Rattle.ept_tree.specs.Tree.{Branch, tile_of, points_in}
-use Rattle.ept_tree.specs.TreeLaws.{AreSampled}
+use Rattle.ept_table.specs.Octree.{Branch, tile_of, points_in, AreSampled}
 use Rattle.ept_phase.specs.Lines.{TellNodes}
 use Rattle.ept_build.proofs.Fronts.{can-front}
 
 -- ---- points of nodes
 
-same_points : (nodes : List Branch) → points_in nodes ≡ flat_map (λ (t : Tile). t.points) (map tile_of nodes)
-same_points [] = refl
-same_points (b ∷ nodes) = ap (λ (w : List Point). b.1.points ++ w) (same_points nodes)
-
--- the nodes of a sampling have as many points as it
-pub sampled-number : EachPointIsInOneNode → (rules : Rules) (points : List Point) (nodes : List Branch) → CanBeSampled rules points → AreSampled rules points nodes → length (points_in nodes) ≡ length points
-sampled-number one rules points nodes can are =
-    ap length (same_points nodes ∙ ap (λ (w : List Tile). flat_map (λ (t : Tile). t.points) w) are.tiles) ∙ length_permutation points _ (one rules points can)
-
--- and so have nodes of which lines tell
+-- nodes have as many points as their lines tell
 pub told-number : (nodes : List Branch) (lines : List NodeLine) → TellNodes nodes lines → length (points_in nodes) ≡ ckpt.points_in lines
 told-number [] [] told = refl
 told-number [] (l ∷ lines) told = absurd told

@@ -12,8 +12,7 @@ use Rattle.ept_scan.specs.Scans.{IsScan}
 use Rattle.ept_scan.specs.Opening.{IsKeptScan}
 use Rattle.ept_scan.proofs.OneScan.{scan_once}
 use Rattle.ept_ckpt.specs.declared.checkpoint.Checkpoint.{Checkpoint}
-use Rattle.ept_tree.specs.Tree.{Branch}
-use Rattle.ept_tree.specs.TreeLaws.{AreSampled}
+use Rattle.ept_table.specs.Octree.{Branch, AreSampled}
 use Rattle.ept_meta.specs.Output.{File, IsOutput, rules_of, names_of}
 use Rattle.ept_meta.specs.OutputLaws.{OutputIsOne}
 use Rattle.ept_save.specs.Names.{done_name}

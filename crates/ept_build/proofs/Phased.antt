@@ -1,6 +1,7 @@
 -- What a phase leaves: an octree that has each node of its checkpoint.
-use Rattle.std.proofs.Common.{◌≡◌, ◌∙◌, inl, inr, ℕ, ◌+◌, ◌<◌, ◌≤◌, true, List, [], ◌∷◌, ◌++◌, ◌-◌, min, length, map, take, drop, sym, ap, subst, arith, Some, None}
+use Rattle.std.proofs.Common.{◌≡◌, ◌∙◌, inl, inr, ℕ, ◌+◌, ◌<◌, ◌≤◌, true, List, [], ◌∷◌, ◌++◌, ◌-◌, min, length, map, take, drop, sym, ap, subst, arith, Option, Some, None}
 use Rattle.std.proofs.lemmas.Bool.{cases_lt}
+use Rattle.std.proofs.lemmas.List.{take-append-drop}
 use Rattle.ept_point.specs.declared.point.Point.{Point}
 use Rattle.ept_space.specs.VoxelKey.{VoxelKey}
 use Rattle.ept_space.specs.declared.cube.Rules.{Rules}
@@ -15,20 +16,26 @@ use Rattle.ept_ckpt.specs.declared.letter.Letter.{Letter}
 use Rattle.ept_ckpt.specs.declared.checkpoint.Checkpoint.{Checkpoint}
 use Rattle.ept_ckpt.specs.declared.node_line.NodeLine.{NodeLine}
 use Rattle.ept_ckpt.specs.Octree.{is_among}
-use Rattle.ept_tree.specs.Tree.{Branch, entry_of}
-use Rattle.ept_tree.specs.TreeLaws.{AreSampled}
-use Rattle.ept_tree.specs.Whole.{KeepsNodes}
+use Rattle.ept_table.specs.Octree.{Branch, entry_of, points_in, AreSampled, AreWhole, AreLinked, KeepsNodes}
+use Rattle.ept_node.specs.declared.node.Node.{Node}
+use Rattle.ept_forest.specs.Slots as forests
+use Rattle.ept_octree.specs.declared.octree.Octree.{Octree}
+use Rattle.ept_octree.specs.Index.{taken_in}
+use Rattle.ept_octree.specs.Octree as tree
+use Rattle.ept_insert.specs.Between.{StandsBetween}
+use Rattle.ept_scan.specs.declared.second_reading.Reader.{Reader}
+use Rattle.ept_meta.specs.Output.{rules_of}
 use Rattle.ept_save.specs.Current.{Current}
 use Rattle.ept_save.specs.Opening.{lines_of}
 use Rattle.ept_save.specs.View.{View, next_letter}
 use Rattle.ept_phase.specs.Lines.{TellNodes}
 use Rattle.ept_phase.specs.Saving.{HasEachNodeOf, keys_in}
-use Rattle.ept_phase.specs.Phase.{AreGiven, GoesFurther, IsSaved}
+use Rattle.ept_phase.specs.Phase.{AreGiven, IsSaved}
 use Rattle.ept_phase.proofs.Telling.{among-member, member-among}
 use Rattle.ept_plan.specs.declared.plan.Plan.{Plan}
 use Rattle.ept_plan.specs.Plans.{IsOf, inputs_by, inserted_by}
-use Rattle.ept_build.specs.Phases.{IsFit, HasAll}
-use Rattle.ept_build.proofs.Fronts.{front-then, can-front}
+use Rattle.ept_build.specs.Phases.{IsFit, IsTreeOf, HasInserted, HasAll}
+use Rattle.ept_build.proofs.Fronts.{front-then}
 
 -- ---- keys of nodes
 
@@ -62,11 +69,7 @@ pub each-told : (nodes : List Branch) (letter : Letter) (c : Checkpoint) → Tel
 each-told nodes letter c told =
     All-members (λ (line : NodeLine). is_among (keys_in nodes) line.key ≡ true) c.nodes (λ line m. member-among (keys_in nodes) line.key (told_key nodes c.nodes told line m))
 
--- ---- further than the checkpoint
-
-pub goes-further : (current : Current) (inserted inputs : ℕ) → inserted_by current + inputs_by current < inserted + inputs → GoesFurther current inserted inputs
-goes-further None inserted inputs more = tt
-goes-further (Some (letter, c)) inserted inputs more = more
+-- ---- what is given of the inputs
 
 pub given-fit : (plan : Plan) (inserted : ℕ) → IsFit plan → inserted ≤ plan.points → AreGiven plan.kept plan.counts inserted
 given-fit plan inserted fit most = record {
@@ -106,18 +109,40 @@ module _ (own rules : Rules) (same : own ≡ rules) (n k : ℕ) (points : List P
   abbrev both : List Point
   both = take n points ++ take k (drop n points)
 
-  pub points-then : CanBeSampled rules points → CanBeSampled own both
-  points-then can = subst (λ (r : Rules). CanBeSampled r both) (sym same) (subst (λ (w : List Point). CanBeSampled rules w) (sym (front-then n k points)) (can-front rules (n + k) points can))
-
   pub sampled-then : (nodes : List Branch) → AreSampled own both nodes → AreSampled rules (take (n + k) points) nodes
   sampled-then nodes are = subst (λ (w : List Point). AreSampled rules w nodes) (front-then n k points) (subst (λ (r : Rules). AreSampled r both nodes) same are)
 
   pub many-then : (most : ℕ) → most < length (sampled own both) → most < length (sampled rules (take (n + k) points))
   many-then most many = subst (λ (w : List Point). most < length (sampled rules w)) (front-then n k points) (subst (λ (r : Rules). most < length (sampled r both)) same many)
 
-  pub inserted-sampled : (Rest : List Point → Type 0) (old new : List Branch) → ((first left : List Point) → Rest left → CanBeSampled own (first ++ take k left) → AreSampled own first old → AreSampled own (first ++ take k left) new) → CanBeSampled rules points → Rest (drop n points) → AreSampled rules (take n points) old → AreSampled rules (take (n + k) points) new
-  inserted-sampled Rest old new inserted can rest are =
-      sampled-then new (inserted (take n points) (drop n points) rest (points-then can) (subst (λ (r : Rules). AreSampled r (take n points) old) (sym same) are))
+-- ---- the octree of the first points, and a reader that has the others
+
+module _ {F S : Type 0} (whole : S → Option (List ℕ)) (plan : Plan) (points : List Point) (n : ℕ) (reader : Reader S) (grown : Octree F) (same : tree.rules_of grown ≡ rules_of plan.kept) (can : CanBeSampled (rules_of plan.kept) points) (has : HasInserted whole plan points n reader grown) where
+  pub stands-between : StandsBetween whole grown reader (take n points) (drop n points)
+  stands-between = record {
+    rest = has.rest;
+    can = subst (λ (r : Rules). CanBeSampled r (take n points ++ drop n points)) (sym same) (subst (λ (w : List Point). CanBeSampled (rules_of plan.kept) w) (sym (take-append-drop n points)) can);
+    sampled = subst (λ (r : Rules). AreSampled r (take n points) (tree.nodes_of grown)) (sym same) has.sampled;
+  }
+
+  -- the nodes that come of the next points
+  pub next-sampled : (k : ℕ) (new : List Branch) → ((first left : List Point) → StandsBetween whole grown reader first left → AreSampled (tree.rules_of grown) (first ++ take k left) new) → AreSampled (rules_of plan.kept) (take (n + k) points) new
+  next-sampled k new inserted = sampled-then (tree.rules_of grown) (rules_of plan.kept) same n k points new (inserted (take n points) (drop n points) stands-between)
+
+-- ---- the octree behind a phase
+
+pub next-tree : {F : Type 0} (plan : Plan) (inserted : ℕ) (grown next : Octree F) (old new : View) → tree.rules_of grown ≡ rules_of plan.kept → tree.IsWhole grown → tree.IsLinked grown → length (tree.points_of grown) ≡ inserted → forests.nodes_of (tree.forest_of next) ≡ forests.nodes_of (tree.forest_of grown) → tree.nodes_of next ≡ tree.nodes_of grown → tree.rules_of next ≡ tree.rules_of grown
+    → IsSaved old new plan.kept plan.counts inserted (tree.nodes_of grown) → IsTreeOf plan inserted next new
+next-tree {F} plan inserted grown next old new own whole linked number slots nodes rules saved = record {
+  rules = rules ∙ own;
+  whole = subst (λ (w : List Branch). AreWhole (map entry_of w)) (sym nodes) whole;
+  linked = subst (λ (w : List (Node F)). AreLinked (taken_in w)) (sym slots) linked;
+  number = ap (λ (w : List Branch). length (points_in w)) nodes ∙ number;
+  fresh = saved-fresh plan old new inserted (tree.nodes_of grown) saved;
+  each = subst (λ (w : List Branch). HasEachNodeOf new.current w) (sym nodes) (saved-each plan old new inserted (tree.nodes_of grown) saved);
+  by_checkpoint = saved-inserted plan old new inserted (tree.nodes_of grown) saved;
+  inputs_least = omega (arith, saved-inputs plan old new inserted (tree.nodes_of grown) saved);
+}
 
 -- ---- there is more to be done
 

@@ -1,9 +1,8 @@
 -- What is left of a build: the nodes are loaded, the done gate is closed, and all points of the inputs are brought in.
-use Rattle.std.proofs.Common.{◌≡◌, ◌∙◌, ◌⊎◌, inl, inr, ℕ, true, ◌<◌, ◌≤◌, [], length, refl, sym, ap, arith, Option, Some, None}
+use Rattle.std.proofs.Common.{◌≡◌, ◌∙◌, ◌⊎◌, inl, inr, ℕ, true, ◌<◌, ◌≤◌, List, length, refl, sym, ap, arith, Option, Some, None}
 use Rattle.std.proofs.lemmas.List.Elements.{All-nil}
 use Rattle.ept_base.specs.Files.{Files, SameFiles, Tells}
 use Rattle.ept_base.specs.Moves.{IsSettled, Moves}
-use Rattle.ept_config.specs.declared.config.Config.{Config}
 use Rattle.ept_save.specs.Names.{gate_name, body_name, done_name}
 use Rattle.ept_save.specs.Current.{Current, HasCurrent}
 use Rattle.ept_save.specs.Done.{IsDone, IsGuarded, Guards}
@@ -13,28 +12,20 @@ use Rattle.ept_save.specs.View.{View}
 use Rattle.ept_save.proofs.Keeping.{has_current-same}
 use Rattle.ept_save.proofs.NamesDiffer.{done-gate, done-body}
 use Rattle.ept_save.proofs.Standing.{open_or_not, told_some, settled_some}
-use Rattle.ept_space.specs.declared.cube.Rules.{Rules}
-use Rattle.ept_space.specs.OctreeCube.{IsCube, InCube}
-use Rattle.ept_sample.specs.Place.{place}
-use Rattle.ept_sample.specs.SamplingLaws.{CanBeSampled, EachPointIsInOneNode}
 use Rattle.ept_ckpt.specs.declared.checkpoint.Checkpoint.{Checkpoint}
 use Rattle.ept_ckpt.specs.declared.node_line.NodeLine.{NodeLine}
 use Rattle.ept_ckpt.specs.Octree.{is_among}
-use Rattle.ept_tree.specs.declared.octree.Tree.{Tree}
-use Rattle.ept_tree.specs.Grown as tree
-use Rattle.ept_tree.specs.TreeLaws.{AreSampled}
-use Rattle.ept_meta.specs.Output.{rules_of}
-use Rattle.ept_save.specs.Opening.{lines_of}
+use Rattle.ept_octree.specs.declared.octree.Octree.{Octree}
+use Rattle.ept_octree.specs.Octree as tree
+use Rattle.ept_table.specs.Octree.{Branch, points_in}
 use Rattle.ept_phase.specs.Lines.{TellNodes}
-use Rattle.ept_phase.specs.LinesLaws.{WholeIsTold}
 use Rattle.ept_phase.specs.Loaded.{OfCurrent}
 use Rattle.ept_phase.specs.Saving.{HasEachNodeOf, keys_in}
 use Rattle.ept_plan.specs.declared.plan.Plan.{Plan}
-use Rattle.ept_plan.specs.Plans.{IsPlan, inserted_by}
-use Rattle.ept_build.specs.Phases.{IsTreeOf, IsSoundUndone, IsSoundAt}
-use Rattle.ept_build.proofs.Fronts.{none-distinct}
+use Rattle.ept_plan.specs.Plans.{inserted_by}
+use Rattle.ept_build.specs.Phases.{IsBegun, IsTreeOf, IsSoundUndone, IsSoundAt}
 use Rattle.ept_build.proofs.Moved.{AllAre, all-settled, all-after, moves-after}
-use Rattle.ept_build.proofs.Numbers.{sampled-number, told-number}
+use Rattle.ept_build.proofs.Numbers.{told-number}
 use Rattle.ept_build.proofs.Phased.{each-told}
 
 sound-same : SameIsSound → (shelf : Files) (current : Current) (a b : Files) → IsSoundAt shelf current a → SameFiles a b → IsSoundAt shelf current b
@@ -105,35 +96,26 @@ module _ (same_sound : SameIsSound) (published : DoneIsPublished) (guarding : Gu
 pub settled-on : (start now image : Files) {may : Files → Type 0} → ((some : Files) → may some → SameFiles start some) → SameFiles start now → may image → SameFiles now image
 settled-on start now image settled same is name = settled image is name ∙ sym (same name)
 
--- of a store that tells, what holds of the current checkpoint
-pub told-current : (current : Current) (fact : Checkpoint → Files → Type 0) (files : Option Files) (start : Files) → files ≡ Some start → OfCurrent current (λ (c : Checkpoint). Tells (fact c) files) → OfCurrent current (λ (c : Checkpoint). fact c start)
-told-current None fact files start told of = tt
-told-current (Some (letter, c)) fact files start told of = told_some (fact c) files start told of
-
-pub few-lines : (most given lines nodes : ℕ) → given ≡ most → given < lines → lines ≤ nodes → most < nodes
-few-lines most given lines nodes is many few = omega (arith, is, many, few)
+pub few-lines : (max slots lines nodes : ℕ) → (slots < lines → slots ≡ max) → slots < lines → lines ≤ nodes → max < nodes
+few-lines max slots lines nodes all many few = omega (arith, all many, many, few)
 
 -- the octree that was loaded is that of the plan
-pub tree-loaded : EachPointIsInOneNode → WholeIsTold → (plan : Plan) (config : Config) (view : View) → IsPlan config view.current plan → view.lines ≡ lines_of view.current → (rules : Rules) → rules ≡ rules_of plan.kept → IsCube rules.cube → (grown : Tree) → tree.rules_of grown ≡ rules → tree.IsAtRest grown → tree.IsWhole grown → (most : ℕ) → length (tree.nodes_of grown) ≤ most
-    → OfCurrent view.current (λ (c : Checkpoint). TellNodes (tree.nodes_of grown) c.nodes) → (view.current ≡ None → AreSampled rules [] (tree.nodes_of grown)) → IsTreeOf plan plan.inserted most grown view
-tree-loaded one_node told_whole plan config view is fresh rules its cube grown own rest whole most few told begun = record {
-  rules = own ∙ its;
-  rest = rest;
+pub tree-loaded : {F : Type 0} (plan : Plan) (inserted : ℕ) (view : View) (old new : Octree F) → IsBegun plan inserted old view → tree.rules_of new ≡ tree.rules_of old → tree.IsWhole new → tree.IsLinked new → OfCurrent view.current (λ (c : Checkpoint). TellNodes (tree.nodes_of new) c.nodes) → (view.current ≡ None → tree.nodes_of new ≡ tree.nodes_of old) → IsTreeOf plan inserted new view
+tree-loaded plan inserted view old new is own whole linked told begun = record {
+  rules = own ∙ is.rules;
   whole = whole;
+  linked = linked;
   number = number view.current refl told;
-  few = few;
-  fresh = fresh;
+  fresh = is.fresh;
   each = each view.current told;
-  by_checkpoint = sym is.inserted_is;
+  by_checkpoint = is.by_checkpoint;
   inputs_least = is.inputs_least;
 }
   where
-    number : (now : Current) → view.current ≡ now → OfCurrent now (λ (c : Checkpoint). TellNodes (tree.nodes_of grown) c.nodes) → length (tree.points_of grown) ≡ plan.inserted
-    number None same of =
-        let none : CanBeSampled rules [] = record { cube = cube; inside = All-nil (λ p. InCube rules.cube (place p)); distinct = none-distinct } in
-        sampled-number one_node rules [] (tree.nodes_of grown) none (begun same) ∙ sym (is.inserted_is ∙ ap inserted_by same)
-    number (Some (letter, c)) same of = told-number (tree.nodes_of grown) c.nodes of ∙ (c.is_checkpoint.nodes_are.counted ∙ sym (is.inserted_is ∙ ap inserted_by same))
+    number : (now : Current) → view.current ≡ now → OfCurrent now (λ (c : Checkpoint). TellNodes (tree.nodes_of new) c.nodes) → length (tree.points_of new) ≡ inserted
+    number None same of = ap (λ (w : List Branch). length (points_in w)) (begun same ∙ is.root_alone) ∙ (sym (ap inserted_by same) ∙ is.by_checkpoint)
+    number (Some (letter, c)) same of = told-number (tree.nodes_of new) c.nodes of ∙ (c.is_checkpoint.nodes_are.counted ∙ (sym (ap inserted_by same) ∙ is.by_checkpoint))
 
-    each : (now : Current) → OfCurrent now (λ (c : Checkpoint). TellNodes (tree.nodes_of grown) c.nodes) → HasEachNodeOf now (tree.nodes_of grown)
-    each None of = All-nil (λ (line : NodeLine). is_among (keys_in (tree.nodes_of grown)) line.key ≡ true)
-    each (Some (letter, c)) of = each-told (tree.nodes_of grown) letter c of
+    each : (now : Current) → OfCurrent now (λ (c : Checkpoint). TellNodes (tree.nodes_of new) c.nodes) → HasEachNodeOf now (tree.nodes_of new)
+    each None of = All-nil (λ (line : NodeLine). is_among (keys_in (tree.nodes_of new)) line.key ≡ true)
+    each (Some (letter, c)) of = each-told (tree.nodes_of new) letter c of

@@ -24,12 +24,13 @@ use Rattle.ept_save.specs.Done.{IsDone}
 use Rattle.ept_save.specs.Loading.{HasLine, IsDamaged}
 use Rattle.ept_save.specs.Opening.{lines_of}
 use Rattle.ept_save.specs.Sound.{IsSound}
-use Rattle.ept_save.specs.View.{View, StandsFor}
+use Rattle.ept_save.specs.View.{View}
 use Rattle.ept_plan.specs.declared.plan.Plan.{Plan}
 use Rattle.ept_plan.specs.Plans.{inputs_by, inserted_by, limits_by, new_paths, GoesOn, ScansAll, DiffersBy, AreRefused}
 use Rattle.ept_build.specs.declared.error.BuildError.{BuildError}
-use Rattle.ept_build.specs.declared.error.BuildError.TheVariants.{StoreFault, BadCheckpoint, TileDamaged, Differs, SourceFault, BadLas, OutOfBounds, TooManyPoints, NoBounds, SourceChanged, TooManyNodes, Memory}
+use Rattle.ept_build.specs.declared.error.BuildError.TheVariants.{StoreFault, BadCheckpoint, TileDamaged, Differs, SourceFault, BadLas, OutOfBounds, TooManyPoints, NoBounds, SourceChanged, SpillFault, TooManyNodes, Memory}
 use Rattle.ept_build.specs.declared.summary.Summary.{Summary}
+use Rattle.ept_build.specs.Phases.{IsReady}
 use Rattle.ept_build.specs.Reached.{HasReached, HasGoneThrough}
 
 -- ---- what a build begins with
@@ -53,11 +54,7 @@ node_count kept points = length (sampled (rules_of kept) points)
 
 -- what is left to be done begins with such files, where the current checkpoint is known and there is a plan
 pub record Starts (all : Files) (config : Config) (view : View) (plan : Plan) (start : Files) (files : Option Files) (may_leave : Files → Type 0) : Type 0 where
-  pub told : files ≡ Some start
-  pub settled : IsSettled files may_leave
-  pub sound : IsSound all start
-  pub has_current : HasCurrent view.current start
-  pub stands : StandsFor view files may_leave
+  pub ready : IsReady all start view files may_leave
   pub scans : ScansAll all config view.current plan
 
 -- ---- what it leaves
@@ -162,6 +159,7 @@ InputsAreRefused all config current error = GoesOn config current × AreRefused 
 abbrev pub IsRefusedAt : Files → Config → Current → BuildError → Type 0
 IsRefusedAt all config current StoreFault = ⊤
 IsRefusedAt all config current SourceFault = ⊤
+IsRefusedAt all config current SpillFault = ⊤
 IsRefusedAt all config current Memory = ⊤
 IsRefusedAt all config current (BadCheckpoint letter) = ⊥
 IsRefusedAt all config current (TileDamaged key) = ⊥
@@ -181,11 +179,11 @@ pub record IsRefused (all : Files) (config : Config) (start : Files) (error : Bu
 
 -- a fault of a device, or want of memory
 abbrev pub IsFault : BuildError → Type 0
-IsFault e = (e ≡ StoreFault) ⊎ (e ≡ SourceFault) ⊎ (e ≡ Memory)
+IsFault e = (e ≡ StoreFault) ⊎ (e ≡ SourceFault) ⊎ (e ≡ SpillFault) ⊎ (e ≡ Memory)
 
 -- the answer is a fault of a device, or want of memory
 abbrev pub Fails : Result Summary BuildError → Type 0
-Fails answer = (answer ≡ Err StoreFault) ⊎ (answer ≡ Err SourceFault) ⊎ (answer ≡ Err Memory)
+Fails answer = (answer ≡ Err StoreFault) ⊎ (answer ≡ Err SourceFault) ⊎ (answer ≡ Err SpillFault) ⊎ (answer ≡ Err Memory)
 
 -- the answer is a field that differs
 abbrev pub TellsDifference : Result Summary BuildError → Type 0
@@ -199,6 +197,7 @@ TellsDamage answer = (key : VoxelKey) × (answer ≡ Err (TileDamaged key))
 abbrev pub IsEarly : BuildError → Type 0
 IsEarly StoreFault = ⊥
 IsEarly SourceFault = ⊥
+IsEarly SpillFault = ⊥
 IsEarly Memory = ⊥
 IsEarly (BadCheckpoint letter) = ⊤
 IsEarly (TileDamaged key) = ⊥

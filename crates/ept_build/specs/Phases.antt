@@ -1,9 +1,11 @@
 -- Where a build stands between two phases.
-use Rattle.std.specs.Prelude.{◌≡◌, ◌⊎◌, ℕ, ◌+◌, ◌<◌, ◌≤◌, List, [], length, take, drop, Option, None, ⊤, All}
+use Rattle.std.specs.Prelude.{◌≡◌, ◌⊎◌, ℕ, ◌+◌, ◌<◌, ◌≤◌, List, [], ◌∷◌, length, take, drop, Option, Some, None, ⊤, All}
 use Rattle.ept_base.specs.Files.{Files, Tells}
+use Rattle.ept_base.specs.Moves.{IsSettled}
 use Rattle.ept_point.specs.declared.point.Point.{Point}
 use Rattle.ept_space.specs.OctreeCube.{InCube}
-use Rattle.ept_space.specs.VoxelKey.{VoxelKey}
+use Rattle.ept_space.specs.CubeOfBounds.{IsCubeOf}
+use Rattle.ept_space.specs.VoxelKey.{VoxelKey, root}
 use Rattle.ept_sample.specs.Place.{place}
 use Rattle.ept_sample.specs.Nodes.{sampled}
 use Rattle.ept_config.specs.Counts.{IsCount, total}
@@ -12,10 +14,12 @@ use Rattle.ept_scan.specs.declared.second_reading.Reader.{Reader}
 use Rattle.ept_scan.specs.Opening.{IsKeptScan}
 use Rattle.ept_scan.specs.Queue.{LiesIn}
 use Rattle.ept_scan.specs.Reader.{drawn_of, left_of, refusal_of, files_of, IsRest, IsReader}
-use Rattle.ept_tree.specs.declared.octree.Tree.{Tree}
-use Rattle.ept_tree.specs.Grown as tree
-use Rattle.ept_tree.specs.TreeLaws.{AreSampled}
+use Rattle.ept_node.specs.Shown.{empty_node}
+use Rattle.ept_table.specs.Octree.{Branch, AreSampled}
+use Rattle.ept_octree.specs.declared.octree.Octree.{Octree}
+use Rattle.ept_octree.specs.Octree as tree
 use Rattle.ept_sample.specs.SamplingLaws.{CanBeSampled}
+use Rattle.ept_few.specs.Few.{most_nodes}
 use Rattle.ept_meta.specs.Output.{File, IsOutput, rules_of, names_of}
 use Rattle.ept_save.specs.Current.{Current, HasCurrent}
 use Rattle.ept_save.specs.Done.{IsDone}
@@ -29,10 +33,10 @@ use Rattle.ept_phase.specs.Lines.{TellNodes, NameTiles}
 use Rattle.ept_phase.specs.Loaded.{OfCurrent}
 use Rattle.ept_phase.specs.Saving.{HasEachNodeOf}
 use Rattle.ept_plan.specs.declared.plan.Plan.{Plan}
-use Rattle.ept_plan.specs.Plans.{inputs_by, inserted_by}
+use Rattle.ept_plan.specs.Plans.{inputs_by, inserted_by, RulesStay}
 use Rattle.ept_build.specs.Reached.{IsAfter}
 use Rattle.ept_build.specs.declared.error.BuildError.{BuildError}
-use Rattle.ept_build.specs.declared.error.BuildError.TheVariants.{StoreFault, BadCheckpoint, TileDamaged, Differs, SourceFault, BadLas, OutOfBounds, TooManyPoints, NoBounds, SourceChanged, TooManyNodes, Memory}
+use Rattle.ept_build.specs.declared.error.BuildError.TheVariants.{StoreFault, BadCheckpoint, TileDamaged, Differs, SourceFault, BadLas, OutOfBounds, TooManyPoints, NoBounds, SourceChanged, SpillFault, TooManyNodes, Memory}
 
 -- ---- the plan
 
@@ -50,23 +54,39 @@ pub record HasAll (plan : Plan) (current : Current) : Type 0 where
 
 -- ---- the octree, the reader and the checkpoint
 
--- The octree is a whole one of so many points, under the rules that are kept, and has each node of the checkpoint, which has as many points inserted.
-pub record IsTreeOf (plan : Plan) (inserted most : ℕ) (grown : Tree) (view : View) : Type 0 where
-  pub rules : tree.rules_of grown ≡ rules_of plan.kept
-  pub rest : tree.IsAtRest grown
-  pub whole : tree.IsWhole grown
-  pub number : length (tree.points_of grown) ≡ inserted
-  pub few : length (tree.nodes_of grown) ≤ most
+-- The octree is that of no points, under the rules that are kept, whose cube is that of the bounds. As many points are inserted as the checkpoint has, from which the plan goes on.
+pub record IsBegun {F : Type 0} (plan : Plan) (inserted : ℕ) (octree : Octree F) (view : View) : Type 0 where
+  pub rules : tree.rules_of octree ≡ rules_of plan.kept
+  pub of_bounds : IsCubeOf plan.kept.bounds plan.kept.s plan.kept.max_depth (rules_of plan.kept).cube
+  pub root_alone : tree.nodes_of octree ≡ (root, empty_node root (tree.rules_of octree)) ∷ []
+  pub empty : AreSampled (rules_of plan.kept) [] (tree.nodes_of octree)
   pub fresh : view.lines ≡ lines_of view.current
-  pub each : HasEachNodeOf view.current (tree.nodes_of grown)
+  pub rules_stay : RulesStay view.current plan.kept
   pub by_checkpoint : inserted_by view.current ≡ inserted
   pub inputs_least : inputs_by view.current ≤ length plan.kept.inputs
 
--- The octree is that of the checkpoint: its lines tell of the nodes, and name their tiles. Where there is none, it has no points.
-pub record IsLoaded (plan : Plan) (current : Current) (grown : Tree) (files : Option Files) : Type 0 where
-  pub told : OfCurrent current (λ (c : Checkpoint). TellNodes (tree.nodes_of grown) c.nodes)
-  pub tiles : OfCurrent current (λ (c : Checkpoint). Tells (λ all. NameTiles all (tree.nodes_of grown) c.nodes) files)
-  pub begun : current ≡ None → AreSampled (rules_of plan.kept) [] (tree.nodes_of grown)
+-- The octree is a whole one of so many points, under the rules that are kept, and has each node of the checkpoint, which has as many points inserted.
+pub record IsTreeOf {F : Type 0} (plan : Plan) (inserted : ℕ) (octree : Octree F) (view : View) : Type 0 where
+  pub rules : tree.rules_of octree ≡ rules_of plan.kept
+  pub whole : tree.IsWhole octree
+  pub linked : tree.IsLinked octree
+  pub number : length (tree.points_of octree) ≡ inserted
+  pub fresh : view.lines ≡ lines_of view.current
+  pub each : HasEachNodeOf view.current (tree.nodes_of octree)
+  pub by_checkpoint : inserted_by view.current ≡ inserted
+  pub inputs_least : inputs_by view.current ≤ length plan.kept.inputs
+
+-- The nodes are those of the checkpoint: its lines tell of them, and name their tiles. Where there is none, they are those of no points.
+pub record AreLoaded (plan : Plan) (current : Current) (nodes : List Branch) (files : Option Files) : Type 0 where
+  pub told : OfCurrent current (λ (c : Checkpoint). TellNodes nodes c.nodes)
+  pub tiles : OfCurrent current (λ (c : Checkpoint). Tells (λ all. NameTiles all nodes c.nodes) files)
+  pub begun : current ≡ None → AreSampled (rules_of plan.kept) [] nodes
+
+-- So many slots are enough: as many as there may be nodes, or no fewer than the checkpoint has nodes, and than so many points have at most.
+pub record HasRoom (plan : Plan) (current : Current) (max slots : ℕ) : Type 0 where
+  pub few : slots ≤ max
+  pub for_lines : slots < length (lines_of current) → slots ≡ max
+  pub for_points : slots < most_nodes (rules_of plan.kept) plan.points → slots ≡ max
 
 -- the reader has the other points to come, which lie in the cube
 pub record ReadsRest {S : Type 0} (whole left : S → Option (List ℕ)) (given faults : S → ℕ) (plan : Plan) (inserted : ℕ) (reader : Reader S) : Type 0 where
@@ -78,9 +98,17 @@ pub record ReadsRest {S : Type 0} (whole left : S → Option (List ℕ)) (given 
 
 -- ---- of devices that tell
 
+-- The store is settled with these files, which are sound for the shelf, and stands for their current checkpoint.
+pub record IsReady (shelf start : Files) (view : View) (files : Option Files) (may_leave : Files → Type 0) : Type 0 where
+  pub told : files ≡ Some start
+  pub settled : IsSettled files may_leave
+  pub sound : IsSound shelf start
+  pub has_current : HasCurrent view.current start
+  pub stands : StandsFor view files may_leave
+
 -- the octree is that of the first points, and the reader has the others
-pub record HasInserted {S : Type 0} (whole : S → Option (List ℕ)) (plan : Plan) (points : List Point) (inserted : ℕ) (reader : Reader S) (grown : Tree) : Type 0 where
-  pub sampled : AreSampled (rules_of plan.kept) (take inserted points) (tree.nodes_of grown)
+pub record HasInserted {F S : Type 0} (whole : S → Option (List ℕ)) (plan : Plan) (points : List Point) (inserted : ℕ) (reader : Reader S) (octree : Octree F) : Type 0 where
+  pub sampled : AreSampled (rules_of plan.kept) (take inserted points) (tree.nodes_of octree)
   pub rest : IsRest whole reader (drop inserted points)
 
 -- files are sound, and their done gate is closed
@@ -126,6 +154,7 @@ IsPhaseFault StoreFault = ⊤
 IsPhaseFault (TileDamaged key) = ⊤
 IsPhaseFault SourceFault = ⊤
 IsPhaseFault (SourceChanged source number) = ⊤
+IsPhaseFault SpillFault = ⊥
 IsPhaseFault TooManyNodes = ⊤
 IsPhaseFault Memory = ⊤
 IsPhaseFault (BadCheckpoint letter) = ⊥
@@ -134,6 +163,10 @@ IsPhaseFault (BadLas source fault) = ⊥
 IsPhaseFault (OutOfBounds source number) = ⊥
 IsPhaseFault (TooManyPoints source) = ⊥
 IsPhaseFault NoBounds = ⊥
+
+-- a fault of the room, or want of memory
+abbrev pub IsRoomFault : BuildError → Type 0
+IsRoomFault e = (e ≡ SpillFault) ⊎ (e ≡ Memory)
 
 -- a fault of the store, or want of memory
 abbrev pub IsStoreFault : BuildError → Type 0

@@ -8,30 +8,38 @@ ghost use Rattle.ept_space.specs.VoxelKey.{VoxelKey};
 ghost use Rattle.ept_scan.specs.declared.scan_error.ScanError.{ScanError};
 ghost use Rattle.ept_scan.specs.Asking.{AsksFor, paths_left};
 ghost use Rattle.ept_ckpt.specs.declared.letter.Letter.{Letter};
+ghost use Rattle.ept_octree.specs.Octree.{most_of};
 ghost use Rattle.ept_save.specs.Current.{Current, HasCurrent};
 ghost use Rattle.ept_save.specs.Done.{IsDone};
 ghost use Rattle.ept_save.specs.Loading.{HasLine, IsDamaged};
 ghost use Rattle.ept_save.specs.Opening.{lines_of, IsBad};
 ghost use Rattle.ept_save.specs.View.{StandsFor};
 ghost use Rattle.ept_plan.specs.Plans.{IsPlan, IsDefinite, GoesOn};
+ghost use Rattle.ept_few.specs.Few.{TilesAreFew};
 ghost use Rattle.ept_build.specs.Building.{BeginsWith, Starts, InputsAreRefused, HasTooManyNodes, HasTooManyAlready, TellsDifference, IsBuilt, IsUnderWay, IsStopped, AsksInOrder, ComesToDamage, TellsDamage, IsDoneAlready, IsAccepted, IsRefusedAt, IsRefused, IsEarly, Fails};
 ghost use Rattle.ept_build.specs.Errors.{of_scan};
-ghost use Rattle.ept_build.specs.Phases.{HasAll, HasDamage, IsPhaseFault, IsStoreFault};
+ghost use Rattle.ept_build.specs.Phases.{HasAll, IsBegun, HasRoom, HasDamage, IsPhaseFault, IsStoreFault};
 
+use crate::crew::Crew;
 use crate::error::BuildError;
 use crate::finishing::finish;
 use crate::growing::{grow, has_all};
-use crate::starting::take_up;
+use crate::progress::{Progress, Stopped};
+use crate::starting::{lines_in, start, take_up};
 use crate::summary::Summary;
-use ept_base::{Gate, Room, Shelf, Store};
+use ept_base::{Gate, Room, Shelf, SpillFile, Store};
 use ept_config::Config;
+use ept_few::few_nodes_law;
+use ept_forest::Forest;
 use ept_meta::{output_names_law, output_once_law};
 use ept_phase::saved_law;
 use ept_plan::{Plan, make_plan};
-use ept_sample::{node_law, point_law};
+use ept_sample::node_law;
 use ept_save::{Saved, is_done, open, sound_law, sound_steps_law};
 use ept_scan::whole_extent;
 use std::alloc::Global;
+use std::sync::Wait;
+use std::thread::Threads;
 
 /// Builds the octree of the points of all inputs of the configuration, and puts its files into the store: the
 /// tile of each node, the hierarchy, the metadata, the manifest and the build file.
@@ -45,17 +53,18 @@ use std::alloc::Global;
 ///
 /// The first cause in the order in which [`BuildError`] tells. At any refusal the store can be opened anew and
 /// the build run again.
-pub fn build<H: Shelf, T: Store, R: Room, G: Gate + Sync>(
+pub fn build<H: Shelf, T: Store, M: Room, G: Gate + Sync, R: Threads + Wait + Sync>(
+    rt: &R,
     alloc: Global,
     config: &Config,
     shelf: &mut H,
     store: &mut T,
-    _room: &mut R,
-    _gate: &G,
+    room: &mut M,
+    gate: &G,
 ) -> Result<Summary, BuildError>
 where
     H::Source: Send,
-    R::File: Send,
+    M::File: Send + Sync,
     // What it leaves of a settled store with sound files.
     ensures built { (all start : Files) → BeginsWith (H.files shelf.old) (T.files store.old) (T.may_leave store.old) all start
         → IfOk result (λ summary. Tells (IsBuilt all config.now start summary) (T.files store.new)) }
@@ -109,7 +118,7 @@ where
     ensures asked { (start : Files) (current : Current) → T.files store.old ≡ Some start → HasCurrent current start
         → AsksInOrder (H.files shelf.old) config.now start current (H.asked shelf.old) (H.asked shelf.new) }
     ensures files { H.files shelf.new ≡ H.files shelf.old }
-    ensures room { _room.new ≡ _room.old }
+    ensures spills { HasCauseOf BuildError.SpillFault (M.faults room.old) (M.faults room.new) result }
 {
     sound_law();
     sound_steps_law();
@@ -119,20 +128,18 @@ where
         store.sync()?;
         return Ok(Summary {
             points: plan.points,
-            nodes: nodes_of(&saved),
+            nodes: lines_in(&saved),
         });
     }
-    built(alloc, config, shelf, store, saved, &plan)
-}
-
-// How many nodes the current checkpoint has.
-fn nodes_of(saved: &Saved) -> u32
-    ensures { result ≡ length (lines_of saved.now.current) }
-{
-    match saved.current() {
-        Some(checkpoint) => checkpoint.nodes.as_slice().len() as u32,
-        None => 0,
-    }
+    let at = start(alloc, config, room, saved, &plan)?;
+    let crew = Crew {
+        rt,
+        gate,
+        workers: config.threads,
+    };
+    let (forest, answer) = built(&crew, alloc, config, shelf, store, at, &plan);
+    forest.retire_all(room);
+    answer
 }
 
 // Whether nothing is to be done: the current checkpoint has all points of all inputs, and the done gate is open.
@@ -154,66 +161,89 @@ fn is_finished<T: Store>(
     Ok(is_done(alloc, store)?)
 }
 
-// Brings what is left into the octree, and puts the files of the output.
-fn built<H: Shelf, T: Store>(
+// So many points have no more nodes than so many slots can hold.
+fn room_law()
+    ensures { TilesAreFew }
+{
+    few_nodes_law();
+}
+
+// Brings what is left into the octree, and puts the files of the output. The nodes come back, to be retired.
+fn built<H, T, F, G, R>(
+    crew: &Crew<R, G>,
     alloc: Global,
     config: &Config,
     shelf: &mut H,
     store: &mut T,
-    saved: Saved,
+    mut at: Progress<F>,
     plan: &Plan,
-) -> Result<Summary, BuildError>
-    requires plan { IsPlan config.now saved.current plan.now }
-    requires fresh { saved.lines ≡ lines_of saved.current }
+) -> (Forest<F>, Result<Summary, BuildError>)
+where
+    H: Shelf,
+    H::Source: Send,
+    T: Store,
+    F: SpillFile + Send + Sync,
+    G: Gate + Sync,
+    R: Threads + Wait + Sync,
+    requires plan { IsPlan config.now at.saved.current plan.now }
+    requires begun { IsBegun plan.now at.inserted at.octree at.saved }
+    requires room { HasRoom plan.now at.saved.current config.now.max_nodes (most_of at.octree) }
     ensures built { (all start : Files) → H.files shelf.old ≡ Some all
-        → Starts all config.now saved plan.now start (T.files store.old) (T.may_leave store.old)
-        → IfOk result (λ summary. Tells (IsBuilt all config.now start summary) (T.files store.new)) }
-    ensures few { IfOk result (λ summary. summary.nodes ≤ config.now.max_nodes) }
-    ensures settled { OnOk result (IsSettled (T.files store.new) (T.may_leave store.new)) }
+        → Starts all config.now at.saved plan.now start (T.files store.old) (T.may_leave store.old)
+        → IfOk result.1 (λ summary. Tells (IsBuilt all config.now start summary) (T.files store.new)) }
+    ensures few { IfOk result.1 (λ summary. summary.nodes ≤ config.now.max_nodes) }
+    ensures settled { OnOk result.1 (IsSettled (T.files store.new) (T.may_leave store.new)) }
     ensures sound { (all start : Files) → H.files shelf.old ≡ Some all
-        → Starts all config.now saved plan.now start (T.files store.old) (T.may_leave store.old)
+        → Starts all config.now at.saved plan.now start (T.files store.old) (T.may_leave store.old)
         → Moves T.files T.may_leave T.moment T.image_since (λ (a b : Files). IsUnderWay all config.now start b) store.old store.new }
-    ensures stops { result ≡ Err BuildError.TooManyNodes → (all start : Files) → H.files shelf.old ≡ Some all
-        → Starts all config.now saved plan.now start (T.files store.old) (T.may_leave store.old)
+    ensures stops { result.1 ≡ Err BuildError.TooManyNodes → (all start : Files) → H.files shelf.old ≡ Some all
+        → Starts all config.now at.saved plan.now start (T.files store.old) (T.may_leave store.old)
         → IsSettled (T.files store.new) (T.may_leave store.new)
         × ((HasTooManyAlready all config.now start × Moves T.files T.may_leave T.moment T.image_since SameFiles store.old store.new)
         ⊎ Tells (IsStopped all config.now start) (T.files store.new)) }
-    ensures only { IfErr result IsPhaseFault }
-    ensures damaged { (key : VoxelKey) → result ≡ Err (BuildError.TileDamaged key)
-        → StandsFor saved (T.files store.old) (T.may_leave store.old)
+    ensures only { IfErr result.1 IsPhaseFault }
+    ensures damaged { (key : VoxelKey) → result.1 ≡ Err (BuildError.TileDamaged key)
+        → StandsFor at.saved (T.files store.old) (T.may_leave store.old)
         → (current : Current) × HasDamage current key (T.files store.new) }
-    ensures damaged_comes { (start : Files) (key : VoxelKey) → T.files store.old ≡ Some start → HasLine saved.current key
-        → IsDamaged saved.current key start → length (lines_of saved.current) ≤ config.now.max_nodes
-        → TellsDamage result ⊎ Fails result }
+    ensures damaged_comes { (start : Files) (key : VoxelKey) → T.files store.old ≡ Some start → HasLine at.saved.current key
+        → IsDamaged at.saved.current key start → length (lines_of at.saved.current) ≤ config.now.max_nodes
+        → TellsDamage result.1 ⊎ Fails result.1 }
     ensures refused { (all start : Files) → H.files shelf.old ≡ Some all
-        → Starts all config.now saved plan.now start (T.files store.old) (T.may_leave store.old)
-        → IfErr result (IsRefusedAt all config.now saved.current) }
+        → Starts all config.now at.saved plan.now start (T.files store.old) (T.may_leave store.old)
+        → IfErr result.1 (IsRefusedAt all config.now at.saved.current) }
     ensures asked { (n : ℕ) × AsksFor (take n (paths_left plan.now.kept.inputs plan.now.counts plan.now.inserted))
         (H.asked shelf.old) (H.asked shelf.new) }
     ensures files { H.files shelf.new ≡ H.files shelf.old }
-    ensures sources { HasCauseOf BuildError.SourceFault (H.faults shelf.old) (H.faults shelf.new) result }
-    ensures stores { HasCauseOf BuildError.StoreFault (T.faults store.old) (T.faults store.new) result }
+    ensures sources { HasCauseOf BuildError.SourceFault (H.faults shelf.old) (H.faults shelf.new) result.1 }
+    ensures stores { HasCauseOf BuildError.StoreFault (T.faults store.old) (T.faults store.new) result.1 }
 {
     output_names_law();
     output_once_law();
     saved_law();
-    sound_law();
-    point_law();
     node_law();
+    room_law();
     let extent = whole_extent(plan.counts.as_slice());
-    let mut at = take_up(alloc, config, store, saved, plan)?;
-    grow(
-        alloc,
-        shelf,
-        store,
-        &mut at,
-        plan,
-        config.checkpoint,
-        config.max_nodes,
-    )?;
-    finish(alloc, store, &at, plan, &extent)?;
-    Ok(Summary {
-        points: plan.points,
-        nodes: at.grown.nodes().len() as u32,
-    })
+    if let Err(refused) = take_up(alloc, store, &mut at, plan) {
+        return (at.into_forest(), Err(refused));
+    }
+    match grow(crew, alloc, shelf, store, at, plan, config.checkpoint) {
+        Ok(mut end) => match finish(alloc, store, &mut end, plan, &extent) {
+            Ok(()) => {
+                let summary = Summary {
+                    points: plan.points,
+                    nodes: end.octree.len() as u32,
+                };
+                (end.into_forest(), Ok(summary))
+            }
+            Err(refused) => (end.into_forest(), Err(refused)),
+        },
+        Err(stopped) => {
+            let Stopped {
+                saved: _,
+                forest,
+                error,
+            } = stopped;
+            (forest, Err(error))
+        }
+    }
 }

@@ -59,6 +59,8 @@ pub enum BuildError {
         source: u32,
         number: PointNumber,
     },
+    /// A spill file can't be made: the room's count of faults rose.
+    SpillFault,
     /// The octree has more nodes than there may be.
     TooManyNodes,
     /// Memory ran out.

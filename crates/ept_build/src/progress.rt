@@ -1,16 +1,61 @@
 //! How far a build has come.
 
+ghost use Rattle.std.specs.Prelude.{◌≡◌};
+
+use crate::error::BuildError;
+use ept_base::SpillFile;
+use ept_forest::Forest;
+use ept_octree::Octree;
 use ept_save::Saved;
-use ept_tree::Tree;
 
 /// How far a build has come: the first points of its inputs are in an octree, and so many of them are in the
 /// current checkpoint.
-#[derive(Drop)]
-pub(crate) struct Progress {
+///
+/// It can't be dropped where the octree's spill files can't.
+pub(crate) struct Progress<F> {
     /// What is known of the checkpoints.
     pub(crate) saved: Saved,
     /// The octree of the points that are inserted.
-    pub(crate) grown: Tree,
+    pub(crate) octree: Octree<F>,
     /// How many these are.
     pub(crate) inserted: u64,
+}
+
+/// What is left of a build that is refused.
+pub(crate) struct Stopped<F> {
+    /// What is known of the checkpoints.
+    pub(crate) saved: Saved,
+    /// The nodes, whose spill files go back to their room.
+    pub(crate) forest: Forest<F>,
+    /// Why it is refused.
+    pub(crate) error: BuildError,
+}
+
+impl<F: SpillFile> Progress<F> {
+    /// What is left where the build is refused for this cause.
+    pub(crate) fn stop(self, error: BuildError) -> Stopped<F>
+        ensures saved { result.saved ≡ self.saved }
+        ensures error { result.error ≡ error }
+    {
+        let Progress {
+            saved,
+            octree,
+            inserted: _,
+        } = self;
+        Stopped {
+            saved,
+            forest: octree.into_forest(),
+            error,
+        }
+    }
+
+    /// The nodes, whose spill files go back to their room.
+    pub(crate) fn into_forest(self) -> Forest<F> {
+        let Progress {
+            saved: _,
+            octree,
+            inserted: _,
+        } = self;
+        octree.into_forest()
+    }
 }

@@ -1,70 +1,123 @@
 //! The beginning of what is left to be done: the nodes of the current checkpoint, behind a closed done gate.
 
-ghost use Rattle.std.specs.Prelude.{◌≡◌, ◌≢◌, ◌<◌, ℕ, List, Err, IfOk, IfErr, OnOk, length};
+ghost use Rattle.std.specs.Prelude.{◌≡◌, ◌≢◌, ◌<◌, ◌≤◌, ℕ, List, Err, IfOk, IfErr, OnOk, length};
 ghost use Rattle.ept_base.specs.Causes.{HasCauseOf};
 ghost use Rattle.ept_base.specs.Files.{Files, SameFiles, Tells};
 ghost use Rattle.ept_base.specs.Moves.{IsSettled, Moves, SameImages};
 ghost use Rattle.ept_space.specs.VoxelKey.{VoxelKey};
-ghost use Rattle.ept_space.specs.CubeOfBounds.{IsCubeOf};
-ghost use Rattle.ept_meta.specs.Output.{File, names_of, rules_of};
+ghost use Rattle.ept_meta.specs.Output as meta;
+ghost use Rattle.ept_meta.specs.Output.{File, names_of};
+ghost use Rattle.ept_octree.specs.Octree.{nodes_of, most_of};
 ghost use Rattle.ept_save.specs.Opening.{lines_of};
 ghost use Rattle.ept_save.specs.SoundLaws.{HasNamesOf};
 ghost use Rattle.ept_save.specs.View.{StandsFor};
 ghost use Rattle.ept_phase.specs.Loaded.{HasNoDamage};
 ghost use Rattle.ept_plan.specs.Plans.{IsPlan};
-ghost use Rattle.ept_build.specs.Building.{Starts};
-ghost use Rattle.ept_build.specs.Phases.{IsTreeOf, IsLoaded, IsOnWay, IsSoundAt, HasDamage, IsPhaseFault};
+ghost use Rattle.ept_build.specs.Phases.{IsBegun, HasRoom, IsTreeOf, AreLoaded, IsReady, IsOnWay, IsSoundAt, HasDamage, IsPhaseFault, IsRoomFault};
 
 use crate::error::BuildError;
 use crate::progress::Progress;
-use ept_base::Store;
+use ept_base::{PutError, Room, SpillFile, Store};
 use ept_config::Config;
 use ept_meta::rules_of;
-use ept_phase::{lines_law, load_tree};
+use ept_octree::Octree;
+use ept_phase::load_octree;
 use ept_plan::Plan;
-use ept_sample::point_law;
 use ept_save::{Saved, close_done, sound_law, sound_steps_law};
+use ept_space::Rules;
 use std::alloc::Global;
 
-/// Takes up the work where the current checkpoint stands: its nodes are loaded, and the done gate is closed.
-pub(crate) fn take_up<T: Store>(
+/// The octree of no points, with slots for all nodes that it can come to have, and a spill file of the room for each.
+/// After a refusal the room has its files back.
+pub(crate) fn start<M: Room>(
     alloc: Global,
     config: &Config,
-    store: &mut T,
+    room: &mut M,
     saved: Saved,
     plan: &Plan,
-) -> Result<Progress, BuildError>
+) -> Result<Progress<M::File>, BuildError>
     requires plan { IsPlan config.now saved.current plan.now }
     requires fresh { saved.lines ≡ lines_of saved.current }
     ensures saved { IfOk result (λ at. at.saved ≡ saved) }
-    ensures inserted { IfOk result (λ at. at.inserted ≡ plan.now.inserted) }
-    ensures tree { IfOk result (λ at. IsTreeOf plan.now at.inserted config.now.max_nodes at.grown at.saved) }
-    ensures of_bounds { OnOk result (IsCubeOf plan.now.kept.bounds plan.now.kept.s plan.now.kept.max_depth
-        (rules_of plan.now.kept).cube) }
-    ensures loaded { IfOk result (λ at. IsLoaded plan.now at.saved.current at.grown (T.files store.old)) }
-    ensures on_way { IfOk result (λ at. (all start : Files) (output : List File)
-        → Starts all config.now saved plan.now start (T.files store.old) (T.may_leave store.old)
-        → HasNamesOf all at.saved.current (names_of output)
-        → IsOnWay all output at.saved (T.files store.new) (T.may_leave store.new)) }
-    ensures stands { IfOk result (λ at. StandsFor saved (T.files store.old) (T.may_leave store.old)
-        → StandsFor at.saved (T.files store.new) (T.may_leave store.new)) }
+    ensures begun { IfOk result (λ at. IsBegun plan.now at.inserted at.octree at.saved) }
+    ensures room { IfOk result (λ at. HasRoom plan.now at.saved.current config.now.max_nodes (most_of at.octree)) }
+    ensures only { IfErr result IsRoomFault }
+    ensures spills { HasCauseOf BuildError.SpillFault (M.faults room.old) (M.faults room.new) result }
+{
+    let rules = rules_of(&plan.kept);
+    let slots = slots_for(&rules, &saved, plan, config.max_nodes);
+    match Octree::new(alloc, room, slots, &rules) {
+        Ok(octree) => Ok(Progress {
+            saved,
+            octree,
+            inserted: plan.inserted,
+        }),
+        Err(PutError::Failed) => Err(BuildError::SpillFault),
+        Err(PutError::Memory) => Err(BuildError::Memory),
+    }
+}
+
+// How many slots the nodes can need: as many as there may be, or, where these are fewer, as the checkpoint and so many
+// points can have. Slots are memory, and each phase goes through them.
+fn slots_for(rules: &Rules, saved: &Saved, plan: &Plan, max: u32) -> u32
+    requires rules { rules.now ≡ meta.rules_of plan.now.kept }
+    requires some { 1 ≤ max }
+    ensures some { 1 ≤ result }
+    ensures room { HasRoom plan.now saved.now.current max result }
+{
+    let group = u128::from(rules.threshold) + 1;
+    let by_points = 1 + u128::from(rules.cube.depth) * (u128::from(plan.points) / group);
+    let needed = by_points.max(u128::from(lines_in(saved)));
+    needed.min(u128::from(max)) as u32
+}
+
+/// How many nodes the current checkpoint has.
+pub(crate) fn lines_in(saved: &Saved) -> u32
+    ensures { result ≡ length (lines_of saved.now.current) }
+{
+    match saved.current() {
+        Some(checkpoint) => checkpoint.nodes.as_slice().len() as u32,
+        None => 0,
+    }
+}
+
+/// Takes up the work where the current checkpoint stands: its nodes are loaded, and the done gate is closed.
+pub(crate) fn take_up<F: SpillFile, T: Store>(
+    alloc: Global,
+    store: &mut T,
+    at: &mut Progress<F>,
+    plan: &Plan,
+) -> Result<(), BuildError>
+    requires begun { IsBegun plan.now at.old.inserted at.old.octree at.old.saved }
+    ensures saved { at.new.saved ≡ at.old.saved }
+    ensures inserted { at.new.inserted ≡ at.old.inserted }
+    ensures most { most_of at.new.octree ≡ most_of at.old.octree }
+    ensures tree { OnOk result (IsTreeOf plan.now at.new.inserted at.new.octree at.new.saved) }
+    ensures loaded { OnOk result (AreLoaded plan.now at.new.saved.current (nodes_of at.new.octree) (T.files store.old)) }
+    ensures on_way { OnOk result ((shelf start : Files) (output : List File)
+        → IsReady shelf start at.old.saved (T.files store.old) (T.may_leave store.old)
+        → HasNamesOf shelf at.new.saved.current (names_of output)
+        → IsOnWay shelf output at.new.saved (T.files store.new) (T.may_leave store.new)) }
+    ensures stands { OnOk result (StandsFor at.old.saved (T.files store.old) (T.may_leave store.old)
+        → StandsFor at.new.saved (T.files store.new) (T.may_leave store.new)) }
     ensures settled { OnOk result (IsSettled (T.files store.new) (T.may_leave store.new)) }
-    ensures sound { (all start : Files)
-        → Starts all config.now saved plan.now start (T.files store.old) (T.may_leave store.old)
+    ensures sound { (shelf start : Files)
+        → IsReady shelf start at.old.saved (T.files store.old) (T.may_leave store.old)
         → Moves T.files T.may_leave T.moment T.image_since
-        (λ (a b : Files). IsSoundAt all saved.current b) store.old store.new }
+        (λ (a b : Files). IsSoundAt shelf at.old.saved.current b) store.old store.new }
 
     // Why it is refused.
     ensures only { IfErr result IsPhaseFault }
-    ensures too_many { result ≡ Err BuildError.TooManyNodes → config.now.max_nodes < length (lines_of saved.current) }
+    ensures too_many { result ≡ Err BuildError.TooManyNodes → most_of at.old.octree < length (lines_of at.old.saved.current) }
     ensures untouched { result ≡ Err BuildError.TooManyNodes
         → Moves T.files T.may_leave T.moment T.image_since SameFiles store.old store.new
         × SameImages (T.may_leave store.old) (T.may_leave store.new) }
     ensures damaged { (key : VoxelKey) → result ≡ Err (BuildError.TileDamaged key)
-        → StandsFor saved (T.files store.old) (T.may_leave store.old) → HasDamage saved.current key (T.files store.new) }
-    ensures damaged_comes { OnOk result (Tells (HasNoDamage saved.current) (T.files store.old)) }
-    ensures undamaged { (all start : Files)
-        → Starts all config.now saved plan.now start (T.files store.old) (T.may_leave store.old)
+        → StandsFor at.old.saved (T.files store.old) (T.may_leave store.old)
+        → HasDamage at.old.saved.current key (T.files store.new) }
+    ensures damaged_comes { OnOk result (Tells (HasNoDamage at.old.saved.current) (T.files store.old)) }
+    ensures undamaged { (shelf start : Files)
+        → IsReady shelf start at.old.saved (T.files store.old) (T.may_leave store.old)
         → (key : VoxelKey) → result ≢ Err (BuildError.TileDamaged key) }
     ensures no_change { (source number : ℕ) → result ≢ Err (BuildError.SourceChanged source number) }
     ensures no_source { result ≢ Err BuildError.SourceFault }
@@ -72,14 +125,7 @@ pub(crate) fn take_up<T: Store>(
 {
     sound_law();
     sound_steps_law();
-    point_law();
-    lines_law();
-    let rules = rules_of(&plan.kept);
-    let grown = load_tree(alloc, store, &saved, &rules, u64::from(config.max_nodes))?;
+    load_octree(alloc, store, &at.saved, &mut at.octree)?;
     close_done(alloc, store)?;
-    Ok(Progress {
-        saved,
-        grown,
-        inserted: plan.inserted,
-    })
+    Ok(())
 }

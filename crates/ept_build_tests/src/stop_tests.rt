@@ -3,13 +3,15 @@
 use crate::tests::{FIRST, Refusal, at, file, las, same, same_at, told};
 use ept_base::OpenGate;
 use ept_build::{Summary, build};
-use ept_config::read_config;
+use ept_config::{Config, read_config};
 use ept_mem::{Crash, MemRoom, MemShelf, MemStore};
 use ept_meta::Field;
 use ept_save::open;
 use std::alloc::{AllocError, Global};
 use std::process::Abort;
+use std::sync::Wait;
 use std::test::Fail;
+use std::thread::Threads;
 
 const NAMES: [&str; 8] = [
     "ept-data/0-0-0-0.bin",
@@ -38,33 +40,53 @@ fn shelf(alloc: Global) -> Result<MemShelf, AllocError> {
     Ok(MemShelf::new(alloc, files, Vec::new(alloc), Vec::new(alloc)))
 }
 
-/// Builds these inputs, two records a phase.
-fn built(
-    alloc: Global,
-    store: &mut MemStore,
-    inputs: &str,
-    span: u32,
-) -> Result<Result<Summary, Refusal>, AllocError> {
-    built_by(alloc, store, inputs, span, 65_536)
-}
-
-/// Builds these inputs, two records a phase, and at most so many nodes.
-fn built_by(
-    alloc: Global,
-    store: &mut MemStore,
-    inputs: &str,
+/// What is built: these inputs, by this span, of at most so many nodes and with so many workers.
+#[derive(Clone, Copy)]
+struct Case<'a> {
+    inputs: &'a str,
     span: u32,
     most: u32,
-) -> Result<Result<Summary, Refusal>, AllocError> {
+    workers: u32,
+}
+
+/// These inputs by the least span, with one worker.
+fn of(inputs: &str) -> Case<'_> {
+    Case {
+        inputs,
+        span: 2,
+        most: 64,
+        workers: 2,
+    }
+}
+
+/// The configuration of a case, with two records a phase.
+fn config_of(alloc: Global, case: &Case) -> Result<Config, AllocError> {
+    let Case {
+        inputs,
+        span,
+        most,
+        workers,
+    } = *case;
     let text = format!(in alloc;
-        "{{\"input\":[{inputs}],\"scale\":2,\"bounds\":[0,0,0,7,7,7],\"span\":{span},\"minNodeSize\":0,\"checkpoint\":2,\"maxNodes\":{most}}}"
+        "{{\"input\":[{inputs}],\"scale\":2,\"bounds\":[0,0,0,7,7,7],\"span\":{span},\"minNodeSize\":0,\"checkpoint\":2,\"maxNodes\":{most},\"threads\":{workers}}}"
     )?;
-    let Ok(config) = read_config(alloc, text.as_bytes()) else {
-        return Err(AllocError);
-    };
+    match read_config(alloc, text.as_bytes()) {
+        Ok(config) => Ok(config),
+        Err(_) => Err(AllocError),
+    }
+}
+
+/// Builds a case.
+fn built<R: Threads + Wait + Sync>(
+    rt: &R,
+    alloc: Global,
+    store: &mut MemStore,
+    case: &Case,
+) -> Result<Result<Summary, Refusal>, AllocError> {
+    let config = config_of(alloc, case)?;
     let mut shelf = shelf(alloc)?;
     let mut room = MemRoom::new(alloc, Vec::new(alloc), Vec::new(alloc));
-    let answer = build(alloc, &config, &mut shelf, store, &mut room, &OpenGate);
+    let answer = build(rt, alloc, &config, &mut shelf, store, &mut room, &OpenGate);
     Ok(told(&answer))
 }
 
@@ -75,6 +97,8 @@ fn empty(alloc: Global) -> MemStore {
 const TWO: &str = "\"a.las\",\"b.las\"";
 
 const THREE: &str = "\"a.las\",\"b.las\",\"c.las\"";
+
+const ALL: &str = "\"a.las\",\"b.las\",\"c.las\",\"d.las\"";
 
 /// How many points the current checkpoint of a store has, and which generation it is.
 fn current(alloc: Global, store: &mut MemStore) -> Result<(u64, u64), AllocError> {
@@ -105,7 +129,7 @@ fn a_stopped_build_goes_on(rt: HostRuntime) -> Result<(), Fail> {
         nodes: 4,
     });
     let mut whole = empty(alloc);
-    same(&rt, &built(alloc, &mut whole, TWO, 2)?, &done);
+    same(&rt, &built(&rt, alloc, &mut whole, &of(TWO))?, &done);
     same(
         &rt,
         &whole.file("ept-hierarchy/0-0-0-0.json"),
@@ -116,7 +140,7 @@ fn a_stopped_build_goes_on(rt: HostRuntime) -> Result<(), Fail> {
     for calls in 0..70 {
         for how in [Crash::Old, Crash::New, Crash::Absent, Crash::Junk] {
             let mut store = empty(alloc).with_fuse(calls);
-            let is_through = built(alloc, &mut store, TWO, 2)?.is_ok();
+            let is_through = built(&rt, alloc, &mut store, &of(TWO))?.is_ok();
             first = if is_through { calls.min(first) } else { first };
             let mut store = store.crash(how);
             let (inserted, generation) = current(alloc, &mut store)?;
@@ -124,7 +148,12 @@ fn a_stopped_build_goes_on(rt: HostRuntime) -> Result<(), Fail> {
                 inserted <= 6 && inserted % 2 == 0 && generation == inserted / 2,
                 "{calls} {inserted}"
             );
-            same_at(&rt, &built(alloc, &mut store, TWO, 2)?, &done, &calls);
+            same_at(
+                &rt,
+                &built(&rt, alloc, &mut store, &of(TWO))?,
+                &done,
+                &calls,
+            );
             compare(&rt, &store, &whole, "again");
         }
     }
@@ -142,10 +171,10 @@ fn an_input_is_added(rt: HostRuntime) -> Result<(), Fail> {
         nodes: 4,
     });
     let mut whole = empty(alloc);
-    same(&rt, &built(alloc, &mut whole, THREE, 2)?, &done);
+    same(&rt, &built(&rt, alloc, &mut whole, &of(THREE))?, &done);
     let mut store = empty(alloc);
-    assert!(rt; built(alloc, &mut store, TWO, 2)?.is_ok());
-    same(&rt, &built(alloc, &mut store, THREE, 2)?, &done);
+    assert!(rt; built(&rt, alloc, &mut store, &of(TWO))?.is_ok());
+    same(&rt, &built(&rt, alloc, &mut store, &of(THREE))?, &done);
     compare(&rt, &store, &whole, "added");
     same(&rt, &current(alloc, &mut whole)?, &(7, 4));
     same(&rt, &current(alloc, &mut store)?, &(7, 4));
@@ -161,9 +190,10 @@ fn an_input_is_added(rt: HostRuntime) -> Result<(), Fail> {
         field: Field::Input,
     });
     for (inputs, span, answer) in [(THREE, 4, differs), (TWO, 2, fewer), (THREE, 2, done)] {
+        let case = Case { span, ..of(inputs) };
         same_at(
             &rt,
-            &built(alloc, &mut store, inputs, span)?,
+            &built(&rt, alloc, &mut store, &case)?,
             &answer,
             &inputs,
         );
@@ -191,12 +221,11 @@ fn phases_before_too_many_nodes_are_kept(rt: HostRuntime) -> Result<(), Fail> {
         (3, done, (5, 3)),
         (1, done, (5, 3)),
     ] {
-        same_at(
-            &rt,
-            &built_by(alloc, &mut store, "\"d.las\"", 2, most)?,
-            &answer,
-            &most,
-        );
+        let case = Case {
+            most,
+            ..of("\"d.las\"")
+        };
+        same_at(&rt, &built(&rt, alloc, &mut store, &case)?, &answer, &most);
         same_at(&rt, &current(alloc, &mut store)?, &left, &most);
     }
     same(
@@ -204,5 +233,23 @@ fn phases_before_too_many_nodes_are_kept(rt: HostRuntime) -> Result<(), Fail> {
         &store.file("ept-hierarchy/0-0-0-0.json"),
         &Some(b"{\"0-0-0-0\":1,\"1-0-0-0\":1,\"2-0-0-0\":3}".as_slice()),
     );
+    Ok(())
+}
+
+// However many workers there are, the files are those of one.
+#[test]
+fn more_workers_leave_the_files_of_one(rt: HostRuntime) -> Result<(), Fail> {
+    let alloc = rt.alloc();
+    let mut one = empty(alloc);
+    for workers in [1, 2, 3, 64] {
+        let mut store = empty(alloc);
+        let case = Case { workers, ..of(ALL) };
+        assert!(rt; built(&rt, alloc, &mut store, &case)?.is_ok());
+        if workers == 1 {
+            one = store;
+        } else {
+            compare(&rt, &store, &one, "workers");
+        }
+    }
     Ok(())
 }

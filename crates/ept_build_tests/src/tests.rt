@@ -8,7 +8,9 @@ use ept_meta::Field;
 use std::alloc::{AllocError, Global};
 use std::fmt::Debug;
 use std::process::Abort;
+use std::sync::Wait;
 use std::test::Fail;
+use std::thread::Threads;
 
 // What `assert_eq!` writes is proved wherever it stands, so it stands here once.
 pub(crate) fn same<T: PartialEq + Debug>(rt: &impl Abort, found: &T, wanted: &T) {
@@ -115,6 +117,7 @@ pub(crate) fn file(
 #[derive(Clone, Copy, Debug, PartialEq, Eq)]
 pub(crate) enum Refusal {
     Store,
+    Spill,
     Nodes,
     Bounds { source: u32, number: u32 },
     Differs { field: Field },
@@ -126,6 +129,7 @@ pub(crate) fn told(answer: &Result<Summary, BuildError>) -> Result<Summary, Refu
     match answer {
         Ok(summary) => Ok(*summary),
         Err(BuildError::StoreFault) => Err(Refusal::Store),
+        Err(BuildError::SpillFault) => Err(Refusal::Spill),
         Err(BuildError::TooManyNodes) => Err(Refusal::Nodes),
         Err(BuildError::OutOfBounds { source, number }) => Err(Refusal::Bounds {
             source: *source,
@@ -144,11 +148,25 @@ struct Left {
 }
 
 /// Builds these files by this configuration, where the store's call of this number fails.
-fn build_of(
+fn build_of<R: Threads + Wait + Sync>(
+    rt: &R,
     alloc: Global,
     configuration: &str,
     files: Vec<(String, Vec<u8>)>,
     failing: Option<u64>,
+) -> Result<Left, AllocError> {
+    let room = MemRoom::new(alloc, Vec::new(alloc), Vec::new(alloc));
+    build_in(rt, alloc, configuration, files, failing, room)
+}
+
+/// The same with the spill files of this room.
+fn build_in<R: Threads + Wait + Sync>(
+    rt: &R,
+    alloc: Global,
+    configuration: &str,
+    files: Vec<(String, Vec<u8>)>,
+    failing: Option<u64>,
+    mut room: MemRoom,
 ) -> Result<Left, AllocError> {
     let Ok(config) = read_config(alloc, configuration.as_bytes()) else {
         return Err(AllocError);
@@ -161,8 +179,9 @@ fn build_of(
     kept.push(file(alloc, "other", Vec::from_slice(alloc, b"kept")?)?)?;
     let mut shelf = MemShelf::new(alloc, files, Vec::new(alloc), Vec::new(alloc));
     let mut store = MemStore::new(alloc, kept, calls);
-    let mut room = MemRoom::new(alloc, Vec::new(alloc), Vec::new(alloc));
-    let answer = build(alloc, &config, &mut shelf, &mut store, &mut room, &OpenGate);
+    let answer = build(
+        rt, alloc, &config, &mut shelf, &mut store, &mut room, &OpenGate,
+    );
     Ok(Left { answer, store })
 }
 
@@ -180,7 +199,8 @@ fn compare(
     same(rt, &left.store.file("other"), &Some(b"kept".as_slice()));
 }
 
-const SMALLEST: &str = "{\"input\":\"a.las\",\"scale\":2,\"bounds\":[0,0,0,7,7,7],\"span\":2}";
+const SMALLEST: &str =
+    "{\"input\":\"a.las\",\"scale\":2,\"bounds\":[0,0,0,7,7,7],\"span\":2,\"maxNodes\":8}";
 
 /// Every field of this record of format 0 is set.
 const FULL_RECORD: [u8; 20] = [
@@ -204,7 +224,7 @@ fn the_smallest_scan_becomes_five_files(rt: HostRuntime) -> Result<(), Fail> {
     let alloc = rt.alloc();
     let mut files = Vec::new(alloc);
     files.push(file(alloc, "a.las", las(alloc, &FIRST, &[&FULL_RECORD])?)?)?;
-    let left = build_of(alloc, SMALLEST, files, None)?;
+    let left = build_of(&rt, alloc, SMALLEST, files, None)?;
     compare(
         &rt,
         &left,
@@ -233,7 +253,7 @@ fn the_smallest_scan_becomes_five_files(rt: HostRuntime) -> Result<(), Fail> {
 #[test]
 fn a_deeper_node_is_linked(rt: HostRuntime) -> Result<(), Fail> {
     let alloc = rt.alloc();
-    for (most, nodes) in [(2, None), (3, Some(3)), (65_536, Some(3))] {
+    for (most, nodes) in [(2, None), (3, Some(3)), (64, Some(3))] {
         let one = at(1, 1, 1);
         let mut files = Vec::new(alloc);
         let records: [&[u8]; 5] = [&one, &one, &one, &one, &one];
@@ -241,7 +261,7 @@ fn a_deeper_node_is_linked(rt: HostRuntime) -> Result<(), Fail> {
         let text = format!(in alloc;
             "{{\"input\":\"a.las\",\"scale\":2,\"bounds\":[0,0,0,7,7,7],\"span\":2,\"minNodeSize\":0,\"hierarchyStep\":1,\"maxNodes\":{most}}}"
         )?;
-        let left = build_of(alloc, text.as_str(), files, None)?;
+        let left = build_of(&rt, alloc, text.as_str(), files, None)?;
         let root = b"{\"0-0-0-0\":1,\"1-0-0-0\":-1}".as_slice();
         let middle = b"{\"1-0-0-0\":1,\"2-0-0-0\":-1}".as_slice();
         let last = b"{\"2-0-0-0\":3}".as_slice();
@@ -274,7 +294,7 @@ fn the_first_of_two_inputs_wins(rt: HostRuntime) -> Result<(), Fail> {
     files.push(file(alloc, "b.las", las(alloc, &FIRST, &[&at(1, 1, 1)])?)?)?;
     let text =
         "{\"input\":[\"a.las\",{\"path\":\"b.las\"}],\"scale\":2,\"bounds\":[0,0,0,7,7,7],\"span\":2,\"minNodeSize\":0}";
-    let left = build_of(alloc, text, files, None)?;
+    let left = build_of(&rt, alloc, text, files, None)?;
     let root = tile([3, 3, 3], 0);
     let lower = tile([1, 1, 1], 1);
     compare(
@@ -317,7 +337,7 @@ fn formats_mix_in_one_tile(rt: HostRuntime) -> Result<(), Fail> {
     files.push(file(alloc, "a.las", las(alloc, &WITH_COLOR, &[&COLOR_RECORD])?)?)?;
     files.push(file(alloc, "b.las", las(alloc, &WITH_TIME, &[&TIME_RECORD])?)?)?;
     let text = "{\"input\":[\"a.las\",\"b.las\"],\"scale\":2,\"bounds\":[0,0,0,7,7,7],\"span\":2}";
-    let left = build_of(alloc, text, files, None)?;
+    let left = build_of(&rt, alloc, text, files, None)?;
     compare(
         &rt,
         &left,
@@ -338,7 +358,7 @@ fn an_input_is_scaled_and_shifted(rt: HostRuntime) -> Result<(), Fail> {
     files.push(file(alloc, "a.las", las(alloc, &FIRST, &[&at(3, 3, 3)])?)?)?;
     let text =
         "{\"input\":[{\"path\":\"a.las\",\"scale\":1,\"shift\":[5,0,-7]}],\"scale\":2,\"bounds\":[0,0,0,63,63,63],\"span\":2}";
-    let left = build_of(alloc, text, files, None)?;
+    let left = build_of(&rt, alloc, text, files, None)?;
     let tile = tile([35, 30, 23], 0);
     compare(
         &rt,
@@ -361,7 +381,7 @@ fn each_call_of_the_store_may_fail(rt: HostRuntime) -> Result<(), Fail> {
     for call in 0..21 {
         let mut files = Vec::new(alloc);
         files.push(file(alloc, "a.las", las(alloc, &FIRST, &[&FULL_RECORD])?)?)?;
-        let left = build_of(alloc, SMALLEST, files, Some(call))?;
+        let left = build_of(&rt, alloc, SMALLEST, files, Some(call))?;
         let want = if call < 20 {
             Err(Refusal::Store)
         } else {
@@ -416,9 +436,28 @@ fn refused_inputs_leave_nothing(rt: HostRuntime) -> Result<(), Fail> {
         let text = format!(in alloc;
             "{{\"input\":\"a.las\",\"scale\":2,\"bounds\":{bounds},\"span\":2}}"
         )?;
-        let left = build_of(alloc, text.as_str(), files, None)?;
+        let left = build_of(&rt, alloc, text.as_str(), files, None)?;
         compare(&rt, &left, want, &[]);
         same(&rt, &left.store.file("ept.json").is_some(), &want.is_ok());
     }
+    Ok(())
+}
+
+// A spill file that can't be made is told. The room has the others back, and nothing is put.
+#[test]
+fn a_spill_file_that_cannot_be_made_is_told(rt: HostRuntime) -> Result<(), Fail> {
+    let alloc = rt.alloc();
+    let mut files = Vec::new(alloc);
+    files.push(file(alloc, "a.las", las(alloc, &FIRST, &[&FULL_RECORD])?)?)?;
+    let mut calls = Vec::new(alloc);
+    calls.push(2)?;
+    let room = MemRoom::new(alloc, calls, Vec::new(alloc));
+    let left = build_in(&rt, alloc, SMALLEST, files, None, room)?;
+    compare(
+        &rt,
+        &left,
+        Err(Refusal::Spill),
+        &[("ept-data/0-0-0-0.bin", None)],
+    );
     Ok(())
 }

@@ -1,22 +1,44 @@
--- Which refusal of a layer below was told.
-use Rattle.std.proofs.Common.{◌≡◌, ℕ}
-use Rattle.ept_scan.specs.declared.read_error.ReadError.{ReadError}
-use Rattle.ept_scan.specs.declared.read_error.ReadError.TheVariants as read
-use Rattle.ept_tree.specs.declared.tree_error.TreeError.{TreeError}
-use Rattle.ept_tree.specs.declared.tree_error.TreeError.TheVariants as tree
+-- Why records are not inserted.
+use Rattle.std.proofs.Common.{◌≡◌, ◌∙◌, ℕ, true, Result, Ok, Err, OnOk, refl, sym, ap, subst}
+use Rattle.ept_scan.specs.declared.second_reading.Reader.{Reader}
+use Rattle.ept_scan.specs.Reader.{HasFault}
+use Rattle.ept_table.specs.declared.note.Told.{Told}
+use Rattle.ept_table.specs.Tells.{IsTooMany}
+use Rattle.ept_work.specs.declared.error.WorkError.{WorkError}
+use Rattle.ept_work.specs.declared.error.WorkError.TheVariants as work
+use Rattle.ept_insert.specs.declared.error.InsertError.{InsertError}
 use Rattle.ept_insert.specs.declared.error.InsertError.TheVariants.{SourceFault, SourceChanged, TooManyNodes}
-use Rattle.ept_insert.specs.Errors.{of_read, of_tree}
+use Rattle.ept_insert.specs.Errors.{of_work}
+use Rattle.ept_insert.specs.Inserting.{IsRefused}
 
-pub was_changed : (e : ReadError) (source number : ℕ) → of_read e ≡ SourceChanged source number → e ≡ read.SourceChanged source number
-was_changed read.SourceFault source number is = absurd (cc)
-was_changed read.Memory source number is = absurd (cc)
-was_changed (read.SourceChanged a b) source number is = cc
+from_too_many : (w : WorkError) → of_work w ≡ TooManyNodes → w ≡ work.TooManyNodes
+from_too_many work.SourceFault e = absurd (cc)
+from_too_many (work.SourceChanged source number) e = absurd (cc)
+from_too_many work.TooManyNodes e = refl
+from_too_many work.Memory e = absurd (cc)
 
-pub was_fault : (e : ReadError) → of_read e ≡ SourceFault → e ≡ read.SourceFault
-was_fault read.SourceFault is = cc
-was_fault read.Memory is = absurd (cc)
-was_fault (read.SourceChanged a b) is = absurd (cc)
+from_fault : (w : WorkError) → of_work w ≡ SourceFault → w ≡ work.SourceFault
+from_fault work.SourceFault e = refl
+from_fault (work.SourceChanged source number) e = absurd (cc)
+from_fault work.TooManyNodes e = absurd (cc)
+from_fault work.Memory e = absurd (cc)
 
-pub was_many : (e : TreeError) → of_tree e ≡ TooManyNodes → e ≡ tree.TooManyNodes
-was_many tree.TooManyNodes is = cc
-was_many tree.Memory is = absurd (cc)
+from_change : (w : WorkError) (source number : ℕ) → of_work w ≡ SourceChanged source number → w ≡ work.SourceChanged source number
+from_change work.SourceFault source number e = absurd (cc)
+from_change (work.SourceChanged s n) source number e = same s source n number e
+  where
+    same : (s source n number : ℕ) → SourceChanged s n ≡ SourceChanged source number → work.SourceChanged s n ≡ work.SourceChanged source number
+    same s source n number e = let first : s ≡ source = cc in let second : n ≡ number = cc in cc
+from_change work.TooManyNodes source number e = absurd (cc)
+from_change work.Memory source number e = absurd (cc)
+
+-- workers were refused for this
+pub worked_in_vain : {S : Type 0} (told : Told) (faults : S → ℕ) (reader : Reader S) (result : Result (Unit {0}) WorkError) (w : WorkError) (e : InsertError) → result ≡ Err w → e ≡ of_work w → (result ≡ Err work.TooManyNodes → IsTooMany told) → (result ≡ Err work.SourceFault → HasFault faults reader) → (told.tells ≡ true → (source number : ℕ) → result ≡ Err (work.SourceChanged source number) → ⊥) → IsRefused told faults reader e
+worked_in_vain told faults reader result w e is told_as too_many fault no_change = record {
+  too_many = λ same. too_many (is ∙ ap (λ (v : WorkError). Err v) (from_too_many w (sym told_as ∙ same)));
+  fault = λ same. fault (is ∙ ap (λ (v : WorkError). Err v) (from_fault w (sym told_as ∙ same)));
+  no_change = λ tells source number same. no_change tells source number (is ∙ ap (λ (v : WorkError). Err v) (from_change w source number (sym told_as ∙ same)));
+}
+
+pub was_ok : {P X E : Type 0} {r : Result X E} {x : X} → r ≡ Ok x → OnOk r P → P
+was_ok {P} is h = subst (λ r. OnOk r P) is h

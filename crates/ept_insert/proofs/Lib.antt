@@ -1,3 +1,6 @@
 mod Causes
-mod Drawn
-mod Taken
+mod Orders
+mod Kept
+pub mod Choosing
+mod Beginning
+mod Ending

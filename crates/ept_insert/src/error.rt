@@ -1,8 +1,7 @@
 //! Why records are not inserted.
 
 use ept_point::PointNumber;
-use ept_scan::ReadError;
-use ept_tree::TreeError;
+use ept_work::WorkError;
 
 /// Why records are not inserted.
 #[derive(Clone, Copy, Debug, PartialEq, Eq)]
@@ -18,33 +17,20 @@ pub enum InsertError {
     Memory,
 }
 
-impl From<ReadError> for InsertError {
+impl From<WorkError> for InsertError {
     ghost use Rattle.std.specs.Prelude.{◌≡◌};
-    ghost use Rattle.ept_insert.specs.Errors.{of_read};
+    ghost use Rattle.ept_insert.specs.Errors.{of_work};
 
-    ghost from_gives = { λ from e. e ≡ of_read from };
+    ghost from_gives = { λ from e. e ≡ of_work from };
 
-    fn from(error: ReadError) -> InsertError {
+    fn from(error: WorkError) -> InsertError {
         match error {
-            ReadError::SourceFault => InsertError::SourceFault,
-            ReadError::SourceChanged { source, number } => {
+            WorkError::SourceFault => InsertError::SourceFault,
+            WorkError::SourceChanged { source, number } => {
                 InsertError::SourceChanged { source, number }
             }
-            ReadError::Memory => InsertError::Memory,
-        }
-    }
-}
-
-impl From<TreeError> for InsertError {
-    ghost use Rattle.std.specs.Prelude.{◌≡◌};
-    ghost use Rattle.ept_insert.specs.Errors.{of_tree};
-
-    ghost from_gives = { λ from e. e ≡ of_tree from };
-
-    fn from(error: TreeError) -> InsertError {
-        match error {
-            TreeError::TooManyNodes => InsertError::TooManyNodes,
-            TreeError::Memory => InsertError::Memory,
+            WorkError::TooManyNodes => InsertError::TooManyNodes,
+            WorkError::Memory => InsertError::Memory,
         }
     }
 }

@@ -1,86 +1,150 @@
 //! The next records, brought into the octree.
 
-ghost use Rattle.std.specs.Prelude.{◌≡◌, ◌≤◌, ◌<◌, ◌+◌, ◌++◌, ℕ, List, Err, None, OnOk, length, take, drop};
+ghost use Rattle.std.specs.Prelude.{◌≡◌, ◌≤◌, ◌<◌, ◌+◌, ◌++◌, ℕ, List, None, IfOk, IfErr, length, take, drop, map};
 ghost use Rattle.ept_point.specs.declared.point.Point.{Point};
 ghost use Rattle.ept_space.specs.OctreeCube.{InCube};
 ghost use Rattle.ept_sample.specs.Place.{place};
 ghost use Rattle.ept_sample.specs.Nodes.{sampled};
-ghost use Rattle.ept_sample.specs.SamplingLaws.{CanBeSampled};
 ghost use Rattle.ept_scan.specs.Queue.{LiesIn};
 ghost use Rattle.ept_scan.specs.Reader.{drawn_of, left_of, refusal_of, files_of, IsRest, HasFault, IsReader};
-ghost use Rattle.ept_tree.specs.Grown.{rules_of, nodes_of, points_of, IsAtRest, GrowsWhole};
-ghost use Rattle.ept_tree.specs.TreeLaws.{AreSampled};
+ghost use Rattle.ept_table.specs.Octree.{AreSampled, KeepsNodes, entry_of};
+ghost use Rattle.ept_octree.specs.Octree.{rules_of, most_of, nodes_of, points_of, IsWhole, IsLinked};
+ghost use Rattle.ept_insert.specs.Between.{StandsBetween};
+ghost use Rattle.ept_insert.specs.Inserting.{MayInsert, HasInserted, IsRefused};
 
 use crate::error::InsertError;
-use ept_base::Source;
+use ept_base::{Gate, Source, SpillFile};
+use ept_forest::Forest;
+use ept_octree::{Octree, rest_law};
 use ept_scan::Reader;
-use ept_tree::{Tree, sampled_law};
+use ept_table::{NodeTable, Scan, Unmade, landed_law};
+use ept_work::insert_all;
 use std::alloc::Global;
+use std::marker::Brand;
+use std::sync::Wait;
+use std::thread::Threads;
 
-// How many records are read before their points are inserted.
-const BATCH: usize = 4_096;
+/// What is left where records are not inserted: the nodes and the reader, to be retired, and why.
+pub struct Refused<F, S> {
+    /// The nodes, with the points that were brought in until then.
+    pub forest: Forest<F>,
+    /// The reader, which may have drawn some records.
+    pub reader: Reader<S>,
+    /// Why.
+    pub error: InsertError,
+}
 
-/// Draws so many records, of which as many are left, and brings their points into an octree of at most `most`
-/// nodes.
+/// Draws so many records, of which as many are left, and lets so many workers bring their points into the octree.
 ///
 /// # Errors
 ///
-/// `TooManyNodes` where the octree has more nodes, and the refusals of the reader. The octree is of no use
-/// afterwards.
-pub fn insert<S: Source>(
+/// `TooManyNodes` where the octree has more nodes than it may have, and the refusals of the reader. The nodes are those of
+/// no octree then.
+pub fn insert<
+    F: SpillFile + Send + Sync,
+    S: Source + Send,
+    G: Gate + Sync,
+    R: Threads + Wait + Sync,
+>(
+    rt: &R,
     alloc: Global,
-    reader: &mut Reader<S>,
-    grown: &mut Tree,
+    octree: Octree<F>,
+    mut reader: Reader<S>,
     count: u64,
-    most: u64,
-) -> Result<(), InsertError>
-    requires reader { IsReader S.whole S.left S.given S.faults reader.old }
-    requires fresh { refusal_of reader.old ≡ None }
-    requires enough { count ≤ left_of reader.old }
-    requires inside { (p : Point) → LiesIn (files_of S.whole reader.old) p
-        → InCube (rules_of grown.old).cube (place p) }
-    requires rest { IsAtRest grown.old }
-    requires few { length (nodes_of grown.old) ≤ most }
-    ensures rules { rules_of grown.new ≡ rules_of grown.old }
-    ensures rest { OnOk result (IsAtRest grown.new) }
-    ensures few { OnOk result (length (nodes_of grown.new) ≤ most) }
+    workers: u32,
+    gate: &G,
+) -> Result<(Octree<F>, Reader<S>), Refused<F, S>>
+    requires reader { IsReader S.whole S.left S.given S.faults reader }
+    requires fresh { refusal_of reader ≡ None }
+    requires enough { count ≤ left_of reader }
+    requires inside { (p : Point) → LiesIn (files_of S.whole reader) p → InCube (rules_of octree).cube (place p) }
+    requires whole { IsWhole octree }
+    requires linked { IsLinked octree }
+    requires number { length (points_of octree) ≡ drawn_of reader }
+    requires workers { (1 ≤ workers) × (workers ≤ 64) }
 
-    // Whatever the sources tell, so many points are in the octree besides, and it is a whole one where it was.
-    ensures number { OnOk result (length (points_of grown.new) ≡ length (points_of grown.old) + count) }
-    ensures whole { OnOk result (GrowsWhole grown.old grown.new) }
+    // Whatever the sources tell, so many points are in the octree besides, it is a whole one, and no node is gone.
+    ensures rules { IfOk result (λ r. rules_of r.0 ≡ rules_of octree) }
+    ensures most { IfOk result (λ r. most_of r.0 ≡ most_of octree) }
+    ensures number { IfOk result (λ r. length (points_of r.0) ≡ drawn_of reader + count) }
+    ensures whole { IfOk result (λ r. IsWhole r.0) }
+    ensures kept { IfOk result (λ r. KeepsNodes (map entry_of (nodes_of octree)) (map entry_of (nodes_of r.0))) }
+    ensures linked { IfOk result (λ r. IsLinked r.0) }
 
     // Where the sources hold the bytes that were scanned, the octree of the first points is that of these and the
     // next ones, or these have too many nodes.
-    ensures sampled { OnOk result ((first left : List Point) → IsRest S.whole reader.old left
-        → CanBeSampled (rules_of grown.old) (first ++ take count left)
-        → AreSampled (rules_of grown.old) first (nodes_of grown.old)
-        → AreSampled (rules_of grown.old) (first ++ take count left) (nodes_of grown.new)) }
-    ensures too_many { result ≡ Err InsertError.TooManyNodes → (first left : List Point)
-        → IsRest S.whole reader.old left → CanBeSampled (rules_of grown.old) (first ++ take count left)
-        → AreSampled (rules_of grown.old) first (nodes_of grown.old)
-        → most < length (sampled (rules_of grown.old) (first ++ take count left)) }
-    ensures no_change { (source number : ℕ) → result ≡ Err (InsertError.SourceChanged source number)
-        → (left : List Point) → IsRest S.whole reader.old left → ⊥ }
+    ensures sampled { IfOk result (λ r. (first left : List Point) → StandsBetween S.whole octree reader first left
+        → AreSampled (rules_of octree) (first ++ take count left) (nodes_of r.0)) }
+    ensures too_many { IfErr result (λ r. r.error ≡ InsertError.TooManyNodes → (first left : List Point)
+        → StandsBetween S.whole octree reader first left
+        → most_of octree < length (sampled (rules_of octree) (first ++ take count left))) }
+    ensures no_change { IfErr result (λ r. (source number : ℕ) → r.error ≡ InsertError.SourceChanged source number
+        → (first left : List Point) → StandsBetween S.whole octree reader first left → ⊥) }
 
     // What becomes of the reader.
-    ensures drawn { OnOk result (drawn_of reader.new ≡ drawn_of reader.old + count) }
-    ensures left { OnOk result (left_of reader.new + count ≡ left_of reader.old) }
-    ensures rest_left { OnOk result ((left : List Point) → IsRest S.whole reader.old left
-        → IsRest S.whole reader.new (drop count left)) }
-    ensures fresh { OnOk result (refusal_of reader.new ≡ None) }
-    ensures files { files_of S.whole reader.new ≡ files_of S.whole reader.old }
-    ensures reader { IsReader S.whole S.left S.given S.faults reader.new }
-    ensures fault { result ≡ Err InsertError.SourceFault → HasFault S.faults reader.new }
-    ensures faults { HasFault S.faults reader.old → HasFault S.faults reader.new }
+    ensures drawn { IfOk result (λ r. drawn_of r.1 ≡ drawn_of reader + count) }
+    ensures left { IfOk result (λ r. left_of r.1 + count ≡ left_of reader) }
+    ensures rest_left { IfOk result (λ r. (first left : List Point) → StandsBetween S.whole octree reader first left
+        → IsRest S.whole r.1 (drop count left)) }
+    ensures fresh { IfOk result (λ r. refusal_of r.1 ≡ None) }
+    ensures inside { IfOk result (λ r. (p : Point) → LiesIn (files_of S.whole r.1) p
+        → InCube (rules_of octree).cube (place p)) }
+    ensures reader { IfOk result (λ r. IsReader S.whole S.left S.given S.faults r.1) }
+    ensures fault { IfErr result (λ r. r.error ≡ InsertError.SourceFault → HasFault S.faults r.reader) }
 {
-    sampled_law();
-    let mut batch = Vec::new(alloc);
-    let end = reader.drawn() + count;
     reader.allow(count);
-    while reader.drawn() < end {
-        batch.clear();
-        reader.next_batch(BATCH, &mut batch)?;
-        grown.insert_all(&batch, most)?;
+    insert_told::<F, S, Brand, G, R>(rt, alloc, octree, reader, workers, gate)
+}
+
+// Lets so many workers bring the points of the reader's allowance into the octree.
+fn insert_told<F, S, J, G, R>(
+    rt: &R,
+    alloc: Global,
+    octree: Octree<F>,
+    reader: Reader<S>,
+    workers: u32,
+    gate: &G,
+) -> Result<(Octree<F>, Reader<S>), Refused<F, S>>
+where
+    F: SpillFile + Send + Sync,
+    S: Source + Send,
+    J: Scan + Sync,
+    G: Gate + Sync,
+    R: Threads + Wait + Sync,
+    requires may { MayInsert J.told S.whole S.left S.given S.faults octree reader }
+    requires workers { (1 ≤ workers) × (workers ≤ 64) }
+    ensures inserted { IfOk result (λ r. HasInserted J.told S.whole S.left S.given S.faults octree r.0 r.1) }
+    ensures refused { IfErr result (λ r. IsRefused J.told S.faults r.reader r.error) }
+{
+    let rules = *octree.rules();
+    rest_law::<F, S, J>(&octree, &reader);
+    landed_law();
+    let forest = octree.into_forest();
+    let (table, seat) = match NodeTable::<F, S, J>::make(alloc, forest, reader, &rules) {
+        Ok(made) => made,
+        Err(unmade) => {
+            let Unmade { forest, reader } = unmade;
+            return Err(Refused {
+                forest,
+                reader,
+                error: InsertError::Memory,
+            });
+        }
+    };
+    let (forest, reader, result) = insert_all(rt, alloc, table, seat, workers, gate);
+    if let Err(error) = result {
+        return Err(Refused {
+            forest,
+            reader,
+            error: InsertError::from(error),
+        });
     }
-    Ok(())
+    match Octree::from_forest::<S, J>(alloc, forest, &reader, &rules) {
+        Ok(octree) => Ok((octree, reader)),
+        Err(forest) => Err(Refused {
+            forest,
+            reader,
+            error: InsertError::Memory,
+        }),
+    }
 }

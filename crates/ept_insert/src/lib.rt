@@ -1,8 +1,8 @@
-//! Inserting the records of scans into an octree: so many of the next ones.
+//! Inserting the records of scans into an octree: so many of the next ones, by several workers.
 #![tactic(auto)]
 
 mod error;
 mod inserting;
 
 pub use error::InsertError;
-pub use inserting::insert;
+pub use inserting::{Refused, insert};

@@ -19,6 +19,7 @@ pub(crate) enum Told<'a> {
     Tile { key: &'a str },
     Source,
     Store,
+    Spill,
     Memory,
 }
 
@@ -79,6 +80,7 @@ pub(crate) fn read_line(line: &str) -> Option<Told<'_>> {
         "tile" => Some(Told::Tile { key: rest }),
         "source" => Some(Told::Source),
         "store" => Some(Told::Store),
+        "spill" => Some(Told::Spill),
         "memory" => Some(Told::Memory),
         _ => None,
     }
@@ -123,6 +125,9 @@ pub(crate) fn sentence(
         }
         Told::Source => format!(in alloc; "{} could not be opened or read", names.unread),
         Told::Store => format!(in alloc; "a file of {out} could not be written or flushed"),
+        Told::Spill => {
+            format!(in alloc; "a spill file for {out} could not be made: run the same build again")
+        }
         Told::Memory => String::from_str(alloc, MEMORY_SENTENCE),
     }
 }

@@ -215,7 +215,7 @@ module _ (last : ℕ) (slots : List (Option grid.Node)) (sites after : List Site
         omega (arith, more, sum, was));
   }
 
--- ---- the nodes have their keys and the rules
+-- ---- the nodes have their keys and the rules, and none is too deep
 
 pub own-nodes : (rules : Rules) (used : ℕ) (slots : List (Option grid.Node)) (sites : List Site) → IsIndex rules used slots sites → AreNodes rules (branches slots sites)
 own-nodes rules used slots sites index b m =
@@ -226,3 +226,11 @@ own-nodes rules used slots sites index b m =
       ap (λ (x : Option grid.Node). (node_or x).key) g.1 ∙ g.2,
       ap (λ (x : Option grid.Node). (node_or x).rules) g.1 ∙ (index.sound s.0.1 g.0 g.1).rules,
     )
+
+pub shallow-nodes : (rules : Rules) (used : ℕ) (slots : List (Option grid.Node)) (sites : List Site) → IsIndex rules used slots sites → (b : Branch) → IsMember b (branches slots sites) → b.0.depth ≤ rules.cube.depth
+shallow-nodes rules used slots sites index b m =
+    let s = member-map (branch_at slots) b sites m in
+    let slot : slot_of sites s.0.0 ≡ Some s.0.1 = member-slot sites s.0 (IsRising-AllPairs (map (λ (s : Site). s.0) sites) index.are.ascend) s.1 in
+    let g = seen-some (node_in slots s.0.1) s.0.0 (index.are.stands s.0.0 s.0.1 slot).0 in
+    subst (λ (w : Branch). w.0.depth ≤ rules.cube.depth) s.2
+    (subst (λ (k : VoxelKey). k.depth ≤ rules.cube.depth) g.2 (index.sound s.0.1 g.0 g.1).low)

@@ -1,5 +1,5 @@
 -- The node of a key.
-use Rattle.std.proofs.Common.{◌≡◌, ◌∙◌, ℕ, suc, ◌≤◌, List, [], ◌∷◌, map, length, set, refl, sym, ap, subst, arith, Option, Some}
+use Rattle.std.proofs.Common.{◌≡◌, ◌∙◌, ℕ, zero, suc, ◌<◌, ◌≤◌, inl, inr, List, [], ◌∷◌, map, length, get_or, set, refl, sym, ap, subst, arith, Option, Some}
 use Rattle.ept_space.specs.VoxelKey.{VoxelKey}
 use Rattle.ept_space.specs.declared.cube.Rules.{Rules}
 use Rattle.ept_sample.specs.Members.{IsMember}
@@ -20,6 +20,18 @@ use Rattle.ept_octree.proofs.Placing.{its-slot, named-some, length-in}
 pub keys-all : (slots : List (Option grid.Node)) (sites : List Site) → map key_of (branches slots sites) ≡ map (λ (s : Site). s.0) sites
 keys-all slots [] = refl
 keys-all slots (s ∷ sites) = ap (λ (w : List VoxelKey). s.0 ∷ w) (keys-all slots sites)
+
+node_here : (nodes : List Branch) (i : ℕ) (key : VoxelKey) → i < length (map key_of nodes) → get_or (map key_of nodes) i key ≡ key → (b : Branch) × (i < length nodes) × (get_or nodes i b ≡ b) × IsMember b nodes × (b.0 ≡ key)
+node_here [] i key low is = absurd (omega (arith, low))
+node_here (b ∷ bs) zero key low is = (b, omega arith, refl, inl refl, is)
+node_here (b ∷ bs) (suc i) key low is =
+    let r = node_here bs i key (omega (arith, low)) is in
+    (r.0, omega (arith, r.1), r.2, inr r.3, r.4)
+
+-- the node at the place of a key
+pub node-at : (nodes : List Branch) (keys : List VoxelKey) (i : ℕ) (key : VoxelKey) → keys ≡ map key_of nodes → i < length keys → key ≡ get_or keys i key → (b : Branch) × (i < length nodes) × (get_or nodes i b ≡ b) × IsMember b nodes × (b.0 ≡ key)
+node-at nodes keys i key same low is =
+    node_here nodes i key (subst (λ (w : List VoxelKey). i < length w) same low) (sym (ap (λ (w : List VoxelKey). get_or w i key) same) ∙ sym is)
 
 module _ {F : Type 0} (rules : Rules) (used : ℕ) (ns : List (node.Node F)) (sites : List Site) (index : IsIndex rules used (in_slots ns) sites) (key : VoxelKey) where
   abbrev nodes : List Branch

@@ -1,8 +1,9 @@
 -- An octree, as its callers see it.
-use Rattle.std.specs.Prelude.{ℕ, List, map, length}
+use Rattle.std.specs.Prelude.{ℕ, ◌≤◌, List, map, length}
 use Rattle.ept_point.specs.declared.point.Point.{Point}
 use Rattle.ept_space.specs.declared.cube.Rules.{Rules}
 use Rattle.ept_space.specs.VoxelKey.{VoxelKey}
+use Rattle.ept_sample.specs.Members.{IsMember}
 use Rattle.ept_node.specs.Shown.{file_of}
 use Rattle.ept_forest.specs.declared.forest.Forest.{Forest}
 use Rattle.ept_forest.specs.Slots as forest
@@ -42,6 +43,10 @@ module _ {F : Type 0} where
   -- each node has its key and the octree's rules
   abbrev pub HasOwnNodes : Octree F → Type 0
   HasOwnNodes octree = AreNodes (rules_of octree) (nodes_of octree)
+
+  -- none of its nodes is deeper than the greatest depth
+  abbrev pub IsShallow : Octree F → Type 0
+  IsShallow octree = (b : Branch) → IsMember b (nodes_of octree) → b.0.depth ≤ (rules_of octree).cube.depth
 
   -- its nodes are a whole octree, whatever points they have
   abbrev pub IsWhole : Octree F → Type 0

@@ -3,7 +3,7 @@
 ghost use Rattle.std.specs.Prelude.{◌≡◌, ◌≢◌, ◌≤◌, ◌+◌, [], Err, OnOk, OnErr, Some, None, length};
 ghost use Rattle.std.specs.BTreeMap.{insert_entry};
 ghost use Rattle.ept_point.specs.Order.{IsAscending};
-ghost use Rattle.ept_space.specs.VoxelKey.{key_cmp};
+ghost use Rattle.ept_space.specs.VoxelKey.{root, key_cmp};
 ghost use Rattle.ept_grid.specs.Tile.{IsTile, IsTileFault};
 ghost use Rattle.ept_node.specs.declared.state.NodeState.TheVariants as states;
 ghost use Rattle.ept_node.specs.Shown.{file_of, state_of, node_of};
@@ -26,8 +26,8 @@ impl<F: SpillFile> Octree<F> {
     ///
     /// # Errors
     ///
-    /// `Full` where it has as many nodes as it may have, and `Damaged` where the points and the open octants are none of a node
-    /// of the key. After a refusal the nodes are as they were.
+    /// `Full` where it has as many nodes as it may have, which the root never meets, and `Damaged` where the points and the
+    /// open octants are none of a node of the key. After a refusal the nodes are as they were.
     pub fn add(
         &mut self,
         alloc: Global,
@@ -43,6 +43,7 @@ impl<F: SpillFile> Octree<F> {
         ensures tile { OnOk result (IsTile key (rules_of self.old) mask points.now) }
         ensures unchanged { OnErr result (nodes_of self.new ≡ nodes_of self.old) }
         ensures full { result ≡ Err AddError.Full → most_of self.old ≤ length (nodes_of self.old) }
+        ensures root { key ≡ root → result ≢ Err AddError.Full }
         ensures damaged { (fault : GridError) → result ≡ Err (AddError.Damaged fault)
             → IsTileFault key (rules_of self.old) mask points.now fault }
         ensures rules { rules_of self.new ≡ rules_of self.old }

@@ -1,6 +1,6 @@
 //! An octree, and its nodes one at a time.
 
-ghost use Rattle.std.specs.Prelude.{◌≡◌, ◌≤◌, ◌<◌, ◌+◌, ◌∷◌, ◌++◌, [], ℕ, true, OnOk, OnErr, IfOk, length, map};
+ghost use Rattle.std.specs.Prelude.{◌≡◌, ◌≤◌, ◌<◌, ◌+◌, ◌^◌, ◌∷◌, ◌++◌, [], ℕ, true, OnOk, OnErr, IfOk, length, map};
 ghost use Rattle.ept_base.specs.Causes.{HasCauseOf, Rose};
 ghost use Rattle.ept_base.specs.Devices.{counts_on};
 ghost use Rattle.ept_base.specs.declared.errors.PutError.TheVariants as put;
@@ -31,7 +31,7 @@ pub struct Octree<F> {
 }
 
 impl<F: SpillFile> Octree<F> {
-    ghost use Rattle.ept_octree.specs.Octree.{forest_of, rules_of, most_of, nodes_of, points_of, files_of, HasOwnNodes, IsWhole, IsLinked};
+    ghost use Rattle.ept_octree.specs.Octree.{forest_of, rules_of, most_of, nodes_of, points_of, files_of, HasOwnNodes, IsShallow, IsWhole, IsLinked};
 
     /// The octree of no points, of at most so many nodes: its root. After a refusal the room has its files back.
     ///
@@ -84,8 +84,11 @@ impl<F: SpillFile> Octree<F> {
     pub fn len(&self) -> u64
         ensures number { result ≡ length (nodes_of self.now) }
         ensures few { length (nodes_of self.now) ≤ most_of self.now }
+        ensures small { most_of self.now < 2 ^ 32 }
         ensures own { HasOwnNodes self.now }
+        ensures shallow { IsShallow self.now }
     {
+        let _most = self.most;
         self.slots.len() as u64
     }
 

@@ -1,6 +1,7 @@
 //! The nodes one at a time.
 
 ghost use Rattle.std.specs.Prelude.{◌≡◌, ◌++◌, ℕ, Some, OnOk, OnErr, IfOk, map};
+ghost use Rattle.ept_space.specs.VoxelKey.{AreAscending};
 ghost use Rattle.ept_forest.specs.Slots as trees;
 ghost use Rattle.ept_grid.specs.Node.{IsInIdOrder};
 ghost use Rattle.ept_table.specs.Octree.{key_of};
@@ -19,7 +20,8 @@ impl<F: SpillFile> Octree<F> {
 
     /// The keys of the nodes, in key order.
     pub fn keys(&self, alloc: Global) -> Result<Vec<Key>, Memory>
-        ensures { IfOk result (λ keys. keys.items ≡ map key_of (nodes_of self.now)) }
+        ensures keys { IfOk result (λ keys. keys.items ≡ map key_of (nodes_of self.now)) }
+        ensures ascend { IfOk result (λ keys. AreAscending keys.items) }
     {
         let mut keys = Vec::new(alloc);
         for (key, _slot) in self.slots.iter() {

@@ -1,7 +1,6 @@
-mod Begun
 mod Compared
-pub mod Following
 mod Lining
+mod LoadedNodes
 mod Merging
 mod NextTiles
 mod Phasing

@@ -1,5 +1,5 @@
--- Nodes that are loaded line by line, and put into a map behind those before them.
-use Rattle.std.proofs.Common.{◌≡◌, ◌∙◌, inl, inr, ℕ, zero, suc, ◌+◌, ◌<◌, Bool, true, false, cond, List, [], ◌∷◌, ◌++◌, take, length, get_or, refl, sym, ap, subst, arith, Option, Some, None, Ordering}
+-- The lines of the current checkpoint one after another, and entries that are put behind those before them.
+use Rattle.std.proofs.Common.{◌≡◌, ◌∙◌, inl, inr, ℕ, zero, suc, ◌+◌, ◌<◌, ◌≤◌, Bool, true, false, cond, List, [], ◌∷◌, ◌++◌, take, drop, length, get_or, refl, sym, ap, subst, arith, Option, Some, None, Ordering}
 use Rattle.std.specs.Prelude.{AllPairs, IsSome}
 use Rattle.std.proofs.Math.Seq.{take-suc}
 use Rattle.std.specs.List.{AllZip}
@@ -8,29 +8,28 @@ use Rattle.std.specs.BTreeMap.{insert_entry}
 use Rattle.std.specs.declared.cmp.Ordering.TheVariants.{Less, Equal, Greater}
 use Rattle.std.specs.Ordering.{is_lt, match_ordering, ordering_reverse}
 use Rattle.ept_base.specs.Files.{Files, SameFiles, StepsBy, Tells}
+use Rattle.ept_point.specs.declared.point.Point.{Point}
 use Rattle.ept_point.specs.Packed.{tile}
-use Rattle.std.proofs.lemmas.List.{length-append}
 use Rattle.ept_space.specs.VoxelKey.{VoxelKey, same_key, key_cmp}
-use Rattle.ept_space.specs.declared.cube.Rules.{Rules}
 use Rattle.ept_space.proofs.KeyOrder.{key_cmp_total}
 use Rattle.ept_space.proofs.Within.{same_key-true, same_key-same}
 use Rattle.ept_sample.specs.Members.{IsMember}
 use Rattle.ept_sample.proofs.Ascending.{IsRising}
-use Rattle.ept_sample.proofs.Members.{IsMember-map}
+use Rattle.ept_sample.proofs.Members.{IsMember-map, all-member}
 use Rattle.ept_sample.proofs.KeyOrder.{key_before, key-self, IsRising-AllPairs}
-use Rattle.ept_grid.specs.Node.{Node, IsNodeOf}
 use Rattle.ept_ckpt.specs.declared.letter.Letter.{Letter}
 use Rattle.ept_ckpt.specs.declared.node_line.NodeLine.{NodeLine}
 use Rattle.ept_ckpt.specs.declared.checkpoint.Checkpoint.{Checkpoint}
 use Rattle.ept_ckpt.specs.Octree.{keys_of}
+use Rattle.ept_ckpt.specs.Valid.{IsNode, deepest}
 use Rattle.ept_ckpt.specs.Lookup.{line_of_key}
 use Rattle.ept_meta.specs.Output.{rules_of}
 use Rattle.ept_save.specs.Current.{Current, tile_of_line}
-use Rattle.ept_save.specs.Loading.{HasLine, IsNodeFound, AreFound, HasTile, AreOfLine}
+use Rattle.ept_save.specs.Loading.{HasLine, AreFound, HasTile, AreOfLine}
 use Rattle.ept_save.proofs.LoadedLines.{at-line}
-use Rattle.ept_tree.specs.Tree.{Branch, AreNodes}
+use Rattle.ept_table.specs.Octree.{Branch}
 use Rattle.ept_phase.specs.LinesLaws.{HaveKeys}
-use Rattle.ept_phase.specs.Lines.{TellsNode, TellNodes, NamesTile, NameTiles}
+use Rattle.ept_phase.specs.Lines.{TellNodes}
 use Rattle.ept_phase.proofs.Telling.{either, node-line}
 use Rattle.ept_phase.proofs.Merging.{DoAscend}
 
@@ -139,27 +138,22 @@ module _ (current : Current) (c : Checkpoint) (is_current : option_map (λ (at :
       subst (λ (w : Current). HasLine w line.key) (sym at.1)
       (subst (λ (o : Option NodeLine). IsSome o) (sym (ap (λ (d : Checkpoint). line_of_key d.nodes line.key) at.2 ∙ found line m)) refl)
 
-  module _ (line : NodeLine) (m : IsMember line lines) (node : Node) where
+  -- and that is no deeper than may be
+  pub line-depth : (line : NodeLine) → IsMember line lines → line.key.depth ≤ (rules_of c.kept).cube.depth
+  line-depth line m = (all-member (IsNode (deepest c.kept.bounds c.kept.s c.kept.max_depth)) line lines c.is_checkpoint.lines m).depth_most
+
+  module _ (line : NodeLine) (m : IsMember line lines) (points : List Point) where
     abbrev at : (at : Letter × Checkpoint) × (current ≡ Some at) × (at.1 ≡ c)
     at = at-current current c is_current
 
     found_at : line_of_key at.0.1.nodes line.key ≡ Some line
     found_at = ap (λ (d : Checkpoint). line_of_key d.nodes line.key) at.2 ∙ found line m
 
-    node_of : IsNodeFound current line.key node → IsNodeOf line.key (rules_of c.kept) line.mask node.points node
-    node_of is = subst (λ (d : Checkpoint). IsNodeOf line.key (rules_of d.kept) line.mask node.points node) at.2 (at-line current line.key at.0 line (λ kept l. IsNodeOf line.key (rules_of kept) l.mask node.points node) at.1 found_at is)
+    pub next-are : AreFound current line.key points → AreOfLine (rules_of c.kept) line points
+    next-are are = subst (λ (d : Checkpoint). AreOfLine (rules_of d.kept) line points) at.2 (at-line current line.key at.0 line (λ kept l. AreOfLine (rules_of kept) l points) at.1 found_at are)
 
-    counted : AreFound current line.key node.points → length node.points ≡ line.count
-    counted are = (at-line current line.key at.0 line (λ kept l. AreOfLine (rules_of kept) l node.points) at.1 found_at are).counted
-
-    pub next-told : IsNodeFound current line.key node → AreFound current line.key node.points → TellsNode (line.key, node) line
-    next-told is are = record { key = refl; mask = sym (node_of is).mask; count = sym (counted are) }
-
-    pub next-own : IsNodeFound current line.key node → (node.key ≡ line.key) × (node.rules ≡ rules_of c.kept)
-    next-own is = let n = node_of is in (n.key, n.rules)
-
-    pub next-named : (files : Files) → HasTile current line.key node.points files → NamesTile files (line.key, node) line
-    next-named files has = at-line current line.key at.0 line (λ kept l. files (tile_of_line l) ≡ Some (tile node.points)) at.1 found_at has
+    pub next-tile : (files : Files) → HasTile current line.key points files → files (tile_of_line line) ≡ Some (tile points)
+    next-tile files has = at-line current line.key at.0 line (λ kept l. files (tile_of_line l) ≡ Some (tile points)) at.1 found_at has
 
 -- the entries before are those of lines in front, so the next one comes behind them
 pub entries-low : (entries : List Branch) (lines : List NodeLine) (i : ℕ) (line : NodeLine) → DoAscend lines → i < length lines → get_or lines i line ≡ line → TellNodes entries (take i lines) → (e : Branch) → IsMember e entries → key_cmp e.0 line.key ≡ Less
@@ -167,48 +161,19 @@ entries-low entries lines i line up inside is told e m =
     let l = node-line entries (take i lines) e told m in
     ap (λ (k : VoxelKey). key_cmp k line.key) (sym l.2.key) ∙ before-next lines i line l.0 up inside is l.1
 
--- each of the nodes has its key and the rules, also with one more
-pub own-more : (rules : _) (entries : List Branch) (b : Branch) → AreNodes rules entries → (b.1.key ≡ b.0) × (b.1.rules ≡ rules) → AreNodes rules (entries ++ b ∷ [])
-own-more rules [] b own is d (inl at) = subst (λ (w : Branch). (w.1.key ≡ w.0) × (w.1.rules ≡ rules)) at is
-own-more rules [] b own is d (inr m) = absurd m
-own-more rules (e ∷ es) b own is d (inl at) = own d (inl at)
-own-more rules (e ∷ es) b own is d (inr m) = own-more rules es b (λ w i. own w (inr i)) is d m
+-- the first items, with the next one behind them
+pub take-next : {X : Type 0} (xs : List X) (i : ℕ) (x : X) → i < length xs → get_or xs i x ≡ x → take i xs ++ x ∷ [] ≡ take (i + 1) xs
+take-next {X} xs i x inside is =
+    ap (λ (y : X). take i xs ++ y ∷ []) (sym is) ∙ (sym (take-suc xs i x inside) ∙ ap (λ (n : ℕ). take n xs) (let after : suc i ≡ i + 1 = omega arith in after))
 
--- the first lines, with the next one behind them
-pub take-next : (lines : List NodeLine) (i : ℕ) (line : NodeLine) → i < length lines → get_or lines i line ≡ line → take i lines ++ line ∷ [] ≡ take (i + 1) lines
-take-next lines i line inside is =
-    ap (λ (l : NodeLine). take i lines ++ l ∷ []) (sym is) ∙ (sym (take-suc lines i line inside) ∙ ap (λ (n : ℕ). take n lines) (let after : suc i ≡ i + 1 = omega arith in after))
-
-module _ (rules : Rules) (entries more : List Branch) (items : List NodeLine) (i : ℕ) (line : NodeLine) (node : Node) (inserted : more ≡ insert_entry key_cmp entries line.key node) (up : DoAscend items) (inside : i < length items) (is : get_or items i line ≡ line) (told : TellNodes entries (take i items)) where
-  abbrev next : Branch
-  next = (line.key, node)
-
-  last : more ≡ entries ++ next ∷ []
-  last = inserted ∙ insert-last entries line.key node (entries-low entries items i line up inside is told)
-
-  taken : take i items ++ line ∷ [] ≡ take (i + 1) items
-  taken = take-next items i line inside is
-
-  pub told-more : TellsNode next line → TellNodes more (take (i + 1) items)
-  told-more tells =
-      subst (λ (w : List Branch). TellNodes w (take (i + 1) items)) (sym last)
-      (subst (λ (ls : List NodeLine). TellNodes (entries ++ next ∷ []) ls) taken (zip-more TellsNode entries (take i items) next line told tells))
-
-  named_more : (files : Files) → NameTiles files entries (take i items) → NamesTile files next line → NameTiles files more (take (i + 1) items)
-  named_more files names name =
-      subst (λ (w : List Branch). NameTiles files w (take (i + 1) items)) (sym last)
-      (subst (λ (ls : List NodeLine). NameTiles files (entries ++ next ∷ []) ls) taken (zip-more (NamesTile files) entries (take i items) next line names name))
-
-  pub tiles-more : (old mid : Option Files) → StepsBy SameFiles old mid → Tells (λ all. NameTiles all entries (take i items)) old → Tells (λ all. NamesTile all next line) mid → Tells (λ all. NameTiles all more (take (i + 1) items)) old
-  tiles-more old mid same names name =
-      tells-both (λ all. NameTiles all entries (take i items)) (λ all. NamesTile all next line) (λ all. NameTiles all more (take (i + 1) items)) named_more old names
-      (tells-back (λ all. NamesTile all next line) (λ all. NamesTile all next line) (λ a b step here. sym (step (tile_of_line line)) ∙ here) old mid same name)
-
-  pub own-next : AreNodes rules entries → (node.key ≡ line.key) × (node.rules ≡ rules) → AreNodes rules more
-  own-next own has = subst (AreNodes rules) (sym last) (own-more rules entries next own has)
-
-  pub one-more : length more ≡ length entries + 1
-  one-more = ap length last ∙ length-append entries (next ∷ [])
+-- those from it on
+pub drop-next : {X : Type 0} (xs : List X) (i : ℕ) (x : X) → i < length xs → get_or xs i x ≡ x → drop i xs ≡ x ∷ drop (i + 1) xs
+drop-next {X} xs i x inside is = here xs i inside is ∙ ap (λ (n : ℕ). x ∷ drop n xs) (let after : suc i ≡ i + 1 = omega arith in after)
+  where
+    here : (ys : List X) (k : ℕ) → k < length ys → get_or ys k x ≡ x → drop k ys ≡ x ∷ drop (suc k) ys
+    here [] k low at = absurd (omega (arith, low))
+    here (y ∷ ys) zero low at = ap (λ (z : X). z ∷ ys) at
+    here (y ∷ ys) (suc k) low at = here ys k (omega (arith, low)) at
 
 -- where it is told of files, so is what follows
 pub tells-more : (one other : Files → Type 0) → ((all : Files) → one all → other all) → (files : Option Files) → Tells one files → Tells other files

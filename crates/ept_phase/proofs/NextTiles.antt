@@ -29,8 +29,7 @@ use Rattle.ept_save.specs.Loading.{AreOfLine, IsDamagedLine}
 use Rattle.ept_save.specs.View.{View, next_letter}
 use Rattle.ept_save.proofs.LoadedLines.{not-damaged-line}
 use Rattle.ept_save.proofs.NamesDiffer.{gate-tile, body-tile}
-use Rattle.ept_tree.specs.Tree.{Branch, tile_of}
-use Rattle.ept_tree.specs.TreeLaws.{AreSampled}
+use Rattle.ept_table.specs.Octree.{Branch, tile_of, AreSampled}
 use Rattle.ept_phase.specs.Lines.{TellsNode, TellNodes, NamesTile, NameTiles}
 use Rattle.ept_phase.specs.Loaded.{OfCurrent, HasNoDamage}
 use Rattle.ept_phase.specs.Phase.{IsSaved}

@@ -22,8 +22,7 @@ use Rattle.ept_save.specs.Current.{Current, HasCurrent, IsNamed, IsNow, Keeps, C
 use Rattle.ept_save.specs.View.{View, StandsFor, next_letter, next_generation, next_facts}
 use Rattle.ept_save.proofs.Keeping.{keeps-both}
 use Rattle.ept_save.proofs.Standing.{told_some}
-use Rattle.ept_tree.specs.Tree.{Branch, AreNodes, entry_of, points_in}
-use Rattle.ept_tree.specs.Whole.{AreWhole}
+use Rattle.ept_table.specs.Octree.{Branch, AreNodes, entry_of, points_in, AreWhole}
 use Rattle.ept_phase.specs.Lines.{TellNodes, NameTiles}
 use Rattle.ept_phase.specs.LinesLaws.{WholeIsTold}
 use Rattle.ept_phase.specs.Loaded.{OfCurrent}
@@ -139,7 +138,7 @@ module _ (view : View) (kept : Kept) (counts : List SourceCount) (inserted : ℕ
 
 -- the nodes of a whole octree that were saved are those of a next checkpoint
 pub tree-valid : WholeIsTold → (view : View) (rules : Rules) (kept : Kept) (counts : List SourceCount) (inserted : ℕ) (nodes : List Branch) → AreGiven kept counts inserted → GoesFurther view.current inserted (length kept.inputs) → length nodes < 2 ^ 32 → TellNodes nodes view.lines → AreKnown nodes
-    → AreNodes rules nodes → rules ≡ rules_of kept → AreWhole [] (map entry_of nodes) → length (points_in nodes) ≡ inserted → IsCheckpoint (next_generation view.current) kept counts inserted view.lines
+    → AreNodes rules nodes → rules ≡ rules_of kept → AreWhole (map entry_of nodes) → length (points_in nodes) ≡ inserted → IsCheckpoint (next_generation view.current) kept counts inserted view.lines
 tree-valid law view rules kept counts inserted nodes given further few told known own is whole holds =
     next-valid view.current kept counts inserted nodes view.lines given further few told known (subst (λ (r : Rules). AreNodes r nodes) is own)
     (subst (λ (n : ℕ). AreNodesOf n view.lines) holds (law nodes view.lines told whole))

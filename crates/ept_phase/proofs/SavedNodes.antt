@@ -21,8 +21,7 @@ use Rattle.ept_ckpt.specs.Octree.{AreWholeOctree, TellsChildren, keys_of, is_amo
 use Rattle.ept_save.specs.Current.{tile_of_line}
 use Rattle.ept_save.specs.Sound.{IsSavedAs}
 use Rattle.ept_save.proofs.SoundTiles.{keys-same, keys-sampled, among-node, opened_bit}
-use Rattle.ept_tree.specs.Tree.{Branch, tile_of}
-use Rattle.ept_tree.specs.TreeLaws.{AreSampled}
+use Rattle.ept_table.specs.Octree.{Branch, tile_of, AreSampled}
 use Rattle.ept_phase.specs.Lines.{TellsNode, TellNodes, NamesTile, NameTiles}
 use Rattle.ept_phase.proofs.Telling.{node-line}
 use Rattle.ept_phase.proofs.Lining.{some-same}

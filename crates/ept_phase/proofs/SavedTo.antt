@@ -1,16 +1,14 @@
 -- How far the saving of an octree's nodes has come.
-use Rattle.std.proofs.Common.{◌≡◌, ◌∙◌, ◌⊎◌, inl, inr, ℕ, ◌<◌, ◌≤◌, ◌^◌, true, List, [], ◌∷◌, ◌++◌, append_assoc, length, refl, sym, ap, subst, Option, Some, None}
+use Rattle.std.proofs.Common.{◌≡◌, ◌∙◌, ◌⊎◌, inl, inr, ℕ, zero, suc, ◌<◌, ◌≤◌, ◌^◌, true, List, [], ◌∷◌, ◌++◌, append_assoc, take, drop, length, refl, sym, ap, subst, arith, Option, Some, None}
 use Rattle.std.specs.Prelude.{AllPairs, IsSomeAnd, Result, Ok, Err, OnOk}
-use Rattle.std.proofs.lemmas.List.{map-append}
+use Rattle.std.proofs.lemmas.List.{map-append, take_all}
 use Rattle.std.specs.List.{cons_option}
-use Rattle.std.specs.List.Sorted.{IsStrictlySortedBy}
 use Rattle.std.specs.declared.cmp.Ordering.TheVariants.{Less}
 use Rattle.ept_base.specs.Files.{Files, SameFiles, SameBut, Puts, StepsBy, Tells}
 use Rattle.ept_base.proofs.Changing.{changed_same}
 use Rattle.ept_point.specs.declared.point.Point.{Point}
 use Rattle.ept_point.specs.Packed.{tile}
 use Rattle.ept_space.specs.VoxelKey.{VoxelKey, IsKey, key_cmp}
-use Rattle.ept_core.proofs.Lookups.{sorted-rising}
 use Rattle.ept_config.specs.declared.kept.Kept.{Kept}
 use Rattle.ept_sample.specs.Members.{IsMember}
 use Rattle.ept_sample.proofs.Ascending.{IsRising}
@@ -28,7 +26,7 @@ use Rattle.ept_save.specs.Opening.{lines_of}
 use Rattle.ept_save.specs.View.{View}
 use Rattle.ept_save.proofs.NamesDiffer.{tile-key}
 use Rattle.ept_save.proofs.LoadedLines.{line-key}
-use Rattle.ept_tree.specs.Tree.{Branch}
+use Rattle.ept_table.specs.Octree.{Branch}
 use Rattle.ept_phase.specs.Lines.{TellsNode, TellNodes, NamesTile, NameTiles}
 use Rattle.ept_phase.specs.Saving.{IsTold, HasNode, StaysLine, ComesLine, SavesNode, keys_in, AreKnown, HasEachNodeOf}
 use Rattle.ept_phase.proofs.Telling.{among-member}
@@ -47,9 +45,6 @@ rise (k ∷ ks) up = (λ m is. lt_less (key_cmp k m) (up.0 m is), rise ks up.1)
 
 pub keys-rise : (keys : List VoxelKey) → AllPairs (λ a b. key_cmp a b ≡ Less) keys → Rise keys
 keys-rise keys all = rise keys (IsRising-AllPairs keys all)
-
-pub sorted-rise : (keys : List VoxelKey) → IsStrictlySortedBy key_cmp keys → Rise keys
-sorted-rise keys sorted = rise keys (sorted-rising keys sorted)
 
 member_last : (key : VoxelKey) (front back : List VoxelKey) → IsMember key (front ++ key ∷ back)
 member_last key [] back = inl refl
@@ -192,6 +187,16 @@ saved-all start now nodes files at = (subst (TellNodes nodes) lines at.told, sub
 
     lines : at.lines ≡ now.lines
     lines = sym (ap (λ (v : View). v.lines) at.view_is ∙ (ap (λ (w : List NodeLine). at.lines ++ w) (none (lines_of start.current)) ∙ nothing at.lines))
+
+none_left : {X : Type 0} (xs : List X) (i : ℕ) → length xs ≤ i → drop i xs ≡ []
+none_left [] zero end = refl
+none_left [] (suc i) end = refl
+none_left (x ∷ xs) zero end = absurd (omega (arith, end))
+none_left (x ∷ xs) (suc i) end = none_left xs i (omega (arith, end))
+
+pub saved-end : (start now : View) (nodes : List Branch) (i : ℕ) (files : Option Files) → length nodes ≤ i → IsSavedTo start now (take i nodes) (drop i nodes) files → IsSavedTo start now nodes [] files
+saved-end start now nodes i files end at =
+    subst (λ (w : List Branch). IsSavedTo start now w [] files) (take_all i nodes end) (subst (λ (w : List Branch). IsSavedTo start now (take i nodes) w files) (none_left nodes i end) at)
 
 module _ (start now new : View) (done rest : List Branch) (b : Branch) (points : List Point) (files after : Option Files) (rises : Rise (keys_in (done ++ b ∷ rest))) (is_key : IsKey b.0) (shallow : b.1.key.depth ≤ b.1.rules.cube.depth) (byte : b.1.mask < 2 ^ 8) (at : IsSavedTo start now done (b ∷ rest) files) (saves : SavesNode now new b.0 b.1.mask points after) (points_are : points ≡ b.1.points) (letter : Letter) (one : StepsBy (SameBut (work_tile_name letter b.0)) files after) where
   abbrev key : VoxelKey

@@ -1,5 +1,5 @@
 -- Lines and the nodes of which they tell: one is a whole octree where the other is.
-use Rattle.std.proofs.Common.{◌≡◌, ◌∙◌, ◌⊎◌, ℕ, zero, suc, ◌<◌, ◌^◌, ◌==◌, ◌||◌, Bool, true, false, cond, inl, inr, List, [], ◌∷◌, map, refl, sym, ap, subst, arith, length, Some, None}
+use Rattle.std.proofs.Common.{◌≡◌, ◌∙◌, ◌⊎◌, ℕ, zero, suc, ◌<◌, ◌^◌, ◌==◌, Bool, true, false, inl, inr, List, [], ◌∷◌, map, refl, sym, ap, subst, arith, length, Some, None}
 use Rattle.std.specs.Prelude.{AllPairs}
 use Rattle.std.specs.Int.{bit_at}
 use Rattle.std.specs.declared.cmp.Ordering.TheVariants.{Less}
@@ -21,10 +21,9 @@ use Rattle.ept_ckpt.specs.declared.checkpoint.Checkpoint.{Checkpoint}
 use Rattle.ept_ckpt.specs.Octree as ckpt
 use Rattle.ept_ckpt.specs.Octree.{AreWholeOctree, AreNodesOf, TellsChildren, HasParent, is_among}
 use Rattle.ept_save.specs.Current.{Current}
-use Rattle.ept_tree.specs.Tree.{Branch, entry_of, points_in}
-use Rattle.ept_tree.specs.Whole.{IsKnown, IsBelowOpen, AreWhole, KeepsNodes}
-use Rattle.ept_tree.proofs.Growing.{has_open_then}
-use Rattle.ept_tree.proofs.Wholeness.{blank_open}
+use Rattle.ept_node.proofs.Bridges.{seen-stands}
+use Rattle.ept_table.specs.Octree.{Branch, entry_of, points_in, IsBelowOpen, AreWhole, KeepsNodes}
+use Rattle.ept_table.proofs.ByKey.{open-there}
 use Rattle.ept_phase.specs.Lines.{TellsNode, TellNodes}
 use Rattle.ept_phase.specs.LinesLaws.{HaveKeys}
 use Rattle.ept_phase.specs.Loaded.{OfCurrent}
@@ -85,24 +84,13 @@ counts-told (b ∷ nodes) (l ∷ lines) told =
 
 -- ---- open octants of the entries
 
-open_step : (e : Entry) (es : List Entry) (key : VoxelKey) (o : ℕ) (b : Bool) → same_key e.0 key ≡ b → (has_open (node_at es key) o ≡ true → has_node es key ≡ true) → has_open (node_at (e ∷ es) key) o ≡ true → has_node (e ∷ es) key ≡ true
-unfolding node_at has_node
-open_step e es key o true same more is = ap (λ (c : Bool). c || has_node es key) same
-open_step e es key o false same more is =
-    ap (λ (c : Bool). c || has_node es key) same ∙ more (sym (ap (λ (c : Bool). has_open (cond c e.1 (node_at es key)) o) same) ∙ is)
-
-open_node : (es : List Entry) (key : VoxelKey) (o : ℕ) → has_open (node_at es key) o ≡ true → has_node es key ≡ true
-unfolding node_at has_node
-open_node [] key o is = absurd (blank_open o is)
-open_node (e ∷ es) key o is = open_step e es key o (same_key e.0 key) refl (open_node es key o) is
-
 module _ (nodes : List Branch) (ascend : AreAscending (state.keys_of (map entry_of nodes))) where
   abbrev es : List Entry
   es = map entry_of nodes
 
   open_of : (b : Branch) (o : ℕ) → IsMember b nodes → o < 8 → has_open (node_at es b.0) o ≡ opened b.1.mask o
   open_of b o m low =
-      ap (λ (n : core.Node). has_open n o) (node_at-member es (entry_of b) (IsRising-AllPairs (state.keys_of es) ascend) (IsMember-map entry_of b nodes m)) ∙ has_open_then b.1 o low
+      ap (λ (n : core.Node). has_open n o) (node_at-member es (entry_of b) (IsRising-AllPairs (state.keys_of es) ascend) (IsMember-map entry_of b nodes m)) ∙ (seen-stands b.1).opens o low
 
   branch_of : (key : VoxelKey) → has_node es key ≡ true → (b : Branch) × IsMember b nodes × (b.0 ≡ key)
   branch_of key is =
@@ -112,7 +100,7 @@ module _ (nodes : List Branch) (ascend : AreAscending (state.keys_of (map entry_
 
 -- ---- from the nodes to the lines
 
-module _ (nodes : List Branch) (lines : List NodeLine) (told : TellNodes nodes lines) (whole : AreWhole [] (map entry_of nodes)) where
+module _ (nodes : List Branch) (lines : List NodeLine) (told : TellNodes nodes lines) (whole : AreWhole (map entry_of nodes)) where
   abbrev here : List Entry
   here = map entry_of nodes
 
@@ -128,19 +116,15 @@ module _ (nodes : List Branch) (lines : List NodeLine) (told : TellNodes nodes l
   among_node : (key : VoxelKey) → IsMember key keys → has_node here key ≡ true
   among_node key m = key-has_node here key (subst (λ (w : List VoxelKey). IsMember key w) (sym same_keys) m)
 
-  known_node : (key : VoxelKey) → IsKnown [] here key → has_node here key ≡ true
-  known_node key (inl node) = node
-  known_node key (inr (a, m, at)) = absurd m
-
   child_told : (l : NodeLine) (o : ℕ) → IsMember l lines → o < 8 → opened l.mask o ≡ true → is_among keys (child l.key o) ≡ true
   child_told l o m low is =
       let b = line-node nodes lines l told m in
       let open_there : has_open (node_at here b.0.0) o ≡ true = open_of nodes whole.ascend b.0 o b.1 low ∙ (ap (λ (w : ℕ). opened w o) (sym b.2.mask) ∙ is) in
-      let there : is_among keys (child b.0.0 o) ≡ true = node_among (child b.0.0 o) (known_node (child b.0.0 o) (whole.open_leads b.0.0 o low open_there)) in
+      let there : is_among keys (child b.0.0 o) ≡ true = node_among (child b.0.0 o) (whole.open_leads b.0.0 o low open_there) in
       ap (λ (k : VoxelKey). is_among keys (child k o)) b.2.key ∙ there
 
   told_child : (l : NodeLine) (o : ℕ) → IsMember l lines → o < 8 → is_among keys (child l.key o) ≡ true → opened l.mask o ≡ true
-  told_child l o m low is = by_below (whole.below_open (child l.key o) (inl (among_node (child l.key o) (among-member keys (child l.key o) is))))
+  told_child l o m low is = by_below (whole.below_open (child l.key o) (among_node (child l.key o) (among-member keys (child l.key o) is)))
     where
       by_below : (child l.key o ≡ root) ⊎ IsBelowOpen here (child l.key o) → opened l.mask o ≡ true
       by_below (inl at) = let deep = depth-child l.key o in absurd (omega (arith, deep, ap (λ (k : VoxelKey). k.depth) at))
@@ -157,13 +141,13 @@ module _ (nodes : List Branch) (lines : List NodeLine) (told : TellNodes nodes l
       both_ways (bit_at l.mask o == 1) (is_among keys (child l.key o)) (child_told l o m low) (told_child l o m low)
 
   parents : (key : VoxelKey) → IsMember key keys → HasParent keys key
-  parents key m deep = by_below (whole.below_open key (inl (among_node key m)))
+  parents key m deep = by_below (whole.below_open key (among_node key m))
     where
       by_below : (key ≡ root) ⊎ IsBelowOpen here key → is_among keys (parent key) ≡ true
       by_below (inl at) = absurd (omega (arith, deep, ap (λ (k : VoxelKey). k.depth) at))
       by_below (inr below) =
           ap (λ (k : VoxelKey). is_among keys (parent k)) below.is_child
-          ∙ (ap (λ (k : VoxelKey). is_among keys k) (parent-child below.above below.octant) ∙ node_among below.above (open_node here below.above below.octant below.is_open))
+          ∙ (ap (λ (k : VoxelKey). is_among keys k) (parent-child below.above below.octant) ∙ node_among below.above (open-there here below.above below.octant below.is_open))
 
   pub whole-told : AreNodesOf (length (points_in nodes)) lines
   whole-told = record {
@@ -238,20 +222,19 @@ module _ (nodes : List Branch) (lines : List NodeLine) (told : TellNodes nodes l
   top_or_deep zero = inl refl
   top_or_deep (suc n) = inr (omega arith)
 
-  below_of : (key : VoxelKey) → IsKnown [] now key → (key ≡ root) ⊎ IsBelowOpen now key
-  below_of key (inl node) = below key (node_ks key node) (top_or_deep key.depth)
-  below_of key (inr (a, m, at)) = absurd m
+  below_of : (key : VoxelKey) → has_node now key ≡ true → (key ≡ root) ⊎ IsBelowOpen now key
+  below_of key node = below key (node_ks key node) (top_or_deep key.depth)
 
-  leads : (key : VoxelKey) (o : ℕ) → o < 8 → has_open (node_at now key) o ≡ true → IsKnown [] now (child key o)
+  leads : (key : VoxelKey) (o : ℕ) → o < 8 → has_open (node_at now key) o ≡ true → has_node now (child key o) ≡ true
   leads key o low is =
-      let b = branch_of nodes rises key (open_node now key o is) in
+      let b = branch_of nodes rises key (open-there now key o is) in
       let l = node-line nodes lines b.0 told b.1 in
       let open_there : has_open (node_at now b.0.0) o ≡ true = subst (λ (k : VoxelKey). has_open (node_at now k) o ≡ true) (sym b.2) is in
       let open_line : opened l.0.mask o ≡ true = ap (λ (w : ℕ). opened w o) l.2.mask ∙ (sym (open_of nodes rises b.0 o b.1 low) ∙ open_there) in
       let there : is_among ks (child l.0.key o) ≡ true = sym (tells_open l.0 o l.1 low) ∙ open_line in
-      inl (ks_node (child key o) (ap (λ (k : VoxelKey). is_among ks (child k o)) (sym (l.2.key ∙ b.2)) ∙ there))
+      ks_node (child key o) (ap (λ (k : VoxelKey). is_among ks (child k o)) (sym (l.2.key ∙ b.2)) ∙ there)
 
-  pub told-whole : AreWhole [] now
+  pub told-whole : AreWhole now
   told-whole = record {
     ascend = rises;
     rooted = ks_node root octree.rooted;

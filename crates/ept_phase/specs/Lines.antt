@@ -5,7 +5,7 @@ use Rattle.ept_base.specs.Files.{Files}
 use Rattle.ept_point.specs.Packed.{tile}
 use Rattle.ept_ckpt.specs.declared.node_line.NodeLine.{NodeLine}
 use Rattle.ept_save.specs.Current.{tile_of_line}
-use Rattle.ept_tree.specs.Tree.{Branch}
+use Rattle.ept_table.specs.Octree.{Branch}
 
 -- a line tells of a node: its key, its open octants, and how many points it has
 pub record TellsNode (b : Branch) (line : NodeLine) : Type 0 where

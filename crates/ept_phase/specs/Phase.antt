@@ -9,7 +9,7 @@ use Rattle.ept_ckpt.specs.Valid.{ExtentInRange}
 use Rattle.ept_save.specs.Names.{IsSavedName}
 use Rattle.ept_save.specs.Current.{Current, IsCurrent, Keeps}
 use Rattle.ept_save.specs.View.{View, next_letter, next_generation}
-use Rattle.ept_tree.specs.Tree.{Branch}
+use Rattle.ept_table.specs.Octree.{Branch}
 use Rattle.ept_phase.specs.Lines.{TellNodes, NameTiles}
 
 -- what is given of the inputs: a count of each, within the bounds, and of all no fewer points than are inserted

@@ -9,8 +9,7 @@ use Rattle.ept_sample.specs.SamplingLaws.{CanBeSampled}
 use Rattle.ept_ckpt.specs.declared.node_line.NodeLine.{NodeLine}
 use Rattle.ept_ckpt.specs.Octree.{AreWholeOctree}
 use Rattle.ept_save.specs.Sound.{IsSavedAs}
-use Rattle.ept_tree.specs.Tree.{Branch}
-use Rattle.ept_tree.specs.TreeLaws.{AreSampled}
+use Rattle.ept_table.specs.Octree.{Branch, AreSampled}
 use Rattle.ept_phase.specs.Lines.{TellNodes, NameTiles}
 
 -- nodes of which the lines of some points' sampling tell, with the tiles that they name, are those of the sampling

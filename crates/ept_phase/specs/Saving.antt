@@ -15,7 +15,7 @@ use Rattle.ept_save.specs.Lines.{with_line}
 use Rattle.ept_save.specs.Loading.{current_line, OfLine, HasTile}
 use Rattle.ept_save.specs.Opening.{lines_of}
 use Rattle.ept_save.specs.View.{View}
-use Rattle.ept_tree.specs.Tree.{Branch}
+use Rattle.ept_table.specs.Octree.{Branch}
 
 -- the current checkpoint tells of a node of the key with these open octants and so many points
 abbrev pub IsTold : Current → VoxelKey → ℕ → List Point → Type 0

@@ -9,6 +9,6 @@ mod saving;
 
 pub use error::LoadError;
 pub use laws::{lines_law, saved_law};
-pub use loading::load_tree;
-pub use phase::save_tree;
+pub use loading::load_octree;
+pub use phase::save_octree;
 pub use saving::save_node;

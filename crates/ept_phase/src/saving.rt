@@ -16,15 +16,16 @@ ghost use Rattle.ept_save.specs.View as view;
 ghost use Rattle.ept_save.specs.View.{StandsFor};
 ghost use Rattle.ept_phase.specs.Lines.{TellNodes, NameTiles};
 ghost use Rattle.ept_phase.specs.Loaded.{HasNoDamage};
+ghost use Rattle.ept_forest.specs.Slots as trees;
+ghost use Rattle.ept_octree.specs.Octree.{forest_of, rules_of, nodes_of};
 ghost use Rattle.ept_phase.specs.Saving.{HasNode, IsTold, SavesNode, AreKnown, HasEachNodeOf, IsSaveFault};
 
-use ept_base::Store;
-use ept_grid::Grid;
+use ept_base::{SpillFile, Store};
+use ept_octree::Octree;
 use ept_point::Point;
 use ept_save::{SaveError, Saved, load_tile, save_tile, sound_steps_law};
 use ept_space::Key;
 use std::alloc::Global;
-use std::collections::BTreeMap;
 
 /// Saves a node for the next checkpoint: notes its line and puts its tile, unless the current checkpoint has the
 /// node as it is. Whether it has is found by the number of points and the open octants and, where these are
@@ -138,17 +139,17 @@ fn has_points<T: Store>(
 }
 
 // Saves the nodes of an octree, among which is each that the current checkpoint has.
-pub(crate) fn save_nodes<T: Store>(
+pub(crate) fn save_nodes<T: Store, F: SpillFile>(
     alloc: Global,
     store: &mut T,
     saved: &mut Saved,
-    nodes: &BTreeMap<Key, Grid>,
+    octree: &mut Octree<F>,
 ) -> Result<(), SaveError>
     requires fresh { saved.old.lines ≡ lines_of saved.old.current }
-    requires each { HasEachNodeOf saved.old.current nodes.now.entries }
-    ensures told { OnOk result (TellNodes nodes.now.entries saved.new.lines) }
-    ensures tiles { OnOk result (Tells (λ all. NameTiles all nodes.now.entries saved.new.lines) (T.files store.new)) }
-    ensures known { OnOk result (AreKnown nodes.now.entries) }
+    requires each { HasEachNodeOf saved.old.current (nodes_of octree.old) }
+    ensures told { OnOk result (TellNodes (nodes_of octree.old) saved.new.lines) }
+    ensures tiles { OnOk result (Tells (λ all. NameTiles all (nodes_of octree.old) saved.new.lines) (T.files store.new)) }
+    ensures known { OnOk result (AreKnown (nodes_of octree.old)) }
     ensures lines { saved.new ≡ record saved.old { lines = saved.new.lines } }
     ensures keeps { Moves T.files T.may_leave T.moment T.image_since
         (Keeps saved.old.current) store.old store.new }
@@ -162,15 +163,20 @@ pub(crate) fn save_nodes<T: Store>(
     ensures sound { (shelf all : Files) → T.files store.old ≡ Some all → IsSound shelf all
         → HasCurrent saved.old.current all → IfErr result IsStores }
     ensures cause { HasCauseOf SaveError.StoreFault (T.faults store.old) (T.faults store.new) result }
+    ensures nodes { trees.nodes_of (forest_of octree.new) ≡ trees.nodes_of (forest_of octree.old) }
+    ensures same { nodes_of octree.new ≡ nodes_of octree.old }
+    ensures rules { rules_of octree.new ≡ rules_of octree.old }
 {
     sound_steps_law();
+    octree.len();
+    let keys = octree.keys(alloc)?;
     let mut points = Vec::new(alloc);
-    for (key, node) in nodes.iter() {
+    for key in &keys {
         key.known();
-        node.known();
         points.clear();
-        node.points_into(&mut points)?;
-        save_node(alloc, store, saved, *key, node.open_mask(), &points)?;
+        octree.points_into(key, &mut points)?;
+        let mask = octree.open_mask(key);
+        save_node(alloc, store, saved, *key, mask, &points)?;
     }
     Ok(())
 }

@@ -1,15 +1,25 @@
 //! Phases in a store in memory, whose first checkpoint is written out by hand.
 
-ghost use Rattle.std.specs.Prelude.{◌≤◌};
+ghost use Rattle.std.specs.Prelude.{◌≡◌, ◌≤◌, ◌∷◌, [], IfOk, map};
+ghost use Rattle.ept_space.specs.VoxelKey.{root};
+ghost use Rattle.ept_ckpt.specs.declared.checkpoint.Checkpoint as c;
+ghost use Rattle.ept_ckpt.specs.Octree as ckpt;
+ghost use Rattle.ept_meta.specs.Output as meta;
+ghost use Rattle.ept_node.specs.Shown.{empty_node};
+ghost use Rattle.ept_octree.specs.Octree.{rules_of, nodes_of};
+ghost use Rattle.ept_phase.specs.Loaded.{OfCurrent};
+ghost use Rattle.ept_save.specs.Opening.{lines_of};
 
-use ept_config::total_of;
-use ept_mem::MemStore;
+use ept_base::SpillFile;
+use ept_ckpt::NodeLine;
+use ept_fixtures::small_rules;
+use ept_mem::{MemRoom, MemStore};
 use ept_meta::rules_of;
-use ept_phase::{LoadError, lines_law, load_tree, save_tree};
+use ept_octree::Octree;
+use ept_phase::{LoadError, lines_law, load_octree, save_octree};
 use ept_point::{Point, tile_bytes};
-use ept_sample::are_in_cube;
-use ept_save::{SaveError, open};
-use ept_space::{Key, child};
+use ept_save::{SaveError, Saved, open};
+use ept_space::{Key, Rules, child};
 use std::alloc::{AllocError, Global};
 use std::fmt::Debug;
 use std::process::Abort;
@@ -64,11 +74,18 @@ fn tile_of(alloc: Global, points: &[Point]) -> Result<Vec<u8>, Fail> {
     Ok(tile)
 }
 
-// A store with a checkpoint of which two points are inserted. Both lie at 0, in one cell of the root, so the first
-// stays there; the lower node's tile has these points.
-fn store_of(alloc: Global, below: &[Point]) -> Result<MemStore, Fail> {
-    let body = body(alloc, 1, 2, 0)?;
-    let root = tile_of(alloc, &[point(0, 0)])?;
+// A store whose current checkpoint is of this generation, with so many points inserted, and the root and the lower
+// node under letter a: their tiles have these points. Points at 0 lie in one cell of the root, so the first of them
+// stays there.
+fn store_of(
+    alloc: Global,
+    generation: u8,
+    inserted: u8,
+    root: &[Point],
+    below: &[Point],
+) -> Result<MemStore, Fail> {
+    let body = body(alloc, generation, inserted, 0)?;
+    let root = tile_of(alloc, root)?;
     let below = tile_of(alloc, below)?;
     let mut files = Vec::new(alloc);
     for (name, bytes) in [
@@ -82,52 +99,97 @@ fn store_of(alloc: Global, below: &[Point]) -> Result<MemStore, Fail> {
     Ok(MemStore::new(alloc, files, Vec::new(alloc)))
 }
 
+// The rules that the current checkpoint keeps, where there is one.
+fn rules_for(saved: &Saved) -> Rules
+    ensures { OfCurrent saved.now.current (λ (c : c.Checkpoint). result ≡ meta.rules_of c.kept) }
+{
+    match saved.current() {
+        Some(checkpoint) => rules_of(&checkpoint.kept),
+        None => small_rules(0),
+    }
+}
+
 // How many nodes of at most so many are loaded, or why they are not.
-fn loaded(
-    alloc: Global,
-    store: &mut MemStore,
-    most: u64,
-) -> Result<Option<Result<usize, LoadError>>, Fail>
+fn loaded(alloc: Global, store: &mut MemStore, most: u32) -> Result<Result<u64, LoadError>, Fail>
     requires { 1 ≤ most }
 {
     let saved = open(alloc, store)?;
-    let Some(checkpoint) = saved.current() else {
-        return Ok(None);
-    };
-    let rules = rules_of(&checkpoint.kept);
-    let loaded = load_tree(alloc, store, &saved, &rules, most);
-    Ok(Some(loaded.map(|tree| tree.nodes().len())))
+    let mut room = MemRoom::new(alloc, Vec::new(alloc), Vec::new(alloc));
+    let mut octree = Octree::new(alloc, &mut room, most, &rules_for(&saved))?;
+    let outcome = load_octree(alloc, store, &saved, &mut octree);
+    let nodes = octree.len();
+    octree.retire_all(&mut room);
+    Ok(outcome.map(|()| nodes))
 }
 
-// Loads the octree of the current checkpoint, brings the next point into it, and saves it.
-fn save_next(alloc: Global, store: &mut MemStore, next: Point) -> Result<bool, Fail> {
-    let mut saved = open(alloc, store)?;
-    let Some(checkpoint) = saved.current() else {
+fn expect_loaded(
+    rt: &impl Abort,
+    alloc: Global,
+    store: &mut MemStore,
+    most: u32,
+    wanted: Result<u64, LoadError>,
+) -> Result<(), Fail>
+    requires { 1 ≤ most }
+{
+    let found = loaded(alloc, store, most)?;
+    same_at(rt, &found, &wanted, &most);
+    Ok(())
+}
+
+// The keys of lines.
+fn keys_of(alloc: Global, lines: &[NodeLine]) -> Result<Vec<Key>, AllocError>
+    ensures { IfOk result (λ keys. keys.items ≡ ckpt.keys_of lines.now) }
+{
+    let mut keys = Vec::new(alloc);
+    for line in lines {
+        keys.push(line.key)?;
+    }
+    Ok(keys)
+}
+
+// Loads the octree of the current checkpoint of a later store into a new one, and makes it the next checkpoint of a
+// store whose current one has the same keys.
+fn save_later<F: SpillFile>(
+    alloc: Global,
+    store: &mut MemStore,
+    saved: &mut Saved,
+    later: &mut MemStore,
+    next: &Saved,
+    octree: &mut Octree<F>,
+) -> Result<bool, Fail>
+    requires fresh { saved.old.lines ≡ lines_of saved.old.current }
+    requires new { nodes_of octree.old ≡ (root, empty_node root (rules_of octree.old)) ∷ [] }
+    requires rules { OfCurrent next.now.current (λ (c : c.Checkpoint). rules_of octree.old ≡ meta.rules_of c.kept) }
+{
+    let (Some(first), Some(second)) = (saved.current(), next.current()) else {
         return Ok(false);
     };
-    let kept = checkpoint.kept.copy(alloc)?;
-    let counts = Vec::from_slice(alloc, checkpoint.counts.as_slice())?;
-    let rules = rules_of(&kept);
-    let mut grown = load_tree(alloc, store, &saved, &rules, 9)?;
-    let inserted = checkpoint.inserted;
-    if inserted >= total_of(&counts) {
-        return Ok(false);
+    load_octree(alloc, later, next, octree)?;
+    let before = keys_of(alloc, first.nodes.as_slice())?;
+    let keys = octree.keys(alloc)?;
+    let inputs = first.kept.inputs.as_slice().len();
+    if before.as_slice() == keys.as_slice()
+        && first.inserted < second.inserted
+        && inputs <= second.kept.inputs.as_slice().len()
+    {
+        lines_law();
+        let counts = second.counts.as_slice();
+        let inserted = second.inserted;
+        save_octree(alloc, store, saved, octree, &second.kept, counts, inserted)?;
+        return Ok(true);
     }
-    if !are_in_cube(&[next], &rules.cube) {
-        return Ok(false);
-    }
-    lines_law();
-    grown.insert_all(&[next], 9)?;
-    save_tree(
-        alloc,
-        store,
-        &mut saved,
-        &grown,
-        &kept,
-        &counts,
-        inserted + 1,
-    )?;
-    Ok(true)
+    Ok(false)
+}
+
+// The same with an octree of its own.
+fn save_next(alloc: Global, store: &mut MemStore, later: &mut MemStore) -> Result<bool, Fail> {
+    let mut saved = open(alloc, store)?;
+    let next = open(alloc, later)?;
+    let mut room = MemRoom::new(alloc, Vec::new(alloc), Vec::new(alloc));
+    let mut octree = Octree::new(alloc, &mut room, 2, &rules_for(&next))?;
+    let outcome = save_later(alloc, store, &mut saved, later, &next, &mut octree);
+    octree.retire_all(&mut room);
+    outcome
 }
 
 fn expect_file(rt: &impl Abort, store: &MemStore, name: &str, wanted: &[u8]) {
@@ -156,27 +218,24 @@ fn expect_second(rt: &impl Abort, alloc: Global, store: &MemStore) -> Result<(),
 #[test]
 fn of_an_octree_only_the_tile_that_changed_is_put(rt: HostRuntime) -> Result<(), Fail> {
     let alloc = rt.alloc();
-    let mut store = store_of(alloc, &[point(1, 0)])?;
-    same(&rt, &loaded(alloc, &mut store, 2)?, &Some(Ok(2)));
-    same(&rt, &save_next(alloc, &mut store, point(2, 3))?, &true);
+    let mut store = store_of(alloc, 1, 2, &[point(0, 0)], &[point(1, 0)])?;
+    let mut later = store_of(alloc, 3, 3, &[point(0, 0), point(2, 3)], &[point(1, 0)])?;
+    same(&rt, &save_next(alloc, &mut store, &mut later)?, &true);
     expect_first(&rt, alloc, &store)?;
     expect_second(&rt, alloc, &store)?;
-    same(&rt, &loaded(alloc, &mut store, 2)?, &Some(Ok(2)));
-    Ok(())
+    expect_loaded(&rt, alloc, &mut store, 2, Ok(2))
 }
 
 #[test]
-fn a_damaged_tile_is_told_by_its_key(rt: HostRuntime) -> Result<(), Fail> {
+fn an_octree_is_loaded_or_told_why_not(rt: HostRuntime) -> Result<(), Fail> {
     let alloc = rt.alloc();
-    let mut none = store_of(alloc, &[])?;
+    let mut whole = store_of(alloc, 1, 2, &[point(0, 0)], &[point(1, 0)])?;
+    let mut none = store_of(alloc, 1, 2, &[point(0, 0)], &[])?;
+    let mut empty = MemStore::new(alloc, Vec::new(alloc), Vec::new(alloc));
     let key = child(&Key::ROOT, 0);
     let damaged = LoadError::Save(SaveError::TileDamaged { key });
-    same(&rt, &loaded(alloc, &mut none, 2)?, &Some(Err(damaged)));
-    let mut many = store_of(alloc, &[point(1, 0)])?;
-    same(
-        &rt,
-        &loaded(alloc, &mut many, 1)?,
-        &Some(Err(LoadError::TooManyNodes)),
-    );
-    Ok(())
+    expect_loaded(&rt, alloc, &mut whole, 2, Ok(2))?;
+    expect_loaded(&rt, alloc, &mut whole, 1, Err(LoadError::TooManyNodes))?;
+    expect_loaded(&rt, alloc, &mut none, 2, Err(damaged))?;
+    expect_loaded(&rt, alloc, &mut empty, 1, Ok(1))
 }

@@ -1,12 +1,10 @@
 -- The files of a sampling have different names.
 use Rattle.std.proofs.Common.{◌≡◌, ◌≢◌, ◌∙◌, inl, inr, ℕ, Bool, true, false, List, [], ◌∷◌, ◌++◌, map, refl, sym, ap, subst, Option}
-use Rattle.std.specs.Prelude.{filter, AllPairs}
-use Rattle.std.specs.List.Sorted.{IsStrictlySortedBy}
-use Rattle.std.specs.declared.cmp.Ordering.TheVariants.{Less}
+use Rattle.std.specs.Prelude.{filter}
 use Rattle.ept_point.specs.declared.point.Point.{Point}
 use Rattle.ept_space.specs.declared.bounds.Bounds.{Bounds}
 use Rattle.ept_space.specs.declared.cube.Rules.{Rules}
-use Rattle.ept_space.specs.VoxelKey.{VoxelKey, IsKey, key_cmp}
+use Rattle.ept_space.specs.VoxelKey.{VoxelKey, IsKey, AreAscending}
 use Rattle.ept_sample.specs.declared.tiles.Tile.{Tile}
 use Rattle.ept_sample.specs.SamplingLaws.{CanBeSampled}
 use Rattle.ept_sample.specs.Nodes.{node_keys, tile_at, sampled}
@@ -14,14 +12,13 @@ use Rattle.ept_sample.specs.Members.{IsMember}
 use Rattle.ept_sample.proofs.Members.{IsMember-filter, member-map, IsMember-append}
 use Rattle.ept_sample.proofs.Ascending.{IsRising, IsRising-filter}
 use Rattle.ept_sample.proofs.Choices.{not_both}
-use Rattle.ept_sample.proofs.KeyOrder.{key_before, key_order, AllPairs-IsRising}
+use Rattle.ept_sample.proofs.KeyOrder.{key_before, key_order}
 use Rattle.ept_sample.proofs.NodeLaws.{IsMember-node_keys, IsRising-node_keys}
 use Rattle.ept_sample.proofs.SamplingLaws.{node-IsKey}
-use Rattle.ept_core.proofs.Lookups.{sorted-rising}
 use Rattle.ept_config.specs.declared.kept.Kept.{Kept}
 use Rattle.ept_config.specs.declared.source_count.SourceCount.{SourceCount}
 use Rattle.ept_hier.specs.Hierarchy.{Node, file_of, has_file, hierarchy, keys_of, KeysAscend}
-use Rattle.ept_tree.specs.Tree as tree
+use Rattle.ept_table.specs.Octree as octree
 use Rattle.ept_meta.specs.declared.names.TheConstants.{METADATA, MANIFEST, BUILD_FILE}
 use Rattle.ept_meta.specs.EptText.{ept_text}
 use Rattle.ept_meta.specs.ManifestText.{manifest_text}
@@ -152,13 +149,12 @@ module _ (rules : Rules) (points : List Point) (can : CanBeSampled rules points)
               subst (λ (h : File). h.0 ≢ y.0) at.2 (among_texts (hierarchy_name at.0.key) (hierarchy-metadata at.0.key) (hierarchy-manifest at.0.key) (hierarchy-build at.0.key) y n))
         ])
 
--- ---- the keys of a tree's nodes ascend
+-- ---- the keys of an octree's nodes ascend
 
-branch_keys : (entries : List tree.Branch) → keys_of (map counted (map tree.tile_of entries)) ≡ map (λ (b : tree.Branch). b.0) entries
+branch_keys : (nodes : List octree.Branch) → keys_of (map counted (map octree.tile_of nodes)) ≡ map octree.key_of nodes
 branch_keys [] = refl
 branch_keys (b ∷ bs) = ap (λ (w : List VoxelKey). b.0 ∷ w) (branch_keys bs)
 
-pub keys-ascend : (entries : List tree.Branch) → IsStrictlySortedBy key_cmp (map (λ (b : tree.Branch). b.0) entries) → KeysAscend (map counted (map tree.tile_of entries))
+pub keys-ascend : (nodes : List octree.Branch) → AreAscending (map octree.key_of nodes) → KeysAscend (map counted (map octree.tile_of nodes))
 unfolding KeysAscend
-keys-ascend entries sorted =
-    subst (λ (w : List VoxelKey). AllPairs (λ a b. key_cmp a b ≡ Less) w) (sym (branch_keys entries)) (AllPairs-IsRising (map (λ (b : tree.Branch). b.0) entries) (sorted-rising (map (λ (b : tree.Branch). b.0) entries) sorted))
+keys-ascend nodes ascend = subst (λ (w : List VoxelKey). AreAscending w) (sym (branch_keys nodes)) ascend

@@ -1,5 +1,5 @@
 -- Only names of these files change, at every moment.
-use Rattle.std.proofs.Common.{◌≡◌, ◌∙◌, inl, ℕ, ◌<◌, List, length, get_or, [], ◌∷◌, ◌++◌, map, refl, sym, subst, Option}
+use Rattle.std.proofs.Common.{◌≡◌, ◌∙◌, ℕ, ◌<◌, List, length, get_or, [], ◌∷◌, ◌++◌, map, refl, sym, subst, Option}
 use Rattle.std.specs.Prelude.{Contains}
 use Rattle.std.proofs.lemmas.List.{map-append}
 use Rattle.std.proofs.lemmas.List.Elements.{Contains-append_left, Contains-append_right}
@@ -7,14 +7,15 @@ use Rattle.ept_base.specs.Files.{Files, SameFiles, SameBut, StepsBy}
 use Rattle.ept_base.specs.Moves.{Follows, NoMore, Elapses, Moves}
 use Rattle.ept_base.proofs.Moving.{moves_once, moves_weaker, moves_both}
 use Rattle.ept_sample.specs.Members.{IsMember}
-use Rattle.ept_sample.proofs.Members.{IsMember-right, IsMember-map, IsMember-contains, contains-IsMember}
+use Rattle.ept_sample.proofs.Members.{IsMember-map, IsMember-contains, contains-IsMember}
 use Rattle.ept_space.specs.declared.bounds.Bounds.{Bounds}
+use Rattle.ept_space.specs.VoxelKey.{VoxelKey}
 use Rattle.ept_sample.specs.declared.tiles.Tile.{Tile}
 use Rattle.ept_config.specs.declared.kept.Kept.{Kept}
 use Rattle.ept_config.specs.declared.source_count.SourceCount.{SourceCount}
 use Rattle.ept_hier.specs.declared.file.HierFile.{HierFile}
 use Rattle.ept_hier.specs.Hierarchy.{hierarchy}
-use Rattle.ept_tree.specs.Tree.{Branch, tile_of}
+use Rattle.ept_table.specs.Octree.{Branch, tile_of}
 use Rattle.ept_meta.specs.EptText.{ept_text}
 use Rattle.ept_meta.specs.ManifestText.{manifest_text}
 use Rattle.ept_meta.specs.BuildText.{build_text}
@@ -35,11 +36,10 @@ pub names-right : (xs ys : List File) (name : List ℕ) → Contains (names_of y
 names-right xs ys name has =
     subst (λ (w : List (List ℕ)). Contains w name) (sym (map-append (λ (f : File). f.0) xs ys)) (Contains-append_right (names_of xs) (names_of ys) name has)
 
--- an entry after others has its tile among the files
-pub tile-named : (all before after : List Branch) (b : Branch) → all ≡ before ++ b ∷ after → Contains (names_of (map tile_file (map tile_of all))) (tile_name b.0)
-tile-named all before after b is =
-    let m : IsMember b all = subst (λ (w : List Branch). IsMember b w) (sym is) (IsMember-right b before (b ∷ after) (inl refl)) in
-    has-name (tile_file (tile_of b)) (map tile_file (map tile_of all)) (IsMember-map tile_file (tile_of b) (map tile_of all) (IsMember-map tile_of b all m))
+-- a node has its tile among the files
+pub tile-named : (nodes : List Branch) (b : Branch) → IsMember b nodes → Contains (names_of (map tile_file (map tile_of nodes))) (tile_name b.0)
+tile-named nodes b m =
+    has-name (tile_file (tile_of b)) (map tile_file (map tile_of nodes)) (IsMember-map tile_file (tile_of b) (map tile_of nodes) (IsMember-map tile_of b nodes m))
 
 -- an item of a list has its file among the files
 pub file-named : {X : Type 0} (f : X → File) (xs : List X) (i : ℕ) (x : X) → i < length xs → x ≡ get_or xs i x → Contains (names_of (map f xs)) (f x).0
@@ -79,6 +79,12 @@ module _ {D : Type 0} (files : D → Option Files) (may_leave : D → Files → 
   -- of a name among these
   pub put-these : (name : List ℕ) (names : List (List ℕ)) → Contains names name → (old new : D) → Moves files may_leave moment image_since (SameBut name) old new → Moves files may_leave moment image_since (SameButThese names) old new
   put-these name names has = moves_weaker files may_leave moment image_since (SameBut name) (SameButThese names) (put_widens name names has)
+
+  -- so the tile of a node, where these are the tiles of the nodes
+  pub tile-these : (nodes : List Branch) (b : Branch) (key : VoxelKey) → IsMember b nodes → b.0 ≡ key → (old new : D) → Moves files may_leave moment image_since (SameBut (tile_name key)) old new → Moves files may_leave moment image_since (SameButThese (names_of (map tile_file (map tile_of nodes)))) old new
+  tile-these nodes b key m same =
+      let names : List (List ℕ) = names_of (map tile_file (map tile_of nodes)) in
+      put-these (tile_name key) names (subst (λ (k : VoxelKey). Contains names (tile_name k)) same (tile-named nodes b m))
 
   module _ (names : List (List ℕ)) where
     -- one move, then another

@@ -1,6 +1,6 @@
 //! The files of the output that are no tiles, as texts; and those of them that stand once.
 
-ghost use Rattle.std.specs.Prelude.{◌≡◌, ◌∷◌, [], IfOk, OnOk, length, map};
+ghost use Rattle.std.specs.Prelude.{◌≡◌, ◌∷◌, [], IfOk, OnOk, length};
 ghost use Rattle.ept_base.specs.Causes.{HasCauseOf};
 ghost use Rattle.ept_base.specs.Files.{StepsBy};
 ghost use Rattle.ept_base.specs.Moves.{Moves};
@@ -8,19 +8,16 @@ ghost use Rattle.ept_meta.specs.EptText.{ept_text};
 ghost use Rattle.ept_meta.specs.ManifestText.{manifest_text};
 ghost use Rattle.ept_meta.specs.BuildText.{build_text};
 ghost use Rattle.ept_hier.specs.Hierarchy.{hierarchy, KeysAscend};
-ghost use Rattle.ept_tree.specs.Tree.{tile_of};
-ghost use Rattle.ept_meta.specs.Output.{metadata_name, manifest_name, build_file_name, counted};
+ghost use Rattle.ept_meta.specs.Output.{metadata_name, manifest_name, build_file_name};
 ghost use Rattle.ept_publish.specs.Publishing.{PutsAll, SameButThese};
 
 use ept_base::{PutError, Store};
 use ept_config::{Kept, SourceCount};
-use ept_grid::Grid;
 use ept_hier::{HierFile, hierarchy_files};
 use ept_meta::{BUILD_FILE, MANIFEST, METADATA, build_json, ept_json, manifest_json};
 use ept_point::Memory;
 use ept_space::{Bounds, Key};
-use std::alloc::{AllocError, Global};
-use std::collections::BTreeMap;
+use std::alloc::Global;
 
 /// The contents of the files that are no tiles.
 #[derive(Drop)]
@@ -31,23 +28,22 @@ pub(crate) struct Texts {
     pub(crate) build_file: Vec<u8>,
 }
 
-/// The contents of the files that are no tiles.
+/// The contents of the files that are no tiles. `nodes` has the key of each node, and how many points it has.
 pub(crate) fn texts_of(
     alloc: Global,
     kept: &Kept,
     counts: &[SourceCount],
     extent: &Option<Bounds>,
     points: u64,
-    nodes: &BTreeMap<Key, Grid>,
+    nodes: &[(Key, u64)],
 ) -> Result<Texts, Memory>
-    requires { length counts.now ≡ length kept.now.inputs }
-    ensures hierarchy { IfOk result (λ all. all.hierarchy.items
-        ≡ hierarchy kept.now.step (map counted (map tile_of nodes.now.entries))) }
+    requires each { length counts.now ≡ length kept.now.inputs }
+    requires ascend { KeysAscend nodes.now }
+    ensures hierarchy { IfOk result (λ all. all.hierarchy.items ≡ hierarchy kept.now.step nodes.now) }
     ensures metadata { IfOk result (λ all. all.metadata.items ≡ ept_text kept.now extent.now points) }
     ensures manifest { IfOk result (λ all. all.manifest.items ≡ manifest_text kept.now counts.now) }
     ensures build_file { IfOk result (λ all. all.build_file.items ≡ build_text kept.now) }
 {
-    let nodes = counts_of(alloc, nodes)?;
     let mut metadata = Vec::new(alloc);
     ept_json(kept, extent.as_ref(), points, &mut metadata)?;
     let mut manifest = Vec::new(alloc);
@@ -55,23 +51,11 @@ pub(crate) fn texts_of(
     let mut build_file = Vec::new(alloc);
     build_json(kept, &mut build_file)?;
     Ok(Texts {
-        hierarchy: hierarchy_files(alloc, &nodes, kept.step)?,
+        hierarchy: hierarchy_files(alloc, nodes, kept.step)?,
         metadata,
         manifest,
         build_file,
     })
-}
-
-// The keys of the nodes, and how many points each has.
-fn counts_of(alloc: Global, nodes: &BTreeMap<Key, Grid>) -> Result<Vec<(Key, u64)>, AllocError>
-    ensures counts { IfOk result (λ counts. counts.items ≡ map counted (map tile_of nodes.now.entries)) }
-    ensures ascend { IfOk result (λ counts. KeysAscend counts.items) }
-{
-    let mut counts = Vec::with_capacity(alloc, nodes.len())?;
-    for (key, node) in nodes.iter() {
-        counts.push((*key, node.count()))?;
-    }
-    Ok(counts)
 }
 
 /// Puts the metadata, the manifest and the build file.

@@ -1,61 +1,79 @@
 //! The tiles of the nodes.
 
-ghost use Rattle.std.specs.Prelude.{◌≡◌, IfOk, OnOk, map};
+ghost use Rattle.std.specs.Prelude.{◌≡◌, IfOk, OnOk, length, map};
 ghost use Rattle.ept_base.specs.Causes.{HasCauseOf};
 ghost use Rattle.ept_base.specs.Files.{SameBut, Puts, StepsBy};
 ghost use Rattle.ept_base.specs.Moves.{Moves};
 ghost use Rattle.ept_point.specs.Packed.{tile};
-ghost use Rattle.ept_tree.specs.Tree.{tile_of};
-ghost use Rattle.ept_meta.specs.Output.{tile_name, tile_file, names_of};
+ghost use Rattle.ept_forest.specs.Slots as trees;
+ghost use Rattle.ept_hier.specs.Hierarchy.{KeysAscend};
+ghost use Rattle.ept_table.specs.Octree.{tile_of};
+ghost use Rattle.ept_octree.specs.Octree.{forest_of, rules_of, nodes_of};
+ghost use Rattle.ept_octree.specs.Walking.{HasKey, IfNodeAt};
+ghost use Rattle.ept_meta.specs.Output.{counted, tile_name, tile_file, names_of};
 ghost use Rattle.ept_publish.specs.Publishing.{PutsAll, SameButThese};
 
-use ept_base::{PutError, Store};
-use ept_grid::Grid;
+use ept_base::{PutError, SpillFile, Store};
 use ept_meta::tile_name;
+use ept_octree::Octree;
 use ept_point::{Memory, Point, tile_bytes};
 use ept_space::Key;
 use std::alloc::Global;
-use std::collections::BTreeMap;
 
-/// Puts the tiles of the nodes.
-pub(crate) fn put_tiles<T: Store>(
+/// Puts the tiles of the nodes. Told are the keys of these, and how many points each has.
+pub(crate) fn put_tiles<T: Store, F: SpillFile>(
     alloc: Global,
     store: &mut T,
-    nodes: &BTreeMap<Key, Grid>,
-) -> Result<(), PutError>
-    ensures ok { OnOk result (StepsBy (PutsAll (map tile_file (map tile_of nodes.now.entries)))
+    octree: &mut Octree<F>,
+) -> Result<Vec<(Key, u64)>, PutError>
+    ensures counts { IfOk result (λ counts. counts.items ≡ map counted (map tile_of (nodes_of octree.old))) }
+    ensures ascend { IfOk result (λ counts. KeysAscend counts.items) }
+    ensures ok { OnOk result (StepsBy (PutsAll (map tile_file (map tile_of (nodes_of octree.old))))
         (T.files store.old) (T.files store.new)) }
     ensures any_moment { Moves T.files T.may_leave T.moment T.image_since
-        (SameButThese (names_of (map tile_file (map tile_of nodes.now.entries)))) store.old store.new }
+        (SameButThese (names_of (map tile_file (map tile_of (nodes_of octree.old))))) store.old store.new }
     ensures cause { HasCauseOf PutError.Failed (T.faults store.old) (T.faults store.new) result }
+    ensures nodes { trees.nodes_of (forest_of octree.new) ≡ trees.nodes_of (forest_of octree.old) }
+    ensures same { nodes_of octree.new ≡ nodes_of octree.old }
+    ensures rules { rules_of octree.new ≡ rules_of octree.old }
 {
-    for (key, node) in nodes.iter() {
-        put_node(alloc, store, key, node)?;
+    let Ok(keys) = octree.keys(alloc) else {
+        return Err(PutError::Memory);
+    };
+    let mut counts = Vec::with_capacity(alloc, keys.len())?;
+    let mut points = Vec::new(alloc);
+    for key in &keys {
+        let count = put_node(alloc, store, octree, key, &mut points)?;
+        counts.push((*key, count))?;
     }
-    Ok(())
+    Ok(counts)
 }
 
-// Puts the tile of a node.
-fn put_node<T: Store>(alloc: Global, store: &mut T, key: &Key, node: &Grid) -> Result<(), PutError>
-    ensures ok { OnOk result (StepsBy (Puts (tile_name key.now) (tile node.now.points))
-        (T.files store.old) (T.files store.new)) }
+// Puts the tile of the node of a key, and tells how many points it has. `points` is a list for them, whatever it has.
+fn put_node<T: Store, F: SpillFile>(
+    alloc: Global,
+    store: &mut T,
+    octree: &mut Octree<F>,
+    key: &Key,
+    points: &mut Vec<Point>,
+) -> Result<u64, PutError>
+    requires { HasKey (nodes_of octree.old) key.now }
+    ensures count { IfOk result (λ count. IfNodeAt (nodes_of octree.old) key.now (λ g. count ≡ length g.points)) }
+    ensures ok { OnOk result (IfNodeAt (nodes_of octree.old) key.now (λ g. StepsBy
+        (Puts (tile_name key.now) (tile g.points)) (T.files store.old) (T.files store.new))) }
     ensures any_moment { Moves T.files T.may_leave T.moment T.image_since
         (SameBut (tile_name key.now)) store.old store.new }
     ensures cause { HasCauseOf PutError.Failed (T.faults store.old) (T.faults store.new) result }
+    ensures nodes { trees.nodes_of (forest_of octree.new) ≡ trees.nodes_of (forest_of octree.old) }
+    ensures same { nodes_of octree.new ≡ nodes_of octree.old }
+    ensures rules { rules_of octree.new ≡ rules_of octree.old }
 {
-    let Ok(points) = points_of(alloc, node) else {
+    points.clear();
+    let Ok(()) = octree.points_into(key, points) else {
         return Err(PutError::Memory);
     };
-    put_tile(alloc, store, key, &points)
-}
-
-// The points of a node, in the order of their ids.
-fn points_of(alloc: Global, node: &Grid) -> Result<Vec<Point>, Memory>
-    ensures { IfOk result (λ points. points.items ≡ node.now.points) }
-{
-    let mut points = Vec::new(alloc);
-    node.points_into(&mut points)?;
-    Ok(points)
+    put_tile(alloc, store, key, points)?;
+    Ok(points.len() as u64)
 }
 
 // Puts the tile of the node of this key, which has these points.

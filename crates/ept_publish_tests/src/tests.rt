@@ -1,21 +1,37 @@
 //! The files of small outputs, put into a store in memory.
 
-use ept_base::PutError;
+ghost use Rattle.std.specs.Prelude.{◌≡◌, ◌∷◌, [], OnOk};
+ghost use Rattle.std.specs.BTreeMap.{insert_entry};
+ghost use Rattle.ept_space.specs.VoxelKey.{root, key_cmp};
+ghost use Rattle.ept_node.specs.Shown.{empty_node};
+ghost use Rattle.ept_octree.specs.Adding.{filled, IsFree};
+ghost use Rattle.ept_octree.specs.Octree.{rules_of, nodes_of};
+
+use ept_base::{PutError, SpillFile};
 use ept_config::SourceCount;
-use ept_grid::Grid;
-use ept_mem::MemStore;
+use ept_mem::{MemRoom, MemStore};
 use ept_meta::{read_build_json, rules_of};
+use ept_octree::Octree;
 use ept_point::Point;
 use ept_publish::{publish, published_law};
 use ept_sample::ids_ascend;
-use ept_space::{Bounds, Key, Rules};
+use ept_space::{Bounds, Key};
 use std::alloc::{AllocError, Global};
-use std::collections::BTreeMap;
 use std::process::Abort;
 use std::test::Fail;
 
-/// A node: its key, its open octants, and the place of its one point.
-type Node = (Key, u8, [i32; 3]);
+/// A node: its open octants, and its one point.
+type Node = (u8, Point);
+
+/// The root, and the node 1-0-0-0 where there is one.
+type Nodes = (Node, Option<Node>);
+
+const BELOW: Key = Key {
+    depth: 1,
+    x: 0,
+    y: 0,
+    z: 0,
+};
 
 const ROOT_FILE: &str = "{\"scale\":2,\"offset\":[0,0,0],\"bounds\":[0,0,0,7,7,7],\"span\":2,\
 \"minNodeSize\":4096,\"maxDepth\":32,\"hierarchyStep\":0,\"srs\":{},\
@@ -63,16 +79,41 @@ fn tile(number: u8, place: [u8; 3]) -> [u8; 49] {
     bytes
 }
 
-/// The node with this one point.
-fn grid(alloc: Global, rules: &Rules, node: &Node, number: u32) -> Result<Grid, AllocError> {
-    let (key, mask, place) = *node;
-    let points = [point(number, place)];
-    if key.depth > rules.cube.depth || !ids_ascend(&points) {
+/// Adds the node of a key with this one point.
+fn add<F: SpillFile>(
+    alloc: Global,
+    octree: &mut Octree<F>,
+    key: Key,
+    mask: u8,
+    point: Point,
+) -> Result<(), AllocError>
+    requires free { IsFree key (nodes_of octree.old) }
+    ensures { OnOk result (nodes_of octree.new ≡ insert_entry key_cmp (nodes_of octree.old) key
+        (filled key (rules_of octree.old) mask (point ∷ []))) }
+{
+    let points = [point];
+    if key.depth > octree.rules().cube.depth || !ids_ascend(&points) {
         return Err(AllocError);
     }
-    match Grid::from_tile(alloc, key, rules, mask, &points) {
-        Ok(grid) => Ok(grid),
+    match octree.add(alloc, key, mask, &points) {
+        Ok(()) => Ok(()),
         Err(_) => Err(AllocError),
+    }
+}
+
+/// Adds these nodes to an octree of no points.
+fn fill<F: SpillFile>(
+    alloc: Global,
+    octree: &mut Octree<F>,
+    nodes: &Nodes,
+) -> Result<(), AllocError>
+    requires new { nodes_of octree.old ≡ (root, empty_node root (rules_of octree.old)) ∷ [] }
+{
+    let (top, below) = *nodes;
+    add(alloc, octree, Key::ROOT, top.0, top.1)?;
+    match below {
+        Some(node) => add(alloc, octree, BELOW, node.0, node.1),
+        None => Ok(()),
     }
 }
 
@@ -83,31 +124,8 @@ struct Left {
     store: MemStore,
 }
 
-/// Publishes these nodes of the one input by what the build file tells, where the store's call of this number
-/// fails.
-fn published(
-    alloc: Global,
-    build_file: &str,
-    extent: Bounds,
-    nodes: &[Node],
-    failing: Option<u64>,
-) -> Result<Left, AllocError> {
-    let Ok(kept) = read_build_json(alloc, build_file.as_bytes()) else {
-        return Err(AllocError);
-    };
-    let rules = rules_of(&kept);
-    let mut grids = BTreeMap::new(alloc);
-    let mut number = 0;
-    for node in nodes {
-        grids.insert(node.0, grid(alloc, &rules, node, number)?)?;
-        number = 1;
-    }
-    let points = nodes.len() as u64;
-    let extent = Some(extent);
-    let counts = [SourceCount { points, extent }];
-    if counts.len() != kept.inputs.as_slice().len() {
-        return Err(AllocError);
-    }
+/// A store with one file, whose call of this number fails.
+fn store_failing(alloc: Global, failing: Option<u64>) -> Result<MemStore, AllocError> {
     let mut calls = Vec::new(alloc);
     if let Some(call) = failing {
         calls.push(call)?;
@@ -115,8 +133,44 @@ fn published(
     let mut files = Vec::new(alloc);
     let other = Vec::from_slice(alloc, b"kept")?;
     files.push((String::from_str(alloc, "other")?, other))?;
-    let mut store = MemStore::new(alloc, files, calls);
-    let answer = publish(alloc, &mut store, &kept, &counts, &extent, points, &grids);
+    Ok(MemStore::new(alloc, files, calls))
+}
+
+/// Publishes these nodes of the one input by what the build file tells, where the store's call of this number
+/// fails.
+fn published(
+    alloc: Global,
+    build_file: &str,
+    extent: Bounds,
+    nodes: &Nodes,
+    failing: Option<u64>,
+) -> Result<Left, AllocError> {
+    let Ok(kept) = read_build_json(alloc, build_file.as_bytes()) else {
+        return Err(AllocError);
+    };
+    let points = if nodes.1.is_some() { 2 } else { 1 };
+    let extent = Some(extent);
+    let counts = [SourceCount { points, extent }];
+    if counts.len() != kept.inputs.as_slice().len() {
+        return Err(AllocError);
+    }
+    let mut store = store_failing(alloc, failing)?;
+    let mut room = MemRoom::new(alloc, Vec::new(alloc), Vec::new(alloc));
+    let Ok(mut octree) = Octree::new(alloc, &mut room, 2, &rules_of(&kept)) else {
+        return Err(AllocError);
+    };
+    let filled = fill(alloc, &mut octree, nodes);
+    let answer = publish(
+        alloc,
+        &mut store,
+        &kept,
+        &counts,
+        &extent,
+        points,
+        &mut octree,
+    );
+    octree.retire_all(&mut room);
+    filled?;
     Ok(Left { answer, store })
 }
 
@@ -145,7 +199,7 @@ const ONE_MANIFEST: &[u8] = b"[{\"path\":\"a.las\",\"points\":1,\
 #[test]
 fn a_root_with_one_point_is_five_files(rt: HostRuntime) -> Result<(), Fail> {
     published_law();
-    let root = [(Key::ROOT, 0, [1, 2, 3])];
+    let root = ((0, point(0, [1, 2, 3])), None);
     let left = published(rt.alloc(), ROOT_FILE, ONE, &root, None)?;
     compare(
         &rt,
@@ -172,17 +226,11 @@ fn a_root_with_one_point_is_five_files(rt: HostRuntime) -> Result<(), Fail> {
 // Hierarchy files of one depth each.
 #[test]
 fn a_deeper_node_has_its_tile_and_is_linked(rt: HostRuntime) -> Result<(), Fail> {
-    let deeper = Key {
-        depth: 1,
-        x: 0,
-        y: 0,
-        z: 0,
-    };
     let extent = Bounds {
         min: [1; 3],
         max: [3; 3],
     };
-    let nodes = [(Key::ROOT, 1, [3; 3]), (deeper, 0, [1; 3])];
+    let nodes = ((1, point(0, [3; 3])), Some((0, point(1, [1; 3]))));
     let left = published(rt.alloc(), STEP_FILE, extent, &nodes, None)?;
     let root = b"{\"0-0-0-0\":1,\"1-0-0-0\":-1}".as_slice();
     compare(
@@ -204,7 +252,7 @@ fn a_deeper_node_has_its_tile_and_is_linked(rt: HostRuntime) -> Result<(), Fail>
 // fails is there, and nothing behind it.
 #[test]
 fn each_call_of_the_store_may_fail(rt: HostRuntime) -> Result<(), Fail> {
-    let root = [(Key::ROOT, 0, [1, 2, 3])];
+    let root = ((0, point(0, [1, 2, 3])), None);
     for call in 0..7 {
         let left = published(rt.alloc(), ROOT_FILE, ONE, &root, Some(call))?;
         let want = if call < 6 {

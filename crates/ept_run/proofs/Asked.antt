@@ -5,7 +5,7 @@ use Rattle.std.specs.declared.alloc.Global.{Global}
 use Rattle.ept_base.specs.Files.{Files, Tells}
 use Rattle.ept_las.specs.declared.header.Header.{Header}
 use Rattle.ept_run.specs.declared.refusal.Refusal.{Refusal}
-use Rattle.ept_run.specs.declared.refusal.Refusal.TheVariants.{Usage, SourceFault, StoreFault, Memory}
+use Rattle.ept_run.specs.declared.refusal.Refusal.TheVariants.{Usage, SourceFault, StoreFault, SpillFault, Memory}
 use Rattle.ept_run.specs.Words.{IsBuild, IsInfo}
 use Rattle.ept_run.specs.Lines.{summary_text, header_text}
 use Rattle.ept_run.specs.Requests.{HasBuilt, HasTold, HasHeader, ConfigurationIsRefused, BuildIsRefused, InfoIsRefused, IsOfHeader, IsDefinite, IsEarly, Fails}
@@ -56,16 +56,16 @@ module _ (words : List (List ℕ)) (path out : List ℕ) (is : IsBuild words pat
     build_came all comes r definite (inr (inl asks)) = comes r definite (of_build {P = λ p. ConfigurationIsRefused all p r} asks)
     build_came all comes r definite (inr (inr asks)) = absurd (build_or_info words path out asks.path is asks.words_are)
 
-    pub build_carries : (files : Option Files) (Begins : Files → Files → Type 0) (new : Option Files) (shelf store same : Type 0)
+    pub build_carries : (files : Option Files) (Begins : Files → Files → Type 0) (new : Option Files) (shelf store room same : Type 0)
         → IfOk answer (λ line. (points : ℕ) × (nodes : ℕ) × (line.items ≡ summary_text points nodes))
         → IfOk answer (λ line. Tells (λ all. HasBuilt all Begins path line.items new) files)
         → IfErr answer (λ r. r ≢ Usage)
         → IfErr answer (λ r. Tells (λ all. BuildIsRefused all Begins path r) files)
-        → (answer ≡ Err SourceFault → shelf) → (answer ≡ Err StoreFault → store)
+        → (answer ≡ Err SourceFault → shelf) → (answer ≡ Err StoreFault → store) → (answer ≡ Err SpillFault → room)
         → IfErr answer (λ r. IsEarly r → same)
         → Tells (λ all. (r : Refusal) → IsDefinite r → ConfigurationIsRefused all path r → (answer ≡ Err r) ⊎ Fails answer) files
-        → Carries words files Begins new shelf store same answer
-    build_carries files Begins new shelf store same said built named refused sources stores early comes = record {
+        → Carries words files Begins new shelf store room same answer
+    build_carries files Begins new shelf store room same said built named refused sources stores spills early comes = record {
       is_answer = ok_weaker (λ line. (points : ℕ) × (nodes : ℕ) × (line.items ≡ summary_text points nodes)) (λ line. IsAnswer words line.items) answer
           (λ line text. inl (record { path = path; out = out; words_are = is; holds = text })) said;
       done = ok_weaker (λ line. Tells (λ all. HasBuilt all Begins path line.items new) files) (λ line. Tells (λ all. IsDone words all Begins line.items new) files) answer
@@ -76,6 +76,7 @@ module _ (words : List (List ℕ)) (path out : List ℕ) (is : IsBuild words pat
       lacks = told_always (λ all. IsRefused words all Begins Memory) files (λ all. inr (inl (record { path = path; out = out; words_are = is; holds = tt })));
       sources = sources;
       stores = stores;
+      spills = spills;
       early = early;
       comes = told_as (λ all. (r : Refusal) → IsDefinite r → ConfigurationIsRefused all path r → (answer ≡ Err r) ⊎ Fails answer) (λ all. (r : Refusal) → IsDefinite r → IsFaulty words all r → (answer ≡ Err r) ⊎ Fails answer) files
           build_came comes;
@@ -97,15 +98,18 @@ module _ (words : List (List ℕ)) (path : List ℕ) (is : IsInfo words path) wh
     no_store : (a : Result (Vec ℕ Global) Refusal) → IfErr a IsOfHeader → a ≡ Err StoreFault → ⊥
     no_store a of fault = subst (λ (b : Result (Vec ℕ Global) Refusal). IfErr b IsOfHeader) fault of
 
-    pub info_carries : (files : Option Files) (Begins : Files → Files → Type 0) (new : Option Files) (shelf store same : Type 0) → same
+    no_spill : (a : Result (Vec ℕ Global) Refusal) → IfErr a IsOfHeader → a ≡ Err SpillFault → ⊥
+    no_spill a of fault = subst (λ (b : Result (Vec ℕ Global) Refusal). IfErr b IsOfHeader) fault of
+
+    pub info_carries : (files : Option Files) (Begins : Files → Files → Type 0) (new : Option Files) (shelf store room same : Type 0) → same
         → IfOk answer (λ line. (header : Header) × (line.items ≡ header_text header))
         → IfOk answer (λ line. Tells (λ all. HasTold all path line.items) files)
         → IfErr answer IsOfHeader
         → IfErr answer (λ r. Tells (λ all. InfoIsRefused all path r) files)
         → (answer ≡ Err SourceFault → shelf)
         → Tells (λ all. (r : Refusal) → IsDefinite r → InfoIsRefused all path r → (answer ≡ Err r) ⊎ Fails answer) files
-        → Carries words files Begins new shelf store same answer
-    info_carries files Begins new shelf store same unchanged said told of refused sources comes = record {
+        → Carries words files Begins new shelf store room same answer
+    info_carries files Begins new shelf store room same unchanged said told of refused sources comes = record {
       is_answer = ok_weaker (λ line. (header : Header) × (line.items ≡ header_text header)) (λ line. IsAnswer words line.items) answer
           (λ line text. inr (inl (record { path = path; words_are = is; holds = text }))) said;
       done = ok_weaker (λ line. Tells (λ all. HasTold all path line.items) files) (λ line. Tells (λ all. IsDone words all Begins line.items new) files) answer
@@ -116,6 +120,7 @@ module _ (words : List (List ℕ)) (path : List ℕ) (is : IsInfo words path) wh
       lacks = told_always (λ all. IsRefused words all Begins Memory) files (λ all. inr (inr (inl (record { path = path; words_are = is; holds = tt }))));
       sources = sources;
       stores = λ fault. absurd (no_store answer of fault);
+      spills = λ fault. absurd (no_spill answer of fault);
       early = err_weaker IsOfHeader (λ r. IsEarly r → same) answer (λ r o early. unchanged) of;
       comes = told_as (λ all. (r : Refusal) → IsDefinite r → InfoIsRefused all path r → (answer ≡ Err r) ⊎ Fails answer) (λ all. (r : Refusal) → IsDefinite r → IsFaulty words all r → (answer ≡ Err r) ⊎ Fails answer) files
           info_came comes;

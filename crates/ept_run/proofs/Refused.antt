@@ -22,7 +22,7 @@ use Rattle.ept_scan.specs.declared.scan_error.ScanError.{ScanError}
 use Rattle.ept_scan.specs.declared.scan_error.ScanError.TheVariants as scan
 use Rattle.ept_plan.specs.Plans as plans
 use Rattle.ept_run.specs.declared.refusal.Refusal.{Refusal}
-use Rattle.ept_run.specs.declared.refusal.Refusal.TheVariants.{Usage, BadConfiguration, BadLas, OutOfBounds, NoBounds, SourceChanged, TooManyPoints, TooManyNodes, Differs, BadCheckpoint, TileDamaged, SourceFault, StoreFault, Memory}
+use Rattle.ept_run.specs.declared.refusal.Refusal.TheVariants.{Usage, BadConfiguration, BadLas, OutOfBounds, NoBounds, SourceChanged, TooManyPoints, TooManyNodes, Differs, BadCheckpoint, TileDamaged, SourceFault, StoreFault, SpillFault, Memory}
 use Rattle.ept_run.specs.Errors.{of_build}
 use Rattle.ept_run.specs.Requests.{HasConfiguration, HasBadConfiguration, IsAcceptedAt, IsDoneAt, IsBuiltAt, Comes, ComesAt, DiffersAt, IsConfigured, TellsDifference, ConfigurationIsRefused, BuildIsRefused, IsDefinite, IsEarly, Fails}
 use Rattle.ept_config.proofs.FactsTell.{config_same}
@@ -40,6 +40,7 @@ told_as (Err error) = Err (of_build error)
 -- no refusal of a build is that of a configuration
 pub never_configured : (e : BuildError) (error : ConfigError) → of_build e ≡ BadConfiguration error → ⊥
 never_configured build.StoreFault error is = cc
+never_configured build.SpillFault error is = cc
 never_configured (build.BadCheckpoint letter) error is = cc
 never_configured (build.TileDamaged key) error is = cc
 never_configured (build.Differs field kept given) error is = cc
@@ -73,7 +74,8 @@ pub carried : {A B : Type 0} (a : Result A Refusal) (b : Result B Refusal) (e r 
 carried {A} a b e r is_a is_b (inl same) = inl (is_b ∙ ap Err (err_same {A = A} e r (sym is_a ∙ same)))
 carried {A} a b e r is_a is_b (inr (inl fault)) = inr (inl (is_b ∙ ap Err (err_same {A = A} e SourceFault (sym is_a ∙ fault))))
 carried {A} a b e r is_a is_b (inr (inr (inl fault))) = inr (inr (inl (is_b ∙ ap Err (err_same {A = A} e StoreFault (sym is_a ∙ fault)))))
-carried {A} a b e r is_a is_b (inr (inr (inr lack))) = inr (inr (inr (is_b ∙ ap Err (err_same {A = A} e Memory (sym is_a ∙ lack)))))
+carried {A} a b e r is_a is_b (inr (inr (inr (inl fault)))) = inr (inr (inr (inl (is_b ∙ ap Err (err_same {A = A} e SpillFault (sym is_a ∙ fault))))))
+carried {A} a b e r is_a is_b (inr (inr (inr (inr lack)))) = inr (inr (inr (inr (is_b ∙ ap Err (err_same {A = A} e Memory (sym is_a ∙ lack))))))
 
 pub carried_comes : {A B : Type 0} (files : Option Files) (Why : Files → Refusal → Type 0) (a : Result A Refusal) (b : Result B Refusal) (e : Refusal) → a ≡ Err e → IsErrAnd b (λ x. x ≡ e)
     → Tells (λ all. (r : Refusal) → IsDefinite r → Why all r → (a ≡ Err r) ⊎ Fails a) files → Tells (λ all. (r : Refusal) → IsDefinite r → Why all r → (b ≡ Err r) ⊎ Fails b) files
@@ -89,7 +91,8 @@ pub carried_accepted : {A B : Type 0} (a : Result A Refusal) (b : Result B Refus
 carried_accepted a b e is_a is_b (inl ok) = absurd (no_ok a e is_a ok)
 carried_accepted {A} a b e is_a is_b (inr (inl fault)) = inr (inl (is_err b e is_b ∙ ap Err (err_same {A = A} e SourceFault (sym is_a ∙ fault))))
 carried_accepted {A} a b e is_a is_b (inr (inr (inl fault))) = inr (inr (inl (is_err b e is_b ∙ ap Err (err_same {A = A} e StoreFault (sym is_a ∙ fault)))))
-carried_accepted {A} a b e is_a is_b (inr (inr (inr lack))) = inr (inr (inr (is_err b e is_b ∙ ap Err (err_same {A = A} e Memory (sym is_a ∙ lack)))))
+carried_accepted {A} a b e is_a is_b (inr (inr (inr (inl fault)))) = inr (inr (inr (inl (is_err b e is_b ∙ ap Err (err_same {A = A} e SpillFault (sym is_a ∙ fault))))))
+carried_accepted {A} a b e is_a is_b (inr (inr (inr (inr lack)))) = inr (inr (inr (inr (is_err b e is_b ∙ ap Err (err_same {A = A} e Memory (sym is_a ∙ lack))))))
 
 module _ (all : Files) (path : List ℕ) where
   one_reading : (a b : List ℕ) (x y : Result Facts ConfigError) → all path ≡ Some a → all path ≡ Some b → reading a ≡ x → reading b ≡ y → x ≡ y
@@ -126,13 +129,14 @@ module _ (all : Files) (path : List ℕ) where
   came_bad e (TileDamaged key) bad definite why = absurd why
   came_bad e SourceFault bad definite why = absurd (definite (inl refl))
   came_bad e StoreFault bad definite why = absurd why
-  came_bad e Memory bad definite why = absurd (definite (inr (inr refl)))
+  came_bad e SpillFault bad definite why = absurd why
+  came_bad e Memory bad definite why = absurd (definite (inr (inr (inr refl))))
 
   pub came_before : {A : Type 0} (e r : Refusal) → ConfigurationIsRefused all path e → IsDefinite r → ConfigurationIsRefused all path r
       → (◌≡◌ {A = Result A Refusal} (Err e) (Err r)) ⊎ Fails {A = A} (Err e)
   came_before (BadConfiguration e) r is definite why = came_bad e r is definite why
   came_before SourceFault r is definite why = inr (inl refl)
-  came_before Memory r is definite why = inr (inr (inr refl))
+  came_before Memory r is definite why = inr (inr (inr (inr refl)))
   came_before Usage r is definite why = absurd is
   came_before (BadLas source fault) r is definite why = absurd is
   came_before (OutOfBounds source number) r is definite why = absurd is
@@ -144,12 +148,13 @@ module _ (all : Files) (path : List ℕ) where
   came_before (BadCheckpoint letter) r is definite why = absurd is
   came_before (TileDamaged key) r is definite why = absurd is
   came_before StoreFault r is definite why = absurd is
+  came_before SpillFault r is definite why = absurd is
 
   -- it has no build
   pub not_accepted : {A : Type 0} (answer : Result A Refusal) (e : Refusal) (start : Files) → answer ≡ Err e → ConfigurationIsRefused all path e → IsAcceptedAt all start path → IsOk answer ⊎ Fails answer
   not_accepted answer (BadConfiguration e) start err is asked = absurd (not_both asked.config e asked.configures is)
   not_accepted answer SourceFault start err is asked = inr (inl err)
-  not_accepted answer Memory start err is asked = inr (inr (inr err))
+  not_accepted answer Memory start err is asked = inr (inr (inr (inr err)))
   not_accepted answer Usage start err is asked = absurd is
   not_accepted answer (BadLas source fault) start err is asked = absurd is
   not_accepted answer (OutOfBounds source number) start err is asked = absurd is
@@ -161,6 +166,7 @@ module _ (all : Files) (path : List ℕ) where
   not_accepted answer (BadCheckpoint letter) start err is asked = absurd is
   not_accepted answer (TileDamaged key) start err is asked = absurd is
   not_accepted answer StoreFault start err is asked = absurd is
+  not_accepted answer SpillFault start err is asked = absurd is
 
   -- why a configuration is refused is why its build is
   pub refused_before : (Begins : Files → Files → Type 0) (e : Refusal) → ConfigurationIsRefused all path e → BuildIsRefused all Begins path e
@@ -178,6 +184,7 @@ module _ (all : Files) (path : List ℕ) where
   refused_before Begins (BadCheckpoint letter) is = absurd is
   refused_before Begins (TileDamaged key) is = absurd is
   refused_before Begins StoreFault is = absurd is
+  refused_before Begins SpillFault is = absurd is
 
   -- ---- the configuration is read, and its build answers
 
@@ -197,12 +204,14 @@ module _ (all : Files) (path : List ℕ) where
     not_refused (TileDamaged key) definite why = why
     not_refused SourceFault definite why = definite (inl refl)
     not_refused StoreFault definite why = why
-    not_refused Memory definite why = definite (inr (inr refl))
+    not_refused SpillFault definite why = why
+    not_refused Memory definite why = definite (inr (inr (inr refl)))
 
     module _ (Begins : Files → Files → Type 0) where
       -- why a build is refused is why the command is
       refused_as : (e : BuildError) → ((start : Files) → Begins all start → building.IsRefused all config start e) → BuildIsRefused all Begins path (of_build e)
       refused_as build.StoreFault is = tt
+      refused_as build.SpillFault is = tt
       refused_as build.SourceFault is = tt
       refused_as (build.BadCheckpoint letter) is = (config, configures, is)
       refused_as (build.TileDamaged key) is = (config, configures, is)
@@ -222,7 +231,8 @@ module _ (all : Files) (path : List ℕ) where
       fails_as : building.Fails answer → Fails (told_as answer)
       fails_as (inl is) = inr (inl (ap told_as is))
       fails_as (inr (inl is)) = inl (ap told_as is)
-      fails_as (inr (inr is)) = inr (inr (ap told_as is))
+      fails_as (inr (inr (inl is))) = inr (inr (inl (ap told_as is)))
+      fails_as (inr (inr (inr is))) = inr (inr (inr (ap told_as is)))
 
       accepted_after : (start : Files) → (building.IsAccepted all config start → IsOk answer ⊎ building.Fails answer)
           → IsAcceptedAt all start path → IsOk (told_as answer) ⊎ Fails (told_as answer)
@@ -238,6 +248,7 @@ module _ (all : Files) (path : List ℕ) where
 
 pub early_as : (e : BuildError) → IsEarly (of_build e) → building.IsEarly e
 early_as build.StoreFault early = early
+early_as build.SpillFault early = early
 early_as build.SourceFault early = early
 early_as (build.BadCheckpoint letter) early = tt
 early_as (build.TileDamaged key) early = early
@@ -322,6 +333,7 @@ module _ (shelf later : Option Files) (same : later ≡ shelf) (path : List ℕ)
         by (TileDamaged key) why = absurd why
         by SourceFault why = absurd why
         by StoreFault why = absurd why
+        by SpillFault why = absurd why
         by Memory why = absurd why
 
     pub differed_to : ((all start : Files) → building.BeginsWith later store may all start → (current : Current) → HasCurrent current start → ¬ plans.GoesOn config current → building.TellsDifference answer ⊎ building.Fails answer)
@@ -351,7 +363,7 @@ module _ (files : Option Files) (path : List ℕ) {A : Type 0} (answer : Result 
       by : (r : Refusal) → answer ≡ Err r → ConfigurationIsRefused all path r → Fails answer
       by (BadConfiguration error) same why = absurd (not_both all path config error has why)
       by SourceFault same why = inl same
-      by Memory same why = inr (inr same)
+      by Memory same why = inr (inr (inr same))
       by Usage same why = absurd why
       by (BadLas source fault) same why = absurd why
       by (OutOfBounds source number) same why = absurd why
@@ -363,6 +375,7 @@ module _ (files : Option Files) (path : List ℕ) {A : Type 0} (answer : Result 
       by (BadCheckpoint letter) same why = absurd why
       by (TileDamaged key) same why = absurd why
       by StoreFault same why = absurd why
+      by SpillFault same why = absurd why
 
   pub never_comes : (store : Option Files) (may : Files → Type 0) (all start : Files) → building.BeginsWith files store may all start → (r : Refusal) → ComesAt all start r path → (answer ≡ Err r) ⊎ Fails answer
   never_comes store may all start b r asked = inr (only_fails all asked.config b.shelf_told asked.configures)
@@ -378,7 +391,8 @@ pub carried_difference : {A B : Type 0} (a : Result A Refusal) (b : Result B Ref
 carried_difference {A} a b e is_a is_b (inl told) = inl (told.0, is_err b e is_b ∙ ap Err (err_same {A = A} e (Differs told.0) (sym is_a ∙ told.1)))
 carried_difference {A} a b e is_a is_b (inr (inl fault)) = inr (inl (is_err b e is_b ∙ ap Err (err_same {A = A} e SourceFault (sym is_a ∙ fault))))
 carried_difference {A} a b e is_a is_b (inr (inr (inl fault))) = inr (inr (inl (is_err b e is_b ∙ ap Err (err_same {A = A} e StoreFault (sym is_a ∙ fault)))))
-carried_difference {A} a b e is_a is_b (inr (inr (inr lack))) = inr (inr (inr (is_err b e is_b ∙ ap Err (err_same {A = A} e Memory (sym is_a ∙ lack)))))
+carried_difference {A} a b e is_a is_b (inr (inr (inr (inl fault)))) = inr (inr (inr (inl (is_err b e is_b ∙ ap Err (err_same {A = A} e SpillFault (sym is_a ∙ fault))))))
+carried_difference {A} a b e is_a is_b (inr (inr (inr (inr lack)))) = inr (inr (inr (inr (is_err b e is_b ∙ ap Err (err_same {A = A} e Memory (sym is_a ∙ lack))))))
 
 pub carried_one : {A B : Type 0} (a : Result A Refusal) (b : Result B Refusal) (e r : Refusal) → a ≡ Err e → IsErrAnd b (λ x. x ≡ e) → (a ≡ Err r) ⊎ Fails a → (b ≡ Err r) ⊎ Fails b
 carried_one a b e r is_a is_b came = carried a b e r is_a (is_err b e is_b) came
@@ -387,7 +401,8 @@ carried_one a b e r is_a is_b came = carried a b e r is_a (is_err b e is_b) came
 ok_fails : {A : Type 0} (a : Result A Refusal) (x : A) → a ≡ Ok x → Fails a → ⊥
 ok_fails a x is (inl fault) = differ x SourceFault (sym is ∙ fault)
 ok_fails a x is (inr (inl fault)) = differ x StoreFault (sym is ∙ fault)
-ok_fails a x is (inr (inr lack)) = differ x Memory (sym is ∙ lack)
+ok_fails a x is (inr (inr (inl fault))) = differ x SpillFault (sym is ∙ fault)
+ok_fails a x is (inr (inr (inr lack))) = differ x Memory (sym is ∙ lack)
 
 pub ok_comes : {A : Type 0} (a : Result A Refusal) (x : A) (r : Refusal) → a ≡ Ok x → (a ≡ Err r) ⊎ Fails a → ⊥
 ok_comes a x r is (inl refused) = differ x r (sym is ∙ refused)

@@ -8,7 +8,7 @@ use Rattle.ept_config.specs.declared.config_error.ConfigError.{ConfigError}
 use Rattle.ept_las.specs.declared.header.Header.{Header}
 use Rattle.ept_run.specs.Words.{IsUsage}
 use Rattle.ept_run.specs.declared.refusal.Refusal.{Refusal}
-use Rattle.ept_run.specs.declared.refusal.Refusal.TheVariants.{Usage, BadConfiguration, BadLas, OutOfBounds, NoBounds, SourceChanged, TooManyPoints, TooManyNodes, Differs, BadCheckpoint, TileDamaged, SourceFault, StoreFault, Memory}
+use Rattle.ept_run.specs.declared.refusal.Refusal.TheVariants.{Usage, BadConfiguration, BadLas, OutOfBounds, NoBounds, SourceChanged, TooManyPoints, TooManyNodes, Differs, BadCheckpoint, TileDamaged, SourceFault, StoreFault, SpillFault, Memory}
 use Rattle.ept_run.specs.Lines.{status_of, line_of}
 use Rattle.ept_run.specs.Requests.{IsDefinite, IsEarly, TellsDifference, Fails}
 use Rattle.ept_run.specs.Answers.{Yields, YieldsRefusal, YieldsDifference, IsAnswer, IsDone, Ends, IsFaulty, IsRefused, HasRisen, Says, IsTold, EndsWith, Refuses, IsCut}
@@ -29,9 +29,10 @@ usage_only (BadCheckpoint letter) is = absurd (omega (arith, is))
 usage_only (TileDamaged key) is = absurd (omega (arith, is))
 usage_only SourceFault is = absurd (omega (arith, is))
 usage_only StoreFault is = absurd (omega (arith, is))
+usage_only SpillFault is = absurd (omega (arith, is))
 usage_only Memory is = absurd (omega (arith, is))
 
-device_only : (r : Refusal) → status_of r ≡ 7 → (r ≡ SourceFault) ⊎ (r ≡ StoreFault)
+device_only : (r : Refusal) → status_of r ≡ 7 → (r ≡ SourceFault) ⊎ (r ≡ StoreFault) ⊎ (r ≡ SpillFault)
 device_only Usage is = absurd (omega (arith, is))
 device_only (BadConfiguration e) is = absurd (omega (arith, is))
 device_only (BadLas source fault) is = absurd (omega (arith, is))
@@ -44,7 +45,8 @@ device_only (Differs field) is = absurd (omega (arith, is))
 device_only (BadCheckpoint letter) is = absurd (omega (arith, is))
 device_only (TileDamaged key) is = absurd (omega (arith, is))
 device_only SourceFault is = inl refl
-device_only StoreFault is = inr refl
+device_only StoreFault is = inr (inl refl)
+device_only SpillFault is = inr (inr refl)
 device_only Memory is = absurd (omega (arith, is))
 
 configuration_only : (r : Refusal) → status_of r ≡ 3 → (e : ConfigError) × (r ≡ BadConfiguration e)
@@ -61,6 +63,7 @@ configuration_only (BadCheckpoint letter) is = absurd (omega (arith, is))
 configuration_only (TileDamaged key) is = absurd (omega (arith, is))
 configuration_only SourceFault is = absurd (omega (arith, is))
 configuration_only StoreFault is = absurd (omega (arith, is))
+configuration_only SpillFault is = absurd (omega (arith, is))
 configuration_only Memory is = absurd (omega (arith, is))
 
 -- a refusal is not the work done
@@ -78,29 +81,31 @@ never_done (BadCheckpoint letter) = omega arith
 never_done (TileDamaged key) = omega arith
 never_done SourceFault = omega arith
 never_done StoreFault = omega arith
+never_done SpillFault = omega arith
 never_done Memory = omega arith
 
 -- the count of the device that a refusal names rose
-risen_of : (r : Refusal) (shelf store : Type 0) → (r ≡ SourceFault → shelf) → (r ≡ StoreFault → store) → HasRisen r shelf store
-risen_of Usage shelf store sources stores = tt
-risen_of (BadConfiguration e) shelf store sources stores = tt
-risen_of (BadLas source fault) shelf store sources stores = tt
-risen_of (OutOfBounds source number) shelf store sources stores = tt
-risen_of NoBounds shelf store sources stores = tt
-risen_of (SourceChanged source number) shelf store sources stores = tt
-risen_of (TooManyPoints source) shelf store sources stores = tt
-risen_of TooManyNodes shelf store sources stores = tt
-risen_of (Differs field) shelf store sources stores = tt
-risen_of (BadCheckpoint letter) shelf store sources stores = tt
-risen_of (TileDamaged key) shelf store sources stores = tt
-risen_of SourceFault shelf store sources stores = sources refl
-risen_of StoreFault shelf store sources stores = stores refl
-risen_of Memory shelf store sources stores = tt
+risen_of : (r : Refusal) (shelf store room : Type 0) → (r ≡ SourceFault → shelf) → (r ≡ StoreFault → store) → (r ≡ SpillFault → room) → HasRisen r shelf store room
+risen_of Usage shelf store room sources stores spills = tt
+risen_of (BadConfiguration e) shelf store room sources stores spills = tt
+risen_of (BadLas source fault) shelf store room sources stores spills = tt
+risen_of (OutOfBounds source number) shelf store room sources stores spills = tt
+risen_of NoBounds shelf store room sources stores spills = tt
+risen_of (SourceChanged source number) shelf store room sources stores spills = tt
+risen_of (TooManyPoints source) shelf store room sources stores spills = tt
+risen_of TooManyNodes shelf store room sources stores spills = tt
+risen_of (Differs field) shelf store room sources stores spills = tt
+risen_of (BadCheckpoint letter) shelf store room sources stores spills = tt
+risen_of (TileDamaged key) shelf store room sources stores spills = tt
+risen_of SourceFault shelf store room sources stores spills = sources refl
+risen_of StoreFault shelf store room sources stores spills = stores refl
+risen_of SpillFault shelf store room sources stores spills = spills refl
+risen_of Memory shelf store room sources stores spills = tt
 
 -- ---- what a command does
 
--- What is known of a command whose answer is a line or a refusal: shelf and store say that the count of that device rose, same that nothing was put, and Begins of the shelf's files and the store's that a build begins with them.
-pub record Carries (words : List (List ℕ)) (files : Option Files) (Begins : Files → Files → Type 0) (new : Option Files) (shelf store same : Type 0) (answer : Result (Vec ℕ Global) Refusal) : Type 0 where
+-- What is known of a command whose answer is a line or a refusal: shelf, store and room say that the count of that device rose, same that nothing was put, and Begins of the shelf's files and the store's that a build begins with them.
+pub record Carries (words : List (List ℕ)) (files : Option Files) (Begins : Files → Files → Type 0) (new : Option Files) (shelf store room same : Type 0) (answer : Result (Vec ℕ Global) Refusal) : Type 0 where
   pub is_answer : IfOk answer (λ line. IsAnswer words line.items)
   pub done : IfOk answer (λ line. Tells (λ all. IsDone words all Begins line.items new) files)
   pub named : IfErr answer (λ r. r ≢ Usage)
@@ -108,6 +113,7 @@ pub record Carries (words : List (List ℕ)) (files : Option Files) (Begins : Fi
   pub lacks : Tells (λ all. IsRefused words all Begins Memory) files
   pub sources : answer ≡ Err SourceFault → shelf
   pub stores : answer ≡ Err StoreFault → store
+  pub spills : answer ≡ Err SpillFault → room
   pub early : IfErr answer (λ r. IsEarly r → same)
   pub comes : Tells (λ all. (r : Refusal) → IsDefinite r → IsFaulty words all r → (answer ≡ Err r) ⊎ Fails answer) files
 
@@ -135,7 +141,8 @@ module _ (status : ℕ) (said_old said_new : Option (List ℕ)) (failed : Type 0
   fails_yields : (answer : Result (Vec ℕ Global) Refusal) → Fails answer → EndsWith answer status said_old said_new failed → (status ≡ 7) ⊎ (status ≡ 9)
   fails_yields answer (inl is) ends = told_status SourceFault (told_with answer SourceFault is ends)
   fails_yields answer (inr (inl is)) ends = told_status StoreFault (told_with answer StoreFault is ends)
-  fails_yields answer (inr (inr is)) ends = ⊎_elim (λ memory. inr memory) (λ memory. inr memory) (told_status Memory (told_with answer Memory is ends))
+  fails_yields answer (inr (inr (inl is))) ends = told_status SpillFault (told_with answer SpillFault is ends)
+  fails_yields answer (inr (inr (inr is))) ends = ⊎_elim (λ memory. inr memory) (λ memory. inr memory) (told_status Memory (told_with answer Memory is ends))
 
   pub comes_yields : (answer : Result (Vec ℕ Global) Refusal) (r : Refusal) → (answer ≡ Err r) ⊎ Fails answer → EndsWith answer status said_old said_new failed → YieldsRefusal r status said_old said_new failed
   comes_yields answer r (inr fails) ends = inr (fails_yields answer fails ends)
@@ -157,22 +164,26 @@ module _ (status : ℕ) (said_old said_new : Option (List ℕ)) (failed : Type 0
   accepted_yields answer (inl is) ends = ok_yields answer is ends
   accepted_yields answer (inr fails) ends = inr (fails_yields answer fails ends)
 
-  module _ (words : List (List ℕ)) (files : Option Files) (Begins : Files → Files → Type 0) (new : Option Files) (shelf store same : Type 0) where
-    pub is_done : (answer : Result (Vec ℕ Global) Refusal) → Carries words files Begins new shelf store same answer → EndsWith answer status said_old said_new failed → status ≡ 0
+  module _ (words : List (List ℕ)) (files : Option Files) (Begins : Files → Files → Type 0) (new : Option Files) (shelf store room same : Type 0) where
+    pub is_done : (answer : Result (Vec ℕ Global) Refusal) → Carries words files Begins new shelf store room same answer → EndsWith answer status said_old said_new failed → status ≡ 0
         → Ends words files Begins new (Appends said_old said_new)
     is_done (Ok line) carries (inl ok) is = record { line = line.items; is_answer = carries.is_answer; done = carries.done; said = ok.1 }
     is_done (Ok line) carries (inr device) is = absurd (omega (arith, device.0, is))
     is_done (Err r) carries ends is = absurd (never_done ends.told (ends.status_is ∙ is))
 
-    pub has_risen : (answer : Result (Vec ℕ Global) Refusal) → Carries words files Begins new shelf store same answer → EndsWith answer status said_old said_new failed → status ≡ 7 → shelf ⊎ store ⊎ failed
+    pub has_risen : (answer : Result (Vec ℕ Global) Refusal) → Carries words files Begins new shelf store room same answer → EndsWith answer status said_old said_new failed → status ≡ 7 → shelf ⊎ store ⊎ room ⊎ failed
     has_risen (Ok line) carries (inl ok) is = absurd (omega (arith, ok.0, is))
-    has_risen (Ok line) carries (inr device) is = inr (inr device.1)
+    has_risen (Ok line) carries (inr device) is = inr (inr (inr device.1))
     has_risen (Err r) carries ends is =
-        ⊎_elim (λ this. ⊎_elim (λ source. inl (carries.sources (ap Err source))) (λ fault. inr (inl (carries.stores (ap Err fault)))) (device_only r (sym this ∙ is)))
-        (λ memory. absurd (omega (arith, memory, is))) (told_status r ends)
+        ⊎_elim (λ this. one_rose (device_only r (sym this ∙ is))) (λ memory. absurd (omega (arith, memory, is))) (told_status r ends)
+      where
+        one_rose : (r ≡ SourceFault) ⊎ (r ≡ StoreFault) ⊎ (r ≡ SpillFault) → shelf ⊎ store ⊎ room ⊎ failed
+        one_rose (inl source) = inl (carries.sources (ap Err source))
+        one_rose (inr (inl store)) = inr (inl (carries.stores (ap Err store)))
+        one_rose (inr (inr spill)) = inr (inr (inl (carries.spills (ap Err spill))))
 
-    pub is_refused : (answer : Result (Vec ℕ Global) Refusal) → Carries words files Begins new shelf store same answer → EndsWith answer status said_old said_new failed → status ≢ 0
-        → Refuses words files Begins status shelf store failed said_old said_new same ⊎ IsCut words files Begins status new failed said_old said_new
+    pub is_refused : (answer : Result (Vec ℕ Global) Refusal) → Carries words files Begins new shelf store room same answer → EndsWith answer status said_old said_new failed → status ≢ 0
+        → Refuses words files Begins status shelf store room failed said_old said_new same ⊎ IsCut words files Begins status new failed said_old said_new
     is_refused (Ok line) carries (inl ok) not_ok = absurd (not_ok ok.0)
     is_refused (Ok line) carries (inr device) not_ok = inr (record { status_is = device.0; risen = device.1; ends = record { line = line.items; is_answer = carries.is_answer; done = carries.done; said = device.2 } })
     is_refused (Err r) carries ends not_ok = inl (record {
@@ -180,8 +191,8 @@ module _ (status : ℕ) (said_old said_new : Option (List ℕ)) (failed : Type 0
       status_is = ends.status_is;
       has_cause = ⊎_elim (λ is. subst (λ (x : Refusal). Tells (λ all. IsRefused words all Begins x) files) (sym is) carries.refused)
           (λ is. subst (λ (x : Refusal). Tells (λ all. IsRefused words all Begins x) files) (sym is) carries.lacks) ends.told_is;
-      risen = ⊎_elim (λ is. subst (λ (x : Refusal). HasRisen x shelf store) (sym is) (risen_of r shelf store (λ e. carries.sources (ap Err e)) (λ e. carries.stores (ap Err e))))
-          (λ is. subst (λ (x : Refusal). HasRisen x shelf store) (sym is) tt) ends.told_is;
+      risen = ⊎_elim (λ is. subst (λ (x : Refusal). HasRisen x shelf store room) (sym is) (risen_of r shelf store room (λ e. carries.sources (ap Err e)) (λ e. carries.stores (ap Err e)) (λ e. carries.spills (ap Err e))))
+          (λ is. subst (λ (x : Refusal). HasRisen x shelf store room) (sym is) tt) ends.told_is;
       says = ends.says;
       early = λ early. ⊎_elim (λ is. carries.early (subst IsEarly is early)) (λ is. absurd (subst IsEarly is early)) ends.told_is;
     })

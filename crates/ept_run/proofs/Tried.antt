@@ -6,7 +6,7 @@ use Rattle.std.proofs.lemmas.Fmt.{decimal_injective}
 use Rattle.ept_base.specs.Files.{Files, Tells}
 use Rattle.ept_space.specs.declared.box3.Box3.{Box3}
 use Rattle.ept_run.specs.declared.refusal.Refusal.{Refusal}
-use Rattle.ept_run.specs.declared.refusal.Refusal.TheVariants.{Usage, SourceFault, StoreFault, Memory}
+use Rattle.ept_run.specs.declared.refusal.Refusal.TheVariants.{Usage, SourceFault, StoreFault, SpillFault, Memory}
 use Rattle.ept_run.specs.Words.{IsBuild, IsInfo, IsQuery, IsTrial, IsUsage}
 use Rattle.ept_run.specs.Requests.{HasTrial, IsDefinite, IsEarly, Fails}
 use Rattle.ept_run.specs.Answers.{AsksInfo, AsksTrial, IsAnswer, IsDone, IsFaulty, IsRefused, IsTold, EndsTrial, EndsWith}
@@ -14,8 +14,8 @@ use Rattle.ept_run.proofs.Asked.{told_always, ok_weaker, err_weaker}
 use Rattle.ept_run.proofs.Runs.{Carries}
 
 -- want of memory is no other refusal
-only_memory : (r : Refusal) → r ≡ Memory → (r ≢ Usage) × (r ≢ SourceFault) × (r ≢ StoreFault)
-only_memory r is = (λ usage. not_usage (sym is ∙ usage), λ source. not_source (sym is ∙ source), λ store. not_store (sym is ∙ store))
+only_memory : (r : Refusal) → r ≡ Memory → (r ≢ Usage) × (r ≢ SourceFault) × (r ≢ StoreFault) × (r ≢ SpillFault)
+only_memory r is = (λ usage. not_usage (sym is ∙ usage), λ source. not_source (sym is ∙ source), λ store. not_store (sym is ∙ store), λ spill. not_spill (sym is ∙ spill))
   where
     not_usage : ◌≡◌ {A = Refusal} Memory Usage → ⊥
     not_usage same = cc
@@ -25,6 +25,9 @@ only_memory r is = (λ usage. not_usage (sym is ∙ usage), λ source. not_sourc
 
     not_store : ◌≡◌ {A = Refusal} Memory StoreFault → ⊥
     not_store same = cc
+
+    not_spill : ◌≡◌ {A = Refusal} Memory SpillFault → ⊥
+    not_spill same = cc
 
 refused_as : (answer : Result (Vec ℕ Global) Refusal) (r : Refusal) → IfErr answer (λ e. e ≡ Memory) → answer ≡ Err r → r ≡ Memory
 refused_as answer r lacks is = subst (λ (a : Result (Vec ℕ Global) Refusal). IfErr a (λ e. e ≡ Memory)) is lacks
@@ -73,8 +76,8 @@ module _ (words : List (List ℕ)) (count workers cache : ℕ) (is : IsTrial wor
   asked holds = record { count = count; workers = workers; cache = cache; words_are = is; holds = holds }
 
   module _ (answer : Result (Vec ℕ Global) Refusal) (told : IfOk answer (λ line. HasTrial count line.items)) (lacks : IfErr answer (λ r. r ≡ Memory)) where
-    pub trial_carries : (files : Option Files) (Begins : Files → Files → Type 0) (new : Option Files) (shelf store same : Type 0) → same → Carries words files Begins new shelf store same answer
-    trial_carries files Begins new shelf store same unchanged = record {
+    pub trial_carries : (files : Option Files) (Begins : Files → Files → Type 0) (new : Option Files) (shelf store room same : Type 0) → same → Carries words files Begins new shelf store room same answer
+    trial_carries files Begins new shelf store room same unchanged = record {
       is_answer = ok_weaker (λ line. HasTrial count line.items) (λ line. IsAnswer words line.items) answer
           (λ line has. inr (inr (asked {Fact = λ n. HasTrial n line.items} has))) told;
       done = ok_weaker (λ line. HasTrial count line.items) (λ line. Tells (λ all. IsDone words all Begins line.items new) files) answer
@@ -85,6 +88,7 @@ module _ (words : List (List ℕ)) (count workers cache : ℕ) (is : IsTrial wor
       lacks = told_always (λ all. IsRefused words all Begins Memory) files (λ all. inr (inr (inr (asked {Fact = λ _. Memory ≡ Memory} refl))));
       sources = λ fault. absurd ((only_memory SourceFault (refused_as answer SourceFault lacks fault)).1 refl);
       stores = λ fault. absurd ((only_memory StoreFault (refused_as answer StoreFault lacks fault)).2 refl);
+      spills = λ fault. absurd ((only_memory SpillFault (refused_as answer SpillFault lacks fault)).3 refl);
       early = err_weaker (λ r. r ≡ Memory) (λ r. IsEarly r → same) answer (λ r is early. unchanged) lacks;
       comes = told_always (λ all. (r : Refusal) → IsDefinite r → IsFaulty words all r → (answer ≡ Err r) ⊎ Fails answer) files
           (λ all r definite faulty. absurd (trial_unrefused all r faulty));

@@ -9,7 +9,7 @@ use Rattle.ept_space.specs.declared.box3.Box3.{Box3}
 use Rattle.ept_scan.specs.Asking.{AsksFor}
 use Rattle.ept_meta.specs.declared.fields.Field.{Field}
 use Rattle.ept_run.specs.declared.refusal.Refusal.{Refusal}
-use Rattle.ept_run.specs.declared.refusal.Refusal.TheVariants.{Usage, BadConfiguration, BadLas, OutOfBounds, NoBounds, SourceChanged, TooManyPoints, TooManyNodes, Differs, BadCheckpoint, TileDamaged, SourceFault, StoreFault, Memory}
+use Rattle.ept_run.specs.declared.refusal.Refusal.TheVariants.{Usage, BadConfiguration, BadLas, OutOfBounds, NoBounds, SourceChanged, TooManyPoints, TooManyNodes, Differs, BadCheckpoint, TileDamaged, SourceFault, StoreFault, SpillFault, Memory}
 use Rattle.ept_run.specs.Words.{IsBuild, IsInfo, IsQuery, IsTrial, IsUsage}
 use Rattle.ept_run.specs.Lines.{summary_text, header_text, status_of, line_of}
 use Rattle.ept_run.specs.Requests.{HasBuilt, HasTold, HasTrial, AsksForBuild, ConfigurationIsRefused, BuildIsRefused, InfoIsRefused, IsEarly}
@@ -95,22 +95,23 @@ IsRefused words files Begins r =
     ⊎ AsksBuild words (λ path. BuildIsRefused files Begins path r) ⊎ AsksInfo words (λ path. InfoIsRefused files path r)
     ⊎ AsksTrial words (λ _. r ≡ Memory)
 
--- the count of a device rose, where the refusal is that device's fault: of the shelf, or of the store
-abbrev pub HasRisen : Refusal → Type 0 → Type 0 → Type 0
-HasRisen SourceFault shelf store = shelf
-HasRisen StoreFault shelf store = store
-HasRisen Usage shelf store = ⊤
-HasRisen (BadConfiguration e) shelf store = ⊤
-HasRisen (BadLas source fault) shelf store = ⊤
-HasRisen (OutOfBounds source number) shelf store = ⊤
-HasRisen NoBounds shelf store = ⊤
-HasRisen (SourceChanged source number) shelf store = ⊤
-HasRisen (TooManyPoints source) shelf store = ⊤
-HasRisen TooManyNodes shelf store = ⊤
-HasRisen (Differs field) shelf store = ⊤
-HasRisen (BadCheckpoint letter) shelf store = ⊤
-HasRisen (TileDamaged key) shelf store = ⊤
-HasRisen Memory shelf store = ⊤
+-- the count of a device rose, where the refusal is that device's fault: of the shelf, of the store, or of the room
+abbrev pub HasRisen : Refusal → Type 0 → Type 0 → Type 0 → Type 0
+HasRisen SourceFault shelf store room = shelf
+HasRisen StoreFault shelf store room = store
+HasRisen SpillFault shelf store room = room
+HasRisen Usage shelf store room = ⊤
+HasRisen (BadConfiguration e) shelf store room = ⊤
+HasRisen (BadLas source fault) shelf store room = ⊤
+HasRisen (OutOfBounds source number) shelf store room = ⊤
+HasRisen NoBounds shelf store room = ⊤
+HasRisen (SourceChanged source number) shelf store room = ⊤
+HasRisen (TooManyPoints source) shelf store room = ⊤
+HasRisen TooManyNodes shelf store room = ⊤
+HasRisen (Differs field) shelf store room = ⊤
+HasRisen (BadCheckpoint letter) shelf store room = ⊤
+HasRisen (TileDamaged key) shelf store room = ⊤
+HasRisen Memory shelf store room = ⊤
 
 -- the sink has gained this line, or, where it failed, a prefix of it
 abbrev pub Says : List ℕ → Option (List ℕ) → Option (List ℕ) → Type 0 → Type 0
@@ -139,13 +140,13 @@ abbrev pub EndsWith : Result (Vec ℕ Global) Refusal → ℕ → Option (List �
 EndsWith (Ok line) status old new failed = IsSaid line.items status old new failed
 EndsWith (Err r) status old new failed = IsTold r status old new failed
 
--- A run is refused for a cause, with its status and its line: the device that it names has failed (shelf, store and out say that the count of that one rose), and nothing was put where the cause is an early one (same).
-pub record Refuses (words : List (List ℕ)) (files : Option Files) (Begins : Files → Files → Type 0) (status : ℕ) (shelf store out : Type 0)
+-- A run is refused for a cause, with its status and its line: the device that it names has failed (shelf, store, room and out say that the count of that one rose), and nothing was put where the cause is an early one (same).
+pub record Refuses (words : List (List ℕ)) (files : Option Files) (Begins : Files → Files → Type 0) (status : ℕ) (shelf store room out : Type 0)
     (old new : Option (List ℕ)) (same : Type 0) : Type 0 where
   pub cause : Refusal
   pub status_is : status_of cause ≡ status
   pub has_cause : Tells (λ all. IsRefused words all Begins cause) files
-  pub risen : HasRisen cause shelf store
+  pub risen : HasRisen cause shelf store room
   pub says : Says (line_of cause) old new out
   pub early : IsEarly cause → same
 

@@ -47,6 +47,7 @@ status_of (refusal.BadCheckpoint letter) = 8
 status_of (refusal.TileDamaged key) = 8
 status_of refusal.SourceFault = 7
 status_of refusal.StoreFault = 7
+status_of refusal.SpillFault = 7
 status_of refusal.Memory = 9
 
 -- the number of the record at which a file ends early
@@ -111,6 +112,7 @@ refusal_text (refusal.BadCheckpoint letter) = codes "error 8 checkpoint " ++ let
 refusal_text (refusal.TileDamaged key) = codes "error 8 tile " ++ space.key_text key
 refusal_text refusal.SourceFault = codes "error 7 source"
 refusal_text refusal.StoreFault = codes "error 7 store"
+refusal_text refusal.SpillFault = codes "error 7 spill"
 refusal_text refusal.Memory = codes "error 9 memory"
 
 -- the line of a refusal

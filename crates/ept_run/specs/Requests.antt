@@ -22,7 +22,7 @@ use Rattle.ept_build.specs.Building as building
 use Rattle.ept_trial.specs.declared.trial.Trial.{Trial}
 use Rattle.ept_trial.specs.Trials.{IsTrialOf}
 use Rattle.ept_run.specs.declared.refusal.Refusal.{Refusal}
-use Rattle.ept_run.specs.declared.refusal.Refusal.TheVariants.{Usage, BadConfiguration, BadLas, OutOfBounds, NoBounds, SourceChanged, TooManyPoints, TooManyNodes, Differs, BadCheckpoint, TileDamaged, SourceFault, StoreFault, Memory}
+use Rattle.ept_run.specs.declared.refusal.Refusal.TheVariants.{Usage, BadConfiguration, BadLas, OutOfBounds, NoBounds, SourceChanged, TooManyPoints, TooManyNodes, Differs, BadCheckpoint, TileDamaged, SourceFault, StoreFault, SpillFault, Memory}
 use Rattle.ept_run.specs.Lines.{summary_text, header_text, trial_text}
 
 -- these are the first bytes of the file of this path: so many, or all
@@ -60,6 +60,7 @@ ConfigurationIsRefused files path (BadCheckpoint letter) = ⊥
 ConfigurationIsRefused files path (TileDamaged key) = ⊥
 ConfigurationIsRefused files path SourceFault = ⊤
 ConfigurationIsRefused files path StoreFault = ⊥
+ConfigurationIsRefused files path SpillFault = ⊥
 ConfigurationIsRefused files path Memory = ⊤
 
 -- The file is a configuration, and its build over a store that begins with sound files is refused for this cause. Begins says of the shelf's files and the store's that the build begins with them.
@@ -88,6 +89,7 @@ Comes files config start current (BadCheckpoint letter) = ⊥
 Comes files config start current (TileDamaged key) = ⊥
 Comes files config start current SourceFault = ⊥
 Comes files config start current StoreFault = ⊥
+Comes files config start current SpillFault = ⊥
 Comes files config start current Memory = ⊥
 
 -- it is a configuration, and its build over a store with these files comes to this refusal
@@ -152,6 +154,7 @@ BuildIsRefused files Begins path (BadCheckpoint letter) = HasBadBuild files Begi
 BuildIsRefused files Begins path (TileDamaged key) = HasBadBuild files Begins path (build.TileDamaged key)
 BuildIsRefused files Begins path SourceFault = ⊤
 BuildIsRefused files Begins path StoreFault = ⊤
+BuildIsRefused files Begins path SpillFault = ⊤
 BuildIsRefused files Begins path Memory = ⊤
 
 -- ---- what is known of a LAS file
@@ -189,6 +192,7 @@ InfoIsRefused files path (BadCheckpoint letter) = ⊥
 InfoIsRefused files path (TileDamaged key) = ⊥
 InfoIsRefused files path SourceFault = ⊤
 InfoIsRefused files path StoreFault = ⊥
+InfoIsRefused files path SpillFault = ⊥
 InfoIsRefused files path Memory = ⊤
 
 -- ---- a trial
@@ -203,7 +207,7 @@ pub record HasTrial (count : ℕ) (line : List ℕ) : Type 0 where
 
 -- a fault of a device, or want of memory
 abbrev pub IsFault : Refusal → Type 0
-IsFault r = (r ≡ SourceFault) ⊎ (r ≡ StoreFault) ⊎ (r ≡ Memory)
+IsFault r = (r ≡ SourceFault) ⊎ (r ≡ StoreFault) ⊎ (r ≡ SpillFault) ⊎ (r ≡ Memory)
 
 -- a cause that lies in the words or in the files
 abbrev pub IsDefinite : Refusal → Type 0
@@ -211,7 +215,7 @@ IsDefinite r = IsFault r → ⊥
 
 -- the answer is a fault of a device, or want of memory
 abbrev pub Fails : {A : Type 0} → Result A Refusal → Type 0
-Fails answer = (answer ≡ Err SourceFault) ⊎ (answer ≡ Err StoreFault) ⊎ (answer ≡ Err Memory)
+Fails answer = (answer ≡ Err SourceFault) ⊎ (answer ≡ Err StoreFault) ⊎ (answer ≡ Err SpillFault) ⊎ (answer ≡ Err Memory)
 
 -- the answer is a field that differs
 abbrev pub TellsDifference : {A : Type 0} → Result A Refusal → Type 0
@@ -232,6 +236,7 @@ IsEarly (BadCheckpoint letter) = ⊤
 IsEarly (TileDamaged key) = ⊥
 IsEarly SourceFault = ⊥
 IsEarly StoreFault = ⊥
+IsEarly SpillFault = ⊥
 IsEarly Memory = ⊥
 
 -- ---- which causes a step may have, whatever the files are
@@ -251,6 +256,7 @@ IsOfConfiguration (BadCheckpoint letter) = ⊥
 IsOfConfiguration (TileDamaged key) = ⊥
 IsOfConfiguration SourceFault = ⊤
 IsOfConfiguration StoreFault = ⊥
+IsOfConfiguration SpillFault = ⊥
 IsOfConfiguration Memory = ⊤
 
 -- of reading a header, which is that of source 0
@@ -268,6 +274,7 @@ IsOfHeader (BadCheckpoint letter) = ⊥
 IsOfHeader (TileDamaged key) = ⊥
 IsOfHeader SourceFault = ⊤
 IsOfHeader StoreFault = ⊥
+IsOfHeader SpillFault = ⊥
 IsOfHeader Memory = ⊤
 
 -- of a build

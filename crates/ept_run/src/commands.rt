@@ -22,6 +22,8 @@ use ept_build::{Summary, build};
 use ept_save::sound_steps_law;
 use ept_trial::build_trial;
 use std::alloc::Global;
+use std::sync::Wait;
+use std::thread::Threads;
 
 /// Builds the octree of the configuration of this path, and answers the line that says so.
 ///
@@ -29,17 +31,18 @@ use std::alloc::Global;
 ///
 /// Those of the configuration, and then those of [`build`]; `Memory` may come when all is built, and the
 /// line can't be made.
-pub(crate) fn build_line<H: Shelf, T: Store, R: Room, G: Gate + Sync>(
+pub(crate) fn build_line<H: Shelf, T: Store, M: Room, G: Gate + Sync, R: Threads + Wait + Sync>(
+    rt: &R,
     alloc: Global,
     path: &str,
     shelf: &mut H,
     store: &mut T,
-    room: &mut R,
+    room: &mut M,
     gate: &G,
 ) -> Result<Vec<u8>, Refusal>
 where
     H::Source: Send,
-    R::File: Send,
+    M::File: Send + Sync,
     ensures built { IfOk result (λ line. Tells
         (λ all. HasBuilt all (BeginsWith (H.files shelf.old) (T.files store.old) (T.may_leave store.old)) path.now line.items (T.files store.new))
         (H.files shelf.old)) }
@@ -61,6 +64,7 @@ where
     ensures causes { IfErr result IsOfBuild }
     ensures sources { HasCauseOf Refusal.SourceFault (H.faults shelf.old) (H.faults shelf.new) result }
     ensures stores { HasCauseOf Refusal.StoreFault (T.faults store.old) (T.faults store.new) result }
+    ensures spills { HasCauseOf Refusal.SpillFault (M.faults room.old) (M.faults room.new) result }
     ensures sound { (all start : Files) → BeginsWith (H.files shelf.old) (T.files store.old) (T.may_leave store.old) all start
         → Moves T.files T.may_leave T.moment T.image_since (λ (a b : Files). IsSound all b) store.old store.new }
     ensures done_already { (all start : Files) → BeginsWith (H.files shelf.old) (T.files store.old) (T.may_leave store.old) all start
@@ -73,25 +77,25 @@ where
     ensures given { (error : ConfigError) → result ≡ Err (Refusal.BadConfiguration error)
         → H.given shelf.new ≤ H.given shelf.old + (2 ^ 24 + 1) }
     ensures files { H.files shelf.new ≡ H.files shelf.old }
-    ensures room { room.new ≡ room.old }
 {
-    let summary = carry_out_build(alloc, path, shelf, store, room, gate)?;
+    let summary = carry_out_build(rt, alloc, path, shelf, store, room, gate)?;
     let line = summary_line(alloc, summary)?;
     Ok(line)
 }
 
 // Builds the octree of the configuration of this path.
-fn carry_out_build<H: Shelf, T: Store, R: Room, G: Gate + Sync>(
+fn carry_out_build<H: Shelf, T: Store, M: Room, G: Gate + Sync, R: Threads + Wait + Sync>(
+    rt: &R,
     alloc: Global,
     path: &str,
     shelf: &mut H,
     store: &mut T,
-    room: &mut R,
+    room: &mut M,
     gate: &G,
 ) -> Result<Summary, Refusal>
 where
     H::Source: Send,
-    R::File: Send,
+    M::File: Send + Sync,
     ensures built { IfOk result (λ summary. Tells
         (λ all. IsBuiltAt all (BeginsWith (H.files shelf.old) (T.files store.old) (T.may_leave store.old)) path.now summary (T.files store.new))
         (H.files shelf.old)) }
@@ -112,6 +116,7 @@ where
     ensures causes { IfErr result IsOfBuild }
     ensures sources { HasCauseOf Refusal.SourceFault (H.faults shelf.old) (H.faults shelf.new) result }
     ensures stores { HasCauseOf Refusal.StoreFault (T.faults store.old) (T.faults store.new) result }
+    ensures spills { HasCauseOf Refusal.SpillFault (M.faults room.old) (M.faults room.new) result }
     ensures sound { (all start : Files) → BeginsWith (H.files shelf.old) (T.files store.old) (T.may_leave store.old) all start
         → Moves T.files T.may_leave T.moment T.image_since (λ (a b : Files). IsSound all b) store.old store.new }
     ensures done_already { (all start : Files) → BeginsWith (H.files shelf.old) (T.files store.old) (T.may_leave store.old) all start
@@ -124,11 +129,10 @@ where
     ensures given { (error : ConfigError) → result ≡ Err (Refusal.BadConfiguration error)
         → H.given shelf.new ≤ H.given shelf.old + (2 ^ 24 + 1) }
     ensures files { H.files shelf.new ≡ H.files shelf.old }
-    ensures room { room.new ≡ room.old }
 {
     sound_steps_law();
     let config = read_configuration(alloc, shelf, path)?;
-    match build(alloc, &config, shelf, store, room, gate) {
+    match build(rt, alloc, &config, shelf, store, room, gate) {
         Ok(summary) => Ok(summary),
         Err(error) => Err(Refusal::from(error)),
     }
@@ -168,7 +172,8 @@ pub(crate) fn info_line<H: Shelf>(
 /// # Errors
 ///
 /// Want of memory, and nothing else.
-pub(crate) fn trial_line(
+pub(crate) fn trial_line<R: Threads + Wait + Sync>(
+    rt: &R,
     alloc: Global,
     points: u32,
     workers: u32,
@@ -182,7 +187,7 @@ pub(crate) fn trial_line(
     ensures told { IfOk result (λ line. HasTrial points line.items) }
     ensures refused { IfErr result (λ r. r ≡ Refusal.Memory) }
 {
-    let trial = build_trial(alloc, points, workers, cache)?;
+    let trial = build_trial(rt, alloc, points, workers, cache)?;
     let line = outcome_line(alloc, trial)?;
     Ok(line)
 }

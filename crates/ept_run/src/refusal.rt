@@ -43,6 +43,8 @@ pub enum Refusal {
     SourceFault,
     /// A call of the store failed: its count of faults rose.
     StoreFault,
+    /// A spill file can't be made: the room's count of faults rose.
+    SpillFault,
     /// Memory ran out.
     Memory,
 }
@@ -95,6 +97,7 @@ impl From<BuildError> for Refusal {
             BuildError::SourceChanged { source, number } => {
                 Refusal::SourceChanged { source, number }
             }
+            BuildError::SpillFault => Refusal::SpillFault,
             BuildError::TooManyNodes => Refusal::TooManyNodes,
             BuildError::Memory => Refusal::Memory,
         }
@@ -141,7 +144,7 @@ impl Refusal {
             Refusal::TooManyPoints { .. } | Refusal::TooManyNodes => TOO_MANY,
             Refusal::Differs { .. } => DIFFERS,
             Refusal::BadCheckpoint { .. } | Refusal::TileDamaged { .. } => DAMAGED,
-            Refusal::SourceFault | Refusal::StoreFault => DEVICE,
+            Refusal::SourceFault | Refusal::StoreFault | Refusal::SpillFault => DEVICE,
             Refusal::Memory => MEMORY,
         }
     }

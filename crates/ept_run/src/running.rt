@@ -25,6 +25,8 @@ use crate::words::{Command, command_of};
 use ept_base::{Gate, Room, Shelf, Sink, Store};
 use ept_http::query_words_law;
 use std::alloc::Global;
+use std::sync::Wait;
+use std::thread::Threads;
 
 /// Carries out the command that the words are, over these devices, and answers the status with which the
 /// program ends. The words are those behind the program's name.
@@ -35,18 +37,19 @@ use std::alloc::Global;
 /// writes the packed points of a box and of some depths of the dataset in the store to the sink. `trial N WORKERS
 /// CACHE` builds the octree of generated scans of N points in memory, and writes what it comes to to the sink. A
 /// refusal is one line on the sink, except that of a query, which writes none.
-pub fn run<H: Shelf, T: Store, R: Room, O: Sink, G: Gate + Sync>(
+pub fn run<H: Shelf, T: Store, M: Room, O: Sink, G: Gate + Sync, R: Threads + Wait + Sync>(
+    rt: &R,
     alloc: Global,
     words: &[String],
     shelf: &mut H,
     store: &mut T,
-    room: &mut R,
+    room: &mut M,
     out: &mut O,
     gate: &G,
 ) -> u8
 where
     H::Source: Send,
-    R::File: Send,
+    M::File: Send + Sync,
     // The statuses: 0 done, 2 no command, 3 the configuration, 4 a scan, 5 too many, 6 another configuration or no
     // complete dataset, 7 a device, 8 a damaged file, 9 memory.
 
@@ -90,7 +93,8 @@ where
         → Refuses (bytes_of words.now) (H.files shelf.old)
         (BeginsWith (H.files shelf.old) (T.files store.old) (T.may_leave store.old)) result
         (Rose (H.faults shelf.old) (H.faults shelf.new)) (Rose (T.faults store.old) (T.faults store.new))
-        (Rose (O.faults out.old) (O.faults out.new)) (O.written out.old) (O.written out.new)
+        (Rose (M.faults room.old) (M.faults room.new)) (Rose (O.faults out.old) (O.faults out.new))
+        (O.written out.old) (O.written out.new)
         (Moves T.files T.may_leave T.moment T.image_since SameFiles store.old store.new)
         ⊎ IsCut (bytes_of words.now) (H.files shelf.old)
         (BeginsWith (H.files shelf.old) (T.files store.old) (T.may_leave store.old)) result (T.files store.new)
@@ -111,7 +115,8 @@ where
         → YieldsRefusal (BadCheckpoint letter) result (O.written out.old) (O.written out.new)
         (Rose (O.faults out.old) (O.faults out.new)) }
     ensures fault { result ≡ 7 → Rose (H.faults shelf.old) (H.faults shelf.new)
-        ⊎ Rose (T.faults store.old) (T.faults store.new) ⊎ Rose (O.faults out.old) (O.faults out.new) }
+        ⊎ Rose (T.faults store.old) (T.faults store.new) ⊎ Rose (M.faults room.old) (M.faults room.new)
+        ⊎ Rose (O.faults out.old) (O.faults out.new) }
 
     // What is opened, and how much of a file is read: of a LAS file its first 375 bytes by `info`, and of what is no
     // configuration at most 16 MiB and one byte.
@@ -127,11 +132,11 @@ where
     ensures same_store { AsksBuild (bytes_of words.now) (λ _. ⊤) ⊎ AsksQuery (bytes_of words.now) ⊎ (store.new ≡ store.old) }
     ensures same_shelf { AsksBuild (bytes_of words.now) (λ _. ⊤) ⊎ AsksInfo (bytes_of words.now) (λ _. ⊤) ⊎ (shelf.new ≡ shelf.old) }
     ensures files { H.files shelf.new ≡ H.files shelf.old }
-    ensures room { room.new ≡ room.old }
+    ensures same_room { AsksBuild (bytes_of words.now) (λ _. ⊤) ⊎ (room.new ≡ room.old) }
 {
     match command_of(words) {
         Command::Build { config, .. } => {
-            let line = build_line(alloc, config, shelf, store, room, gate);
+            let line = build_line(rt, alloc, config, shelf, store, room, gate);
             finish(alloc, out, line)
         }
         Command::Info { las } => {
@@ -147,7 +152,7 @@ where
             workers,
             cache,
         } => {
-            let line = trial_line(alloc, points, workers, cache);
+            let line = trial_line(rt, alloc, points, workers, cache);
             finish(alloc, out, line)
         }
         Command::Usage => refuse_usage(out),

@@ -21,7 +21,7 @@ pub const NOT_COMPLETE: u8 = 6;
 /// The folder of a build was built with another configuration.
 pub const DIFFERS: u8 = 6;
 
-/// A device failed: the shelf, the store or the sink.
+/// A device failed: the shelf, the store, the room or the sink.
 pub const DEVICE: u8 = 7;
 
 /// A file of the dataset, or a checkpoint of a build, is absent, or not of its form.

@@ -1,6 +1,6 @@
 //! Builds over a folder that an earlier build has left.
 
-use crate::tests::{BUILD, at, file, las, same, same_at, texts};
+use crate::tests::{BUILD, Machine, at, file, las, same, same_at, texts};
 use ept_base::{OpenGate, Store};
 use ept_mem::{Crash, MemRoom, MemShelf, MemSink, MemStore};
 use ept_run::run;
@@ -64,7 +64,12 @@ struct Told {
 }
 
 /// Builds this configuration of some scans into the store.
-fn build(alloc: Global, store: &mut MemStore, configuration: &str) -> Result<Told, AllocError> {
+fn build(
+    rt: &impl Machine,
+    alloc: Global,
+    store: &mut MemStore,
+    configuration: &str,
+) -> Result<Told, AllocError> {
     let mut files = Vec::new(alloc);
     files.push(file(alloc, "a.json", configuration.as_bytes())?)?;
     files.push(file(alloc, "a.las", &las(alloc, 1, &[at(1, 2, 3)])?)?)?;
@@ -80,23 +85,23 @@ fn build(alloc: Global, store: &mut MemStore, configuration: &str) -> Result<Tol
     let mut room = MemRoom::new(alloc, Vec::new(alloc), Vec::new(alloc));
     let mut out = MemSink::new(alloc, 4, Vec::new(alloc));
     let status = run(
-        alloc, &words, &mut shelf, store, &mut room, &mut out, &OpenGate,
+        rt, alloc, &words, &mut shelf, store, &mut room, &mut out, &OpenGate,
     );
     Ok(Told { status, out })
 }
 
 /// Compares the status and the line of a build into the store. One that may have found no memory is run again.
 fn expect(
-    rt: &impl Abort,
+    rt: &impl Machine,
     alloc: Global,
     store: &mut MemStore,
     configuration: &str,
     want: (u8, &str),
 ) -> Result<(), AllocError> {
     let (status, line) = want;
-    let mut found = build(alloc, store, configuration)?;
+    let mut found = build(rt, alloc, store, configuration)?;
     if found.out.bytes() != line.as_bytes() {
-        found = build(alloc, store, configuration)?;
+        found = build(rt, alloc, store, configuration)?;
     }
     same_at(rt, &found.status, &status, &line);
     same_at(rt, &found.out.bytes(), &line.as_bytes(), &line);
@@ -104,7 +109,7 @@ fn expect(
 }
 
 /// A store with what the first build leaves.
-fn first(rt: &impl Abort, alloc: Global) -> Result<MemStore, AllocError> {
+fn first(rt: &impl Machine, alloc: Global) -> Result<MemStore, AllocError> {
     let mut store = MemStore::new(alloc, Vec::new(alloc), Vec::new(alloc));
     expect(rt, alloc, &mut store, FIRST, (0, "points 1 nodes 1\n"))?;
     Ok(store)
@@ -133,7 +138,7 @@ fn a_folder_keeps_its_configuration(rt: HostRuntime) -> Result<(), Fail> {
 
 // Another span, and another first input, are refused. The same configuration again leaves the same files, and one
 // with an input more those of one build of both.
-fn expect_kept(rt: &impl Abort, alloc: Global) -> Result<(), AllocError> {
+fn expect_kept(rt: &impl Machine, alloc: Global) -> Result<(), AllocError> {
     let whole = first(rt, alloc)?;
     let mut store = first(rt, alloc)?;
     for (configuration, want) in [
@@ -165,7 +170,7 @@ fn a_damaged_folder_is_told(rt: HostRuntime) -> Result<(), Fail> {
 }
 
 // The body that is cut is asked for first. The tile is asked for where an input is added, and else not.
-fn expect_damage(rt: &impl Abort, alloc: Global) -> Result<(), AllocError> {
+fn expect_damage(rt: &impl Machine, alloc: Global) -> Result<(), AllocError> {
     let mut store = first(rt, alloc)?;
     cut(rt, alloc, &mut store, BODY)?;
     expect(rt, alloc, &mut store, FIRST, (8, "error 8 checkpoint a\n"))?;
@@ -193,7 +198,7 @@ fn flights_are_added(rt: HostRuntime) -> Result<(), Fail> {
 
 // A flight is added to a folder of two: the files are those of one build of three. Another span is refused, and the
 // same again changes nothing.
-fn expect_added(rt: &impl Abort, alloc: Global) -> Result<(), AllocError> {
+fn expect_added(rt: &impl Machine, alloc: Global) -> Result<(), AllocError> {
     let mut whole = MemStore::new(alloc, Vec::new(alloc), Vec::new(alloc));
     expect(rt, alloc, &mut whole, THREE, (0, "points 7 nodes 4\n"))?;
     let mut store = MemStore::new(alloc, Vec::new(alloc), Vec::new(alloc));
@@ -220,7 +225,7 @@ fn phases_are_kept_before_too_many_nodes(rt: HostRuntime) -> Result<(), Fail> {
 }
 
 // Two points of five have few enough nodes, and stand in a checkpoint; with more nodes the build goes on from there.
-fn expect_phases(rt: &impl Abort, alloc: Global) -> Result<(), AllocError> {
+fn expect_phases(rt: &impl Machine, alloc: Global) -> Result<(), AllocError> {
     let mut store = MemStore::new(alloc, Vec::new(alloc), Vec::new(alloc));
     expect(rt, alloc, &mut store, TWO_NODES, (5, "error 5 nodes\n"))?;
     assert!(rt; store.file(BODY).is_some());
@@ -251,7 +256,7 @@ fn a_stopped_build_goes_on(rt: HostRuntime) -> Result<(), Fail> {
         for how in [Crash::Old, Crash::New, Crash::Absent, Crash::Junk] {
             let store = MemStore::new(alloc, Vec::new(alloc), Vec::new(alloc));
             let mut store = store.with_fuse(calls);
-            build(alloc, &mut store, TWO)?;
+            build(&rt, alloc, &mut store, TWO)?;
             let mut store = store.crash(how);
             expect(&rt, alloc, &mut store, TWO, (0, "points 6 nodes 4\n"))?;
             compare(&rt, &store, &whole, "again");

@@ -1,19 +1,18 @@
 //! Builds over devices in memory: their lines, and what they leave in the store.
 
 use crate::tests::{
-    Answer, BUILD, CONFIGURATION, Failing, Given, Shelved, at, compare, expect, expect_text, las,
-    many, may_lack_memory, spaced, store_of, texts,
+    Answer, BUILD, CONFIGURATION, Failing, Given, Machine, Shelved, at, compare, expect,
+    expect_text, las, many, may_lack_memory, spaced, store_of, texts,
 };
 use ept_base::{Failed, GetError, OpenGate, Shelf, Source};
 use ept_mem::{MemRoom, MemSink};
 use ept_run::run;
 use std::alloc::{AllocError, Global};
-use std::process::Abort;
 use std::test::Fail;
 
 /// Builds a configuration of these scans, and compares the answer. Where it is refused, nothing is put.
 fn expect_build(
-    rt: &impl Abort,
+    rt: &impl Machine,
     alloc: Global,
     configuration: &str,
     a: &[u8],
@@ -42,7 +41,7 @@ fn a_configuration_may_be_long(rt: HostRuntime) -> Result<(), Fail> {
 }
 
 // The configuration is accepted, and its input is on no shelf.
-fn expect_long(rt: &impl Abort, alloc: Global) -> Result<(), AllocError> {
+fn expect_long(rt: &impl Machine, alloc: Global) -> Result<(), AllocError> {
     for length in [65_535, 65_536, 65_537, 16_777_216] {
         let text = spaced(alloc, length)?;
         expect_text(rt, alloc, &text, (7, "error 7 source\n"))?;
@@ -59,7 +58,7 @@ fn each_scan_has_its_line(rt: HostRuntime) -> Result<(), Fail> {
     Ok(())
 }
 
-fn expect_scans(rt: &impl Abort, alloc: Global) -> Result<(), AllocError> {
+fn expect_scans(rt: &impl Machine, alloc: Global) -> Result<(), AllocError> {
     let none = las(alloc, 0, &[])?;
     let outside = las(alloc, 2, &[at(7, 7, 7), at(8, 0, 0)])?;
     let mut cut = las(alloc, 3, &[at(1, 1, 1), at(2, 2, 2), at(3, 3, 3)])?;
@@ -97,7 +96,7 @@ fn each_octree_has_its_number_of_nodes(rt: HostRuntime) -> Result<(), Fail> {
 
 // The same place five times: with two cells an axis in 8 stored units, the third node is at the greatest
 // depth, where all stay.
-fn expect_nodes(rt: &impl Abort, alloc: Global) -> Result<(), AllocError> {
+fn expect_nodes(rt: &impl Machine, alloc: Global) -> Result<(), AllocError> {
     let five = las(alloc, 5, &[at(1, 1, 1); 5])?;
     let three = las(alloc, 1, &[at(3, 3, 3)])?;
     let one = las(alloc, 1, &[at(1, 1, 1)])?;
@@ -139,7 +138,7 @@ fn each_call_that_fails_is_told(rt: HostRuntime) -> Result<(), Fail> {
 }
 
 // The configuration is opened, and the scan for each of two readings. The sink takes four bytes at a time.
-fn expect_faults(rt: &impl Abort, alloc: Global) -> Result<(), AllocError> {
+fn expect_faults(rt: &impl Machine, alloc: Global) -> Result<(), AllocError> {
     let scan = las(alloc, 1, &[at(1, 2, 3)])?;
     let shelved = Shelved {
         configuration: CONFIGURATION.as_bytes(),
@@ -154,6 +153,7 @@ fn expect_faults(rt: &impl Abort, alloc: Global) -> Result<(), AllocError> {
         (Failing::Read(0), (7, "error 7 source\n"), false),
         (Failing::Read(1), (7, "error 7 source\n"), false),
         (Failing::StoreCall(0), (7, "error 7 store\n"), false),
+        (Failing::Make(0), (7, "error 7 spill\n"), false),
         (Failing::Write(0), (7, ""), true),
         (Failing::Write(1), (7, "poin"), true),
         (Failing::Write(4), (7, "points 1 nodes 1"), true),
@@ -249,7 +249,12 @@ impl Shelf for ChangingShelf {
 }
 
 /// Builds a scan that is another at its second reading.
-fn carry_out_changing(alloc: Global, first: &[u8], later: &[u8]) -> Result<Answer, AllocError> {
+fn carry_out_changing(
+    rt: &impl Machine,
+    alloc: Global,
+    first: &[u8],
+    later: &[u8],
+) -> Result<Answer, AllocError> {
     let words = texts(alloc, BUILD)?;
     let mut shelf = ChangingShelf {
         alloc,
@@ -262,7 +267,7 @@ fn carry_out_changing(alloc: Global, first: &[u8], later: &[u8]) -> Result<Answe
     let mut room = MemRoom::new(alloc, Vec::new(alloc), Vec::new(alloc));
     let mut out = MemSink::new(alloc, 4, Vec::new(alloc));
     let status = run(
-        alloc, &words, &mut shelf, &mut store, &mut room, &mut out, &OpenGate,
+        rt, alloc, &words, &mut shelf, &mut store, &mut room, &mut out, &OpenGate,
     );
     Ok(Answer { status, store, out })
 }
@@ -276,7 +281,7 @@ fn a_scan_that_changes_is_refused(rt: HostRuntime) -> Result<(), Fail> {
     Ok(())
 }
 
-fn expect_changed(rt: &impl Abort, alloc: Global) -> Result<(), AllocError> {
+fn expect_changed(rt: &impl Machine, alloc: Global) -> Result<(), AllocError> {
     let two = las(alloc, 2, &[at(1, 1, 1), at(2, 2, 2)])?;
     let mut cut = las(alloc, 2, &[at(1, 1, 1), at(2, 2, 2)])?;
     cut.truncate(266);
@@ -286,9 +291,9 @@ fn expect_changed(rt: &impl Abort, alloc: Global) -> Result<(), AllocError> {
         (&cut, (4, "error 4 changed source 0 number 1\n")),
         (&fewer, (4, "error 4 changed source 0 number 0\n")),
     ] {
-        let mut found = carry_out_changing(alloc, &two, later)?;
+        let mut found = carry_out_changing(rt, alloc, &two, later)?;
         if may_lack_memory(&found, want) {
-            found = carry_out_changing(alloc, &two, later)?;
+            found = carry_out_changing(rt, alloc, &two, later)?;
         }
         compare(rt, &found, want, want.0 == 0);
     }

@@ -31,6 +31,8 @@ use std::alloc::{AllocError, Global};
 use std::env;
 use std::io::{ErrorKind, IsTerminal, writer};
 use std::process::ExitCode;
+use std::sync::Wait;
+use std::thread::Threads;
 
 fn main(rt: HostRuntime) -> ExitCode {
     let alloc = rt.alloc();
@@ -46,7 +48,7 @@ fn main(rt: HostRuntime) -> ExitCode {
     };
     let mut out = Heard::new(alloc, RealSink::new(ending));
     let ended = match refusal {
-        None => start(alloc, &files, &words, &mut out),
+        None => start(&rt, alloc, &files, &words, &mut out),
         Some(refusal) => Ended::with(refuse(alloc, &mut out, refusal)),
     };
     files.end();
@@ -118,7 +120,8 @@ fn given_words(rt: &HostRuntime) -> Result<Vec<String>, Refusal> {
 
 // Runs the words over these files, and over the folder that they name. A command that names none has a store
 // in memory.
-fn start<'a, O: Sink>(
+fn start<'a, O: Sink, R: Threads + Wait + Sync>(
+    rt: &R,
     alloc: Global,
     files: &'a SeenFiles<HostRuntime>,
     words: &'a [String],
@@ -131,13 +134,13 @@ fn start<'a, O: Sink>(
         Command::Build { out: folder, .. } => {
             let mut store = RealStore::new(alloc, files, folder);
             run(
-                alloc, words, &mut shelf, &mut store, &mut room, out, &OpenGate,
+                rt, alloc, words, &mut shelf, &mut store, &mut room, out, &OpenGate,
             )
         }
         Command::Query { out: folder, .. } => {
             let mut store = Watched::new(alloc, RealStore::new(alloc, files, folder));
             let status = run(
-                alloc, words, &mut shelf, &mut store, &mut room, out, &OpenGate,
+                rt, alloc, words, &mut shelf, &mut store, &mut room, out, &OpenGate,
             );
             got = String::from_str(alloc, store.name()).ok();
             status
@@ -145,7 +148,7 @@ fn start<'a, O: Sink>(
         _ => {
             let mut store = MemStore::new(alloc, Vec::new(alloc), Vec::new(alloc));
             run(
-                alloc, words, &mut shelf, &mut store, &mut room, out, &OpenGate,
+                rt, alloc, words, &mut shelf, &mut store, &mut room, out, &OpenGate,
             )
         }
     };

@@ -1,6 +1,6 @@
 //! The sentences of refusals: each line, and what is said of it.
 
-use crate::tests::{at, file, las, same, same_at, texts};
+use crate::tests::{Machine, at, file, las, same, same_at, texts};
 use ept_base::OpenGate;
 use ept_mem::{MemRoom, MemShelf, MemSink, MemStore};
 use ept_messages::{Differing, Names, difference_sentence, message};
@@ -95,6 +95,7 @@ error 8 checkpoint a|`ept-work/body-a` in out is absent or damaged
 error 8 tile 2-0-1-3|the saved tile of 2-0-1-3 in out is absent or damaged
 error 7 source|flights/b.las could not be opened or read
 error 7 store|a file of out could not be written or flushed
+error 7 spill|a spill file for out could not be made: run the same build again
 error 9 memory|out of memory
 points 3 nodes 1|standard output could not be written: points 3 nodes 1
 ";
@@ -322,14 +323,14 @@ const AGAIN: [(&str, &str, &str); 4] = [
 ];
 
 // A store with what a build of the bounded configuration leaves.
-fn built(rt: &impl Abort, alloc: Global) -> Result<MemStore, AllocError> {
+fn built(rt: &impl Machine, alloc: Global) -> Result<MemStore, AllocError> {
     let words = texts(alloc, BUILD)?;
     let mut store = empty_store(alloc);
     let mut shelf = shelf_of(alloc, BOUNDED)?;
     let mut room = MemRoom::new(alloc, Vec::new(alloc), Vec::new(alloc));
     let mut out = MemSink::new(alloc, 9, Vec::new(alloc));
     let status = run(
-        alloc, &words, &mut shelf, &mut store, &mut room, &mut out, &OpenGate,
+        rt, alloc, &words, &mut shelf, &mut store, &mut room, &mut out, &OpenGate,
     );
     if status == 9 {
         return Err(AllocError);
@@ -348,7 +349,7 @@ fn a_difference_is_read_again(rt: HostRuntime) -> Result<(), Fail> {
     Ok(())
 }
 
-fn expect_differences(rt: &impl Abort, alloc: Global) -> Result<(), AllocError> {
+fn expect_differences(rt: &impl Machine, alloc: Global) -> Result<(), AllocError> {
     let mut store = built(rt, alloc)?;
     for (configuration, line, want) in AGAIN {
         let row = (line, Some(want));

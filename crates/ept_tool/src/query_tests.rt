@@ -1,15 +1,14 @@
 //! Queries through `run`, over folders in memory.
 
 use crate::tests::{
-    Answer, BUILD, Failing, Given, Shelved, at, carry_out, las, may_lack_memory, same, same_at,
-    texts,
+    Answer, BUILD, Failing, Given, Machine, Shelved, at, carry_out, las, may_lack_memory, same,
+    same_at, texts,
 };
 use crate::worked_tests::packed;
 use ept_base::{OpenGate, Store};
 use ept_mem::{MemRoom, MemShelf, MemSink, MemStore};
 use ept_run::run;
 use std::alloc::{AllocError, Global};
-use std::process::Abort;
 use std::test::Fail;
 
 const CONFIGURATION: &str = "{\"input\":\"a.las\",\"scale\":2,\"bounds\":[0,0,0,7,7,7],\"span\":2,\
@@ -31,7 +30,7 @@ const NO_ROOT: File<'static> = ("ept-hierarchy/0-0-0-0.json", b"{}");
 const NO_TILE: File<'static> = ("ept-data/1-0-0-0.bin", b"");
 
 /// The folder of two points in two nodes as it is built, with these files put into it.
-fn folder(rt: &impl Abort, alloc: Global, files: &[File]) -> Result<MemStore, AllocError> {
+fn folder(rt: &impl Machine, alloc: Global, files: &[File]) -> Result<MemStore, AllocError> {
     let scan = las(alloc, 2, &[at(1, 1, 1), at(3, 3, 3)])?;
     let given = Given {
         words: BUILD,
@@ -42,9 +41,9 @@ fn folder(rt: &impl Abort, alloc: Global, files: &[File]) -> Result<MemStore, Al
         },
         failing: Failing::Nothing,
     };
-    let mut built = carry_out(alloc, given)?;
+    let mut built = carry_out(rt, alloc, given)?;
     if may_lack_memory(&built, (0, "points 2 nodes 2\n")) {
-        built = carry_out(alloc, given)?;
+        built = carry_out(rt, alloc, given)?;
     }
     same(rt, &built.status, &0);
     let mut store = built.store;
@@ -58,6 +57,7 @@ fn folder(rt: &impl Abort, alloc: Global, files: &[File]) -> Result<MemStore, Al
 
 /// Asks a store for a box and depths. The sink takes 64 bytes at a time, and the writes of these numbers fail.
 fn ask(
+    rt: &impl Machine,
     alloc: Global,
     mut store: MemStore,
     asked: (&str, &str),
@@ -68,22 +68,22 @@ fn ask(
     let mut room = MemRoom::new(alloc, Vec::new(alloc), Vec::new(alloc));
     let mut out = MemSink::new(alloc, 64, fails);
     let status = run(
-        alloc, &words, &mut shelf, &mut store, &mut room, &mut out, &OpenGate,
+        rt, alloc, &words, &mut shelf, &mut store, &mut room, &mut out, &OpenGate,
     );
     Ok(Answer { status, store, out })
 }
 
 /// Compares the answer of a query. One that may have lacked memory is asked again, over a fresh folder.
 fn expect(
-    rt: &impl Abort,
+    rt: &impl Machine,
     alloc: Global,
     files: &[File],
     asked: (&str, &str),
     want: (u8, &[u8]),
 ) -> Result<(), AllocError> {
-    let mut found = ask(alloc, folder(rt, alloc, files)?, asked, Vec::new(alloc))?;
+    let mut found = ask(rt, alloc, folder(rt, alloc, files)?, asked, Vec::new(alloc))?;
     if found.status == 9 || found.out.bytes() != want.1 {
-        found = ask(alloc, folder(rt, alloc, files)?, asked, Vec::new(alloc))?;
+        found = ask(rt, alloc, folder(rt, alloc, files)?, asked, Vec::new(alloc))?;
     }
     same_at(rt, &found.status, &want.0, &asked);
     same_at(rt, &found.out.bytes(), &want.1, &asked);
@@ -100,7 +100,7 @@ fn each_query_has_its_points(rt: HostRuntime) -> Result<(), Fail> {
 }
 
 // Of two at one distance the first stays in the root.
-fn expect_points(rt: &impl Abort, alloc: Global) -> Result<(), AllocError> {
+fn expect_points(rt: &impl Machine, alloc: Global) -> Result<(), AllocError> {
     let first = packed(alloc, &[([1, 1, 1], 0, 0)])?;
     let second = packed(alloc, &[([3, 3, 3], 1, 0)])?;
     let both = packed(alloc, &[([1, 1, 1], 0, 0), ([3, 3, 3], 1, 0)])?;
@@ -128,7 +128,7 @@ fn each_query_that_is_refused_has_its_status(rt: HostRuntime) -> Result<(), Fail
 
 // A gate that is shut, and files that are no more of their form: of a tile that is refused no byte is written,
 // and those before it are.
-fn expect_refusals(rt: &impl Abort, alloc: Global) -> Result<(), AllocError> {
+fn expect_refusals(rt: &impl Machine, alloc: Global) -> Result<(), AllocError> {
     let first = packed(alloc, &[([1, 1, 1], 0, 0)])?;
     for (file, status, want) in [
         (SHUT, 6, NOTHING),
@@ -151,16 +151,16 @@ fn a_query_whose_sink_fails_is_told(rt: HostRuntime) -> Result<(), Fail> {
 }
 
 // Each tile is one write.
-fn expect_cuts(rt: &impl Abort, alloc: Global) -> Result<(), AllocError> {
+fn expect_cuts(rt: &impl Machine, alloc: Global) -> Result<(), AllocError> {
     let first = packed(alloc, &[([1, 1, 1], 0, 0)])?;
     expect_cut(rt, alloc, 0, NOTHING)?;
     expect_cut(rt, alloc, 1, &first)
 }
 
-fn expect_cut(rt: &impl Abort, alloc: Global, call: u64, bytes: &[u8]) -> Result<(), AllocError> {
+fn expect_cut(rt: &impl Machine, alloc: Global, call: u64, bytes: &[u8]) -> Result<(), AllocError> {
     let mut fails = Vec::new(alloc);
     fails.push(call)?;
-    let found = ask(alloc, folder(rt, alloc, &[])?, ALL, fails)?;
+    let found = ask(rt, alloc, folder(rt, alloc, &[])?, ALL, fails)?;
     if found.status == 9 {
         return Err(AllocError);
     }

@@ -6,7 +6,14 @@ use ept_run::run;
 use std::alloc::{AllocError, Global};
 use std::fmt::Debug;
 use std::process::Abort;
+use std::sync::Wait;
 use std::test::Fail;
+use std::thread::Threads;
+
+/// What a run in a test needs of the machine: to start threads, to wait for them, and to compare.
+pub(crate) trait Machine: Abort + Threads + Wait + Sync {}
+
+impl<R: Abort + Threads + Wait + Sync> Machine for R {}
 
 // What `assert_eq!` writes is proved wherever it stands, so it stands here once.
 pub(crate) fn same<T: PartialEq + Debug>(rt: &impl Abort, found: &T, wanted: &T) {
@@ -97,6 +104,7 @@ pub(crate) enum Failing {
     Open(u64),
     Read(u64),
     StoreCall(u64),
+    Make(u64),
     Write(u64),
 }
 
@@ -151,16 +159,22 @@ pub(crate) fn store_of(alloc: Global, fails: Vec<u64>) -> Result<MemStore, Alloc
 }
 
 /// Carries out the words over the files. An `Err` says that there was no memory for the preparation.
-pub(crate) fn carry_out(alloc: Global, given: Given<'_>) -> Result<Answer, AllocError> {
+pub(crate) fn carry_out(
+    rt: &impl Machine,
+    alloc: Global,
+    given: Given<'_>,
+) -> Result<Answer, AllocError> {
     let mut opens = Vec::new(alloc);
     let mut reads = Vec::new(alloc);
     let mut calls = Vec::new(alloc);
+    let mut makes = Vec::new(alloc);
     let mut writes = Vec::new(alloc);
     match given.failing {
         Failing::Nothing => {}
         Failing::Open(call) => opens.push(call)?,
         Failing::Read(call) => reads.push(call)?,
         Failing::StoreCall(call) => calls.push(call)?,
+        Failing::Make(call) => makes.push(call)?,
         Failing::Write(call) => writes.push(call)?,
     }
     let words = texts(alloc, given.words)?;
@@ -170,10 +184,10 @@ pub(crate) fn carry_out(alloc: Global, given: Given<'_>) -> Result<Answer, Alloc
     files.push(file(alloc, "b.las", given.shelved.b)?)?;
     let mut shelf = MemShelf::new(alloc, files, opens, reads);
     let mut store = store_of(alloc, calls)?;
-    let mut room = MemRoom::new(alloc, Vec::new(alloc), Vec::new(alloc));
+    let mut room = MemRoom::new(alloc, makes, Vec::new(alloc));
     let mut out = MemSink::new(alloc, 4, writes);
     let status = run(
-        alloc, &words, &mut shelf, &mut store, &mut room, &mut out, &OpenGate,
+        rt, alloc, &words, &mut shelf, &mut store, &mut room, &mut out, &OpenGate,
     );
     Ok(Answer { status, store, out })
 }
@@ -207,15 +221,15 @@ pub(crate) fn compare(rt: &impl Abort, found: &Answer, want: (u8, &str), is_comp
 ///
 /// A run that may have found no memory is made again over fresh devices: then it is whole.
 pub(crate) fn expect(
-    rt: &impl Abort,
+    rt: &impl Machine,
     alloc: Global,
     given: Given<'_>,
     want: (u8, &str),
     is_complete: bool,
 ) -> Result<(), AllocError> {
-    let mut found = carry_out(alloc, given)?;
+    let mut found = carry_out(rt, alloc, given)?;
     if may_lack_memory(&found, want) {
-        found = carry_out(alloc, given)?;
+        found = carry_out(rt, alloc, given)?;
     }
     compare(rt, &found, want, is_complete);
     Ok(())
@@ -233,7 +247,7 @@ fn each_command_has_its_status(rt: HostRuntime) -> Result<(), Fail> {
     Ok(())
 }
 
-fn expect_commands(rt: &impl Abort, alloc: Global) -> Result<(), AllocError> {
+fn expect_commands(rt: &impl Machine, alloc: Global) -> Result<(), AllocError> {
     let scan = las(alloc, 0, &[])?;
     let shelved = Shelved {
         configuration: CONFIGURATION.as_bytes(),
@@ -342,7 +356,7 @@ const REFUSED: &str = r#"
 5 checkpoint {"input":"a.las","scale":2,"checkpoint":1099511627777}
 "#;
 
-fn expect_configurations(rt: &impl Abort, alloc: Global) -> Result<(), AllocError> {
+fn expect_configurations(rt: &impl Machine, alloc: Global) -> Result<(), AllocError> {
     for row in REFUSED.lines() {
         let Some((code, rest)) = row.split_once(' ') else {
             continue;
@@ -358,7 +372,7 @@ fn expect_configurations(rt: &impl Abort, alloc: Global) -> Result<(), AllocErro
 
 /// Builds a configuration beside an empty scan, and nothing is put.
 pub(crate) fn expect_text(
-    rt: &impl Abort,
+    rt: &impl Machine,
     alloc: Global,
     text: &[u8],
     want: (u8, &str),
@@ -394,7 +408,7 @@ pub(crate) fn spaced(alloc: Global, length: usize) -> Result<Vec<u8>, AllocError
     Ok(text)
 }
 
-fn expect_too_long(rt: &impl Abort, alloc: Global) -> Result<(), AllocError> {
+fn expect_too_long(rt: &impl Machine, alloc: Global) -> Result<(), AllocError> {
     for length in [16_777_217, 17_000_000] {
         let text = spaced(alloc, length)?;
         expect_text(rt, alloc, &text, (3, "error 3 config 7 -\n"))?;
@@ -411,7 +425,7 @@ fn each_header_has_its_line(rt: HostRuntime) -> Result<(), Fail> {
     Ok(())
 }
 
-fn expect_headers(rt: &impl Abort, alloc: Global) -> Result<(), AllocError> {
+fn expect_headers(rt: &impl Machine, alloc: Global) -> Result<(), AllocError> {
     let one = las(alloc, 1, &[at(1, 1, 1)])?;
     let mut cut = las(alloc, 1, &[at(1, 1, 1)])?;
     cut.truncate(246);
@@ -432,7 +446,7 @@ fn expect_headers(rt: &impl Abort, alloc: Global) -> Result<(), AllocError> {
 
 /// Asks what is known of this scan.
 fn expect_info(
-    rt: &impl Abort,
+    rt: &impl Machine,
     alloc: Global,
     scan: &[u8],
     want: (u8, &str),
@@ -459,7 +473,7 @@ fn each_fault_of_a_header_has_its_line(rt: HostRuntime) -> Result<(), Fail> {
 }
 
 // A byte of the header that is changed, the length of a record, and the number of the fault.
-fn expect_header_faults(rt: &impl Abort, alloc: Global) -> Result<(), AllocError> {
+fn expect_header_faults(rt: &impl Machine, alloc: Global) -> Result<(), AllocError> {
     for (place, byte, length, line) in [
         (3, b'G', 20, "error 4 las 2 source 0\n"),
         (24, 2, 20, "error 4 las 3 source 0\n"),
@@ -490,7 +504,7 @@ fn a_sink_that_fails_changes_no_refusal(rt: HostRuntime) -> Result<(), Fail> {
 }
 
 // The sink takes four bytes at a time.
-fn expect_cut_lines(rt: &impl Abort, alloc: Global) -> Result<(), AllocError> {
+fn expect_cut_lines(rt: &impl Machine, alloc: Global) -> Result<(), AllocError> {
     let scan = las(alloc, 0, &[])?;
     let shelved = Shelved {
         configuration: b"{",

@@ -1,8 +1,7 @@
 //! Trials through `run`, over devices in memory: each ends with its line, and touches no device but the sink.
 
-use crate::tests::{Failing, Given, Shelved, expect};
+use crate::tests::{Failing, Given, Machine, Shelved, expect};
 use std::alloc::{AllocError, Global};
-use std::process::Abort;
 use std::test::Fail;
 
 const EMPTY: &[&str] = &["trial", "0", "1", "1"];
@@ -10,6 +9,21 @@ const EMPTY: &[&str] = &["trial", "0", "1", "1"];
 const EMPTY_LINE: &str = "points 0 nodes 1 depth 0 sum 0\n";
 
 const LARGE_LINE: &str = "points 20000 nodes 2 depth 1 sum 17892216\n";
+
+const LARGEST_LINE: &str = "points 100000 nodes 8 depth 2 sum 100653815\n";
+
+/// How many workers there are, and how many nodes may be in memory meanwhile.
+const SCHEDULES: [(&str, &str); 9] = [
+    ("1", "1"),
+    ("1", "5"),
+    ("2", "5"),
+    ("4", "5"),
+    ("5", "5"),
+    ("1", "500"),
+    ("2", "500"),
+    ("4", "500"),
+    ("5", "500"),
+];
 
 /// Words over files of no bytes, and the call that fails.
 fn given<'a>(words: &'a [&'a str], failing: Failing) -> Given<'a> {
@@ -35,7 +49,7 @@ fn an_empty_trial_has_its_line(rt: HostRuntime) -> Result<(), Fail> {
 
 // Without a point there is the root alone. The greatest and the least of each number are taken. No call but one
 // of the sink changes the answer, since there is none.
-fn expect_empty(rt: &impl Abort, alloc: Global) -> Result<(), AllocError> {
+fn expect_empty(rt: &impl Machine, alloc: Global) -> Result<(), AllocError> {
     for words in [
         EMPTY,
         &["trial", "0", "1", "65536"],
@@ -64,7 +78,7 @@ fn the_line_of_a_trial_may_be_cut(rt: HostRuntime) -> Result<(), Fail> {
 }
 
 // The sink takes four bytes at a time, so a line of 31 is written in eight calls.
-fn expect_cuts(rt: &impl Abort, alloc: Global) -> Result<(), AllocError> {
+fn expect_cuts(rt: &impl Machine, alloc: Global) -> Result<(), AllocError> {
     for (call, written) in [
         (0, ""),
         (1, "poin"),
@@ -93,7 +107,7 @@ fn each_trial_has_its_line(rt: HostRuntime) -> Result<(), Fail> {
 
 // The one point of a trial of one lies at (34774, 44153, 196), whose bytes come to 838. The others' lines are
 // those of the second implementation. Neither workers nor cache change a line, nor does another run.
-fn expect_lines(rt: &impl Abort, alloc: Global) -> Result<(), AllocError> {
+fn expect_lines(rt: &impl Machine, alloc: Global) -> Result<(), AllocError> {
     for (words, line) in [
         (
             &["trial", "1", "1", "1"],
@@ -105,14 +119,14 @@ fn expect_lines(rt: &impl Abort, alloc: Global) -> Result<(), AllocError> {
         ),
         (&["trial", "20000", "1", "1"], LARGE_LINE),
         (&["trial", "20000", "1", "1"], LARGE_LINE),
-        (&["trial", "20000", "2", "500"], LARGE_LINE),
-        (
-            &["trial", "100000", "1", "1"],
-            "points 100000 nodes 8 depth 2 sum 100653815\n",
-        ),
     ] {
         let whole = given(words, Failing::Nothing);
         expect(rt, alloc, whole, (0, line), false)?;
+    }
+    for (workers, cache) in SCHEDULES {
+        let words = ["trial", "100000", workers, cache];
+        let whole = given(&words, Failing::Nothing);
+        expect(rt, alloc, whole, (0, LARGEST_LINE), false)?;
     }
     Ok(())
 }

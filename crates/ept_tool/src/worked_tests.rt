@@ -1,7 +1,8 @@
 //! Worked builds through `run`: the line, and the bytes of the files that are left.
 
 use crate::tests::{
-    Answer, BUILD, Failing, Given, Shelved, at, carry_out, las, may_lack_memory, same, same_at,
+    Answer, BUILD, Failing, Given, Machine, Shelved, at, carry_out, las, may_lack_memory, same,
+    same_at,
 };
 use std::alloc::{AllocError, Global};
 use std::process::Abort;
@@ -35,7 +36,7 @@ struct Row<'a> {
 }
 
 /// Carries out a build, once more where it lacked memory, and compares its line.
-fn built(rt: &impl Abort, alloc: Global, row: &Row<'_>) -> Result<Answer, AllocError> {
+fn built(rt: &impl Machine, alloc: Global, row: &Row<'_>) -> Result<Answer, AllocError> {
     let given = Given {
         words: BUILD,
         shelved: Shelved {
@@ -45,9 +46,9 @@ fn built(rt: &impl Abort, alloc: Global, row: &Row<'_>) -> Result<Answer, AllocE
         },
         failing: Failing::Nothing,
     };
-    let mut found = carry_out(alloc, given)?;
+    let mut found = carry_out(rt, alloc, given)?;
     if may_lack_memory(&found, (0, row.line)) {
-        found = carry_out(alloc, given)?;
+        found = carry_out(rt, alloc, given)?;
     }
     same_at(rt, &found.status, &0, &row.line);
     same(rt, &found.out.bytes(), &row.line.as_bytes());
@@ -171,7 +172,7 @@ fn each_list_of_places_has_its_octree(rt: HostRuntime) -> Result<(), Fail> {
     Ok(())
 }
 
-fn expect_trees(rt: &impl Abort, alloc: Global) -> Result<(), AllocError> {
+fn expect_trees(rt: &impl Machine, alloc: Global) -> Result<(), AllocError> {
     for tree in TREES {
         let mut records = Vec::new(alloc);
         for [x, y, z] in tree.places {
@@ -227,7 +228,7 @@ fn each_form_of_a_scan_has_its_files(rt: HostRuntime) -> Result<(), Fail> {
     Ok(())
 }
 
-fn expect_forms(rt: &impl Abort, alloc: Global) -> Result<(), AllocError> {
+fn expect_forms(rt: &impl Machine, alloc: Global) -> Result<(), AllocError> {
     expect_ends_of_the_type(rt, alloc)?;
     expect_bounds_found(rt, alloc)?;
     expect_shift(rt, alloc)?;
@@ -244,7 +245,7 @@ const GREATEST: [u8; 20] = [
     255, 255, 255, 127, 255, 255, 255, 127, 255, 255, 255, 127, 0, 0, 0, 0, 0, 0, 0, 0,
 ];
 
-fn expect_ends_of_the_type(rt: &impl Abort, alloc: Global) -> Result<(), AllocError> {
+fn expect_ends_of_the_type(rt: &impl Machine, alloc: Global) -> Result<(), AllocError> {
     let scan = las(alloc, 2, &[LEAST, GREATEST])?;
     let row = Row {
         configuration: "{\"input\":\"a.las\",\"scale\":2,\"span\":1024,\"bounds\":[-2147483648,\
@@ -271,7 +272,7 @@ fn expect_ends_of_the_type(rt: &impl Abort, alloc: Global) -> Result<(), AllocEr
 }
 
 // Without bounds the extent of the points is taken, and a cube of side 2 holds its one place.
-fn expect_bounds_found(rt: &impl Abort, alloc: Global) -> Result<(), AllocError> {
+fn expect_bounds_found(rt: &impl Machine, alloc: Global) -> Result<(), AllocError> {
     let scan = las(alloc, 1, &[at(1, 2, 3)])?;
     let row = Row {
         configuration: "{\"input\":\"a.las\",\"scale\":2,\"span\":2}",
@@ -292,7 +293,7 @@ fn expect_bounds_found(rt: &impl Abort, alloc: Global) -> Result<(), AllocError>
 }
 
 // Raw (3, 3, 3) in tenths, shifted by (5, 0, -7) hundredths, is stored as (35, 30, 23).
-fn expect_shift(rt: &impl Abort, alloc: Global) -> Result<(), AllocError> {
+fn expect_shift(rt: &impl Machine, alloc: Global) -> Result<(), AllocError> {
     let scan = las(alloc, 1, &[at(3, 3, 3)])?;
     let row = Row {
         configuration: "{\"input\":[{\"path\":\"a.las\",\"scale\":1,\"shift\":[5,0,-7]}],\
@@ -307,22 +308,31 @@ fn expect_shift(rt: &impl Abort, alloc: Global) -> Result<(), AllocError> {
     Ok(())
 }
 
-// Of two points at one distance the one of the first input wins.
-fn expect_two_inputs(rt: &impl Abort, alloc: Global) -> Result<(), AllocError> {
+/// Two inputs, with one worker and with several.
+const TIED: [&str; 2] = [
+    "{\"input\":[\"a.las\",\"b.las\"],\"scale\":2,\"bounds\":[0,0,0,7,7,7],\
+\"span\":2,\"minNodeSize\":0,\"threads\":1,\"cacheSize\":1}",
+    "{\"input\":[\"a.las\",\"b.las\"],\"scale\":2,\"bounds\":[0,0,0,7,7,7],\
+\"span\":2,\"minNodeSize\":0,\"threads\":4,\"cacheSize\":4}",
+];
+
+// Of two points at one distance the one of the first input wins, whichever worker comes last.
+fn expect_two_inputs(rt: &impl Machine, alloc: Global) -> Result<(), AllocError> {
     let first = las(alloc, 1, &[at(3, 3, 3)])?;
     let second = las(alloc, 1, &[at(1, 1, 1)])?;
-    let row = Row {
-        configuration: "{\"input\":[\"a.las\",\"b.las\"],\"scale\":2,\"bounds\":[0,0,0,7,7,7],\
-\"span\":2,\"minNodeSize\":0,\"threads\":1,\"cacheSize\":1}",
-        a: &first,
-        b: &second,
-        line: "points 2 nodes 2\n",
-    };
-    let found = built(rt, alloc, &row)?;
     let root = packed(alloc, &[(THREE, 0, 0)])?;
     let lower = packed(alloc, &[(ONE, 0, 1)])?;
-    expect_file(rt, &found, "ept-data/0-0-0-0.bin", &root);
-    expect_file(rt, &found, "ept-data/1-0-0-0.bin", &lower);
+    for configuration in TIED {
+        let row = Row {
+            configuration,
+            a: &first,
+            b: &second,
+            line: "points 2 nodes 2\n",
+        };
+        let found = built(rt, alloc, &row)?;
+        expect_file(rt, &found, "ept-data/0-0-0-0.bin", &root);
+        expect_file(rt, &found, "ept-data/1-0-0-0.bin", &lower);
+    }
     Ok(())
 }
 
@@ -365,7 +375,7 @@ fn other_form(
 }
 
 // LAS 1.4 with colour and LAS 1.2 with GPS time, in one tile.
-fn expect_mixed_formats(rt: &impl Abort, alloc: Global) -> Result<(), AllocError> {
+fn expect_mixed_formats(rt: &impl Machine, alloc: Global) -> Result<(), AllocError> {
     let [size_low, size_high] = 375u16.to_le_bytes();
     let color = other_form(
         alloc,

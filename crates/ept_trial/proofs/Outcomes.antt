@@ -11,7 +11,7 @@ use Rattle.ept_save.specs.Current.{Current, HasCurrent}
 use Rattle.ept_save.specs.SoundLaws.{EmptyIsSound}
 use Rattle.ept_sure.specs.Objects.{no_files}
 use Rattle.ept_build.specs.declared.error.BuildError.{BuildError}
-use Rattle.ept_build.specs.declared.error.BuildError.TheVariants.{StoreFault, SourceFault, Memory}
+use Rattle.ept_build.specs.declared.error.BuildError.TheVariants.{StoreFault, SourceFault, SpillFault, Memory}
 use Rattle.ept_build.specs.declared.summary.Summary.{Summary}
 use Rattle.ept_build.specs.Building.{BeginsWith, HasPoints, IsBuilt, IsRefused, IsRefusedAt}
 use Rattle.ept_trial.specs.Scans.{HasScans}
@@ -47,7 +47,7 @@ module _ (count : ℕ) (few : count ≤ 10000000) (all : Files) (scans : HasScan
       built-none files summary b (subst (λ (c : Current). HasPoints all config c b.kept b.points) (none-current b.current b.has_current) b.has_points)
 
   module _ (ascends : ScanAscends) (within : ScanLiesWithin) (ordered : AscendingIsOrdered) (can : PointsCanBeSampled) (fewer : TilesAreFew) where
-    pub refused-memory : (e : BuildError) → IsRefused all config no_files e → (e ≡ StoreFault → ⊥) → (e ≡ SourceFault → ⊥) → e ≡ Memory
-    refused-memory e r stores sources =
+    pub refused-memory : (e : BuildError) → IsRefused all config no_files e → (e ≡ StoreFault → ⊥) → (e ≡ SourceFault → ⊥) → (e ≡ SpillFault → ⊥) → e ≡ Memory
+    refused-memory e r stores sources spills =
         only-memory count few all scans config is ascends within ordered can fewer e
-        (subst (λ (c : Current). IsRefusedAt all config c e) (none-current r.current r.has_current) r.because) stores sources
+        (subst (λ (c : Current). IsRefusedAt all config c e) (none-current r.current r.has_current) r.because) stores sources spills

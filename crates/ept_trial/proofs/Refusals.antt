@@ -23,7 +23,7 @@ use Rattle.ept_meta.specs.Output.{rules_of}
 use Rattle.ept_meta.specs.OutputLaws.{PointsCanBeSampled}
 use Rattle.ept_few.specs.Few.{TilesAreFew, most_nodes}
 use Rattle.ept_build.specs.declared.error.BuildError.{BuildError}
-use Rattle.ept_build.specs.declared.error.BuildError.TheVariants.{StoreFault, BadCheckpoint, TileDamaged, Differs, SourceFault, BadLas, OutOfBounds, TooManyPoints, NoBounds, SourceChanged, TooManyNodes, Memory}
+use Rattle.ept_build.specs.declared.error.BuildError.TheVariants.{StoreFault, BadCheckpoint, TileDamaged, Differs, SourceFault, BadLas, OutOfBounds, TooManyPoints, NoBounds, SourceChanged, SpillFault, TooManyNodes, Memory}
 use Rattle.ept_build.specs.Building.{HasPoints, node_count, IsRefusedAt}
 use Rattle.ept_trial.specs.Trials.{trial_bounds, trial_rules, AreTrialPoints}
 use Rattle.ept_trial.specs.Scans.{HasScans}
@@ -77,19 +77,20 @@ module _ (count : ℕ) (few : count ≤ 10000000) (all : Files) (scans : HasScan
         let small = few-nodes in
         omega (arith, bound, small)
 
-    pub only-memory : (e : BuildError) → IsRefusedAt all config None e → (e ≡ StoreFault → ⊥) → (e ≡ SourceFault → ⊥) → e ≡ Memory
-    only-memory StoreFault refused stores sources = absurd (stores refl)
-    only-memory SourceFault refused stores sources = absurd (sources refl)
-    only-memory Memory refused stores sources = refl
-    only-memory (BadCheckpoint letter) refused stores sources = absurd refused
-    only-memory (TileDamaged key) refused stores sources = absurd refused
-    only-memory (Differs field kept given) refused stores sources = absurd refused
-    only-memory (BadLas source fault) refused stores sources = ⊎_elim (λ (h : scan.BadLas source fault ≡ scan.SourceFault). absurd cc) (λ (h : scan.BadLas source fault ≡ scan.Memory). absurd cc) (no-input (scan.BadLas source fault) refused.1)
-    only-memory (OutOfBounds source number) refused stores sources = ⊎_elim (λ (h : scan.OutOfBounds source number ≡ scan.SourceFault). absurd cc) (λ (h : scan.OutOfBounds source number ≡ scan.Memory). absurd cc) (no-input (scan.OutOfBounds source number) refused.1)
-    only-memory (TooManyPoints source) refused stores sources = ⊎_elim (λ (h : scan.TooManyPoints source ≡ scan.SourceFault). absurd cc) (λ (h : scan.TooManyPoints source ≡ scan.Memory). absurd cc) (no-input (scan.TooManyPoints source) refused.1)
-    only-memory NoBounds refused stores sources = (let none = refused.1.unlimited in let given = is.bounds_is in absurd cc)
-    only-memory (SourceChanged source number) refused stores sources = absurd refused
-    only-memory TooManyNodes refused stores sources =
+    pub only-memory : (e : BuildError) → IsRefusedAt all config None e → (e ≡ StoreFault → ⊥) → (e ≡ SourceFault → ⊥) → (e ≡ SpillFault → ⊥) → e ≡ Memory
+    only-memory StoreFault refused stores sources spills = absurd (stores refl)
+    only-memory SourceFault refused stores sources spills = absurd (sources refl)
+    only-memory SpillFault refused stores sources spills = absurd (spills refl)
+    only-memory Memory refused stores sources spills = refl
+    only-memory (BadCheckpoint letter) refused stores sources spills = absurd refused
+    only-memory (TileDamaged key) refused stores sources spills = absurd refused
+    only-memory (Differs field kept given) refused stores sources spills = absurd refused
+    only-memory (BadLas source fault) refused stores sources spills = ⊎_elim (λ (h : scan.BadLas source fault ≡ scan.SourceFault). absurd cc) (λ (h : scan.BadLas source fault ≡ scan.Memory). absurd cc) (no-input (scan.BadLas source fault) refused.1)
+    only-memory (OutOfBounds source number) refused stores sources spills = ⊎_elim (λ (h : scan.OutOfBounds source number ≡ scan.SourceFault). absurd cc) (λ (h : scan.OutOfBounds source number ≡ scan.Memory). absurd cc) (no-input (scan.OutOfBounds source number) refused.1)
+    only-memory (TooManyPoints source) refused stores sources spills = ⊎_elim (λ (h : scan.TooManyPoints source ≡ scan.SourceFault). absurd cc) (λ (h : scan.TooManyPoints source ≡ scan.Memory). absurd cc) (no-input (scan.TooManyPoints source) refused.1)
+    only-memory NoBounds refused stores sources spills = (let none = refused.1.unlimited in let given = is.bounds_is in absurd cc)
+    only-memory (SourceChanged source number) refused stores sources spills = absurd refused
+    only-memory TooManyNodes refused stores sources spills =
         let few_nodes = nodes-few refused.kept refused.points refused.has_points in
         let many = refused.many in
         let most = is.nodes_is in

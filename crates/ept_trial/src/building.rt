@@ -23,6 +23,8 @@ use ept_save::sound_law;
 use ept_scan::{ascending_law, placed_law};
 use ept_sure::{SureRoom, SureShelf, SureStore};
 use std::alloc::Global;
+use std::sync::Wait;
+use std::thread::Threads;
 
 /// Builds the octree of the generated scans of so many points in memory, with so many threads and, while these
 /// run, so many nodes in memory at a time, and says what it comes to. The answer depends on the number of points
@@ -31,7 +33,13 @@ use std::alloc::Global;
 /// # Errors
 ///
 /// Want of memory, and nothing else.
-pub fn build_trial(alloc: Global, points: u32, workers: u32, cache: u32) -> Result<Trial, Memory>
+pub fn build_trial<R: Threads + Wait + Sync>(
+    rt: &R,
+    alloc: Global,
+    points: u32,
+    workers: u32,
+    cache: u32,
+) -> Result<Trial, Memory>
     requires few { points ≤ 10000000 }
     requires some { 1 ≤ workers }
     requires threads { workers ≤ 64 }
@@ -42,13 +50,14 @@ pub fn build_trial(alloc: Global, points: u32, workers: u32, cache: u32) -> Resu
     let config = config_of(alloc, workers, cache)?;
     let mut shelf = shelf_of(alloc, points)?;
     let mut store = SureStore::new(alloc);
-    build_files(alloc, &config, &mut shelf, &mut store, points)?;
+    build_files(rt, alloc, &config, &mut shelf, &mut store, points)?;
     tallied(alloc, &mut store, points)
 }
 
 // Builds the files of a trial. Over devices that never fail, of scans that are good and whose octree has few enough
 // nodes, a build is refused for want of memory alone.
-fn build_files(
+fn build_files<R: Threads + Wait + Sync>(
+    rt: &R,
     alloc: Global,
     config: &Config,
     shelf: &mut SureShelf,
@@ -69,7 +78,7 @@ fn build_files(
     output_once_law();
     few_nodes_law();
     let mut room = SureRoom::new(alloc);
-    match build(alloc, config, shelf, store, &mut room, &OpenGate) {
+    match build(rt, alloc, config, shelf, store, &mut room, &OpenGate) {
         Ok(_) => Ok(()),
         Err(error) => Err(only_memory(error)),
     }

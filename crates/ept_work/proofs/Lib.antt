@@ -7,3 +7,5 @@ pub mod Carrying
 pub mod Inside
 pub mod Landed
 pub mod Arrivals
+pub mod Forks
+pub mod Results

@@ -7,3 +7,4 @@ pub mod Meeting
 pub mod Opening
 pub mod Sending
 pub mod Working
+pub mod Crews

@@ -3,6 +3,7 @@
 #![tactic(auto)]
 
 mod error;
+mod inserting;
 mod opening;
 mod sending;
 mod visit;
@@ -10,5 +11,6 @@ mod worker;
 mod working;
 
 pub use error::WorkError;
+pub use inserting::insert_all;
 pub use visit::{Landing, Visit};
 pub use worker::Worker;

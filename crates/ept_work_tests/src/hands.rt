@@ -7,7 +7,7 @@ ghost use Rattle.ept_work.specs.Rest.{IsIdle, IsAtRest};
 ghost use Rattle.ept_work.specs.Visiting.{IsVisit, IsLanding, HasRoom};
 ghost use Rattle.ept_work_tests.specs.Hands.{HasEnded, parts_of, IsTable, IsHand};
 
-use ept_base::Source;
+use ept_base::{Gate, Source};
 use ept_table::{NodeTable, Scan};
 use ept_work::{Landing, Visit, WorkError, Worker};
 use std::alloc::Global;
@@ -58,6 +58,57 @@ pub fn step<F, S: Source, J: Scan, H: Wait>(
             worker,
             doing: Doing::Ended(refused),
         },
+    }
+}
+
+/// As `step`, but a worker at rest that carries flights visits the node of the last one in one step.
+pub fn whole_step<F, S: Source, J: Scan, G: Gate, H: Wait>(
+    rt: &H,
+    alloc: Global,
+    table: &NodeTable<F, S, J>,
+    hand: Hand<F, S>,
+    gate: &G,
+) -> Hand<F, S>
+    requires table { IsTable J.told table.now }
+    requires hand { IsHand S.whole J.told table.now hand }
+    ensures hand { IsHand S.whole J.told table.now result }
+    ensures share { parts_of S.whole J.told result.worker ≡ parts_of S.whole J.told hand.worker }
+{
+    let Hand { worker, doing } = hand;
+    match doing {
+        Doing::Rest => visit(rt, alloc, table, worker, gate),
+        Doing::Up(visit) => land(alloc, table, worker, visit),
+        Doing::Down(landing) => leave(table, worker, landing),
+        Doing::Ended(refused) => Hand {
+            worker,
+            doing: Doing::Ended(refused),
+        },
+    }
+}
+
+// Draws, where no flight is carried, or visits the last flight's node.
+fn visit<F, S: Source, J: Scan, G: Gate, H: Wait>(
+    rt: &H,
+    alloc: Global,
+    table: &NodeTable<F, S, J>,
+    mut worker: Worker<F, S>,
+    gate: &G,
+) -> Hand<F, S>
+    requires table { IsTable J.told table.now }
+    requires seat { IsSeat J.told table.now (seat_of worker) }
+    requires rest { IsAtRest J.told (knows S.whole worker) }
+    ensures hand { IsHand S.whole J.told table.now result }
+    ensures share { parts_of S.whole J.told result.worker ≡ parts_of S.whole J.told worker }
+{
+    if worker.is_empty() {
+        return draw(rt, alloc, table, worker);
+    }
+    match worker.visit(rt, alloc, table, gate) {
+        Ok(()) => Hand {
+            worker,
+            doing: Doing::Rest,
+        },
+        Err(refused) => end(table, worker, Some(refused)),
     }
 }
 

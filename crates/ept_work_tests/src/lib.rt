@@ -2,9 +2,13 @@
 #![tactic(auto)]
 
 mod hands;
+mod plans;
 #[cfg(test)]
 mod tests;
 mod turns;
+mod visits;
 
-pub use hands::{Doing, Hand, Past, finish, step};
-pub use turns::{Pair, Worked, work_in_turns};
+pub use hands::{Doing, Hand, Past, finish, step, whole_step};
+pub use plans::{Crew, Plan, Worked, work};
+pub use turns::{Pair, work_in_turns};
+pub use visits::work_by_visits;

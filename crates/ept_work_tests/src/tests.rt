@@ -2,8 +2,10 @@
 
 ghost use Rattle.std.specs.Prelude.{◌≤◌};
 
-use crate::turns::{Worked, work_in_turns};
+use crate::plans::{Crew, Plan, Worked, work};
+use ept_base::{Gate, OpenGate};
 use ept_forest::Forest;
+use ept_meet::MeetGate;
 use ept_mem::{MemRoom, MemSource, MemSpill};
 use ept_node::{Node, NodeState};
 use ept_num::lcg;
@@ -18,6 +20,7 @@ use std::marker::Brand;
 use std::process::Abort;
 use std::sync::Wait;
 use std::test::Fail;
+use std::thread::Threads;
 
 // What `assert_eq!` writes is proved wherever it stands, so it stands here once.
 fn same<T: PartialEq + Debug>(rt: &impl Abort, found: &T, wanted: &T) {
@@ -62,14 +65,15 @@ fn standing_in<F>(alloc: Global, nodes: &mut [Node<F>]) -> Result<Vec<Standing>,
     Ok(standing)
 }
 
-// Two workers that take these turns bring the points at these places down to at most so many nodes.
-fn build<H: Wait>(
-    rt: &H,
+// Workers bring the points at these places down to at most so many nodes.
+fn build<G: Gate + Sync, R: Threads + Wait + Sync>(
+    rt: &R,
     alloc: Global,
     config: &str,
     places: &[[i32; 3]],
     most: u32,
-    turns: &[bool],
+    plan: Plan<'_>,
+    gate: &G,
 ) -> Result<Built, Fail>
     requires { 1 ≤ most }
 {
@@ -98,7 +102,7 @@ fn build<H: Wait>(
         forest,
         reader,
         refused,
-    } = work_in_turns::<MemSpill, MemSource, Brand, H>(rt, alloc, forest, known, most, turns);
+    } = work::<MemSpill, MemSource, Brand, G, R>(rt, alloc, forest, known, most, plan, gate);
     reader.retire_all(&mut shelf);
     let (mut nodes, used) = forest.into_nodes();
     let standing = standing_in(alloc, &mut nodes);
@@ -128,52 +132,68 @@ fn stands(built: &Built, key: Key, numbers: &[u32]) -> bool {
 // The worked example of points that make three nodes.
 const PLACES: [[i32; 3]; 5] = [[1, 1, 1], [2, 2, 2], [3, 3, 3], [6, 6, 6], [5, 5, 5]];
 
+// The ways in which few points are brought down.
+const PLANS: [Plan<'static>; 4] = [
+    Plan::Turns(&[true; 40]),
+    Plan::Visits(40),
+    Plan::Threads(Crew { workers: 1 }),
+    Plan::Threads(Crew { workers: 2 }),
+];
+
 // The first two of them: the second displaces the first, which goes down.
 #[test]
 fn a_displaced_point_goes_down_to_the_second_slot(rt: HostRuntime) -> Result<(), Fail> {
     let places = [[1, 1, 1], [2, 2, 2]];
-    let built = build(&rt, rt.alloc(), SMALL, &places, 3, &[true; 40])?;
-    let low = Key {
-        depth: 1,
-        x: 0,
-        y: 0,
-        z: 0,
-    };
-    same(&rt, &(built.used, built.standing.len()), &(2, 2));
-    let is_built = stands(&built, Key::ROOT, &[1]) && stands(&built, low, &[0]);
-    same(&rt, &is_built, &true);
-    Ok(())
-}
-
-#[test]
-fn one_worker_makes_the_nodes_of_a_worked_example(rt: HostRuntime) -> Result<(), Fail> {
-    let alloc = rt.alloc();
-    let turns = [true; 40];
-    for most in [3, 4] {
-        let built = build(&rt, alloc, SMALL, &PLACES, most, &turns)?;
-        same(&rt, &built.refused, &[None, None]);
-        same(&rt, &(built.used, built.standing.len()), &(3, 3));
+    for plan in PLANS {
+        let built = build(&rt, rt.alloc(), SMALL, &places, 3, plan, &OpenGate)?;
         let low = Key {
             depth: 1,
             x: 0,
             y: 0,
             z: 0,
         };
-        let high = Key {
-            depth: 1,
-            x: 1,
-            y: 1,
-            z: 1,
-        };
-        let is_built = stands(&built, Key::ROOT, &[1, 3])
-            && stands(&built, low, &[0, 2])
-            && stands(&built, high, &[4]);
+        same(&rt, &(built.used, built.standing.len()), &(2, 2));
+        let is_built = stands(&built, Key::ROOT, &[1]) && stands(&built, low, &[0]);
         same(&rt, &is_built, &true);
     }
-    for most in [1, 2] {
-        let built = build(&rt, alloc, SMALL, &PLACES, most, &turns)?;
-        same(&rt, &built.refused, &[Some(WorkError::TooManyNodes), None]);
-        same(&rt, &built.used, &most);
+    Ok(())
+}
+
+// Whether the worked example has its three nodes.
+fn is_worked_example(built: &Built) -> bool {
+    let low = Key {
+        depth: 1,
+        x: 0,
+        y: 0,
+        z: 0,
+    };
+    let high = Key {
+        depth: 1,
+        x: 1,
+        y: 1,
+        z: 1,
+    };
+    built.used == 3
+        && built.standing.len() == 3
+        && stands(built, Key::ROOT, &[1, 3])
+        && stands(built, low, &[0, 2])
+        && stands(built, high, &[4])
+}
+
+#[test]
+fn a_worked_example_has_its_nodes_or_too_many(rt: HostRuntime) -> Result<(), Fail> {
+    let alloc = rt.alloc();
+    for plan in PLANS {
+        for most in [3, 4] {
+            let built = build(&rt, alloc, SMALL, &PLACES, most, plan, &OpenGate)?;
+            same(&rt, &built.refused, &[None, None]);
+            same(&rt, &is_worked_example(&built), &true);
+        }
+        for most in [1, 2] {
+            let built = build(&rt, alloc, SMALL, &PLACES, most, plan, &OpenGate)?;
+            same(&rt, &built.refused, &[Some(WorkError::TooManyNodes), None]);
+            same(&rt, &built.used, &most);
+        }
     }
     Ok(())
 }
@@ -227,6 +247,26 @@ fn are_same(standing: &[Standing], tiles: &Tiles) -> bool {
         })
 }
 
+// Whether what stands is the sampling of the points, which is taken once.
+fn is_sampled(
+    rt: &impl Abort,
+    alloc: Global,
+    built: &Built,
+    wanted: &mut Option<Tiles>,
+) -> Result<bool, Memory> {
+    if wanted.is_none() {
+        built.rules.cube.known();
+        assert!(rt; ids_ascend(&built.points));
+        assert!(rt; are_in_cube(&built.points, &built.rules.cube));
+        *wanted = Some(sample(alloc, &built.points, &built.rules)?);
+    }
+    Ok(
+        wanted
+            .as_ref()
+            .is_some_and(|tiles| are_same(&built.standing, tiles)),
+    )
+}
+
 // More points than are drawn at a time, so that both workers carry flights.
 #[test]
 fn turns_by_lot_end_in_the_sampling(rt: HostRuntime) -> Result<(), Fail> {
@@ -236,18 +276,56 @@ fn turns_by_lot_end_in_the_sampling(rt: HostRuntime) -> Result<(), Fail> {
     let mut wanted = None;
     for list in 0..100 {
         let turns = lot.turns(alloc, 60_000)?;
-        let built = build(&rt, alloc, WIDE, &places, 4_000, &turns)?;
+        let plan = Plan::Turns(&turns);
+        let built = build(&rt, alloc, WIDE, &places, 4_000, plan, &OpenGate)?;
         same(&rt, &built.refused, &[None, None]);
-        if wanted.is_none() {
-            built.rules.cube.known();
-            assert!(rt; ids_ascend(&built.points));
-            assert!(rt; are_in_cube(&built.points, &built.rules.cube));
-            wanted = Some(sample(alloc, &built.points, &built.rules)?);
-        }
-        let is_same = wanted
-            .as_ref()
-            .is_some_and(|tiles| are_same(&built.standing, tiles));
-        assert!(rt; is_same, "list {list}");
+        let is_sampled = is_sampled(&rt, alloc, &built, &mut wanted)?;
+        assert!(rt; is_sampled, "list {list}");
     }
+    Ok(())
+}
+
+#[test]
+fn workers_in_threads_end_in_the_sampling(rt: HostRuntime) -> Result<(), Fail> {
+    let alloc = rt.alloc();
+    let mut lot = Lot { state: 7 };
+    let places = lot.places(alloc, 3_000)?;
+    let mut wanted = None;
+    for workers in 1..4 {
+        let plan = Plan::Threads(Crew { workers });
+        let built = build(&rt, alloc, WIDE, &places, 4_000, plan, &OpenGate)?;
+        same(&rt, &built.refused, &[None, None]);
+        let is_sampled = is_sampled(&rt, alloc, &built, &mut wanted)?;
+        assert!(rt; is_sampled, "{workers} workers");
+    }
+    Ok(())
+}
+
+#[test]
+fn two_workers_find_too_many_nodes(rt: HostRuntime) -> Result<(), Fail> {
+    let alloc = rt.alloc();
+    let places = Lot { state: 7 }.places(alloc, 3_000)?;
+    let plan = Plan::Threads(Crew { workers: 2 });
+    let built = build(&rt, alloc, WIDE, &places, 1, plan, &OpenGate)?;
+    same(&rt, &built.refused, &[Some(WorkError::TooManyNodes), None]);
+    same(&rt, &built.used, &1);
+    Ok(())
+}
+
+// How long a worker waits for another one.
+const TURNS: u64 = 10_000_000;
+
+#[test]
+fn two_workers_are_in_two_nodes_at_one_time(rt: HostRuntime) -> Result<(), Fail> {
+    let alloc = rt.alloc();
+    let places = Lot { state: 7 }.places(alloc, 3_000)?;
+    let gate = MeetGate::new(TURNS);
+    let plan = Plan::Threads(Crew { workers: 2 });
+    let built = build(&rt, alloc, WIDE, &places, 4_000, plan, &gate)?;
+    same(&rt, &built.refused, &[None, None]);
+    same(&rt, &gate.met(), &true);
+    let mut wanted = None;
+    let is_sampled = is_sampled(&rt, alloc, &built, &mut wanted)?;
+    same(&rt, &is_sampled, &true);
     Ok(())
 }

@@ -1,19 +1,13 @@
 //! Two workers that take turns.
 
-ghost use Rattle.std.specs.Prelude.{◌≡◌, ◌≤◌, true, [], ◌∷◌};
-ghost use Rattle.ept_space.specs.VoxelKey.{root};
-ghost use Rattle.ept_forest.specs.Slots.{IsPlanted};
-ghost use Rattle.ept_table.specs.Scanned.{told_of};
-ghost use Rattle.ept_table_fixtures.specs.Known.{IsKnown};
 ghost use Rattle.ept_work_tests.specs.Hands.{IsTable, IsPair};
+ghost use Rattle.ept_work_tests.specs.Tables.{IsNewTable};
 
 use crate::hands::{Doing, Hand, Past, finish, step};
+use crate::plans::Worked;
 use ept_base::{Source, SpillFile};
-use ept_forest::Forest;
-use ept_scan::Reader;
-use ept_table::{NodeTable, Scan, Unmade};
-use ept_table_fixtures::{Known, seated};
-use ept_work::{WorkError, Worker};
+use ept_table::{NodeTable, Scan, Seat};
+use ept_work::Worker;
 use std::alloc::Global;
 use std::sync::Wait;
 
@@ -21,13 +15,6 @@ use std::sync::Wait;
 pub struct Pair<F, S> {
     pub first: Hand<F, S>,
     pub second: Hand<F, S>,
-}
-
-/// What the work at a table leaves, and why the workers were refused, if they were.
-pub struct Worked<F, S> {
-    pub forest: Forest<F>,
-    pub reader: Reader<S>,
-    pub refused: [Option<WorkError>; 2],
 }
 
 // The slot of the node that is held, if one is.
@@ -96,31 +83,16 @@ fn take_turns<F, S: Source, J: Scan, H: Wait>(
     pair
 }
 
-/// Two workers at a table of a new forest and a known reader take these turns, and end.
+/// Two workers take these turns, and end.
 pub fn work_in_turns<F: SpillFile, S: Source, J: Scan, H: Wait>(
     rt: &H,
     alloc: Global,
-    forest: Forest<F>,
-    known: Known<S>,
-    most: u32,
+    table: NodeTable<F, S, J>,
+    mut seat: Seat<F, S>,
     turns: &[bool],
 ) -> Worked<F, S>
-    requires told { J.told ≡ told_of S.whole known.reader known.rules most (root ∷ []) true known.points.items }
-    requires known { IsKnown S.whole S.left S.given S.faults known }
-    requires some { 1 ≤ most }
-    requires planted { IsPlanted F.faults F.keeps most known.rules forest }
+    requires { IsNewTable J.told table seat }
 {
-    let (table, mut seat) = match seated::<F, S, J>(alloc, forest, known, most) {
-        Ok(made) => made,
-        Err(unmade) => {
-            let Unmade { forest, reader } = unmade;
-            return Worked {
-                forest,
-                reader,
-                refused: [Some(WorkError::Memory), None],
-            };
-        }
-    };
     let other = table.split(&mut seat);
     let pair = Pair {
         first: Hand {

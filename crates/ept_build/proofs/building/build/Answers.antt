@@ -11,17 +11,20 @@ use Rattle.ept_save.specs.Current.{Current, HasCurrent}
 use Rattle.ept_save.specs.Done.{IsDone}
 use Rattle.ept_save.specs.Loading.{HasLine, IsDamaged}
 use Rattle.ept_save.specs.Opening.{lines_of}
+use Rattle.ept_save.specs.declared.error.SaveError.TheVariants as save
+use Rattle.ept_build.specs.Phases.{IsPhaseFault}
+use Rattle.ept_save.specs.View.{View, StandsFor}
 use Rattle.ept_config.specs.declared.input.Input.{Input}
 use Rattle.ept_save.proofs.Standing.{stepped, told_some, tells_some, same_twice, same-stands}
 use Rattle.ept_plan.specs.Plans.{limits_by, inputs_by, new_paths, GoesOn, AreRefused}
 use Rattle.ept_build.specs.declared.error.BuildError.{BuildError}
 use Rattle.ept_build.specs.declared.summary.Summary.{Summary}
 use Rattle.ept_build.specs.Errors.{of_plan, of_save, of_put}
-use Rattle.ept_build.specs.Building.{HasPoints, IsBuilt, IsUnderWay, AsksInOrder, IsRefusedAt, IsRefused, IsEarly}
+use Rattle.ept_build.specs.Building.{Starts, HasPoints, IsBuilt, IsUnderWay, AsksInOrder, IsRefusedAt, IsRefused, IsEarly}
 use Rattle.ept_build.proofs.Causes.{tells-some}
 use Rattle.ept_plan.specs.declared.error.PlanError.TheVariants as plan
-use Rattle.ept_build.proofs.Judging.{plan-refused, plan-accepted, plan-only, plan-differs, plan-is-ok, built-many, put-not-bad, err-one, stores-fails, built-accepted, store-refused, put-store, put-no-source, put-failed, save-not-many, plan-not-many, store-not-many, put-not-many}
-use Rattle.ept_build.proofs.Damage.{damaged-same, nothing-left, opening-fails, saved-damaged, plan-no-tile, put-no-tile, store-no-tile}
+use Rattle.ept_build.proofs.Judging.{plan-refused, plan-accepted, plan-only, plan-differs, plan-is-ok, built-many, put-not-bad, put-no-spill, phase-not-early, opened-not-bad, err-one, stores-fails, room-fails, built-accepted, store-refused, room-refused, room-not-many, put-store, put-no-source, put-failed, save-not-many, plan-not-many, store-not-many, put-not-many}
+use Rattle.ept_build.proofs.Damage.{damaged-same, nothing-left, opening-fails, saved-damaged, plan-no-tile, put-no-tile, store-no-tile, room-no-tile}
 use Rattle.ept_build.proofs.Asking.{opens-front, asked-none, asked-scan, asked-read}
 use Rattle.ept_build.proofs.Ground.{has-counts}
 use Rattle.ept_build.proofs.Moved.{moves-then, moves-wider}
@@ -132,8 +135,8 @@ returns-then-branch-clause-built g c = λ all start begins.
     let at_one = stepped SameFiles (g.T.Store.files c.args.store.now) (g.T.Store.files c.open.new.store) start begins.told c.open.ensures.any_moment.reads in
     let done_one = told_some IsDone (g.T.Store.files c.open.new.store) at_one.0 at_one.1 finished.1 in
     let done_end : IsDone at_end.0 = at_end.2 done_name ∙ (sym (at_one.2 done_name) ∙ done_one) in
-    tells_some (IsBuilt all c.args.config.now start (record { points = c.in_ok-plan.plan.points; nodes = c.nodes_of.result })) (g.T.Store.files c.sync.new.self) at_end.0 at_end.1
-    (finished-built c.sound_steps_law.ensures.same c.sound_law.ensures.complete all start at_end.0 c.args.config.now c.in_ok-saved.saved.current c.in_ok-plan.plan c.in_ok-plan.ensures.plan cur begins.sound at_end.2 finished.0 done_end c.nodes_of.result c.nodes_of.ensures)
+    tells_some (IsBuilt all c.args.config.now start (record { points = c.in_ok-plan.plan.points; nodes = c.lines_in.result })) (g.T.Store.files c.sync.new.self) at_end.0 at_end.1
+    (finished-built c.sound_steps_law.ensures.same c.sound_law.ensures.complete all start at_end.0 c.args.config.now c.in_ok-saved.saved.current c.in_ok-plan.plan c.in_ok-plan.ensures.plan cur begins.sound at_end.2 finished.0 done_end c.lines_in.result c.lines_in.ensures)
 
 pub returns-then-branch-clause-sound : goal.returns-then-branch-clause-sound
 returns-then-branch-clause-sound g c = λ all start begins.
@@ -150,7 +153,8 @@ returns-clause-built g c = λ all start begins.
     let told : g.H.Shelf.files c.make_plan.new.shelf ≡ Some all = c.in_ok-plan.ensures.files ∙ begins.shelf_told in
     let stands = same-stands g.T.Store.files g.T.Store.may_leave g.T.Store.moment g.T.Store.image_since c.in_ok-saved.saved c.open.new.store c.is_finished.new.store c.is_finished.ensures.any_moment (c.in_ok-saved.ensures.stands start begins.told begins.settled) in
     let starts = starts-again c.sound_steps_law.ensures.same all start at_two.0 c.args.config.now c.in_ok-saved.saved c.in_ok-plan.plan cur begins.sound at_two.2 g.T.Store.files g.T.Store.may_leave g.T.Store.moment g.T.Store.image_since c.args.store.now c.is_finished.new.store begins.told begins.settled at_two.1 (same_twice g.T.Store.files g.T.Store.may_leave g.T.Store.moment g.T.Store.image_since c.args.store.now c.open.new.store c.is_finished.new.store c.open.ensures.any_moment c.is_finished.ensures.any_moment) stands (tells-some _ (g.H.Shelf.files c.args.shelf.now) all begins.shelf_told c.in_ok-plan.ensures.scan) in
-    IfOk-weaker c.built.result _ _ (λ summary. built-from all c.args.config.now start at_two.0 at_two.2 summary (g.T.Store.files c.built.new.store)) (c.built.ensures.built all at_two.0 told starts)
+    let begins_at = subst (λ (v : View). Starts all c.args.config.now v c.in_ok-plan.plan at_two.0 (g.T.Store.files c.is_finished.new.store) (g.T.Store.may_leave c.is_finished.new.store)) (sym c.in_ok-at.ensures.saved) starts in
+    IfOk-weaker c.built-forest.result.1 _ _ (λ summary. built-from all c.args.config.now start at_two.0 at_two.2 summary (g.T.Store.files c.built-forest.new.store)) (c.built-forest.ensures.built all at_two.0 told begins_at)
 
 pub returns-clause-sound : goal.returns-clause-sound
 returns-clause-sound g c = λ all start begins.
@@ -159,9 +163,10 @@ returns-clause-sound g c = λ all start begins.
     let told : g.H.Shelf.files c.make_plan.new.shelf ≡ Some all = c.in_ok-plan.ensures.files ∙ begins.shelf_told in
     let stands = same-stands g.T.Store.files g.T.Store.may_leave g.T.Store.moment g.T.Store.image_since c.in_ok-saved.saved c.open.new.store c.is_finished.new.store c.is_finished.ensures.any_moment (c.in_ok-saved.ensures.stands start begins.told begins.settled) in
     let starts = starts-again c.sound_steps_law.ensures.same all start at_two.0 c.args.config.now c.in_ok-saved.saved c.in_ok-plan.plan cur begins.sound at_two.2 g.T.Store.files g.T.Store.may_leave g.T.Store.moment g.T.Store.image_since c.args.store.now c.is_finished.new.store begins.told begins.settled at_two.1 (same_twice g.T.Store.files g.T.Store.may_leave g.T.Store.moment g.T.Store.image_since c.args.store.now c.open.new.store c.is_finished.new.store c.open.ensures.any_moment c.is_finished.ensures.any_moment) stands (tells-some _ (g.H.Shelf.files c.args.shelf.now) all begins.shelf_told c.in_ok-plan.ensures.scan) in
-    moves-then g.T.Store.files g.T.Store.may_leave g.T.Store.moment g.T.Store.image_since (IsUnderWay all c.args.config.now start) c.args.store.now c.is_finished.new.store c.built.new.store
+    let begins_at = subst (λ (v : View). Starts all c.args.config.now v c.in_ok-plan.plan at_two.0 (g.T.Store.files c.is_finished.new.store) (g.T.Store.may_leave c.is_finished.new.store)) (sym c.in_ok-at.ensures.saved) starts in
+    moves-then g.T.Store.files g.T.Store.may_leave g.T.Store.moment g.T.Store.image_since (IsUnderWay all c.args.config.now start) c.args.store.now c.is_finished.new.store c.built-forest.new.store
     (early-moves c.sound_steps_law.ensures.same c.sound_law.ensures.published c.sound_steps_law.ensures.guarding all c.args.config.now start g.T.Store.files g.T.Store.may_leave g.T.Store.moment g.T.Store.image_since c.args.store.now c.is_finished.new.store begins.told begins.settled begins.sound (same_twice g.T.Store.files g.T.Store.may_leave g.T.Store.moment g.T.Store.image_since c.args.store.now c.open.new.store c.is_finished.new.store c.open.ensures.any_moment c.is_finished.ensures.any_moment))
-    (moves-wider g.T.Store.files g.T.Store.may_leave g.T.Store.moment g.T.Store.image_since (IsUnderWay all c.args.config.now at_two.0) (IsUnderWay all c.args.config.now start) (under-way-from all c.args.config.now start at_two.0 at_two.2) c.is_finished.new.store c.built.new.store (c.built.ensures.sound all at_two.0 told starts))
+    (moves-wider g.T.Store.files g.T.Store.may_leave g.T.Store.moment g.T.Store.image_since (IsUnderWay all c.args.config.now at_two.0) (IsUnderWay all c.args.config.now start) (under-way-from all c.args.config.now start at_two.0 at_two.2) c.is_finished.new.store c.built-forest.new.store (c.built-forest.ensures.sound all at_two.0 told begins_at))
 
 pub returns-clause-done_already : goal.returns-clause-done_already
 returns-clause-done_already g c = λ all start begins done.
@@ -178,7 +183,8 @@ returns-clause-refused g c = λ all start begins.
     let told : g.H.Shelf.files c.make_plan.new.shelf ≡ Some all = c.in_ok-plan.ensures.files ∙ begins.shelf_told in
     let stands = same-stands g.T.Store.files g.T.Store.may_leave g.T.Store.moment g.T.Store.image_since c.in_ok-saved.saved c.open.new.store c.is_finished.new.store c.is_finished.ensures.any_moment (c.in_ok-saved.ensures.stands start begins.told begins.settled) in
     let starts = starts-again c.sound_steps_law.ensures.same all start at_two.0 c.args.config.now c.in_ok-saved.saved c.in_ok-plan.plan cur begins.sound at_two.2 g.T.Store.files g.T.Store.may_leave g.T.Store.moment g.T.Store.image_since c.args.store.now c.is_finished.new.store begins.told begins.settled at_two.1 (same_twice g.T.Store.files g.T.Store.may_leave g.T.Store.moment g.T.Store.image_since c.args.store.now c.open.new.store c.is_finished.new.store c.open.ensures.any_moment c.is_finished.ensures.any_moment) stands (tells-some _ (g.H.Shelf.files c.args.shelf.now) all begins.shelf_told c.in_ok-plan.ensures.scan) in
-    IfErr-weaker c.built.result (IsRefusedAt all c.args.config.now c.in_ok-saved.saved.current) (IsRefused all c.args.config.now start) (λ e because. record { current = c.in_ok-saved.saved.current; has_current = cur; because = because }) (c.built.ensures.refused all at_two.0 told starts)
+    let begins_at = subst (λ (v : View). Starts all c.args.config.now v c.in_ok-plan.plan at_two.0 (g.T.Store.files c.is_finished.new.store) (g.T.Store.may_leave c.is_finished.new.store)) (sym c.in_ok-at.ensures.saved) starts in
+    IfErr-weaker c.built-forest.result.1 (IsRefusedAt all c.args.config.now c.in_ok-saved.saved.current) (IsRefused all c.args.config.now start) (λ e because. record { current = c.in_ok-saved.saved.current; has_current = cur; because = because }) (subst (λ (v : View). IfErr c.built-forest.result.1 (IsRefusedAt all c.args.config.now v.current)) c.in_ok-at.ensures.saved (c.built-forest.ensures.refused all at_two.0 told begins_at))
 
 pub returns-clause-accepted : goal.returns-clause-accepted
 returns-clause-accepted g c = λ all start begins acc.
@@ -187,8 +193,9 @@ returns-clause-accepted g c = λ all start begins acc.
     let told : g.H.Shelf.files c.make_plan.new.shelf ≡ Some all = c.in_ok-plan.ensures.files ∙ begins.shelf_told in
     let stands = same-stands g.T.Store.files g.T.Store.may_leave g.T.Store.moment g.T.Store.image_since c.in_ok-saved.saved c.open.new.store c.is_finished.new.store c.is_finished.ensures.any_moment (c.in_ok-saved.ensures.stands start begins.told begins.settled) in
     let starts = starts-again c.sound_steps_law.ensures.same all start at_two.0 c.args.config.now c.in_ok-saved.saved c.in_ok-plan.plan cur begins.sound at_two.2 g.T.Store.files g.T.Store.may_leave g.T.Store.moment g.T.Store.image_since c.args.store.now c.is_finished.new.store begins.told begins.settled at_two.1 (same_twice g.T.Store.files g.T.Store.may_leave g.T.Store.moment g.T.Store.image_since c.args.store.now c.open.new.store c.is_finished.new.store c.open.ensures.any_moment c.is_finished.ensures.any_moment) stands (tells-some _ (g.H.Shelf.files c.args.shelf.now) all begins.shelf_told c.in_ok-plan.ensures.scan) in
+    let begins_at = subst (λ (v : View). Starts all c.args.config.now v c.in_ok-plan.plan at_two.0 (g.T.Store.files c.is_finished.new.store) (g.T.Store.may_leave c.is_finished.new.store)) (sym c.in_ok-at.ensures.saved) starts in
     let same : acc.current ≡ c.in_ok-saved.saved.current = c.sound_law.ensures.one start acc.current c.in_ok-saved.saved.current acc.has_current cur in
-    built-accepted c.built.result all c.args.config.now c.in_ok-saved.saved.current c.built.ensures.only (c.built.ensures.refused all at_two.0 told starts) acc.kept acc.points (subst (λ (w : Current). HasPoints all c.args.config.now w acc.kept acc.points) same acc.has_points) acc.few
+    built-accepted c.built-forest.result.1 all c.args.config.now c.in_ok-saved.saved.current c.built-forest.ensures.only (subst (λ (v : View). IfErr c.built-forest.result.1 (IsRefusedAt all c.args.config.now v.current)) c.in_ok-at.ensures.saved (c.built-forest.ensures.refused all at_two.0 told begins_at)) acc.kept acc.points (subst (λ (w : Current). HasPoints all c.args.config.now w acc.kept acc.points) same acc.has_points) acc.few
 
 pub returns-in_err-plan-clause-differs_comes : goal.returns-in_err-plan-clause-differs_comes
 returns-in_err-plan-clause-differs_comes g c = λ all start begins current has not_on.
@@ -235,10 +242,11 @@ returns-clause-too_many_comes g c = λ all start begins current has on not_done 
     let told : g.H.Shelf.files c.make_plan.new.shelf ≡ Some all = c.in_ok-plan.ensures.files ∙ begins.shelf_told in
     let stands = same-stands g.T.Store.files g.T.Store.may_leave g.T.Store.moment g.T.Store.image_since c.in_ok-saved.saved c.open.new.store c.is_finished.new.store c.is_finished.ensures.any_moment (c.in_ok-saved.ensures.stands start begins.told begins.settled) in
     let starts = starts-again c.sound_steps_law.ensures.same all start at_two.0 c.args.config.now c.in_ok-saved.saved c.in_ok-plan.plan cur begins.sound at_two.2 g.T.Store.files g.T.Store.may_leave g.T.Store.moment g.T.Store.image_since c.args.store.now c.is_finished.new.store begins.told begins.settled at_two.1 (same_twice g.T.Store.files g.T.Store.may_leave g.T.Store.moment g.T.Store.image_since c.args.store.now c.open.new.store c.is_finished.new.store c.open.ensures.any_moment c.is_finished.ensures.any_moment) stands (tells-some _ (g.H.Shelf.files c.args.shelf.now) all begins.shelf_told c.in_ok-plan.ensures.scan) in
+    let begins_at = subst (λ (v : View). Starts all c.args.config.now v c.in_ok-plan.plan at_two.0 (g.T.Store.files c.is_finished.new.store) (g.T.Store.may_leave c.is_finished.new.store)) (sym c.in_ok-at.ensures.saved) starts in
     let same : current ≡ c.in_ok-saved.saved.current = c.sound_law.ensures.one start current c.in_ok-saved.saved.current has cur in
-    let end = stepped (λ (a b : Files). IsUnderWay all c.args.config.now at_two.0 b) (g.T.Store.files c.is_finished.new.store) (g.T.Store.files c.built.new.store) at_two.0 at_two.1 (c.built.ensures.sound all at_two.0 told starts).reads in
-    built-many c.built.result all c.args.config.now c.in_ok-saved.saved.current at_two.0 (g.T.Store.files c.built.new.store) end.0 end.1 c.built.ensures.only (c.built.ensures.refused all at_two.0 told starts) c.built.ensures.few (c.built.ensures.built all at_two.0 told starts)
-    (λ other its. c.sound_law.ensures.one at_two.0 other c.in_ok-saved.saved.current its starts.has_current) many.kept many.points (subst (λ (w : Current). HasPoints all c.args.config.now w many.kept many.points) same many.has_points) many.many
+    let end = stepped (λ (a b : Files). IsUnderWay all c.args.config.now at_two.0 b) (g.T.Store.files c.is_finished.new.store) (g.T.Store.files c.built-forest.new.store) at_two.0 at_two.1 (c.built-forest.ensures.sound all at_two.0 told begins_at).reads in
+    built-many c.built-forest.result.1 all c.args.config.now c.in_ok-saved.saved.current at_two.0 (g.T.Store.files c.built-forest.new.store) end.0 end.1 c.built-forest.ensures.only (subst (λ (v : View). IfErr c.built-forest.result.1 (IsRefusedAt all c.args.config.now v.current)) c.in_ok-at.ensures.saved (c.built-forest.ensures.refused all at_two.0 told begins_at)) c.built-forest.ensures.few (c.built-forest.ensures.built all at_two.0 told begins_at)
+    (λ other its. c.sound_law.ensures.one at_two.0 other c.in_ok-saved.saved.current its starts.ready.has_current) many.kept many.points (subst (λ (w : Current). HasPoints all c.args.config.now w many.kept many.points) same many.has_points) many.many
 
 pub returns-in_err-saved-clause-stops : goal.returns-in_err-saved-clause-stops
 returns-in_err-saved-clause-stops g c = λ is all start begins.
@@ -271,8 +279,9 @@ returns-clause-stops g c = λ is all start begins.
     let told : g.H.Shelf.files c.make_plan.new.shelf ≡ Some all = c.in_ok-plan.ensures.files ∙ begins.shelf_told in
     let stands = same-stands g.T.Store.files g.T.Store.may_leave g.T.Store.moment g.T.Store.image_since c.in_ok-saved.saved c.open.new.store c.is_finished.new.store c.is_finished.ensures.any_moment (c.in_ok-saved.ensures.stands start begins.told begins.settled) in
     let starts = starts-again c.sound_steps_law.ensures.same all start at_two.0 c.args.config.now c.in_ok-saved.saved c.in_ok-plan.plan cur begins.sound at_two.2 g.T.Store.files g.T.Store.may_leave g.T.Store.moment g.T.Store.image_since c.args.store.now c.is_finished.new.store begins.told begins.settled at_two.1 (same_twice g.T.Store.files g.T.Store.may_leave g.T.Store.moment g.T.Store.image_since c.args.store.now c.open.new.store c.is_finished.new.store c.open.ensures.any_moment c.is_finished.ensures.any_moment) stands (tells-some _ (g.H.Shelf.files c.args.shelf.now) all begins.shelf_told c.in_ok-plan.ensures.scan) in
-    let its = c.built.ensures.stops is all at_two.0 told starts in
-    (its.0, stops-from all c.args.config.now start at_two.0 at_two.2 g.T.Store.files g.T.Store.may_leave g.T.Store.moment g.T.Store.image_since c.args.store.now c.is_finished.new.store c.built.new.store (same_twice g.T.Store.files g.T.Store.may_leave g.T.Store.moment g.T.Store.image_since c.args.store.now c.open.new.store c.is_finished.new.store c.open.ensures.any_moment c.is_finished.ensures.any_moment) its.1)
+    let begins_at = subst (λ (v : View). Starts all c.args.config.now v c.in_ok-plan.plan at_two.0 (g.T.Store.files c.is_finished.new.store) (g.T.Store.may_leave c.is_finished.new.store)) (sym c.in_ok-at.ensures.saved) starts in
+    let its = c.built-forest.ensures.stops is all at_two.0 told begins_at in
+    (its.0, stops-from all c.args.config.now start at_two.0 at_two.2 g.T.Store.files g.T.Store.may_leave g.T.Store.moment g.T.Store.image_since c.args.store.now c.is_finished.new.store c.built-forest.new.store (same_twice g.T.Store.files g.T.Store.may_leave g.T.Store.moment g.T.Store.image_since c.args.store.now c.open.new.store c.is_finished.new.store c.open.ensures.any_moment c.is_finished.ensures.any_moment) its.1)
 
 pub returns-in_err-saved-clause-asked : goal.returns-in_err-saved-clause-asked
 returns-in_err-saved-clause-asked g c = λ start current told has. asked-none (g.H.Shelf.files c.args.shelf.now) c.args.config.now start current (g.H.Shelf.asked c.args.shelf.now)
@@ -309,10 +318,10 @@ pub returns-clause-asked : goal.returns-clause-asked
 returns-clause-asked g c = λ start current told has.
     let cur = told_some (HasCurrent c.in_ok-saved.saved.current) (g.T.Store.files c.args.store.now) start told c.in_ok-saved.ensures.current in
     let same : current ≡ c.in_ok-saved.saved.current = c.sound_law.ensures.one start current c.in_ok-saved.saved.current has cur in
-    subst (λ (w : Current). AsksInOrder (g.H.Shelf.files c.args.shelf.now) c.args.config.now start w (g.H.Shelf.asked c.args.shelf.now) (g.H.Shelf.asked c.built.new.shelf)) (sym same)
+    subst (λ (w : Current). AsksInOrder (g.H.Shelf.files c.args.shelf.now) c.args.config.now start w (g.H.Shelf.asked c.args.shelf.now) (g.H.Shelf.asked c.built-forest.new.shelf)) (sym same)
     (asked-read (g.H.Shelf.files c.args.shelf.now) c.args.config.now start c.in_ok-saved.saved.current c.in_ok-plan.plan c.in_ok-plan.ensures.plan
     (λ all shelf_told sound. has-counts all start c.args.config.now c.in_ok-saved.saved.current c.in_ok-plan.plan (tells-some _ (g.H.Shelf.files c.args.shelf.now) all shelf_told c.in_ok-plan.ensures.scan) cur sound)
-    (g.H.Shelf.asked c.args.shelf.now) (g.H.Shelf.asked c.make_plan.new.shelf) (g.H.Shelf.asked c.built.new.shelf) c.in_ok-plan.ensures.asked c.built.ensures.asked)
+    (g.H.Shelf.asked c.args.shelf.now) (g.H.Shelf.asked c.make_plan.new.shelf) (g.H.Shelf.asked c.built-forest.new.shelf) c.in_ok-plan.ensures.asked c.built-forest.ensures.asked)
 
 pub returns-in_err-saved-clause-damaged : goal.returns-in_err-saved-clause-damaged
 returns-in_err-saved-clause-damaged g c = λ key is start told settled.
@@ -378,13 +387,128 @@ returns-then-branch-clause-damaged_comes g c = λ all start current shelf_told t
 
 pub returns-clause-damaged : goal.returns-clause-damaged
 returns-clause-damaged g c = λ key is start told settled.
-    c.built.ensures.damaged key is (same-stands g.T.Store.files g.T.Store.may_leave g.T.Store.moment g.T.Store.image_since c.in_ok-saved.saved c.open.new.store c.is_finished.new.store c.is_finished.ensures.any_moment (c.in_ok-saved.ensures.stands start told settled))
+    c.built-forest.ensures.damaged key is (subst (λ (v : View). StandsFor v (g.T.Store.files c.is_finished.new.store) (g.T.Store.may_leave c.is_finished.new.store)) (sym c.in_ok-at.ensures.saved) (same-stands g.T.Store.files g.T.Store.may_leave g.T.Store.moment g.T.Store.image_since c.in_ok-saved.saved c.open.new.store c.is_finished.new.store c.is_finished.ensures.any_moment (c.in_ok-saved.ensures.stands start told settled)))
 
 pub returns-clause-damaged_comes : goal.returns-clause-damaged_comes
 returns-clause-damaged_comes g c = λ all start current shelf_told told has comes.
     let cur = told_some (HasCurrent c.in_ok-saved.saved.current) (g.T.Store.files c.args.store.now) start told c.in_ok-saved.ensures.current in
     let same : current ≡ c.in_ok-saved.saved.current = c.sound_law.ensures.one start current c.in_ok-saved.saved.current has cur in
     let at_two = stepped SameFiles (g.T.Store.files c.args.store.now) (g.T.Store.files c.is_finished.new.store) start told (same_twice g.T.Store.files g.T.Store.may_leave g.T.Store.moment g.T.Store.image_since c.args.store.now c.open.new.store c.is_finished.new.store c.open.ensures.any_moment c.is_finished.ensures.any_moment).reads in
-    c.built.ensures.damaged_comes at_two.0 comes.key at_two.1 (subst (λ (w : Current). HasLine w comes.key) same comes.has_line)
-    (damaged-same c.in_ok-saved.saved.current comes.key at_two.0 start (λ name. sym (at_two.2 name)) (subst (λ (w : Current). IsDamaged w comes.key start) same comes.damaged))
-    (subst (λ (w : Current). length (lines_of w) ≤ c.args.config.now.max_nodes) same comes.few)
+    let mine : current ≡ c.in_ok-at.at.saved.current = same ∙ ap (λ (v : View). v.current) (sym c.in_ok-at.ensures.saved) in
+    c.built-forest.ensures.damaged_comes at_two.0 comes.key at_two.1 (subst (λ (w : Current). HasLine w comes.key) mine comes.has_line)
+    (damaged-same c.in_ok-at.at.saved.current comes.key at_two.0 start (λ name. sym (at_two.2 name)) (subst (λ (w : Current). IsDamaged w comes.key start) mine comes.damaged))
+    (subst (λ (w : Current). length (lines_of w) ≤ c.args.config.now.max_nodes) mine comes.few)
+
+pub returns-in_err-at-clause-sound : goal.returns-in_err-at-clause-sound
+returns-in_err-at-clause-sound g c = λ all start begins.
+    early-moves c.sound_steps_law.ensures.same c.sound_law.ensures.published c.sound_steps_law.ensures.guarding all c.args.config.now start g.T.Store.files g.T.Store.may_leave g.T.Store.moment g.T.Store.image_since c.args.store.now c.is_finished.new.store begins.told begins.settled begins.sound (same_twice g.T.Store.files g.T.Store.may_leave g.T.Store.moment g.T.Store.image_since c.args.store.now c.open.new.store c.is_finished.new.store c.open.ensures.any_moment c.is_finished.ensures.any_moment)
+
+pub returns-in_err-at-clause-done_already : goal.returns-in_err-at-clause-done_already
+returns-in_err-at-clause-done_already g c = λ all start begins done.
+    (same_twice g.T.Store.files g.T.Store.may_leave g.T.Store.moment g.T.Store.image_since c.args.store.now c.open.new.store c.is_finished.new.store c.open.ensures.any_moment c.is_finished.ensures.any_moment)
+
+pub returns-in_err-at-clause-early : goal.returns-in_err-at-clause-early
+returns-in_err-at-clause-early g c =
+    let p = err_from_is_err_and c.from_residual-in_err-at.result c.from_residual-in_err-at.ensures.1 in
+    let is : c.from_residual-in_err-at.result ≡ Err c.in_err-at.field-0.0 = p.1 ∙ ap (λ (w : BuildError). Err w) p.2 in
+    subst (λ (r : Result Summary BuildError). IfErr r (λ f. IsEarly f → Moves g.T.Store.files g.T.Store.may_leave g.T.Store.moment g.T.Store.image_since SameFiles c.args.store.now c.is_finished.new.store)) (sym is) (λ early. (same_twice g.T.Store.files g.T.Store.may_leave g.T.Store.moment g.T.Store.image_since c.args.store.now c.open.new.store c.is_finished.new.store c.open.ensures.any_moment c.is_finished.ensures.any_moment))
+
+pub returns-in_err-at-clause-refused : goal.returns-in_err-at-clause-refused
+returns-in_err-at-clause-refused g c = λ all start begins.
+    let cur = told_some (HasCurrent c.in_ok-saved.saved.current) (g.T.Store.files c.args.store.now) start begins.told c.in_ok-saved.ensures.current in
+    let p = err_from_is_err_and c.from_residual-in_err-at.result c.from_residual-in_err-at.ensures.1 in
+    let is : c.from_residual-in_err-at.result ≡ Err c.in_err-at.field-0.0 = p.1 ∙ ap (λ (w : BuildError). Err w) p.2 in
+    subst (λ (r : Result Summary BuildError). IfErr r (IsRefused all c.args.config.now start)) (sym is)
+    (record { current = c.in_ok-saved.saved.current; has_current = cur; because = room-refused all c.args.config.now c.in_ok-saved.saved.current c.in_err-at.field-0.0 c.in_err-at.ensures.only })
+
+pub returns-in_err-at-clause-accepted : goal.returns-in_err-at-clause-accepted
+returns-in_err-at-clause-accepted g c = λ all start begins acc.
+    let p = err_from_is_err_and c.from_residual-in_err-at.result c.from_residual-in_err-at.ensures.1 in
+    let is : c.from_residual-in_err-at.result ≡ Err c.in_err-at.field-0.0 = p.1 ∙ ap (λ (w : BuildError). Err w) p.2 in
+    inr (room-fails c.from_residual-in_err-at.result c.in_err-at.field-0.0 is c.in_err-at.ensures.only)
+
+pub returns-in_err-at-clause-too_many_comes : goal.returns-in_err-at-clause-too_many_comes
+returns-in_err-at-clause-too_many_comes g c = λ all start begins current has on not_done many.
+    let p = err_from_is_err_and c.from_residual-in_err-at.result c.from_residual-in_err-at.ensures.1 in
+    let is : c.from_residual-in_err-at.result ≡ Err c.in_err-at.field-0.0 = p.1 ∙ ap (λ (w : BuildError). Err w) p.2 in
+    inr (room-fails c.from_residual-in_err-at.result c.in_err-at.field-0.0 is c.in_err-at.ensures.only)
+
+pub returns-in_err-at-clause-stops : goal.returns-in_err-at-clause-stops
+returns-in_err-at-clause-stops g c = λ is all start begins.
+    let p = err_from_is_err_and c.from_residual-in_err-at.result c.from_residual-in_err-at.ensures.1 in
+    let its : c.from_residual-in_err-at.result ≡ Err c.in_err-at.field-0.0 = p.1 ∙ ap (λ (w : BuildError). Err w) p.2 in
+    absurd (room-not-many c.in_err-at.field-0.0 c.in_err-at.ensures.only (err-one (sym its ∙ is)))
+
+pub returns-in_err-at-clause-asked : goal.returns-in_err-at-clause-asked
+returns-in_err-at-clause-asked g c = λ start current told has.
+    let cur = told_some (HasCurrent c.in_ok-saved.saved.current) (g.T.Store.files c.args.store.now) start told c.in_ok-saved.ensures.current in
+    let same : current ≡ c.in_ok-saved.saved.current = c.sound_law.ensures.one start current c.in_ok-saved.saved.current has cur in
+    subst (λ (w : Current). AsksInOrder (g.H.Shelf.files c.args.shelf.now) c.args.config.now start w (g.H.Shelf.asked c.args.shelf.now) (g.H.Shelf.asked c.make_plan.new.shelf)) (sym same)
+    (asked-scan (g.H.Shelf.files c.args.shelf.now) c.args.config.now start c.in_ok-saved.saved.current (g.H.Shelf.asked c.args.shelf.now) (g.H.Shelf.asked c.make_plan.new.shelf) (opens-front (new_paths c.args.config.now c.in_ok-saved.saved.current) c.make_plan.result (g.H.Shelf.asked c.args.shelf.now) (g.H.Shelf.asked c.make_plan.new.shelf) c.make_plan.ensures.asked))
+
+pub returns-in_err-at-clause-damaged : goal.returns-in_err-at-clause-damaged
+returns-in_err-at-clause-damaged g c = λ key is start told settled.
+    let p = err_from_is_err_and c.from_residual-in_err-at.result c.from_residual-in_err-at.ensures.1 in
+    let its : c.from_residual-in_err-at.result ≡ Err c.in_err-at.field-0.0 = p.1 ∙ ap (λ (w : BuildError). Err w) p.2 in
+    absurd (room-no-tile c.in_err-at.field-0.0 key c.in_err-at.ensures.only (err-one (sym its ∙ is)))
+
+pub returns-in_err-at-clause-damaged_comes : goal.returns-in_err-at-clause-damaged_comes
+returns-in_err-at-clause-damaged_comes g c = λ all start current shelf_told told has comes.
+    let p = err_from_is_err_and c.from_residual-in_err-at.result c.from_residual-in_err-at.ensures.1 in
+    let its : c.from_residual-in_err-at.result ≡ Err c.in_err-at.field-0.0 = p.1 ∙ ap (λ (w : BuildError). Err w) p.2 in
+    inr (room-fails c.from_residual-in_err-at.result c.in_err-at.field-0.0 its c.in_err-at.ensures.only)
+
+pub returns-in_err-sync-clause-spills : goal.returns-in_err-sync-clause-spills
+returns-in_err-sync-clause-spills g c =
+    let p = err_from_is_err_and c.from_residual-in_err-sync.result c.from_residual-in_err-sync.ensures.1 in
+    let its : c.from_residual-in_err-sync.result ≡ Err (of_put c.in_err-sync.field-0.0) = p.1 ∙ ap (λ (w : BuildError). Err w) p.2 in
+    record { later = omega arith; failed = λ is. absurd (put-no-spill c.in_err-sync.field-0.0 (err-one (sym its ∙ is))) }
+
+pub returns-then-branch-clause-bad_comes : goal.returns-then-branch-clause-bad_comes
+returns-then-branch-clause-bad_comes g c = λ letter start told bad.
+    absurd (opened-not-bad c.in_ok-saved.saved (save.BadCheckpoint letter) (c.in_ok-saved.ensures.refusal_comes letter start told bad))
+
+pub returns-clause-bad_comes : goal.returns-clause-bad_comes
+returns-clause-bad_comes g c = λ letter start told bad.
+    absurd (opened-not-bad c.in_ok-saved.saved (save.BadCheckpoint letter) (c.in_ok-saved.ensures.refusal_comes letter start told bad))
+
+pub returns-clause-early : goal.returns-clause-early
+returns-clause-early g c =
+    IfErr-weaker c.built-forest.result.1 IsPhaseFault _ (λ e only early. absurd (phase-not-early e only early)) c.built-forest.ensures.only
+
+pub returns-clause-refusal_comes : goal.returns-clause-refusal_comes
+returns-clause-refusal_comes g c = λ all start begins current e has definite refused.
+    let cur = told_some (HasCurrent c.in_ok-saved.saved.current) (g.T.Store.files c.args.store.now) start begins.told c.in_ok-saved.ensures.current in
+    let same : current ≡ c.in_ok-saved.saved.current = c.sound_law.ensures.one start current c.in_ok-saved.saved.current has cur in
+    let comes = tells-some _ (g.H.Shelf.files c.args.shelf.now) all begins.shelf_told c.in_ok-plan.ensures.refusal_comes in
+    absurd (plan-is-ok c.in_ok-plan.plan (plan.Scan e) (comes e (subst (λ (w : Current). GoesOn c.args.config.now w) same refused.0) definite (subst (λ (w : Current). AreRefused all c.args.config.now w e) same refused.1)))
+
+pub returns-clause-differs_comes : goal.returns-clause-differs_comes
+returns-clause-differs_comes g c = λ all start begins current has not_on.
+    let cur = told_some (HasCurrent c.in_ok-saved.saved.current) (g.T.Store.files c.args.store.now) start begins.told c.in_ok-saved.ensures.current in
+    let same : c.in_ok-saved.saved.current ≡ current = c.sound_law.ensures.one start c.in_ok-saved.saved.current current cur has in
+    absurd (not_on (subst (λ (w : Current). GoesOn c.args.config.now w) same c.in_ok-plan.ensures.plan.goes_on))
+
+-- ---- the devices
+
+pub returns-clause-sources : goal.returns-clause-sources
+returns-clause-sources g c =
+    record {
+      later = omega (arith, c.make_plan.ensures.cause.later, c.built-forest.ensures.sources.later);
+      failed = λ is. omega (arith, c.make_plan.ensures.cause.later, c.built-forest.ensures.sources.failed is);
+    }
+
+pub returns-clause-stores : goal.returns-clause-stores
+returns-clause-stores g c =
+    record {
+      later = omega (arith, c.open.ensures.cause.later, c.is_finished.ensures.stores.later, c.built-forest.ensures.stores.later);
+      failed = λ is. omega (arith, c.open.ensures.cause.later, c.is_finished.ensures.stores.later, c.built-forest.ensures.stores.failed is);
+    }
+
+-- a room fails only as the files are made
+pub returns-clause-spills : goal.returns-clause-spills
+returns-clause-spills g c =
+    record {
+      later = omega (arith, c.start.ensures.spills.later, c.retire_all.ensures.later);
+      failed = λ is. absurd (subst (λ (r : Result Summary BuildError). IfErr r IsPhaseFault) is c.built-forest.ensures.only);
+    }

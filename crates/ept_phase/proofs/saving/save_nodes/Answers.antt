@@ -1,68 +1,98 @@
-use Rattle.std.proofs.Common.{◌≡◌, ◌∙◌, ℕ, ◌<◌, ◌^◌, List, [], ◌∷◌, ◌++◌, map, sym, ap, subst, arith, rules, Option}
+use Rattle.std.proofs.Common.{◌≡◌, ◌∙◌, ℕ, ◌+◌, ◌<◌, ◌≤◌, ◌^◌, List, [], ◌∷◌, ◌++◌, take, drop, length, map, refl, sym, ap, subst, arith, rules, Option}
 use Rattle.std.specs.Prelude.{Err}
-use Rattle.std.specs.Map.Iter.{deref_pair}
-use Rattle.std.proofs.lemmas.List.{map-append}
+use Rattle.std.proofs.lemmas.List.{length-map, take-append-drop}
 use Rattle.std.proofs.lemmas.Result.{err_from_is_err_and}
-use Rattle.std.proofs.lemmas.Map.Iter.{rest_so_far, rest_more, iter_end}
-use Rattle.ept_base.specs.Files.{Files, Tells}
-use Rattle.ept_point.specs.declared.point.Point.{Point}
+use Rattle.ept_base.specs.Files.{Files, SameBut, StepsBy, Tells}
 use Rattle.ept_base.specs.Moves.{Moves}
-use Rattle.ept_save.specs.Current.{Current, HasCurrent, Keeps}
-use Rattle.ept_save.proofs.LoadedLines.{handed-on}
-use Rattle.ept_save.specs.Lines.{free_letter}
-use Rattle.ept_save.specs.View.{View}
-use Rattle.ept_tree.specs.Tree.{Branch}
-use Rattle.ept_phase.specs.Saving.{SavesNode, keys_in, AreKnown}
-use Rattle.ept_phase.proofs.SavedTo.{IsSavedTo, Rise, sorted-rise, saved-none, saved-more, saved-all}
-use Rattle.ept_phase.proofs.Compared.{keeps-none, keeps-then}
-use Rattle.ept_phase.specs.Loaded.{HasNoDamage}
-use Rattle.ept_phase.proofs.Refusing.{keeps-sound, save-fault}
-use Rattle.ept_phase.proofs.Undamaged.{keeps-undamaged}
+use Rattle.ept_point.specs.declared.point.Point.{Point}
+use Rattle.ept_sample.specs.Members.{IsMember}
+use Rattle.ept_space.specs.declared.cube.Rules.{Rules}
+use Rattle.ept_space.specs.VoxelKey.{VoxelKey, IsKey, AreAscending}
 use Rattle.ept_save.specs.declared.error.SaveError.TheVariants.{TileDamaged}
+use Rattle.ept_save.specs.Names.{work_tile_name}
+use Rattle.ept_save.specs.Current.{Current, HasCurrent, Keeps}
+use Rattle.ept_save.specs.Lines.{free_letter}
 use Rattle.ept_save.specs.Loading.{HasLine, IsDamaged}
-use Rattle.ept_space.specs.VoxelKey.{VoxelKey}
-use Rattle.ept_phase.proofs.Undamaged.{one-refusal, one-tile, damaged-kept}
+use Rattle.ept_save.specs.View.{View}
+use Rattle.ept_save.proofs.LoadedLines.{handed-on}
+use Rattle.ept_table.specs.Octree.{Branch, key_of}
+use Rattle.ept_octree.specs.Octree.{rules_of, nodes_of}
+use Rattle.ept_octree.proofs.Walked.{node-at}
+use Rattle.ept_phase.specs.Loaded.{HasNoDamage}
+use Rattle.ept_phase.specs.Saving.{SavesNode, keys_in}
+use Rattle.ept_phase.proofs.Compared.{keeps-none, keeps-then}
+use Rattle.ept_phase.proofs.Lining.{take-next, drop-next}
+use Rattle.ept_phase.proofs.Refusing.{keeps-sound, save-fault}
+use Rattle.ept_phase.proofs.SavedTo.{IsSavedTo, Rise, keys-rise, saved-none, saved-more, saved-all, saved-end}
+use Rattle.ept_phase.proofs.Undamaged.{keeps-undamaged, one-refusal, one-tile, damaged-kept}
 use Rattle.ept_phase.proofs.saving.save_nodes.Goals as goal
 
 pub loop-key-init : goal.loop-key-init
 loop-key-init g c = record {
-  far = (
-      let begun : c.into_iter-key-iterator.result ≡ c.args.nodes.now.entries = search rules in
-      subst (λ (w : List Branch). IsSavedTo c.args.saved.now c.args.saved.now [] w (g.T.Store.files c.args.store.now)) (sym begun)
-      (saved-none c.args.saved.now c.args.nodes.now.entries (g.T.Store.files c.args.store.now) c.requires.fresh c.requires.each));
+  far = saved-none c.args.saved.now (nodes_of c.args.octree.now) (g.T.Store.files c.args.store.now) c.requires.fresh c.requires.each;
   keeps = keeps-none g.T.Store.files g.T.Store.may_leave g.T.Store.moment g.T.Store.image_since c.args.saved.now.current c.args.store.now;
   stands = λ stands. stands;
   later = omega arith;
+  nodes = refl;
+  same = refl;
+  rules = refl;
 }
+
+pub points_into-requires : goal.points_into-requires
+points_into-requires g c =
+    let nodes : List Branch = nodes_of c.args.octree.now in
+    let all : c.deref-key-items.result.now ≡ map key_of nodes = c.deref-key-items.ensures.value ∙ c.in_ok-keys.ensures.keys in
+    let at = node-at nodes c.deref-key-items.result.now c.loop-key.key-index c.key-item.result all c.loop-key-test.true c.key-item.is in
+    (at.0, subst (λ (w : List Branch). IsMember at.0 w) (sym c.loop-key.invariant.same) at.3, at.4)
+
+pub open_mask-mask-requires : goal.open_mask-mask-requires
+open_mask-mask-requires g c =
+    let nodes : List Branch = nodes_of c.args.octree.now in
+    let all : c.deref-key-items.result.now ≡ map key_of nodes = c.deref-key-items.ensures.value ∙ c.in_ok-keys.ensures.keys in
+    let at = node-at nodes c.deref-key-items.result.now c.loop-key.key-index c.key-item.result all c.loop-key-test.true c.key-item.is in
+    (at.0, subst (λ (w : List Branch). IsMember at.0 w) (sym (c.points_into.ensures.same ∙ c.loop-key.invariant.same)) at.3, at.4)
 
 pub loop-key-preserved : goal.loop-key-preserved
 loop-key-preserved g c =
     let start : View = c.args.saved.now in
-    let at = c.loop-key.invariant in
-    let done : List Branch = map deref_pair c.loop-key.yielded in
-    let rest : List Branch = c.next.new.self in
-    let b : Branch = (c.in-Some.key.now, c.in-Some.node.now) in
-    let next : c.loop-key.key-iterator ≡ b ∷ rest = rest_more deref_pair c.loop-key.key-iterator rest c.next.result (c.in-Some.key, c.in-Some.node) c.in-Some.is c.next.ensures.steps in
-    let begun : c.into_iter-key-iterator.result ≡ c.args.nodes.now.entries = search rules in
-    let whole : c.args.nodes.now.entries ≡ done ++ b ∷ rest =
-    sym begun ∙ (rest_so_far deref_pair c.loop-key.yielded c.into_iter-key-iterator.result c.loop-key.key-iterator c.loop-key.yielded_by ∙ ap (λ (w : List Branch). done ++ w) next) in
-    let rises : Rise (keys_in (done ++ b ∷ rest)) = subst (λ (w : List Branch). Rise (keys_in w)) whole (sorted-rise (keys_in c.args.nodes.now.entries) c.iter-key-items.ensures.ordered) in
+    let now : View = c.loop-key.saved in
+    let new : View = c.save_node.new.saved in
+    let nodes : List Branch = nodes_of c.args.octree.now in
+    let key : VoxelKey = c.key-item.result in
+    let i : ℕ = c.loop-key.key-index in
+    let all : c.deref-key-items.result.now ≡ map key_of nodes = c.deref-key-items.ensures.value ∙ c.in_ok-keys.ensures.keys in
+    let at = node-at nodes c.deref-key-items.result.now i key all c.loop-key-test.true c.key-item.is in
+    let b : Branch = at.0 in
+    let member : IsMember b (nodes_of c.loop-key.octree) = subst (λ (w : List Branch). IsMember b w) (sym c.loop-key.invariant.same) at.3 in
+    let member_then : IsMember b (nodes_of c.points_into.new.self) = subst (λ (w : List Branch). IsMember b w) (sym c.points_into.ensures.same) member in
+    let done : List Branch = take i nodes in
+    let rest : List Branch = drop (i + 1) nodes in
+    let next : drop i nodes ≡ b ∷ rest = drop-next nodes i b at.1 at.2 in
+    let whole : done ++ b ∷ rest ≡ nodes = ap (λ (w : List Branch). done ++ w) (sym next) ∙ take-append-drop i nodes in
+    let rises : Rise (keys_in (done ++ b ∷ rest)) = subst (λ (w : List Branch). Rise (keys_in w)) (sym whole) (keys-rise (keys_in nodes) (subst (λ (w : List VoxelKey). AreAscending w) c.in_ok-keys.ensures.keys c.in_ok-keys.ensures.ascend)) in
+    let mask : c.open_mask-mask.result ≡ b.1.mask = c.open_mask-mask.ensures.mask b member_then at.4 in
     let points : List Point = c.deref.result.now in
+    let points_are : points ≡ b.1.points = c.deref.ensures.value ∙ (c.in_ok-points_into.ensures.ok b member at.4 ∙ ap (λ (w : List Point). w ++ b.1.points) c.clear.ensures.items) in
     let files : Option Files = g.T.Store.files c.loop-key.store in
     let after : Option Files = g.T.Store.files c.save_node.new.store in
-    let far : IsSavedTo start c.loop-key.saved done (b ∷ rest) files = subst (λ (w : List Branch). IsSavedTo start c.loop-key.saved done w files) next at.far in
-    let saves : SavesNode c.loop-key.saved c.save_node.new.saved b.0 b.1.mask points after =
-    subst (λ (m : ℕ). SavesNode c.loop-key.saved c.save_node.new.saved b.0 m points after) c.open_mask.ensures.mask c.in_ok-save_node.ensures.node in
-    let byte : b.1.mask < 2 ^ 8 = omega (arith, c.open_mask.ensures.mask) in
-    let more : IsSavedTo start c.save_node.new.saved (done ++ b ∷ []) rest after =
-    saved-more start c.loop-key.saved c.save_node.new.saved done rest b points files after rises c.known.ensures c.known-in-loop-key.ensures.low byte far saves (search rules) (free_letter c.loop-key.saved.current c.in-Some.key.now) c.save_node.ensures.one_tile.reads in
-    let yielded : done ++ b ∷ [] ≡ map deref_pair (c.loop-key.yielded ++ (c.in-Some.key, c.in-Some.node) ∷ []) = sym (map-append deref_pair c.loop-key.yielded ((c.in-Some.key, c.in-Some.node) ∷ [])) in
+    let far : IsSavedTo start now done (b ∷ rest) files = subst (λ (w : List Branch). IsSavedTo start now done w files) next c.loop-key.invariant.far in
+    let saves : SavesNode now new b.0 b.1.mask points after =
+    subst (λ (k : VoxelKey). SavesNode now new k b.1.mask points after) (sym at.4) (subst (λ (m : ℕ). SavesNode now new key m points after) mask c.in_ok-save_node.ensures.node) in
+    let is_key : IsKey b.0 = subst IsKey (sym at.4) c.known.ensures in
+    let own = c.len.ensures.own b at.3 in
+    let shallow : b.1.key.depth ≤ b.1.rules.cube.depth = subst (λ (r : Rules). b.1.key.depth ≤ r.cube.depth) (sym own.1) (subst (λ (k : VoxelKey). k.depth ≤ (rules_of c.args.octree.now).cube.depth) (sym own.0) (c.len.ensures.shallow b at.3)) in
+    let byte : b.1.mask < 2 ^ 8 = omega (arith, mask, c.open_mask-mask.type_inv) in
+    let more : IsSavedTo start new (done ++ b ∷ []) rest after =
+    saved-more start now new done rest b points files after rises is_key shallow byte far saves points_are (free_letter now.current b.0) (subst (λ (k : VoxelKey). StepsBy (SameBut (work_tile_name (free_letter now.current k) k)) files after) (sym at.4) c.save_node.ensures.one_tile.reads) in
     record {
-      far = subst (λ (w : List Branch). IsSavedTo start c.save_node.new.saved w rest after) yielded more;
-      keeps = keeps-then g.T.Store.files g.T.Store.may_leave g.T.Store.moment g.T.Store.image_since start.current c.args.store.now c.loop-key.store c.save_node.new.store at.keeps
-          (subst (λ (w : Current). Moves g.T.Store.files g.T.Store.may_leave g.T.Store.moment g.T.Store.image_since (Keeps w) c.loop-key.store c.save_node.new.store) (ap (λ (v : View). v.current) at.far.view_is) c.save_node.ensures.keeps);
-      stands = λ stands. c.save_node.ensures.stands (at.stands stands);
-      later = omega (arith, at.later, c.save_node.ensures.cause.later);
+      far = subst (λ (w : List Branch). IsSavedTo start new w rest after) (take-next nodes i b at.1 at.2) more;
+      keeps = keeps-then g.T.Store.files g.T.Store.may_leave g.T.Store.moment g.T.Store.image_since start.current c.args.store.now c.loop-key.store c.save_node.new.store c.loop-key.invariant.keeps
+          (subst (λ (w : Current). Moves g.T.Store.files g.T.Store.may_leave g.T.Store.moment g.T.Store.image_since (Keeps w) c.loop-key.store c.save_node.new.store) (ap (λ (v : View). v.current) c.loop-key.invariant.far.view_is) c.save_node.ensures.keeps);
+      stands = λ stands. c.save_node.ensures.stands (c.loop-key.invariant.stands stands);
+      later = omega (arith, c.loop-key.invariant.later, c.save_node.ensures.cause.later);
+      nodes = c.open_mask-mask.ensures.nodes ∙ (c.points_into.ensures.nodes ∙ c.loop-key.invariant.nodes);
+      same = c.open_mask-mask.ensures.same ∙ (c.points_into.ensures.same ∙ c.loop-key.invariant.same);
+      rules = c.open_mask-mask.ensures.rules ∙ (c.points_into.ensures.rules ∙ c.loop-key.invariant.rules);
     }
 
 pub returns-in_err-save_node-clause-keeps : goal.returns-in_err-save_node-clause-keeps
@@ -71,10 +101,13 @@ returns-in_err-save_node-clause-keeps g c =
     keeps-then g.T.Store.files g.T.Store.may_leave g.T.Store.moment g.T.Store.image_since c.args.saved.now.current c.args.store.now c.loop-key.store c.save_node.new.store at.keeps
     (subst (λ (w : Current). Moves g.T.Store.files g.T.Store.may_leave g.T.Store.moment g.T.Store.image_since (Keeps w) c.loop-key.store c.save_node.new.store) (ap (λ (v : View). v.current) at.far.view_is) c.save_node.ensures.keeps)
 
+pub returns-in_err-save_node-clause-stands : goal.returns-in_err-save_node-clause-stands
+returns-in_err-save_node-clause-stands g c = λ stands. c.save_node.ensures.stands (c.loop-key.invariant.stands stands)
+
 pub returns-in_err-save_node-clause-only : goal.returns-in_err-save_node-clause-only
 returns-in_err-save_node-clause-only g c =
     let p = err_from_is_err_and c.from_residual-in_err-save_node.result c.from_residual-in_err-save_node.ensures.1 in
-    rw (p.1, p.2) (save-fault c.save_node.result c.in_err-save_node.field-0.0 c.in_err-save_node.was c.in-Some.key.now c.save_node.ensures.only)
+    rw (p.1, p.2) (save-fault c.save_node.result c.in_err-save_node.field-0.0 c.in_err-save_node.was c.key-item.result c.save_node.ensures.only)
 
 pub returns-in_err-save_node-clause-sound : goal.returns-in_err-save_node-clause-sound
 returns-in_err-save_node-clause-sound g c = λ shelf all told sound has.
@@ -94,34 +127,34 @@ returns-in_err-save_node-clause-undamaged g c = λ all told none.
 
 pub returns-clause-told : goal.returns-clause-told
 returns-clause-told g c =
-    let all : map deref_pair c.loop-key.yielded ≡ c.args.nodes.now.entries = search (rules, iter_end) in
-    let none : c.loop-key.key-iterator ≡ [] = c.in-None.ensures.steps.0 in
-    let far : IsSavedTo c.args.saved.now c.loop-key.saved c.args.nodes.now.entries [] (g.T.Store.files c.loop-key.store) =
-    subst (λ (w : List Branch). IsSavedTo c.args.saved.now c.loop-key.saved c.args.nodes.now.entries w (g.T.Store.files c.loop-key.store)) none
-    (subst (λ (w : List Branch). IsSavedTo c.args.saved.now c.loop-key.saved w c.loop-key.key-iterator (g.T.Store.files c.loop-key.store)) all c.loop-key.invariant.far) in
-    (saved-all c.args.saved.now c.loop-key.saved c.args.nodes.now.entries (g.T.Store.files c.loop-key.store) far).0
+    let nodes : List Branch = nodes_of c.args.octree.now in
+    let all : c.deref-key-items.result.now ≡ map key_of nodes = c.deref-key-items.ensures.value ∙ c.in_ok-keys.ensures.keys in
+    let end : length nodes ≤ c.loop-key.key-index = omega (arith, c.loop-key-test.false, ap length all, length-map nodes key_of) in
+    let far : IsSavedTo c.args.saved.now c.loop-key.saved nodes [] (g.T.Store.files c.loop-key.store) = saved-end c.args.saved.now c.loop-key.saved nodes c.loop-key.key-index (g.T.Store.files c.loop-key.store) end c.loop-key.invariant.far in
+    (saved-all c.args.saved.now c.loop-key.saved nodes (g.T.Store.files c.loop-key.store) far).0
 
 pub returns-clause-tiles : goal.returns-clause-tiles
 returns-clause-tiles g c =
-    let all : map deref_pair c.loop-key.yielded ≡ c.args.nodes.now.entries = search (rules, iter_end) in
-    let none : c.loop-key.key-iterator ≡ [] = c.in-None.ensures.steps.0 in
-    let far : IsSavedTo c.args.saved.now c.loop-key.saved c.args.nodes.now.entries [] (g.T.Store.files c.loop-key.store) =
-    subst (λ (w : List Branch). IsSavedTo c.args.saved.now c.loop-key.saved c.args.nodes.now.entries w (g.T.Store.files c.loop-key.store)) none
-    (subst (λ (w : List Branch). IsSavedTo c.args.saved.now c.loop-key.saved w c.loop-key.key-iterator (g.T.Store.files c.loop-key.store)) all c.loop-key.invariant.far) in
-    (saved-all c.args.saved.now c.loop-key.saved c.args.nodes.now.entries (g.T.Store.files c.loop-key.store) far).1
+    let nodes : List Branch = nodes_of c.args.octree.now in
+    let all : c.deref-key-items.result.now ≡ map key_of nodes = c.deref-key-items.ensures.value ∙ c.in_ok-keys.ensures.keys in
+    let end : length nodes ≤ c.loop-key.key-index = omega (arith, c.loop-key-test.false, ap length all, length-map nodes key_of) in
+    let far : IsSavedTo c.args.saved.now c.loop-key.saved nodes [] (g.T.Store.files c.loop-key.store) = saved-end c.args.saved.now c.loop-key.saved nodes c.loop-key.key-index (g.T.Store.files c.loop-key.store) end c.loop-key.invariant.far in
+    (saved-all c.args.saved.now c.loop-key.saved nodes (g.T.Store.files c.loop-key.store) far).1
 
 pub returns-clause-known : goal.returns-clause-known
 returns-clause-known g c =
-    let all : map deref_pair c.loop-key.yielded ≡ c.args.nodes.now.entries = search (rules, iter_end) in
-    subst AreKnown all c.loop-key.invariant.far.known
+    let nodes : List Branch = nodes_of c.args.octree.now in
+    let all : c.deref-key-items.result.now ≡ map key_of nodes = c.deref-key-items.ensures.value ∙ c.in_ok-keys.ensures.keys in
+    let end : length nodes ≤ c.loop-key.key-index = omega (arith, c.loop-key-test.false, ap length all, length-map nodes key_of) in
+    (saved-end c.args.saved.now c.loop-key.saved nodes c.loop-key.key-index (g.T.Store.files c.loop-key.store) end c.loop-key.invariant.far).known
 
 pub returns-in_err-save_node-clause-damaged : goal.returns-in_err-save_node-clause-damaged
 returns-in_err-save_node-clause-damaged g c = λ key is.
     let also : c.from_residual-in_err-save_node.result ≡ Err c.in_err-save_node.field-0.0 = search rules in
     let told = one-refusal c.save_node.result c.from_residual-in_err-save_node.result c.in_err-save_node.field-0.0 (TileDamaged key) c.in_err-save_node.was also is in
-    let its = one-tile c.save_node.result c.in-Some.key.now key c.save_node.ensures.only told in
+    let its = one-tile c.save_node.result c.key-item.result key c.save_node.ensures.only told in
     let damaged = c.save_node.ensures.damaged its.0 in
     let same : c.loop-key.saved.current ≡ c.args.saved.now.current = ap (λ (v : View). v.current) c.loop-key.invariant.far.view_is in
     subst (λ (w : Current). HasLine w key × Tells (IsDamaged w key) (g.T.Store.files c.save_node.new.store)) same
     (subst (λ (k : VoxelKey). HasLine c.loop-key.saved.current k × Tells (IsDamaged c.loop-key.saved.current k) (g.T.Store.files c.save_node.new.store)) its.1
-    (damaged.0, damaged-kept c.loop-key.saved.current c.in-Some.key.now (g.T.Store.files c.loop-key.store) (g.T.Store.files c.save_node.new.store) c.save_node.ensures.keeps.reads damaged.1))
+    (damaged.0, damaged-kept c.loop-key.saved.current c.key-item.result (g.T.Store.files c.loop-key.store) (g.T.Store.files c.save_node.new.store) c.save_node.ensures.keeps.reads damaged.1))

@@ -1,12 +1,13 @@
-use Rattle.std.proofs.Common.{◌≡◌, ◌∙◌, List, [], ◌∷◌, ◌++◌, map, subst}
+use Rattle.std.proofs.Common.{◌≡◌, ◌∙◌, List, [], ◌∷◌, ◌++◌, map, ap, subst}
 use Rattle.std.specs.Prelude.{ℕ}
 use Rattle.ept_base.specs.Files.{StepsBy}
-use Rattle.ept_hier.specs.Hierarchy.{hierarchy}
+use Rattle.ept_hier.specs.Hierarchy.{Node, hierarchy}
 use Rattle.ept_hier.specs.declared.file.HierFile.{HierFile}
 use Rattle.ept_meta.specs.EptText.{ept_text}
 use Rattle.ept_meta.specs.ManifestText.{manifest_text}
 use Rattle.ept_meta.specs.BuildText.{build_text}
-use Rattle.ept_tree.specs.Tree.{tile_of}
+use Rattle.ept_table.specs.Octree.{tile_of}
+use Rattle.ept_octree.specs.Octree.{nodes_of}
 use Rattle.ept_sample.specs.declared.tiles.Tile.{Tile}
 use Rattle.ept_meta.specs.Output.{metadata_name, manifest_name, build_file_name, tile_file, hierarchy_file, counted, files_of, names_of}
 use Rattle.ept_publish.specs.Publishing.{PutsAll}
@@ -14,45 +15,51 @@ use Rattle.ept_publish.proofs.Putting.{puts-both, puts-kept, any-ok}
 use Rattle.ept_publish.proofs.Naming.{of-tiles, of-hierarchy, of-texts, these-both, these-wider, sync-these}
 use Rattle.ept_publish.proofs.publishing.publish.Goals as goal
 
-pub returns-in_err-put_tiles-clause-any_moment : goal.returns-in_err-put_tiles-clause-any_moment
-returns-in_err-put_tiles-clause-any_moment g c =
+pub returns-in_err-nodes-clause-any_moment : goal.returns-in_err-nodes-clause-any_moment
+returns-in_err-nodes-clause-any_moment g c =
     let a = c.args in
-    let tiles = map tile_of a.nodes.now.entries in
-    these-wider g.T.Store.files g.T.Store.may_leave g.T.Store.moment g.T.Store.image_since (names_of (map tile_file tiles)) (names_of (files_of a.kept.now a.counts.now a.extent.now a.points tiles)) (of-tiles a.kept.now a.counts.now a.extent.now a.points tiles) a.store.now c.put_tiles.new.store c.in_err-put_tiles.ensures.any_moment
+    let tiles = map tile_of (nodes_of a.octree.now) in
+    these-wider g.T.Store.files g.T.Store.may_leave g.T.Store.moment g.T.Store.image_since (names_of (map tile_file tiles)) (names_of (files_of a.kept.now a.counts.now a.extent.now a.points tiles)) (of-tiles a.kept.now a.counts.now a.extent.now a.points tiles) a.store.now c.put_tiles.new.store c.in_err-nodes.ensures.any_moment
+
+pub returns-in_default-clause-any_moment : goal.returns-in_default-clause-any_moment
+returns-in_default-clause-any_moment g c =
+    let a = c.args in
+    let tiles = map tile_of (nodes_of a.octree.now) in
+    these-wider g.T.Store.files g.T.Store.may_leave g.T.Store.moment g.T.Store.image_since (names_of (map tile_file tiles)) (names_of (files_of a.kept.now a.counts.now a.extent.now a.points tiles)) (of-tiles a.kept.now a.counts.now a.extent.now a.points tiles) a.store.now c.put_tiles.new.store c.in_ok-nodes.ensures.any_moment
 
 pub returns-in_err-put_hierarchy-clause-any_moment : goal.returns-in_err-put_hierarchy-clause-any_moment
 returns-in_err-put_hierarchy-clause-any_moment g c =
     let a = c.args in
-    let tiles = map tile_of a.nodes.now.entries in
+    let tiles = map tile_of (nodes_of a.octree.now) in
     let names = names_of (files_of a.kept.now a.counts.now a.extent.now a.points tiles) in
-    let hierarchy_is : c.deref.result.now ≡ hierarchy a.kept.now.step (map counted tiles) = c.deref.ensures.value ∙ c.in-Ok.ensures.hierarchy in
+    let hierarchy_is : c.deref-2.result.now ≡ hierarchy a.kept.now.step (map counted tiles) = c.deref-2.ensures.value ∙ (c.in-Ok.ensures.hierarchy ∙ ap (λ (w : List Node). hierarchy a.kept.now.step w) (c.deref.ensures.value ∙ c.in_ok-nodes.ensures.counts)) in
     these-both g.T.Store.files g.T.Store.may_leave g.T.Store.moment g.T.Store.image_since names a.store.now c.put_tiles.new.store c.put_hierarchy.new.store
-    (these-wider g.T.Store.files g.T.Store.may_leave g.T.Store.moment g.T.Store.image_since (names_of (map tile_file tiles)) names (of-tiles a.kept.now a.counts.now a.extent.now a.points tiles) a.store.now c.put_tiles.new.store c.in_ok-put_tiles.ensures.any_moment)
-    (these-wider g.T.Store.files g.T.Store.may_leave g.T.Store.moment g.T.Store.image_since (names_of (map hierarchy_file c.deref.result.now)) names (of-hierarchy a.kept.now a.counts.now a.extent.now a.points tiles c.deref.result.now hierarchy_is) c.put_tiles.new.store c.put_hierarchy.new.store c.in_err-put_hierarchy.ensures.any_moment)
+    (these-wider g.T.Store.files g.T.Store.may_leave g.T.Store.moment g.T.Store.image_since (names_of (map tile_file tiles)) names (of-tiles a.kept.now a.counts.now a.extent.now a.points tiles) a.store.now c.put_tiles.new.store c.in_ok-nodes.ensures.any_moment)
+    (these-wider g.T.Store.files g.T.Store.may_leave g.T.Store.moment g.T.Store.image_since (names_of (map hierarchy_file c.deref-2.result.now)) names (of-hierarchy a.kept.now a.counts.now a.extent.now a.points tiles c.deref-2.result.now hierarchy_is) c.put_tiles.new.store c.put_hierarchy.new.store c.in_err-put_hierarchy.ensures.any_moment)
 
 pub returns-in_err-put_texts-clause-any_moment : goal.returns-in_err-put_texts-clause-any_moment
 returns-in_err-put_texts-clause-any_moment g c =
     let a = c.args in
-    let tiles = map tile_of a.nodes.now.entries in
+    let tiles = map tile_of (nodes_of a.octree.now) in
     let names = names_of (files_of a.kept.now a.counts.now a.extent.now a.points tiles) in
-    let hierarchy_is : c.deref.result.now ≡ hierarchy a.kept.now.step (map counted tiles) = c.deref.ensures.value ∙ c.in-Ok.ensures.hierarchy in
+    let hierarchy_is : c.deref-2.result.now ≡ hierarchy a.kept.now.step (map counted tiles) = c.deref-2.ensures.value ∙ (c.in-Ok.ensures.hierarchy ∙ ap (λ (w : List Node). hierarchy a.kept.now.step w) (c.deref.ensures.value ∙ c.in_ok-nodes.ensures.counts)) in
     these-both g.T.Store.files g.T.Store.may_leave g.T.Store.moment g.T.Store.image_since names a.store.now c.put_hierarchy.new.store c.put_texts.new.store
     (these-both g.T.Store.files g.T.Store.may_leave g.T.Store.moment g.T.Store.image_since names a.store.now c.put_tiles.new.store c.put_hierarchy.new.store
-    (these-wider g.T.Store.files g.T.Store.may_leave g.T.Store.moment g.T.Store.image_since (names_of (map tile_file tiles)) names (of-tiles a.kept.now a.counts.now a.extent.now a.points tiles) a.store.now c.put_tiles.new.store c.in_ok-put_tiles.ensures.any_moment)
-    (these-wider g.T.Store.files g.T.Store.may_leave g.T.Store.moment g.T.Store.image_since (names_of (map hierarchy_file c.deref.result.now)) names (of-hierarchy a.kept.now a.counts.now a.extent.now a.points tiles c.deref.result.now hierarchy_is) c.put_tiles.new.store c.put_hierarchy.new.store c.in_ok-put_hierarchy.ensures.any_moment))
+    (these-wider g.T.Store.files g.T.Store.may_leave g.T.Store.moment g.T.Store.image_since (names_of (map tile_file tiles)) names (of-tiles a.kept.now a.counts.now a.extent.now a.points tiles) a.store.now c.put_tiles.new.store c.in_ok-nodes.ensures.any_moment)
+    (these-wider g.T.Store.files g.T.Store.may_leave g.T.Store.moment g.T.Store.image_since (names_of (map hierarchy_file c.deref-2.result.now)) names (of-hierarchy a.kept.now a.counts.now a.extent.now a.points tiles c.deref-2.result.now hierarchy_is) c.put_tiles.new.store c.put_hierarchy.new.store c.in_ok-put_hierarchy.ensures.any_moment))
     (these-wider g.T.Store.files g.T.Store.may_leave g.T.Store.moment g.T.Store.image_since (metadata_name ∷ manifest_name ∷ build_file_name ∷ []) names (of-texts a.kept.now a.counts.now a.extent.now a.points tiles) c.put_hierarchy.new.store c.put_texts.new.store c.in_err-put_texts.ensures.any_moment)
 
 pub returns-clause-any_moment : goal.returns-clause-any_moment
 returns-clause-any_moment g c =
     let a = c.args in
-    let tiles = map tile_of a.nodes.now.entries in
+    let tiles = map tile_of (nodes_of a.octree.now) in
     let names = names_of (files_of a.kept.now a.counts.now a.extent.now a.points tiles) in
-    let hierarchy_is : c.deref.result.now ≡ hierarchy a.kept.now.step (map counted tiles) = c.deref.ensures.value ∙ c.in-Ok.ensures.hierarchy in
+    let hierarchy_is : c.deref-2.result.now ≡ hierarchy a.kept.now.step (map counted tiles) = c.deref-2.ensures.value ∙ (c.in-Ok.ensures.hierarchy ∙ ap (λ (w : List Node). hierarchy a.kept.now.step w) (c.deref.ensures.value ∙ c.in_ok-nodes.ensures.counts)) in
     these-both g.T.Store.files g.T.Store.may_leave g.T.Store.moment g.T.Store.image_since names a.store.now c.put_texts.new.store c.sync.new.self
     (these-both g.T.Store.files g.T.Store.may_leave g.T.Store.moment g.T.Store.image_since names a.store.now c.put_hierarchy.new.store c.put_texts.new.store
     (these-both g.T.Store.files g.T.Store.may_leave g.T.Store.moment g.T.Store.image_since names a.store.now c.put_tiles.new.store c.put_hierarchy.new.store
-    (these-wider g.T.Store.files g.T.Store.may_leave g.T.Store.moment g.T.Store.image_since (names_of (map tile_file tiles)) names (of-tiles a.kept.now a.counts.now a.extent.now a.points tiles) a.store.now c.put_tiles.new.store c.in_ok-put_tiles.ensures.any_moment)
-    (these-wider g.T.Store.files g.T.Store.may_leave g.T.Store.moment g.T.Store.image_since (names_of (map hierarchy_file c.deref.result.now)) names (of-hierarchy a.kept.now a.counts.now a.extent.now a.points tiles c.deref.result.now hierarchy_is) c.put_tiles.new.store c.put_hierarchy.new.store c.in_ok-put_hierarchy.ensures.any_moment))
+    (these-wider g.T.Store.files g.T.Store.may_leave g.T.Store.moment g.T.Store.image_since (names_of (map tile_file tiles)) names (of-tiles a.kept.now a.counts.now a.extent.now a.points tiles) a.store.now c.put_tiles.new.store c.in_ok-nodes.ensures.any_moment)
+    (these-wider g.T.Store.files g.T.Store.may_leave g.T.Store.moment g.T.Store.image_since (names_of (map hierarchy_file c.deref-2.result.now)) names (of-hierarchy a.kept.now a.counts.now a.extent.now a.points tiles c.deref-2.result.now hierarchy_is) c.put_tiles.new.store c.put_hierarchy.new.store c.in_ok-put_hierarchy.ensures.any_moment))
     (these-wider g.T.Store.files g.T.Store.may_leave g.T.Store.moment g.T.Store.image_since (metadata_name ∷ manifest_name ∷ build_file_name ∷ []) names (of-texts a.kept.now a.counts.now a.extent.now a.points tiles) c.put_hierarchy.new.store c.put_texts.new.store c.in_ok-put_texts.ensures.any_moment))
     (sync-these g.T.Store.files g.T.Store.may_leave g.T.Store.moment g.T.Store.image_since names c.put_texts.new.store c.sync.new.self c.sync.ensures.reads c.sync.ensures.images c.sync.ensures.time)
 
@@ -61,8 +68,8 @@ returns-clause-puts g c =
     let a = c.args in
     let k = a.kept.now in
     let files = g.T.Store.files in
-    let tiles : List Tile = map tile_of a.nodes.now.entries in
-    let hierarchy_is : c.deref.result.now ≡ hierarchy k.step (map counted tiles) = c.deref.ensures.value ∙ c.in-Ok.ensures.hierarchy in
+    let tiles : List Tile = map tile_of (nodes_of a.octree.now) in
+    let hierarchy_is : c.deref-2.result.now ≡ hierarchy k.step (map counted tiles) = c.deref-2.ensures.value ∙ (c.in-Ok.ensures.hierarchy ∙ ap (λ (w : List Node). hierarchy k.step w) (c.deref.ensures.value ∙ c.in_ok-nodes.ensures.counts)) in
     let second : StepsBy (PutsAll (map hierarchy_file (hierarchy k.step (map counted tiles)))) (files c.put_tiles.new.store) (files c.put_hierarchy.new.store) =
     subst (λ (w : List HierFile). StepsBy (PutsAll (map hierarchy_file w)) (files c.put_tiles.new.store) (files c.put_hierarchy.new.store)) hierarchy_is c.in_ok-put_hierarchy.ensures.ok in
     let metadata : List ℕ = ept_text k a.extent.now a.points in
@@ -73,6 +80,6 @@ returns-clause-puts g c =
     any-ok c.sync.result _
     (puts-kept (files_of k a.counts.now a.extent.now a.points tiles) (files a.store.now) (files c.put_texts.new.store) (files c.sync.new.self)
     (puts-both (map tile_file tiles ++ map hierarchy_file (hierarchy k.step (map counted tiles))) _ (files a.store.now) (files c.put_hierarchy.new.store) (files c.put_texts.new.store)
-    (puts-both (map tile_file tiles) (map hierarchy_file (hierarchy k.step (map counted tiles))) (files a.store.now) (files c.put_tiles.new.store) (files c.put_hierarchy.new.store) c.in_ok-put_tiles.ensures.ok second)
+    (puts-both (map tile_file tiles) (map hierarchy_file (hierarchy k.step (map counted tiles))) (files a.store.now) (files c.put_tiles.new.store) (files c.put_hierarchy.new.store) c.in_ok-nodes.ensures.ok second)
     third)
     c.sync.ensures.reads)

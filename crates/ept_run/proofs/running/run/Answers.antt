@@ -1,4 +1,4 @@
-use Rattle.std.proofs.Common.{map, string_bytes, refl, sym, inl, inr, subst, ℕ}
+use Rattle.std.proofs.Common.{map, string_bytes, refl, sym, inl, inr, ⊎_elim, subst, ℕ}
 use Rattle.ept_base.specs.Causes.{Rose}
 use Rattle.ept_las.specs.declared.header.Header.{Header}
 use Rattle.ept_run.specs.declared.refusal.Refusal.{Refusal}
@@ -18,10 +18,10 @@ use Rattle.ept_run.proofs.running.run.Goals as goal
 
 -- ---- build
 
-build_known : (g : given.Over) (c : goal.After-finish g) → Carries (map string_bytes c.args.words.now) (g.H.Shelf.files c.args.shelf.now) (BeginsWith (g.H.Shelf.files c.args.shelf.now) (g.T.Store.files c.args.store.now) (g.T.Store.may_leave c.args.store.now)) (g.T.Store.files c.build_line-line.new.store) (Rose (g.H.Shelf.faults c.args.shelf.now) (g.H.Shelf.faults c.build_line-line.new.shelf)) (Rose (g.T.Store.faults c.args.store.now) (g.T.Store.faults c.build_line-line.new.store)) (Moves g.T.Store.files g.T.Store.may_leave g.T.Store.moment g.T.Store.image_since SameFiles c.args.store.now c.build_line-line.new.store) c.build_line-line.result
+build_known : (g : given.Over) (c : goal.After-finish g) → Carries (map string_bytes c.args.words.now) (g.H.Shelf.files c.args.shelf.now) (BeginsWith (g.H.Shelf.files c.args.shelf.now) (g.T.Store.files c.args.store.now) (g.T.Store.may_leave c.args.store.now)) (g.T.Store.files c.build_line-line.new.store) (Rose (g.H.Shelf.faults c.args.shelf.now) (g.H.Shelf.faults c.build_line-line.new.shelf)) (Rose (g.T.Store.faults c.args.store.now) (g.T.Store.faults c.build_line-line.new.store)) (Rose (g.M.Room.faults c.args.room.now) (g.M.Room.faults c.build_line-line.new.room)) (Moves g.T.Store.files g.T.Store.may_leave g.T.Store.moment g.T.Store.image_since SameFiles c.args.store.now c.build_line-line.new.store) c.build_line-line.result
 build_known g c =
-    build_carries (map string_bytes c.args.words.now) c.in-Build.config.now c.in-Build.out.now c.in-Build.ensures c.build_line-line.result (g.H.Shelf.files c.args.shelf.now) (BeginsWith (g.H.Shelf.files c.args.shelf.now) (g.T.Store.files c.args.store.now) (g.T.Store.may_leave c.args.store.now)) (g.T.Store.files c.build_line-line.new.store) (Rose (g.H.Shelf.faults c.args.shelf.now) (g.H.Shelf.faults c.build_line-line.new.shelf)) (Rose (g.T.Store.faults c.args.store.now) (g.T.Store.faults c.build_line-line.new.store)) (Moves g.T.Store.files g.T.Store.may_leave g.T.Store.moment g.T.Store.image_since SameFiles c.args.store.now c.build_line-line.new.store)
-    c.build_line-line.ensures.said c.build_line-line.ensures.built c.build_line-line.ensures.causes c.build_line-line.ensures.refused c.build_line-line.ensures.sources.failed c.build_line-line.ensures.stores.failed
+    build_carries (map string_bytes c.args.words.now) c.in-Build.config.now c.in-Build.out.now c.in-Build.ensures c.build_line-line.result (g.H.Shelf.files c.args.shelf.now) (BeginsWith (g.H.Shelf.files c.args.shelf.now) (g.T.Store.files c.args.store.now) (g.T.Store.may_leave c.args.store.now)) (g.T.Store.files c.build_line-line.new.store) (Rose (g.H.Shelf.faults c.args.shelf.now) (g.H.Shelf.faults c.build_line-line.new.shelf)) (Rose (g.T.Store.faults c.args.store.now) (g.T.Store.faults c.build_line-line.new.store)) (Rose (g.M.Room.faults c.args.room.now) (g.M.Room.faults c.build_line-line.new.room)) (Moves g.T.Store.files g.T.Store.may_leave g.T.Store.moment g.T.Store.image_since SameFiles c.args.store.now c.build_line-line.new.store)
+    c.build_line-line.ensures.said c.build_line-line.ensures.built c.build_line-line.ensures.causes c.build_line-line.ensures.refused c.build_line-line.ensures.sources.failed c.build_line-line.ensures.stores.failed c.build_line-line.ensures.spills.failed
     c.build_line-line.ensures.early c.build_line-line.ensures.refusal_comes
 
 pub returns-in-Build-clause-usage : goal.returns-in-Build-clause-usage
@@ -31,14 +31,14 @@ returns-in-Build-clause-usage g c = (
 )
 
 pub returns-in-Build-clause-done : goal.returns-in-Build-clause-done
-returns-in-Build-clause-done g c = λ ok. inl (is_done c.finish.result (g.O.Sink.written c.args.out.now) (g.O.Sink.written c.finish.new.out) (Rose (g.O.Sink.faults c.args.out.now) (g.O.Sink.faults c.finish.new.out)) (map string_bytes c.args.words.now) (g.H.Shelf.files c.args.shelf.now) (BeginsWith (g.H.Shelf.files c.args.shelf.now) (g.T.Store.files c.args.store.now) (g.T.Store.may_leave c.args.store.now)) (g.T.Store.files c.build_line-line.new.store) (Rose (g.H.Shelf.faults c.args.shelf.now) (g.H.Shelf.faults c.build_line-line.new.shelf)) (Rose (g.T.Store.faults c.args.store.now) (g.T.Store.faults c.build_line-line.new.store)) (Moves g.T.Store.files g.T.Store.may_leave g.T.Store.moment g.T.Store.image_since SameFiles c.args.store.now c.build_line-line.new.store) c.build_line-line.result (build_known g c) c.finish.ensures ok)
+returns-in-Build-clause-done g c = λ ok. inl (is_done c.finish.result (g.O.Sink.written c.args.out.now) (g.O.Sink.written c.finish.new.out) (Rose (g.O.Sink.faults c.args.out.now) (g.O.Sink.faults c.finish.new.out)) (map string_bytes c.args.words.now) (g.H.Shelf.files c.args.shelf.now) (BeginsWith (g.H.Shelf.files c.args.shelf.now) (g.T.Store.files c.args.store.now) (g.T.Store.may_leave c.args.store.now)) (g.T.Store.files c.build_line-line.new.store) (Rose (g.H.Shelf.faults c.args.shelf.now) (g.H.Shelf.faults c.build_line-line.new.shelf)) (Rose (g.T.Store.faults c.args.store.now) (g.T.Store.faults c.build_line-line.new.store)) (Rose (g.M.Room.faults c.args.room.now) (g.M.Room.faults c.build_line-line.new.room)) (Moves g.T.Store.files g.T.Store.may_leave g.T.Store.moment g.T.Store.image_since SameFiles c.args.store.now c.build_line-line.new.store) c.build_line-line.result (build_known g c) c.finish.ensures ok)
 
 pub returns-in-Build-clause-refused : goal.returns-in-Build-clause-refused
-returns-in-Build-clause-refused g c = λ not_ok. first_two (is_refused c.finish.result (g.O.Sink.written c.args.out.now) (g.O.Sink.written c.finish.new.out) (Rose (g.O.Sink.faults c.args.out.now) (g.O.Sink.faults c.finish.new.out)) (map string_bytes c.args.words.now) (g.H.Shelf.files c.args.shelf.now) (BeginsWith (g.H.Shelf.files c.args.shelf.now) (g.T.Store.files c.args.store.now) (g.T.Store.may_leave c.args.store.now)) (g.T.Store.files c.build_line-line.new.store) (Rose (g.H.Shelf.faults c.args.shelf.now) (g.H.Shelf.faults c.build_line-line.new.shelf)) (Rose (g.T.Store.faults c.args.store.now) (g.T.Store.faults c.build_line-line.new.store)) (Moves g.T.Store.files g.T.Store.may_leave g.T.Store.moment g.T.Store.image_since SameFiles c.args.store.now c.build_line-line.new.store) c.build_line-line.result (build_known g c) c.finish.ensures not_ok)
+returns-in-Build-clause-refused g c = λ not_ok. first_two (is_refused c.finish.result (g.O.Sink.written c.args.out.now) (g.O.Sink.written c.finish.new.out) (Rose (g.O.Sink.faults c.args.out.now) (g.O.Sink.faults c.finish.new.out)) (map string_bytes c.args.words.now) (g.H.Shelf.files c.args.shelf.now) (BeginsWith (g.H.Shelf.files c.args.shelf.now) (g.T.Store.files c.args.store.now) (g.T.Store.may_leave c.args.store.now)) (g.T.Store.files c.build_line-line.new.store) (Rose (g.H.Shelf.faults c.args.shelf.now) (g.H.Shelf.faults c.build_line-line.new.shelf)) (Rose (g.T.Store.faults c.args.store.now) (g.T.Store.faults c.build_line-line.new.store)) (Rose (g.M.Room.faults c.args.room.now) (g.M.Room.faults c.build_line-line.new.room)) (Moves g.T.Store.files g.T.Store.may_leave g.T.Store.moment g.T.Store.image_since SameFiles c.args.store.now c.build_line-line.new.store) c.build_line-line.result (build_known g c) c.finish.ensures not_ok)
 
 pub returns-in-Build-clause-fault : goal.returns-in-Build-clause-fault
 returns-in-Build-clause-fault g c =
-    has_risen c.finish.result (g.O.Sink.written c.args.out.now) (g.O.Sink.written c.finish.new.out) (Rose (g.O.Sink.faults c.args.out.now) (g.O.Sink.faults c.finish.new.out)) (map string_bytes c.args.words.now) (g.H.Shelf.files c.args.shelf.now) (BeginsWith (g.H.Shelf.files c.args.shelf.now) (g.T.Store.files c.args.store.now) (g.T.Store.may_leave c.args.store.now)) (g.T.Store.files c.build_line-line.new.store) (Rose (g.H.Shelf.faults c.args.shelf.now) (g.H.Shelf.faults c.build_line-line.new.shelf)) (Rose (g.T.Store.faults c.args.store.now) (g.T.Store.faults c.build_line-line.new.store)) (Moves g.T.Store.files g.T.Store.may_leave g.T.Store.moment g.T.Store.image_since SameFiles c.args.store.now c.build_line-line.new.store) c.build_line-line.result (build_known g c) c.finish.ensures
+    has_risen c.finish.result (g.O.Sink.written c.args.out.now) (g.O.Sink.written c.finish.new.out) (Rose (g.O.Sink.faults c.args.out.now) (g.O.Sink.faults c.finish.new.out)) (map string_bytes c.args.words.now) (g.H.Shelf.files c.args.shelf.now) (BeginsWith (g.H.Shelf.files c.args.shelf.now) (g.T.Store.files c.args.store.now) (g.T.Store.may_leave c.args.store.now)) (g.T.Store.files c.build_line-line.new.store) (Rose (g.H.Shelf.faults c.args.shelf.now) (g.H.Shelf.faults c.build_line-line.new.shelf)) (Rose (g.T.Store.faults c.args.store.now) (g.T.Store.faults c.build_line-line.new.store)) (Rose (g.M.Room.faults c.args.room.now) (g.M.Room.faults c.build_line-line.new.room)) (Moves g.T.Store.files g.T.Store.may_leave g.T.Store.moment g.T.Store.image_since SameFiles c.args.store.now c.build_line-line.new.store) c.build_line-line.result (build_known g c) c.finish.ensures
 
 pub returns-in-Build-clause-refusal_comes : goal.returns-in-Build-clause-refusal_comes
 returns-in-Build-clause-refusal_comes g c =
@@ -61,9 +61,9 @@ returns-in-Build-clause-sound g c = λ config folder is. c.build_line-line.ensur
 
 -- ---- info
 
-info_known : (g : given.Over) (c : goal.After-finish-in-Info g) → Carries (map string_bytes c.args.words.now) (g.H.Shelf.files c.args.shelf.now) (BeginsWith (g.H.Shelf.files c.args.shelf.now) (g.T.Store.files c.args.store.now) (g.T.Store.may_leave c.args.store.now)) (g.T.Store.files c.args.store.now) (Rose (g.H.Shelf.faults c.args.shelf.now) (g.H.Shelf.faults c.info_line-line.new.shelf)) (Rose (g.T.Store.faults c.args.store.now) (g.T.Store.faults c.args.store.now)) (Moves g.T.Store.files g.T.Store.may_leave g.T.Store.moment g.T.Store.image_since SameFiles c.args.store.now c.args.store.now) c.info_line-line.result
+info_known : (g : given.Over) (c : goal.After-finish-in-Info g) → Carries (map string_bytes c.args.words.now) (g.H.Shelf.files c.args.shelf.now) (BeginsWith (g.H.Shelf.files c.args.shelf.now) (g.T.Store.files c.args.store.now) (g.T.Store.may_leave c.args.store.now)) (g.T.Store.files c.args.store.now) (Rose (g.H.Shelf.faults c.args.shelf.now) (g.H.Shelf.faults c.info_line-line.new.shelf)) (Rose (g.T.Store.faults c.args.store.now) (g.T.Store.faults c.args.store.now)) (Rose (g.M.Room.faults c.args.room.now) (g.M.Room.faults c.args.room.now)) (Moves g.T.Store.files g.T.Store.may_leave g.T.Store.moment g.T.Store.image_since SameFiles c.args.store.now c.args.store.now) c.info_line-line.result
 info_known g c =
-    info_carries (map string_bytes c.args.words.now) c.in-Info.las.now c.in-Info.ensures c.info_line-line.result (g.H.Shelf.files c.args.shelf.now) (BeginsWith (g.H.Shelf.files c.args.shelf.now) (g.T.Store.files c.args.store.now) (g.T.Store.may_leave c.args.store.now)) (g.T.Store.files c.args.store.now) (Rose (g.H.Shelf.faults c.args.shelf.now) (g.H.Shelf.faults c.info_line-line.new.shelf)) (Rose (g.T.Store.faults c.args.store.now) (g.T.Store.faults c.args.store.now)) (Moves g.T.Store.files g.T.Store.may_leave g.T.Store.moment g.T.Store.image_since SameFiles c.args.store.now c.args.store.now) (stays g.T.Store.files g.T.Store.may_leave g.T.Store.moment g.T.Store.image_since c.args.store.now)
+    info_carries (map string_bytes c.args.words.now) c.in-Info.las.now c.in-Info.ensures c.info_line-line.result (g.H.Shelf.files c.args.shelf.now) (BeginsWith (g.H.Shelf.files c.args.shelf.now) (g.T.Store.files c.args.store.now) (g.T.Store.may_leave c.args.store.now)) (g.T.Store.files c.args.store.now) (Rose (g.H.Shelf.faults c.args.shelf.now) (g.H.Shelf.faults c.info_line-line.new.shelf)) (Rose (g.T.Store.faults c.args.store.now) (g.T.Store.faults c.args.store.now)) (Rose (g.M.Room.faults c.args.room.now) (g.M.Room.faults c.args.room.now)) (Moves g.T.Store.files g.T.Store.may_leave g.T.Store.moment g.T.Store.image_since SameFiles c.args.store.now c.args.store.now) (stays g.T.Store.files g.T.Store.may_leave g.T.Store.moment g.T.Store.image_since c.args.store.now)
     c.info_line-line.ensures.said c.info_line-line.ensures.told c.info_line-line.ensures.causes c.info_line-line.ensures.refused c.info_line-line.ensures.sources.failed c.info_line-line.ensures.refusal_comes
 
 pub returns-in-Info-clause-usage : goal.returns-in-Info-clause-usage
@@ -73,14 +73,14 @@ returns-in-Info-clause-usage g c = (
 )
 
 pub returns-in-Info-clause-done : goal.returns-in-Info-clause-done
-returns-in-Info-clause-done g c = λ ok. inl (is_done c.finish-in-Info.result (g.O.Sink.written c.args.out.now) (g.O.Sink.written c.finish-in-Info.new.out) (Rose (g.O.Sink.faults c.args.out.now) (g.O.Sink.faults c.finish-in-Info.new.out)) (map string_bytes c.args.words.now) (g.H.Shelf.files c.args.shelf.now) (BeginsWith (g.H.Shelf.files c.args.shelf.now) (g.T.Store.files c.args.store.now) (g.T.Store.may_leave c.args.store.now)) (g.T.Store.files c.args.store.now) (Rose (g.H.Shelf.faults c.args.shelf.now) (g.H.Shelf.faults c.info_line-line.new.shelf)) (Rose (g.T.Store.faults c.args.store.now) (g.T.Store.faults c.args.store.now)) (Moves g.T.Store.files g.T.Store.may_leave g.T.Store.moment g.T.Store.image_since SameFiles c.args.store.now c.args.store.now) c.info_line-line.result (info_known g c) c.finish-in-Info.ensures ok)
+returns-in-Info-clause-done g c = λ ok. inl (is_done c.finish-in-Info.result (g.O.Sink.written c.args.out.now) (g.O.Sink.written c.finish-in-Info.new.out) (Rose (g.O.Sink.faults c.args.out.now) (g.O.Sink.faults c.finish-in-Info.new.out)) (map string_bytes c.args.words.now) (g.H.Shelf.files c.args.shelf.now) (BeginsWith (g.H.Shelf.files c.args.shelf.now) (g.T.Store.files c.args.store.now) (g.T.Store.may_leave c.args.store.now)) (g.T.Store.files c.args.store.now) (Rose (g.H.Shelf.faults c.args.shelf.now) (g.H.Shelf.faults c.info_line-line.new.shelf)) (Rose (g.T.Store.faults c.args.store.now) (g.T.Store.faults c.args.store.now)) (Rose (g.M.Room.faults c.args.room.now) (g.M.Room.faults c.args.room.now)) (Moves g.T.Store.files g.T.Store.may_leave g.T.Store.moment g.T.Store.image_since SameFiles c.args.store.now c.args.store.now) c.info_line-line.result (info_known g c) c.finish-in-Info.ensures ok)
 
 pub returns-in-Info-clause-refused : goal.returns-in-Info-clause-refused
-returns-in-Info-clause-refused g c = λ not_ok. first_two (is_refused c.finish-in-Info.result (g.O.Sink.written c.args.out.now) (g.O.Sink.written c.finish-in-Info.new.out) (Rose (g.O.Sink.faults c.args.out.now) (g.O.Sink.faults c.finish-in-Info.new.out)) (map string_bytes c.args.words.now) (g.H.Shelf.files c.args.shelf.now) (BeginsWith (g.H.Shelf.files c.args.shelf.now) (g.T.Store.files c.args.store.now) (g.T.Store.may_leave c.args.store.now)) (g.T.Store.files c.args.store.now) (Rose (g.H.Shelf.faults c.args.shelf.now) (g.H.Shelf.faults c.info_line-line.new.shelf)) (Rose (g.T.Store.faults c.args.store.now) (g.T.Store.faults c.args.store.now)) (Moves g.T.Store.files g.T.Store.may_leave g.T.Store.moment g.T.Store.image_since SameFiles c.args.store.now c.args.store.now) c.info_line-line.result (info_known g c) c.finish-in-Info.ensures not_ok)
+returns-in-Info-clause-refused g c = λ not_ok. first_two (is_refused c.finish-in-Info.result (g.O.Sink.written c.args.out.now) (g.O.Sink.written c.finish-in-Info.new.out) (Rose (g.O.Sink.faults c.args.out.now) (g.O.Sink.faults c.finish-in-Info.new.out)) (map string_bytes c.args.words.now) (g.H.Shelf.files c.args.shelf.now) (BeginsWith (g.H.Shelf.files c.args.shelf.now) (g.T.Store.files c.args.store.now) (g.T.Store.may_leave c.args.store.now)) (g.T.Store.files c.args.store.now) (Rose (g.H.Shelf.faults c.args.shelf.now) (g.H.Shelf.faults c.info_line-line.new.shelf)) (Rose (g.T.Store.faults c.args.store.now) (g.T.Store.faults c.args.store.now)) (Rose (g.M.Room.faults c.args.room.now) (g.M.Room.faults c.args.room.now)) (Moves g.T.Store.files g.T.Store.may_leave g.T.Store.moment g.T.Store.image_since SameFiles c.args.store.now c.args.store.now) c.info_line-line.result (info_known g c) c.finish-in-Info.ensures not_ok)
 
 pub returns-in-Info-clause-fault : goal.returns-in-Info-clause-fault
 returns-in-Info-clause-fault g c =
-    has_risen c.finish-in-Info.result (g.O.Sink.written c.args.out.now) (g.O.Sink.written c.finish-in-Info.new.out) (Rose (g.O.Sink.faults c.args.out.now) (g.O.Sink.faults c.finish-in-Info.new.out)) (map string_bytes c.args.words.now) (g.H.Shelf.files c.args.shelf.now) (BeginsWith (g.H.Shelf.files c.args.shelf.now) (g.T.Store.files c.args.store.now) (g.T.Store.may_leave c.args.store.now)) (g.T.Store.files c.args.store.now) (Rose (g.H.Shelf.faults c.args.shelf.now) (g.H.Shelf.faults c.info_line-line.new.shelf)) (Rose (g.T.Store.faults c.args.store.now) (g.T.Store.faults c.args.store.now)) (Moves g.T.Store.files g.T.Store.may_leave g.T.Store.moment g.T.Store.image_since SameFiles c.args.store.now c.args.store.now) c.info_line-line.result (info_known g c) c.finish-in-Info.ensures
+    has_risen c.finish-in-Info.result (g.O.Sink.written c.args.out.now) (g.O.Sink.written c.finish-in-Info.new.out) (Rose (g.O.Sink.faults c.args.out.now) (g.O.Sink.faults c.finish-in-Info.new.out)) (map string_bytes c.args.words.now) (g.H.Shelf.files c.args.shelf.now) (BeginsWith (g.H.Shelf.files c.args.shelf.now) (g.T.Store.files c.args.store.now) (g.T.Store.may_leave c.args.store.now)) (g.T.Store.files c.args.store.now) (Rose (g.H.Shelf.faults c.args.shelf.now) (g.H.Shelf.faults c.info_line-line.new.shelf)) (Rose (g.T.Store.faults c.args.store.now) (g.T.Store.faults c.args.store.now)) (Rose (g.M.Room.faults c.args.room.now) (g.M.Room.faults c.args.room.now)) (Moves g.T.Store.files g.T.Store.may_leave g.T.Store.moment g.T.Store.image_since SameFiles c.args.store.now c.args.store.now) c.info_line-line.result (info_known g c) c.finish-in-Info.ensures
 
 pub returns-in-Info-clause-refusal_comes : goal.returns-in-Info-clause-refusal_comes
 returns-in-Info-clause-refusal_comes g c =
@@ -176,7 +176,7 @@ returns-in-Query-clause-refusal_comes g c =
     told_always (λ all. (r : Refusal) → IsDefinite r → IsFaulty (map string_bytes c.args.words.now) all r → YieldsRefusal r c.answer_query.result (g.O.Sink.written c.args.out.now) (g.O.Sink.written c.answer_query.new.out) (Rose (g.O.Sink.faults c.args.out.now) (g.O.Sink.faults c.answer_query.new.out))) (g.H.Shelf.files c.args.shelf.now) (λ all r definite refused. absurd (query_unrefused (map string_bytes c.args.words.now) c.in-Query.out.now c.in-Query.area c.in-Query.depths.0 c.in-Query.depths.1 c.in-Query.ensures all r refused))
 
 pub returns-in-Query-clause-fault : goal.returns-in-Query-clause-fault
-returns-in-Query-clause-fault g c = λ is. inr (query_rose c.in-Query.area c.in-Query.depths.0 c.in-Query.depths.1 c.answer_query.result (g.T.Store.files c.args.store.now) (g.O.Sink.written c.args.out.now) (g.O.Sink.written c.answer_query.new.out) (Rose (g.T.Store.faults c.args.store.now) (g.T.Store.faults c.answer_query.new.store)) (Rose (g.O.Sink.faults c.args.out.now) (g.O.Sink.faults c.answer_query.new.out)) c.answer_query.ensures.ends is)
+returns-in-Query-clause-fault g c = λ is. ⊎_elim (λ store. inr (inl store)) (λ sink. inr (inr (inr sink))) (query_rose c.in-Query.area c.in-Query.depths.0 c.in-Query.depths.1 c.answer_query.result (g.T.Store.files c.args.store.now) (g.O.Sink.written c.args.out.now) (g.O.Sink.written c.answer_query.new.out) (Rose (g.T.Store.faults c.args.store.now) (g.T.Store.faults c.answer_query.new.store)) (Rose (g.O.Sink.faults c.args.out.now) (g.O.Sink.faults c.answer_query.new.out)) c.answer_query.ensures.ends is)
 
 -- ---- no query
 
@@ -263,9 +263,9 @@ returns-in-Build-clause-configuration_given g c = λ is.
 
 -- ---- trial
 
-trial_known : (g : given.Over) (c : goal.After-finish-in-Trial g) → Carries (map string_bytes c.args.words.now) (g.H.Shelf.files c.args.shelf.now) (BeginsWith (g.H.Shelf.files c.args.shelf.now) (g.T.Store.files c.args.store.now) (g.T.Store.may_leave c.args.store.now)) (g.T.Store.files c.args.store.now) (Rose (g.H.Shelf.faults c.args.shelf.now) (g.H.Shelf.faults c.args.shelf.now)) (Rose (g.T.Store.faults c.args.store.now) (g.T.Store.faults c.args.store.now)) (Moves g.T.Store.files g.T.Store.may_leave g.T.Store.moment g.T.Store.image_since SameFiles c.args.store.now c.args.store.now) c.trial_line-line.result
+trial_known : (g : given.Over) (c : goal.After-finish-in-Trial g) → Carries (map string_bytes c.args.words.now) (g.H.Shelf.files c.args.shelf.now) (BeginsWith (g.H.Shelf.files c.args.shelf.now) (g.T.Store.files c.args.store.now) (g.T.Store.may_leave c.args.store.now)) (g.T.Store.files c.args.store.now) (Rose (g.H.Shelf.faults c.args.shelf.now) (g.H.Shelf.faults c.args.shelf.now)) (Rose (g.T.Store.faults c.args.store.now) (g.T.Store.faults c.args.store.now)) (Rose (g.M.Room.faults c.args.room.now) (g.M.Room.faults c.args.room.now)) (Moves g.T.Store.files g.T.Store.may_leave g.T.Store.moment g.T.Store.image_since SameFiles c.args.store.now c.args.store.now) c.trial_line-line.result
 trial_known g c =
-    trial_carries (map string_bytes c.args.words.now) c.in-Trial.points c.in-Trial.workers c.in-Trial.cache c.in-Trial.ensures c.trial_line-line.result c.trial_line-line.ensures.told c.trial_line-line.ensures.refused (g.H.Shelf.files c.args.shelf.now) (BeginsWith (g.H.Shelf.files c.args.shelf.now) (g.T.Store.files c.args.store.now) (g.T.Store.may_leave c.args.store.now)) (g.T.Store.files c.args.store.now) (Rose (g.H.Shelf.faults c.args.shelf.now) (g.H.Shelf.faults c.args.shelf.now)) (Rose (g.T.Store.faults c.args.store.now) (g.T.Store.faults c.args.store.now)) (Moves g.T.Store.files g.T.Store.may_leave g.T.Store.moment g.T.Store.image_since SameFiles c.args.store.now c.args.store.now) (stays g.T.Store.files g.T.Store.may_leave g.T.Store.moment g.T.Store.image_since c.args.store.now)
+    trial_carries (map string_bytes c.args.words.now) c.in-Trial.points c.in-Trial.workers c.in-Trial.cache c.in-Trial.ensures c.trial_line-line.result c.trial_line-line.ensures.told c.trial_line-line.ensures.refused (g.H.Shelf.files c.args.shelf.now) (BeginsWith (g.H.Shelf.files c.args.shelf.now) (g.T.Store.files c.args.store.now) (g.T.Store.may_leave c.args.store.now)) (g.T.Store.files c.args.store.now) (Rose (g.H.Shelf.faults c.args.shelf.now) (g.H.Shelf.faults c.args.shelf.now)) (Rose (g.T.Store.faults c.args.store.now) (g.T.Store.faults c.args.store.now)) (Rose (g.M.Room.faults c.args.room.now) (g.M.Room.faults c.args.room.now)) (Moves g.T.Store.files g.T.Store.may_leave g.T.Store.moment g.T.Store.image_since SameFiles c.args.store.now c.args.store.now) (stays g.T.Store.files g.T.Store.may_leave g.T.Store.moment g.T.Store.image_since c.args.store.now)
 
 pub returns-in-Trial-clause-usage : goal.returns-in-Trial-clause-usage
 returns-in-Trial-clause-usage g c = (
@@ -274,14 +274,14 @@ returns-in-Trial-clause-usage g c = (
 )
 
 pub returns-in-Trial-clause-done : goal.returns-in-Trial-clause-done
-returns-in-Trial-clause-done g c = λ ok. inl (is_done c.finish-in-Trial.result (g.O.Sink.written c.args.out.now) (g.O.Sink.written c.finish-in-Trial.new.out) (Rose (g.O.Sink.faults c.args.out.now) (g.O.Sink.faults c.finish-in-Trial.new.out)) (map string_bytes c.args.words.now) (g.H.Shelf.files c.args.shelf.now) (BeginsWith (g.H.Shelf.files c.args.shelf.now) (g.T.Store.files c.args.store.now) (g.T.Store.may_leave c.args.store.now)) (g.T.Store.files c.args.store.now) (Rose (g.H.Shelf.faults c.args.shelf.now) (g.H.Shelf.faults c.args.shelf.now)) (Rose (g.T.Store.faults c.args.store.now) (g.T.Store.faults c.args.store.now)) (Moves g.T.Store.files g.T.Store.may_leave g.T.Store.moment g.T.Store.image_since SameFiles c.args.store.now c.args.store.now) c.trial_line-line.result (trial_known g c) c.finish-in-Trial.ensures ok)
+returns-in-Trial-clause-done g c = λ ok. inl (is_done c.finish-in-Trial.result (g.O.Sink.written c.args.out.now) (g.O.Sink.written c.finish-in-Trial.new.out) (Rose (g.O.Sink.faults c.args.out.now) (g.O.Sink.faults c.finish-in-Trial.new.out)) (map string_bytes c.args.words.now) (g.H.Shelf.files c.args.shelf.now) (BeginsWith (g.H.Shelf.files c.args.shelf.now) (g.T.Store.files c.args.store.now) (g.T.Store.may_leave c.args.store.now)) (g.T.Store.files c.args.store.now) (Rose (g.H.Shelf.faults c.args.shelf.now) (g.H.Shelf.faults c.args.shelf.now)) (Rose (g.T.Store.faults c.args.store.now) (g.T.Store.faults c.args.store.now)) (Rose (g.M.Room.faults c.args.room.now) (g.M.Room.faults c.args.room.now)) (Moves g.T.Store.files g.T.Store.may_leave g.T.Store.moment g.T.Store.image_since SameFiles c.args.store.now c.args.store.now) c.trial_line-line.result (trial_known g c) c.finish-in-Trial.ensures ok)
 
 pub returns-in-Trial-clause-refused : goal.returns-in-Trial-clause-refused
-returns-in-Trial-clause-refused g c = λ not_ok. first_two (is_refused c.finish-in-Trial.result (g.O.Sink.written c.args.out.now) (g.O.Sink.written c.finish-in-Trial.new.out) (Rose (g.O.Sink.faults c.args.out.now) (g.O.Sink.faults c.finish-in-Trial.new.out)) (map string_bytes c.args.words.now) (g.H.Shelf.files c.args.shelf.now) (BeginsWith (g.H.Shelf.files c.args.shelf.now) (g.T.Store.files c.args.store.now) (g.T.Store.may_leave c.args.store.now)) (g.T.Store.files c.args.store.now) (Rose (g.H.Shelf.faults c.args.shelf.now) (g.H.Shelf.faults c.args.shelf.now)) (Rose (g.T.Store.faults c.args.store.now) (g.T.Store.faults c.args.store.now)) (Moves g.T.Store.files g.T.Store.may_leave g.T.Store.moment g.T.Store.image_since SameFiles c.args.store.now c.args.store.now) c.trial_line-line.result (trial_known g c) c.finish-in-Trial.ensures not_ok)
+returns-in-Trial-clause-refused g c = λ not_ok. first_two (is_refused c.finish-in-Trial.result (g.O.Sink.written c.args.out.now) (g.O.Sink.written c.finish-in-Trial.new.out) (Rose (g.O.Sink.faults c.args.out.now) (g.O.Sink.faults c.finish-in-Trial.new.out)) (map string_bytes c.args.words.now) (g.H.Shelf.files c.args.shelf.now) (BeginsWith (g.H.Shelf.files c.args.shelf.now) (g.T.Store.files c.args.store.now) (g.T.Store.may_leave c.args.store.now)) (g.T.Store.files c.args.store.now) (Rose (g.H.Shelf.faults c.args.shelf.now) (g.H.Shelf.faults c.args.shelf.now)) (Rose (g.T.Store.faults c.args.store.now) (g.T.Store.faults c.args.store.now)) (Rose (g.M.Room.faults c.args.room.now) (g.M.Room.faults c.args.room.now)) (Moves g.T.Store.files g.T.Store.may_leave g.T.Store.moment g.T.Store.image_since SameFiles c.args.store.now c.args.store.now) c.trial_line-line.result (trial_known g c) c.finish-in-Trial.ensures not_ok)
 
 pub returns-in-Trial-clause-fault : goal.returns-in-Trial-clause-fault
 returns-in-Trial-clause-fault g c =
-    has_risen c.finish-in-Trial.result (g.O.Sink.written c.args.out.now) (g.O.Sink.written c.finish-in-Trial.new.out) (Rose (g.O.Sink.faults c.args.out.now) (g.O.Sink.faults c.finish-in-Trial.new.out)) (map string_bytes c.args.words.now) (g.H.Shelf.files c.args.shelf.now) (BeginsWith (g.H.Shelf.files c.args.shelf.now) (g.T.Store.files c.args.store.now) (g.T.Store.may_leave c.args.store.now)) (g.T.Store.files c.args.store.now) (Rose (g.H.Shelf.faults c.args.shelf.now) (g.H.Shelf.faults c.args.shelf.now)) (Rose (g.T.Store.faults c.args.store.now) (g.T.Store.faults c.args.store.now)) (Moves g.T.Store.files g.T.Store.may_leave g.T.Store.moment g.T.Store.image_since SameFiles c.args.store.now c.args.store.now) c.trial_line-line.result (trial_known g c) c.finish-in-Trial.ensures
+    has_risen c.finish-in-Trial.result (g.O.Sink.written c.args.out.now) (g.O.Sink.written c.finish-in-Trial.new.out) (Rose (g.O.Sink.faults c.args.out.now) (g.O.Sink.faults c.finish-in-Trial.new.out)) (map string_bytes c.args.words.now) (g.H.Shelf.files c.args.shelf.now) (BeginsWith (g.H.Shelf.files c.args.shelf.now) (g.T.Store.files c.args.store.now) (g.T.Store.may_leave c.args.store.now)) (g.T.Store.files c.args.store.now) (Rose (g.H.Shelf.faults c.args.shelf.now) (g.H.Shelf.faults c.args.shelf.now)) (Rose (g.T.Store.faults c.args.store.now) (g.T.Store.faults c.args.store.now)) (Rose (g.M.Room.faults c.args.room.now) (g.M.Room.faults c.args.room.now)) (Moves g.T.Store.files g.T.Store.may_leave g.T.Store.moment g.T.Store.image_since SameFiles c.args.store.now c.args.store.now) c.trial_line-line.result (trial_known g c) c.finish-in-Trial.ensures
 
 pub returns-in-Trial-clause-refusal_comes : goal.returns-in-Trial-clause-refusal_comes
 returns-in-Trial-clause-refusal_comes g c =
@@ -374,3 +374,18 @@ returns-in-Trial-clause-same_shelf g c = inr (inr refl)
 
 pub returns-in-Usage-clause-same_shelf : goal.returns-in-Usage-clause-same_shelf
 returns-in-Usage-clause-same_shelf g c = inr (inr refl)
+
+pub returns-in-Build-clause-same_room : goal.returns-in-Build-clause-same_room
+returns-in-Build-clause-same_room g c = inl (record { path = c.in-Build.config.now; out = c.in-Build.out.now; words_are = c.in-Build.ensures; holds = tt })
+
+pub returns-in-Info-clause-same_room : goal.returns-in-Info-clause-same_room
+returns-in-Info-clause-same_room g c = inr refl
+
+pub returns-in-Query-clause-same_room : goal.returns-in-Query-clause-same_room
+returns-in-Query-clause-same_room g c = inr refl
+
+pub returns-in-Trial-clause-same_room : goal.returns-in-Trial-clause-same_room
+returns-in-Trial-clause-same_room g c = inr refl
+
+pub returns-in-Usage-clause-same_room : goal.returns-in-Usage-clause-same_room
+returns-in-Usage-clause-same_room g c = inr refl

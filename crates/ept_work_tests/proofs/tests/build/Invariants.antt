@@ -6,5 +6,5 @@ use Rattle.ept_table.specs.Scanned.{told_of}
 use Rattle.ept_work_tests.proofs.tests.build.Given as goal
 
 -- what the known reader has
-abbrev pub ghosts-work_in_turns : goal.ghosts-work_in_turns
-ghosts-work_in_turns g a = record { told = told_of (λ (source : MemSource). Some (source_bytes source)) a.known.reader a.known.rules a.most (root ∷ []) true a.known.points.items }
+abbrev pub ghosts-work : goal.ghosts-work
+ghosts-work g a = record { told = told_of (λ (source : MemSource). Some (source_bytes source)) a.known.reader a.known.rules a.most (root ∷ []) true a.known.points.items }

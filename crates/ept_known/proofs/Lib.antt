@@ -1,0 +1,6 @@
+pub mod Deciding
+mod Headers
+mod Records
+mod Files
+pub mod Rest
+pub mod Sampled

@@ -1,0 +1,8 @@
+//! A gate at which workers meet: it holds one in a node until another one is in another node.
+#![tactic(auto)]
+
+mod meeting;
+#[cfg(test)]
+mod tests;
+
+pub use meeting::MeetGate;

@@ -1,0 +1,170 @@
+-- The nodes of a checkpoint's lines, added to an octree one after another.
+use Rattle.std.proofs.Common.{◌≡◌, ◌≢◌, ◌∙◌, ◌⊎◌, inl, inr, ℕ, zero, suc, ◌+◌, ◌<◌, ◌≤◌, true, false, List, [], ◌∷◌, ◌++◌, take, length, get_or, refl, sym, ap, subst, arith, Option, Some, None, Ordering}
+use Rattle.std.specs.BTreeMap.{insert_entry}
+use Rattle.std.specs.declared.cmp.Ordering.TheVariants.{Less, Equal}
+use Rattle.std.specs.Ordering.{match_ordering}
+use Rattle.ept_base.specs.Files.{Files, SameFiles, StepsBy, Tells}
+use Rattle.ept_point.specs.declared.point.Point.{Point}
+use Rattle.ept_space.specs.declared.cube.Rules.{Rules}
+use Rattle.ept_space.specs.VoxelKey.{VoxelKey, root, key_cmp}
+use Rattle.ept_space.proofs.KeyOrder.{key_cmp-less, key_cmp-same}
+use Rattle.ept_sample.specs.Members.{IsMember}
+use Rattle.ept_sample.proofs.Members.{member-map}
+use Rattle.ept_grid.specs.Node.{Node}
+use Rattle.ept_grid.specs.Tile.{IsTile, IsTileFault}
+use Rattle.ept_grid.specs.declared.error.GridError.{GridError}
+use Rattle.ept_grid.specs.declared.error.GridError.TheVariants.{Outside, OpenLoser, TooMany, Deep, Memory}
+use Rattle.ept_node.specs.Shown.{empty_node}
+use Rattle.ept_ckpt.specs.declared.node_line.NodeLine.{NodeLine}
+use Rattle.ept_ckpt.specs.declared.checkpoint.Checkpoint.{Checkpoint}
+use Rattle.ept_ckpt.specs.Octree.{keys_of, AreWholeOctree}
+use Rattle.ept_save.specs.Current.{tile_of_line}
+use Rattle.ept_save.specs.Loading.{AreOfLine}
+use Rattle.ept_table.specs.Octree.{Branch}
+use Rattle.ept_octree.specs.Adding.{filled, IsFree}
+use Rattle.ept_phase.specs.Lines.{TellsNode, TellNodes, NamesTile, NameTiles}
+use Rattle.ept_phase.proofs.Telling.{among-member}
+use Rattle.ept_phase.proofs.Merging.{DoAscend}
+use Rattle.ept_phase.proofs.Lining.{zip-more, tells-both, tells-back, do-ascend, insert-last, entries-low, take-next, told-few}
+
+-- points of a node have no fault
+pub no-fault : (key : VoxelKey) (rules : Rules) (mask : ℕ) (points : List Point) (fault : GridError) → IsTile key rules mask points → IsTileFault key rules mask points fault → ⊥
+no-fault key rules mask [] (Outside at) fits fault = absurd (let none = fault.within in omega (arith, none))
+no-fault key rules mask (p ∷ points) (Outside at) fits fault = fault.outside p (fits.inside at p fault.within)
+no-fault key rules mask points (OpenLoser at) fits fault = let e = sym fits.no_open_loser ∙ fault.1 in cc
+no-fault key rules mask points (TooMany o) fits fault = let e : true ≡ false = sym fault.2.overfull ∙ fits.none_overfull o fault.2.one_of_eight in cc
+no-fault key rules mask points Deep fits fault = fault.4 (fits.not_deep fault.3)
+no-fault key rules mask points Memory fits fault = fault
+
+-- ---- the first line is that of the root
+
+none_before : (key : VoxelKey) → key_cmp key root ≡ Less → ⊥
+none_before key less = elim (key_cmp-less key root less) [
+  | inl low ↦ omega (arith, low)
+  | inr (_, inl low) ↦ omega (arith, low)
+  | inr (_, inr (_, inl low)) ↦ omega (arith, low)
+  | inr (_, inr (_, inr (_, low))) ↦ omega (arith, low)
+]
+
+pub first-root : (lines : List NodeLine) (line : NodeLine) → AreWholeOctree lines → get_or lines 0 line ≡ line → 0 < length lines → line.key ≡ root
+first-root [] line octree is some = absurd (omega (arith, some))
+first-root (l ∷ ls) line octree is some = elim (among-member (keys_of (l ∷ ls)) root octree.rooted) [
+  | inl at ↦ ap (λ (x : NodeLine). x.key) (sym is) ∙ at
+  | inr m ↦
+      let it = member-map (λ (x : NodeLine). x.key) root ls m in
+      let up : DoAscend (l ∷ ls) = do-ascend (l ∷ ls) octree.ascend in
+      absurd (none_before l.key (subst (λ (k : VoxelKey). key_cmp l.key k ≡ Less) it.2 (up.0 it.0 it.1)))
+]
+
+pub some-lines : (lines : List NodeLine) → AreWholeOctree lines → 0 < length lines
+some-lines [] octree = absurd (among-member [] root octree.rooted)
+some-lines (l ∷ ls) octree = omega arith
+
+-- ---- the nodes that are there
+
+abbrev pub alone : Rules → List Branch
+alone rules = (let b : Branch = (root, empty_node root rules) in b) ∷ []
+
+-- The nodes of these lines were added to the octree of no points, in which the root stands from the beginning; the files that the
+-- lines name are their tiles.
+pub record AreLoaded (rules : Rules) (lines : List NodeLine) (nodes : List Branch) (files : Option Files) : Type 0 where
+  pub loaded : List Branch
+  pub told : TellNodes loaded lines
+  pub tiles : Tells (λ all. NameTiles all loaded lines) files
+  pub there : (nodes ≡ loaded) ⊎ ((loaded ≡ []) × (nodes ≡ alone rules))
+
+none_named : (files : Option Files) → Tells (λ all. NameTiles all [] []) files
+none_named None = tt
+none_named (Some all) = tt
+
+pub loaded-none : (rules : Rules) (nodes : List Branch) (files : Option Files) → nodes ≡ alone rules → AreLoaded rules [] nodes files
+loaded-none rules nodes files is = record { loaded = []; told = tt; tiles = none_named files; there = inr (refl, is) }
+
+-- where no node is told of there is no line
+first_taken : (lines : List NodeLine) (i : ℕ) → i < length lines → TellNodes [] (take i lines) → i ≡ 0
+first_taken lines zero inside told = refl
+first_taken [] (suc i) inside told = absurd (omega (arith, inside))
+first_taken (l ∷ ls) (suc i) inside told = absurd told
+
+module _ (rules : Rules) (c : Checkpoint) (items : List NodeLine) (same : items ≡ c.nodes) (i : ℕ) (line : NodeLine) (inside : i < length items) (is : get_or items i line ≡ line) (nodes : List Branch) (old : Option Files) (at : AreLoaded rules (take i items) nodes old) where
+  octree : AreWholeOctree items
+  octree = subst (λ (w : List NodeLine). AreWholeOctree w) (sym same) c.is_checkpoint.nodes_are.octree
+
+  up : DoAscend items
+  up = do-ascend items octree.ascend
+
+  low : (e : Branch) → IsMember e at.loaded → key_cmp e.0 line.key ≡ Less
+  low = entries-low at.loaded items i line up inside is at.told
+
+  -- where only the root stands, the line is that of the root
+  alone_first : at.loaded ≡ [] → line.key ≡ root
+  alone_first none =
+      let zeroth : i ≡ 0 = first_taken items i inside (subst (λ (w : List Branch). TellNodes w (take i items)) none at.told) in
+      first-root items line octree (subst (λ (k : ℕ). get_or items k line ≡ line) zeroth is) (omega (arith, inside))
+
+  apart : (e : Branch) → IsMember e at.loaded → e.0 ≡ line.key → ⊥
+  apart e m same_key = let equal : key_cmp e.0 line.key ≡ Equal = key_cmp-same e.0 line.key same_key in two_ways (key_cmp e.0 line.key) (low e m) equal
+    where
+      two_ways : (o : Ordering) → o ≡ Less → o ≡ Equal → ⊥
+      two_ways o less equal = absurd (cc)
+
+  pub next-free : IsFree line.key nodes
+  next-free = elim at.there [
+    | inl all ↦ inl (λ e m same_key. apart e (subst (λ (w : List Branch). IsMember e w) all m) same_key)
+    | inr first ↦ inr (alone_first first.0, empty_node root rules, first.1, refl)
+  ]
+
+  -- it is one too many only where there are more lines than there may be nodes
+  pub next-full : (most : ℕ) → (line.key ≢ root) × (most ≤ length nodes) → most < length c.nodes
+  next-full most full = elim at.there [
+    | inl all ↦
+        let few : length at.loaded < length items = told-few at.loaded items i inside at.told in
+        omega (arith, full.1, ap length all, few, ap length same)
+    | inr first ↦ absurd (full.0 (alone_first first.0))
+  ]
+
+  module _ (node : Node) (more : List Branch) (inserted : more ≡ insert_entry key_cmp nodes line.key node) where
+    abbrev next : Branch
+    next = (line.key, node)
+
+    last : more ≡ at.loaded ++ next ∷ []
+    last = elim at.there [
+      | inl all ↦ inserted ∙ (ap (λ (w : List Branch). insert_entry key_cmp w line.key node) all ∙ insert-last at.loaded line.key node low)
+      | inr first ↦
+          let here : key_cmp line.key root ≡ Equal = key_cmp-same line.key root (alone_first first.0) in
+          inserted
+          ∙ (ap (λ (w : List Branch). insert_entry key_cmp w line.key node) first.1
+          ∙ (ap (λ (o : Ordering). match_ordering o (next ∷ alone rules) ((root, node) ∷ []) ((root, empty_node root rules) ∷ insert_entry key_cmp [] line.key node)) here
+          ∙ (ap (λ (k : VoxelKey). let b : Branch = (k, node) in b ∷ []) (sym (alone_first first.0)) ∙ ap (λ (w : List Branch). w ++ next ∷ []) (sym first.0))))
+    ]
+
+    taken : take i items ++ line ∷ [] ≡ take (i + 1) items
+    taken = take-next items i line inside is
+
+    pub loaded-more : (mid : Option Files) → StepsBy SameFiles old mid → TellsNode next line → Tells (λ all. NamesTile all next line) mid → AreLoaded rules (take (i + 1) items) more old
+    loaded-more mid unchanged tells name = record {
+      loaded = at.loaded ++ next ∷ [];
+      told = subst (λ (ls : List NodeLine). TellNodes (at.loaded ++ next ∷ []) ls) taken (zip-more TellsNode at.loaded (take i items) next line at.told tells);
+      tiles = subst (λ (ls : List NodeLine). Tells (λ all. NameTiles all (at.loaded ++ next ∷ []) ls) old) taken
+          (tells-both (λ all. NameTiles all at.loaded (take i items)) (λ all. NamesTile all next line) (λ all. NameTiles all (at.loaded ++ next ∷ []) (take i items ++ line ∷ [])) (λ all names name. zip-more (NamesTile all) at.loaded (take i items) next line names name) old at.tiles
+          (tells-back (λ all. NamesTile all next line) (λ all. NamesTile all next line) (λ a b step here. sym (step (tile_of_line line)) ∙ here) old mid unchanged name));
+      there = inl last;
+    }
+
+-- the node of the points that were found is the one of which the line tells
+pub tells-filled : (rules its : Rules) (line : NodeLine) (points : List Point) → AreOfLine its line points → TellsNode (line.key, filled line.key rules line.mask points) line
+tells-filled rules its line points are = record { key = refl; mask = refl; count = sym are.counted }
+
+-- with all lines, these are the octree's nodes
+pub all-loaded : (rules : Rules) (c : Checkpoint) (nodes : List Branch) (files : Option Files) → AreLoaded rules c.nodes nodes files → TellNodes nodes c.nodes × Tells (λ all. NameTiles all nodes c.nodes) files
+all-loaded rules c nodes files at = elim at.there [
+  | inl all ↦ (
+    subst (λ (w : List Branch). TellNodes w c.nodes) (sym all) at.told,
+    subst (λ (w : List Branch). Tells (λ here. NameTiles here w c.nodes) files) (sym all) at.tiles,
+  )
+  | inr first ↦ absurd (none_told c.nodes c.is_checkpoint.nodes_are.octree (subst (λ (w : List Branch). TellNodes w c.nodes) first.0 at.told))
+]
+  where
+    none_told : (lines : List NodeLine) → AreWholeOctree lines → TellNodes [] lines → ⊥
+    none_told [] whole told = among-member [] root whole.rooted
+    none_told (l ∷ ls) whole told = told

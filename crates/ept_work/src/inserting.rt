@@ -1,0 +1,184 @@
+//! Several workers, and what comes of their table.
+
+ghost use Rattle.std.specs.Prelude.{◌≡◌, ◌≢◌, ◌+◌, ◌*◌, ◌≤◌, ◌<◌, min, ℕ, [], Err, None, Some, OnOk, true, take, length};
+ghost use Rattle.ept_forest.specs.Slots.{nodes_of, used_of};
+ghost use Rattle.ept_scan.specs.Reader.{drawn_of, refusal_of, HasFault};
+ghost use Rattle.ept_scan.specs.declared.read_error.ReadError.TheVariants as read;
+ghost use Rattle.ept_slots.specs.Views.{first_view};
+ghost use Rattle.ept_slots.specs.Seating.{view};
+ghost use Rattle.ept_table.specs.Item.{seen_reader, IsFiled};
+ghost use Rattle.ept_table.specs.Row.{row};
+ghost use Rattle.ept_table.specs.Shown.{FitsReader};
+ghost use Rattle.ept_table.specs.Standing.{known};
+ghost use Rattle.ept_table.specs.Steps.{first_note, joined};
+ghost use Rattle.ept_table.specs.Tells.{IsTooMany, IsLanded, IsSampling};
+ghost use Rattle.ept_table.specs.Table.{slots_of, rules_of, IsSeat};
+ghost use Rattle.ept_work.specs.Working.{first_refusal};
+ghost use Rattle.ept_work.specs.Crews.{MayWork, HaveWorked};
+ghost use Rattle.ept_work.specs.declared.error.WorkError.TheVariants as errors;
+
+use crate::error::WorkError;
+use crate::worker::Worker;
+use ept_base::{Gate, Source, SpillFile};
+use ept_forest::Forest;
+use ept_scan::Reader;
+use ept_table::{NodeTable, Scan, Seat};
+use std::alloc::Global;
+use std::sync::Wait;
+use std::thread;
+use std::thread::Threads;
+
+// How workers ended: their seat, and the refusal of the lowest of those that were refused.
+struct Ended<F, S> {
+    seat: Seat<F, S>,
+    result: Result<(), WorkError>,
+}
+
+/// Lets so many workers bring the points of the reader's allowance down the tree, and closes the table.
+///
+/// # Errors
+///
+/// Of several refusals that of the lowest worker. The forest and the reader come back in either case.
+pub fn insert_all<
+    F: SpillFile + Send + Sync,
+    S: Source + Send,
+    J: Scan + Sync,
+    G: Gate + Sync,
+    R: Threads + Wait + Sync,
+>(
+    rt: &R,
+    alloc: Global,
+    table: NodeTable<F, S, J>,
+    seat: Seat<F, S>,
+    workers: u32,
+    gate: &G,
+) -> (Forest<F>, Reader<S>, Result<(), WorkError>)
+    requires seat { IsSeat J.told table seat }
+    requires first { view seat ≡ first_view J.told.most (first_note J.told) }
+    requires slots { slots_of table ≡ J.told.most + 1 }
+    requires rules { rules_of table ≡ J.told.rules }
+    requires workers { (1 ≤ workers) × (workers ≤ 64) }
+
+    // Where nothing is refused nothing flies, and where files and sources tell the nodes are the sampling of all points
+    // that the allowance and the inputs have.
+    ensures landed { OnOk result.2 (IsLanded J.told (used_of result.0) (row S.whole result.1 (nodes_of result.0))) }
+    ensures sampling { OnOk result.2 (J.told.tells ≡ true
+        → IsSampling J.told (row S.whole result.1 (nodes_of result.0)) (take (drawn_of result.1) J.told.points)) }
+    ensures drawn { OnOk result.2 (drawn_of result.1 ≡ min J.told.end J.told.total) }
+    ensures sound { OnOk result.2 (refusal_of result.1 ≡ None) }
+
+    // Whatever the answer, the reader and the slots are those of the table.
+    ensures filed { IsFiled S.whole S.left S.given S.faults J.told result.1 }
+    ensures fits { FitsReader J.told (seen_reader S.whole result.1) }
+    ensures slots { length (nodes_of result.0) ≡ J.told.most }
+
+    // The causes of a refusal.
+    ensures too_many { result.2 ≡ Err errors.TooManyNodes → IsTooMany J.told }
+    ensures fault { result.2 ≡ Err errors.SourceFault → HasFault S.faults result.1 }
+    ensures changed { (source number : ℕ) → result.2 ≡ Err (errors.SourceChanged source number)
+        → refusal_of result.1 ≡ Some (read.SourceChanged source number) }
+    ensures no_change { J.told.tells ≡ true → (source number : ℕ)
+        → result.2 ≢ Err (errors.SourceChanged source number) }
+{
+    let Ended { seat, result } = work_all(rt, alloc, &table, seat, 0, workers, gate);
+    let (forest, reader) = table.close(seat);
+    (forest, reader, result)
+}
+
+// Lets so many workers, numbered from the first on, work at a table, the higher half of them in a thread of their own.
+fn work_all<F, S, J, G, R>(
+    rt: &R,
+    alloc: Global,
+    table: &NodeTable<F, S, J>,
+    mut seat: Seat<F, S>,
+    first: u32,
+    workers: u32,
+    gate: &G,
+) -> Ended<F, S>
+where
+    F: Send + Sync,
+    S: Source + Send,
+    J: Scan + Sync,
+    G: Gate + Sync,
+    R: Threads + Wait + Sync,
+    requires { MayWork J.told S.whole table.now seat first workers }
+    ensures { HaveWorked J.told S.whole table.now seat result }
+{
+    if workers == 1 {
+        return work_alone(rt, alloc, table, seat, first, gate);
+    }
+    let higher = workers / 2;
+    let lower = workers - higher;
+    let next = first + lower;
+    let other = table.split(&mut seat);
+    let (left, right) = thread::join(
+        rt,
+        move || -> Ended<F, S>
+            requires { MayWork J.told S.whole table.now seat first lower }
+            ensures { HaveWorked J.told S.whole table.entry.now seat result }
+        { work_all(rt, alloc, table, seat, first, lower, gate) },
+        move || -> Ended<F, S>
+            requires { MayWork J.told S.whole table.now other next higher }
+            ensures { HaveWorked J.told S.whole table.entry.now other result }
+        { work_all(rt, alloc, table, other, next, higher, gate) },
+    );
+    both(table, left, right)
+}
+
+// Lets one worker work.
+fn work_alone<F, S: Source, J: Scan, G: Gate, H: Wait>(
+    rt: &H,
+    alloc: Global,
+    table: &NodeTable<F, S, J>,
+    seat: Seat<F, S>,
+    number: u32,
+    gate: &G,
+) -> Ended<F, S>
+    requires { MayWork J.told S.whole table.now seat number 1 }
+    ensures { HaveWorked J.told S.whole table.now seat result }
+{
+    let mut worker = Worker::new(alloc, seat, number);
+    let result = worker.work(rt, alloc, table, gate);
+    Ended {
+        seat: worker.into_seat(),
+        result,
+    }
+}
+
+// Ends the seat of the higher workers in that of the lower ones.
+fn both<F, S: Source, J: Scan>(
+    table: &NodeTable<F, S, J>,
+    lower: Ended<F, S>,
+    higher: Ended<F, S>,
+) -> Ended<F, S>
+    requires lower { IsSeat J.told table.now lower.seat }
+    requires higher { IsSeat J.told table.now higher.seat }
+    requires share { 0 < (view lower.seat).parts }
+    requires idle { (known S.whole (view higher.seat)).hold ≡ None }
+    requires landed { (view higher.seat).note.flights ≡ [] }
+    ensures seat { IsSeat J.told table.now result.seat }
+    ensures both { known S.whole (view result.seat) ≡ joined (known S.whole (view lower.seat)) (known S.whole (view higher.seat)) }
+    ensures result { result.result ≡ first_refusal lower.result higher.result }
+{
+    let Ended {
+        mut seat,
+        result: first,
+    } = lower;
+    let Ended {
+        seat: other,
+        result: second,
+    } = higher;
+    table.join(&mut seat, other);
+    Ended {
+        seat,
+        result: first_of(first, second),
+    }
+}
+
+// The refusal of the first, or else that of the second.
+fn first_of(first: Result<(), WorkError>, second: Result<(), WorkError>) -> Result<(), WorkError>
+    ensures { result ≡ first_refusal first second }
+{
+    first?;
+    second
+}
