@@ -443,7 +443,7 @@ fn refused_inputs_leave_nothing(rt: HostRuntime) -> Result<(), Fail> {
     Ok(())
 }
 
-// A spill file that can't be made is told. The room has the others back, and nothing is put.
+// Of eight spill files the second can't be made, which is told. The room has the first one back, and nothing is put.
 #[test]
 fn a_spill_file_that_cannot_be_made_is_told(rt: HostRuntime) -> Result<(), Fail> {
     let alloc = rt.alloc();
@@ -452,7 +452,9 @@ fn a_spill_file_that_cannot_be_made_is_told(rt: HostRuntime) -> Result<(), Fail>
     let mut calls = Vec::new(alloc);
     calls.push(2)?;
     let room = MemRoom::new(alloc, calls, Vec::new(alloc));
-    let left = build_in(&rt, alloc, SMALLEST, files, None, room)?;
+    let text =
+        "{\"input\":\"a.las\",\"scale\":2,\"bounds\":[0,0,0,7,7,7],\"span\":2,\"minNodeSize\":0,\"maxNodes\":8}";
+    let left = build_in(&rt, alloc, text, files, None, room)?;
     compare(
         &rt,
         &left,

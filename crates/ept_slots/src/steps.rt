@@ -20,6 +20,13 @@ impl<T, N, W, K, R: SlotRule<T, N, K>> Slots<T, N, W, K, R> {
         self.count
     }
 
+    /// Whether the lock of a slot is held as it is looked at. Another seat may give or take the slot meanwhile.
+    pub fn is_held(&self, slot: usize) -> bool
+        requires { slot < count_of self.now }
+    {
+        self.table.shared.peek(slot + LOCKS) == HELD
+    }
+
     /// One try to take what lies in a slot: None where its lock was held, and then nothing changed.
     pub fn try_take<M: Take<T, N>>(&self, seat: &mut SlotSeat<T, N, W>, slot: usize) -> Option<T>
         requires seat { IsSeatOf R.most self.now seat.old }

@@ -54,6 +54,12 @@ impl<F, S: Source, J: Scan> NodeTable<F, S, J> {
         &self.rules
     }
 
+    /// Whether a slot is held as it is looked at, for a worker that has other things to do meanwhile. Never where there is no
+    /// such slot.
+    pub fn is_held(&self, slot: u32) -> bool {
+        (slot as usize) < self.slots.count() && self.slots.is_held(slot as usize)
+    }
+
     /// Takes what lies in a slot, as soon as that is free. The seat is its holder then.
     pub fn take<H: Wait>(&self, rt: &H, seat: &mut Seat<F, S>, slot: u32) -> Item<F, S>
         requires seat { IsSeat J.told self.now seat.old }

@@ -12,12 +12,15 @@ use ept_table::{NodeTable, Scan};
 use std::alloc::Global;
 use std::sync::Wait;
 
+// With how many flights a worker draws another batch rather than wait for the node of the newest one.
+const CARRIED: usize = 32;
+
 impl<F, S: Source> Worker<F, S> {
     ghost use Rattle.ept_table.specs.Table.{slots_of, rules_of, IsSeat};
     ghost use Rattle.ept_work.specs.Worker.{seat_of, number_of, knows};
 
-    /// Works from the first batch to the last, one visit at a time, that of the newest flight first. A worker that is
-    /// refused abandons its flights. At the end it carries no flight and holds no slot, whatever the answer.
+    /// Works from the first batch to the last, one visit at a time, that of the newest flight first. Where another worker
+    /// holds that node it draws a further batch meanwhile. A worker that is refused abandons its flights. At the end it carries no flight and holds no slot, whatever the answer.
     ///
     /// # Errors
     ///
@@ -76,7 +79,8 @@ impl<F, S: Source> Worker<F, S> {
         unreachable!()
     }
 
-    // Visits the node of the last flight, or draws a batch where there is no flight. Answers whether there is more to do.
+    // Visits the node of the last flight, or draws a batch where there is no flight or another worker holds that node. Answers
+    // whether there is more to do.
     fn step<H: Wait, G: Gate, J: Scan>(
         &mut self,
         rt: &H,
@@ -101,7 +105,18 @@ impl<F, S: Source> Worker<F, S> {
         if self.is_empty() {
             return self.draw(rt, alloc, table);
         }
+        if self.would_wait(table) && self.draw(rt, alloc, table)? {
+            return Ok(true);
+        }
         self.visit(rt, alloc, table, gate)?;
         Ok(true)
+    }
+
+    // Whether another worker holds the node of the last flight, and few flights are carried.
+    fn would_wait<J: Scan>(&self, table: &NodeTable<F, S, J>) -> bool {
+        match self.flights.last() {
+            Some(carried) => self.flights.len() < CARRIED && table.is_held(carried.slot),
+            None => false,
+        }
     }
 }
