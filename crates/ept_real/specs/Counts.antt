@@ -5,6 +5,8 @@ use Rattle.ept_real.specs.declared.shelf.RealShelf.{RealShelf}
 use Rattle.ept_real.specs.declared.sink.RealSink.{RealSink}
 use Rattle.ept_real.specs.declared.store.RealStore.{RealStore}
 use Rattle.ept_real.specs.declared.link.RealLink.{RealLink}
+use Rattle.ept_real.specs.declared.room.RealRoom.{RealRoom}
+use Rattle.ept_real.specs.declared.room.RealSpill.{RealSpill}
 
 -- how often an object has failed
 abbrev pub source_faults : {R F D : Type 0} → RealSource R F D → ℕ
@@ -22,6 +24,12 @@ store_faults store = store.faults
 abbrev pub link_faults : {S : Type 0} → RealLink S → ℕ
 link_faults link = link.faults
 
+abbrev pub room_faults : {R F D : Type 0} → RealRoom R F D → ℕ
+room_faults room = room.faults
+
+abbrev pub spill_faults : {R F D : Type 0} → RealSpill R F D → ℕ
+spill_faults spill = spill.faults
+
 -- how many bytes a source gave, and the sources that a shelf took back
 abbrev pub source_given : {R F D : Type 0} → RealSource R F D → ℕ
 source_given source = source.given
@@ -32,3 +40,10 @@ shelf_given shelf = shelf.given
 -- how many calls of `get` a store had
 abbrev pub store_gets : {R F D : Type 0} → RealStore R F D → ℕ
 store_gets store = store.gets
+
+-- how many calls of `keep` a spill file had, and the files that a room took back
+abbrev pub spill_keeps : {R F D : Type 0} → RealSpill R F D → ℕ
+spill_keeps spill = spill.keeps
+
+abbrev pub room_keeps : {R F D : Type 0} → RealRoom R F D → ℕ
+room_keeps room = room.keeps

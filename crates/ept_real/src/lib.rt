@@ -1,5 +1,5 @@
 //! The outside world over the real machine: the shelf that opens files by their paths and the sources
-//! that it opens, a store in a folder, a sink over a writer, a link over a stream, and the machine as one that
+//! that it opens, a store in a folder, a room in a folder for spill files, a sink over a writer, a link over a stream, and the machine as one that
 //! tells how far a build is.
 //!
 //! What they hold is not told: clauses on contents say nothing of them. Each keeps its counts, of
@@ -10,6 +10,7 @@ mod link;
 mod path_set;
 mod paths;
 mod progress;
+mod room;
 mod seen_files;
 mod shelf;
 mod sink;
@@ -19,6 +20,7 @@ mod unsynced;
 
 pub use link::RealLink;
 pub use progress::{Ending, Telling};
+pub use room::{RealRoom, RealSpill};
 pub use seen_files::{SeenFile, SeenFiles};
 pub use shelf::RealShelf;
 pub use sink::RealSink;

@@ -40,14 +40,14 @@ pub struct RealStore<'a, R: Files> {
 }
 
 /// Reads the whole of a file.
-fn read_file(files: &impl Files, alloc: Global, path: &str) -> io::Result<Vec<u8>> {
+pub(crate) fn read_file(files: &impl Files, alloc: Global, path: &str) -> io::Result<Vec<u8>> {
     let mut bytes = Vec::new(alloc);
     fs::open(files, path)?.read_to_end(&mut bytes)?;
     Ok(bytes)
 }
 
 /// Writes the whole of a file, and makes the folders that its path needs.
-fn write_file(files: &impl Files, path: &str, bytes: &[u8]) -> io::Result<()> {
+pub(crate) fn write_file(files: &impl Files, path: &str, bytes: &[u8]) -> io::Result<()> {
     match fs::write(files, path, bytes) {
         Err(error) if error.kind() == ErrorKind::NotFound => {}
         written => return written,
@@ -59,7 +59,7 @@ fn write_file(files: &impl Files, path: &str, bytes: &[u8]) -> io::Result<()> {
 }
 
 /// Removes a file, where it is there.
-fn remove_file(files: &impl Files, path: &str) -> io::Result<()> {
+pub(crate) fn remove_file(files: &impl Files, path: &str) -> io::Result<()> {
     match fs::remove_file(files, path) {
         Err(error) if error.kind() == ErrorKind::NotFound => Ok(()),
         removed => removed,

@@ -8,6 +8,8 @@ mod peers;
 #[cfg(test)]
 mod progress_tests;
 #[cfg(test)]
+mod room_tests;
+#[cfg(test)]
 mod tests;
 #[cfg(test)]
 mod writers;
