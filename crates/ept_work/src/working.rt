@@ -105,7 +105,35 @@ impl<F, S: Source> Worker<F, S> {
         if self.is_empty() {
             return self.draw(rt, alloc, table);
         }
-        if self.would_wait(table) && self.draw(rt, alloc, table)? {
+        if self.would_wait(table) {
+            return self.draw_meanwhile(rt, alloc, table, gate);
+        }
+        self.visit(rt, alloc, table, gate)?;
+        Ok(true)
+    }
+
+    // Draws a batch while another worker holds the node of the last flight, and waits for that node where there is none left.
+    fn draw_meanwhile<H: Wait, G: Gate, J: Scan>(
+        &mut self,
+        rt: &H,
+        alloc: Global,
+        table: &NodeTable<F, S, J>,
+        gate: &G,
+    ) -> Result<bool, WorkError>
+        requires seat { IsSeat J.told table.now (seat_of self.old) }
+        requires rest { IsAtRest J.told (knows S.whole self.old) }
+        requires slots { slots_of table.now ≡ J.told.most + 1 }
+        requires rules { rules_of table.now ≡ J.told.rules }
+        ensures seat { IsSeat J.told table.now (seat_of self.new) }
+        ensures number { number_of self.new ≡ number_of self.old }
+        ensures rest { OnOk result (IsAtRest J.told (knows S.whole self.new)) }
+        ensures idle { IsIdle (knows S.whole self.new) }
+        ensures parts { (knows S.whole self.new).parts ≡ (knows S.whole self.old).parts }
+        ensures keeps { OnOk result (Keeps (knows S.whole self.old) (knows S.whole self.new)) }
+        ensures more { IfOk result (λ more. more ≡ true) }
+        ensures refused { IfErr result (IsStopped J.told (knows S.whole self.new)) }
+    {
+        if self.draw(rt, alloc, table)? || self.is_empty() {
             return Ok(true);
         }
         self.visit(rt, alloc, table, gate)?;
