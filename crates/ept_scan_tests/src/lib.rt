@@ -2,4 +2,8 @@
 #![tactic(auto)]
 
 #[cfg(test)]
-mod tests;
+mod fixtures;
+#[cfg(test)]
+mod reading_tests;
+#[cfg(test)]
+mod scan_tests;
