@@ -34,7 +34,7 @@ use std::sync::Wait;
 const BATCH: usize = 1_024;
 
 // The slot of the root's node.
-const ROOT_SLOT: u32 = 1;
+pub(crate) const ROOT_SLOT: u32 = 1;
 
 /// A seat of a table with the flights that it carries.
 pub struct Worker<F, S> {

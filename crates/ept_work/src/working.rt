@@ -6,14 +6,17 @@ ghost use Rattle.ept_work.specs.Drawing.{HasDrawnAll};
 ghost use Rattle.ept_work.specs.Working.{Keeps, HasWorked, HasEnded, IsStopped, IsCause};
 
 use crate::error::WorkError;
-use crate::worker::Worker;
+use crate::worker::{ROOT_SLOT, Worker};
 use ept_base::{Gate, Source};
 use ept_table::{NodeTable, Scan};
 use std::alloc::Global;
 use std::sync::Wait;
 
-// With how many flights a worker draws another batch rather than wait for the node of the newest one.
+// With fewer flights than these a worker draws another batch rather than wait for the node of the newest one: fewer for the
+// root, so that it goes on to draw where it then comes to another node that is held.
 const CARRIED: usize = 32;
+
+const CARRIED_TO_ROOT: usize = 4;
 
 impl<F, S: Source> Worker<F, S> {
     ghost use Rattle.ept_table.specs.Table.{slots_of, rules_of, IsSeat};
@@ -142,9 +145,14 @@ impl<F, S: Source> Worker<F, S> {
 
     // Whether another worker holds the node of the last flight, and few flights are carried.
     fn would_wait<J: Scan>(&self, table: &NodeTable<F, S, J>) -> bool {
-        match self.flights.last() {
-            Some(carried) => self.flights.len() < CARRIED && table.is_held(carried.slot),
-            None => false,
-        }
+        let Some(carried) = self.flights.last() else {
+            return false;
+        };
+        let most = if carried.slot == ROOT_SLOT {
+            CARRIED_TO_ROOT
+        } else {
+            CARRIED
+        };
+        self.flights.len() < most && table.is_held(carried.slot)
     }
 }
