@@ -312,20 +312,35 @@ fn two_workers_find_too_many_nodes(rt: HostRuntime) -> Result<(), Fail> {
     Ok(())
 }
 
-// How long a worker waits for another one.
-const TURNS: u64 = 10_000_000;
+// How long a worker waits for another one, and how often it is tried: of so few records none may be left to draw for a worker
+// whose next node the other one is held in.
+const TURNS: u64 = 1_000_000;
+
+const TRIES: usize = 12;
+
+// Whether one of two workers came to a node while the other one was held in another. The nodes are the sampling in any case.
+fn have_met<R: Threads + Wait + Sync + Abort>(
+    rt: &R,
+    alloc: Global,
+    places: &[[i32; 3]],
+) -> Result<bool, Fail> {
+    let gate = MeetGate::new(TURNS);
+    let plan = Plan::Threads(Crew { workers: 2 });
+    let built = build(rt, alloc, WIDE, places, 4_000, plan, &gate)?;
+    same(rt, &built.refused, &[None, None]);
+    let is_sampled = is_sampled(rt, alloc, &built, &mut None)?;
+    same(rt, &is_sampled, &true);
+    Ok(gate.met())
+}
 
 #[test]
 fn two_workers_are_in_two_nodes_at_one_time(rt: HostRuntime) -> Result<(), Fail> {
     let alloc = rt.alloc();
     let places = Lot { state: 7 }.places(alloc, 3_000)?;
-    let gate = MeetGate::new(TURNS);
-    let plan = Plan::Threads(Crew { workers: 2 });
-    let built = build(&rt, alloc, WIDE, &places, 4_000, plan, &gate)?;
-    same(&rt, &built.refused, &[None, None]);
-    same(&rt, &gate.met(), &true);
-    let mut wanted = None;
-    let is_sampled = is_sampled(&rt, alloc, &built, &mut wanted)?;
-    same(&rt, &is_sampled, &true);
-    Ok(())
+    for _ in 0..TRIES {
+        if have_met(&rt, alloc, &places)? {
+            return Ok(());
+        }
+    }
+    Err(Fail::new("no worker met the other one"))
 }
