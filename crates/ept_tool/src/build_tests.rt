@@ -1,12 +1,10 @@
 //! Builds over devices in memory: their lines, and what they leave in the store.
 
 use crate::tests::{
-    Answer, BUILD, CONFIGURATION, Failing, Given, Machine, Shelved, at, compare, expect,
-    expect_text, las, many, may_lack_memory, spaced, store_of, texts,
+    Answer, BUILD, CONFIGURATION, Failing, Given, Machine, Shelved, at, compare, cut, expect,
+    expect_text, las, many, may_lack_memory, run_over, sink_of, spaced, store_of,
 };
-use ept_base::{Failed, GetError, OpenGate, Shelf, Source};
-use ept_mem::{MemRoom, MemSink};
-use ept_run::run;
+use ept_base::{Failed, GetError, Shelf, Source};
 use std::alloc::{AllocError, Global};
 use std::test::Fail;
 
@@ -58,31 +56,38 @@ fn each_scan_has_its_line(rt: HostRuntime) -> Result<(), Fail> {
     Ok(())
 }
 
+const UNBOUNDED: &str = "{\"input\":\"a.las\",\"scale\":2,\"span\":2}";
+
 fn expect_scans(rt: &impl Machine, alloc: Global) -> Result<(), AllocError> {
     let none = las(alloc, 0, &[])?;
+    expect_scan(rt, alloc, &none, (0, "points 0 nodes 1\n"))?;
+    let unbounded = (4, "error 4 nobounds\n");
+    expect_build(rt, alloc, UNBOUNDED, &none, b"", unbounded)?;
+    expect_faulty_scans(rt, alloc)
+}
+
+// One with a point outside, one that is cut, and one that states more points than there may be.
+fn expect_faulty_scans(rt: &impl Machine, alloc: Global) -> Result<(), AllocError> {
     let outside = las(alloc, 2, &[at(7, 7, 7), at(8, 0, 0)])?;
-    let mut cut = las(alloc, 3, &[at(1, 1, 1), at(2, 2, 2), at(3, 3, 3)])?;
-    cut.truncate(286);
-    let stated = many(alloc)?;
-    let unbounded = "{\"input\":\"a.las\",\"scale\":2,\"span\":2}";
-    for (configuration, scan, want) in [
-        (CONFIGURATION, &none, (0, "points 0 nodes 1\n")),
-        (
-            CONFIGURATION,
-            &outside,
-            (4, "error 4 bounds source 0 number 1\n"),
-        ),
-        (
-            CONFIGURATION,
-            &cut,
-            (4, "error 4 las 10 source 0 number 2\n"),
-        ),
-        (unbounded, &none, (4, "error 4 nobounds\n")),
-        (CONFIGURATION, &stated, (5, "error 5 points source 0\n")),
-    ] {
-        expect_build(rt, alloc, configuration, scan, b"", want)?;
-    }
-    Ok(())
+    expect_scan(
+        rt,
+        alloc,
+        &outside,
+        (4, "error 4 bounds source 0 number 1\n"),
+    )?;
+    let cut = cut(alloc, 3, &[at(1, 1, 1), at(2, 2, 2), at(3, 3, 3)], 286)?;
+    expect_scan(rt, alloc, &cut, (4, "error 4 las 10 source 0 number 2\n"))?;
+    expect_scan(rt, alloc, &many(alloc)?, (5, "error 5 points source 0\n"))
+}
+
+/// Builds this scan within bounds, and compares the answer.
+fn expect_scan(
+    rt: &impl Machine,
+    alloc: Global,
+    scan: &[u8],
+    want: (u8, &str),
+) -> Result<(), AllocError> {
+    expect_build(rt, alloc, CONFIGURATION, scan, b"", want)
 }
 
 #[test]
@@ -94,38 +99,35 @@ fn each_octree_has_its_number_of_nodes(rt: HostRuntime) -> Result<(), Fail> {
     Ok(())
 }
 
+const TWO_NODES: &str = "{\"input\":\"a.las\",\"scale\":2,\"bounds\":[0,0,0,7,7,7],\"span\":2,\
+\"minNodeSize\":0,\"maxNodes\":2}";
+
+const THREE_NODES: &str = "{\"input\":\"a.las\",\"scale\":2,\"bounds\":[0,0,0,7,7,7],\"span\":2,\
+\"minNodeSize\":0,\"maxNodes\":3}";
+
+const BOTH: &str =
+    "{\"input\":[\"a.las\",\"b.las\"],\"scale\":2,\"bounds\":[0,0,0,7,7,7],\"span\":2,\"minNodeSize\":0}";
+
 // The same place five times: with two cells an axis in 8 stored units, the third node is at the greatest
 // depth, where all stay.
 fn expect_nodes(rt: &impl Machine, alloc: Global) -> Result<(), AllocError> {
     let five = las(alloc, 5, &[at(1, 1, 1); 5])?;
-    let three = las(alloc, 1, &[at(3, 3, 3)])?;
-    let one = las(alloc, 1, &[at(1, 1, 1)])?;
+    expect_build(rt, alloc, TWO_NODES, &five, b"", (5, "error 5 nodes\n"))?;
     expect_build(
         rt,
         alloc,
-        "{\"input\":\"a.las\",\"scale\":2,\"bounds\":[0,0,0,7,7,7],\"span\":2,\
-\"minNodeSize\":0,\"maxNodes\":2}",
-        &five,
-        b"",
-        (5, "error 5 nodes\n"),
-    )?;
-    expect_build(
-        rt,
-        alloc,
-        "{\"input\":\"a.las\",\"scale\":2,\"bounds\":[0,0,0,7,7,7],\"span\":2,\
-\"minNodeSize\":0,\"maxNodes\":3}",
+        THREE_NODES,
         &five,
         b"",
         (0, "points 5 nodes 3\n"),
     )?;
-    expect_build(
-        rt,
-        alloc,
-        "{\"input\":[\"a.las\",\"b.las\"],\"scale\":2,\"bounds\":[0,0,0,7,7,7],\"span\":2,\"minNodeSize\":0}",
-        &three,
-        &one,
-        (0, "points 2 nodes 2\n"),
-    )
+    expect_nodes_of_both(rt, alloc)
+}
+
+fn expect_nodes_of_both(rt: &impl Machine, alloc: Global) -> Result<(), AllocError> {
+    let three = las(alloc, 1, &[at(3, 3, 3)])?;
+    let one = las(alloc, 1, &[at(1, 1, 1)])?;
+    expect_build(rt, alloc, BOTH, &three, &one, (0, "points 2 nodes 2\n"))
 }
 
 #[test]
@@ -137,7 +139,23 @@ fn each_call_that_fails_is_told(rt: HostRuntime) -> Result<(), Fail> {
     Ok(())
 }
 
-// The configuration is opened, and the scan for each of two readings. The sink takes four bytes at a time.
+/// The call that fails, what comes of it, and whether the metadata stand in the store. The configuration is opened,
+/// and the scan for each of two readings. The sink takes four bytes at a time.
+static FAULTS: [(Failing, (u8, &str), bool); 12] = [
+    (Failing::Open(0), (7, "error 7 source\n"), false),
+    (Failing::Open(1), (7, "error 7 source\n"), false),
+    (Failing::Open(2), (7, "error 7 source\n"), false),
+    (Failing::Open(3), (0, "points 1 nodes 1\n"), true),
+    (Failing::Read(0), (7, "error 7 source\n"), false),
+    (Failing::Read(1), (7, "error 7 source\n"), false),
+    (Failing::StoreCall(0), (7, "error 7 store\n"), false),
+    (Failing::Make(0), (7, "error 7 spill\n"), false),
+    (Failing::Write(0), (7, ""), true),
+    (Failing::Write(1), (7, "poin"), true),
+    (Failing::Write(4), (7, "points 1 nodes 1"), true),
+    (Failing::Write(5), (0, "points 1 nodes 1\n"), true),
+];
+
 fn expect_faults(rt: &impl Machine, alloc: Global) -> Result<(), AllocError> {
     let scan = las(alloc, 1, &[at(1, 2, 3)])?;
     let shelved = Shelved {
@@ -145,26 +163,13 @@ fn expect_faults(rt: &impl Machine, alloc: Global) -> Result<(), AllocError> {
         a: &scan,
         b: b"",
     };
-    for (failing, want, is_complete) in [
-        (Failing::Open(0), (7, "error 7 source\n"), false),
-        (Failing::Open(1), (7, "error 7 source\n"), false),
-        (Failing::Open(2), (7, "error 7 source\n"), false),
-        (Failing::Open(3), (0, "points 1 nodes 1\n"), true),
-        (Failing::Read(0), (7, "error 7 source\n"), false),
-        (Failing::Read(1), (7, "error 7 source\n"), false),
-        (Failing::StoreCall(0), (7, "error 7 store\n"), false),
-        (Failing::Make(0), (7, "error 7 spill\n"), false),
-        (Failing::Write(0), (7, ""), true),
-        (Failing::Write(1), (7, "poin"), true),
-        (Failing::Write(4), (7, "points 1 nodes 1"), true),
-        (Failing::Write(5), (0, "points 1 nodes 1\n"), true),
-    ] {
+    for (failing, want, is_complete) in &FAULTS {
         let given = Given {
             words: BUILD,
             shelved,
-            failing,
+            failing: *failing,
         };
-        expect(rt, alloc, given, want, is_complete)?;
+        expect(rt, alloc, given, *want, *is_complete)?;
     }
     Ok(())
 }
@@ -206,15 +211,15 @@ impl Source for SureSource {
 
 /// A shelf whose one scan is another at its second opening.
 #[derive(Drop)]
-struct ChangingShelf {
+struct ChangingShelf<'a> {
     alloc: Global,
-    first: Vec<u8>,
-    later: Vec<u8>,
+    first: &'a [u8],
+    later: &'a [u8],
     is_opened: bool,
     given: u64,
 }
 
-impl Shelf for ChangingShelf {
+impl<'a> Shelf for ChangingShelf<'a> {
     type Source = SureSource;
 
     ghost use Rattle.std.specs.Prelude.{None};
@@ -231,10 +236,10 @@ impl Shelf for ChangingShelf {
         let bytes = if path == "a.json" {
             Vec::from_slice(self.alloc, CONFIGURATION.as_bytes())?
         } else if self.is_opened {
-            Vec::from_slice(self.alloc, &self.later)?
+            Vec::from_slice(self.alloc, self.later)?
         } else {
             self.is_opened = true;
-            Vec::from_slice(self.alloc, &self.first)?
+            Vec::from_slice(self.alloc, self.first)?
         };
         Ok(SureSource {
             bytes,
@@ -249,27 +254,51 @@ impl Shelf for ChangingShelf {
 }
 
 /// Builds a scan that is another at its second reading.
-fn carry_out_changing(
+fn carry_out_changing<'a>(
     rt: &impl Machine,
     alloc: Global,
-    first: &[u8],
-    later: &[u8],
+    first: &'a [u8],
+    later: &'a [u8],
 ) -> Result<Answer, AllocError> {
-    let words = texts(alloc, BUILD)?;
     let mut shelf = ChangingShelf {
         alloc,
-        first: Vec::from_slice(alloc, first)?,
-        later: Vec::from_slice(alloc, later)?,
+        first,
+        later,
         is_opened: false,
         given: 0,
     };
-    let mut store = store_of(alloc, Vec::new(alloc))?;
-    let mut room = MemRoom::new(alloc, Vec::new(alloc), Vec::new(alloc));
-    let mut out = MemSink::new(alloc, 4, Vec::new(alloc));
-    let status = run(
-        rt, alloc, &words, &mut shelf, &mut store, &mut room, &mut out, &OpenGate,
-    );
+    let mut store = store_of(alloc, None)?;
+    let mut out = sink_of(alloc, 4, None)?;
+    let status = run_over(rt, alloc, BUILD, &mut shelf, &mut store, None, &mut out)?;
     Ok(Answer { status, store, out })
+}
+
+/// Builds a scan that is another at its second reading, and compares the answer. A run that may have found no
+/// memory is made again.
+fn expect_later<'a>(
+    rt: &impl Machine,
+    alloc: Global,
+    first: &'a [u8],
+    later: &'a [u8],
+    want: (u8, &str),
+) -> Result<(), AllocError> {
+    let found = whole_changing(rt, alloc, first, later, want)?;
+    compare(rt, &found, want, want.0 == 0);
+    Ok(())
+}
+
+fn whole_changing<'a>(
+    rt: &impl Machine,
+    alloc: Global,
+    first: &'a [u8],
+    later: &'a [u8],
+    want: (u8, &str),
+) -> Result<Answer, AllocError> {
+    let found = carry_out_changing(rt, alloc, first, later)?;
+    if may_lack_memory(&found, want) {
+        return carry_out_changing(rt, alloc, first, later);
+    }
+    Ok(found)
 }
 
 #[test]
@@ -282,20 +311,13 @@ fn a_scan_that_changes_is_refused(rt: HostRuntime) -> Result<(), Fail> {
 }
 
 fn expect_changed(rt: &impl Machine, alloc: Global) -> Result<(), AllocError> {
-    let two = las(alloc, 2, &[at(1, 1, 1), at(2, 2, 2)])?;
-    let mut cut = las(alloc, 2, &[at(1, 1, 1), at(2, 2, 2)])?;
-    cut.truncate(266);
-    let fewer = las(alloc, 1, &[at(1, 1, 1), at(2, 2, 2)])?;
-    for (later, want) in [
-        (&two, (0, "points 2 nodes 1\n")),
-        (&cut, (4, "error 4 changed source 0 number 1\n")),
-        (&fewer, (4, "error 4 changed source 0 number 0\n")),
-    ] {
-        let mut found = carry_out_changing(rt, alloc, &two, later)?;
-        if may_lack_memory(&found, want) {
-            found = carry_out_changing(rt, alloc, &two, later)?;
-        }
-        compare(rt, &found, want, want.0 == 0);
-    }
-    Ok(())
+    let points = [at(1, 1, 1), at(2, 2, 2)];
+    let two = las(alloc, 2, &points)?;
+    expect_later(rt, alloc, &two, &two, (0, "points 2 nodes 1\n"))?;
+    let cut = cut(alloc, 2, &points, 266)?;
+    let changed = (4, "error 4 changed source 0 number 1\n");
+    expect_later(rt, alloc, &two, &cut, changed)?;
+    let fewer = las(alloc, 1, &points)?;
+    let changed = (4, "error 4 changed source 0 number 0\n");
+    expect_later(rt, alloc, &two, &fewer, changed)
 }

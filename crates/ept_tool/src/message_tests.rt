@@ -1,10 +1,8 @@
 //! The sentences of refusals: each line, and what is said of it.
 
-use crate::tests::{Machine, at, file, las, same, same_at, texts};
-use ept_base::OpenGate;
-use ept_mem::{MemRoom, MemShelf, MemSink, MemStore};
+use crate::tests::{Machine, empty_store, run_over, same, same_at, scan, shelf_of, sink_of, texts};
+use ept_mem::{MemShelf, MemStore};
 use ept_messages::{Differing, Names, difference_sentence, message};
-use ept_run::run;
 use std::alloc::{AllocError, Global};
 use std::process::Abort;
 use std::test::Fail;
@@ -27,17 +25,19 @@ const INFO: &[&str] = &["info", "flights/b.las"];
 const TRIAL: &[&str] = &["trial", "0", "1", "1"];
 
 // A shelf with this configuration and two scans.
-fn shelf_of(alloc: Global, configuration: &str) -> Result<MemShelf, AllocError> {
-    let mut files = Vec::new(alloc);
-    files.push(file(alloc, "survey.json", configuration.as_bytes())?)?;
-    files.push(file(alloc, "a.las", &las(alloc, 1, &[at(1, 2, 3)])?)?)?;
-    files.push(file(alloc, "flights/b.las", &las(alloc, 1, &[at(5, 5, 5)])?)?)?;
-    Ok(MemShelf::new(alloc, files, Vec::new(alloc), Vec::new(alloc)))
+fn shelf_with(alloc: Global, configuration: &str) -> Result<MemShelf, AllocError> {
+    let a = scan(alloc, &[[1, 2, 3]])?;
+    let b = scan(alloc, &[[5, 5, 5]])?;
+    shelf_of(alloc, &named(configuration, &a, &b), None, None)
 }
 
-// A store without a file.
-fn empty_store(alloc: Global) -> MemStore {
-    MemStore::new(alloc, Vec::new(alloc), Vec::new(alloc))
+// Each file of the shelf with its name.
+fn named<'a>(configuration: &'a str, a: &'a [u8], b: &'a [u8]) -> [(&'static str, &'a [u8]); 3] {
+    [
+        ("survey.json", configuration.as_bytes()),
+        ("a.las", a),
+        ("flights/b.las", b),
+    ]
 }
 
 // Compares the sentence of these words over this configuration and this store that end with this line.
@@ -50,7 +50,7 @@ fn expect_over(
     row: (&str, Option<&str>),
 ) -> Result<(), AllocError> {
     let words = texts(alloc, words)?;
-    let mut shelf = shelf_of(alloc, configuration)?;
+    let mut shelf = shelf_with(alloc, configuration)?;
     let (line, want) = row;
     let Ok(found) = message(alloc, &words, line, "flights/b.las", &mut shelf, store) else {
         return Err(AllocError);
@@ -114,54 +114,57 @@ fn expect_sentences(rt: &impl Abort, alloc: Global) -> Result<(), AllocError> {
         let (line, want) = row.split_once('|').unwrap_or((row, ""));
         expect(rt, alloc, BUILD, BOUNDED, (line, Some(want)))?;
     }
-    for (words, configuration, line, want) in [
-        (
-            BUILD,
-            UNBOUNDED,
-            "error 4 bounds source 1 number 17",
-            Some("record 17 of flights/b.las has a stored coordinate that 32 bits do not hold"),
-        ),
-        (
-            BUILD,
-            UNKNOWN,
-            "error 3 config 2 -",
-            Some("survey.json has the unknown key \"spam\""),
-        ),
-        (BUILD, BOUNDED, "error 4 las 2 source 2", None),
-        (BUILD, BOUNDED, "error 4", None),
-        (BUILD, BOUNDED, "", None),
-        (
-            INFO,
-            BOUNDED,
-            "error 4 las 2 source 0",
-            Some("flights/b.las does not begin with `LASF`"),
-        ),
-        (
-            INFO,
-            BOUNDED,
-            "error 7 source",
-            Some("flights/b.las could not be opened or read"),
-        ),
-        (TRIAL, BOUNDED, "error 9 memory", Some("out of memory")),
-        (
-            TRIAL,
-            BOUNDED,
-            "points 0 nodes 1 depth 0 sum 0",
-            Some("standard output could not be written: points 0 nodes 1 depth 0 sum 0"),
-        ),
-        (
-            &["flights/b.las"],
-            BOUNDED,
-            "error 2 usage",
-            Some(
-                "the words are none of `build CONFIG OUT`, `query OUT BOX DEPTHS`, `info LAS` and `trial N WORKERS CACHE`",
-            ),
-        ),
-    ] {
-        expect(rt, alloc, words, configuration, (line, want))?;
+    for (words, configuration, line, want) in &OF_OTHERS {
+        expect(rt, alloc, words, configuration, (line, *want))?;
     }
     Ok(())
 }
+
+// Words, a configuration, a line, and its sentence, if any.
+static OF_OTHERS: [(&[&str], &str, &str, Option<&str>); 10] = [
+    (
+        BUILD,
+        UNBOUNDED,
+        "error 4 bounds source 1 number 17",
+        Some("record 17 of flights/b.las has a stored coordinate that 32 bits do not hold"),
+    ),
+    (
+        BUILD,
+        UNKNOWN,
+        "error 3 config 2 -",
+        Some("survey.json has the unknown key \"spam\""),
+    ),
+    (BUILD, BOUNDED, "error 4 las 2 source 2", None),
+    (BUILD, BOUNDED, "error 4", None),
+    (BUILD, BOUNDED, "", None),
+    (
+        INFO,
+        BOUNDED,
+        "error 4 las 2 source 0",
+        Some("flights/b.las does not begin with `LASF`"),
+    ),
+    (
+        INFO,
+        BOUNDED,
+        "error 7 source",
+        Some("flights/b.las could not be opened or read"),
+    ),
+    (TRIAL, BOUNDED, "error 9 memory", Some("out of memory")),
+    (
+        TRIAL,
+        BOUNDED,
+        "points 0 nodes 1 depth 0 sum 0",
+        Some("standard output could not be written: points 0 nodes 1 depth 0 sum 0"),
+    ),
+    (
+        &["flights/b.las"],
+        BOUNDED,
+        "error 2 usage",
+        Some(
+            "the words are none of `build CONFIG OUT`, `query OUT BOX DEPTHS`, `info LAS` and `trial N WORKERS CACHE`",
+        ),
+    ),
+];
 
 // What is kept of an input.
 const KEPT: &str = r#"{"path":"a.las","scale":2,"shift":[0,0,0],"expect":"00ff"}"#;
@@ -179,7 +182,7 @@ const VALUE: &str = ": build into a new folder, or give the old value back";
 const INPUTS: &str = ": build into a new folder, or list the old inputs first, in their order";
 
 // A field, what is kept and what is given of it, the sentence, and the advice behind it.
-const OF_DIFFERENCES: [(&str, &str, &str, &str, &str); 12] = [
+static OF_DIFFERENCES: [(&str, &str, &str, &str, &str); 12] = [
     (
         "span",
         "128",
@@ -274,32 +277,48 @@ fn both_values_of_a_difference_are_told(rt: HostRuntime) -> Result<(), Fail> {
         out: "out",
         ..Names::default()
     };
-    for (field, kept, given, sentence, advice) in OF_DIFFERENCES {
-        let differing = Differing {
-            field,
-            kept: kept.as_bytes(),
-            given: given.as_bytes(),
-        };
-        let found = difference_sentence(alloc, &differing, &names)?;
-        let want = format!(in alloc; "{sentence}{advice}")?;
-        same_at(&rt, &found, &want, &field);
+    for row in &OF_DIFFERENCES {
+        expect_difference(&rt, alloc, &names, row)?;
     }
-    // Bytes that are no text.
+    expect_no_text(&rt, alloc, &names)?;
+    Ok(())
+}
+
+fn expect_difference(
+    rt: &impl Abort,
+    alloc: Global,
+    names: &Names<'_>,
+    row: &(&str, &str, &str, &str, &str),
+) -> Result<(), AllocError> {
+    let (field, kept, given, sentence, advice) = *row;
+    let differing = Differing {
+        field,
+        kept: kept.as_bytes(),
+        given: given.as_bytes(),
+    };
+    let found = difference_sentence(alloc, &differing, names)?;
+    let want = format!(in alloc; "{sentence}{advice}")?;
+    same_at(rt, &found, &want, &field);
+    Ok(())
+}
+
+// Bytes that are no text.
+fn expect_no_text(rt: &impl Abort, alloc: Global, names: &Names<'_>) -> Result<(), AllocError> {
     let differing = Differing {
         field: "srs",
         kept: b"\"M\xc3\xbcller\"",
         given: b"\"M\xfcller\xc3\"",
     };
-    let found = difference_sentence(alloc, &differing, &names)?;
+    let found = difference_sentence(alloc, &differing, names)?;
     let want = format!(in alloc;
         "out was built with `srs` \"Müller\", and survey.json has \"M\\xfcller\\xc3\"{VALUE}"
     )?;
-    same(&rt, &found, &want);
+    same(rt, &found, &want);
     Ok(())
 }
 
 // Configurations beside one that the store was built with: another span, another list of inputs, and the same.
-const AGAIN: [(&str, &str, &str); 4] = [
+static AGAIN: [(&str, &str, &str); 4] = [
     (
         "{\"input\":[\"a.las\",\"flights/b.las\"],\"scale\":2,\"bounds\":[0,0,0,7,7,7],\"span\":4}",
         "error 6 differs span",
@@ -324,14 +343,10 @@ const AGAIN: [(&str, &str, &str); 4] = [
 
 // A store with what a build of the bounded configuration leaves.
 fn built(rt: &impl Machine, alloc: Global) -> Result<MemStore, AllocError> {
-    let words = texts(alloc, BUILD)?;
     let mut store = empty_store(alloc);
-    let mut shelf = shelf_of(alloc, BOUNDED)?;
-    let mut room = MemRoom::new(alloc, Vec::new(alloc), Vec::new(alloc));
-    let mut out = MemSink::new(alloc, 9, Vec::new(alloc));
-    let status = run(
-        rt, alloc, &words, &mut shelf, &mut store, &mut room, &mut out, &OpenGate,
-    );
+    let mut shelf = shelf_with(alloc, BOUNDED)?;
+    let mut out = sink_of(alloc, 9, None)?;
+    let status = run_over(rt, alloc, BUILD, &mut shelf, &mut store, None, &mut out)?;
     if status == 9 {
         return Err(AllocError);
     }
@@ -351,8 +366,8 @@ fn a_difference_is_read_again(rt: HostRuntime) -> Result<(), Fail> {
 
 fn expect_differences(rt: &impl Machine, alloc: Global) -> Result<(), AllocError> {
     let mut store = built(rt, alloc)?;
-    for (configuration, line, want) in AGAIN {
-        let row = (line, Some(want));
+    for (configuration, line, want) in &AGAIN {
+        let row = (*line, Some(*want));
         expect_over(rt, alloc, &mut store, BUILD, configuration, row)?;
     }
     Ok(())

@@ -1,13 +1,12 @@
 //! Queries through `run`, over folders in memory.
 
 use crate::tests::{
-    Answer, BUILD, Failing, Given, Machine, Shelved, at, carry_out, las, may_lack_memory, same,
-    same_at, texts,
+    Answer, BUILD, Failing, Given, Machine, Shelved, run_over, same, same_at, scan, shelf_of,
+    sink_of, whole_answer,
 };
-use crate::worked_tests::packed;
-use ept_base::{OpenGate, Store};
-use ept_mem::{MemRoom, MemShelf, MemSink, MemStore};
-use ept_run::run;
+use crate::worked_tests::{Seen, packed};
+use ept_base::Store;
+use ept_mem::{MemSink, MemStore};
 use std::alloc::{AllocError, Global};
 use std::test::Fail;
 
@@ -15,8 +14,6 @@ const CONFIGURATION: &str = "{\"input\":\"a.las\",\"scale\":2,\"bounds\":[0,0,0,
 \"minNodeSize\":0,\"hierarchyStep\":1}";
 
 const ALL: (&str, &str) = ("0,0,0,7,7,7", "0,2");
-
-const NOTHING: &[u8] = b"";
 
 /// A file that is put into a built folder before it is asked.
 type File<'a> = (&'a str, &'a [u8]);
@@ -31,7 +28,17 @@ const NO_TILE: File<'static> = ("ept-data/1-0-0-0.bin", b"");
 
 /// The folder of two points in two nodes as it is built, with these files put into it.
 fn folder(rt: &impl Machine, alloc: Global, files: &[File]) -> Result<MemStore, AllocError> {
-    let scan = las(alloc, 2, &[at(1, 1, 1), at(3, 3, 3)])?;
+    let mut store = built(rt, alloc)?;
+    for (name, bytes) in files {
+        if store.put(name, bytes).is_err() {
+            return Err(AllocError);
+        }
+    }
+    Ok(store)
+}
+
+fn built(rt: &impl Machine, alloc: Global) -> Result<MemStore, AllocError> {
+    let scan = scan(alloc, &[[1, 1, 1], [3, 3, 3]])?;
     let given = Given {
         words: BUILD,
         shelved: Shelved {
@@ -41,39 +48,52 @@ fn folder(rt: &impl Machine, alloc: Global, files: &[File]) -> Result<MemStore, 
         },
         failing: Failing::Nothing,
     };
-    let mut built = carry_out(rt, alloc, given)?;
-    if may_lack_memory(&built, (0, "points 2 nodes 2\n")) {
-        built = carry_out(rt, alloc, given)?;
-    }
-    same(rt, &built.status, &0);
-    let mut store = built.store;
-    for (name, bytes) in files {
-        if store.put(name, bytes).is_err() {
-            return Err(AllocError);
-        }
-    }
+    let found = whole_answer(rt, alloc, given, (0, "points 2 nodes 2\n"))?;
+    same(rt, &found.status, &0);
+    let Answer { store, .. } = found;
     Ok(store)
 }
 
-/// Asks a store for a box and depths. The sink takes 64 bytes at a time, and the writes of these numbers fail.
+/// What a query answers.
+#[derive(Drop)]
+struct Told {
+    status: u8,
+    out: MemSink,
+}
+
+/// Asks the folder with these files for a box and depths. The sink takes 64 bytes at a time, and the write of this
+/// number fails.
 fn ask(
     rt: &impl Machine,
     alloc: Global,
-    mut store: MemStore,
+    files: &[File],
     asked: (&str, &str),
-    fails: Vec<u64>,
-) -> Result<Answer, AllocError> {
-    let words = texts(alloc, &["query", "out", asked.0, asked.1])?;
-    let mut shelf = MemShelf::new(alloc, Vec::new(alloc), Vec::new(alloc), Vec::new(alloc));
-    let mut room = MemRoom::new(alloc, Vec::new(alloc), Vec::new(alloc));
-    let mut out = MemSink::new(alloc, 64, fails);
-    let status = run(
-        rt, alloc, &words, &mut shelf, &mut store, &mut room, &mut out, &OpenGate,
-    );
-    Ok(Answer { status, store, out })
+    write: Option<u64>,
+) -> Result<Told, AllocError> {
+    let mut store = folder(rt, alloc, files)?;
+    let mut shelf = shelf_of(alloc, &[], None, None)?;
+    let mut out = sink_of(alloc, 64, write)?;
+    let words = ["query", "out", asked.0, asked.1];
+    let status = run_over(rt, alloc, &words, &mut shelf, &mut store, None, &mut out)?;
+    Ok(Told { status, out })
 }
 
-/// Compares the answer of a query. One that may have lacked memory is asked again, over a fresh folder.
+/// Asks for a box and depths. A query that may have lacked memory is asked again, over a fresh folder.
+fn asked_whole(
+    rt: &impl Machine,
+    alloc: Global,
+    files: &[File],
+    asked: (&str, &str),
+    bytes: &[u8],
+) -> Result<Told, AllocError> {
+    let found = ask(rt, alloc, files, asked, None)?;
+    if found.status == 9 || found.out.bytes() != bytes {
+        return ask(rt, alloc, files, asked, None);
+    }
+    Ok(found)
+}
+
+/// Compares the answer of a query.
 fn expect(
     rt: &impl Machine,
     alloc: Global,
@@ -81,12 +101,10 @@ fn expect(
     asked: (&str, &str),
     want: (u8, &[u8]),
 ) -> Result<(), AllocError> {
-    let mut found = ask(rt, alloc, folder(rt, alloc, files)?, asked, Vec::new(alloc))?;
-    if found.status == 9 || found.out.bytes() != want.1 {
-        found = ask(rt, alloc, folder(rt, alloc, files)?, asked, Vec::new(alloc))?;
-    }
-    same_at(rt, &found.status, &want.0, &asked);
-    same_at(rt, &found.out.bytes(), &want.1, &asked);
+    let (status, bytes) = want;
+    let found = asked_whole(rt, alloc, files, asked, bytes)?;
+    same_at(rt, &found.status, &status, &asked);
+    same_at(rt, &found.out.bytes(), &bytes, &asked);
     Ok(())
 }
 
@@ -99,20 +117,26 @@ fn each_query_has_its_points(rt: HostRuntime) -> Result<(), Fail> {
     Ok(())
 }
 
+/// The point of the root, and that of the node below it.
+const FIRST: Seen = ([1, 1, 1], 0, 0);
+
+const SECOND: Seen = ([3, 3, 3], 1, 0);
+
+/// What is asked for, and the points of the answer.
+static ASKED: [((&str, &str), &[Seen]); 6] = [
+    (ALL, &[FIRST, SECOND]),
+    (("3,3,3,3,3,3", "0,2"), &[SECOND]),
+    (("3,3,3,3,3,3", "0,0"), &[]),
+    (("0,0,0,3,3,3", "0,2"), &[FIRST, SECOND]),
+    (("0,0,0,3,3,3", "0,0"), &[FIRST]),
+    (("100,100,100,101,101,101", "0,2"), &[]),
+];
+
 // Of two at one distance the first stays in the root.
 fn expect_points(rt: &impl Machine, alloc: Global) -> Result<(), AllocError> {
-    let first = packed(alloc, &[([1, 1, 1], 0, 0)])?;
-    let second = packed(alloc, &[([3, 3, 3], 1, 0)])?;
-    let both = packed(alloc, &[([1, 1, 1], 0, 0), ([3, 3, 3], 1, 0)])?;
-    for (asked, want) in [
-        (ALL, both.as_slice()),
-        (("3,3,3,3,3,3", "0,2"), second.as_slice()),
-        (("3,3,3,3,3,3", "0,0"), NOTHING),
-        (("0,0,0,3,3,3", "0,2"), both.as_slice()),
-        (("0,0,0,3,3,3", "0,0"), first.as_slice()),
-        (("100,100,100,101,101,101", "0,2"), NOTHING),
-    ] {
-        expect(rt, alloc, &[], asked, (0, want))?;
+    for (asked, points) in &ASKED {
+        let bytes = packed(alloc, points)?;
+        expect(rt, alloc, &[], *asked, (0, &bytes))?;
     }
     Ok(())
 }
@@ -126,17 +150,20 @@ fn each_query_that_is_refused_has_its_status(rt: HostRuntime) -> Result<(), Fail
     Ok(())
 }
 
+/// A file that is put, and the status and the points of the answer.
+static REFUSED: [(File<'static>, u8, &[Seen]); 4] = [
+    (SHUT, 6, &[]),
+    (NO_BUILD, 8, &[]),
+    (NO_ROOT, 8, &[]),
+    (NO_TILE, 8, &[FIRST]),
+];
+
 // A gate that is shut, and files that are no more of their form: of a tile that is refused no byte is written,
 // and those before it are.
 fn expect_refusals(rt: &impl Machine, alloc: Global) -> Result<(), AllocError> {
-    let first = packed(alloc, &[([1, 1, 1], 0, 0)])?;
-    for (file, status, want) in [
-        (SHUT, 6, NOTHING),
-        (NO_BUILD, 8, NOTHING),
-        (NO_ROOT, 8, NOTHING),
-        (NO_TILE, 8, first.as_slice()),
-    ] {
-        expect(rt, alloc, &[file], ALL, (status, want))?;
+    for (file, status, points) in &REFUSED {
+        let bytes = packed(alloc, points)?;
+        expect(rt, alloc, &[*file], ALL, (*status, &bytes))?;
     }
     Ok(())
 }
@@ -152,19 +179,22 @@ fn a_query_whose_sink_fails_is_told(rt: HostRuntime) -> Result<(), Fail> {
 
 // Each tile is one write.
 fn expect_cuts(rt: &impl Machine, alloc: Global) -> Result<(), AllocError> {
-    let first = packed(alloc, &[([1, 1, 1], 0, 0)])?;
-    expect_cut(rt, alloc, 0, NOTHING)?;
-    expect_cut(rt, alloc, 1, &first)
+    expect_cut(rt, alloc, 0, &[])?;
+    expect_cut(rt, alloc, 1, &[FIRST])
 }
 
-fn expect_cut(rt: &impl Machine, alloc: Global, call: u64, bytes: &[u8]) -> Result<(), AllocError> {
-    let mut fails = Vec::new(alloc);
-    fails.push(call)?;
-    let found = ask(rt, alloc, folder(rt, alloc, &[])?, ALL, fails)?;
+fn expect_cut(
+    rt: &impl Machine,
+    alloc: Global,
+    write: u64,
+    points: &[Seen],
+) -> Result<(), AllocError> {
+    let found = ask(rt, alloc, &[], ALL, Some(write))?;
     if found.status == 9 {
         return Err(AllocError);
     }
+    let bytes = packed(alloc, points)?;
     same(rt, &found.status, &7);
-    same(rt, &found.out.bytes(), &bytes);
+    same(rt, &found.out.bytes(), &bytes.as_slice());
     Ok(())
 }

@@ -1,6 +1,8 @@
 //! Runs over devices in memory: the words, the configuration, and the headers of LAS files.
 
-use ept_base::OpenGate;
+ghost use Rattle.std.specs.Prelude.{◌≤◌};
+
+use ept_base::{OpenGate, Shelf, Sink, Store};
 use ept_mem::{MemRoom, MemShelf, MemSink, MemStore};
 use ept_run::run;
 use std::alloc::{AllocError, Global};
@@ -33,54 +35,82 @@ pub(crate) fn same_at<T: PartialEq + Debug, P: Debug>(
 pub(crate) const CONFIGURATION: &str =
     "{\"input\":\"a.las\",\"scale\":2,\"bounds\":[0,0,0,7,7,7],\"span\":2}";
 
-const NO_WORDS: &[&str] = &[];
-
 pub(crate) const BUILD: &[&str] = &["build", "a.json", "out"];
 
 const INFO: &[&str] = &["info", "a.las"];
 
+/// The header of a LAS 1.2 file of format 0 without a record.
+static HEADER: [(usize, u8); 9] = [
+    (0, b'L'),
+    (1, b'A'),
+    (2, b'S'),
+    (3, b'F'),
+    (24, 1),
+    (25, 2),
+    (94, 227),
+    (96, 227),
+    (105, 20),
+];
+
+/// The header of a LAS 1.4 file of format 7 that states 4,294,967,296 points.
+static MANY_HEADER: [(usize, u8); 13] = [
+    (0, b'L'),
+    (1, b'A'),
+    (2, b'S'),
+    (3, b'F'),
+    (24, 1),
+    (25, 4),
+    (94, 119),
+    (95, 1),
+    (96, 119),
+    (97, 1),
+    (104, 7),
+    (105, 36),
+    (251, 1),
+];
+
 /// A LAS 1.2 file of format 0 with these records.
 pub(crate) fn las(alloc: Global, stated: u8, records: &[[u8; 20]]) -> Result<Vec<u8>, AllocError> {
-    let mut file = vec![in alloc; 0u8; 227]?;
-    for (at, byte) in [
-        (0, b'L'),
-        (1, b'A'),
-        (2, b'S'),
-        (3, b'F'),
-        (24, 1),
-        (25, 2),
-        (94, 227),
-        (96, 227),
-        (105, 20),
-        (107, stated),
-    ] {
-        set(&mut file, at, byte);
-    }
+    let mut file = filled(alloc, 227, &HEADER)?;
+    set(&mut file, 107, stated);
     for record in records {
         file.extend_from_slice(record)?;
     }
     Ok(file)
 }
 
+/// A LAS 1.2 file of format 0 with records at these places, with all else zero.
+pub(crate) fn scan(alloc: Global, places: &[[u8; 3]]) -> Result<Vec<u8>, AllocError> {
+    let stated = u8::try_from(places.len()).unwrap_or(u8::MAX);
+    let mut file = las(alloc, stated, &[])?;
+    for [x, y, z] in places {
+        file.extend_from_slice(&at(*x, *y, *z))?;
+    }
+    Ok(file)
+}
+
+/// The first bytes of such a file, at most so many.
+pub(crate) fn cut(
+    alloc: Global,
+    stated: u8,
+    records: &[[u8; 20]],
+    length: usize,
+) -> Result<Vec<u8>, AllocError> {
+    let mut file = las(alloc, stated, records)?;
+    file.truncate(length);
+    Ok(file)
+}
+
 /// A LAS 1.4 file of format 7 without a record, whose header states 4,294,967,296 points.
 pub(crate) fn many(alloc: Global) -> Result<Vec<u8>, AllocError> {
-    let mut file = vec![in alloc; 0u8; 375]?;
-    for (at, byte) in [
-        (0, b'L'),
-        (1, b'A'),
-        (2, b'S'),
-        (3, b'F'),
-        (24, 1),
-        (25, 4),
-        (94, 119),
-        (95, 1),
-        (96, 119),
-        (97, 1),
-        (104, 7),
-        (105, 36),
-        (251, 1),
-    ] {
-        set(&mut file, at, byte);
+    filled(alloc, 375, &MANY_HEADER)
+}
+
+/// So many bytes, of which these are not zero.
+fn filled(alloc: Global, length: usize, bytes: &[(usize, u8)]) -> Result<Vec<u8>, AllocError> {
+    let mut file = vec![in alloc; 0u8; length]?;
+    for (at, byte) in bytes {
+        set(&mut file, *at, *byte);
     }
     Ok(file)
 }
@@ -108,6 +138,44 @@ pub(crate) enum Failing {
     Write(u64),
 }
 
+// The number of the call of each kind that fails.
+impl Failing {
+    fn open(self) -> Option<u64> {
+        match self {
+            Failing::Open(call) => Some(call),
+            _ => None,
+        }
+    }
+
+    fn read(self) -> Option<u64> {
+        match self {
+            Failing::Read(call) => Some(call),
+            _ => None,
+        }
+    }
+
+    fn store_call(self) -> Option<u64> {
+        match self {
+            Failing::StoreCall(call) => Some(call),
+            _ => None,
+        }
+    }
+
+    fn make(self) -> Option<u64> {
+        match self {
+            Failing::Make(call) => Some(call),
+            _ => None,
+        }
+    }
+
+    fn write(self) -> Option<u64> {
+        match self {
+            Failing::Write(call) => Some(call),
+            _ => None,
+        }
+    }
+}
+
 /// What a run leaves.
 #[derive(Drop)]
 pub(crate) struct Answer {
@@ -122,6 +190,17 @@ pub(crate) struct Shelved<'a> {
     pub(crate) configuration: &'a [u8],
     pub(crate) a: &'a [u8],
     pub(crate) b: &'a [u8],
+}
+
+impl<'a> Shelved<'a> {
+    /// Each file with its name.
+    fn files(&self) -> [(&'static str, &'a [u8]); 3] {
+        [
+            ("a.json", self.configuration),
+            ("a.las", self.a),
+            ("b.las", self.b),
+        ]
+    }
 }
 
 /// What a run is given.
@@ -151,45 +230,96 @@ pub(crate) fn file(
     ))
 }
 
-/// A store with one file that no build touches, whose calls of these numbers fail.
-pub(crate) fn store_of(alloc: Global, fails: Vec<u64>) -> Result<MemStore, AllocError> {
+/// A shelf with these files, of which the opening of this number fails, and the reading of this one.
+pub(crate) fn shelf_of(
+    alloc: Global,
+    files: &[(&str, &[u8])],
+    open: Option<u64>,
+    read: Option<u64>,
+) -> Result<MemShelf, AllocError> {
+    let mut shelved = Vec::new(alloc);
+    for (name, bytes) in files {
+        shelved.push(file(alloc, name, bytes)?)?;
+    }
+    let opens = calls(alloc, open)?;
+    Ok(MemShelf::new(alloc, shelved, opens, calls(alloc, read)?))
+}
+
+/// A store with one file that no build touches, whose call of this number fails.
+pub(crate) fn store_of(alloc: Global, call: Option<u64>) -> Result<MemStore, AllocError> {
     let mut kept = Vec::new(alloc);
     kept.push(file(alloc, "other", b"kept")?)?;
-    Ok(MemStore::new(alloc, kept, fails))
+    Ok(MemStore::new(alloc, kept, calls(alloc, call)?))
+}
+
+/// A store without a file.
+pub(crate) fn empty_store(alloc: Global) -> MemStore {
+    MemStore::new(alloc, Vec::new(alloc), Vec::new(alloc))
+}
+
+/// A sink that takes so many bytes at a time, whose write of this number fails.
+pub(crate) fn sink_of(alloc: Global, most: usize, write: Option<u64>) -> Result<MemSink, AllocError>
+    requires { 1 ≤ most }
+{
+    Ok(MemSink::new(alloc, most, calls(alloc, write)?))
+}
+
+// The calls that fail: the one of this number, if any.
+fn calls(alloc: Global, call: Option<u64>) -> Result<Vec<u64>, AllocError> {
+    let mut numbers = Vec::new(alloc);
+    if let Some(number) = call {
+        numbers.push(number)?;
+    }
+    Ok(numbers)
+}
+
+/// Runs the words over these devices, beside a room whose making of this number fails.
+pub(crate) fn run_over<H: Shelf, T: Store, O: Sink>(
+    rt: &impl Machine,
+    alloc: Global,
+    words: &[&str],
+    shelf: &mut H,
+    store: &mut T,
+    make: Option<u64>,
+    out: &mut O,
+) -> Result<u8, AllocError>
+where
+    H::Source: Send,
+{
+    let words = texts(alloc, words)?;
+    let makes = calls(alloc, make)?;
+    let mut room = MemRoom::new(alloc, makes, Vec::new(alloc));
+    Ok(run(rt, alloc, &words, shelf, store, &mut room, out, &OpenGate))
 }
 
 /// Carries out the words over the files. An `Err` says that there was no memory for the preparation.
-pub(crate) fn carry_out(
+fn carry_out(rt: &impl Machine, alloc: Global, given: Given<'_>) -> Result<Answer, AllocError> {
+    let Given {
+        words,
+        shelved,
+        failing,
+    } = given;
+    let mut shelf = shelf_of(alloc, &shelved.files(), failing.open(), failing.read())?;
+    let mut store = store_of(alloc, failing.store_call())?;
+    let mut out = sink_of(alloc, 4, failing.write())?;
+    let make = failing.make();
+    let status = run_over(rt, alloc, words, &mut shelf, &mut store, make, &mut out)?;
+    Ok(Answer { status, store, out })
+}
+
+/// Carries out the words over the files. A run that may have found no memory is made again over fresh devices:
+/// then it is whole.
+pub(crate) fn whole_answer(
     rt: &impl Machine,
     alloc: Global,
     given: Given<'_>,
+    want: (u8, &str),
 ) -> Result<Answer, AllocError> {
-    let mut opens = Vec::new(alloc);
-    let mut reads = Vec::new(alloc);
-    let mut calls = Vec::new(alloc);
-    let mut makes = Vec::new(alloc);
-    let mut writes = Vec::new(alloc);
-    match given.failing {
-        Failing::Nothing => {}
-        Failing::Open(call) => opens.push(call)?,
-        Failing::Read(call) => reads.push(call)?,
-        Failing::StoreCall(call) => calls.push(call)?,
-        Failing::Make(call) => makes.push(call)?,
-        Failing::Write(call) => writes.push(call)?,
+    let found = carry_out(rt, alloc, given)?;
+    if may_lack_memory(&found, want) {
+        return carry_out(rt, alloc, given);
     }
-    let words = texts(alloc, given.words)?;
-    let mut files = Vec::new(alloc);
-    files.push(file(alloc, "a.json", given.shelved.configuration)?)?;
-    files.push(file(alloc, "a.las", given.shelved.a)?)?;
-    files.push(file(alloc, "b.las", given.shelved.b)?)?;
-    let mut shelf = MemShelf::new(alloc, files, opens, reads);
-    let mut store = store_of(alloc, calls)?;
-    let mut room = MemRoom::new(alloc, makes, Vec::new(alloc));
-    let mut out = MemSink::new(alloc, 4, writes);
-    let status = run(
-        rt, alloc, &words, &mut shelf, &mut store, &mut room, &mut out, &OpenGate,
-    );
-    Ok(Answer { status, store, out })
+    Ok(found)
 }
 
 /// Whether a run that is to answer so may have found no memory. It then has status 9; or the sink, which has
@@ -218,8 +348,6 @@ pub(crate) fn compare(rt: &impl Abort, found: &Answer, want: (u8, &str), is_comp
 }
 
 /// Carries out the words, and compares the answer.
-///
-/// A run that may have found no memory is made again over fresh devices: then it is whole.
 pub(crate) fn expect(
     rt: &impl Machine,
     alloc: Global,
@@ -227,10 +355,7 @@ pub(crate) fn expect(
     want: (u8, &str),
     is_complete: bool,
 ) -> Result<(), AllocError> {
-    let mut found = carry_out(rt, alloc, given)?;
-    if may_lack_memory(&found, want) {
-        found = carry_out(rt, alloc, given)?;
-    }
+    let found = whole_answer(rt, alloc, given, want)?;
     compare(rt, &found, want, is_complete);
     Ok(())
 }
@@ -247,68 +372,96 @@ fn each_command_has_its_status(rt: HostRuntime) -> Result<(), Fail> {
     Ok(())
 }
 
+const USAGE: (u8, &str) = (2, "error 2 usage\n");
+
+/// Words that are no command, each line with `|` between them.
+const NO_COMMANDS: &str = "\
+build|a.json
+build|a.json|out|more
+build||out
+build|a.json|
+Build|a.json|out
+--help
+info
+info|a.las|b.las
+info|
+query
+query|out|0,0,0,7,7,7
+query||0,0,0,7,7,7|0,2
+query|out|0,0,0,7,7|0,2
+query|out|8,0,0,7,7,7|0,2
+query|out|0,0,0,7,7,7|2,1
+query|out|0,0,0,7,7,7|0,33
+trial
+trial|1|1
+trial|1|1|1|1
+Trial|1|1|1
+trial|10000001|1|1
+trial|-1|1|1
+trial|1|0|1
+trial|1|65|65
+trial|1|2|1
+trial|1|1|65537
+trial|01|1|1
+trial|1|01|1
+trial|1|1|01
+trial|+1|1|1
+trial|1|+1|1
+trial|1|1|+1
+trial||1|1
+trial|1||1
+trial|1|1|
+trial| 1|1|1
+trial|1|1 |1
+trial|1|1|1.0
+trial|18446744073709551617|1|1
+";
+
+/// Words that ask for what is on no shelf and in no store, and what comes of it.
+static ABSENT: [(&[&str], (u8, &str)); 4] = [
+    (&["query", "out", "0,0,0,7,7,7", "0,2"], (6, "")),
+    (&["query", "out", "-7,-7,-7,7,7,7", "0,32"], (6, "")),
+    (&["build", "b.json", "out"], (7, "error 7 source\n")),
+    (&["info", "c.las"], (7, "error 7 source\n")),
+];
+
 fn expect_commands(rt: &impl Machine, alloc: Global) -> Result<(), AllocError> {
-    let scan = las(alloc, 0, &[])?;
-    let shelved = Shelved {
-        configuration: CONFIGURATION.as_bytes(),
-        a: &scan,
-        b: &scan,
-    };
-    let usage = (2, "error 2 usage\n");
-    for (words, want) in [
-        (NO_WORDS, usage),
-        (&["build", "a.json"], usage),
-        (&["build", "a.json", "out", "more"], usage),
-        (&["build", "", "out"], usage),
-        (&["build", "a.json", ""], usage),
-        (&["Build", "a.json", "out"], usage),
-        (&["--help"], usage),
-        (&["info"], usage),
-        (&["info", "a.las", "b.las"], usage),
-        (&["info", ""], usage),
-        (&["query"], usage),
-        (&["query", "out", "0,0,0,7,7,7"], usage),
-        (&["query", "", "0,0,0,7,7,7", "0,2"], usage),
-        (&["query", "out", "0,0,0,7,7", "0,2"], usage),
-        (&["query", "out", "8,0,0,7,7,7", "0,2"], usage),
-        (&["query", "out", "0,0,0,7,7,7", "2,1"], usage),
-        (&["query", "out", "0,0,0,7,7,7", "0,33"], usage),
-        (&["query", "out", "0,0,0,7,7,7", "0,2"], (6, "")),
-        (&["query", "out", "-7,-7,-7,7,7,7", "0,32"], (6, "")),
-        (&["trial"], usage),
-        (&["trial", "1", "1"], usage),
-        (&["trial", "1", "1", "1", "1"], usage),
-        (&["Trial", "1", "1", "1"], usage),
-        (&["trial", "10000001", "1", "1"], usage),
-        (&["trial", "-1", "1", "1"], usage),
-        (&["trial", "1", "0", "1"], usage),
-        (&["trial", "1", "65", "65"], usage),
-        (&["trial", "1", "2", "1"], usage),
-        (&["trial", "1", "1", "65537"], usage),
-        (&["trial", "01", "1", "1"], usage),
-        (&["trial", "1", "01", "1"], usage),
-        (&["trial", "1", "1", "01"], usage),
-        (&["trial", "+1", "1", "1"], usage),
-        (&["trial", "1", "+1", "1"], usage),
-        (&["trial", "1", "1", "+1"], usage),
-        (&["trial", "", "1", "1"], usage),
-        (&["trial", "1", "", "1"], usage),
-        (&["trial", "1", "1", ""], usage),
-        (&["trial", " 1", "1", "1"], usage),
-        (&["trial", "1", "1 ", "1"], usage),
-        (&["trial", "1", "1", "1.0"], usage),
-        (&["trial", "18446744073709551617", "1", "1"], usage),
-        (&["build", "b.json", "out"], (7, "error 7 source\n")),
-        (&["info", "c.las"], (7, "error 7 source\n")),
-    ] {
-        let given = Given {
-            words,
-            shelved,
-            failing: Failing::Nothing,
-        };
-        expect(rt, alloc, given, want, false)?;
+    expect_words(rt, alloc, &[], USAGE)?;
+    for line in NO_COMMANDS.lines() {
+        expect_usage(rt, alloc, line)?;
+    }
+    for (words, want) in &ABSENT {
+        expect_words(rt, alloc, words, *want)?;
     }
     Ok(())
+}
+
+fn expect_usage(rt: &impl Machine, alloc: Global, line: &str) -> Result<(), AllocError> {
+    let mut words = Vec::new(alloc);
+    for word in line.split('|') {
+        words.push(word)?;
+    }
+    expect_words(rt, alloc, &words, USAGE)
+}
+
+/// Runs these words beside a configuration and an empty scan, and nothing is put.
+fn expect_words(
+    rt: &impl Machine,
+    alloc: Global,
+    words: &[&str],
+    want: (u8, &str),
+) -> Result<(), AllocError> {
+    let scan = las(alloc, 0, &[])?;
+    let given = Given {
+        words,
+        shelved: Shelved {
+            configuration: CONFIGURATION.as_bytes(),
+            a: &scan,
+            b: &scan,
+        },
+        failing: Failing::Nothing,
+    };
+    expect(rt, alloc, given, want, false)
 }
 
 #[test]
@@ -358,16 +511,20 @@ const REFUSED: &str = r#"
 
 fn expect_configurations(rt: &impl Machine, alloc: Global) -> Result<(), AllocError> {
     for row in REFUSED.lines() {
-        let Some((code, rest)) = row.split_once(' ') else {
-            continue;
-        };
-        let Some((key, text)) = rest.split_once(' ') else {
-            continue;
-        };
-        let line = format!(in alloc; "error 3 config {code} {key}\n")?;
-        expect_text(rt, alloc, text.as_bytes(), (3, line.as_str()))?;
+        expect_configuration(rt, alloc, row)?;
     }
     Ok(())
+}
+
+fn expect_configuration(rt: &impl Machine, alloc: Global, row: &str) -> Result<(), AllocError> {
+    let Some((code, rest)) = row.split_once(' ') else {
+        return Ok(());
+    };
+    let Some((key, text)) = rest.split_once(' ') else {
+        return Ok(());
+    };
+    let line = format!(in alloc; "error 3 config {code} {key}\n")?;
+    expect_text(rt, alloc, text.as_bytes(), (3, line.as_str()))
 }
 
 /// Builds a configuration beside an empty scan, and nothing is put.
@@ -425,22 +582,16 @@ fn each_header_has_its_line(rt: HostRuntime) -> Result<(), Fail> {
     Ok(())
 }
 
+const ONE_POINT: &str = "version 1.2 format 0 length 20 points 1 offset 227\n";
+
+const MANY_POINTS: &str = "version 1.4 format 7 length 36 points 4294967296 offset 375\n";
+
 fn expect_headers(rt: &impl Machine, alloc: Global) -> Result<(), AllocError> {
-    let one = las(alloc, 1, &[at(1, 1, 1)])?;
-    let mut cut = las(alloc, 1, &[at(1, 1, 1)])?;
-    cut.truncate(246);
-    let stated = many(alloc)?;
-    let line = "version 1.2 format 0 length 20 points 1 offset 227\n";
-    let many_line = "version 1.4 format 7 length 36 points 4294967296 offset 375\n";
-    for (scan, want) in [
-        (&one, (0, line)),
-        (&cut, (0, line)),
-        (&stated, (0, many_line)),
-    ] {
-        expect_info(rt, alloc, scan, want)?;
-    }
-    let mut short = las(alloc, 0, &[])?;
-    short.truncate(226);
+    let records = [at(1, 1, 1)];
+    expect_info(rt, alloc, &las(alloc, 1, &records)?, (0, ONE_POINT))?;
+    expect_info(rt, alloc, &cut(alloc, 1, &records, 246)?, (0, ONE_POINT))?;
+    expect_info(rt, alloc, &many(alloc)?, (0, MANY_POINTS))?;
+    let short = cut(alloc, 0, &[], 226)?;
     expect_info(rt, alloc, &short, (4, "error 4 las 1 source 0\n"))
 }
 
@@ -472,26 +623,34 @@ fn each_fault_of_a_header_has_its_line(rt: HostRuntime) -> Result<(), Fail> {
     Ok(())
 }
 
-// A byte of the header that is changed, the length of a record, and the number of the fault.
+/// A byte of the header that is changed, the length of a record, and the line.
+static HEADER_FAULTS: [(usize, u8, u8, &str); 10] = [
+    (3, b'G', 20, "error 4 las 2 source 0\n"),
+    (24, 2, 20, "error 4 las 3 source 0\n"),
+    (25, 1, 20, "error 4 las 3 source 0\n"),
+    (25, 5, 20, "error 4 las 3 source 0\n"),
+    (94, 226, 20, "error 4 las 4 source 0\n"),
+    (25, 3, 20, "error 4 las 4 source 0\n"),
+    (104, 131, 19, "error 4 las 5 source 0\n"),
+    (104, 4, 20, "error 4 las 6 source 0\n"),
+    (104, 0, 19, "error 4 las 7 source 0\n"),
+    (96, 226, 20, "error 4 las 8 source 0\n"),
+];
+
 fn expect_header_faults(rt: &impl Machine, alloc: Global) -> Result<(), AllocError> {
-    for (place, byte, length, line) in [
-        (3, b'G', 20, "error 4 las 2 source 0\n"),
-        (24, 2, 20, "error 4 las 3 source 0\n"),
-        (25, 1, 20, "error 4 las 3 source 0\n"),
-        (25, 5, 20, "error 4 las 3 source 0\n"),
-        (94, 226, 20, "error 4 las 4 source 0\n"),
-        (25, 3, 20, "error 4 las 4 source 0\n"),
-        (104, 131, 19, "error 4 las 5 source 0\n"),
-        (104, 4, 20, "error 4 las 6 source 0\n"),
-        (104, 0, 19, "error 4 las 7 source 0\n"),
-        (96, 226, 20, "error 4 las 8 source 0\n"),
-    ] {
-        let mut scan = las(alloc, 0, &[])?;
-        set(&mut scan, place, byte);
-        set(&mut scan, 105, length);
+    for (place, byte, length, line) in &HEADER_FAULTS {
+        let scan = changed(alloc, *place, *byte, *length)?;
         expect_info(rt, alloc, &scan, (4, line))?;
     }
     Ok(())
+}
+
+/// A file without a record whose header has another byte, and this length of a record.
+fn changed(alloc: Global, place: usize, byte: u8, length: u8) -> Result<Vec<u8>, AllocError> {
+    let mut scan = las(alloc, 0, &[])?;
+    set(&mut scan, place, byte);
+    set(&mut scan, 105, length);
+    Ok(scan)
 }
 
 #[test]
@@ -503,7 +662,19 @@ fn a_sink_that_fails_changes_no_refusal(rt: HostRuntime) -> Result<(), Fail> {
     Ok(())
 }
 
-// The sink takes four bytes at a time.
+/// Words, the call that fails, and what comes of it. The sink takes four bytes at a time.
+static CUT_LINES: [(&[&str], Failing, (u8, &str)); 9] = [
+    (&[], Failing::Write(0), (2, "")),
+    (&[], Failing::Write(1), (2, "erro")),
+    (BUILD, Failing::Write(2), (3, "error 3 ")),
+    (BUILD, Failing::Open(0), (7, "error 7 source\n")),
+    (BUILD, Failing::Read(0), (7, "error 7 source\n")),
+    (INFO, Failing::Open(0), (7, "error 7 source\n")),
+    (INFO, Failing::Read(0), (7, "error 7 source\n")),
+    (INFO, Failing::Write(0), (7, "")),
+    (INFO, Failing::Write(1), (7, "vers")),
+];
+
 fn expect_cut_lines(rt: &impl Machine, alloc: Global) -> Result<(), AllocError> {
     let scan = las(alloc, 0, &[])?;
     let shelved = Shelved {
@@ -511,23 +682,13 @@ fn expect_cut_lines(rt: &impl Machine, alloc: Global) -> Result<(), AllocError> 
         a: &scan,
         b: b"",
     };
-    for (words, failing, want) in [
-        (NO_WORDS, Failing::Write(0), (2, "")),
-        (NO_WORDS, Failing::Write(1), (2, "erro")),
-        (BUILD, Failing::Write(2), (3, "error 3 ")),
-        (BUILD, Failing::Open(0), (7, "error 7 source\n")),
-        (BUILD, Failing::Read(0), (7, "error 7 source\n")),
-        (INFO, Failing::Open(0), (7, "error 7 source\n")),
-        (INFO, Failing::Read(0), (7, "error 7 source\n")),
-        (INFO, Failing::Write(0), (7, "")),
-        (INFO, Failing::Write(1), (7, "vers")),
-    ] {
+    for (words, failing, want) in &CUT_LINES {
         let given = Given {
             words,
             shelved,
-            failing,
+            failing: *failing,
         };
-        expect(rt, alloc, given, want, false)?;
+        expect(rt, alloc, given, *want, false)?;
     }
     Ok(())
 }

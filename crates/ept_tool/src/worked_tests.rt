@@ -1,8 +1,7 @@
 //! Worked builds through `run`: the line, and the bytes of the files that are left.
 
 use crate::tests::{
-    Answer, BUILD, Failing, Given, Machine, Shelved, at, carry_out, las, may_lack_memory, same,
-    same_at,
+    Answer, BUILD, Failing, Given, Machine, Shelved, at, las, same, same_at, scan, whole_answer,
 };
 use std::alloc::{AllocError, Global};
 use std::process::Abort;
@@ -35,7 +34,7 @@ struct Row<'a> {
     line: &'a str,
 }
 
-/// Carries out a build, once more where it lacked memory, and compares its line.
+/// Carries out a build, and compares its line.
 fn built(rt: &impl Machine, alloc: Global, row: &Row<'_>) -> Result<Answer, AllocError> {
     let given = Given {
         words: BUILD,
@@ -46,10 +45,7 @@ fn built(rt: &impl Machine, alloc: Global, row: &Row<'_>) -> Result<Answer, Allo
         },
         failing: Failing::Nothing,
     };
-    let mut found = carry_out(rt, alloc, given)?;
-    if may_lack_memory(&found, (0, row.line)) {
-        found = carry_out(rt, alloc, given)?;
-    }
+    let found = whole_answer(rt, alloc, given, (0, row.line))?;
     same_at(rt, &found.status, &0, &row.line);
     same(rt, &found.out.bytes(), &row.line.as_bytes());
     Ok(found)
@@ -174,29 +170,31 @@ fn each_list_of_places_has_its_octree(rt: HostRuntime) -> Result<(), Fail> {
 
 fn expect_trees(rt: &impl Machine, alloc: Global) -> Result<(), AllocError> {
     for tree in TREES {
-        let mut records = Vec::new(alloc);
-        for [x, y, z] in tree.places {
-            records.push(at(*x, *y, *z))?;
-        }
-        let stated = u8::try_from(tree.places.len()).unwrap_or(u8::MAX);
-        let scan = las(alloc, stated, &records)?;
-        let row = Row {
-            configuration: tree.configuration,
-            a: &scan,
-            b: b"",
-            line: tree.line,
-        };
-        let found = built(rt, alloc, &row)?;
-        expect_file(
-            rt,
-            &found,
-            "ept-hierarchy/0-0-0-0.json",
-            tree.hierarchy.as_bytes(),
-        );
-        expect_tiles(rt, alloc, &found, tree.tiles)?;
+        expect_tree(rt, alloc, tree)?;
     }
     Ok(())
 }
+
+fn expect_tree(rt: &impl Machine, alloc: Global, tree: &Tree<'_>) -> Result<(), AllocError> {
+    let scan = scan(alloc, tree.places)?;
+    let row = Row {
+        configuration: tree.configuration,
+        a: &scan,
+        b: b"",
+        line: tree.line,
+    };
+    let found = built(rt, alloc, &row)?;
+    let hierarchy = tree.hierarchy.as_bytes();
+    expect_file(rt, &found, "ept-hierarchy/0-0-0-0.json", hierarchy);
+    expect_tiles(rt, alloc, &found, tree.tiles)
+}
+
+/// The tiles from the root down to the least corner.
+static TILES: [&str; 3] = [
+    "ept-data/0-0-0-0.bin",
+    "ept-data/1-0-0-0.bin",
+    "ept-data/2-0-0-0.bin",
+];
 
 /// Compares the tiles from the root down to the least corner; a node past the last of them has no tile.
 fn expect_tiles(
@@ -205,12 +203,7 @@ fn expect_tiles(
     found: &Answer,
     tiles: &[&[Seen]],
 ) -> Result<(), AllocError> {
-    let names = [
-        "ept-data/0-0-0-0.bin",
-        "ept-data/1-0-0-0.bin",
-        "ept-data/2-0-0-0.bin",
-    ];
-    for (depth, name) in names.into_iter().enumerate() {
+    for (depth, name) in TILES.iter().enumerate() {
         match tiles.get(depth) {
             Some(points) => expect_file(rt, found, name, &packed(alloc, points)?),
             None => assert!(rt; found.store.file(name).is_none(), "{name}"),
@@ -320,8 +313,6 @@ const TIED: [&str; 2] = [
 fn expect_two_inputs(rt: &impl Machine, alloc: Global) -> Result<(), AllocError> {
     let first = las(alloc, 1, &[at(3, 3, 3)])?;
     let second = las(alloc, 1, &[at(1, 1, 1)])?;
-    let root = packed(alloc, &[(THREE, 0, 0)])?;
-    let lower = packed(alloc, &[(ONE, 0, 1)])?;
     for configuration in TIED {
         let row = Row {
             configuration,
@@ -330,8 +321,7 @@ fn expect_two_inputs(rt: &impl Machine, alloc: Global) -> Result<(), AllocError>
             line: "points 2 nodes 2\n",
         };
         let found = built(rt, alloc, &row)?;
-        expect_file(rt, &found, "ept-data/0-0-0-0.bin", &root);
-        expect_file(rt, &found, "ept-data/1-0-0-0.bin", &lower);
+        expect_tiles(rt, alloc, &found, &[&[(THREE, 0, 0)], &[(ONE, 0, 1)]])?;
     }
     Ok(())
 }
