@@ -10,51 +10,127 @@ use Rattle.ept_insert.specs.declared.error.InsertError.TheVariants as insert
 use Rattle.ept_save.specs.declared.error.SaveError.{SaveError}
 use Rattle.ept_save.specs.declared.error.SaveError.TheVariants as save
 use Rattle.ept_save.specs.Errors.{IsStores}
-use Rattle.ept_phase.specs.declared.error.LoadError.{LoadError}
-use Rattle.ept_phase.specs.declared.error.LoadError.TheVariants as load
-use Rattle.ept_build.specs.declared.error.BuildError.TheVariants.{TileDamaged, SourceFault, SourceChanged, TooManyNodes}
-use Rattle.ept_build.specs.Errors.{of_read, of_insert, of_save, of_load}
+use Rattle.ept_phase.specs.declared.error.PhaseError.{PhaseError}
+use Rattle.ept_phase.specs.declared.error.PhaseError.TheVariants as phase
+use Rattle.ept_phase.specs.Errors.{IsDevices}
+use Rattle.ept_publish.specs.declared.error.PublishError.{PublishError}
+use Rattle.ept_publish.specs.declared.error.PublishError.TheVariants as publish
+use Rattle.ept_build.specs.declared.error.BuildError.TheVariants.{TileDamaged, SourceFault, SourceChanged, SpillFault, SpillDamaged, TooManyNodes}
+use Rattle.ept_build.specs.Errors.{of_read, of_insert, of_save, of_phase, of_publish}
 
 pub inserted-many : (e : InsertError) → of_insert e ≡ TooManyNodes → e ≡ insert.TooManyNodes
-inserted-many insert.TooManyNodes is = cc
 inserted-many insert.SourceFault is = absurd (cc)
-inserted-many insert.Memory is = absurd (cc)
 inserted-many (insert.SourceChanged a b) is = absurd (cc)
+inserted-many insert.SpillFault is = absurd (cc)
+inserted-many (insert.SpillDamaged a b d) is = absurd (cc)
+inserted-many insert.TooManyNodes is = cc
+inserted-many insert.Memory is = absurd (cc)
 
 pub inserted-changed : (e : InsertError) (source number : ℕ) → of_insert e ≡ SourceChanged source number → e ≡ insert.SourceChanged source number
-inserted-changed insert.TooManyNodes source number is = absurd (cc)
 inserted-changed insert.SourceFault source number is = absurd (cc)
-inserted-changed insert.Memory source number is = absurd (cc)
 inserted-changed (insert.SourceChanged a b) source number is = cc
+inserted-changed insert.SpillFault source number is = absurd (cc)
+inserted-changed (insert.SpillDamaged a b d) source number is = absurd (cc)
+inserted-changed insert.TooManyNodes source number is = absurd (cc)
+inserted-changed insert.Memory source number is = absurd (cc)
 
 pub inserted-fault : (e : InsertError) → of_insert e ≡ SourceFault → e ≡ insert.SourceFault
-inserted-fault insert.TooManyNodes is = absurd (cc)
 inserted-fault insert.SourceFault is = cc
-inserted-fault insert.Memory is = absurd (cc)
 inserted-fault (insert.SourceChanged a b) is = absurd (cc)
+inserted-fault insert.SpillFault is = absurd (cc)
+inserted-fault (insert.SpillDamaged a b d) is = absurd (cc)
+inserted-fault insert.TooManyNodes is = absurd (cc)
+inserted-fault insert.Memory is = absurd (cc)
+
+pub inserted-spill : (e : InsertError) → of_insert e ≡ SpillFault → e ≡ insert.SpillFault
+inserted-spill insert.SourceFault is = absurd (cc)
+inserted-spill (insert.SourceChanged a b) is = absurd (cc)
+inserted-spill insert.SpillFault is = cc
+inserted-spill (insert.SpillDamaged a b d) is = absurd (cc)
+inserted-spill insert.TooManyNodes is = absurd (cc)
+inserted-spill insert.Memory is = absurd (cc)
+
+pub inserted-damage : (e : InsertError) (kept found number : ℕ) → of_insert e ≡ SpillDamaged kept found number → e ≡ insert.SpillDamaged kept found number
+inserted-damage insert.SourceFault kept found number is = absurd (cc)
+inserted-damage (insert.SourceChanged a b) kept found number is = absurd (cc)
+inserted-damage insert.SpillFault kept found number is = absurd (cc)
+inserted-damage (insert.SpillDamaged a b d) kept found number is = cc
+inserted-damage insert.TooManyNodes kept found number is = absurd (cc)
+inserted-damage insert.Memory kept found number is = absurd (cc)
 
 pub read-changed : (e : ReadError) (source number : ℕ) → of_read e ≡ SourceChanged source number → e ≡ read.SourceChanged source number
 read-changed read.SourceFault source number is = absurd (cc)
 read-changed read.Memory source number is = absurd (cc)
 read-changed (read.SourceChanged a b) source number is = cc
 
-pub loaded-damaged : (e : LoadError) (key : VoxelKey) → of_load e ≡ TileDamaged key → e ≡ load.Save (save.TileDamaged key)
-loaded-damaged load.TooManyNodes key is = absurd (cc)
-loaded-damaged (load.Save save.StoreFault) key is = absurd (cc)
-loaded-damaged (load.Save (save.BadCheckpoint letter)) key is = absurd (cc)
-loaded-damaged (load.Save (save.TileDamaged other)) key is = cc
-loaded-damaged (load.Save save.Memory) key is = absurd (cc)
+pub read-no-spill : (e : ReadError) → of_read e ≡ SpillFault → ⊥
+read-no-spill read.SourceFault is = cc
+read-no-spill read.Memory is = cc
+read-no-spill (read.SourceChanged a b) is = cc
 
-pub saved-no-source : (e : SaveError) → of_save e ≡ SourceFault → ⊥
-saved-no-source save.StoreFault is = cc
-saved-no-source (save.BadCheckpoint letter) is = cc
-saved-no-source (save.TileDamaged key) is = cc
-saved-no-source save.Memory is = cc
+pub read-no-damage : (e : ReadError) (kept found number : ℕ) → of_read e ≡ SpillDamaged kept found number → ⊥
+read-no-damage read.SourceFault kept found number is = cc
+read-no-damage read.Memory kept found number is = cc
+read-no-damage (read.SourceChanged a b) kept found number is = cc
 
--- a refusal of the store tells of no tile
-pub stores-undamaged : (e : SaveError) (key : VoxelKey) → IsStores e → of_save e ≡ TileDamaged key → ⊥
+pub phase-damaged : (e : PhaseError) (key : VoxelKey) → of_phase e ≡ TileDamaged key → e ≡ phase.Save (save.TileDamaged key)
+phase-damaged (phase.Save save.StoreFault) key is = absurd (cc)
+phase-damaged (phase.Save (save.BadCheckpoint letter)) key is = absurd (cc)
+phase-damaged (phase.Save (save.TileDamaged other)) key is = cc
+phase-damaged (phase.Save save.Memory) key is = absurd (cc)
+phase-damaged phase.TooManyNodes key is = absurd (cc)
+phase-damaged phase.SpillFault key is = absurd (cc)
+phase-damaged (phase.SpillDamaged a b d) key is = absurd (cc)
+
+pub phase-spill : (e : PhaseError) → of_phase e ≡ SpillFault → e ≡ phase.SpillFault
+phase-spill (phase.Save save.StoreFault) is = absurd (cc)
+phase-spill (phase.Save (save.BadCheckpoint letter)) is = absurd (cc)
+phase-spill (phase.Save (save.TileDamaged other)) is = absurd (cc)
+phase-spill (phase.Save save.Memory) is = absurd (cc)
+phase-spill phase.TooManyNodes is = absurd (cc)
+phase-spill phase.SpillFault is = cc
+phase-spill (phase.SpillDamaged a b d) is = absurd (cc)
+
+pub phase-damage : (e : PhaseError) (kept found number : ℕ) → of_phase e ≡ SpillDamaged kept found number → e ≡ phase.SpillDamaged kept found number
+phase-damage (phase.Save save.StoreFault) kept found number is = absurd (cc)
+phase-damage (phase.Save (save.BadCheckpoint letter)) kept found number is = absurd (cc)
+phase-damage (phase.Save (save.TileDamaged other)) kept found number is = absurd (cc)
+phase-damage (phase.Save save.Memory) kept found number is = absurd (cc)
+phase-damage phase.TooManyNodes kept found number is = absurd (cc)
+phase-damage phase.SpillFault kept found number is = absurd (cc)
+phase-damage (phase.SpillDamaged a b d) kept found number is = cc
+
+pub phase-no-source : (e : PhaseError) → of_phase e ≡ SourceFault → ⊥
+phase-no-source (phase.Save save.StoreFault) is = cc
+phase-no-source (phase.Save (save.BadCheckpoint letter)) is = cc
+phase-no-source (phase.Save (save.TileDamaged other)) is = cc
+phase-no-source (phase.Save save.Memory) is = cc
+phase-no-source phase.TooManyNodes is = cc
+phase-no-source phase.SpillFault is = cc
+phase-no-source (phase.SpillDamaged a b d) is = cc
+
+-- a refusal of devices tells of no tile
+stores-undamaged : (e : SaveError) (key : VoxelKey) → IsStores e → of_save e ≡ TileDamaged key → ⊥
 stores-undamaged e key (inl fault) is = let told : of_save save.StoreFault ≡ TileDamaged key = sym (ap of_save fault) ∙ is in cc
 stores-undamaged e key (inr memory) is = let told : of_save save.Memory ≡ TileDamaged key = sym (ap of_save memory) ∙ is in cc
+
+pub devices-undamaged : (e : PhaseError) (key : VoxelKey) → IsDevices e → of_phase e ≡ TileDamaged key → ⊥
+devices-undamaged (phase.Save e) key devices is = stores-undamaged e key devices is
+devices-undamaged phase.TooManyNodes key devices is = absurd devices
+devices-undamaged phase.SpillFault key devices is = cc
+devices-undamaged (phase.SpillDamaged a b d) key devices is = cc
+
+pub publish-spill : (e : PublishError) → of_publish e ≡ SpillFault → e ≡ publish.SpillFault
+publish-spill publish.StoreFault is = absurd (cc)
+publish-spill publish.SpillFault is = cc
+publish-spill (publish.SpillDamaged a b d) is = absurd (cc)
+publish-spill publish.Memory is = absurd (cc)
+
+pub publish-damage : (e : PublishError) (kept found number : ℕ) → of_publish e ≡ SpillDamaged kept found number → e ≡ publish.SpillDamaged kept found number
+publish-damage publish.StoreFault kept found number is = absurd (cc)
+publish-damage publish.SpillFault kept found number is = absurd (cc)
+publish-damage (publish.SpillDamaged a b d) kept found number is = cc
+publish-damage publish.Memory kept found number is = absurd (cc)
 
 -- what follows of a told fact is told
 pub tells-more : {X : Type 0} (P Q : X → Type 0) → ((x : X) → P x → Q x) → (o : Option X) → Tells P o → Tells Q o

@@ -14,7 +14,7 @@ use Rattle.ept_save.specs.declared.error.SaveError.TheVariants as save
 use Rattle.ept_phase.proofs.Undamaged.{damaged-before}
 use Rattle.ept_plan.specs.Plans.{inputs_by}
 use Rattle.ept_build.specs.declared.error.BuildError.{BuildError}
-use Rattle.ept_build.specs.declared.error.BuildError.TheVariants.{StoreFault, BadCheckpoint, TileDamaged, Differs, SourceFault, BadLas, OutOfBounds, TooManyPoints, NoBounds, SourceChanged, SpillFault, TooManyNodes, Memory}
+use Rattle.ept_build.specs.declared.error.BuildError.TheVariants.{StoreFault, BadCheckpoint, TileDamaged, Differs, SourceFault, BadLas, OutOfBounds, TooManyPoints, NoBounds, SourceChanged, SpillFault, SpillDamaged, TooManyNodes, Memory}
 use Rattle.ept_build.specs.declared.summary.Summary.{Summary}
 use Rattle.ept_base.specs.declared.errors.PutError.{PutError}
 use Rattle.ept_base.specs.declared.errors.PutError.TheVariants as put
@@ -24,7 +24,7 @@ use Rattle.ept_plan.specs.declared.error.PlanError.{PlanError}
 use Rattle.ept_plan.specs.declared.error.PlanError.TheVariants as plan
 use Rattle.ept_build.specs.Errors.{of_save, of_scan, of_plan, of_put}
 use Rattle.ept_build.specs.Building.{TellsDamage, Fails}
-use Rattle.ept_build.specs.Phases.{HasDamage, IsPhaseFault, IsRoomFault, IsStoreFault}
+use Rattle.ept_build.specs.Phases.{HasDamage, IsPhaseFault, IsRoomFault, IsStoreFault, IsEndFault}
 
 -- a tile is damaged as before
 pub damaged-same : (current : Current) (key : VoxelKey) (old new : Files) → SameFiles old new → IsDamaged current key new → IsDamaged current key old
@@ -52,20 +52,21 @@ same-damage view key (Some a) (Some b) stands same line damaged = (line, (subst 
 
 module _ (r : Result Summary BuildError) where
   -- the nodes are not loaded
-  pub loading-tells : (e : BuildError) → r ≡ Err e → IsPhaseFault e → e ≢ SourceFault → ((source number : ℕ) → e ≢ SourceChanged source number) → e ≢ TooManyNodes → TellsDamage r ⊎ Fails r
-  loading-tells StoreFault is only source same many = inr (inl is)
-  loading-tells Memory is only source same many = inr (inr (inr (inr is)))
-  loading-tells SpillFault is only source same many = absurd only
-  loading-tells (TileDamaged key) is only source same many = inl (key, is)
-  loading-tells SourceFault is only source same many = absurd (source refl)
-  loading-tells (SourceChanged s n) is only source same many = absurd (same s n refl)
-  loading-tells TooManyNodes is only source same many = absurd (many refl)
-  loading-tells (BadCheckpoint letter) is only source same many = absurd only
-  loading-tells (Differs field kept given) is only source same many = absurd only
-  loading-tells (BadLas s fault) is only source same many = absurd only
-  loading-tells (OutOfBounds s number) is only source same many = absurd only
-  loading-tells (TooManyPoints s) is only source same many = absurd only
-  loading-tells NoBounds is only source same many = absurd only
+  pub loading-tells : (e : BuildError) → r ≡ Err e → IsPhaseFault e → e ≢ SourceFault → ((source number : ℕ) → e ≢ SourceChanged source number) → ((kept found number : ℕ) → e ≢ SpillDamaged kept found number) → e ≢ TooManyNodes → TellsDamage r ⊎ Fails r
+  loading-tells StoreFault is only source same whole many = inr (inl is)
+  loading-tells Memory is only source same whole many = inr (inr (inr (inr is)))
+  loading-tells SpillFault is only source same whole many = inr (inr (inr (inl is)))
+  loading-tells (SpillDamaged kept found number) is only source same whole many = absurd (whole kept found number refl)
+  loading-tells (TileDamaged key) is only source same whole many = inl (key, is)
+  loading-tells SourceFault is only source same whole many = absurd (source refl)
+  loading-tells (SourceChanged s n) is only source same whole many = absurd (same s n refl)
+  loading-tells TooManyNodes is only source same whole many = absurd (many refl)
+  loading-tells (BadCheckpoint letter) is only source same whole many = absurd only
+  loading-tells (Differs field kept given) is only source same whole many = absurd only
+  loading-tells (BadLas s fault) is only source same whole many = absurd only
+  loading-tells (OutOfBounds s number) is only source same whole many = absurd only
+  loading-tells (TooManyPoints s) is only source same whole many = absurd only
+  loading-tells NoBounds is only source same whole many = absurd only
 
   -- the checkpoints are not opened
   pub opening-fails : (e : SaveError) → r ≡ Err (of_save e) → IsStores e → Fails r
@@ -99,6 +100,11 @@ put-no-tile put.Memory key is = cc
 pub store-no-tile : (e : BuildError) (key : VoxelKey) → IsStoreFault e → e ≡ TileDamaged key → ⊥
 store-no-tile e key (inl fault) is = let same : StoreFault ≡ TileDamaged key = sym fault ∙ is in cc
 store-no-tile e key (inr memory) is = let same : Memory ≡ TileDamaged key = sym memory ∙ is in cc
+
+pub end-no-tile : (e : BuildError) (key : VoxelKey) → IsEndFault e → e ≡ TileDamaged key → ⊥
+end-no-tile e key (inl store) is = store-no-tile e key store is
+end-no-tile e key (inr (inl fault)) is = let same : SpillFault ≡ TileDamaged key = sym fault ∙ is in cc
+end-no-tile e key (inr (inr (kept, found, number, damage))) is = let same : SpillDamaged kept found number ≡ TileDamaged key = sym damage ∙ is in cc
 
 pub room-no-tile : (e : BuildError) (key : VoxelKey) → IsRoomFault e → e ≡ TileDamaged key → ⊥
 room-no-tile e key (inl fault) is = let same : SpillFault ≡ TileDamaged key = sym fault ∙ is in cc

@@ -15,6 +15,7 @@ use Rattle.ept_scan.proofs.OneScan.{scan_once}
 use Rattle.ept_ckpt.specs.declared.letter.Letter.{Letter}
 use Rattle.ept_ckpt.specs.declared.checkpoint.Checkpoint.{Checkpoint}
 use Rattle.ept_meta.specs.Output.{rules_of}
+use Rattle.ept_node.specs.Shown.{IsTelling}
 use Rattle.ept_save.specs.Names.{gate_name, body_name}
 use Rattle.ept_save.specs.Current.{Current, HasCurrent}
 use Rattle.ept_save.specs.Done.{IsDone}
@@ -127,8 +128,9 @@ module _ (same_sound : SameIsSound) (all start now : Files) (config : Config) (v
       let earlier = moved.leaves image may in
       λ name. earlier.2 name ∙ (settled_some (files old) (may_leave old) start was settled earlier.0 earlier.1 name ∙ sym (same name))
 
-  pub starts-again : StandsFor view (files new) (may_leave new) → ScansAll all config view.current plan → Starts all config view plan now (files new) (may_leave new)
-  starts-again stands scans = record {
+  pub starts-again : {F : Type 0} (held : F → Option (List ℕ)) → IsTelling held → StandsFor view (files new) (may_leave new) → ScansAll all config view.current plan → Starts held all config view plan now (files new) (may_leave new)
+  starts-again held telling stands scans = record {
+    spills = telling;
     ready = record {
       told = told;
       settled = subst (λ (w : Option Files). IsSettled w (may_leave new)) (sym told) still;
@@ -155,3 +157,13 @@ done-all one published all start config current plan is has sound done = record 
         let of : IsOf plan (Some (letter, c)) = is_it.same all_in in
         let number : length pub_it.0 ≡ total c.counts = kept-number all c.kept c.counts pub_it.0 pub_it.2 in
         pub_it.4.inserted ∙ (number ∙ (ap total of.1 ∙ sym is_it.points_are))
+
+-- where it has all points of all inputs and the done gate is open, nothing is to be done
+pub already-done : (config : Config) (start : Files) (current : Current) (plan : Plan) → IsPlan config current plan → HasCurrent current start → HasAll plan current → IsDone start → IsDoneAlready config start
+already-done config start current plan is has all done = record {
+  done = done;
+  current = current;
+  has_current = has;
+  goes_on = is.goes_on;
+  no_more = all.inputs ∙ ap (λ (w : List Input). length w) is.kept_is.inputs_is;
+}

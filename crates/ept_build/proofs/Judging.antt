@@ -32,10 +32,10 @@ use Rattle.ept_plan.specs.Plans as plans
 use Rattle.ept_plan.specs.Plans.{limits_by}
 use Rattle.ept_build.specs.declared.summary.Summary.{Summary}
 use Rattle.ept_build.specs.declared.error.BuildError.{BuildError}
-use Rattle.ept_build.specs.declared.error.BuildError.TheVariants.{StoreFault, BadCheckpoint, TileDamaged, Differs, SourceFault, BadLas, OutOfBounds, TooManyPoints, NoBounds, SourceChanged, SpillFault, TooManyNodes, Memory}
+use Rattle.ept_build.specs.declared.error.BuildError.TheVariants.{StoreFault, BadCheckpoint, TileDamaged, Differs, SourceFault, BadLas, OutOfBounds, TooManyPoints, NoBounds, SourceChanged, SpillFault, SpillDamaged, TooManyNodes, Memory}
 use Rattle.ept_build.specs.Errors.{of_plan, of_scan, of_save, of_put}
 use Rattle.ept_build.specs.Building.{HasPoints, IsBuilt, IsRefusedAt, IsEarly, TellsDifference, Fails, node_count}
-use Rattle.ept_build.specs.Phases.{IsPhaseFault, IsRoomFault, IsStoreFault}
+use Rattle.ept_build.specs.Phases.{IsPhaseFault, IsRoomFault, IsStoreFault, IsEndFault}
 
 -- ---- one way to be found
 
@@ -129,7 +129,8 @@ module _ (r : Result Summary BuildError) where
   phase-accepted all config current StoreFault is only refused kept points has few = inl is
   phase-accepted all config current SourceFault is only refused kept points has few = inr (inl is)
   phase-accepted all config current Memory is only refused kept points has few = inr (inr (inr is))
-  phase-accepted all config current SpillFault is only refused kept points has few = absurd only
+  phase-accepted all config current SpillFault is only refused kept points has few = inr (inr (inl is))
+  phase-accepted all config current (SpillDamaged was found number) is only refused kept points has few = absurd refused
   phase-accepted all config current TooManyNodes is only refused kept points has few = absurd (omega (arith, refused.many, few, count-once all config current refused.kept kept refused.points points refused.has_points has))
   phase-accepted all config current (TileDamaged key) is only refused kept points has few = absurd refused
   phase-accepted all config current (SourceChanged source number) is only refused kept points has few = absurd refused
@@ -144,6 +145,12 @@ module _ (r : Result Summary BuildError) where
 pub store-refused : (all : Files) (config : Config) (current : Current) (e : BuildError) → IsStoreFault e → IsRefusedAt all config current e
 store-refused all config current e (inl fault) = subst (IsRefusedAt all config current) (sym fault) tt
 store-refused all config current e (inr memory) = subst (IsRefusedAt all config current) (sym memory) tt
+
+-- nor does a fault of a spill file
+pub end-refused : (all : Files) (config : Config) (current : Current) (e : BuildError) → IsEndFault e → ((kept found number : ℕ) → e ≢ SpillDamaged kept found number) → IsRefusedAt all config current e
+end-refused all config current e (inl store) whole = store-refused all config current e store
+end-refused all config current e (inr (inl fault)) whole = subst (IsRefusedAt all config current) (sym fault) tt
+end-refused all config current e (inr (inr (kept, found, number, damage))) whole = absurd (whole kept found number damage)
 
 -- nor does a fault of the room
 pub room-refused : (all : Files) (config : Config) (current : Current) (e : BuildError) → IsRoomFault e → IsRefusedAt all config current e
@@ -173,6 +180,7 @@ phase-not-early (TileDamaged key) only early = early
 phase-not-early SourceFault only early = early
 phase-not-early (SourceChanged source number) only early = early
 phase-not-early SpillFault only early = early
+phase-not-early (SpillDamaged kept found number) only early = early
 phase-not-early TooManyNodes only early = early
 phase-not-early Memory only early = early
 phase-not-early (BadCheckpoint letter) only early = only
@@ -227,7 +235,8 @@ built-many (Err e) all config current start files now told only refused few buil
     by StoreFault only refused = inr (inl refl)
     by SourceFault only refused = inr (inr (inl refl))
     by Memory only refused = inr (inr (inr (inr refl)))
-    by SpillFault only refused = absurd only
+    by SpillFault only refused = inr (inr (inr (inl refl)))
+    by (SpillDamaged was found number) only refused = absurd refused
     by (TileDamaged key) only refused = absurd refused
     by (SourceChanged source number) only refused = absurd refused
     by (BadCheckpoint letter) only refused = absurd only
@@ -269,6 +278,11 @@ pub store-not-many : (e : BuildError) → IsStoreFault e → e ≡ TooManyNodes 
 store-not-many e (inl fault) is = let same : StoreFault ≡ TooManyNodes = sym fault ∙ is in cc
 store-not-many e (inr memory) is = let same : Memory ≡ TooManyNodes = sym memory ∙ is in cc
 
+pub end-not-many : (e : BuildError) → IsEndFault e → e ≡ TooManyNodes → ⊥
+end-not-many e (inl store) is = store-not-many e store is
+end-not-many e (inr (inl fault)) is = let same : SpillFault ≡ TooManyNodes = sym fault ∙ is in cc
+end-not-many e (inr (inr (kept, found, number, damage))) is = let same : SpillDamaged kept found number ≡ TooManyNodes = sym damage ∙ is in cc
+
 pub room-not-many : (e : BuildError) → IsRoomFault e → e ≡ TooManyNodes → ⊥
 room-not-many e (inl fault) is = let same : SpillFault ≡ TooManyNodes = sym fault ∙ is in cc
 room-not-many e (inr memory) is = let same : Memory ≡ TooManyNodes = sym memory ∙ is in cc
@@ -276,3 +290,8 @@ room-not-many e (inr memory) is = let same : Memory ≡ TooManyNodes = sym memor
 pub store-no-source : (e : BuildError) → IsStoreFault e → e ≡ SourceFault → ⊥
 store-no-source e (inl fault) is = let same : StoreFault ≡ SourceFault = sym fault ∙ is in cc
 store-no-source e (inr memory) is = let same : Memory ≡ SourceFault = sym memory ∙ is in cc
+
+pub end-no-source : (e : BuildError) → IsEndFault e → e ≡ SourceFault → ⊥
+end-no-source e (inl store) is = store-no-source e store is
+end-no-source e (inr (inl fault)) is = let same : SpillFault ≡ SourceFault = sym fault ∙ is in cc
+end-no-source e (inr (inr (kept, found, number, damage))) is = let same : SpillDamaged kept found number ≡ SourceFault = sym damage ∙ is in cc

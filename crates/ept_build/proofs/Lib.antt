@@ -16,3 +16,4 @@ mod Running
 mod UnderWay
 mod Damage
 mod Finished
+mod Spilled

@@ -1,5 +1,5 @@
 -- What a phase leaves: an octree that has each node of its checkpoint.
-use Rattle.std.proofs.Common.{◌≡◌, ◌∙◌, inl, inr, ℕ, ◌+◌, ◌<◌, ◌≤◌, true, List, [], ◌∷◌, ◌++◌, ◌-◌, min, length, map, take, drop, sym, ap, subst, arith, Option, Some, None}
+use Rattle.std.proofs.Common.{◌≡◌, ◌∙◌, inl, inr, ℕ, ◌+◌, ◌<◌, ◌≤◌, true, List, [], ◌∷◌, ◌++◌, ◌-◌, min, length, get_or, map, take, drop, sym, ap, subst, arith, Option, Some, None}
 use Rattle.std.proofs.lemmas.Bool.{cases_lt}
 use Rattle.std.proofs.lemmas.List.{take-append-drop}
 use Rattle.ept_point.specs.declared.point.Point.{Point}
@@ -16,13 +16,12 @@ use Rattle.ept_ckpt.specs.declared.letter.Letter.{Letter}
 use Rattle.ept_ckpt.specs.declared.checkpoint.Checkpoint.{Checkpoint}
 use Rattle.ept_ckpt.specs.declared.node_line.NodeLine.{NodeLine}
 use Rattle.ept_ckpt.specs.Octree.{is_among}
-use Rattle.ept_table.specs.Octree.{Branch, entry_of, points_in, AreSampled, AreWhole, AreLinked, KeepsNodes}
-use Rattle.ept_node.specs.declared.node.Node.{Node}
+use Rattle.ept_table.specs.Octree.{Branch, entry_of, points_in, AreSampled, AreWhole, KeepsNodes}
+use Rattle.ept_node.specs.Shown.{file_of, IsTelling}
 use Rattle.ept_forest.specs.Slots as forests
 use Rattle.ept_octree.specs.declared.octree.Octree.{Octree}
-use Rattle.ept_octree.specs.Index.{taken_in}
 use Rattle.ept_octree.specs.Octree as tree
-use Rattle.ept_insert.specs.Between.{StandsBetween}
+use Rattle.ept_insert.specs.Between.{StandsBetween, FilesTell}
 use Rattle.ept_scan.specs.declared.second_reading.Reader.{Reader}
 use Rattle.ept_meta.specs.Output.{rules_of}
 use Rattle.ept_save.specs.Current.{Current}
@@ -117,31 +116,38 @@ module _ (own rules : Rules) (same : own ≡ rules) (n k : ℕ) (points : List P
 
 -- ---- the octree of the first points, and a reader that has the others
 
-module _ {F S : Type 0} (whole : S → Option (List ℕ)) (plan : Plan) (points : List Point) (n : ℕ) (reader : Reader S) (grown : Octree F) (same : tree.rules_of grown ≡ rules_of plan.kept) (can : CanBeSampled (rules_of plan.kept) points) (has : HasInserted whole plan points n reader grown) where
-  pub stands-between : StandsBetween whole grown reader (take n points) (drop n points)
+-- where each spill file tells, those of the nodes do
+files-tell : {F : Type 0} (held : F → Option (List ℕ)) (octree : Octree F) → IsTelling held → FilesTell held octree
+files-tell held octree telling k d within = telling (file_of (get_or (forests.nodes_of (tree.forest_of octree)) k d))
+
+module _ {F S : Type 0} (held : F → Option (List ℕ)) (whole : S → Option (List ℕ)) (plan : Plan) (points : List Point) (n : ℕ) (reader : Reader S) (grown : Octree F) (same : tree.rules_of grown ≡ rules_of plan.kept) (can : CanBeSampled (rules_of plan.kept) points) (has : HasInserted held whole plan points n reader grown) where
+  pub stands-between : StandsBetween held whole grown reader (take n points) (drop n points)
   stands-between = record {
+    telling = files-tell held grown has.telling;
     rest = has.rest;
     can = subst (λ (r : Rules). CanBeSampled r (take n points ++ drop n points)) (sym same) (subst (λ (w : List Point). CanBeSampled (rules_of plan.kept) w) (sym (take-append-drop n points)) can);
-    sampled = subst (λ (r : Rules). AreSampled r (take n points) (tree.nodes_of grown)) (sym same) has.sampled;
+    sampled = subst (λ (r : Rules). AreSampled r (take n points) (tree.nodes_of held grown)) (sym same) has.sampled;
   }
 
   -- the nodes that come of the next points
-  pub next-sampled : (k : ℕ) (new : List Branch) → ((first left : List Point) → StandsBetween whole grown reader first left → AreSampled (tree.rules_of grown) (first ++ take k left) new) → AreSampled (rules_of plan.kept) (take (n + k) points) new
+  pub next-sampled : (k : ℕ) (new : List Branch) → ((first left : List Point) → StandsBetween held whole grown reader first left → AreSampled (tree.rules_of grown) (first ++ take k left) new) → AreSampled (rules_of plan.kept) (take (n + k) points) new
   next-sampled k new inserted = sampled-then (tree.rules_of grown) (rules_of plan.kept) same n k points new (inserted (take n points) (drop n points) stands-between)
 
 -- ---- the octree behind a phase
 
-pub next-tree : {F : Type 0} (plan : Plan) (inserted : ℕ) (grown next : Octree F) (old new : View) → tree.rules_of grown ≡ rules_of plan.kept → tree.IsWhole grown → tree.IsLinked grown → length (tree.points_of grown) ≡ inserted → forests.nodes_of (tree.forest_of next) ≡ forests.nodes_of (tree.forest_of grown) → tree.nodes_of next ≡ tree.nodes_of grown → tree.rules_of next ≡ tree.rules_of grown
-    → IsSaved old new plan.kept plan.counts inserted (tree.nodes_of grown) → IsTreeOf plan inserted next new
-next-tree {F} plan inserted grown next old new own whole linked number slots nodes rules saved = record {
+pub next-tree : {F : Type 0} (held : F → Option (List ℕ)) (faults keeps : F → ℕ) (plan : Plan) (inserted : ℕ) (grown next : Octree F) (old new : View) → tree.rules_of grown ≡ rules_of plan.kept → tree.IsWhole held grown → length (tree.points_of held grown) ≡ inserted → tree.nodes_of held next ≡ tree.nodes_of held grown → tree.rules_of next ≡ tree.rules_of grown → tree.IsLinked held next → tree.AgreesWithFiles held faults keeps next → tree.IsUnbroken next
+    → IsSaved old new plan.kept plan.counts inserted (tree.nodes_of held grown) → IsTreeOf held faults keeps plan inserted next new
+next-tree held faults keeps plan inserted grown next old new own whole number nodes rules linked agrees unbroken saved = record {
   rules = rules ∙ own;
   whole = subst (λ (w : List Branch). AreWhole (map entry_of w)) (sym nodes) whole;
-  linked = subst (λ (w : List (Node F)). AreLinked (taken_in w)) (sym slots) linked;
+  linked = linked;
+  agrees = agrees;
+  unbroken = unbroken;
   number = ap (λ (w : List Branch). length (points_in w)) nodes ∙ number;
-  fresh = saved-fresh plan old new inserted (tree.nodes_of grown) saved;
-  each = subst (λ (w : List Branch). HasEachNodeOf new.current w) (sym nodes) (saved-each plan old new inserted (tree.nodes_of grown) saved);
-  by_checkpoint = saved-inserted plan old new inserted (tree.nodes_of grown) saved;
-  inputs_least = omega (arith, saved-inputs plan old new inserted (tree.nodes_of grown) saved);
+  fresh = saved-fresh plan old new inserted (tree.nodes_of held grown) saved;
+  each = subst (λ (w : List Branch). HasEachNodeOf new.current w) (sym nodes) (saved-each plan old new inserted (tree.nodes_of held grown) saved);
+  by_checkpoint = saved-inserted plan old new inserted (tree.nodes_of held grown) saved;
+  inputs_least = omega (arith, saved-inputs plan old new inserted (tree.nodes_of held grown) saved);
 }
 
 -- ---- there is more to be done

@@ -5,27 +5,34 @@ use Rattle.ept_space.specs.VoxelKey.{VoxelKey}
 use Rattle.ept_config.specs.declared.config.Config.{Config}
 use Rattle.ept_save.specs.Current.{Current}
 use Rattle.ept_build.specs.declared.error.BuildError.{BuildError}
-use Rattle.ept_build.specs.declared.error.BuildError.TheVariants.{StoreFault, BadCheckpoint, TileDamaged, Differs, SourceFault, BadLas, OutOfBounds, TooManyPoints, NoBounds, SourceChanged, SpillFault, TooManyNodes, Memory}
+use Rattle.ept_build.specs.declared.error.BuildError.TheVariants.{StoreFault, BadCheckpoint, TileDamaged, Differs, SourceFault, BadLas, OutOfBounds, TooManyPoints, NoBounds, SourceChanged, SpillFault, SpillDamaged, TooManyNodes, Memory}
 use Rattle.ept_build.specs.Building.{HasTooManyNodes, IsRefusedAt}
-use Rattle.ept_build.specs.Phases.{IsPhaseFault, IsStoreFault}
+use Rattle.ept_build.specs.Phases.{IsPhaseFault, IsStoreFault, IsEndFault}
 
 module _ (all : Files) (config : Config) (current : Current) where
-  pub phase-refused : (e : BuildError) → IsPhaseFault e → ((key : VoxelKey) → e ≢ TileDamaged key) → ((source number : ℕ) → e ≢ SourceChanged source number) → (e ≡ TooManyNodes → HasTooManyNodes all config current) → IsRefusedAt all config current e
-  phase-refused StoreFault only none same many = tt
-  phase-refused SourceFault only none same many = tt
-  phase-refused Memory only none same many = tt
-  phase-refused TooManyNodes only none same many = many refl
-  phase-refused (TileDamaged key) only none same many = absurd (none key refl)
-  phase-refused (SourceChanged source number) only none same many = absurd (same source number refl)
-  phase-refused SpillFault only none same many = absurd only
-  phase-refused (BadCheckpoint letter) only none same many = absurd only
-  phase-refused (Differs field kept given) only none same many = absurd only
-  phase-refused (BadLas source fault) only none same many = absurd only
-  phase-refused (OutOfBounds source number) only none same many = absurd only
-  phase-refused (TooManyPoints source) only none same many = absurd only
-  phase-refused NoBounds only none same many = absurd only
+  pub phase-refused : (e : BuildError) → IsPhaseFault e → ((key : VoxelKey) → e ≢ TileDamaged key) → ((source number : ℕ) → e ≢ SourceChanged source number) → ((kept found number : ℕ) → e ≢ SpillDamaged kept found number) → (e ≡ TooManyNodes → HasTooManyNodes all config current) → IsRefusedAt all config current e
+  phase-refused StoreFault only none same whole many = tt
+  phase-refused SourceFault only none same whole many = tt
+  phase-refused Memory only none same whole many = tt
+  phase-refused TooManyNodes only none same whole many = many refl
+  phase-refused (TileDamaged key) only none same whole many = absurd (none key refl)
+  phase-refused (SourceChanged source number) only none same whole many = absurd (same source number refl)
+  phase-refused SpillFault only none same whole many = tt
+  phase-refused (SpillDamaged kept found number) only none same whole many = absurd (whole kept found number refl)
+  phase-refused (BadCheckpoint letter) only none same whole many = absurd only
+  phase-refused (Differs field kept given) only none same whole many = absurd only
+  phase-refused (BadLas source fault) only none same whole many = absurd only
+  phase-refused (OutOfBounds source number) only none same whole many = absurd only
+  phase-refused (TooManyPoints source) only none same whole many = absurd only
+  phase-refused NoBounds only none same whole many = absurd only
 
 -- a fault of the store is one of these causes
-pub store-phase : (e : BuildError) → IsStoreFault e → IsPhaseFault e
+store-phase : (e : BuildError) → IsStoreFault e → IsPhaseFault e
 store-phase e (inl fault) = subst IsPhaseFault (sym fault) tt
 store-phase e (inr memory) = subst IsPhaseFault (sym memory) tt
+
+-- and so is one of the end
+pub end-phase : (e : BuildError) → IsEndFault e → IsPhaseFault e
+end-phase e (inl store) = store-phase e store
+end-phase e (inr (inl fault)) = subst IsPhaseFault (sym fault) tt
+end-phase e (inr (inr (kept, found, number, damage))) = subst IsPhaseFault (sym damage) tt

@@ -100,11 +100,13 @@ pub few-lines : (max slots lines nodes : ℕ) → (slots < lines → slots ≡ m
 few-lines max slots lines nodes all many few = omega (arith, all many, many, few)
 
 -- the octree that was loaded is that of the plan
-pub tree-loaded : {F : Type 0} (plan : Plan) (inserted : ℕ) (view : View) (old new : Octree F) → IsBegun plan inserted old view → tree.rules_of new ≡ tree.rules_of old → tree.IsWhole new → tree.IsLinked new → OfCurrent view.current (λ (c : Checkpoint). TellNodes (tree.nodes_of new) c.nodes) → (view.current ≡ None → tree.nodes_of new ≡ tree.nodes_of old) → IsTreeOf plan inserted new view
-tree-loaded plan inserted view old new is own whole linked told begun = record {
+pub tree-loaded : {F : Type 0} (held : F → Option (List ℕ)) (faults keeps : F → ℕ) (plan : Plan) (inserted : ℕ) (view : View) (old new : Octree F) → IsBegun held faults keeps plan inserted old view → tree.rules_of new ≡ tree.rules_of old → tree.IsWhole held new → tree.IsLinked held new → tree.AgreesWithFiles held faults keeps new → tree.IsUnbroken new → OfCurrent view.current (λ (c : Checkpoint). TellNodes (tree.nodes_of held new) c.nodes) → (view.current ≡ None → tree.nodes_of held new ≡ tree.nodes_of held old) → IsTreeOf held faults keeps plan inserted new view
+tree-loaded held faults keeps plan inserted view old new is own whole linked agrees unbroken told begun = record {
   rules = own ∙ is.rules;
   whole = whole;
   linked = linked;
+  agrees = agrees;
+  unbroken = unbroken;
   number = number view.current refl told;
   fresh = is.fresh;
   each = each view.current told;
@@ -112,10 +114,10 @@ tree-loaded plan inserted view old new is own whole linked told begun = record {
   inputs_least = is.inputs_least;
 }
   where
-    number : (now : Current) → view.current ≡ now → OfCurrent now (λ (c : Checkpoint). TellNodes (tree.nodes_of new) c.nodes) → length (tree.points_of new) ≡ inserted
+    number : (now : Current) → view.current ≡ now → OfCurrent now (λ (c : Checkpoint). TellNodes (tree.nodes_of held new) c.nodes) → length (tree.points_of held new) ≡ inserted
     number None same of = ap (λ (w : List Branch). length (points_in w)) (begun same ∙ is.root_alone) ∙ (sym (ap inserted_by same) ∙ is.by_checkpoint)
-    number (Some (letter, c)) same of = told-number (tree.nodes_of new) c.nodes of ∙ (c.is_checkpoint.nodes_are.counted ∙ (sym (ap inserted_by same) ∙ is.by_checkpoint))
+    number (Some (letter, c)) same of = told-number (tree.nodes_of held new) c.nodes of ∙ (c.is_checkpoint.nodes_are.counted ∙ (sym (ap inserted_by same) ∙ is.by_checkpoint))
 
-    each : (now : Current) → OfCurrent now (λ (c : Checkpoint). TellNodes (tree.nodes_of new) c.nodes) → HasEachNodeOf now (tree.nodes_of new)
-    each None of = All-nil (λ (line : NodeLine). is_among (keys_in (tree.nodes_of new)) line.key ≡ true)
-    each (Some (letter, c)) of = each-told (tree.nodes_of new) letter c of
+    each : (now : Current) → OfCurrent now (λ (c : Checkpoint). TellNodes (tree.nodes_of held new) c.nodes) → HasEachNodeOf now (tree.nodes_of held new)
+    each None of = All-nil (λ (line : NodeLine). is_among (keys_in (tree.nodes_of held new)) line.key ≡ true)
+    each (Some (letter, c)) of = each-told (tree.nodes_of held new) letter c of

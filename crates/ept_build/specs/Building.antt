@@ -1,6 +1,7 @@
 -- What a build of a configuration is of, over a shelf and a store with these files, what it leaves, and why it is refused.
-use Rattle.std.specs.Prelude.{◌≡◌, ◌⊎◌, ℕ, ◌+◌, ◌<◌, ◌≤◌, ◌++◌, take, List, Option, Result, Err, Some, Vec, length, ⊤}
+use Rattle.std.specs.Prelude.{◌≡◌, ◌⊎◌, ℕ, ◌+◌, ◌-◌, ◌<◌, ◌≤◌, ◌++◌, take, List, Option, Result, Err, Some, Vec, length, ⊤}
 use Rattle.std.specs.declared.alloc.Global.{Global}
+use Rattle.ept_base.specs.Devices.{counts_on}
 use Rattle.ept_base.specs.Files.{Files}
 use Rattle.ept_base.specs.Moves.{IsSettled}
 use Rattle.ept_point.specs.declared.point.Point.{Point}
@@ -18,6 +19,8 @@ use Rattle.ept_scan.specs.declared.scan_error.ScanError.TheVariants as scan
 use Rattle.ept_scan.specs.Scans.{IsScan}
 use Rattle.ept_meta.specs.Output.{rules_of}
 use Rattle.ept_meta.specs.declared.fields.Field.{Field}
+use Rattle.ept_node.specs.Shown.{IsTelling}
+use Rattle.ept_forest.specs.Slots as forest
 use Rattle.ept_save.specs.Complete.{IsComplete}
 use Rattle.ept_save.specs.Current.{Current, HasCurrent}
 use Rattle.ept_save.specs.Done.{IsDone}
@@ -28,15 +31,16 @@ use Rattle.ept_save.specs.View.{View}
 use Rattle.ept_plan.specs.declared.plan.Plan.{Plan}
 use Rattle.ept_plan.specs.Plans.{inputs_by, inserted_by, limits_by, new_paths, GoesOn, ScansAll, DiffersBy, AreRefused}
 use Rattle.ept_build.specs.declared.error.BuildError.{BuildError}
-use Rattle.ept_build.specs.declared.error.BuildError.TheVariants.{StoreFault, BadCheckpoint, TileDamaged, Differs, SourceFault, BadLas, OutOfBounds, TooManyPoints, NoBounds, SourceChanged, SpillFault, TooManyNodes, Memory}
+use Rattle.ept_build.specs.declared.error.BuildError.TheVariants.{StoreFault, BadCheckpoint, TileDamaged, Differs, SourceFault, BadLas, OutOfBounds, TooManyPoints, NoBounds, SourceChanged, SpillFault, SpillDamaged, TooManyNodes, Memory}
 use Rattle.ept_build.specs.declared.summary.Summary.{Summary}
 use Rattle.ept_build.specs.Phases.{IsReady}
 use Rattle.ept_build.specs.Reached.{HasReached, HasGoneThrough}
 
 -- ---- what a build begins with
 
--- The shelf and the store tell. The store is settled, and its files are sound for the shelf.
-pub record BeginsWith (shelf files : Option Files) (may_leave : Files → Type 0) (all start : Files) : Type 0 where
+-- The spill files, the shelf and the store tell. The store is settled, and its files are sound for the shelf.
+pub record BeginsWith {F : Type 0} (held : F → Option (List ℕ)) (shelf files : Option Files) (may_leave : Files → Type 0) (all start : Files) : Type 0 where
+  pub spills : IsTelling held
   pub shelf_told : shelf ≡ Some all
   pub told : files ≡ Some start
   pub settled : IsSettled files may_leave
@@ -52,8 +56,9 @@ pub record HasPoints (all : Files) (config : Config) (current : Current) (kept :
 abbrev pub node_count : Kept → List Point → ℕ
 node_count kept points = length (sampled (rules_of kept) points)
 
--- what is left to be done begins with such files, where the current checkpoint is known and there is a plan
-pub record Starts (all : Files) (config : Config) (view : View) (plan : Plan) (start : Files) (files : Option Files) (may_leave : Files → Type 0) : Type 0 where
+-- what is left to be done begins with such files, where the spill files tell, the current checkpoint is known and there is a plan
+pub record Starts {F : Type 0} (held : F → Option (List ℕ)) (all : Files) (config : Config) (view : View) (plan : Plan) (start : Files) (files : Option Files) (may_leave : Files → Type 0) : Type 0 where
+  pub spills : IsTelling held
   pub ready : IsReady all start view files may_leave
   pub scans : ScansAll all config view.current plan
 
@@ -85,6 +90,10 @@ pub record IsDoneAlready (config : Config) (start : Files) : Type 0 where
   pub has_current : HasCurrent current start
   pub goes_on : GoesOn config current
   pub no_more : inputs_by current ≡ length config.inputs
+
+-- the files of a room were asked to keep something, as far as its count tells, at least as often as there are nodes past those that may be in memory
+abbrev pub HasKeptBut : ℕ → ℕ → ℕ → ℕ → Type 0
+HasKeptBut cache nodes old new = counts_on old (nodes - cache) ≤ forest.told new
 
 -- ---- what the shelf is asked for
 
@@ -155,11 +164,12 @@ pub record ComesToDamage (all : Files) (config : Config) (start : Files) (curren
 abbrev pub InputsAreRefused : Files → Config → Current → ScanError → Type 0
 InputsAreRefused all config current error = GoesOn config current × AreRefused all config current error
 
--- Why a build is refused that began with sound files. Faults of devices and want of memory say nothing of the files, and files that are told stay as they are.
+-- Why a build is refused that began with sound files. Faults of devices and want of memory say nothing of the files. Files that are told stay as they are, those of the store, of the shelf and the spill files.
 abbrev pub IsRefusedAt : Files → Config → Current → BuildError → Type 0
 IsRefusedAt all config current StoreFault = ⊤
 IsRefusedAt all config current SourceFault = ⊤
 IsRefusedAt all config current SpillFault = ⊤
+IsRefusedAt all config current (SpillDamaged kept found at) = ⊥
 IsRefusedAt all config current Memory = ⊤
 IsRefusedAt all config current (BadCheckpoint letter) = ⊥
 IsRefusedAt all config current (TileDamaged key) = ⊥
@@ -198,6 +208,7 @@ abbrev pub IsEarly : BuildError → Type 0
 IsEarly StoreFault = ⊥
 IsEarly SourceFault = ⊥
 IsEarly SpillFault = ⊥
+IsEarly (SpillDamaged kept found at) = ⊥
 IsEarly Memory = ⊥
 IsEarly (BadCheckpoint letter) = ⊤
 IsEarly (TileDamaged key) = ⊥

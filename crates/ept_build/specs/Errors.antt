@@ -9,12 +9,14 @@ use Rattle.ept_insert.specs.declared.error.InsertError.{InsertError}
 use Rattle.ept_insert.specs.declared.error.InsertError.TheVariants as insert
 use Rattle.ept_save.specs.declared.error.SaveError.{SaveError}
 use Rattle.ept_save.specs.declared.error.SaveError.TheVariants as save
-use Rattle.ept_phase.specs.declared.error.LoadError.{LoadError}
-use Rattle.ept_phase.specs.declared.error.LoadError.TheVariants as load
+use Rattle.ept_phase.specs.declared.error.PhaseError.{PhaseError}
+use Rattle.ept_phase.specs.declared.error.PhaseError.TheVariants as phase
+use Rattle.ept_publish.specs.declared.error.PublishError.{PublishError}
+use Rattle.ept_publish.specs.declared.error.PublishError.TheVariants as publish
 use Rattle.ept_plan.specs.declared.error.PlanError.{PlanError}
 use Rattle.ept_plan.specs.declared.error.PlanError.TheVariants as plan
 use Rattle.ept_build.specs.declared.error.BuildError.{BuildError}
-use Rattle.ept_build.specs.declared.error.BuildError.TheVariants.{StoreFault, BadCheckpoint, TileDamaged, Differs, SourceFault, BadLas, OutOfBounds, TooManyPoints, NoBounds, SourceChanged, TooManyNodes, Memory}
+use Rattle.ept_build.specs.declared.error.BuildError.TheVariants.{StoreFault, BadCheckpoint, TileDamaged, Differs, SourceFault, BadLas, OutOfBounds, TooManyPoints, NoBounds, SourceChanged, SpillFault, SpillDamaged, TooManyNodes, Memory}
 
 abbrev pub of_scan : ScanError → BuildError
 of_scan scan.SourceFault = SourceFault
@@ -36,6 +38,8 @@ of_read read.Memory = Memory
 abbrev pub of_insert : InsertError → BuildError
 of_insert insert.SourceFault = SourceFault
 of_insert (insert.SourceChanged source number) = SourceChanged source number
+of_insert insert.SpillFault = SpillFault
+of_insert (insert.SpillDamaged kept found at) = SpillDamaged kept found at
 of_insert insert.TooManyNodes = TooManyNodes
 of_insert insert.Memory = Memory
 
@@ -45,9 +49,17 @@ of_save (save.BadCheckpoint letter) = BadCheckpoint letter
 of_save (save.TileDamaged key) = TileDamaged key
 of_save save.Memory = Memory
 
-abbrev pub of_load : LoadError → BuildError
-of_load (load.Save e) = of_save e
-of_load load.TooManyNodes = TooManyNodes
+abbrev pub of_phase : PhaseError → BuildError
+of_phase (phase.Save e) = of_save e
+of_phase phase.TooManyNodes = TooManyNodes
+of_phase phase.SpillFault = SpillFault
+of_phase (phase.SpillDamaged kept found at) = SpillDamaged kept found at
+
+abbrev pub of_publish : PublishError → BuildError
+of_publish publish.StoreFault = StoreFault
+of_publish publish.SpillFault = SpillFault
+of_publish (publish.SpillDamaged kept found at) = SpillDamaged kept found at
+of_publish publish.Memory = Memory
 
 abbrev pub of_put : PutError → BuildError
 of_put put.Failed = StoreFault

@@ -14,7 +14,7 @@ use Rattle.ept_scan.specs.declared.second_reading.Reader.{Reader}
 use Rattle.ept_scan.specs.Opening.{IsKeptScan}
 use Rattle.ept_scan.specs.Queue.{LiesIn}
 use Rattle.ept_scan.specs.Reader.{drawn_of, left_of, refusal_of, files_of, IsRest, IsReader}
-use Rattle.ept_node.specs.Shown.{empty_node}
+use Rattle.ept_node.specs.Shown.{empty_node, IsTelling}
 use Rattle.ept_table.specs.Octree.{Branch, AreSampled}
 use Rattle.ept_octree.specs.declared.octree.Octree.{Octree}
 use Rattle.ept_octree.specs.Octree as tree
@@ -36,7 +36,7 @@ use Rattle.ept_plan.specs.declared.plan.Plan.{Plan}
 use Rattle.ept_plan.specs.Plans.{inputs_by, inserted_by, RulesStay}
 use Rattle.ept_build.specs.Reached.{IsAfter}
 use Rattle.ept_build.specs.declared.error.BuildError.{BuildError}
-use Rattle.ept_build.specs.declared.error.BuildError.TheVariants.{StoreFault, BadCheckpoint, TileDamaged, Differs, SourceFault, BadLas, OutOfBounds, TooManyPoints, NoBounds, SourceChanged, SpillFault, TooManyNodes, Memory}
+use Rattle.ept_build.specs.declared.error.BuildError.TheVariants.{StoreFault, BadCheckpoint, TileDamaged, Differs, SourceFault, BadLas, OutOfBounds, TooManyPoints, NoBounds, SourceChanged, SpillFault, SpillDamaged, TooManyNodes, Memory}
 
 -- ---- the plan
 
@@ -54,25 +54,30 @@ pub record HasAll (plan : Plan) (current : Current) : Type 0 where
 
 -- ---- the octree, the reader and the checkpoint
 
--- The octree is that of no points, under the rules that are kept, whose cube is that of the bounds. As many points are inserted as the checkpoint has, from which the plan goes on.
-pub record IsBegun {F : Type 0} (plan : Plan) (inserted : ℕ) (octree : Octree F) (view : View) : Type 0 where
+-- The octree is that of no points, with its root in memory, under the rules that are kept, whose cube is that of the bounds. As many points are inserted as the checkpoint has, from which the plan goes on.
+pub record IsBegun {F : Type 0} (held : F → Option (List ℕ)) (faults keeps : F → ℕ) (plan : Plan) (inserted : ℕ) (octree : Octree F) (view : View) : Type 0 where
   pub rules : tree.rules_of octree ≡ rules_of plan.kept
   pub of_bounds : IsCubeOf plan.kept.bounds plan.kept.s plan.kept.max_depth (rules_of plan.kept).cube
-  pub root_alone : tree.nodes_of octree ≡ (root, empty_node root (tree.rules_of octree)) ∷ []
-  pub empty : AreSampled (rules_of plan.kept) [] (tree.nodes_of octree)
+  pub root_alone : tree.nodes_of held octree ≡ (root, empty_node root (tree.rules_of octree)) ∷ []
+  pub empty : AreSampled (rules_of plan.kept) [] (tree.nodes_of held octree)
+  pub here : tree.residents_of octree ≡ 1
+  pub agrees : tree.AgreesWithFiles held faults keeps octree
+  pub unbroken : tree.IsUnbroken octree
   pub fresh : view.lines ≡ lines_of view.current
   pub rules_stay : RulesStay view.current plan.kept
   pub by_checkpoint : inserted_by view.current ≡ inserted
   pub inputs_least : inputs_by view.current ≤ length plan.kept.inputs
 
--- The octree is a whole one of so many points, under the rules that are kept, and has each node of the checkpoint, which has as many points inserted.
-pub record IsTreeOf {F : Type 0} (plan : Plan) (inserted : ℕ) (octree : Octree F) (view : View) : Type 0 where
+-- The octree is a whole one of so many points, under the rules that are kept, none of its nodes is broken, and each agrees with its file. It has each node of the checkpoint, which has as many points inserted.
+pub record IsTreeOf {F : Type 0} (held : F → Option (List ℕ)) (faults keeps : F → ℕ) (plan : Plan) (inserted : ℕ) (octree : Octree F) (view : View) : Type 0 where
   pub rules : tree.rules_of octree ≡ rules_of plan.kept
-  pub whole : tree.IsWhole octree
-  pub linked : tree.IsLinked octree
-  pub number : length (tree.points_of octree) ≡ inserted
+  pub whole : tree.IsWhole held octree
+  pub linked : tree.IsLinked held octree
+  pub agrees : tree.AgreesWithFiles held faults keeps octree
+  pub unbroken : tree.IsUnbroken octree
+  pub number : length (tree.points_of held octree) ≡ inserted
   pub fresh : view.lines ≡ lines_of view.current
-  pub each : HasEachNodeOf view.current (tree.nodes_of octree)
+  pub each : HasEachNodeOf view.current (tree.nodes_of held octree)
   pub by_checkpoint : inserted_by view.current ≡ inserted
   pub inputs_least : inputs_by view.current ≤ length plan.kept.inputs
 
@@ -106,9 +111,10 @@ pub record IsReady (shelf start : Files) (view : View) (files : Option Files) (m
   pub has_current : HasCurrent view.current start
   pub stands : StandsFor view files may_leave
 
--- the octree is that of the first points, and the reader has the others
-pub record HasInserted {F S : Type 0} (whole : S → Option (List ℕ)) (plan : Plan) (points : List Point) (inserted : ℕ) (reader : Reader S) (octree : Octree F) : Type 0 where
-  pub sampled : AreSampled (rules_of plan.kept) (take inserted points) (tree.nodes_of octree)
+-- the spill files tell, the octree is that of the first points, and the reader has the others
+pub record HasInserted {F S : Type 0} (held : F → Option (List ℕ)) (whole : S → Option (List ℕ)) (plan : Plan) (points : List Point) (inserted : ℕ) (reader : Reader S) (octree : Octree F) : Type 0 where
+  pub telling : IsTelling held
+  pub sampled : AreSampled (rules_of plan.kept) (take inserted points) (tree.nodes_of held octree)
   pub rest : IsRest whole reader (drop inserted points)
 
 -- files are sound, and their done gate is closed
@@ -148,13 +154,14 @@ pub record AreMany (plan : Plan) (from : Current) (step most : ℕ) (points : Li
   pub few : length (sampled (rules_of plan.kept) (take (inserted_by now) points)) ≤ most
   pub many : most < length (sampled (rules_of plan.kept) (take (inserted_by now + step) points))
 
--- a cause that the second reading, the insertion and the saving may have
+-- a cause that the second reading, the insertion, the saving and the putting of the output may have
 abbrev pub IsPhaseFault : BuildError → Type 0
 IsPhaseFault StoreFault = ⊤
 IsPhaseFault (TileDamaged key) = ⊤
 IsPhaseFault SourceFault = ⊤
 IsPhaseFault (SourceChanged source number) = ⊤
-IsPhaseFault SpillFault = ⊥
+IsPhaseFault SpillFault = ⊤
+IsPhaseFault (SpillDamaged kept found at) = ⊤
 IsPhaseFault TooManyNodes = ⊤
 IsPhaseFault Memory = ⊤
 IsPhaseFault (BadCheckpoint letter) = ⊥
@@ -171,3 +178,7 @@ IsRoomFault e = (e ≡ SpillFault) ⊎ (e ≡ Memory)
 -- a fault of the store, or want of memory
 abbrev pub IsStoreFault : BuildError → Type 0
 IsStoreFault e = (e ≡ StoreFault) ⊎ (e ≡ Memory)
+
+-- a fault of the store, a spill file that does not give back the points of its node, or want of memory
+abbrev pub IsEndFault : BuildError → Type 0
+IsEndFault e = IsStoreFault e ⊎ (e ≡ SpillFault) ⊎ ((kept : ℕ) × (found : ℕ) × (at : ℕ) × (e ≡ SpillDamaged kept found at))

@@ -1,6 +1,6 @@
 //! A build.
 
-ghost use Rattle.std.specs.Prelude.{◌≡◌, ◌⊎◌, ◌≤◌, ℕ, take, true, false, Some, Ok, Err, IsOk, IfOk, IfErr, OnOk, length};
+ghost use Rattle.std.specs.Prelude.{◌≡◌, ◌⊎◌, ◌≤◌, ◌<◌, ◌+◌, ℕ, take, true, false, Some, Ok, Err, IsOk, IfOk, IfErr, OnOk, length};
 ghost use Rattle.ept_base.specs.Causes.{HasCauseOf};
 ghost use Rattle.ept_base.specs.Files.{Files, SameFiles, Tells};
 ghost use Rattle.ept_base.specs.Moves.{Moves, IsSettled};
@@ -8,7 +8,8 @@ ghost use Rattle.ept_space.specs.VoxelKey.{VoxelKey};
 ghost use Rattle.ept_scan.specs.declared.scan_error.ScanError.{ScanError};
 ghost use Rattle.ept_scan.specs.Asking.{AsksFor, paths_left};
 ghost use Rattle.ept_ckpt.specs.declared.letter.Letter.{Letter};
-ghost use Rattle.ept_octree.specs.Octree.{most_of};
+ghost use Rattle.ept_forest.specs.Slots as trees;
+ghost use Rattle.ept_octree.specs.Octree.{most_of, cache_of};
 ghost use Rattle.ept_save.specs.Current.{Current, HasCurrent};
 ghost use Rattle.ept_save.specs.Done.{IsDone};
 ghost use Rattle.ept_save.specs.Loading.{HasLine, IsDamaged};
@@ -16,7 +17,7 @@ ghost use Rattle.ept_save.specs.Opening.{lines_of, IsBad};
 ghost use Rattle.ept_save.specs.View.{StandsFor};
 ghost use Rattle.ept_plan.specs.Plans.{IsPlan, IsDefinite, GoesOn};
 ghost use Rattle.ept_few.specs.Few.{TilesAreFew};
-ghost use Rattle.ept_build.specs.Building.{BeginsWith, Starts, InputsAreRefused, HasTooManyNodes, HasTooManyAlready, TellsDifference, IsBuilt, IsUnderWay, IsStopped, AsksInOrder, ComesToDamage, TellsDamage, IsDoneAlready, IsAccepted, IsRefusedAt, IsRefused, IsEarly, Fails};
+ghost use Rattle.ept_build.specs.Building.{BeginsWith, Starts, InputsAreRefused, HasTooManyNodes, HasTooManyAlready, TellsDifference, IsBuilt, IsUnderWay, IsStopped, AsksInOrder, ComesToDamage, TellsDamage, IsDoneAlready, HasKeptBut, IsAccepted, IsRefusedAt, IsRefused, IsEarly, Fails};
 ghost use Rattle.ept_build.specs.Errors.{of_scan};
 ghost use Rattle.ept_build.specs.Phases.{HasAll, IsBegun, HasRoom, HasDamage, IsPhaseFault, IsStoreFault};
 
@@ -44,6 +45,8 @@ use std::thread::Threads;
 /// Builds the octree of the points of all inputs of the configuration, and puts its files into the store: the
 /// tile of each node, the hierarchy, the metadata, the manifest and the build file.
 ///
+/// As many nodes may be in memory at a time as the configuration says; the others are in spill files of the room.
+///
 /// It goes on from the current checkpoint of the store: the inputs that this has are not read again but for the
 /// records that are not inserted yet, and after each `checkpoint` records the octree is the next checkpoint. The
 /// done gate is closed meanwhile, and opened once all files of the output are stable. Where the current checkpoint
@@ -66,40 +69,40 @@ where
     H::Source: Send,
     M::File: Send + Sync,
     // What it leaves of a settled store with sound files.
-    ensures built { (all start : Files) → BeginsWith (H.files shelf.old) (T.files store.old) (T.may_leave store.old) all start
+    ensures built { (all start : Files) → BeginsWith M.File.held (H.files shelf.old) (T.files store.old) (T.may_leave store.old) all start
         → IfOk result (λ summary. Tells (IsBuilt all config.now start summary) (T.files store.new)) }
     ensures settled { OnOk result (IsSettled (T.files store.new) (T.may_leave store.new)) }
 
     // Whatever the moment, each image is sound, and some phases behind the start.
-    ensures sound { (all start : Files) → BeginsWith (H.files shelf.old) (T.files store.old) (T.may_leave store.old) all start
+    ensures sound { (all start : Files) → BeginsWith M.File.held (H.files shelf.old) (T.files store.old) (T.may_leave store.old) all start
         → Moves T.files T.may_leave T.moment T.image_since (λ (a b : Files). IsUnderWay all config.now start b) store.old store.new }
 
     // What it leaves where there are too many nodes: nothing is put where there were already, or the phases are
     // kept before the one that has too many.
     ensures stops { result ≡ Err BuildError.TooManyNodes
-        → (all start : Files) → BeginsWith (H.files shelf.old) (T.files store.old) (T.may_leave store.old) all start
+        → (all start : Files) → BeginsWith M.File.held (H.files shelf.old) (T.files store.old) (T.may_leave store.old) all start
         → IsSettled (T.files store.new) (T.may_leave store.new)
         × ((HasTooManyAlready all config.now start × Moves T.files T.may_leave T.moment T.image_since SameFiles store.old store.new)
         ⊎ Tells (IsStopped all config.now start) (T.files store.new)) }
 
     // Nothing is put where nothing is to be done, and none where the inputs are refused.
-    ensures done_already { (all start : Files) → BeginsWith (H.files shelf.old) (T.files store.old) (T.may_leave store.old) all start
+    ensures done_already { (all start : Files) → BeginsWith M.File.held (H.files shelf.old) (T.files store.old) (T.may_leave store.old) all start
         → IsDoneAlready config.now start
         → Moves T.files T.may_leave T.moment T.image_since SameFiles store.old store.new }
     ensures early { IfErr result (λ e. IsEarly e
         → Moves T.files T.may_leave T.moment T.image_since SameFiles store.old store.new) }
 
     // Why it is refused, and when.
-    ensures refused { (all start : Files) → BeginsWith (H.files shelf.old) (T.files store.old) (T.may_leave store.old) all start
+    ensures refused { (all start : Files) → BeginsWith M.File.held (H.files shelf.old) (T.files store.old) (T.may_leave store.old) all start
         → IfErr result (IsRefused all config.now start) }
-    ensures accepted { (all start : Files) → BeginsWith (H.files shelf.old) (T.files store.old) (T.may_leave store.old) all start
+    ensures accepted { (all start : Files) → BeginsWith M.File.held (H.files shelf.old) (T.files store.old) (T.may_leave store.old) all start
         → IsAccepted all config.now start → IsOk result ⊎ Fails result }
-    ensures refusal_comes { (all start : Files) → BeginsWith (H.files shelf.old) (T.files store.old) (T.may_leave store.old) all start
+    ensures refusal_comes { (all start : Files) → BeginsWith M.File.held (H.files shelf.old) (T.files store.old) (T.may_leave store.old) all start
         → (current : Current) (e : ScanError) → HasCurrent current start → IsDefinite e
         → InputsAreRefused all config.now current e → (result ≡ Err (of_scan e)) ⊎ Fails result }
-    ensures differs_comes { (all start : Files) → BeginsWith (H.files shelf.old) (T.files store.old) (T.may_leave store.old) all start
+    ensures differs_comes { (all start : Files) → BeginsWith M.File.held (H.files shelf.old) (T.files store.old) (T.may_leave store.old) all start
         → (current : Current) → HasCurrent current start → ¬ GoesOn config.now current → TellsDifference result ⊎ Fails result }
-    ensures too_many_comes { (all start : Files) → BeginsWith (H.files shelf.old) (T.files store.old) (T.may_leave store.old) all start
+    ensures too_many_comes { (all start : Files) → BeginsWith M.File.held (H.files shelf.old) (T.files store.old) (T.may_leave store.old) all start
         → (current : Current) → HasCurrent current start → GoesOn config.now current → ¬ IsDoneAlready config.now start
         → HasTooManyNodes all config.now current → (result ≡ Err BuildError.TooManyNodes) ⊎ Fails result }
     ensures damaged { (key : VoxelKey) → result ≡ Err (BuildError.TileDamaged key) → (start : Files) → T.files store.old ≡ Some start
@@ -119,6 +122,10 @@ where
         → AsksInOrder (H.files shelf.old) config.now start current (H.asked shelf.old) (H.asked shelf.new) }
     ensures files { H.files shelf.new ≡ H.files shelf.old }
     ensures spills { HasCauseOf BuildError.SpillFault (M.faults room.old) (M.faults room.new) result }
+
+    // Spill files were asked to keep something as often at least as there are nodes past those that may be in memory.
+    ensures kept { (start : Files) → T.files store.old ≡ Some start → ¬ IsDoneAlready config.now start
+        → IfOk result (λ summary. HasKeptBut config.now.cache summary.nodes (M.keeps room.old) (M.keeps room.new)) }
 {
     sound_law();
     sound_steps_law();
@@ -186,18 +193,18 @@ where
     G: Gate + Sync,
     R: Threads + Wait + Sync,
     requires plan { IsPlan config.now at.saved.current plan.now }
-    requires begun { IsBegun plan.now at.inserted at.octree at.saved }
+    requires begun { IsBegun F.held F.faults F.keeps plan.now at.inserted at.octree at.saved }
     requires room { HasRoom plan.now at.saved.current config.now.max_nodes (most_of at.octree) }
     ensures built { (all start : Files) → H.files shelf.old ≡ Some all
-        → Starts all config.now at.saved plan.now start (T.files store.old) (T.may_leave store.old)
+        → Starts F.held all config.now at.saved plan.now start (T.files store.old) (T.may_leave store.old)
         → IfOk result.1 (λ summary. Tells (IsBuilt all config.now start summary) (T.files store.new)) }
     ensures few { IfOk result.1 (λ summary. summary.nodes ≤ config.now.max_nodes) }
     ensures settled { OnOk result.1 (IsSettled (T.files store.new) (T.may_leave store.new)) }
     ensures sound { (all start : Files) → H.files shelf.old ≡ Some all
-        → Starts all config.now at.saved plan.now start (T.files store.old) (T.may_leave store.old)
+        → Starts F.held all config.now at.saved plan.now start (T.files store.old) (T.may_leave store.old)
         → Moves T.files T.may_leave T.moment T.image_since (λ (a b : Files). IsUnderWay all config.now start b) store.old store.new }
     ensures stops { result.1 ≡ Err BuildError.TooManyNodes → (all start : Files) → H.files shelf.old ≡ Some all
-        → Starts all config.now at.saved plan.now start (T.files store.old) (T.may_leave store.old)
+        → Starts F.held all config.now at.saved plan.now start (T.files store.old) (T.may_leave store.old)
         → IsSettled (T.files store.new) (T.may_leave store.new)
         × ((HasTooManyAlready all config.now start × Moves T.files T.may_leave T.moment T.image_since SameFiles store.old store.new)
         ⊎ Tells (IsStopped all config.now start) (T.files store.new)) }
@@ -209,13 +216,17 @@ where
         → IsDamaged at.saved.current key start → length (lines_of at.saved.current) ≤ config.now.max_nodes
         → TellsDamage result.1 ⊎ Fails result.1 }
     ensures refused { (all start : Files) → H.files shelf.old ≡ Some all
-        → Starts all config.now at.saved plan.now start (T.files store.old) (T.may_leave store.old)
+        → Starts F.held all config.now at.saved plan.now start (T.files store.old) (T.may_leave store.old)
         → IfErr result.1 (IsRefusedAt all config.now at.saved.current) }
     ensures asked { (n : ℕ) × AsksFor (take n (paths_left plan.now.kept.inputs plan.now.counts plan.now.inserted))
         (H.asked shelf.old) (H.asked shelf.new) }
     ensures files { H.files shelf.new ≡ H.files shelf.old }
     ensures sources { HasCauseOf BuildError.SourceFault (H.faults shelf.old) (H.faults shelf.new) result.1 }
     ensures stores { HasCauseOf BuildError.StoreFault (T.faults store.old) (T.faults store.new) result.1 }
+    ensures spill { result.1 ≡ Err BuildError.SpillFault
+        → 0 < trees.faults_of F.faults (trees.nodes_of result.0) }
+    ensures kept { IfOk result.1 (λ summary.
+        summary.nodes ≤ cache_of at.octree + trees.kept_by F.keeps (trees.nodes_of result.0)) }
 {
     output_names_law();
     output_once_law();

@@ -5,9 +5,10 @@ use ept_ckpt::Letter;
 use ept_insert::InsertError;
 use ept_las::LasError;
 use ept_meta::Field;
-use ept_phase::LoadError;
+use ept_phase::PhaseError;
 use ept_plan::PlanError;
 use ept_point::PointNumber;
+use ept_publish::PublishError;
 use ept_save::SaveError;
 use ept_scan::{ReadError, ScanError};
 use ept_space::Key;
@@ -59,8 +60,15 @@ pub enum BuildError {
         source: u32,
         number: PointNumber,
     },
-    /// A spill file can't be made: the room's count of faults rose.
+    /// A spill file can't be made or failed: the room's count of faults rose.
     SpillFault,
+    /// A spill file gave back other bytes than those of its node's tile, in whose place it has `found` bytes instead of
+    /// the `kept` ones; or the point of the number `at`, from 0, is the first that does not fit the node.
+    SpillDamaged {
+        kept: u64,
+        found: u64,
+        at: u64,
+    },
     /// The octree has more nodes than there may be.
     TooManyNodes,
     /// Memory ran out.
@@ -132,6 +140,10 @@ impl From<InsertError> for BuildError {
             InsertError::SourceChanged { source, number } => {
                 BuildError::SourceChanged { source, number }
             }
+            InsertError::SpillFault => BuildError::SpillFault,
+            InsertError::SpillDamaged { kept, found, at } => {
+                BuildError::SpillDamaged { kept, found, at }
+            }
             InsertError::TooManyNodes => BuildError::TooManyNodes,
             InsertError::Memory => BuildError::Memory,
         }
@@ -154,16 +166,38 @@ impl From<SaveError> for BuildError {
     }
 }
 
-impl From<LoadError> for BuildError {
+impl From<PhaseError> for BuildError {
     ghost use Rattle.std.specs.Prelude.{◌≡◌};
-    ghost use Rattle.ept_build.specs.Errors.{of_load};
+    ghost use Rattle.ept_build.specs.Errors.{of_phase};
 
-    ghost from_gives = { λ from e. e ≡ of_load from };
+    ghost from_gives = { λ from e. e ≡ of_phase from };
 
-    fn from(error: LoadError) -> BuildError {
+    fn from(error: PhaseError) -> BuildError {
         match error {
-            LoadError::Save(error) => BuildError::from(error),
-            LoadError::TooManyNodes => BuildError::TooManyNodes,
+            PhaseError::Save(error) => BuildError::from(error),
+            PhaseError::TooManyNodes => BuildError::TooManyNodes,
+            PhaseError::SpillFault => BuildError::SpillFault,
+            PhaseError::SpillDamaged { kept, found, at } => {
+                BuildError::SpillDamaged { kept, found, at }
+            }
+        }
+    }
+}
+
+impl From<PublishError> for BuildError {
+    ghost use Rattle.std.specs.Prelude.{◌≡◌};
+    ghost use Rattle.ept_build.specs.Errors.{of_publish};
+
+    ghost from_gives = { λ from e. e ≡ of_publish from };
+
+    fn from(error: PublishError) -> BuildError {
+        match error {
+            PublishError::StoreFault => BuildError::StoreFault,
+            PublishError::SpillFault => BuildError::SpillFault,
+            PublishError::SpillDamaged { kept, found, at } => {
+                BuildError::SpillDamaged { kept, found, at }
+            }
+            PublishError::Memory => BuildError::Memory,
         }
     }
 }

@@ -13,7 +13,9 @@ ghost use Rattle.ept_scan.specs.Asking.{AsksFor, paths_left};
 ghost use Rattle.ept_scan.specs.Opening.{IsKeptScan};
 ghost use Rattle.ept_scan.specs.Reader.{HasFault};
 ghost use Rattle.ept_table.specs.Octree.{AreSampled};
-ghost use Rattle.ept_octree.specs.Octree.{nodes_of, most_of};
+ghost use Rattle.ept_node.specs.Shown.{IsTelling};
+ghost use Rattle.ept_forest.specs.Slots as trees;
+ghost use Rattle.ept_octree.specs.Octree.{nodes_of, most_of, cache_of};
 ghost use Rattle.ept_meta.specs.Output.{File, rules_of};
 ghost use Rattle.ept_save.specs.Current.{Current};
 ghost use Rattle.ept_save.specs.View.{StandsFor};
@@ -71,30 +73,31 @@ where
     requires fit { IsFit plan.now }
     requires of_bounds { IsCubeOf plan.now.kept.bounds plan.now.kept.s plan.now.kept.max_depth (rules_of plan.now.kept).cube }
     requires inserted { at.inserted ≤ plan.now.points }
-    requires tree { IsTreeOf plan.now at.inserted at.octree at.saved }
+    requires tree { IsTreeOf F.held F.faults F.keeps plan.now at.inserted at.octree at.saved }
     requires same { inputs_by at.saved.current ≡ length plan.now.kept.inputs → IsOf plan.now at.saved.current }
-    ensures tree { IfOk result (λ end. IsTreeOf plan.now plan.now.points end.octree end.saved) }
+    ensures tree { IfOk result (λ end. IsTreeOf F.held F.faults F.keeps plan.now plan.now.points end.octree end.saved) }
     ensures most { IfOk result (λ end. most_of end.octree ≡ most_of at.octree) }
+    ensures cache { IfOk result (λ end. cache_of end.octree ≡ cache_of at.octree) }
     ensures all { IfOk result (λ end. IsOf plan.now end.saved.current) }
     ensures through { IfOk result (λ end.
         IsThrough at.saved.current step plan.now.points (length plan.now.kept.inputs) end.saved.current) }
-    ensures reached { StandsFor at.saved (T.files store.old) (T.may_leave store.old)
+    ensures reached { IsTelling F.held → StandsFor at.saved (T.files store.old) (T.may_leave store.old)
         → Moves T.files T.may_leave T.moment T.image_since
         (λ (a b : Files). HasReached at.saved.current step plan.now.points b) store.old store.new }
 
-    // Of devices that tell: the octree is then that of all points, and each image is sound meanwhile.
-    ensures sampled { IfOk result (λ end. Tells (λ all. (points : List Point)
+    // Of devices and spill files that tell: the octree is then that of all points, and each image is sound meanwhile.
+    ensures sampled { IsTelling F.held → IfOk result (λ end. Tells (λ all. (points : List Point)
         → IsKeptScan all plan.now.kept plan.now.counts points → CanBeSampled (rules_of plan.now.kept) points
-        → AreSampled (rules_of plan.now.kept) (take at.inserted points) (nodes_of at.octree)
-        → AreSampled (rules_of plan.now.kept) points (nodes_of end.octree)) (H.files shelf.old)) }
-    ensures on_way { IfOk result (λ end. Tells (λ all. (points : List Point) (output : List File)
+        → AreSampled (rules_of plan.now.kept) (take at.inserted points) (nodes_of F.held at.octree)
+        → AreSampled (rules_of plan.now.kept) points (nodes_of F.held end.octree)) (H.files shelf.old)) }
+    ensures on_way { IsTelling F.held → IfOk result (λ end. Tells (λ all. (points : List Point) (output : List File)
         → AreOfShelf all plan.now points output
-        → AreSampled (rules_of plan.now.kept) (take at.inserted points) (nodes_of at.octree)
+        → AreSampled (rules_of plan.now.kept) (take at.inserted points) (nodes_of F.held at.octree)
         → IsOnWay all output at.saved (T.files store.old) (T.may_leave store.old)
         → IsOnWay all output end.saved (T.files store.new) (T.may_leave store.new)) (H.files shelf.old)) }
-    ensures sound { Tells (λ all. (points : List Point) (output : List File)
+    ensures sound { IsTelling F.held → Tells (λ all. (points : List Point) (output : List File)
         → AreOfShelf all plan.now points output
-        → AreSampled (rules_of plan.now.kept) (take at.inserted points) (nodes_of at.octree)
+        → AreSampled (rules_of plan.now.kept) (take at.inserted points) (nodes_of F.held at.octree)
         → IsOnWay all output at.saved (T.files store.old) (T.may_leave store.old)
         → Moves T.files T.may_leave T.moment T.image_since
         (λ (a b : Files). IsSoundUndone all b) store.old store.new) (H.files shelf.old) }
@@ -104,15 +107,15 @@ where
     ensures damaged { IfErr result (λ stopped. (key : VoxelKey) → stopped.error ≡ BuildError.TileDamaged key
         → StandsFor at.saved (T.files store.old) (T.may_leave store.old)
         → (current : Current) × HasDamage current key (T.files store.new)) }
-    ensures undamaged { IfErr result (λ stopped. Tells (λ all. (points : List Point) (output : List File)
+    ensures undamaged { IsTelling F.held → IfErr result (λ stopped. Tells (λ all. (points : List Point) (output : List File)
         → AreOfShelf all plan.now points output
-        → AreSampled (rules_of plan.now.kept) (take at.inserted points) (nodes_of at.octree)
+        → AreSampled (rules_of plan.now.kept) (take at.inserted points) (nodes_of F.held at.octree)
         → IsOnWay all output at.saved (T.files store.old) (T.may_leave store.old)
         → (key : VoxelKey) → stopped.error ≢ BuildError.TileDamaged key) (H.files shelf.old)) }
-    ensures too_many { IfErr result (λ stopped. stopped.error ≡ BuildError.TooManyNodes → Tells
+    ensures too_many { IsTelling F.held → IfErr result (λ stopped. stopped.error ≡ BuildError.TooManyNodes → Tells
         (λ all. (points : List Point) → IsKeptScan all plan.now.kept plan.now.counts points
         → CanBeSampled (rules_of plan.now.kept) points
-        → AreSampled (rules_of plan.now.kept) (take at.inserted points) (nodes_of at.octree)
+        → AreSampled (rules_of plan.now.kept) (take at.inserted points) (nodes_of F.held at.octree)
         → AreMany plan.now at.saved.current step (most_of at.octree) points stopped.saved.current) (H.files shelf.old)) }
     ensures stands { IfErr result (λ stopped. stopped.error ≡ BuildError.TooManyNodes
         → StandsFor at.saved (T.files store.old) (T.may_leave store.old)
@@ -120,12 +123,20 @@ where
     ensures settled { IfErr result (λ stopped. stopped.error ≡ BuildError.TooManyNodes
         → IsSettled (T.files store.old) (T.may_leave store.old)
         → IsSettled (T.files store.new) (T.may_leave store.new)) }
-    ensures no_change { IfErr result (λ stopped. (source number : ℕ)
+    ensures no_change { IsTelling F.held → IfErr result (λ stopped. (source number : ℕ)
         → stopped.error ≡ BuildError.SourceChanged source number → Tells
         (λ all. (points : List Point) → IsKeptScan all plan.now.kept plan.now.counts points
         → CanBeSampled (rules_of plan.now.kept) points
-        → AreSampled (rules_of plan.now.kept) (take at.inserted points) (nodes_of at.octree)
+        → AreSampled (rules_of plan.now.kept) (take at.inserted points) (nodes_of F.held at.octree)
         → ⊥) (H.files shelf.old)) }
+    ensures no_damage { IsTelling F.held → IfErr result (λ stopped. (kept found number : ℕ)
+        → stopped.error ≡ BuildError.SpillDamaged kept found number → Tells
+        (λ all. (points : List Point) → IsKeptScan all plan.now.kept plan.now.counts points
+        → CanBeSampled (rules_of plan.now.kept) points
+        → AreSampled (rules_of plan.now.kept) (take at.inserted points) (nodes_of F.held at.octree)
+        → ⊥) (H.files shelf.old)) }
+    ensures spill { IfErr result (λ stopped. stopped.error ≡ BuildError.SpillFault
+        → 0 < trees.faults_of F.faults (trees.nodes_of stopped.forest)) }
     ensures asked { (n : ℕ) × AsksFor (take n (paths_left plan.now.kept.inputs plan.now.counts at.inserted))
         (H.asked shelf.old) (H.asked shelf.new) }
     ensures files { H.files shelf.new ≡ H.files shelf.old }
@@ -170,26 +181,27 @@ where
     R: Threads + Wait + Sync,
     requires step { 1 ≤ step }
     requires fit { IsFit plan.now }
-    requires tree { IsTreeOf plan.now at.inserted at.octree at.saved }
+    requires tree { IsTreeOf F.held F.faults F.keeps plan.now at.inserted at.octree at.saved }
     requires same { inputs_by at.saved.current ≡ length plan.now.kept.inputs → IsOf plan.now at.saved.current }
     requires reader { ReadsRest S.whole S.left S.given S.faults plan.now at.inserted reader }
-    ensures tree { IfOk result (λ r. IsTreeOf plan.now plan.now.points r.0.octree r.0.saved) }
+    ensures tree { IfOk result (λ r. IsTreeOf F.held F.faults F.keeps plan.now plan.now.points r.0.octree r.0.saved) }
     ensures most { IfOk result (λ r. most_of r.0.octree ≡ most_of at.octree) }
+    ensures cache { IfOk result (λ r. cache_of r.0.octree ≡ cache_of at.octree) }
     ensures all { IfOk result (λ r. IsOf plan.now r.0.saved.current) }
     ensures through { IfOk result (λ r.
         IsThrough at.saved.current step plan.now.points (length plan.now.kept.inputs) r.0.saved.current) }
-    ensures reached { StandsFor at.saved (T.files store.old) (T.may_leave store.old)
+    ensures reached { IsTelling F.held → StandsFor at.saved (T.files store.old) (T.may_leave store.old)
         → Moves T.files T.may_leave T.moment T.image_since
         (λ (a b : Files). HasReached at.saved.current step plan.now.points b) store.old store.new }
     ensures sampled { IfOk result (λ r. (points : List Point) → CanBeSampled (rules_of plan.now.kept) points
-        → length points ≡ plan.now.points → HasInserted S.whole plan.now points at.inserted reader at.octree
-        → AreSampled (rules_of plan.now.kept) points (nodes_of r.0.octree)) }
+        → length points ≡ plan.now.points → HasInserted F.held S.whole plan.now points at.inserted reader at.octree
+        → AreSampled (rules_of plan.now.kept) points (nodes_of F.held r.0.octree)) }
     ensures on_way { IfOk result (λ r. (shelf : Files) (points : List Point) (output : List File)
-        → AreOfShelf shelf plan.now points output → HasInserted S.whole plan.now points at.inserted reader at.octree
+        → AreOfShelf shelf plan.now points output → HasInserted F.held S.whole plan.now points at.inserted reader at.octree
         → IsOnWay shelf output at.saved (T.files store.old) (T.may_leave store.old)
         → IsOnWay shelf output r.0.saved (T.files store.new) (T.may_leave store.new)) }
     ensures sound { (shelf : Files) (points : List Point) (output : List File)
-        → AreOfShelf shelf plan.now points output → HasInserted S.whole plan.now points at.inserted reader at.octree
+        → AreOfShelf shelf plan.now points output → HasInserted F.held S.whole plan.now points at.inserted reader at.octree
         → IsOnWay shelf output at.saved (T.files store.old) (T.may_leave store.old)
         → Moves T.files T.may_leave T.moment T.image_since (λ (a b : Files). IsSoundUndone shelf b) store.old store.new }
     ensures only { IfErr result (λ r. IsPhaseFault r.0.error) }
@@ -197,12 +209,12 @@ where
         → StandsFor at.saved (T.files store.old) (T.may_leave store.old)
         → (current : Current) × HasDamage current key (T.files store.new)) }
     ensures undamaged { IfErr result (λ r. (shelf : Files) (points : List Point) (output : List File)
-        → AreOfShelf shelf plan.now points output → HasInserted S.whole plan.now points at.inserted reader at.octree
+        → AreOfShelf shelf plan.now points output → HasInserted F.held S.whole plan.now points at.inserted reader at.octree
         → IsOnWay shelf output at.saved (T.files store.old) (T.may_leave store.old)
         → (key : VoxelKey) → r.0.error ≢ BuildError.TileDamaged key) }
     ensures too_many { IfErr result (λ r. r.0.error ≡ BuildError.TooManyNodes → (points : List Point)
         → CanBeSampled (rules_of plan.now.kept) points → length points ≡ plan.now.points
-        → HasInserted S.whole plan.now points at.inserted reader at.octree
+        → HasInserted F.held S.whole plan.now points at.inserted reader at.octree
         → AreMany plan.now at.saved.current step (most_of at.octree) points r.0.saved.current) }
     ensures stands { IfErr result (λ r. r.0.error ≡ BuildError.TooManyNodes
         → StandsFor at.saved (T.files store.old) (T.may_leave store.old)
@@ -212,7 +224,13 @@ where
         → IsSettled (T.files store.new) (T.may_leave store.new)) }
     ensures no_change { IfErr result (λ r. (source number : ℕ) → r.0.error ≡ BuildError.SourceChanged source number
         → (points : List Point) → CanBeSampled (rules_of plan.now.kept) points
-        → HasInserted S.whole plan.now points at.inserted reader at.octree → ⊥) }
+        → HasInserted F.held S.whole plan.now points at.inserted reader at.octree → ⊥) }
+    ensures no_damage { IfErr result (λ r. (kept found number : ℕ)
+        → r.0.error ≡ BuildError.SpillDamaged kept found number
+        → (points : List Point) → CanBeSampled (rules_of plan.now.kept) points
+        → HasInserted F.held S.whole plan.now points at.inserted reader at.octree → ⊥) }
+    ensures spill { IfErr result (λ r. r.0.error ≡ BuildError.SpillFault
+        → 0 < trees.faults_of F.faults (trees.nodes_of r.0.forest)) }
     ensures fault { IfErr result (λ r. r.0.error ≡ BuildError.SourceFault → HasFault S.faults r.1) }
     ensures stores_later { T.faults store.old ≤ T.faults store.new }
     ensures stores { IfErr result (λ r. r.0.error ≡ BuildError.StoreFault
@@ -242,32 +260,33 @@ where
     G: Gate + Sync,
     R: Threads + Wait + Sync,
     requires fit { IsFit plan.now }
-    requires tree { IsTreeOf plan.now at.inserted at.octree at.saved }
+    requires tree { IsTreeOf F.held F.faults F.keeps plan.now at.inserted at.octree at.saved }
     requires reader { ReadsRest S.whole S.left S.given S.faults plan.now at.inserted reader }
     requires count { at.inserted + count ≤ plan.now.points }
     requires further { inserted_by at.saved.current + inputs_by at.saved.current
         < at.inserted + count + length plan.now.kept.inputs }
     ensures inserted { IfOk result (λ r. r.0.inserted ≡ at.inserted + count) }
-    ensures tree { IfOk result (λ r. IsTreeOf plan.now r.0.inserted r.0.octree r.0.saved) }
+    ensures tree { IfOk result (λ r. IsTreeOf F.held F.faults F.keeps plan.now r.0.inserted r.0.octree r.0.saved) }
     ensures most { IfOk result (λ r. most_of r.0.octree ≡ most_of at.octree) }
+    ensures cache { IfOk result (λ r. cache_of r.0.octree ≡ cache_of at.octree) }
     ensures reader { IfOk result (λ r. ReadsRest S.whole S.left S.given S.faults plan.now r.0.inserted r.1) }
     ensures checkpoint { IfOk result (λ r. IsOf plan.now r.0.saved.current) }
     ensures generation { IfOk result (λ r. generation_by r.0.saved.current ≡ generation_by at.saved.current + 1) }
-    ensures either { StandsFor at.saved (T.files store.old) (T.may_leave store.old)
+    ensures either { IsTelling F.held → StandsFor at.saved (T.files store.old) (T.may_leave store.old)
         → Moves T.files T.may_leave T.moment T.image_since
         (λ (a b : Files). HasThisOrNext at.saved.current (at.inserted + count) b) store.old store.new }
     ensures stands { IfOk result (λ r. StandsFor at.saved (T.files store.old) (T.may_leave store.old)
         → StandsFor r.0.saved (T.files store.new) (T.may_leave store.new)) }
     ensures settled { IfOk result (λ r. IsSettled (T.files store.new) (T.may_leave store.new)) }
     ensures has { IfOk result (λ r. (points : List Point) → CanBeSampled (rules_of plan.now.kept) points
-        → HasInserted S.whole plan.now points at.inserted reader at.octree
-        → HasInserted S.whole plan.now points r.0.inserted r.1 r.0.octree) }
+        → HasInserted F.held S.whole plan.now points at.inserted reader at.octree
+        → HasInserted F.held S.whole plan.now points r.0.inserted r.1 r.0.octree) }
     ensures on_way { IfOk result (λ r. (shelf : Files) (points : List Point) (output : List File)
-        → AreOfShelf shelf plan.now points output → HasInserted S.whole plan.now points at.inserted reader at.octree
+        → AreOfShelf shelf plan.now points output → HasInserted F.held S.whole plan.now points at.inserted reader at.octree
         → IsOnWay shelf output at.saved (T.files store.old) (T.may_leave store.old)
         → IsOnWay shelf output r.0.saved (T.files store.new) (T.may_leave store.new)) }
     ensures sound { (shelf : Files) (points : List Point) (output : List File)
-        → AreOfShelf shelf plan.now points output → HasInserted S.whole plan.now points at.inserted reader at.octree
+        → AreOfShelf shelf plan.now points output → HasInserted F.held S.whole plan.now points at.inserted reader at.octree
         → IsOnWay shelf output at.saved (T.files store.old) (T.may_leave store.old)
         → Moves T.files T.may_leave T.moment T.image_since (λ (a b : Files). IsSoundUndone shelf b) store.old store.new }
     ensures only { IfErr result (λ r. IsPhaseFault r.0.error) }
@@ -278,16 +297,22 @@ where
         → AreOfShelf shelf plan.now points output
         → IsOnWay shelf output at.saved (T.files store.old) (T.may_leave store.old)
         → (key : VoxelKey) → r.0.error ≢ BuildError.TileDamaged key) }
-    ensures few { length (nodes_of at.octree) ≤ most_of at.octree }
+    ensures few { length (nodes_of F.held at.octree) ≤ most_of at.octree }
     ensures too_many { IfErr result (λ r. r.0.error ≡ BuildError.TooManyNodes → (points : List Point)
         → CanBeSampled (rules_of plan.now.kept) points
-        → HasInserted S.whole plan.now points at.inserted reader at.octree
+        → HasInserted F.held S.whole plan.now points at.inserted reader at.octree
         → most_of at.octree < length (sampled (rules_of plan.now.kept) (take (at.inserted + count) points))) }
     ensures untouched { IfErr result (λ r. r.0.error ≡ BuildError.TooManyNodes
         → (r.0.saved ≡ at.saved) × (store.new ≡ store.old)) }
     ensures no_change { IfErr result (λ r. (source number : ℕ) → r.0.error ≡ BuildError.SourceChanged source number
         → (points : List Point) → CanBeSampled (rules_of plan.now.kept) points
-        → HasInserted S.whole plan.now points at.inserted reader at.octree → ⊥) }
+        → HasInserted F.held S.whole plan.now points at.inserted reader at.octree → ⊥) }
+    ensures no_damage { IfErr result (λ r. (kept found number : ℕ)
+        → r.0.error ≡ BuildError.SpillDamaged kept found number
+        → (points : List Point) → CanBeSampled (rules_of plan.now.kept) points
+        → HasInserted F.held S.whole plan.now points at.inserted reader at.octree → ⊥) }
+    ensures spill { IfErr result (λ r. r.0.error ≡ BuildError.SpillFault
+        → 0 < trees.faults_of F.faults (trees.nodes_of r.0.forest)) }
     ensures fault { IfErr result (λ r. r.0.error ≡ BuildError.SourceFault → HasFault S.faults r.1) }
     ensures stores_later { T.faults store.old ≤ T.faults store.new }
     ensures stores { IfErr result (λ r. r.0.error ≡ BuildError.StoreFault
@@ -338,6 +363,7 @@ where
 // What is left where the records are not inserted.
 fn not_inserted<F, S>(saved: Saved, refused: Refused<F, S>) -> (Stopped<F>, Reader<S>)
     ensures saved { result.0.saved ≡ saved }
+    ensures forest { result.0.forest ≡ refused.forest }
     ensures error { result.0.error ≡ of_insert refused.error }
     ensures reader { result.1 ≡ refused.reader }
 {

@@ -1,6 +1,7 @@
 //! How far a build has come.
 
 ghost use Rattle.std.specs.Prelude.{◌≡◌};
+ghost use Rattle.ept_octree.specs.Octree.{forest_of};
 
 use crate::error::BuildError;
 use ept_base::SpillFile;
@@ -35,6 +36,7 @@ impl<F: SpillFile> Progress<F> {
     /// What is left where the build is refused for this cause.
     pub(crate) fn stop(self, error: BuildError) -> Stopped<F>
         ensures saved { result.saved ≡ self.saved }
+        ensures forest { result.forest ≡ forest_of self.octree }
         ensures error { result.error ≡ error }
     {
         let Progress {
@@ -50,7 +52,9 @@ impl<F: SpillFile> Progress<F> {
     }
 
     /// The nodes, whose spill files go back to their room.
-    pub(crate) fn into_forest(self) -> Forest<F> {
+    pub(crate) fn into_forest(self) -> Forest<F>
+        ensures { result ≡ forest_of self.octree }
+    {
         let Progress {
             saved: _,
             octree,

@@ -7,7 +7,9 @@ ghost use Rattle.ept_base.specs.Moves.{IsSettled, Moves, SameImages};
 ghost use Rattle.ept_space.specs.VoxelKey.{VoxelKey};
 ghost use Rattle.ept_meta.specs.Output as meta;
 ghost use Rattle.ept_meta.specs.Output.{File, names_of};
-ghost use Rattle.ept_octree.specs.Octree.{nodes_of, most_of};
+ghost use Rattle.ept_node.specs.Shown.{IsTelling};
+ghost use Rattle.ept_forest.specs.Slots as trees;
+ghost use Rattle.ept_octree.specs.Octree.{forest_of, nodes_of, most_of, cache_of};
 ghost use Rattle.ept_save.specs.Opening.{lines_of};
 ghost use Rattle.ept_save.specs.SoundLaws.{HasNamesOf};
 ghost use Rattle.ept_save.specs.View.{StandsFor};
@@ -28,7 +30,7 @@ use ept_space::Rules;
 use std::alloc::Global;
 
 /// The octree of no points, with slots for all nodes that it can come to have, and a spill file of the room for each.
-/// After a refusal the room has its files back.
+/// Of its nodes as many may be in memory as the configuration says. After a refusal the room has its files back.
 pub(crate) fn start<M: Room>(
     alloc: Global,
     config: &Config,
@@ -39,14 +41,17 @@ pub(crate) fn start<M: Room>(
     requires plan { IsPlan config.now saved.current plan.now }
     requires fresh { saved.lines ≡ lines_of saved.current }
     ensures saved { IfOk result (λ at. at.saved ≡ saved) }
-    ensures begun { IfOk result (λ at. IsBegun plan.now at.inserted at.octree at.saved) }
+    ensures begun { IfOk result (λ at.
+        IsBegun M.File.held M.File.faults M.File.keeps plan.now at.inserted at.octree at.saved) }
     ensures room { IfOk result (λ at. HasRoom plan.now at.saved.current config.now.max_nodes (most_of at.octree)) }
+    ensures cache { IfOk result (λ at. cache_of at.octree ≡ config.now.cache) }
+    ensures counted { OnOk result (M.keeps room.new ≡ M.keeps room.old) }
     ensures only { IfErr result IsRoomFault }
     ensures spills { HasCauseOf BuildError.SpillFault (M.faults room.old) (M.faults room.new) result }
 {
     let rules = rules_of(&plan.kept);
     let slots = slots_for(&rules, &saved, plan, config.max_nodes);
-    match Octree::new(alloc, room, slots, &rules) {
+    match Octree::new(alloc, room, slots, config.cache, &rules) {
         Ok(octree) => Ok(Progress {
             saved,
             octree,
@@ -88,12 +93,14 @@ pub(crate) fn take_up<F: SpillFile, T: Store>(
     at: &mut Progress<F>,
     plan: &Plan,
 ) -> Result<(), BuildError>
-    requires begun { IsBegun plan.now at.old.inserted at.old.octree at.old.saved }
+    requires begun { IsBegun F.held F.faults F.keeps plan.now at.old.inserted at.old.octree at.old.saved }
     ensures saved { at.new.saved ≡ at.old.saved }
     ensures inserted { at.new.inserted ≡ at.old.inserted }
     ensures most { most_of at.new.octree ≡ most_of at.old.octree }
-    ensures tree { OnOk result (IsTreeOf plan.now at.new.inserted at.new.octree at.new.saved) }
-    ensures loaded { OnOk result (AreLoaded plan.now at.new.saved.current (nodes_of at.new.octree) (T.files store.old)) }
+    ensures cache { cache_of at.new.octree ≡ cache_of at.old.octree }
+    ensures tree { OnOk result (IsTreeOf F.held F.faults F.keeps plan.now at.new.inserted at.new.octree at.new.saved) }
+    ensures loaded { IsTelling F.held
+        → OnOk result (AreLoaded plan.now at.new.saved.current (nodes_of F.held at.new.octree) (T.files store.old)) }
     ensures on_way { OnOk result ((shelf start : Files) (output : List File)
         → IsReady shelf start at.old.saved (T.files store.old) (T.may_leave store.old)
         → HasNamesOf shelf at.new.saved.current (names_of output)
@@ -121,6 +128,9 @@ pub(crate) fn take_up<F: SpillFile, T: Store>(
         → (key : VoxelKey) → result ≢ Err (BuildError.TileDamaged key) }
     ensures no_change { (source number : ℕ) → result ≢ Err (BuildError.SourceChanged source number) }
     ensures no_source { result ≢ Err BuildError.SourceFault }
+    ensures spill { result ≡ Err BuildError.SpillFault
+        → 0 < trees.faults_of F.faults (trees.nodes_of (forest_of at.new.octree)) }
+    ensures no_damage { (kept found number : ℕ) → result ≢ Err (BuildError.SpillDamaged kept found number) }
     ensures stores { HasCauseOf BuildError.StoreFault (T.faults store.old) (T.faults store.new) result }
 {
     sound_law();

@@ -2,6 +2,10 @@
 #![tactic(auto)]
 
 #[cfg(test)]
+mod spill_tests;
+#[cfg(test)]
 mod stop_tests;
 #[cfg(test)]
 mod tests;
+#[cfg(test)]
+mod watching;

@@ -1,7 +1,7 @@
 //! Builds that are stopped and run again, and builds to which inputs are added.
 
 use crate::tests::{FIRST, Refusal, at, file, las, same, same_at, told};
-use ept_base::OpenGate;
+use ept_base::{OpenGate, Room};
 use ept_build::{Summary, build};
 use ept_config::{Config, read_config};
 use ept_mem::{Crash, MemRoom, MemShelf, MemStore};
@@ -40,21 +40,24 @@ fn shelf(alloc: Global) -> Result<MemShelf, AllocError> {
     Ok(MemShelf::new(alloc, files, Vec::new(alloc), Vec::new(alloc)))
 }
 
-/// What is built: these inputs, by this span, of at most so many nodes and with so many workers.
+/// What is built: these inputs, by this span, of at most so many nodes, so many of them in memory, and with so many
+/// workers.
 #[derive(Clone, Copy)]
-struct Case<'a> {
-    inputs: &'a str,
-    span: u32,
-    most: u32,
-    workers: u32,
+pub(crate) struct Case<'a> {
+    pub(crate) inputs: &'a str,
+    pub(crate) span: u32,
+    pub(crate) most: u32,
+    pub(crate) cache: u32,
+    pub(crate) workers: u32,
 }
 
-/// These inputs by the least span, with one worker.
-fn of(inputs: &str) -> Case<'_> {
+/// These inputs by the least span, with all nodes in memory and two workers.
+pub(crate) fn of(inputs: &str) -> Case<'_> {
     Case {
         inputs,
         span: 2,
         most: 64,
+        cache: 64,
         workers: 2,
     }
 }
@@ -65,10 +68,11 @@ fn config_of(alloc: Global, case: &Case) -> Result<Config, AllocError> {
         inputs,
         span,
         most,
+        cache,
         workers,
     } = *case;
     let text = format!(in alloc;
-        "{{\"input\":[{inputs}],\"scale\":2,\"bounds\":[0,0,0,7,7,7],\"span\":{span},\"minNodeSize\":0,\"checkpoint\":2,\"maxNodes\":{most},\"threads\":{workers}}}"
+        "{{\"input\":[{inputs}],\"scale\":2,\"bounds\":[0,0,0,7,7,7],\"span\":{span},\"minNodeSize\":0,\"checkpoint\":2,\"maxNodes\":{most},\"cacheSize\":{cache},\"threads\":{workers}}}"
     )?;
     match read_config(alloc, text.as_bytes()) {
         Ok(config) => Ok(config),
@@ -77,28 +81,42 @@ fn config_of(alloc: Global, case: &Case) -> Result<Config, AllocError> {
 }
 
 /// Builds a case.
-fn built<R: Threads + Wait + Sync>(
+pub(crate) fn built<R: Threads + Wait + Sync>(
     rt: &R,
     alloc: Global,
     store: &mut MemStore,
     case: &Case,
 ) -> Result<Result<Summary, Refusal>, AllocError> {
+    let mut room = MemRoom::new(alloc, Vec::new(alloc), Vec::new(alloc));
+    built_in(rt, alloc, store, case, &mut room)
+}
+
+/// The same with the spill files of this room.
+pub(crate) fn built_in<M: Room, R: Threads + Wait + Sync>(
+    rt: &R,
+    alloc: Global,
+    store: &mut MemStore,
+    case: &Case,
+    room: &mut M,
+) -> Result<Result<Summary, Refusal>, AllocError>
+where
+    M::File: Send + Sync,
+{
     let config = config_of(alloc, case)?;
     let mut shelf = shelf(alloc)?;
-    let mut room = MemRoom::new(alloc, Vec::new(alloc), Vec::new(alloc));
-    let answer = build(rt, alloc, &config, &mut shelf, store, &mut room, &OpenGate);
+    let answer = build(rt, alloc, &config, &mut shelf, store, room, &OpenGate);
     Ok(told(&answer))
 }
 
-fn empty(alloc: Global) -> MemStore {
+pub(crate) fn empty(alloc: Global) -> MemStore {
     MemStore::new(alloc, Vec::new(alloc), Vec::new(alloc))
 }
 
-const TWO: &str = "\"a.las\",\"b.las\"";
+pub(crate) const TWO: &str = "\"a.las\",\"b.las\"";
 
 const THREE: &str = "\"a.las\",\"b.las\",\"c.las\"";
 
-const ALL: &str = "\"a.las\",\"b.las\",\"c.las\",\"d.las\"";
+pub(crate) const ALL: &str = "\"a.las\",\"b.las\",\"c.las\",\"d.las\"";
 
 /// How many points the current checkpoint of a store has, and which generation it is.
 fn current(alloc: Global, store: &mut MemStore) -> Result<(u64, u64), AllocError> {
@@ -113,7 +131,7 @@ fn current(alloc: Global, store: &mut MemStore) -> Result<(u64, u64), AllocError
 }
 
 /// Compares the files of the output of two stores.
-fn compare(rt: &impl Abort, left: &MemStore, want: &MemStore, context: &str) {
+pub(crate) fn compare(rt: &impl Abort, left: &MemStore, want: &MemStore, context: &str) {
     for name in NAMES {
         same_at(rt, &left.file(name), &want.file(name), &(name, context));
     }

@@ -118,6 +118,7 @@ pub(crate) fn file(
 pub(crate) enum Refusal {
     Store,
     Spill,
+    Damage,
     Nodes,
     Bounds { source: u32, number: u32 },
     Differs { field: Field },
@@ -130,6 +131,7 @@ pub(crate) fn told(answer: &Result<Summary, BuildError>) -> Result<Summary, Refu
         Ok(summary) => Ok(*summary),
         Err(BuildError::StoreFault) => Err(Refusal::Store),
         Err(BuildError::SpillFault) => Err(Refusal::Spill),
+        Err(BuildError::SpillDamaged { .. }) => Err(Refusal::Damage),
         Err(BuildError::TooManyNodes) => Err(Refusal::Nodes),
         Err(BuildError::OutOfBounds { source, number }) => Err(Refusal::Bounds {
             source: *source,

@@ -1,5 +1,5 @@
 -- Blank nodes, of which the first is begun.
-use Rattle.std.proofs.Common.{◌≡◌, ℕ, ◌≤◌, ◌∙◌, List, [], ◌∷◌, length, set, refl, ap, sym, subst, arith}
+use Rattle.std.proofs.Common.{◌≡◌, ℕ, ◌≤◌, ◌∙◌, Option, List, [], ◌∷◌, length, set, refl, ap, sym, subst, arith}
 use Rattle.std.specs.List.{All}
 use Rattle.std.proofs.lemmas.List.Elements.{All-cons, All-head, All-tail, All-weaker}
 use Rattle.std.proofs.lemmas.List.Sums.{sum_by-le}
@@ -10,9 +10,9 @@ use Rattle.ept_forest.specs.declared.forest.Forest.{Forest}
 use Rattle.ept_forest.specs.Slots.{nodes_of, used_of, IsBegun, IsBlank, IsPlanted, kept_by}
 
 -- the first of blank nodes is begun, and keeps its file
-pub planted : {F : Type 0} (faults keeps : F → ℕ) (count : ℕ) (rules : Rules) (forest : Forest F) (blanks : List (Node F)) (d first : Node F) → length blanks ≡ count → 1 ≤ count → All IsBlank blanks → All (λ node. faults (file_of node) ≡ 0) blanks → All (λ node. keeps (file_of node) ≡ 0) blanks → IsBegun rules first → ((old : Node F) → (others : List (Node F)) → blanks ≡ old ∷ others → file_of first ≡ file_of old) → nodes_of forest ≡ set blanks 0 first → used_of forest ≡ 1 → IsPlanted faults keeps count rules forest
-planted {F = F} faults keeps count rules forest [] d first long some blank fresh unused begun kept are used = absurd (omega (arith, long, some))
-planted {F = F} faults keeps count rules forest (old ∷ others) d first long some blank fresh unused begun kept are used = record {
+pub planted : {F : Type 0} (held : F → Option (List ℕ)) (faults keeps : F → ℕ) (count : ℕ) (rules : Rules) (forest : Forest F) (blanks : List (Node F)) (d first : Node F) → length blanks ≡ count → 1 ≤ count → All IsBlank blanks → All (λ node. faults (file_of node) ≡ 0) blanks → All (λ node. keeps (file_of node) ≡ 0) blanks → IsBegun held rules first → ((old : Node F) → (others : List (Node F)) → blanks ≡ old ∷ others → file_of first ≡ file_of old) → nodes_of forest ≡ set blanks 0 first → used_of forest ≡ 1 → IsPlanted held faults keeps count rules forest
+planted {F = F} held faults keeps count rules forest [] d first long some blank fresh unused begun kept are used = absurd (omega (arith, long, some))
+planted {F = F} held faults keeps count rules forest (old ∷ others) d first long some blank fresh unused begun kept are used = record {
   slots = ap length are ∙ long;
   used = used;
   first = first;

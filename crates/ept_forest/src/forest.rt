@@ -1,17 +1,17 @@
 //! Nodes in the order of their slots.
 
-ghost use Rattle.std.specs.Prelude.{◌≡◌, ◌≢◌, ◌≤◌, ◌<◌, ◌+◌, ◌-◌, ◌^◌, min, [], OnOk, OnErr, IfOk, Some, is_ok, if◌then◌else◌, length, slice_get, vec_capacity};
+ghost use Rattle.std.specs.Prelude.{◌≡◌, ◌≢◌, ◌≤◌, ◌<◌, ◌+◌, ◌-◌, ◌^◌, min, [], OnOk, OnErr, IfOk, IfSome, IsNone, Some, None, is_ok, if◌then◌else◌, length, slice_get, vec_capacity};
 ghost use Rattle.std.specs.Borrow.{sem};
-ghost use Rattle.std.specs.List.{All};
+ghost use Rattle.std.specs.List.{All, Any};
 ghost use Rattle.ept_base.specs.Causes.{HasCauseOf, Rose};
 ghost use Rattle.ept_base.specs.Devices.{counts_on};
 ghost use Rattle.ept_base.specs.declared.errors.PutError.TheVariants as put;
-ghost use Rattle.ept_node.specs.Shown.{file_of};
+ghost use Rattle.ept_node.specs.Shown.{file_of, fault_of};
 ghost use Rattle.ept_forest.specs.Slots.{IsBlank, faults_of, kept_by, told};
 
 use crate::full::Full;
 use ept_base::{PutError, Room, SpillFile};
-use ept_node::Node;
+use ept_node::{Node, NodeError};
 use ept_space::{Key, Rules};
 use std::alloc::Global;
 
@@ -26,7 +26,7 @@ pub struct Forest<F> {
 }
 
 impl<F: SpillFile> Forest<F> {
-    ghost use Rattle.ept_forest.specs.Slots.{nodes_of, used_of, IsPlanted, faults_of, kept_by, told};
+    ghost use Rattle.ept_forest.specs.Slots.{nodes_of, used_of, residents_of, IsPlanted, faults_of, kept_by, told};
     ghost use Rattle.ept_forest.specs.Lending.{LendsNode};
 
     /// A forest of so many slots, of which that of the root is drawn. The root is resident without points, and all
@@ -42,7 +42,7 @@ impl<F: SpillFile> Forest<F> {
         rules: &Rules,
     ) -> Result<Forest<F>, PutError>
         requires { 1 ≤ slots }
-        ensures planted { IfOk result (IsPlanted F.faults F.keeps slots rules.now) }
+        ensures planted { IfOk result (IsPlanted F.held F.faults F.keeps slots rules.now) }
         ensures counted { OnOk result (R.keeps room.new ≡ R.keeps room.old) }
         ensures unkept { OnErr result (told (R.keeps room.new) ≡ told (R.keeps room.old)) }
         ensures cause { HasCauseOf put.Failed (R.faults room.old) (R.faults room.new) result }
@@ -92,6 +92,30 @@ impl<F: SpillFile> Forest<F> {
         ensures value { slice_get (nodes_of self.old) (slot - 1) ≡ Some result.now }
     {
         &mut self.nodes[slot as usize - 1]
+    }
+
+    /// How many of the nodes have their points in memory.
+    pub fn residents(&self) -> u64
+        ensures { result ≡ residents_of (nodes_of self.now) }
+    {
+        let mut count = 0;
+        for node in &self.nodes {
+            count += u64::from(node.is_here());
+        }
+        count
+    }
+
+    /// The refusal that broke the first broken node; None where no node is broken.
+    pub fn fault(&self) -> Option<NodeError>
+        ensures none { IsNone result → All (λ node. fault_of node ≡ None) (nodes_of self.now) }
+        ensures some { IfSome result (λ why. Any (λ node. fault_of node ≡ Some why) (nodes_of self.now)) }
+    {
+        for node in &self.nodes {
+            if let Some(why) = node.fault() {
+                return Some(why);
+            }
+        }
+        None
     }
 
     /// The nodes in the order of their slots, and how many slots are drawn. It takes no memory.

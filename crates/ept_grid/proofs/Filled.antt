@@ -15,22 +15,22 @@ use Rattle.ept_space.proofs.PlaceKeys.{InCube-box}
 use Rattle.ept_sample.specs.Place.{place, AllInBox, AllInCube}
 use Rattle.ept_sample.specs.Ids.{HasDistinctIds, in_id_order}
 use Rattle.ept_sample.specs.Members.{IsMember}
-use Rattle.ept_sample.specs.Arrivals.{octant, loses}
+use Rattle.ept_sample.specs.Arrivals.{octant, loses, overflows}
 use Rattle.ept_sample.proofs.Choices.{either, not_both, is_false, and_left, and_right, and_both}
 use Rattle.ept_sample.proofs.Members.{all-member, All-members, IsMember-left, IsMember-right, IsMember-append}
-use Rattle.ept_sample.proofs.IdLaws.{IsMember-IsPermutation, HasDistinctIds-IsAscending, HasDistinctIds-IsPermutation}
+use Rattle.ept_sample.proofs.IdLaws.{IsMember-IsPermutation, HasDistinctIds-IsAscending, HasDistinctIds-IsPermutation, IsPermutation-in_id_order}
 use Rattle.ept_grid.specs.declared.pool.Cell.{Cell}
 use Rattle.ept_grid.specs.Mask.{opened}
 use Rattle.ept_grid.specs.Outgoing.{Leaving, points_at, all_points}
 use Rattle.ept_grid.specs.Settling.{winners, AreApart, HasItsCell, HasContended}
 use Rattle.ept_grid.specs.Columns.{spots_of, nexts_of, IsChained}
 use Rattle.ept_grid.specs.Contents.{contents, joined, opens_with, IsFilled, IsNode}
-use Rattle.ept_grid.specs.Tile.{is_open_loser, is_overfull}
+use Rattle.ept_grid.specs.Tile.{is_open_loser, is_overfull, IsTile}
 use Rattle.ept_grid.proofs.Lanes.{member-at, at-member, joined-there, joined-other, length-joined}
 use Rattle.ept_grid.proofs.Leavings.{all-same}
 use Rattle.ept_grid.proofs.Settled.{overflows-lane, loses-lane, wins-given}
 use Rattle.ept_grid.proofs.Contest.{own-cell, contended}
-use Rattle.ept_grid.proofs.InOrder.{ascending-order}
+use Rattle.ept_grid.proofs.InOrder.{inside-in_order, ascending-order}
 
 -- ---- one more point
 
@@ -236,6 +236,37 @@ node-filled key rules heads cells capacity losers points mask d low f up inside 
 pub order-filled : (key : VoxelKey) (rules : Rules) (heads : List ℕ) (cells : List Cell) (capacity : ℕ) (losers : List Leaving) (points : List Point) → IsFilled key rules heads cells capacity losers points → IsAscending points → in_id_order (contents (winners cells) losers) ≡ points
 order-filled key rules heads cells capacity losers points f up =
     sym (ascending-order (contents (winners cells) losers) points (IsPermutation-sym points (contents (winners cells) losers) f.all) up)
+
+-- ---- the points of a node whose ids are all different, as a tile
+
+module _ (key : VoxelKey) (rules : Rules) (heads : List ℕ) (cells : List Cell) (capacity : ℕ) (losers : List Leaving) (mask : ℕ) (n : IsNode key rules heads cells capacity losers mask) where
+  abbrev has : List Point
+  has = contents (winners cells) losers
+
+  in_order : IsPermutation has (in_id_order has)
+  in_order = IsPermutation-in_id_order has
+
+  no_loser : (q : Point) → IsMember q (in_id_order has) → loses rules key.depth (in_id_order has) q ≡ true → opened mask (octant rules key.depth q) ≡ true → ⊥
+  no_loser q m lost opened_now =
+      elim (IsMember-append q (winners cells) (all_points losers) (IsMember-IsPermutation q (in_id_order has) has (IsPermutation-sym has (in_id_order has) in_order) m)) [
+        | inl w ↦ not_both (loses rules key.depth (in_id_order has) q) lost (wins-given rules key.depth (winners cells) losers (in_id_order has) n.settled in_order q w)
+        | inr l ↦
+            let k = member-at losers q l in
+            subst (λ (ps : List Point). IsMember q ps) (n.few.gone k.0 (omega (arith, k.1, n.eight)) (subst (λ (o : ℕ). opened mask o ≡ true) (n.settled.behind k.0 q k.2).in_octant opened_now)) k.2
+      ]
+
+  few_enough : HasDistinctIds has → (o : ℕ) → o < 8 → (b : Bool) → opened mask o ≡ b → (not b && overflows rules key.depth (in_id_order has) o) ≡ false
+  few_enough once o low true is = refl
+  few_enough once o low false isn't =
+      overflows-lane rules key.depth (winners cells) losers (in_id_order has) n.settled once in_order o ∙ n.few.shut o low isn't
+
+  pub node-tile : HasDistinctIds (in_id_order has) → IsTile key rules mask (in_id_order has)
+  node-tile once = record {
+    inside = inside-in_order rules.cube key has n.inside;
+    no_open_loser = position-none (is_open_loser rules key.depth mask (in_id_order has)) (in_id_order has) (λ q m. is_false (is_open_loser rules key.depth mask (in_id_order has) q) (λ e. no_loser q m (and_left (loses rules key.depth (in_id_order has) q) (opened mask (octant rules key.depth q)) e) (and_right (loses rules key.depth (in_id_order has) q) (opened mask (octant rules key.depth q)) e)));
+    none_overfull = λ o low. few_enough (HasDistinctIds-IsPermutation (in_id_order has) has (IsPermutation-sym has (in_id_order has) in_order) once) o low (opened mask o) refl;
+    not_deep = n.deepest;
+  }
 
 -- ---- answers
 

@@ -234,6 +234,7 @@ impl Grid {
         ensures inside { All (λ q. InBox self.now.rules.cube self.now.key (place q)) self.now.points }
         ensures ascend { HasDistinctIds self.now.points → IsAscending self.now.points }
         ensures deepest { self.now.key.depth ≡ self.now.rules.cube.depth → self.now.mask ≡ 0 }
+        ensures tile { HasDistinctIds self.now.points → IsTile self.now.key self.now.rules self.now.mask self.now.points }
     {
         let _mask = self.mask;
     }

@@ -1,6 +1,7 @@
 -- The table may be told of the octree and of the reader.
-use Rattle.std.proofs.Common.{◌≡◌, ◌∙◌, ℕ, ◌+◌, ◌-◌, ◌<◌, List, [], ◌∷◌, ◌++◌, map, length, take, drop, refl, sym, ap, subst, arith, Option, Some, None, Contains, flat_map, sum_by, length-append, length-drop}
-use Rattle.std.specs.List.{AllZip}
+use Rattle.std.proofs.Common.{◌≡◌, ◌∙◌, ℕ, ◌+◌, ◌-◌, ◌<◌, true, List, [], ◌∷◌, ◌++◌, map, length, take, drop, refl, sym, ap, subst, arith, Option, Some, None, Contains, flat_map, sum_by, length-append, length-drop}
+use Rattle.std.specs.List.{All, AllZip}
+use Rattle.std.proofs.lemmas.List.Elements.{All-nil, All-cons, All-head, All-tail}
 use Rattle.std.proofs.Math.Seq.{drop-append_seam, take-append_seam}
 use Rattle.std.proofs.lemmas.List.Sums.{sum_by-cons}
 use Rattle.ept_point.specs.declared.point.Point.{Point}
@@ -21,14 +22,18 @@ use Rattle.ept_table.specs.declared.note.Counted.{Counted}
 use Rattle.ept_table.specs.declared.note.Told.{Told}
 use Rattle.ept_table.specs.declared.taken.Taken.TheVariants as taken
 use Rattle.ept_table.specs.At.{At}
-use Rattle.ept_table.specs.Item.{counted}
+use Rattle.ept_table.specs.Item.{counted, IsFiledNode}
+use Rattle.ept_node.specs.declared.node.Node.{Node}
+use Rattle.ept_node.specs.declared.error.NodeError.TheVariants.{SpillDamaged}
+use Rattle.ept_node.specs.Shown.{file_of, fault_of, AgreesWithFile, DoesTell}
 use Rattle.ept_table.specs.Scanned.{told_of}
 use Rattle.ept_table.specs.Shown.{LiesInInput}
 use Rattle.ept_table.specs.Octree.{key_in, FillSlots, AreSampled}
 use Rattle.ept_table.proofs.Lists.{at-below, at-zero, flat-at}
 use Rattle.ept_octree.specs.declared.octree.Octree.{Octree}
-use Rattle.ept_octree.specs.Octree.{forest_of, rules_of, most_of, nodes_of, points_of, begun_of, IsWhole, IsLinked}
+use Rattle.ept_octree.specs.Octree.{forest_of, rules_of, most_of, cache_of, nodes_of, points_of, begun_of, IsWhole, IsLinked, IsUnbroken, AgreesWithFiles}
 use Rattle.ept_octree.specs.Index.{taken_in}
+use Rattle.ept_octree.proofs.Alike.{told-index}
 use Rattle.ept_octree.proofs.Rested.{never-blank, index-fills}
 use Rattle.ept_insert.specs.Inserting.{MayInsert}
 use Rattle.ept_insert.proofs.Choosing.{tells, points, telling}
@@ -80,23 +85,23 @@ module _ {S : Type 0} (whole : S → Option (List ℕ)) where
 
 -- ---- the root stands in the first slot
 
-module _ {F : Type 0} (octree : Octree F) where
-  fills : FillSlots (most_of octree) (forest.used_of (forest_of octree)) (taken_in (forest.nodes_of (forest_of octree)))
-  fills = index-fills (forest.nodes_of (forest_of octree)) taken.Blank never-blank (rules_of octree) (forest.used_of (forest_of octree)) octree.slots.entries octree.indexed (most_of octree) refl
+module _ {F : Type 0} (held : F → Option (List ℕ)) (octree : Octree F) where
+  fills : FillSlots (most_of octree) (forest.used_of (forest_of octree)) (taken_in held (forest.nodes_of (forest_of octree)))
+  fills = index-fills held (forest.nodes_of (forest_of octree)) taken.Blank never-blank (rules_of octree) (forest.used_of (forest_of octree)) octree.slots.entries (told-index held octree) (most_of octree) refl
 
   some-slots : 0 < most_of octree
   some-slots = omega (arith, at-below fills.top.1, fills.size)
 
-  root-begun : At (begun_of octree) 0 root
+  root-begun : At (begun_of held octree) 0 root
   root-begun =
-      let items = taken_in (forest.nodes_of (forest_of octree)) in
+      let items = taken_in held (forest.nodes_of (forest_of octree)) in
       subst (λ (keys : List VoxelKey). At keys 0 root) (sym (flat-at key_in fills.top.1)) (subst (λ (key : VoxelKey). At (key ∷ flat_map key_in (drop 2 items)) 0 root) (sym fills.top.2) (at-zero root (flat_map key_in (drop 2 items))))
 
 -- ---- what the table is told
 
-module _ {F S : Type 0} (whole left : S → Option (List ℕ)) (given faults : S → ℕ) (octree : Octree F) (reader : Reader S) (is : IsReader whole left given faults reader) (sound : refusal_of reader ≡ None) (inside : (p : Point) → LiesIn (files_of whole reader) p → InCube (rules_of octree).cube (place p)) (is_whole : IsWhole octree) (is_linked : IsLinked octree) (number : length (points_of octree) ≡ drawn_of reader) where
+module _ {F S : Type 0} (held : F → Option (List ℕ)) (node_faults keeps : F → ℕ) (whole left : S → Option (List ℕ)) (given faults : S → ℕ) (octree : Octree F) (reader : Reader S) (is : IsReader whole left given faults reader) (sound : refusal_of reader ≡ None) (inside : (p : Point) → LiesIn (files_of whole reader) p → InCube (rules_of octree).cube (place p)) (is_whole : IsWhole held octree) (is_linked : IsLinked held octree) (agrees : AgreesWithFiles held node_faults keeps octree) (unbroken : IsUnbroken octree) (number : length (points_of held octree) ≡ drawn_of reader) where
   abbrev told : Told
-  told = told_of whole reader (rules_of octree) (most_of octree) (begun_of octree) (tells whole octree reader) (points whole octree reader)
+  told = told_of whole reader (rules_of octree) (most_of octree) (cache_of octree) (begun_of held octree) (tells held whole octree reader) (points held whole octree reader)
 
   behind : (ps qs xs : List Point) (n : ℕ) → xs ≡ ps ++ qs → length ps ≡ n → drop n xs ≡ qs
   behind ps qs xs n are long = ap (λ (k : ℕ). drop k xs) (sym long) ∙ ap (λ (w : List Point). drop (length ps) w) are ∙ drop-append_seam ps qs
@@ -110,37 +115,52 @@ module _ {F S : Type 0} (whole left : S → Option (List ℕ)) (given faults : S
       none_some : refusal_of reader ≡ None → refusal_of reader ≡ Some (SourceChanged source n) → ⊥
       none_some e f = cc
 
-  pub may-insert : MayInsert told whole left given faults octree reader
+  pub may-insert : MayInsert told held node_faults keeps whole left given faults octree reader
   may-insert = record {
     is_told = record {
-      some = some-slots octree;
-      top = root-begun octree;
+      some = some-slots held octree;
+      top = root-begun held octree;
       in_cube = λ p lies. inside p (lies-in (files_of whole reader) p lies);
     };
     rules = refl;
     most = refl;
+    cache = refl;
     begun = refl;
     is_whole = is_whole;
     is_linked = is_linked;
+    nodes = each_filed (forest.nodes_of (forest_of octree)) agrees unbroken (λ yes. (telling held whole octree reader yes).0.1.telling);
     filed = record {
       reader = is;
       rest = λ yes none. (
-          let t = telling whole octree reader yes in
-          subst (λ (w : List Point). IsRest whole reader w) (sym (behind (points_of octree) t.0.0 (points whole octree reader) (drawn_of reader) t.1 number)) t.0.1.rest);
+          let t = telling held whole octree reader yes in
+          subst (λ (w : List Point). IsRest whole reader w) (sym (behind (points_of held octree) t.0.0 (points held whole octree reader) (drawn_of reader) t.1 number)) t.0.1.rest);
       no_change = λ yes source n refused. never_refused source n refused;
     };
     fits = record { inputs = refl; end = refl; total = refl };
     sound = sound;
     number = number;
     points = λ yes. (
-        let t = telling whole octree reader yes in
+        let t = telling held whole octree reader yes in
         (subst (CanBeSampled (rules_of octree)) (sym t.1) t.0.1.can, many t.0.0 t.1 t.0.1.rest));
     sampled = λ yes. (
-        let t = telling whole octree reader yes in
-        subst (λ (w : List Point). AreSampled (rules_of octree) w (nodes_of octree)) (sym (before (points_of octree) t.0.0 (points whole octree reader) (drawn_of reader) t.1 number)) t.0.1.sampled);
+        let t = telling held whole octree reader yes in
+        subst (λ (w : List Point). AreSampled (rules_of octree) w (nodes_of held octree)) (sym (before (points_of held octree) t.0.0 (points held whole octree reader) (drawn_of reader) t.1 number)) t.0.1.sampled);
   }
     where
-      many : (rest : List Point) → points whole octree reader ≡ points_of octree ++ rest → IsRest whole reader rest → length (points whole octree reader) ≡ drawn_of reader + left_of reader
+      filed_of : (n : Node F) → AgreesWithFile held node_faults keeps n → fault_of n ≡ None → (tells held whole octree reader ≡ true → DoesTell held (file_of n)) → IsFiledNode held node_faults keeps told n
+      filed_of n agree none tell = record {
+        agrees = agree;
+        telling = tell;
+        undamaged = λ yes kept found at broken. (let e : None ≡ Some (SpillDamaged kept found at) = sym none ∙ broken in cc);
+      }
+
+      each_filed : (ns : List (Node F)) → All (AgreesWithFile held node_faults keeps) ns → All (λ n. fault_of n ≡ None) ns → (tells held whole octree reader ≡ true → All (λ n. DoesTell held (file_of n)) ns) → All (IsFiledNode held node_faults keeps told) ns
+      each_filed [] agree none tell = All-nil (IsFiledNode held node_faults keeps told)
+      each_filed (n ∷ ns) agree none tell =
+          All-cons (IsFiledNode held node_faults keeps told) n ns (filed_of n (All-head (AgreesWithFile held node_faults keeps) n ns agree) (All-head (λ n. fault_of n ≡ None) n ns none) (λ yes. All-head (λ n. DoesTell held (file_of n)) n ns (tell yes)))
+          (each_filed ns (All-tail (AgreesWithFile held node_faults keeps) n ns agree) (All-tail (λ n. fault_of n ≡ None) n ns none) (λ yes. All-tail (λ n. DoesTell held (file_of n)) n ns (tell yes)))
+
+      many : (rest : List Point) → points held whole octree reader ≡ points_of held octree ++ rest → IsRest whole reader rest → length (points held whole octree reader) ≡ drawn_of reader + left_of reader
       many rest are is_rest =
-          let all : length (points whole octree reader) ≡ length (points_of octree ++ rest) = ap (λ (w : List Point). length w) are in
-          omega (arith, all, length-append (points_of octree) rest, number, left-number whole left given faults reader rest is sound is_rest)
+          let all : length (points held whole octree reader) ≡ length (points_of held octree ++ rest) = ap (λ (w : List Point). length w) are in
+          omega (arith, all, length-append (points_of held octree) rest, number, left-number whole left given faults reader rest is sound is_rest)

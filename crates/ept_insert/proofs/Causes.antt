@@ -1,25 +1,31 @@
 -- Why records are not inserted.
-use Rattle.std.proofs.Common.{◌≡◌, ◌∙◌, ℕ, true, Result, Ok, Err, OnOk, refl, sym, ap, subst}
+use Rattle.std.proofs.Common.{◌≡◌, ◌∙◌, ℕ, ◌<◌, true, Result, Ok, Err, OnOk, refl, sym, ap, subst}
 use Rattle.ept_scan.specs.declared.second_reading.Reader.{Reader}
 use Rattle.ept_scan.specs.Reader.{HasFault}
+use Rattle.ept_forest.specs.declared.forest.Forest.{Forest}
+use Rattle.ept_forest.specs.Slots as forest
 use Rattle.ept_table.specs.declared.note.Told.{Told}
 use Rattle.ept_table.specs.Tells.{IsTooMany}
 use Rattle.ept_work.specs.declared.error.WorkError.{WorkError}
 use Rattle.ept_work.specs.declared.error.WorkError.TheVariants as work
 use Rattle.ept_insert.specs.declared.error.InsertError.{InsertError}
-use Rattle.ept_insert.specs.declared.error.InsertError.TheVariants.{SourceFault, SourceChanged, TooManyNodes}
+use Rattle.ept_insert.specs.declared.error.InsertError.TheVariants.{SourceFault, SourceChanged, SpillFault, SpillDamaged, TooManyNodes}
 use Rattle.ept_insert.specs.Errors.{of_work}
 use Rattle.ept_insert.specs.Inserting.{IsRefused}
 
 from_too_many : (w : WorkError) → of_work w ≡ TooManyNodes → w ≡ work.TooManyNodes
 from_too_many work.SourceFault e = absurd (cc)
 from_too_many (work.SourceChanged source number) e = absurd (cc)
+from_too_many work.SpillFault e = absurd (cc)
+from_too_many (work.SpillDamaged kept found at) e = absurd (cc)
 from_too_many work.TooManyNodes e = refl
 from_too_many work.Memory e = absurd (cc)
 
 from_fault : (w : WorkError) → of_work w ≡ SourceFault → w ≡ work.SourceFault
 from_fault work.SourceFault e = refl
 from_fault (work.SourceChanged source number) e = absurd (cc)
+from_fault work.SpillFault e = absurd (cc)
+from_fault (work.SpillDamaged kept found at) e = absurd (cc)
 from_fault work.TooManyNodes e = absurd (cc)
 from_fault work.Memory e = absurd (cc)
 
@@ -29,16 +35,40 @@ from_change (work.SourceChanged s n) source number e = same s source n number e
   where
     same : (s source n number : ℕ) → SourceChanged s n ≡ SourceChanged source number → work.SourceChanged s n ≡ work.SourceChanged source number
     same s source n number e = let first : s ≡ source = cc in let second : n ≡ number = cc in cc
+from_change work.SpillFault source number e = absurd (cc)
+from_change (work.SpillDamaged kept found at) source number e = absurd (cc)
 from_change work.TooManyNodes source number e = absurd (cc)
 from_change work.Memory source number e = absurd (cc)
 
+from_spill : (w : WorkError) → of_work w ≡ SpillFault → w ≡ work.SpillFault
+from_spill work.SourceFault e = absurd (cc)
+from_spill (work.SourceChanged source number) e = absurd (cc)
+from_spill work.SpillFault e = refl
+from_spill (work.SpillDamaged kept found at) e = absurd (cc)
+from_spill work.TooManyNodes e = absurd (cc)
+from_spill work.Memory e = absurd (cc)
+
+from_damage : (w : WorkError) (kept found at : ℕ) → of_work w ≡ SpillDamaged kept found at → w ≡ work.SpillDamaged kept found at
+from_damage work.SourceFault kept found at e = absurd (cc)
+from_damage (work.SourceChanged source number) kept found at e = absurd (cc)
+from_damage work.SpillFault kept found at e = absurd (cc)
+from_damage (work.SpillDamaged k f a) kept found at e = same k f a kept found at e
+  where
+    same : (k f a kept found at : ℕ) → SpillDamaged k f a ≡ SpillDamaged kept found at → work.SpillDamaged k f a ≡ work.SpillDamaged kept found at
+    same k f a kept found at e = let first : k ≡ kept = cc in let second : f ≡ found = cc in let third : a ≡ at = cc in cc
+from_damage work.TooManyNodes kept found at e = absurd (cc)
+from_damage work.Memory kept found at e = absurd (cc)
+
 -- workers were refused for this
-pub worked_in_vain : {S : Type 0} (told : Told) (faults : S → ℕ) (reader : Reader S) (result : Result (Unit {0}) WorkError) (w : WorkError) (e : InsertError) → result ≡ Err w → e ≡ of_work w → (result ≡ Err work.TooManyNodes → IsTooMany told) → (result ≡ Err work.SourceFault → HasFault faults reader) → (told.tells ≡ true → (source number : ℕ) → result ≡ Err (work.SourceChanged source number) → ⊥) → IsRefused told faults reader e
-worked_in_vain told faults reader result w e is told_as too_many fault no_change = record {
-  too_many = λ same. too_many (is ∙ ap (λ (v : WorkError). Err v) (from_too_many w (sym told_as ∙ same)));
-  fault = λ same. fault (is ∙ ap (λ (v : WorkError). Err v) (from_fault w (sym told_as ∙ same)));
-  no_change = λ tells source number same. no_change tells source number (is ∙ ap (λ (v : WorkError). Err v) (from_change w source number (sym told_as ∙ same)));
-}
+module _ {F S : Type 0} (told : Told) (node_faults : F → ℕ) (faults : S → ℕ) (nodes : Forest F) (reader : Reader S) (result : Result (Unit {0}) WorkError) where
+  pub worked_in_vain : (w : WorkError) (e : InsertError) → result ≡ Err w → e ≡ of_work w → (result ≡ Err work.TooManyNodes → IsTooMany told) → (result ≡ Err work.SourceFault → HasFault faults reader) → (told.tells ≡ true → (source number : ℕ) → result ≡ Err (work.SourceChanged source number) → ⊥) → (result ≡ Err work.SpillFault → 0 < forest.faults_of node_faults (forest.nodes_of nodes)) → (told.tells ≡ true → (kept found at : ℕ) → result ≡ Err (work.SpillDamaged kept found at) → ⊥) → IsRefused told node_faults faults nodes reader e
+  worked_in_vain w e is told_as too_many fault no_change spill no_damage = record {
+    too_many = λ same. too_many (is ∙ ap (λ (v : WorkError). Err v) (from_too_many w (sym told_as ∙ same)));
+    fault = λ same. fault (is ∙ ap (λ (v : WorkError). Err v) (from_fault w (sym told_as ∙ same)));
+    no_change = λ tells source number same. no_change tells source number (is ∙ ap (λ (v : WorkError). Err v) (from_change w source number (sym told_as ∙ same)));
+    spill = λ same. spill (is ∙ ap (λ (v : WorkError). Err v) (from_spill w (sym told_as ∙ same)));
+    no_damage = λ tells kept found at same. no_damage tells kept found at (is ∙ ap (λ (v : WorkError). Err v) (from_damage w kept found at (sym told_as ∙ same)));
+  }
 
 pub was_ok : {P X E : Type 0} {r : Result X E} {x : X} → r ≡ Ok x → OnOk r P → P
 was_ok {P} is h = subst (λ r. OnOk r P) is h

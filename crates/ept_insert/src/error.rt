@@ -11,6 +11,11 @@ pub enum InsertError {
     /// This input is not what the first reading has found: its header is not, which is told as record 0, or
     /// the record of this number ends early or lies elsewhere.
     SourceChanged { source: u32, number: PointNumber },
+    /// A spill file failed: its count of faults is not 0.
+    SpillFault,
+    /// A spill file gave back other bytes than those of the node's tile, in whose place it has `found` bytes instead of the
+    /// `kept` ones; or the point of the number `at`, from 0, is the first that does not fit the node.
+    SpillDamaged { kept: u64, found: u64, at: u64 },
     /// The octree has more nodes than there may be.
     TooManyNodes,
     /// Memory ran out.
@@ -28,6 +33,10 @@ impl From<WorkError> for InsertError {
             WorkError::SourceFault => InsertError::SourceFault,
             WorkError::SourceChanged { source, number } => {
                 InsertError::SourceChanged { source, number }
+            }
+            WorkError::SpillFault => InsertError::SpillFault,
+            WorkError::SpillDamaged { kept, found, at } => {
+                InsertError::SpillDamaged { kept, found, at }
             }
             WorkError::TooManyNodes => InsertError::TooManyNodes,
             WorkError::Memory => InsertError::Memory,

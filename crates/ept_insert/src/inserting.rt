@@ -8,7 +8,8 @@ ghost use Rattle.ept_sample.specs.Nodes.{sampled};
 ghost use Rattle.ept_scan.specs.Queue.{LiesIn};
 ghost use Rattle.ept_scan.specs.Reader.{drawn_of, left_of, refusal_of, files_of, IsRest, HasFault, IsReader};
 ghost use Rattle.ept_table.specs.Octree.{AreSampled, KeepsNodes, entry_of};
-ghost use Rattle.ept_octree.specs.Octree.{rules_of, most_of, nodes_of, points_of, IsWhole, IsLinked};
+ghost use Rattle.ept_forest.specs.Slots as trees;
+ghost use Rattle.ept_octree.specs.Octree.{rules_of, most_of, cache_of, nodes_of, points_of, IsWhole, IsLinked, IsUnbroken, AgreesWithFiles};
 ghost use Rattle.ept_insert.specs.Between.{StandsBetween};
 ghost use Rattle.ept_insert.specs.Inserting.{MayInsert, HasInserted, IsRefused};
 
@@ -38,8 +39,8 @@ pub struct Refused<F, S> {
 ///
 /// # Errors
 ///
-/// `TooManyNodes` where the octree has more nodes than it may have, and the refusals of the reader. The nodes are those of
-/// no octree then.
+/// `TooManyNodes` where the octree has more nodes than it may have, the refusals of the reader, and those of the spill files.
+/// The nodes are those of no octree then.
 pub fn insert<
     F: SpillFile + Send + Sync,
     S: Source + Send,
@@ -58,45 +59,56 @@ pub fn insert<
     requires fresh { refusal_of reader ≡ None }
     requires enough { count ≤ left_of reader }
     requires inside { (p : Point) → LiesIn (files_of S.whole reader) p → InCube (rules_of octree).cube (place p) }
-    requires whole { IsWhole octree }
-    requires linked { IsLinked octree }
-    requires number { length (points_of octree) ≡ drawn_of reader }
+    requires whole { IsWhole F.held octree }
+    requires linked { IsLinked F.held octree }
+    requires agrees { AgreesWithFiles F.held F.faults F.keeps octree }
+    requires unbroken { IsUnbroken octree }
+    requires number { length (points_of F.held octree) ≡ drawn_of reader }
     requires workers { (1 ≤ workers) × (workers ≤ 64) }
 
     // Whatever the sources tell, so many points are in the octree besides, it is a whole one, and no node is gone.
     ensures rules { IfOk result (λ r. rules_of r.0 ≡ rules_of octree) }
     ensures most { IfOk result (λ r. most_of r.0 ≡ most_of octree) }
-    ensures number { IfOk result (λ r. length (points_of r.0) ≡ drawn_of reader + count) }
-    ensures whole { IfOk result (λ r. IsWhole r.0) }
-    ensures kept { IfOk result (λ r. KeepsNodes (map entry_of (nodes_of octree)) (map entry_of (nodes_of r.0))) }
-    ensures linked { IfOk result (λ r. IsLinked r.0) }
+    ensures cache { IfOk result (λ r. cache_of r.0 ≡ cache_of octree) }
+    ensures number { IfOk result (λ r. length (points_of F.held r.0) ≡ drawn_of reader + count) }
+    ensures whole { IfOk result (λ r. IsWhole F.held r.0) }
+    ensures kept { IfOk result (λ r. KeepsNodes (map entry_of (nodes_of F.held octree)) (map entry_of (nodes_of F.held r.0))) }
+    ensures linked { IfOk result (λ r. IsLinked F.held r.0) }
+    ensures agrees { IfOk result (λ r. AgreesWithFiles F.held F.faults F.keeps r.0) }
+    ensures unbroken { IfOk result (λ r. IsUnbroken r.0) }
 
     // Where the sources hold the bytes that were scanned, the octree of the first points is that of these and the
     // next ones, or these have too many nodes.
-    ensures sampled { IfOk result (λ r. (first left : List Point) → StandsBetween S.whole octree reader first left
-        → AreSampled (rules_of octree) (first ++ take count left) (nodes_of r.0)) }
+    ensures sampled { IfOk result (λ r. (first left : List Point) → StandsBetween F.held S.whole octree reader first left
+        → AreSampled (rules_of octree) (first ++ take count left) (nodes_of F.held r.0)) }
     ensures too_many { IfErr result (λ r. r.error ≡ InsertError.TooManyNodes → (first left : List Point)
-        → StandsBetween S.whole octree reader first left
+        → StandsBetween F.held S.whole octree reader first left
         → most_of octree < length (sampled (rules_of octree) (first ++ take count left))) }
     ensures no_change { IfErr result (λ r. (source number : ℕ) → r.error ≡ InsertError.SourceChanged source number
-        → (first left : List Point) → StandsBetween S.whole octree reader first left → ⊥) }
+        → (first left : List Point) → StandsBetween F.held S.whole octree reader first left → ⊥) }
+
+    ensures no_damage { IfErr result (λ r. (was found at : ℕ) → r.error ≡ InsertError.SpillDamaged was found at
+        → (first left : List Point) → StandsBetween F.held S.whole octree reader first left → ⊥) }
 
     // What becomes of the reader.
     ensures drawn { IfOk result (λ r. drawn_of r.1 ≡ drawn_of reader + count) }
     ensures left { IfOk result (λ r. left_of r.1 + count ≡ left_of reader) }
-    ensures rest_left { IfOk result (λ r. (first left : List Point) → StandsBetween S.whole octree reader first left
+    ensures rest_left { IfOk result (λ r. (first left : List Point) → StandsBetween F.held S.whole octree reader first left
         → IsRest S.whole r.1 (drop count left)) }
     ensures fresh { IfOk result (λ r. refusal_of r.1 ≡ None) }
     ensures inside { IfOk result (λ r. (p : Point) → LiesIn (files_of S.whole r.1) p
         → InCube (rules_of octree).cube (place p)) }
     ensures reader { IfOk result (λ r. IsReader S.whole S.left S.given S.faults r.1) }
     ensures fault { IfErr result (λ r. r.error ≡ InsertError.SourceFault → HasFault S.faults r.reader) }
+    ensures spill { IfErr result (λ r. r.error ≡ InsertError.SpillFault
+        → 0 < trees.faults_of F.faults (trees.nodes_of r.forest)) }
 {
     reader.allow(count);
     insert_told::<F, S, Brand, G, R>(rt, alloc, octree, reader, workers, gate)
 }
 
-// Lets so many workers bring the points of the reader's allowance into the octree.
+// Lets so many workers bring the points of the reader's allowance into the octree, of which as many nodes may be in memory as
+// before.
 fn insert_told<F, S, J, G, R>(
     rt: &R,
     alloc: Global,
@@ -111,16 +123,17 @@ where
     J: Scan + Sync,
     G: Gate + Sync,
     R: Threads + Wait + Sync,
-    requires may { MayInsert J.told S.whole S.left S.given S.faults octree reader }
+    requires may { MayInsert J.told F.held F.faults F.keeps S.whole S.left S.given S.faults octree reader }
     requires workers { (1 ≤ workers) × (workers ≤ 64) }
-    ensures inserted { IfOk result (λ r. HasInserted J.told S.whole S.left S.given S.faults octree r.0 r.1) }
-    ensures refused { IfErr result (λ r. IsRefused J.told S.faults r.reader r.error) }
+    ensures inserted { IfOk result (λ r. HasInserted J.told F.held F.faults F.keeps S.whole S.left S.given S.faults octree r.0 r.1) }
+    ensures refused { IfErr result (λ r. IsRefused J.told F.faults S.faults r.forest r.reader r.error) }
 {
     let rules = *octree.rules();
+    let cache = octree.cache();
     rest_law::<F, S, J>(&octree, &reader);
     landed_law();
     let forest = octree.into_forest();
-    let (table, seat) = match NodeTable::<F, S, J>::make(alloc, forest, reader, &rules) {
+    let (table, seat) = match NodeTable::<F, S, J>::make(alloc, forest, reader, &rules, cache) {
         Ok(made) => made,
         Err(unmade) => {
             let Unmade { forest, reader } = unmade;
@@ -139,7 +152,7 @@ where
             error: InsertError::from(error),
         });
     }
-    match Octree::from_forest::<S, J>(alloc, forest, &reader, &rules) {
+    match Octree::from_forest::<S, J>(alloc, forest, &reader, &rules, cache) {
         Ok(octree) => Ok((octree, reader)),
         Err(forest) => Err(Refused {
             forest,

@@ -207,7 +207,9 @@ pub fn plain(status: u8) -> &'static str {
         TOO_MANY => "there are too many points, or too many nodes",
         NOT_COMPLETE => "the folder has no complete dataset, or that of another configuration",
         DEVICE => "a file could not be read or written",
-        DAMAGED => "a file of the dataset, or a checkpoint, is absent or not of its form",
+        DAMAGED => {
+            "a file of the dataset, a checkpoint or a spill file is absent or not of its form"
+        }
         MEMORY => MEMORY_SENTENCE,
         _ => "refused",
     }

@@ -20,6 +20,7 @@ pub(crate) enum Told<'a> {
     Source,
     Store,
     Spill,
+    SpillDamaged,
     Memory,
 }
 
@@ -49,7 +50,7 @@ pub struct Names<'a> {
 
 /// What a line says, if it is that of a refusal.
 pub(crate) fn read_line(line: &str) -> Option<Told<'_>> {
-    let (_status, refusal) = line.strip_prefix("error ")?.split_once(' ')?;
+    let (status, refusal) = line.strip_prefix("error ")?.split_once(' ')?;
     let (cause, rest) = refusal.split_once(' ').unwrap_or((refusal, ""));
     match cause {
         "usage" => Some(Told::Usage),
@@ -80,6 +81,7 @@ pub(crate) fn read_line(line: &str) -> Option<Told<'_>> {
         "tile" => Some(Told::Tile { key: rest }),
         "source" => Some(Told::Source),
         "store" => Some(Told::Store),
+        "spill" if status == "8" => Some(Told::SpillDamaged),
         "spill" => Some(Told::Spill),
         "memory" => Some(Told::Memory),
         _ => None,
@@ -125,9 +127,12 @@ pub(crate) fn sentence(
         }
         Told::Source => format!(in alloc; "{} could not be opened or read", names.unread),
         Told::Store => format!(in alloc; "a file of {out} could not be written or flushed"),
-        Told::Spill => {
-            format!(in alloc; "a spill file for {out} could not be made: run the same build again")
-        }
+        Told::Spill => format!(in alloc;
+            "a spill file for {out} could not be made, written or read: {SPILL_ADVICE}"
+        ),
+        Told::SpillDamaged => format!(in alloc;
+            "a spill file of {out} gave back other bytes than were kept: {SPILL_ADVICE}"
+        ),
         Told::Memory => String::from_str(alloc, MEMORY_SENTENCE),
     }
 }
@@ -135,6 +140,9 @@ pub(crate) fn sentence(
 /// Of words that are no command.
 pub(crate) const USAGE_SENTENCE: &str =
     "the words are none of `build CONFIG OUT`, `query OUT BOX DEPTHS`, `info LAS` and `trial N WORKERS CACHE`";
+
+// What to do where a spill file fails or is damaged.
+const SPILL_ADVICE: &str = "run the same build again, or with a greater `cacheSize`";
 
 /// Of want of memory.
 pub(crate) const MEMORY_SENTENCE: &str = "out of memory";

@@ -1,17 +1,20 @@
 -- A node as one of the machine of events, and what leaves it.
-use Rattle.std.proofs.Common.{◌≡◌, ◌∙◌, ◌⊎◌, ℕ, zero, suc, ◌+◌, ◌<◌, Bool, true, false, inl, inr, List, [], ◌∷◌, ◌++◌, map, refl, sym, ap, subst, arith, length}
+use Rattle.std.proofs.Common.{◌≡◌, ◌∙◌, ◌⊎◌, ℕ, zero, suc, ◌+◌, ◌<◌, Bool, true, false, not, ◌&&◌, nat_lt, inl, inr, List, [], ◌∷◌, ◌++◌, map, refl, sym, ap, subst, arith, length}
 use Rattle.std.specs.Prelude.{All}
 use Rattle.std.specs.List.{flat_map}
 use Rattle.std.specs.List.Sorted.{IsPermutation}
 use Rattle.std.proofs.lemmas.List.{append-nil, append_assoc, length-append}
 use Rattle.std.proofs.lemmas.Bool.{false≢true}
+use Rattle.std.proofs.lemmas.Bool.Decides.{nat_tests}
 use Rattle.std.proofs.lemmas.List.Elements.{All-nil, All-append}
 use Rattle.std.proofs.lemmas.List.Sorted.{length_permutation}
 use Rattle.ept_point.specs.declared.point.Point.{Point}
 use Rattle.ept_space.specs.declared.cube.Rules.{Rules}
 use Rattle.ept_space.specs.VoxelKey.{VoxelKey, child}
 use Rattle.ept_sample.specs.Members.{IsMember}
-use Rattle.ept_sample.specs.Arrivals.{octant, kept, sent, is_open, all_octants}
+use Rattle.ept_sample.specs.Place.{place}
+use Rattle.ept_space.specs.OctreeCube.{InBox}
+use Rattle.ept_sample.specs.Arrivals.{octant, losers, overflows, sent, is_open, all_octants}
 use Rattle.ept_sample.specs.Sampling.{sampling, is_node}
 use Rattle.ept_sample.proofs.Choices.{either}
 use Rattle.ept_sample.proofs.Octants.{IsMember-octant}
@@ -24,6 +27,7 @@ use Rattle.ept_core.specs.State.{blank, has_open}
 use Rattle.ept_core.specs.Steps.{flight_of, node_after, flights_after, resumed_node}
 use Rattle.ept_core.specs.Flying.{EachIsReordered}
 use Rattle.ept_core.proofs.Leaving.{open-at}
+use Rattle.ept_grid.specs.Tile.{IsTile, is_overfull}
 use Rattle.ept_node.specs.Shown.{bare, empty_node}
 use Rattle.ept_node.specs.Batch.{given_all, TakesInAll, HasTaken, StandsFor, seen, flights_of, Arrives}
 use Rattle.ept_node.proofs.Batches.{open-alike, kept-alike, sent-alike}
@@ -164,3 +168,30 @@ arrives-from old new (p ∷ points) before after taken some empty = taken-arrive
 pub none-in-order : IsInIdOrder []
 unfolding IsInIdOrder
 none-in-order = tt
+
+shut_and : (a b c : Bool) → c ≡ false → (b && (a && c)) ≡ false
+shut_and true true c is = is
+shut_and true false c is = refl
+shut_and false true c is = refl
+shut_and false false c is = refl
+
+none_more : (threshold : ℕ) → nat_lt threshold 0 ≡ false
+none_more threshold = grind (arith, nat_tests)
+
+none_overfull : (key : VoxelKey) (rules : Rules) (o : ℕ) → is_overfull rules key.depth 0 [] o ≡ false
+unfolding overflows losers
+none_overfull key rules o =
+    shut_and (nat_lt key.depth rules.cube.depth) (not (opened 0 o)) (nat_lt rules.threshold 0) (none_more rules.threshold)
+
+no_tile : (key : VoxelKey) (rules : Rules) → IsTile key rules 0 []
+no_tile key rules = record {
+  inside = All-nil (λ q. InBox rules.cube key (place q));
+  no_open_loser = refl;
+  none_overfull = λ o low. none_overfull key rules o;
+  not_deep = λ e. refl;
+}
+
+-- no points are those of a node of which no octant is open
+pub empty-tile : (g : Node) → g.points ≡ [] → g.mask ≡ 0 → IsTile g.key g.rules g.mask g.points
+empty-tile g none shut =
+    subst (λ (w : List Point). IsTile g.key g.rules g.mask w) (sym none) (subst (λ (m : ℕ). IsTile g.key g.rules m []) (sym shut) (no_tile g.key g.rules))

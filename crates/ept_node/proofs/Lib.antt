@@ -1,2 +1,4 @@
+pub mod Tellings
+pub mod Filings
 pub mod Batches
 pub mod Bridges

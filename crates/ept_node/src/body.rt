@@ -3,13 +3,15 @@
 ghost use Rattle.std.specs.Prelude.{◌≡◌, ◌≤◌, IfOk};
 ghost use Rattle.ept_node.specs.Shown.{bare, empty_node};
 
-use crate::site::Site;
+use crate::error::NodeError;
+use crate::site::{Filed, Site};
 use ept_grid::Grid;
 use ept_point::Memory;
 use ept_space::{Key, Rules};
 use std::alloc::Global;
 
-/// What a node has in memory. The points are behind a box, so that a node without points is small.
+/// What a node has in memory. The points, and what is known of those in a file, are behind a box, so that a node
+/// is small.
 #[derive(Debug, Drop)]
 pub(crate) enum Body {
     /// It is the node of no key.
@@ -18,6 +20,12 @@ pub(crate) enum Body {
     Begun(Site),
     /// The points are there.
     Resident(Box<Grid>),
+    /// The points are in the spill file.
+    Spilled(Box<Filed>),
+    /// The spill file has not kept the points, which are still there.
+    Unkept(Box<Grid>),
+    /// The spill file has not given the points back.
+    Lost(Box<Filed>, NodeError),
 }
 
 // A grid without points, in a box. A function apart, since room for a whole grid would else be cleared at

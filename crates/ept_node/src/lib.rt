@@ -1,12 +1,16 @@
 //! A node of the octree as it lies in a slot of a table: with its spill file, the slots of its children,
-//! and, where it is not blank, its points. It is small in memory where it has none.
+//! and, where it is not blank, its points, in memory or in its file. It is small where it has none in memory.
 #![tactic(auto)]
 
 mod batch;
 mod body;
+mod error;
+mod filing;
 mod node;
 mod site;
+mod spilling;
 mod state;
 
+pub use error::NodeError;
 pub use node::Node;
 pub use state::NodeState;

@@ -1,6 +1,6 @@
-//! The nodes of a table's slots.
+//! The nodes of a table's slots, and what happens to their points in memory.
 
-ghost use Rattle.std.specs.Prelude.{◌≡◌, ◌≢◌, ◌<◌, ◌≤◌, ◌+◌, ◌++◌, [], ℕ, Bool, List, true, length, count_by, slice_index, slice_set, OnOk, OnErr, IfErr};
+ghost use Rattle.std.specs.Prelude.{◌≡◌, ◌≢◌, ◌<◌, ◌≤◌, ◌+◌, ◌++◌, [], ℕ, Bool, List, true, length, count_by, slice_index, slice_set, OnOk, OnErr, IfErr, IsSome, ◌↔◌};
 ghost use Rattle.ept_point.specs.declared.point.Point.{Point};
 ghost use Rattle.ept_point.specs.Order.{IsAscending};
 ghost use Rattle.ept_space.specs.VoxelKey.{child};
@@ -13,14 +13,16 @@ ghost use Rattle.ept_grid.specs.Node.{SendsOn, IsNodeOf, IsInIdOrder};
 ghost use Rattle.ept_grid.specs.Tile.{IsTile, IsTileFault};
 ghost use Rattle.ept_core.specs.State as core;
 ghost use Rattle.ept_core.specs.Steps.{resumed_node};
-ghost use Rattle.ept_node.specs.declared.state.NodeState.TheVariants.{Blank, Resident};
-ghost use Rattle.ept_node.specs.Shown.{empty_node, no_children, file_of, state_of, node_of, children_of, ShowsTheSame, HasRoom};
+ghost use Rattle.ept_node.specs.declared.state.NodeState.TheVariants.{Blank, Resident, Broken};
+ghost use Rattle.ept_node.specs.Shown.{empty_node, no_children, file_of, state_of, node_of, is_here, fault_of, children_of, ShowsTheSame, HasRoom};
 ghost use Rattle.ept_node.specs.Batch.{HasTaken, StandsFor, seen, Arrives};
 
 use crate::batch::take_in;
 use crate::body::{Body, boxed, empty_grid};
+use crate::error::NodeError;
 use crate::site::Site;
 use crate::state::NodeState;
+use ept_base::SpillFile;
 use ept_grid::{Grid, GridError, Outgoing};
 use ept_point::{Memory, Point};
 use ept_space::{Key, Rules};
@@ -31,9 +33,9 @@ use std::alloc::Global;
 /// It can't be dropped where its file can't: the room of the file takes that back (`into_file`).
 #[derive(Debug)]
 pub struct Node<F> {
-    file: F,
+    pub(crate) file: F,
     children: [u32; 8],
-    body: Body,
+    pub(crate) body: Body,
 }
 
 impl<F> Node<F> {
@@ -68,18 +70,44 @@ impl<F> Node<F> {
         match &self.body {
             Body::Blank => NodeState::Blank,
             Body::Begun(_) | Body::Resident(_) => NodeState::Resident,
+            Body::Spilled(_) => NodeState::Spilled,
+            Body::Unkept(_) | Body::Lost(_, _) => NodeState::Broken,
         }
     }
 
+    /// The refusal that broke the node; None where it is not broken.
+    pub fn fault(&self) -> Option<NodeError>
+        ensures fault { result ≡ fault_of self.now }
+        ensures exactly { IsSome result ↔ (state_of self.now ≡ Broken) }
+    {
+        match &self.body {
+            Body::Unkept(_) => Some(NodeError::SpillFault),
+            Body::Lost(_, why) => Some(*why),
+            _ => None,
+        }
+    }
+
+    /// Whether its points are in memory: those of a resident node, and of one that its file has not kept.
+    pub fn is_here(&self) -> bool
+        ensures { result ≡ is_here self.now }
+    {
+        match &self.body {
+            Body::Begun(_) | Body::Resident(_) | Body::Unkept(_) => true,
+            Body::Blank | Body::Spilled(_) | Body::Lost(_, _) => false,
+        }
+    }
+}
+
+impl<F: SpillFile> Node<F> {
     /// Makes a blank node that of a key, without points, open octants and children. It takes no memory.
     pub fn begin(&mut self, key: Key, rules: &Rules)
         requires blank { state_of self.old ≡ Blank }
         requires low { key.depth ≤ rules.now.cube.depth }
         ensures state { state_of self.new ≡ Resident }
-        ensures node { node_of self.new ≡ empty_node key rules.now }
+        ensures node { node_of F.held self.new ≡ empty_node key rules.now }
         ensures children { children_of self.new ≡ no_children }
         ensures file { file_of self.new ≡ file_of self.old }
-        ensures absent { StandsFor core.blank (node_of self.new) }
+        ensures absent { StandsFor core.blank (node_of F.held self.new) }
     {
         self.children = [0; 8];
         self.body = Body::Begun(Site { key, rules: *rules });
@@ -88,8 +116,8 @@ impl<F> Node<F> {
     /// Makes a node blank again that has no points, no open octants and no children.
     pub fn unbegin(&mut self)
         requires resident { state_of self.old ≡ Resident }
-        requires points { (node_of self.old).points ≡ [] }
-        requires mask { (node_of self.old).mask ≡ 0 }
+        requires points { (node_of F.held self.old).points ≡ [] }
+        requires mask { (node_of F.held self.old).mask ≡ 0 }
         requires children { children_of self.old ≡ no_children }
         ensures state { state_of self.new ≡ Blank }
         ensures file { file_of self.new ≡ file_of self.old }
@@ -100,28 +128,30 @@ impl<F> Node<F> {
     /// The key of the node.
     pub fn key(&self) -> Key
         requires { state_of self.now ≢ Blank }
-        ensures { result ≡ (node_of self.now).key }
+        ensures { result ≡ (node_of F.held self.now).key }
     {
         match &self.body {
             Body::Blank => unreachable!(),
             Body::Begun(site) => site.key,
-            Body::Resident(grid) => grid.key(),
+            Body::Resident(grid) | Body::Unkept(grid) => grid.key(),
+            Body::Spilled(filed) | Body::Lost(filed, _) => filed.site.key,
         }
     }
 
     // The rules of the node's sampling.
     fn rules(&self) -> Rules
         requires { state_of self.now ≢ Blank }
-        ensures rules { result ≡ (node_of self.now).rules }
-        ensures low { (node_of self.now).key.depth ≤ result.cube.depth }
+        ensures rules { result ≡ (node_of F.held self.now).rules }
+        ensures low { (node_of F.held self.now).key.depth ≤ result.cube.depth }
     {
         match &self.body {
             Body::Blank => unreachable!(),
             Body::Begun(site) => site.rules,
-            Body::Resident(grid) => {
+            Body::Resident(grid) | Body::Unkept(grid) => {
                 grid.known();
                 *grid.rules()
             }
+            Body::Spilled(filed) | Body::Lost(filed, _) => filed.site.rules,
         }
     }
 
@@ -141,7 +171,7 @@ impl<F> Node<F> {
         ensures children { children_of self.new ≡ slice_set (children_of self.old) octant slot }
         ensures child { slice_index (children_of self.new) octant ≡ slot }
         ensures state { state_of self.new ≡ state_of self.old }
-        ensures node { node_of self.new ≡ node_of self.old }
+        ensures node { node_of F.held self.new ≡ node_of F.held self.old }
         ensures file { file_of self.new ≡ file_of self.old }
     {
         self.children[octant as usize] = slot;
@@ -150,24 +180,27 @@ impl<F> Node<F> {
     /// The open octants: bit o is set where octant o is open.
     pub fn open_mask(&self) -> u8
         requires { state_of self.now ≢ Blank }
-        ensures { result ≡ (node_of self.now).mask }
+        ensures { result ≡ (node_of F.held self.now).mask }
     {
         match &self.body {
             Body::Blank => unreachable!(),
             Body::Begun(_) => 0,
-            Body::Resident(grid) => grid.open_mask(),
+            Body::Resident(grid) | Body::Unkept(grid) => grid.open_mask(),
+            Body::Spilled(filed) | Body::Lost(filed, _) => filed.mask,
         }
     }
 
     /// How many points the node has.
     pub fn count(&self) -> u64
         requires { state_of self.now ≢ Blank }
-        ensures { result ≡ length (node_of self.now).points }
+        ensures { result ≡ length (node_of F.held self.now).points }
     {
         match &self.body {
             Body::Blank => unreachable!(),
             Body::Begun(_) => 0,
-            Body::Resident(grid) => grid.count(),
+            Body::Resident(grid) | Body::Unkept(grid) => grid.count(),
+            Body::Spilled(filed) => filed.count,
+            Body::Lost(filed, _) => filed.count,
         }
     }
 
@@ -175,22 +208,22 @@ impl<F> Node<F> {
     /// of the node's key. After a refusal the node is as it was. The ids ascend.
     pub fn fill(&mut self, alloc: Global, mask: u8, points: &[Point]) -> Result<(), GridError>
         requires resident { state_of self.old ≡ Resident }
-        requires empty { (node_of self.old).points ≡ [] }
+        requires empty { (node_of F.held self.old).points ≡ [] }
         requires ascend { IsAscending points.now }
-        ensures ok { OnOk result (IsNodeOf (node_of self.old).key (node_of self.old).rules mask points.now (node_of self.new)) }
-        ensures tile { OnOk result (IsTile (node_of self.old).key (node_of self.old).rules mask points.now) }
+        ensures ok { OnOk result (IsNodeOf (node_of F.held self.old).key (node_of F.held self.old).rules mask points.now (node_of F.held self.new)) }
+        ensures tile { OnOk result (IsTile (node_of F.held self.old).key (node_of F.held self.old).rules mask points.now) }
         ensures refused { IfErr result (λ e. e ≢ GridError.Memory
-            → IsTileFault (node_of self.old).key (node_of self.old).rules mask points.now e) }
-        ensures unchanged { OnErr result (node_of self.new ≡ node_of self.old) }
+            → IsTileFault (node_of F.held self.old).key (node_of F.held self.old).rules mask points.now e) }
+        ensures unchanged { OnErr result (node_of F.held self.new ≡ node_of F.held self.old) }
         ensures state { state_of self.new ≡ state_of self.old }
         ensures children { children_of self.new ≡ children_of self.old }
         ensures file { file_of self.new ≡ file_of self.old }
 
         // With the points of a sampling at its key it is the machine's node there.
         ensures resumed { OnOk result ((all : List Point)
-            → points.now ≡ sampling (node_of self.old).rules all (node_of self.old).key
-            → ((o : ℕ) → o < 8 → opened mask o ≡ is_node (node_of self.old).rules all (child (node_of self.old).key o))
-            → seen (node_of self.new) ≡ resumed_node (node_of self.old).rules all true (node_of self.old).key) }
+            → points.now ≡ sampling (node_of F.held self.old).rules all (node_of F.held self.old).key
+            → ((o : ℕ) → o < 8 → opened mask o ≡ is_node (node_of F.held self.old).rules all (child (node_of F.held self.old).key o))
+            → seen (node_of F.held self.new) ≡ resumed_node (node_of F.held self.old).rules all true (node_of F.held self.old).key) }
     {
         let rules = self.rules();
         let grid = Grid::from_tile(alloc, self.key(), &rules, mask, points)?;
@@ -200,8 +233,8 @@ impl<F> Node<F> {
 
     // Makes room for the points of a node at which none has arrived yet. What it shows stays, whatever the
     // answer.
-    fn wake(&mut self, alloc: Global) -> Result<(), Memory>
-        ensures same { ShowsTheSame self.old self.new }
+    pub(crate) fn wake(&mut self, alloc: Global) -> Result<(), Memory>
+        ensures same { ShowsTheSame F.held self.old self.new }
         ensures here { OnOk result (HasRoom self.old self.new) }
     {
         if let Body::Begun(site) = &self.body {
@@ -220,29 +253,29 @@ impl<F> Node<F> {
         out: &mut Outgoing,
     ) -> Result<(), Memory>
         requires resident { state_of self.old ≡ Resident }
-        requires inside { AllInBox (node_of self.old).rules.cube (node_of self.old).key points.now }
-        ensures unchanged { OnErr result (node_of self.new ≡ node_of self.old) }
+        requires inside { AllInBox (node_of F.held self.old).rules.cube (node_of F.held self.old).key points.now }
+        ensures unchanged { OnErr result (node_of F.held self.new ≡ node_of F.held self.old) }
         ensures out_unchanged { OnErr result ((o : ℕ) → points_at out.new o ≡ points_at out.old o) }
         ensures state { state_of self.new ≡ state_of self.old }
-        ensures key { (node_of self.new).key ≡ (node_of self.old).key }
-        ensures rules { (node_of self.new).rules ≡ (node_of self.old).rules }
+        ensures key { (node_of F.held self.new).key ≡ (node_of F.held self.old).key }
+        ensures rules { (node_of F.held self.new).rules ≡ (node_of F.held self.old).rules }
         ensures children { children_of self.new ≡ children_of self.old }
         ensures file { file_of self.new ≡ file_of self.old }
 
         // Whatever the ids, no point is lost, and each that leaves lies in its octant, which is open.
         ensures together { OnOk result ((test : Point → Bool) →
-            count_by test (node_of self.new).points + count_by test (all_points out.new)
-            ≡ count_by test points.now + count_by test (node_of self.old).points + count_by test (all_points out.old)) }
+            count_by test (node_of F.held self.new).points + count_by test (all_points out.new)
+            ≡ count_by test points.now + count_by test (node_of F.held self.old).points + count_by test (all_points out.old)) }
         ensures sends_on { OnOk result ((o : ℕ) → o < 8 →
-            SendsOn (node_of self.old) (node_of self.new) o (points_at out.old o) (points_at out.new o)) }
+            SendsOn (node_of F.held self.old) (node_of F.held self.new) o (points_at out.old o) (points_at out.new o)) }
 
         // Where the ids are all different, the node keeps and sends what the sampling says, and that is the arrival of
         // a flight of the machine.
-        ensures takes_in { OnOk result (HasDistinctIds (points.now ++ (node_of self.old).points) →
-            HasTaken (node_of self.old) (node_of self.new) points.now out.old out.new) }
-        ensures arrives { OnOk result (HasDistinctIds (points.now ++ (node_of self.old).points) → 0 < length points.now →
+        ensures takes_in { OnOk result (HasDistinctIds (points.now ++ (node_of F.held self.old).points) →
+            HasTaken (node_of F.held self.old) (node_of F.held self.new) points.now out.old out.new) }
+        ensures arrives { OnOk result (HasDistinctIds (points.now ++ (node_of F.held self.old).points) → 0 < length points.now →
             ((o : ℕ) → o < 8 → points_at out.old o ≡ []) →
-            Arrives (node_of self.old) (node_of self.new) points.now out.new) }
+            Arrives (node_of F.held self.old) (node_of F.held self.new) points.now out.new) }
     {
         self.wake(alloc)?;
         let Body::Resident(grid) = &mut self.body else {
@@ -252,34 +285,22 @@ impl<F> Node<F> {
         Ok(())
     }
 
-    /// Appends the points of the node, in id order. After `Memory` the list is as it was.
-    pub fn points_into(&mut self, out: &mut Vec<Point>) -> Result<(), Memory>
-        requires { state_of self.old ≡ Resident }
-        ensures ok { OnOk result (out.new.items ≡ out.old.items ++ (node_of self.old).points) }
-        ensures unchanged { OnErr result (out.new.items ≡ out.old.items) }
-        ensures in_order { IsInIdOrder (node_of self.old).points }
-        ensures same { self.new ≡ self.old }
-    {
-        match &self.body {
-            Body::Blank => unreachable!(),
-            Body::Begun(_) => Ok(()),
-            Body::Resident(grid) => grid.points_into(out),
-        }
-    }
-
     /// Tells a proof what each node keeps.
     pub fn known(&self)
         requires { state_of self.now ≢ Blank }
-        ensures low { (node_of self.now).key.depth ≤ (node_of self.now).rules.cube.depth }
-        ensures inside { AllInBox (node_of self.now).rules.cube (node_of self.now).key (node_of self.now).points }
-        ensures ascend { HasDistinctIds (node_of self.now).points → IsAscending (node_of self.now).points }
-        ensures deepest { (node_of self.now).key.depth ≡ (node_of self.now).rules.cube.depth → (node_of self.now).mask ≡ 0 }
-        ensures seen { StandsFor (seen (node_of self.now)) (node_of self.now) }
+        ensures low { (node_of F.held self.now).key.depth ≤ (node_of F.held self.now).rules.cube.depth }
+        ensures inside { AllInBox (node_of F.held self.now).rules.cube (node_of F.held self.now).key (node_of F.held self.now).points }
+        ensures ascend { HasDistinctIds (node_of F.held self.now).points → IsAscending (node_of F.held self.now).points }
+        ensures deepest { (node_of F.held self.now).key.depth ≡ (node_of F.held self.now).rules.cube.depth → (node_of F.held self.now).mask ≡ 0 }
+        ensures seen { StandsFor (seen (node_of F.held self.now)) (node_of F.held self.now) }
+        ensures tile { state_of self.now ≡ Resident → HasDistinctIds (node_of F.held self.now).points
+            → IsTile (node_of F.held self.now).key (node_of F.held self.now).rules (node_of F.held self.now).mask (node_of F.held self.now).points }
     {
         match &self.body {
             Body::Blank => unreachable!(),
             Body::Begun(_) => {}
-            Body::Resident(grid) => grid.known(),
+            Body::Resident(grid) | Body::Unkept(grid) => grid.known(),
+            Body::Spilled(filed) | Body::Lost(filed, _) => filed.known(),
         }
     }
 }

@@ -7,4 +7,8 @@ pub enum NodeState {
     Blank,
     /// It is the node of a key, and its points are in memory.
     Resident,
+    /// It is the node of a key, and its points are in its spill file.
+    Spilled,
+    /// It is the node of a key whose spill file has not kept its points, or not given them back.
+    Broken,
 }

@@ -2,4 +2,6 @@
 #![tactic(auto)]
 
 #[cfg(test)]
+mod lying;
+#[cfg(test)]
 mod tests;

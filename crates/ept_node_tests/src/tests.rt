@@ -3,10 +3,11 @@
 ghost use Rattle.std.specs.Prelude.{◌↔◌, [], IsTrue};
 ghost use Rattle.ept_sample.specs.Place.{AllInBox};
 
+use crate::lying::Lying;
 use ept_fixtures::{point, small_rules};
 use ept_grid::{Grid, GridError, Outgoing};
 use ept_mem::MemSpill;
-use ept_node::{Node, NodeState};
+use ept_node::{Node, NodeError, NodeState};
 use ept_point::Point;
 use ept_sample::ids_ascend;
 use ept_space::Key;
@@ -83,7 +84,7 @@ fn takes_in_the_worked_points_together(rt: HostRuntime) -> Result<(), Fail> {
         node.begin(key, &rules);
         let arrived = node.arrive_batch(rt.alloc(), points.as_slice(), &mut out);
         assert!(rt; arrived.is_ok());
-        let told = node.points_into(&mut there);
+        let told = node.points_into(rt.alloc(), &mut there);
         assert!(rt; told.is_ok());
         assert!(rt; have_numbers(there.as_slice(), kept));
         assert_eq!(rt; node.count(), kept.len() as u64);
@@ -123,5 +124,141 @@ fn is_begun_filled_and_blank_again(rt: HostRuntime) -> Result<(), Fail> {
     assert_eq!(rt; node.open_mask(), 1);
     assert_eq!(rt; node.child(7), 5);
     let _file = node.into_file();
+    Ok(())
+}
+
+#[test]
+fn spills_and_comes_back(rt: HostRuntime) -> Result<(), Fail> {
+    let rules = small_rules(2);
+    let key = Key::ROOT;
+    assert!(rt; key.depth <= rules.cube.depth);
+    let cases: [(&[Recorded], &[u32]); 3] = [
+        (&[], &[]),
+        (&[(4, ONE)], &[4]),
+        (&[(0, ONE), (1, TWO), (2, THREE)], &[0, 1, 2]),
+    ];
+    for (recorded, numbers) in cases {
+        let points = points_of(rt.alloc(), recorded)?;
+        assert!(rt; ids_ascend(points.as_slice()));
+        let mut there = Vec::new(rt.alloc());
+        let mut node = Node::blank(MemSpill::new(rt.alloc(), Vec::new(rt.alloc())));
+        node.begin(key, &rules);
+        node.set_child(3, 7);
+        let filled = node.fill(rt.alloc(), 0, points.as_slice());
+        assert!(rt; filled.is_ok());
+        let spilled = node.spill(rt.alloc());
+        assert_eq!(rt; spilled, Ok(()));
+        assert_eq!(rt; node.state(), NodeState::Spilled);
+        assert_eq!(rt; node.fault(), None);
+        assert_eq!(rt; node.key(), key);
+        assert_eq!(rt; node.count(), numbers.len() as u64);
+        assert_eq!(rt; node.open_mask(), 0);
+        assert_eq!(rt; node.child(3), 7);
+        let told = node.points_into(rt.alloc(), &mut there);
+        assert_eq!(rt; told, Ok(()));
+        assert!(rt; have_numbers(there.as_slice(), numbers));
+        assert_eq!(rt; node.state(), NodeState::Spilled);
+        let reloaded = node.reload(rt.alloc());
+        assert_eq!(rt; reloaded, Ok(()));
+        assert_eq!(rt; node.state(), NodeState::Resident);
+        there.clear();
+        let told_again = node.points_into(rt.alloc(), &mut there);
+        assert_eq!(rt; told_again, Ok(()));
+        assert!(rt; have_numbers(there.as_slice(), numbers));
+        assert_eq!(rt; node.child(3), 7);
+        let _file = node.into_file();
+    }
+    Ok(())
+}
+
+#[test]
+fn is_broken_where_its_file_does_not_keep(rt: HostRuntime) -> Result<(), Fail> {
+    let rules = small_rules(2);
+    let key = Key::ROOT;
+    assert!(rt; key.depth <= rules.cube.depth);
+    let points = points_of(rt.alloc(), &[(0, ONE), (1, TWO)])?;
+    assert!(rt; ids_ascend(points.as_slice()));
+    let mut node = Node::blank(MemSpill::new(rt.alloc(), vec![in rt.alloc(); 0]?));
+    node.begin(key, &rules);
+    let filled = node.fill(rt.alloc(), 0, points.as_slice());
+    assert!(rt; filled.is_ok());
+    let refused = node.spill(rt.alloc());
+    assert_eq!(rt; refused, Err(NodeError::SpillFault));
+    assert_eq!(rt; node.state(), NodeState::Broken);
+    assert_eq!(rt; node.fault(), Some(NodeError::SpillFault));
+    assert_eq!(rt; node.count(), 2);
+    assert_eq!(rt; node.key(), key);
+    let _file = node.into_file();
+    Ok(())
+}
+
+#[test]
+fn is_broken_where_its_file_does_not_give_back(rt: HostRuntime) -> Result<(), Fail> {
+    let rules = small_rules(2);
+    let key = Key::ROOT;
+    assert!(rt; key.depth <= rules.cube.depth);
+    let points = points_of(rt.alloc(), &[(0, ONE), (1, TWO)])?;
+    assert!(rt; ids_ascend(points.as_slice()));
+    for reloads in [true, false] {
+        let mut there = Vec::new(rt.alloc());
+        let mut node = Node::blank(MemSpill::new(rt.alloc(), vec![in rt.alloc(); 1]?));
+        node.begin(key, &rules);
+        let filled = node.fill(rt.alloc(), 0, points.as_slice());
+        assert!(rt; filled.is_ok());
+        let spilled = node.spill(rt.alloc());
+        assert_eq!(rt; spilled, Ok(()));
+        assert_eq!(rt; node.state(), NodeState::Spilled);
+        let refused = if reloads {
+            node.reload(rt.alloc())
+        } else {
+            node.points_into(rt.alloc(), &mut there)
+        };
+        assert_eq!(rt; refused, Err(NodeError::SpillFault));
+        assert!(rt; there.is_empty());
+        assert_eq!(rt; node.state(), NodeState::Broken);
+        assert_eq!(rt; node.fault(), Some(NodeError::SpillFault));
+        assert_eq!(rt; node.count(), 2);
+        assert_eq!(rt; node.open_mask(), 0);
+        let _file = node.into_file();
+    }
+    Ok(())
+}
+
+#[test]
+fn takes_no_other_bytes_than_its_tile(rt: HostRuntime) -> Result<(), Fail> {
+    let rules = small_rules(2);
+    let key = Key::ROOT;
+    assert!(rt; key.depth <= rules.cube.depth);
+    let points = points_of(rt.alloc(), &[(0, ONE), (1, TWO)])?;
+    assert!(rt; ids_ascend(points.as_slice()));
+    // How many bytes the file says that it has and the byte that each of them is, and the number of the point at which
+    // the damage is told.
+    let cases = [
+        (0, 0, 0),
+        (48, 0, 0),
+        (97, 0, 1),
+        (99, 0, 2),
+        (98, 255, 0),
+        (98, 0, 1),
+    ];
+    for (found, byte, at) in cases {
+        let mut node = Node::blank(Lying::new(found as usize, byte));
+        node.begin(key, &rules);
+        let filled = node.fill(rt.alloc(), 0, points.as_slice());
+        assert!(rt; filled.is_ok());
+        let spilled = node.spill(rt.alloc());
+        assert_eq!(rt; spilled, Ok(()));
+        assert_eq!(rt; node.state(), NodeState::Spilled);
+        let refused = node.reload(rt.alloc());
+        let damaged = NodeError::SpillDamaged {
+            kept: 98,
+            found,
+            at,
+        };
+        assert_eq!(rt; refused, Err(damaged));
+        assert_eq!(rt; node.state(), NodeState::Broken);
+        assert_eq!(rt; node.fault(), Some(damaged));
+        let _file = node.into_file();
+    }
     Ok(())
 }

@@ -1,10 +1,14 @@
 pub mod Sites
+pub mod Here
 pub mod Rooting
 pub mod Placing
+pub mod Alike
 pub mod Added
 pub mod Rested
 pub mod Sited
 pub mod Left
 pub mod Linked
 pub mod Walked
+pub mod Gone
 pub mod Begun
+pub mod Sampled

@@ -20,6 +20,7 @@ use Rattle.ept_grid.specs.Tile.{IsTile}
 use Rattle.ept_node.specs.declared.node.Node as node
 use Rattle.ept_node.specs.declared.state.NodeState.{NodeState}
 use Rattle.ept_node.specs.declared.state.NodeState.TheVariants as states
+use Rattle.ept_node.specs.Shown.{node_of, state_of}
 use Rattle.ept_table.specs.At.{At}
 use Rattle.ept_table.specs.Octree.{Branch, points_in}
 use Rattle.ept_table.proofs.Lists.{at-next, at-zero, at-get, at-below, set-again, same_or_not}
@@ -47,6 +48,14 @@ pub on-err : {E : Type 0} (r : Result (Unit {0}) E) (P Q : Type 0) → OnErr r P
 on-err (Ok u) P Q p more = tt
 on-err (Err e) P Q p more = more p
 
+-- the same refusal of another call
+pub err-same : {T U E : Type 0} (a b : E) → (let r : Result T E = Err a in r) ≡ Err b → (let r : Result U E = Err a in r) ≡ Err b
+err-same {T} {U} {E} a b is = ap (λ (e : E). let r : Result U E = Err e in r) (ap from is)
+  where
+    from : Result T E → E
+    from (Ok v) = a
+    from (Err e) = e
+
 -- a slot is drawn, since one is left
 pub next-used : {X E : Type 0} (r : Result X E) (used drawn long : ℕ) → drawn ≡ used + (if is_ok r then 1 else 0) → OnErr r (min long (2 ^ 32 - 1) ≤ used) → used < long → used < 2 ^ 32 - 1 → suc used ≡ drawn
 next-used (Ok x) used drawn long is full room small = omega (arith, is)
@@ -64,17 +73,24 @@ slice-at {X} (y ∷ ys) zero x is = subst (λ (z : X). At (y ∷ ys) 0 z) (some_
         from None = a
 slice-at (y ∷ ys) (suc k) x is = at-next y ys k x (slice-at ys k x is)
 
-pub named-some : (s : NodeState) (g h : grid.Node) → named s g ≡ Some h → (s ≡ states.Resident) × (g ≡ h)
-named-some states.Blank g h is = absurd (cc)
-named-some states.Resident g h is = (refl, ap from is)
+pub some-node : {g h : grid.Node} → Some g ≡ Some h → g ≡ h
+some-node {g} {h} e = ap from e
   where
     from : Option grid.Node → grid.Node
     from (Some z) = z
     from None = g
 
+pub named-some : (s : NodeState) (g h : grid.Node) → named s g ≡ Some h → (s ≡ states.Blank → ⊥) × (g ≡ h)
+named-some states.Blank g h is = absurd (cc)
+named-some states.Resident g h is = ((λ e. cc), some-node is)
+named-some states.Spilled g h is = ((λ e. cc), some-node is)
+named-some states.Broken g h is = ((λ e. cc), some-node is)
+
 pub named-none : (s : NodeState) (g : grid.Node) → is_some (named s g) ≡ false → s ≡ states.Blank
 named-none states.Blank g is = refl
 named-none states.Resident g is = absurd (false≢true (sym is))
+named-none states.Spilled g is = absurd (false≢true (sym is))
+named-none states.Broken g is = absurd (false≢true (sym is))
 
 pub none-is : (x : Option grid.Node) → is_some x ≡ false → x ≡ None
 none-is None is = refl
@@ -101,19 +117,20 @@ root-test key b c is now =
 
 -- ---- a node of the forest and its slot
 
-module _ {F : Type 0} (ns : List (node.Node F)) (k : ℕ) (n : node.Node F) (at : At ns k n) where
-  pub its-slot : node_in (in_slots ns) (suc k) ≡ in_slot n
-  its-slot = at-get None (at-map in_slot ns k n at)
+module _ {F : Type 0} (held : F → Option (List ℕ)) (ns : List (node.Node F)) (k : ℕ) (n : node.Node F) (at : At ns k n) where
+  pub its-slot : node_in (in_slots held ns) (suc k) ≡ in_slot held n
+  its-slot = at-get None (at-map (in_slot held) ns k n at)
 
-  pub put-in : (m : node.Node F) → in_slots (set ns k m) ≡ set (in_slots ns) (suc k) (in_slot m)
-  put-in m = ap (λ (xs : List (Option grid.Node)). None ∷ xs) (map-set in_slot ns k m)
+  pub put-in : (m : node.Node F) → in_slots held (set ns k m) ≡ set (in_slots held ns) (suc k) (in_slot held m)
+  put-in m = ap (λ (xs : List (Option grid.Node)). None ∷ xs) (map-set (in_slot held) ns k m)
 
-  pub same-in : (m : node.Node F) → in_slot m ≡ in_slot n → in_slots (set ns k m) ≡ in_slots ns
+  pub same-in : (m : node.Node F) → in_slot held m ≡ in_slot held n → in_slots held (set ns k m) ≡ in_slots held ns
   same-in m same =
       put-in m
-      ∙ (ap (λ (x : Option grid.Node). set (in_slots ns) (suc k) x) same
-      ∙ set-again (at-next None (map in_slot ns) k (in_slot n) (at-map in_slot ns k n at)))
+      ∙ (ap (λ (x : Option grid.Node). set (in_slots held ns) (suc k) x) same
+      ∙ set-again (at-next None (map (in_slot held) ns) k (in_slot held n) (at-map (in_slot held) ns k n at)))
 
+module _ {F : Type 0} (ns : List (node.Node F)) (k : ℕ) (n : node.Node F) (at : At ns k n) where
   pub long-in : k < length ns
   long-in = at-below at
 
@@ -122,12 +139,20 @@ module _ {F : Type 0} (ns : List (node.Node F)) (k : ℕ) (n : node.Node F) (at 
   same-file {Y} f m same =
       map-set f ns k m ∙ (ap (λ (y : Y). set (map f ns) k y) same ∙ set-again (at-map f ns k n at))
 
-pub length-in : {F : Type 0} (ns : List (node.Node F)) → length (in_slots ns) ≡ suc (length ns)
-length-in ns = ap suc (all ns)
+pub length-in : {F : Type 0} (held : F → Option (List ℕ)) (ns : List (node.Node F)) → length (in_slots held ns) ≡ suc (length ns)
+length-in {F} held ns = ap suc (all ns)
   where
-    all : {F : Type 0} (ms : List (node.Node F)) → length (map in_slot ms) ≡ length ms
+    all : (ms : List (node.Node F)) → length (map (in_slot held) ms) ≡ length ms
     all [] = refl
     all (m ∷ ms) = ap suc (all ms)
+
+-- the node of a slot that is used
+module _ {F : Type 0} (held : F → Option (List ℕ)) (rules : Rules) (used : ℕ) (ns : List (node.Node F)) (sites : List Site) (index : IsIndex rules used (in_slots held ns) sites) (k : ℕ) (n : node.Node F) (at : At ns k n) (low : k < used) where
+  pub its-node : (g : grid.Node) × (node_in (in_slots held ns) (suc k) ≡ Some g) × (state_of n ≡ states.Blank → ⊥) × (node_of held n ≡ g)
+  its-node =
+      let g = some-is (node_in (in_slots held ns) (suc k)) (index.filled (suc k) (omega arith) (omega (arith, low))) in
+      let shown = named-some (state_of n) (node_of held n) g.0 (sym (its-slot held ns k n at) ∙ g.1) in
+      (g.0, g.1, shown.0, shown.1)
 
 -- ---- a tile is sound
 
@@ -209,16 +234,9 @@ module _ (rules : Rules) (used : ℕ) (slots : List (Option grid.Node)) (sites :
       rooted = are.listed root 1 (omega arith) (omega arith) (root_seen (index.are.stands root 1 index.rooted));
       filled = each (λ k. 0 < k → k ≤ suc used → is_some (node_in now k) ≡ true) (λ some low. ap (λ (x : Option grid.Node). is_some x) here) (λ k apart some low. ap (λ (x : Option grid.Node). is_some x) (there k apart) ∙ index.filled k some (omega (arith, low, apart)));
       blank = λ k low. ap (λ (x : Option grid.Node). is_some x) (there k (λ e. omega (arith, e, low))) ∙ index.blank k (omega (arith, low));
-      sound = each (λ k. (g : grid.Node) → node_in now k ≡ Some g → IsSoundBy rules g) (λ g is. subst (λ (z : grid.Node). IsSoundBy rules z) (node_same h g (sym here ∙ is)) sound) (λ k apart g is. index.sound k g (sym (there k apart) ∙ is));
+      sound = each (λ k. (g : grid.Node) → node_in now k ≡ Some g → IsSoundBy rules g) (λ g is. subst (λ (z : grid.Node). IsSoundBy rules z) (some-node (sym here ∙ is)) sound) (λ k apart g is. index.sound k g (sym (there k apart) ∙ is));
     }
       where
-        node_same : (a b : grid.Node) → Some a ≡ Some b → a ≡ b
-        node_same a b e = ap from e
-          where
-            from : Option grid.Node → grid.Node
-            from (Some z) = z
-            from None = a
-
         root_seen : (key_seen (node_in slots 1) ≡ Some root) × (0 < 1) × (1 ≤ used) → key_seen (node_in now 1) ≡ Some root
         root_seen r = ap key_seen (there 1 (λ e. omega (arith, e, r.2))) ∙ r.0
 
@@ -266,8 +284,8 @@ module _ (rules : Rules) (used : ℕ) (slots : List (Option grid.Node)) (sites :
       length_all [] = refl
       length_all (s ∷ ss) = ap suc (length_all ss)
 
-  one_used : used ≡ 1
-  one_used = sym index.are.many ∙ ap (λ (w : List Site). length w) root-site
+  pub root-used : used ≡ 1
+  root-used = sym index.are.many ∙ ap (λ (w : List Site). length w) root-site
 
   -- the node of slot 1
   pub root-node : (h : grid.Node) × (node_in slots 1 ≡ Some h) × (h.key ≡ root) × (h.rules ≡ rules) × (h.points ≡ [])
@@ -286,7 +304,7 @@ module _ (rules : Rules) (used : ℕ) (slots : List (Option grid.Node)) (sites :
     anew = set slots 1 (Some h)
 
     seated : node_in anew 1 ≡ Some h
-    seated = get_or-set_same slots 1 (Some h) None (omega (arith, index.low, one_used))
+    seated = get_or-set_same slots 1 (Some h) None (omega (arith, index.low, root-used))
 
     beside : (k : ℕ) → (k ≡ 1 → ⊥) → node_in anew k ≡ node_in slots k
     beside k apart = get_or-set_other slots 1 k (Some h) None apart
@@ -303,14 +321,14 @@ module _ (rules : Rules) (used : ℕ) (slots : List (Option grid.Node)) (sites :
 
     listed_so : (q : VoxelKey) (k : ℕ) → 0 < k → k ≤ used → key_seen (node_in anew k) ≡ Some q → slot_of sites q ≡ Some k
     listed_so q k some low is =
-        let one : k ≡ 1 = omega (arith, some, low, one_used) in
+        let one : k ≡ 1 = omega (arith, some, low, root-used) in
         let r = seen-some (Some h) q (ap key_seen (sym seated) ∙ (ap (λ (n : ℕ). key_seen (node_in anew n)) (sym one) ∙ is)) in
         let its : root ≡ q = sym key ∙ (ap (λ (x : Option grid.Node). (node_or x).key) r.1 ∙ r.2) in
         subst (λ (j : VoxelKey). slot_of sites j ≡ Some k) its (index.rooted ∙ ap Some (sym one))
 
     together : length (points_in (branches anew sites)) ≡ sum_by count_in (take (suc used) anew)
     together =
-        subst (λ (n : ℕ). length (points_in (branches anew sites)) ≡ sum_by count_in (take (suc n) anew)) (sym one_used) (subst (λ (ss : List Site). length (points_in (branches anew ss)) ≡ sum_by count_in (take 2 anew)) (sym root-site) (two anew seated first (omega (arith, length-set slots 1 (Some h), index.low, one_used))))
+        subst (λ (n : ℕ). length (points_in (branches anew sites)) ≡ sum_by count_in (take (suc n) anew)) (sym root-used) (subst (λ (ss : List Site). length (points_in (branches anew ss)) ≡ sum_by count_in (take 2 anew)) (sym root-site) (two anew seated first (omega (arith, length-set slots 1 (Some h), index.low, root-used))))
       where
         two : (xs : List (Option grid.Node)) → node_in xs 1 ≡ Some h → node_in xs 0 ≡ None → 1 < length xs → length (points_in (branches xs ((let s : Site = (root, 1) in s) ∷ []))) ≡ sum_by count_in (take 2 xs)
         two [] one nothing low = absurd (omega (arith, low))
@@ -341,16 +359,9 @@ module _ (rules : Rules) (used : ℕ) (slots : List (Option grid.Node)) (sites :
       low = omega (arith, length-set slots 1 (Some h), index.low);
       rooted = index.rooted;
       filled = every (λ k. 0 < k → k ≤ used → is_some (node_in anew k) ≡ true) (λ some low. ap (λ (x : Option grid.Node). is_some x) seated) (λ k apart some low. ap (λ (x : Option grid.Node). is_some x) (beside k apart) ∙ index.filled k some low);
-      blank = λ k low. ap (λ (x : Option grid.Node). is_some x) (beside k (λ e. omega (arith, e, low, one_used))) ∙ index.blank k low;
-      sound = every (λ k. (z : grid.Node) → node_in anew k ≡ Some z → IsSoundBy rules z) (λ z is. subst (λ (w : grid.Node). IsSoundBy rules w) (node_same h z (sym seated ∙ is)) sound) (λ k apart z is. index.sound k z (sym (beside k apart) ∙ is));
+      blank = λ k low. ap (λ (x : Option grid.Node). is_some x) (beside k (λ e. omega (arith, e, low, root-used))) ∙ index.blank k low;
+      sound = every (λ k. (z : grid.Node) → node_in anew k ≡ Some z → IsSoundBy rules z) (λ z is. subst (λ (w : grid.Node). IsSoundBy rules w) (some-node (sym seated ∙ is)) sound) (λ k apart z is. index.sound k z (sym (beside k apart) ∙ is));
     }
-      where
-        node_same : (a b : grid.Node) → Some a ≡ Some b → a ≡ b
-        node_same a b e = ap from e
-          where
-            from : Option grid.Node → grid.Node
-            from (Some z) = z
-            from None = a
 
     pub branches-root : branches anew sites ≡ insert_entry key_cmp (branches slots sites) root h
     branches-root =

@@ -7,7 +7,7 @@ use Rattle.ept_space.specs.VoxelKey.{VoxelKey, root, key_cmp, AreAscending}
 use Rattle.ept_grid.specs.Node as grid
 use Rattle.ept_node.specs.declared.node.Node.{Node}
 use Rattle.ept_node.specs.declared.state.NodeState.{NodeState}
-use Rattle.ept_node.specs.declared.state.NodeState.TheVariants.{Blank, Resident}
+use Rattle.ept_node.specs.declared.state.NodeState.TheVariants.{Blank, Resident, Spilled, Broken}
 use Rattle.ept_node.specs.Shown.{no_node, state_of, node_of}
 use Rattle.ept_table.specs.declared.taken.Taken.{Taken}
 use Rattle.ept_table.specs.declared.taken.Taken.TheVariants as taken
@@ -26,17 +26,24 @@ Site = VoxelKey × ℕ
 abbrev pub named : NodeState → grid.Node → Option grid.Node
 named Blank g = None
 named Resident g = Some g
+named Spilled g = Some g
+named Broken g = Some g
 
-abbrev pub in_slot : {F : Type 0} → Node F → Option grid.Node
-in_slot node = named (state_of node) (node_of node)
+-- files that tell nothing
+abbrev pub untold : {F : Type 0} → F → Option (List ℕ)
+untold file = None
 
--- the nodes of the slots, with none in slot 0
-abbrev pub in_slots : {F : Type 0} → List (Node F) → List (Option grid.Node)
-in_slots nodes = None ∷ map in_slot nodes
+module _ {F : Type 0} (held : F → Option (List ℕ)) where
+  abbrev pub in_slot : Node F → Option grid.Node
+  in_slot node = named (state_of node) (node_of held node)
 
--- the same with the slots of the children, as what lies in the slots of a table
-abbrev pub taken_in : {F : Type 0} → List (Node F) → List Taken
-taken_in nodes = taken.Blank ∷ map seen_node nodes
+  -- the nodes of the slots, with none in slot 0
+  abbrev pub in_slots : List (Node F) → List (Option grid.Node)
+  in_slots nodes = None ∷ map in_slot nodes
+
+  -- the same with the slots of the children, as what lies in the slots of a table
+  abbrev pub taken_in : List (Node F) → List Taken
+  taken_in nodes = taken.Blank ∷ map (seen_node held) nodes
 
 -- ---- nodes by their keys
 

@@ -1,6 +1,6 @@
 pub mod Index
-pub mod Adding
 pub mod Octree
+pub mod Adding
 pub mod Resting
 pub mod Linking
 pub mod Walking

@@ -10,6 +10,8 @@ pub enum AddError {
     Full,
     /// The points and the open octants are not those of a node of the key, by this first cause.
     Damaged(GridError),
+    /// The spill file of the node failed.
+    SpillFault,
     /// Memory ran out.
     Memory,
 }

@@ -9,7 +9,7 @@ ghost use Rattle.ept_forest.specs.Slots as trees;
 ghost use Rattle.ept_node.specs.Shown.{empty_node};
 ghost use Rattle.ept_table.specs.Octree.{key_of};
 ghost use Rattle.ept_table.specs.Octree.{AreSampled};
-ghost use Rattle.ept_octree.specs.Index.{IsIndex, in_slots};
+ghost use Rattle.ept_octree.specs.Index.{IsIndex, in_slots, untold};
 ghost use Rattle.ept_octree.specs.Props.{props};
 
 use ept_base::{PutError, Room, SpillFile};
@@ -26,14 +26,22 @@ pub struct Octree<F> {
     pub(crate) slots: BTreeMap<Key, u32>,
     pub(crate) rules: Rules,
     pub(crate) most: u32,
-    ghost indexed: { IsIndex rules (trees.used_of forest) (in_slots (trees.nodes_of forest)) slots.entries } by { Prim.hlevel props },
+    // How many nodes may be in memory, and how many are.
+    pub(crate) cache: u32,
+    pub(crate) here: u32,
+    // Whatever the files tell: it speaks of no more than the key, the rules, the open octants and the count of a node in its file.
+    ghost indexed: { IsIndex rules (trees.used_of forest) (in_slots untold (trees.nodes_of forest)) slots.entries } by { Prim.hlevel props },
     ghost limit: { most ≡ length (trees.nodes_of forest) },
+    ghost some: { 1 ≤ cache },
+    ghost counted: { here ≡ trees.residents_of (trees.nodes_of forest) },
+    ghost cached: { here ≤ cache },
 }
 
 impl<F: SpillFile> Octree<F> {
-    ghost use Rattle.ept_octree.specs.Octree.{forest_of, rules_of, most_of, nodes_of, points_of, files_of, HasOwnNodes, IsShallow, IsWhole, IsLinked};
+    ghost use Rattle.ept_octree.specs.Octree.{forest_of, rules_of, most_of, cache_of, residents_of, nodes_of, HasOwnNodes, IsShallow, IsWhole, IsLinked, IsUnbroken, AgreesWithFiles};
 
-    /// The octree of no points, of at most so many nodes: its root. After a refusal the room has its files back.
+    /// The octree of no points, of at most so many nodes, so many of them in memory: its root. After a refusal the room has
+    /// its files back.
     ///
     /// # Errors
     ///
@@ -42,15 +50,20 @@ impl<F: SpillFile> Octree<F> {
         alloc: Global,
         room: &mut R,
         most: u32,
+        cache: u32,
         rules: &Rules,
     ) -> Result<Octree<F>, PutError>
-        requires { 1 ≤ most }
+        requires { (1 ≤ most) × (1 ≤ cache) }
         ensures rules { IfOk result (λ octree. rules_of octree ≡ rules.now) }
         ensures most { IfOk result (λ octree. most_of octree ≡ most) }
-        ensures root { IfOk result (λ octree. nodes_of octree ≡ (root, empty_node root rules.now) ∷ []) }
-        ensures whole { IfOk result IsWhole }
-        ensures sampled { IfOk result (λ octree. AreSampled rules.now [] (nodes_of octree)) }
-        ensures linked { IfOk result IsLinked }
+        ensures cache { IfOk result (λ octree. cache_of octree ≡ cache) }
+        ensures here { IfOk result (λ octree. residents_of octree ≡ 1) }
+        ensures root { IfOk result (λ octree. nodes_of F.held octree ≡ (root, empty_node root rules.now) ∷ []) }
+        ensures whole { IfOk result (IsWhole F.held) }
+        ensures sampled { IfOk result (λ octree. AreSampled rules.now [] (nodes_of F.held octree)) }
+        ensures linked { IfOk result (IsLinked F.held) }
+        ensures agrees { IfOk result (AgreesWithFiles F.held F.faults F.keeps) }
+        ensures unbroken { IfOk result IsUnbroken }
         ensures fresh { IfOk result (λ octree. trees.faults_of F.faults (trees.nodes_of (forest_of octree)) ≡ 0) }
         ensures counted { OnOk result (R.keeps room.new ≡ R.keeps room.old) }
         ensures unkept { OnErr result (trees.told (R.keeps room.new) ≡ trees.told (R.keeps room.old)) }
@@ -65,6 +78,8 @@ impl<F: SpillFile> Octree<F> {
                 slots,
                 rules: *rules,
                 most,
+                cache,
+                here: 1,
             }),
             Err(_) => {
                 forest.retire_all(room);
@@ -80,13 +95,32 @@ impl<F: SpillFile> Octree<F> {
         &self.rules
     }
 
-    /// How many nodes it has.
+    /// How many nodes it may have.
+    pub fn most(&self) -> u32
+        ensures { result ≡ most_of self.now }
+    {
+        self.most
+    }
+
+    /// How many of its nodes may be in memory at a time.
+    pub fn cache(&self) -> u32
+        ensures cache { result ≡ cache_of self.now }
+        ensures some { 1 ≤ cache_of self.now }
+        ensures few { residents_of self.now ≤ cache_of self.now }
+    {
+        let _here = self.here;
+        self.cache
+    }
+
+    /// How many nodes it has. Each but those that may be in memory was kept by its file, where none is broken.
     pub fn len(&self) -> u64
-        ensures number { result ≡ length (nodes_of self.now) }
-        ensures few { length (nodes_of self.now) ≤ most_of self.now }
+        ensures number { result ≡ length (nodes_of F.held self.now) }
+        ensures few { length (nodes_of F.held self.now) ≤ most_of self.now }
         ensures small { most_of self.now < 2 ^ 32 }
-        ensures own { HasOwnNodes self.now }
-        ensures shallow { IsShallow self.now }
+        ensures own { HasOwnNodes F.held self.now }
+        ensures shallow { IsShallow F.held self.now }
+        ensures kept { IsUnbroken self.now → AgreesWithFiles F.held F.faults F.keeps self.now
+            → length (nodes_of F.held self.now) ≤ cache_of self.now + trees.kept_by F.keeps (trees.nodes_of (forest_of self.now)) }
     {
         let _most = self.most;
         self.slots.len() as u64
@@ -104,6 +138,8 @@ impl<F: SpillFile> Octree<F> {
             slots: _slots,
             rules: _rules,
             most: _most,
+            cache: _cache,
+            here: _here,
         } = self;
         forest.retire_all(room);
     }
@@ -117,6 +153,8 @@ impl<F: SpillFile> Octree<F> {
             slots: _slots,
             rules: _rules,
             most: _most,
+            cache: _cache,
+            here: _here,
         } = self;
         forest
     }

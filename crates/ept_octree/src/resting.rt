@@ -13,7 +13,7 @@ ghost use Rattle.ept_table.specs.Row.{row};
 ghost use Rattle.ept_table.specs.Octree.{AreSampled};
 ghost use Rattle.ept_octree.specs.Index.{in_slots, AreSites};
 ghost use Rattle.ept_octree.specs.Resting.{StandApart};
-ghost use Rattle.ept_octree.specs.Octree.{forest_of, rules_of, most_of, nodes_of, points_of, begun_of, IsWhole, IsLinked};
+ghost use Rattle.ept_octree.specs.Octree.{forest_of, rules_of, most_of, cache_of, nodes_of, points_of, begun_of, IsWhole, IsLinked};
 
 use crate::octree::Octree;
 use ept_base::{Source, SpillFile};
@@ -31,24 +31,25 @@ pub fn rest_law<F: SpillFile, S: Source, J: Scan>(octree: &Octree<F>, reader: &R
     requires told { IsTold J.told }
     requires rules { rules_of octree.now ≡ J.told.rules }
     requires most { most_of octree.now ≡ J.told.most }
-    requires begun { J.told.begun ≡ begun_of octree.now }
-    requires whole { IsWhole octree.now }
-    requires linked { IsLinked octree.now }
+    requires begun { J.told.begun ≡ begun_of F.held octree.now }
+    requires whole { IsWhole F.held octree.now }
+    requires linked { IsLinked F.held octree.now }
     requires fits { FitsReader J.told (seen_reader S.whole reader.now) }
     requires sound { refusal_of reader.now ≡ None }
-    requires number { length (points_of octree.now) ≡ drawn_of reader.now }
+    requires number { length (points_of F.held octree.now) ≡ drawn_of reader.now }
     requires points { J.told.tells ≡ true → CanBeSampled J.told.rules J.told.points
         × (length J.told.points ≡ J.told.total) }
     requires sampled { J.told.tells ≡ true
-        → AreSampled J.told.rules (take (drawn_of reader.now) J.told.points) (nodes_of octree.now) }
+        → AreSampled J.told.rules (take (drawn_of reader.now) J.told.points) (nodes_of F.held octree.now) }
     ensures { IsLanded J.told (trees.used_of (forest_of octree.now))
-        (row S.whole reader.now (trees.nodes_of (forest_of octree.now))) }
+        (row F.held S.whole reader.now (trees.nodes_of (forest_of octree.now))) }
 {
     resume_law();
 }
 
 impl<F: SpillFile> Octree<F> {
-    /// The octree of what a table has left: its forest, with the reader that has drawn the points.
+    /// The octree of what a table has left: its forest, with the reader that has drawn the points. So many of its nodes may be
+    /// in memory.
     ///
     /// # Errors
     ///
@@ -58,20 +59,24 @@ impl<F: SpillFile> Octree<F> {
         forest: Forest<F>,
         reader: &Reader<S>,
         rules: &Rules,
+        cache: u32,
     ) -> Result<Octree<F>, Forest<F>>
-        requires landed { IsLanded J.told (trees.used_of forest) (row S.whole reader.now (trees.nodes_of forest)) }
+        requires landed { IsLanded J.told (trees.used_of forest) (row F.held S.whole reader.now (trees.nodes_of forest)) }
         requires rules { rules.now ≡ J.told.rules }
+        requires cache { (1 ≤ cache) × (trees.residents_of (trees.nodes_of forest) ≤ cache) }
         ensures rules { IfOk result (λ octree. rules_of octree ≡ rules.now) }
         ensures nodes { IfOk result (λ octree. trees.nodes_of (forest_of octree) ≡ trees.nodes_of forest) }
-        ensures whole { IfOk result IsWhole }
-        ensures linked { IfOk result IsLinked }
-        ensures number { IfOk result (λ octree. length (points_of octree) ≡ drawn_of reader.now) }
+        ensures cache { IfOk result (λ octree. cache_of octree ≡ cache) }
+        ensures whole { IfOk result (IsWhole F.held) }
+        ensures linked { IfOk result (IsLinked F.held) }
+        ensures number { IfOk result (λ octree. length (points_of F.held octree) ≡ drawn_of reader.now) }
         ensures sampled { IfOk result (λ octree. J.told.tells ≡ true
-            → AreSampled J.told.rules (take (drawn_of reader.now) J.told.points) (nodes_of octree)) }
+            → AreSampled J.told.rules (take (drawn_of reader.now) J.told.points) (nodes_of F.held octree)) }
         ensures refused { IfErr result (λ back. (trees.nodes_of back ≡ trees.nodes_of forest)
             × (trees.used_of back ≡ trees.used_of forest)) }
     {
         landed_law();
+        let here = forest.residents() as u32;
         let (nodes, used) = forest.into_nodes();
         let Ok(most) = u32::try_from(nodes.len()) else {
             return Err(Forest::from_nodes(nodes, used));
@@ -82,6 +87,8 @@ impl<F: SpillFile> Octree<F> {
                 slots,
                 rules: *rules,
                 most,
+                cache,
+                here,
             }),
             Err(_) => Err(Forest::from_nodes(nodes, used)),
         }
@@ -89,9 +96,13 @@ impl<F: SpillFile> Octree<F> {
 }
 
 // The slots of the keys of the first nodes, so many, no two of which have one key.
-fn slots_of<F>(alloc: Global, nodes: &[Node<F>], used: u32) -> Result<BTreeMap<Key, u32>, Memory>
-    requires { StandApart used (in_slots nodes.now) }
-    ensures { IfOk result (λ slots. AreSites used (in_slots nodes.now) slots.entries) }
+fn slots_of<F: SpillFile>(
+    alloc: Global,
+    nodes: &[Node<F>],
+    used: u32,
+) -> Result<BTreeMap<Key, u32>, Memory>
+    requires { StandApart used (in_slots F.held nodes.now) }
+    ensures { IfOk result (λ slots. AreSites used (in_slots F.held nodes.now) slots.entries) }
 {
     let mut slots = BTreeMap::new(alloc);
     for place in 0..used {

@@ -5,6 +5,7 @@ mod Merging
 mod NextTiles
 mod Phasing
 mod Refusing
+mod SameForest
 mod SamePoint
 mod SavedTo
 mod SavedNodes

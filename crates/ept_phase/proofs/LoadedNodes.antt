@@ -21,11 +21,13 @@ use Rattle.ept_ckpt.specs.Octree.{keys_of, AreWholeOctree}
 use Rattle.ept_save.specs.Current.{tile_of_line}
 use Rattle.ept_save.specs.Loading.{AreOfLine}
 use Rattle.ept_table.specs.Octree.{Branch}
-use Rattle.ept_octree.specs.Adding.{filled, IsFree}
+use Rattle.ept_octree.specs.Adding.{filled, IsFree, HasRoomFor}
+use Rattle.ept_octree.specs.declared.octree.Octree.{Octree}
+use Rattle.ept_octree.specs.Octree.{cache_of, residents_of, AreAlike}
 use Rattle.ept_phase.specs.Lines.{TellsNode, TellNodes, NamesTile, NameTiles}
 use Rattle.ept_phase.proofs.Telling.{among-member}
 use Rattle.ept_phase.proofs.Merging.{DoAscend}
-use Rattle.ept_phase.proofs.Lining.{zip-more, tells-both, tells-back, do-ascend, insert-last, entries-low, take-next, told-few}
+use Rattle.ept_phase.proofs.Lining.{zip-more, tells-both, tells-back, do-ascend, insert-last, before-next, entries-low, take-next, told-few}
 
 -- points of a node have no fault
 pub no-fault : (key : VoxelKey) (rules : Rules) (mask : ℕ) (points : List Point) (fault : GridError) → IsTile key rules mask points → IsTileFault key rules mask points fault → ⊥
@@ -65,20 +67,25 @@ some-lines (l ∷ ls) octree = omega arith
 abbrev pub alone : Rules → List Branch
 alone rules = (let b : Branch = (root, empty_node root rules) in b) ∷ []
 
--- The nodes of these lines were added to the octree of no points, in which the root stands from the beginning; the files that the
--- lines name are their tiles.
-pub record AreLoaded (rules : Rules) (lines : List NodeLine) (nodes : List Branch) (files : Option Files) : Type 0 where
+-- The nodes of these lines were added to the octree of no points, in which the root stands from the beginning; where spill
+-- files tell, the files that the lines name are their tiles.
+pub record AreLoaded (telling : Type 0) (rules : Rules) (lines : List NodeLine) (nodes : List Branch) (files : Option Files) : Type 0 where
   pub loaded : List Branch
   pub told : TellNodes loaded lines
-  pub tiles : Tells (λ all. NameTiles all loaded lines) files
+  pub tiles : telling → Tells (λ all. NameTiles all loaded lines) files
   pub there : (nodes ≡ loaded) ⊎ ((loaded ≡ []) × (nodes ≡ alone rules))
+
+-- before the first line the root is in memory, and behind each there is room for one node more
+abbrev pub HasPlace : {F : Type 0} → ℕ → Octree F → Type 0
+HasPlace i tree = ((i ≡ 0) × (0 < residents_of tree)) ⊎ ((0 < i) × (residents_of tree < cache_of tree))
 
 none_named : (files : Option Files) → Tells (λ all. NameTiles all [] []) files
 none_named None = tt
 none_named (Some all) = tt
 
-pub loaded-none : (rules : Rules) (nodes : List Branch) (files : Option Files) → nodes ≡ alone rules → AreLoaded rules [] nodes files
-loaded-none rules nodes files is = record { loaded = []; told = tt; tiles = none_named files; there = inr (refl, is) }
+pub loaded-none : (telling : Type 0) (rules : Rules) (nodes : List Branch) (files : Option Files) → nodes ≡ alone rules → AreLoaded telling rules [] nodes files
+loaded-none telling rules nodes files is =
+    record { loaded = []; told = tt; tiles = λ tell. none_named files; there = inr (refl, is) }
 
 -- where no node is told of there is no line
 first_taken : (lines : List NodeLine) (i : ℕ) → i < length lines → TellNodes [] (take i lines) → i ≡ 0
@@ -86,7 +93,18 @@ first_taken lines zero inside told = refl
 first_taken [] (suc i) inside told = absurd (omega (arith, inside))
 first_taken (l ∷ ls) (suc i) inside told = absurd told
 
-module _ (rules : Rules) (c : Checkpoint) (items : List NodeLine) (same : items ≡ c.nodes) (i : ℕ) (line : NodeLine) (inside : i < length items) (is : get_or items i line ≡ line) (nodes : List Branch) (old : Option Files) (at : AreLoaded rules (take i items) nodes old) where
+-- what lines tell of nodes they tell of nodes that are alike
+pub alike-told : (old new : List Branch) (lines : List NodeLine) → AreAlike old new → TellNodes old lines → TellNodes new lines
+alike-told [] [] lines alike told = told
+alike-told [] (c ∷ cs) lines alike told = absurd alike
+alike-told (b ∷ bs) [] lines alike told = absurd alike
+alike-told (b ∷ bs) (c ∷ cs) [] alike told = absurd told
+alike-told (b ∷ bs) (c ∷ cs) (l ∷ ls) alike told = (
+  record { key = told.0.key ∙ sym alike.0.0; mask = told.0.mask ∙ sym alike.0.1.mask; count = told.0.count ∙ sym alike.0.1.count },
+  alike-told bs cs ls alike.1 told.1,
+)
+
+module _ (telling : Type 0) (rules : Rules) (c : Checkpoint) (items : List NodeLine) (same : items ≡ c.nodes) (i : ℕ) (line : NodeLine) (inside : i < length items) (is : get_or items i line ≡ line) (nodes : List Branch) (old : Option Files) (at : AreLoaded telling rules (take i items) nodes old) where
   octree : AreWholeOctree items
   octree = subst (λ (w : List NodeLine). AreWholeOctree w) (sym same) c.is_checkpoint.nodes_are.octree
 
@@ -114,6 +132,22 @@ module _ (rules : Rules) (c : Checkpoint) (items : List NodeLine) (same : items 
     | inr first ↦ inr (alone_first first.0, empty_node root rules, first.1, refl)
   ]
 
+  -- each but the first has room once the one before it was added
+  pub next-room : {F : Type 0} (tree : Octree F) → HasPlace i tree → HasRoomFor line.key tree
+  next-room tree (inl first) = inl (first-root items line octree (subst (λ (k : ℕ). get_or items k line ≡ line) first.0 is) (omega (arith, inside)))
+  next-room tree (inr behind) = inr behind.1
+
+  -- and only the first is that of the root, which is in memory
+  pub next-here : {F : Type 0} (tree : Octree F) → HasPlace i tree → line.key ≡ root → 0 < residents_of tree
+  next-here tree (inl first) rooted = first.1
+  next-here tree (inr behind) rooted = absurd (root_behind items i behind.0 up inside is)
+    where
+      root_behind : (ls : List NodeLine) (k : ℕ) → 0 < k → DoAscend ls → k < length ls → get_or ls k line ≡ line → ⊥
+      root_behind [] k some up low at = absurd (omega (arith, low))
+      root_behind (l ∷ ls) zero some up low at = absurd (omega (arith, some))
+      root_behind (l ∷ ls) (suc k) some up low at =
+          none_before l.key (subst (λ (w : VoxelKey). key_cmp l.key w ≡ Less) rooted (before-next (l ∷ ls) (suc k) line l up low at (inl refl)))
+
   -- it is one too many only where there are more lines than there may be nodes
   pub next-full : (most : ℕ) → (line.key ≢ root) × (most ≤ length nodes) → most < length c.nodes
   next-full most full = elim at.there [
@@ -123,32 +157,33 @@ module _ (rules : Rules) (c : Checkpoint) (items : List NodeLine) (same : items 
     | inr first ↦ absurd (full.0 (alone_first first.0))
   ]
 
-  module _ (node : Node) (more : List Branch) (inserted : more ≡ insert_entry key_cmp nodes line.key node) where
+  module _ (node : Node) (more : List Branch) (alike : AreAlike (insert_entry key_cmp nodes line.key node) more) (inserted : telling → more ≡ insert_entry key_cmp nodes line.key node) where
     abbrev next : Branch
     next = (line.key, node)
 
-    last : more ≡ at.loaded ++ next ∷ []
+    last : insert_entry key_cmp nodes line.key node ≡ at.loaded ++ next ∷ []
     last = elim at.there [
-      | inl all ↦ inserted ∙ (ap (λ (w : List Branch). insert_entry key_cmp w line.key node) all ∙ insert-last at.loaded line.key node low)
+      | inl all ↦ ap (λ (w : List Branch). insert_entry key_cmp w line.key node) all ∙ insert-last at.loaded line.key node low
       | inr first ↦
           let here : key_cmp line.key root ≡ Equal = key_cmp-same line.key root (alone_first first.0) in
-          inserted
-          ∙ (ap (λ (w : List Branch). insert_entry key_cmp w line.key node) first.1
+          ap (λ (w : List Branch). insert_entry key_cmp w line.key node) first.1
           ∙ (ap (λ (o : Ordering). match_ordering o (next ∷ alone rules) ((root, node) ∷ []) ((root, empty_node root rules) ∷ insert_entry key_cmp [] line.key node)) here
-          ∙ (ap (λ (k : VoxelKey). let b : Branch = (k, node) in b ∷ []) (sym (alone_first first.0)) ∙ ap (λ (w : List Branch). w ++ next ∷ []) (sym first.0))))
+          ∙ (ap (λ (k : VoxelKey). let b : Branch = (k, node) in b ∷ []) (sym (alone_first first.0)) ∙ ap (λ (w : List Branch). w ++ next ∷ []) (sym first.0)))
     ]
 
     taken : take i items ++ line ∷ [] ≡ take (i + 1) items
     taken = take-next items i line inside is
 
-    pub loaded-more : (mid : Option Files) → StepsBy SameFiles old mid → TellsNode next line → Tells (λ all. NamesTile all next line) mid → AreLoaded rules (take (i + 1) items) more old
+    pub loaded-more : (mid : Option Files) → StepsBy SameFiles old mid → TellsNode next line → Tells (λ all. NamesTile all next line) mid → AreLoaded telling rules (take (i + 1) items) more old
     loaded-more mid unchanged tells name = record {
-      loaded = at.loaded ++ next ∷ [];
-      told = subst (λ (ls : List NodeLine). TellNodes (at.loaded ++ next ∷ []) ls) taken (zip-more TellsNode at.loaded (take i items) next line at.told tells);
-      tiles = subst (λ (ls : List NodeLine). Tells (λ all. NameTiles all (at.loaded ++ next ∷ []) ls) old) taken
-          (tells-both (λ all. NameTiles all at.loaded (take i items)) (λ all. NamesTile all next line) (λ all. NameTiles all (at.loaded ++ next ∷ []) (take i items ++ line ∷ [])) (λ all names name. zip-more (NamesTile all) at.loaded (take i items) next line names name) old at.tiles
-          (tells-back (λ all. NamesTile all next line) (λ all. NamesTile all next line) (λ a b step here. sym (step (tile_of_line line)) ∙ here) old mid unchanged name));
-      there = inl last;
+      loaded = more;
+      told = alike-told (at.loaded ++ next ∷ []) more (take (i + 1) items) (subst (λ (w : List Branch). AreAlike w more) last alike)
+          (subst (λ (ls : List NodeLine). TellNodes (at.loaded ++ next ∷ []) ls) taken (zip-more TellsNode at.loaded (take i items) next line at.told tells));
+      tiles = λ tell. subst (λ (w : List Branch). Tells (λ all. NameTiles all w (take (i + 1) items)) old) (sym (inserted tell ∙ last))
+          (subst (λ (ls : List NodeLine). Tells (λ all. NameTiles all (at.loaded ++ next ∷ []) ls) old) taken
+          (tells-both (λ all. NameTiles all at.loaded (take i items)) (λ all. NamesTile all next line) (λ all. NameTiles all (at.loaded ++ next ∷ []) (take i items ++ line ∷ [])) (λ all names name. zip-more (NamesTile all) at.loaded (take i items) next line names name) old (at.tiles tell)
+          (tells-back (λ all. NamesTile all next line) (λ all. NamesTile all next line) (λ a b step here. sym (step (tile_of_line line)) ∙ here) old mid unchanged name)));
+      there = inl refl;
     }
 
 -- the node of the points that were found is the one of which the line tells
@@ -156,11 +191,11 @@ pub tells-filled : (rules its : Rules) (line : NodeLine) (points : List Point) �
 tells-filled rules its line points are = record { key = refl; mask = refl; count = sym are.counted }
 
 -- with all lines, these are the octree's nodes
-pub all-loaded : (rules : Rules) (c : Checkpoint) (nodes : List Branch) (files : Option Files) → AreLoaded rules c.nodes nodes files → TellNodes nodes c.nodes × Tells (λ all. NameTiles all nodes c.nodes) files
-all-loaded rules c nodes files at = elim at.there [
+pub all-loaded : (telling : Type 0) (rules : Rules) (c : Checkpoint) (nodes : List Branch) (files : Option Files) → AreLoaded telling rules c.nodes nodes files → TellNodes nodes c.nodes × (telling → Tells (λ all. NameTiles all nodes c.nodes) files)
+all-loaded telling rules c nodes files at = elim at.there [
   | inl all ↦ (
     subst (λ (w : List Branch). TellNodes w c.nodes) (sym all) at.told,
-    subst (λ (w : List Branch). Tells (λ here. NameTiles here w c.nodes) files) (sym all) at.tiles,
+    λ tell. subst (λ (w : List Branch). Tells (λ here. NameTiles here w c.nodes) files) (sym all) (at.tiles tell),
   )
   | inr first ↦ absurd (none_told c.nodes c.is_checkpoint.nodes_are.octree (subst (λ (w : List Branch). TellNodes w c.nodes) first.0 at.told))
 ]

@@ -9,13 +9,10 @@ use Rattle.ept_space.specs.declared.cube.Rules.{Rules}
 use Rattle.ept_space.specs.VoxelKey.{VoxelKey}
 use Rattle.ept_config.specs.declared.kept.Kept.{Kept}
 use Rattle.ept_config.specs.declared.source_count.SourceCount.{SourceCount}
-use Rattle.ept_sample.specs.declared.tiles.Tile.{Tile}
 use Rattle.ept_sample.specs.Members.{IsMember}
-use Rattle.ept_sample.specs.Nodes.{node_keys, tile_at, sampled}
 use Rattle.ept_sample.specs.Sampling.{sampling}
 use Rattle.ept_sample.specs.SamplingLaws.{CanBeSampled}
 use Rattle.ept_sample.proofs.IdLaws.{IsAscending-IsRising}
-use Rattle.ept_sample.proofs.Members.{IsMember-map, member-map}
 use Rattle.ept_sample.proofs.SamplingLaws.{IsRising-sampling}
 use Rattle.ept_grid.specs.Tile.{IsTile}
 use Rattle.ept_ckpt.specs.declared.letter.Letter.{Letter}
@@ -29,7 +26,8 @@ use Rattle.ept_save.specs.Loading.{AreOfLine, IsDamagedLine}
 use Rattle.ept_save.specs.View.{View, next_letter}
 use Rattle.ept_save.proofs.LoadedLines.{not-damaged-line}
 use Rattle.ept_save.proofs.NamesDiffer.{gate-tile, body-tile}
-use Rattle.ept_table.specs.Octree.{Branch, tile_of, AreSampled}
+use Rattle.ept_table.specs.Octree.{Branch, AreSampled}
+use Rattle.ept_octree.proofs.Sampled.{node-points}
 use Rattle.ept_phase.specs.Lines.{TellsNode, TellNodes, NamesTile, NameTiles}
 use Rattle.ept_phase.specs.Loaded.{OfCurrent, HasNoDamage}
 use Rattle.ept_phase.specs.Phase.{IsSaved}
@@ -59,23 +57,13 @@ both-at files (b ∷ bs) (l ∷ ls) line told names (inr m) =
     let more = both-at files bs ls line told.1 names.1 m in
     (more.0, inr more.1, more.2, more.3)
 
-member_points : (rules : Rules) (points : List Point) (t : Tile) → IsMember t (sampled rules points) → t.points ≡ sampling rules points t.key
-unfolding sampled
-member_points rules points t m =
-    let at = member-map (tile_at rules points) t (node_keys rules points) m in
-    subst (λ (w : Tile). w.points ≡ sampling rules points w.key) at.2 refl
-
-node_points : (rules : Rules) (points : List Point) (nodes : List Branch) (b : Branch) → AreSampled rules points nodes → IsMember b nodes → b.1.points ≡ sampling rules points b.0
-node_points rules points nodes b are m =
-    member_points rules points (tile_of b) (subst (λ (w : List Tile). IsMember (tile_of b) w) are.tiles (IsMember-map tile_of b nodes m))
-
 -- ---- the nodes of a sampling
 
 module _ (once : ReadInOneWay) (rules : Rules) (points : List Point) (can : CanBeSampled rules points) (nodes : List Branch) (are : AreSampled rules points nodes) (known : AreKnown nodes) where
   are_of_line : (b : Branch) (line : NodeLine) → IsMember b nodes → TellsNode b line → AreOfLine rules line b.1.points
   are_of_line b line m told =
       let here : List Point = sampling rules points b.0 in
-      let points_are : b.1.points ≡ here = node_points rules points nodes b are m in
+      let points_are : b.1.points ≡ here = node-points rules points nodes b are m in
       let rises : IsAscending here = IsAscending-IsRising here (IsRising-sampling rules points b.0 can.distinct) in
       let fits : IsTile b.0 rules b.1.mask here = sampled-IsTile rules points can b.0 b.1.mask (known b m).2 (λ o low. are.opens b o m low) in
       let fits_line : IsTile line.key rules line.mask here =

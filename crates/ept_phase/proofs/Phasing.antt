@@ -1,6 +1,6 @@
 -- An octree becomes the next checkpoint: why that is one, and how the files go on.
 use Rattle.std.proofs.Common.{◌≡◌, ◌∙◌, inl, inr, ⊎_elim, ℕ, zero, suc, ◌+◌, ◌<◌, ◌≤◌, ◌^◌, List, [], ◌∷◌, map, length, get_or, refl, sym, ap, subst, arith, Option, Some, None}
-use Rattle.std.specs.Prelude.{All, false, Result, Ok, Err, OnOk}
+use Rattle.std.specs.Prelude.{All, false}
 use Rattle.ept_base.specs.Files.{Files, Tells}
 use Rattle.ept_base.specs.Moves.{Moves}
 use Rattle.ept_base.proofs.Moving.{moves_weaker, moves_both}
@@ -147,10 +147,6 @@ tree-valid law view rules kept counts inserted nodes given further few told know
 pub stands-current : (view : View) (files : Option Files) (may_leave : Files → Type 0) (all : Files) → StandsFor view files may_leave → files ≡ Some all → HasCurrent view.current all
 stands-current view files may_leave all stands told =
     subst (HasCurrent view.current) (some-same stands.all all (sym stands.told ∙ told)) stands.has_current
-
-pub on-ok : {T E : Type 0} (one other : Type 0) → (one → other) → (result : Result T E) → OnOk result one → OnOk result other
-on-ok one other makes (Ok t) has = makes has
-on-ok one other makes (Err e) has = tt
 
 module _ (by_facts : CheckpointByFacts) (start view : View) (same : view.current ≡ start.current) (kept : Kept) (counts : List SourceCount) (inserted : ℕ) (nodes : List Branch) (valid : IsCheckpoint (next_generation view.current) kept counts inserted view.lines) (told : TellNodes nodes view.lines) where
   abbrev its : Checkpoint

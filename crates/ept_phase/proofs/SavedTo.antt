@@ -142,24 +142,25 @@ saved-tile (Err e) old new key mask points letter before after line puts = tt
 
 -- ---- the nodes, one after another
 
--- of the nodes that are done the lines are there, with their tiles; of the rest the current checkpoint's lines stand
-pub record IsSavedTo (start now : View) (done rest : List Branch) (files : Option Files) : Type 0 where
+-- of the nodes that are done the lines are there, where spill files tell with their tiles; of the rest the current checkpoint's
+-- lines stand
+pub record IsSavedTo (telling : Type 0) (start now : View) (done rest : List Branch) (files : Option Files) : Type 0 where
   pub lines : List NodeLine
   pub view_is : now ≡ record start { lines = lines ++ lines_among (keys_in rest) (lines_of start.current) }
   pub told : TellNodes done lines
-  pub tiles : Tells (λ all. NameTiles all done lines) files
+  pub tiles : telling → Tells (λ all. NameTiles all done lines) files
   pub known : AreKnown done
 
 tells_nothing : (files : Option Files) → Tells (λ all. NameTiles all [] []) files
 tells_nothing None = tt
 tells_nothing (Some all) = tt
 
-pub saved-none : (start : View) (nodes : List Branch) (files : Option Files) → start.lines ≡ lines_of start.current → HasEachNodeOf start.current nodes → IsSavedTo start start [] nodes files
-saved-none start nodes files fresh each = record {
+pub saved-none : (telling : Type 0) (start : View) (nodes : List Branch) (files : Option Files) → start.lines ≡ lines_of start.current → HasEachNodeOf start.current nodes → IsSavedTo telling start start [] nodes files
+saved-none telling start nodes files fresh each = record {
   lines = [];
   view_is = view;
   told = tt;
-  tiles = tells_nothing files;
+  tiles = λ tell. tells_nothing files;
   known = λ b m. absurd m;
 }
   where
@@ -174,8 +175,11 @@ pub lines-only : (start now : View) (lines : List NodeLine) → now ≡ record s
 lines-only start now lines is = is ∙ ap (λ (w : List NodeLine). record start { lines = w }) (sym (ap (λ (v : View). v.lines) is))
 
 -- in the end all lines are those of the nodes
-pub saved-all : (start now : View) (nodes : List Branch) (files : Option Files) → IsSavedTo start now nodes [] files → TellNodes nodes now.lines × Tells (λ all. NameTiles all nodes now.lines) files
-saved-all start now nodes files at = (subst (TellNodes nodes) lines at.told, subst (λ (w : List NodeLine). Tells (λ all. NameTiles all nodes w) files) lines at.tiles)
+pub saved-all : (telling : Type 0) (start now : View) (nodes : List Branch) (files : Option Files) → IsSavedTo telling start now nodes [] files → TellNodes nodes now.lines × (telling → Tells (λ all. NameTiles all nodes now.lines) files)
+saved-all telling start now nodes files at = (
+  subst (TellNodes nodes) lines at.told,
+  λ tell. subst (λ (w : List NodeLine). Tells (λ all. NameTiles all nodes w) files) lines (at.tiles tell),
+)
   where
     none : (ls : List NodeLine) → lines_among [] ls ≡ []
     none [] = refl
@@ -194,11 +198,12 @@ none_left [] (suc i) end = refl
 none_left (x ∷ xs) zero end = absurd (omega (arith, end))
 none_left (x ∷ xs) (suc i) end = none_left xs i (omega (arith, end))
 
-pub saved-end : (start now : View) (nodes : List Branch) (i : ℕ) (files : Option Files) → length nodes ≤ i → IsSavedTo start now (take i nodes) (drop i nodes) files → IsSavedTo start now nodes [] files
-saved-end start now nodes i files end at =
-    subst (λ (w : List Branch). IsSavedTo start now w [] files) (take_all i nodes end) (subst (λ (w : List Branch). IsSavedTo start now (take i nodes) w files) (none_left nodes i end) at)
+pub saved-end : (telling : Type 0) (start now : View) (nodes : List Branch) (i : ℕ) (files : Option Files) → length nodes ≤ i → IsSavedTo telling start now (take i nodes) (drop i nodes) files → IsSavedTo telling start now nodes [] files
+saved-end telling start now nodes i files end at =
+    subst (λ (w : List Branch). IsSavedTo telling start now w [] files) (take_all i nodes end)
+    (subst (λ (w : List Branch). IsSavedTo telling start now (take i nodes) w files) (none_left nodes i end) at)
 
-module _ (start now new : View) (done rest : List Branch) (b : Branch) (points : List Point) (files after : Option Files) (rises : Rise (keys_in (done ++ b ∷ rest))) (is_key : IsKey b.0) (shallow : b.1.key.depth ≤ b.1.rules.cube.depth) (byte : b.1.mask < 2 ^ 8) (at : IsSavedTo start now done (b ∷ rest) files) (saves : SavesNode now new b.0 b.1.mask points after) (points_are : points ≡ b.1.points) (letter : Letter) (one : StepsBy (SameBut (work_tile_name letter b.0)) files after) where
+module _ (telling : Type 0) (start now new : View) (done rest : List Branch) (b : Branch) (points : List Point) (files after : Option Files) (rises : Rise (keys_in (done ++ b ∷ rest))) (is_key : IsKey b.0) (shallow : b.1.key.depth ≤ b.1.rules.cube.depth) (byte : b.1.mask < 2 ^ 8) (at : IsSavedTo telling start now done (b ∷ rest) files) (saves : SavesNode now new b.0 b.1.mask points after) (many : length points ≡ length b.1.points) (points_are : telling → points ≡ b.1.points) (letter : Letter) (one : StepsBy (SameBut (work_tile_name letter b.0)) files after) where
   abbrev key : VoxelKey
   key = b.0
 
@@ -266,13 +271,13 @@ module _ (start now new : View) (done rest : List Branch) (b : Branch) (points :
           let equal = ap (λ (k : VoxelKey). key_cmp k key) is ∙ key-self key in
           absurd (cc)
 
-  tell_tiles : (old new : Option Files) → StepsBy (SameBut (work_tile_name letter key)) old new → Tells (λ all. NameTiles all done lines) old → Tells (λ (all : Files). all (tile_of_line saves.line) ≡ Some (tile points)) new → Tells (λ all. NameTiles all (done ++ b ∷ []) (lines ++ saves.line ∷ [])) new
-  tell_tiles None None step names has = tt
-  tell_tiles None (Some then) step names has = absurd step
-  tell_tiles (Some all) None step names has = absurd step
-  tell_tiles (Some all) (Some then) step names has =
+  tell_tiles : telling → (old new : Option Files) → StepsBy (SameBut (work_tile_name letter key)) old new → Tells (λ all. NameTiles all done lines) old → Tells (λ (all : Files). all (tile_of_line saves.line) ≡ Some (tile points)) new → Tells (λ all. NameTiles all (done ++ b ∷ []) (lines ++ saves.line ∷ [])) new
+  tell_tiles tell None None step names has = tt
+  tell_tiles tell None (Some then) step names has = absurd step
+  tell_tiles tell (Some all) None step names has = absurd step
+  tell_tiles tell (Some all) (Some then) step names has =
       zip-more (NamesTile then) done lines b saves.line (others all then step done lines at.told at.known low names)
-      (has ∙ ap (λ (w : List Point). Some (tile w)) points_are)
+      (has ∙ ap (λ (w : List Point). Some (tile w)) (points_are tell))
 
   known_more : (nodes : List Branch) → AreKnown nodes → AreKnown (nodes ++ b ∷ [])
   known_more [] are c (inl is) = subst (λ (w : Branch). IsKey w.0 × (w.1.key.depth ≤ w.1.rules.cube.depth) × (w.1.mask < 2 ^ 8)) is (is_key, shallow, byte)
@@ -280,11 +285,11 @@ module _ (start now new : View) (done rest : List Branch) (b : Branch) (points :
   known_more (n ∷ ns) are c (inl is) = are c (inl is)
   known_more (n ∷ ns) are c (inr m) = known_more ns (λ d i. are d (inr i)) c m
 
-  pub saved-more : IsSavedTo start new (done ++ b ∷ []) rest after
+  pub saved-more : IsSavedTo telling start new (done ++ b ∷ []) rest after
   saved-more = record {
     lines = lines ++ saves.line ∷ [];
     view_is = new_lines saves.comes ∙ ap (λ (w : List NodeLine). record start { lines = w }) (sym (append_assoc lines (saves.line ∷ []) behind));
-    told = zip-more TellsNode done lines b saves.line at.told (record { key = saves.is_key; mask = saves.is_mask; count = saves.is_count ∙ ap length points_are });
-    tiles = tell_tiles files after one at.tiles saves.has_tile;
+    told = zip-more TellsNode done lines b saves.line at.told (record { key = saves.is_key; mask = saves.is_mask; count = saves.is_count ∙ many });
+    tiles = λ tell. tell_tiles tell files after one (at.tiles tell) saves.has_tile;
     known = known_more done at.known;
   }

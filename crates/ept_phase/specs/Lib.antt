@@ -1,3 +1,4 @@
+pub mod Errors
 pub mod Loaded
 pub mod Lines
 pub mod LinesLaws

@@ -8,14 +8,15 @@ use Rattle.ept_sample.specs.Members.{IsMember}
 use Rattle.ept_ckpt.specs.declared.node_line.NodeLine.{NodeLine}
 use Rattle.ept_ckpt.specs.Octree.{is_among}
 use Rattle.ept_save.specs.Current.{Current, tile_of_line}
-use Rattle.ept_save.specs.declared.error.SaveError.{SaveError}
 use Rattle.ept_save.specs.declared.error.SaveError.TheVariants.{TileDamaged}
-use Rattle.ept_save.specs.Errors.{IsStores}
 use Rattle.ept_save.specs.Lines.{with_line}
 use Rattle.ept_save.specs.Loading.{current_line, OfLine, HasTile}
 use Rattle.ept_save.specs.Opening.{lines_of}
 use Rattle.ept_save.specs.View.{View}
 use Rattle.ept_table.specs.Octree.{Branch}
+use Rattle.ept_phase.specs.declared.error.PhaseError.{PhaseError}
+use Rattle.ept_phase.specs.declared.error.PhaseError.TheVariants.{Save}
+use Rattle.ept_phase.specs.Errors.{IsDevices}
 
 -- the current checkpoint tells of a node of the key with these open octants and so many points
 abbrev pub IsTold : Current → VoxelKey → ℕ → List Point → Type 0
@@ -55,5 +56,5 @@ abbrev pub HasEachNodeOf : Current → List Branch → Type 0
 HasEachNodeOf current nodes = All (λ (line : NodeLine). is_among (keys_in nodes) line.key ≡ true) (lines_of current)
 
 -- why nodes may not be saved
-abbrev pub IsSaveFault : SaveError → Type 0
-IsSaveFault e = ((key : VoxelKey) × (e ≡ TileDamaged key)) ⊎ IsStores e
+abbrev pub IsSaveFault : PhaseError → Type 0
+IsSaveFault e = ((key : VoxelKey) × (e ≡ Save (TileDamaged key))) ⊎ IsDevices e

@@ -7,7 +7,7 @@ mod loading;
 mod phase;
 mod saving;
 
-pub use error::LoadError;
+pub use error::PhaseError;
 pub use laws::{lines_law, saved_law};
 pub use loading::load_octree;
 pub use phase::save_octree;

@@ -1,10 +1,14 @@
 //! An octree as the next checkpoint.
 
-ghost use Rattle.std.specs.Prelude.{◌≡◌, ◌⊎◌, true, false, Some, Err, Ok, IfErr, OnOk, OnErr};
+ghost use Rattle.std.specs.Prelude.{◌≡◌, ◌≢◌, ◌<◌, ◌⊎◌, ℕ, List, true, false, Some, Err, Ok, IfErr, OnOk, OnErr};
 ghost use Rattle.ept_base.specs.Causes.{HasCauseOf};
 ghost use Rattle.ept_base.specs.Files.{Files, SameFiles, SameBut, Tells};
 ghost use Rattle.ept_base.specs.Moves.{Moves, SameImages};
+ghost use Rattle.ept_point.specs.declared.point.Point as p;
 ghost use Rattle.ept_space.specs.VoxelKey.{VoxelKey};
+ghost use Rattle.ept_sample.specs.SamplingLaws.{CanBeSampled};
+ghost use Rattle.ept_node.specs.Shown.{IsTelling};
+ghost use Rattle.ept_save.specs.declared.error.SaveError.TheVariants as save;
 ghost use Rattle.ept_save.specs.Names.{work_tile_name};
 ghost use Rattle.ept_save.specs.Current.{HasCurrent, Keeps};
 ghost use Rattle.ept_save.specs.Errors.{IsStores};
@@ -17,9 +21,12 @@ ghost use Rattle.ept_save.specs.View.{StandsFor};
 ghost use Rattle.ept_phase.specs.Lines.{TellNodes, NameTiles};
 ghost use Rattle.ept_phase.specs.Loaded.{HasNoDamage};
 ghost use Rattle.ept_forest.specs.Slots as trees;
-ghost use Rattle.ept_octree.specs.Octree.{forest_of, rules_of, nodes_of};
+ghost use Rattle.ept_table.specs.Octree.{AreSampled};
+ghost use Rattle.ept_octree.specs.Octree.{forest_of, rules_of, most_of, cache_of, nodes_of, IsLinked, IsUnbroken, AgreesWithFiles};
+ghost use Rattle.ept_phase.specs.Errors.{IsDevices};
 ghost use Rattle.ept_phase.specs.Saving.{HasNode, IsTold, SavesNode, AreKnown, HasEachNodeOf, IsSaveFault};
 
+use crate::error::PhaseError;
 use ept_base::{SpillFile, Store};
 use ept_octree::Octree;
 use ept_point::Point;
@@ -144,28 +151,39 @@ pub(crate) fn save_nodes<T: Store, F: SpillFile>(
     store: &mut T,
     saved: &mut Saved,
     octree: &mut Octree<F>,
-) -> Result<(), SaveError>
+) -> Result<(), PhaseError>
     requires fresh { saved.old.lines ≡ lines_of saved.old.current }
-    requires each { HasEachNodeOf saved.old.current (nodes_of octree.old) }
-    ensures told { OnOk result (TellNodes (nodes_of octree.old) saved.new.lines) }
-    ensures tiles { OnOk result (Tells (λ all. NameTiles all (nodes_of octree.old) saved.new.lines) (T.files store.new)) }
-    ensures known { OnOk result (AreKnown (nodes_of octree.old)) }
+    requires each { HasEachNodeOf saved.old.current (nodes_of F.held octree.old) }
+    requires agrees { AgreesWithFiles F.held F.faults F.keeps octree.old }
+    ensures told { OnOk result (TellNodes (nodes_of F.held octree.old) saved.new.lines) }
+    ensures tiles { IsTelling F.held → OnOk result (Tells
+        (λ all. NameTiles all (nodes_of F.held octree.old) saved.new.lines) (T.files store.new)) }
+    ensures known { OnOk result (AreKnown (nodes_of F.held octree.old)) }
     ensures lines { saved.new ≡ record saved.old { lines = saved.new.lines } }
     ensures keeps { Moves T.files T.may_leave T.moment T.image_since
         (Keeps saved.old.current) store.old store.new }
     ensures stands { StandsFor saved.old (T.files store.old) (T.may_leave store.old)
         → StandsFor saved.new (T.files store.new) (T.may_leave store.new) }
     ensures only { IfErr result IsSaveFault }
-    ensures damaged { (key : VoxelKey) → result ≡ Err (SaveError.TileDamaged key)
+    ensures damaged { (key : VoxelKey) → result ≡ Err (PhaseError.Save (save.TileDamaged key))
         → HasLine saved.old.current key × Tells (IsDamaged saved.old.current key) (T.files store.new) }
     ensures undamaged { (all : Files) → T.files store.old ≡ Some all → HasNoDamage saved.old.current all
-        → IfErr result IsStores }
+        → IfErr result IsDevices }
     ensures sound { (shelf all : Files) → T.files store.old ≡ Some all → IsSound shelf all
-        → HasCurrent saved.old.current all → IfErr result IsStores }
-    ensures cause { HasCauseOf SaveError.StoreFault (T.faults store.old) (T.faults store.new) result }
-    ensures nodes { trees.nodes_of (forest_of octree.new) ≡ trees.nodes_of (forest_of octree.old) }
-    ensures same { nodes_of octree.new ≡ nodes_of octree.old }
+        → HasCurrent saved.old.current all → IfErr result IsDevices }
+    ensures spill { result ≡ Err PhaseError.SpillFault
+        → 0 < trees.faults_of F.faults (trees.nodes_of (forest_of octree.new)) }
+    ensures no_damage { (points : List p.Point) → CanBeSampled (rules_of octree.old) points
+        → AreSampled (rules_of octree.old) points (nodes_of F.held octree.old) → IsUnbroken octree.old
+        → IsTelling F.held → (kept found at : ℕ) → result ≢ Err (PhaseError.SpillDamaged kept found at) }
+    ensures cause { HasCauseOf (PhaseError.Save save.StoreFault) (T.faults store.old) (T.faults store.new) result }
+    ensures same { nodes_of F.held octree.new ≡ nodes_of F.held octree.old }
+    ensures linked { IsLinked F.held octree.old → IsLinked F.held octree.new }
+    ensures agrees { AgreesWithFiles F.held F.faults F.keeps octree.new }
+    ensures unbroken { OnOk result (IsUnbroken octree.old → IsUnbroken octree.new) }
     ensures rules { rules_of octree.new ≡ rules_of octree.old }
+    ensures most { most_of octree.new ≡ most_of octree.old }
+    ensures cache { cache_of octree.new ≡ cache_of octree.old }
 {
     sound_steps_law();
     octree.len();
@@ -174,7 +192,7 @@ pub(crate) fn save_nodes<T: Store, F: SpillFile>(
     for key in &keys {
         key.known();
         points.clear();
-        octree.points_into(key, &mut points)?;
+        octree.points_into(alloc, key, &mut points)?;
         let mask = octree.open_mask(key);
         save_node(alloc, store, saved, *key, mask, &points)?;
     }

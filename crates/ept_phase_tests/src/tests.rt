@@ -1,12 +1,12 @@
 //! Phases in a store in memory, whose first checkpoint is written out by hand.
 
-ghost use Rattle.std.specs.Prelude.{◌≡◌, ◌≤◌, ◌∷◌, [], IfOk, map};
+ghost use Rattle.std.specs.Prelude.{◌≡◌, ◌≤◌, ◌<◌, ◌∷◌, [], IfOk, map};
 ghost use Rattle.ept_space.specs.VoxelKey.{root};
 ghost use Rattle.ept_ckpt.specs.declared.checkpoint.Checkpoint as c;
 ghost use Rattle.ept_ckpt.specs.Octree as ckpt;
 ghost use Rattle.ept_meta.specs.Output as meta;
 ghost use Rattle.ept_node.specs.Shown.{empty_node};
-ghost use Rattle.ept_octree.specs.Octree.{rules_of, nodes_of};
+ghost use Rattle.ept_octree.specs.Octree.{rules_of, residents_of, nodes_of, IsUnbroken, AgreesWithFiles};
 ghost use Rattle.ept_phase.specs.Loaded.{OfCurrent};
 ghost use Rattle.ept_save.specs.Opening.{lines_of};
 
@@ -16,8 +16,8 @@ use ept_fixtures::small_rules;
 use ept_mem::{MemRoom, MemStore};
 use ept_meta::rules_of;
 use ept_octree::Octree;
-use ept_phase::{LoadError, lines_law, load_octree, save_octree};
-use ept_point::{Point, tile_bytes};
+use ept_phase::{PhaseError, lines_law, load_octree, save_octree};
+use ept_point::{Memory, Point, tile_bytes};
 use ept_save::{SaveError, Saved, open};
 use ept_space::{Key, Rules, child};
 use std::alloc::{AllocError, Global};
@@ -109,13 +109,29 @@ fn rules_for(saved: &Saved) -> Rules
     }
 }
 
-// How many nodes of at most so many are loaded, or why they are not.
-fn loaded(alloc: Global, store: &mut MemStore, most: u32) -> Result<Result<u64, LoadError>, Fail>
-    requires { 1 ≤ most }
+// A room for spill files whose calls of this number fail, where there is one.
+fn room_failing(alloc: Global, call: Option<u64>) -> Result<MemRoom, AllocError> {
+    let mut calls = Vec::new(alloc);
+    if let Some(call) = call {
+        calls.push(call)?;
+    }
+    Ok(MemRoom::new(alloc, Vec::new(alloc), calls))
+}
+
+// How many nodes of at most so many are loaded, so many of them in memory at most, where each spill file fails at the
+// call of this number; or why they are not.
+fn loaded(
+    alloc: Global,
+    store: &mut MemStore,
+    most: u32,
+    cache: u32,
+    failing: Option<u64>,
+) -> Result<Result<u64, PhaseError>, Fail>
+    requires { (1 ≤ most) × (1 ≤ cache) }
 {
     let saved = open(alloc, store)?;
-    let mut room = MemRoom::new(alloc, Vec::new(alloc), Vec::new(alloc));
-    let mut octree = Octree::new(alloc, &mut room, most, &rules_for(&saved))?;
+    let mut room = room_failing(alloc, failing)?;
+    let mut octree = Octree::new(alloc, &mut room, most, cache, &rules_for(&saved))?;
     let outcome = load_octree(alloc, store, &saved, &mut octree);
     let nodes = octree.len();
     octree.retire_all(&mut room);
@@ -127,17 +143,17 @@ fn expect_loaded(
     alloc: Global,
     store: &mut MemStore,
     most: u32,
-    wanted: Result<u64, LoadError>,
+    wanted: Result<u64, PhaseError>,
 ) -> Result<(), Fail>
     requires { 1 ≤ most }
 {
-    let found = loaded(alloc, store, most)?;
+    let found = loaded(alloc, store, most, 3, None)?;
     same_at(rt, &found, &wanted, &most);
     Ok(())
 }
 
 // The keys of lines.
-fn keys_of(alloc: Global, lines: &[NodeLine]) -> Result<Vec<Key>, AllocError>
+fn keys_of(alloc: Global, lines: &[NodeLine]) -> Result<Vec<Key>, Memory>
     ensures { IfOk result (λ keys. keys.items ≡ ckpt.keys_of lines.now) }
 {
     let mut keys = Vec::new(alloc);
@@ -156,10 +172,13 @@ fn save_later<F: SpillFile>(
     later: &mut MemStore,
     next: &Saved,
     octree: &mut Octree<F>,
-) -> Result<bool, Fail>
+) -> Result<bool, PhaseError>
     requires fresh { saved.old.lines ≡ lines_of saved.old.current }
-    requires new { nodes_of octree.old ≡ (root, empty_node root (rules_of octree.old)) ∷ [] }
+    requires new { nodes_of F.held octree.old ≡ (root, empty_node root (rules_of octree.old)) ∷ [] }
     requires rules { OfCurrent next.now.current (λ (c : c.Checkpoint). rules_of octree.old ≡ meta.rules_of c.kept) }
+    requires agrees { AgreesWithFiles F.held F.faults F.keeps octree.old }
+    requires here { 0 < residents_of octree.old }
+    requires unbroken { IsUnbroken octree.old }
 {
     let (Some(first), Some(second)) = (saved.current(), next.current()) else {
         return Ok(false);
@@ -181,15 +200,33 @@ fn save_later<F: SpillFile>(
     Ok(false)
 }
 
-// The same with an octree of its own.
-fn save_next(alloc: Global, store: &mut MemStore, later: &mut MemStore) -> Result<bool, Fail> {
+// What is left of an octree.
+#[derive(Drop)]
+struct Left {
+    outcome: Result<bool, PhaseError>,
+    residents: u64,
+}
+
+// The same with an octree of its own, of which so many nodes may be in memory and each spill file fails at the call of
+// this number.
+fn save_next(
+    alloc: Global,
+    store: &mut MemStore,
+    later: &mut MemStore,
+    cache: u32,
+    failing: Option<u64>,
+) -> Result<Left, Fail>
+    requires { 1 ≤ cache }
+{
     let mut saved = open(alloc, store)?;
     let next = open(alloc, later)?;
-    let mut room = MemRoom::new(alloc, Vec::new(alloc), Vec::new(alloc));
-    let mut octree = Octree::new(alloc, &mut room, 2, &rules_for(&next))?;
+    let mut room = room_failing(alloc, failing)?;
+    let mut octree = Octree::new(alloc, &mut room, 2, cache, &rules_for(&next))?;
     let outcome = save_later(alloc, store, &mut saved, later, &next, &mut octree);
-    octree.retire_all(&mut room);
-    outcome
+    let forest = octree.into_forest();
+    let residents = forest.residents();
+    forest.retire_all(&mut room);
+    Ok(Left { outcome, residents })
 }
 
 fn expect_file(rt: &impl Abort, store: &MemStore, name: &str, wanted: &[u8]) {
@@ -215,27 +252,72 @@ fn expect_second(rt: &impl Abort, alloc: Global, store: &MemStore) -> Result<(),
     Ok(())
 }
 
+// The store of the first checkpoint.
+fn first_store(alloc: Global) -> Result<MemStore, Fail> {
+    store_of(alloc, 1, 2, &[point(0, 0)], &[point(1, 0)])
+}
+
+// That of a later one, of which the root has one point more.
+fn later_store(alloc: Global) -> Result<MemStore, Fail> {
+    store_of(alloc, 3, 3, &[point(0, 0), point(2, 3)], &[point(1, 0)])
+}
+
+// Makes the later checkpoint the next one, with room in memory for so many nodes, of which so many are there then.
+fn expect_saved(rt: &impl Abort, alloc: Global, cache: u32, residents: u64) -> Result<(), Fail>
+    requires { 1 ≤ cache }
+{
+    let mut store = first_store(alloc)?;
+    let mut later = later_store(alloc)?;
+    let left = save_next(alloc, &mut store, &mut later, cache, None)?;
+    same_at(rt, &left.outcome, &Ok(true), &cache);
+    same_at(rt, &left.residents, &residents, &cache);
+    expect_first(rt, alloc, &store)?;
+    expect_second(rt, alloc, &store)?;
+    expect_loaded(rt, alloc, &mut store, 2, Ok(2))
+}
+
+// With room for no node between two calls, for one and for both: the files are the same.
 #[test]
 fn of_an_octree_only_the_tile_that_changed_is_put(rt: HostRuntime) -> Result<(), Fail> {
     let alloc = rt.alloc();
-    let mut store = store_of(alloc, 1, 2, &[point(0, 0)], &[point(1, 0)])?;
-    let mut later = store_of(alloc, 3, 3, &[point(0, 0), point(2, 3)], &[point(1, 0)])?;
-    same(&rt, &save_next(alloc, &mut store, &mut later)?, &true);
-    expect_first(&rt, alloc, &store)?;
-    expect_second(&rt, alloc, &store)?;
-    expect_loaded(&rt, alloc, &mut store, 2, Ok(2))
+    expect_saved(&rt, alloc, 1, 0)?;
+    expect_saved(&rt, alloc, 2, 1)?;
+    expect_saved(&rt, alloc, 3, 2)
+}
+
+// Saves the later checkpoint with no node in memory, where the call of this number of each spill file fails.
+fn expect_fault(rt: &impl Abort, alloc: Global, failing: u64) -> Result<(), Fail> {
+    let mut store = first_store(alloc)?;
+    let mut later = later_store(alloc)?;
+    let left = save_next(alloc, &mut store, &mut later, 1, Some(failing))?;
+    same_at(rt, &left.outcome, &Err(PhaseError::SpillFault), &failing);
+    expect_first(rt, alloc, &store)
+}
+
+// The first call of a spill file keeps the points of its node, and the second gives them back.
+#[test]
+fn a_spill_file_that_fails_is_told(rt: HostRuntime) -> Result<(), Fail> {
+    let alloc = rt.alloc();
+    expect_fault(&rt, alloc, 0)?;
+    expect_fault(&rt, alloc, 1)?;
+    let mut store = first_store(alloc)?;
+    let unkept = loaded(alloc, &mut store, 2, 1, Some(0))?;
+    same(&rt, &unkept, &Err(PhaseError::SpillFault));
+    let unread = loaded(alloc, &mut store, 2, 1, Some(1))?;
+    same(&rt, &unread, &Ok(2));
+    Ok(())
 }
 
 #[test]
 fn an_octree_is_loaded_or_told_why_not(rt: HostRuntime) -> Result<(), Fail> {
     let alloc = rt.alloc();
-    let mut whole = store_of(alloc, 1, 2, &[point(0, 0)], &[point(1, 0)])?;
+    let mut whole = first_store(alloc)?;
     let mut none = store_of(alloc, 1, 2, &[point(0, 0)], &[])?;
     let mut empty = MemStore::new(alloc, Vec::new(alloc), Vec::new(alloc));
     let key = child(&Key::ROOT, 0);
-    let damaged = LoadError::Save(SaveError::TileDamaged { key });
+    let damaged = PhaseError::Save(SaveError::TileDamaged { key });
     expect_loaded(&rt, alloc, &mut whole, 2, Ok(2))?;
-    expect_loaded(&rt, alloc, &mut whole, 1, Err(LoadError::TooManyNodes))?;
+    expect_loaded(&rt, alloc, &mut whole, 1, Err(PhaseError::TooManyNodes))?;
     expect_loaded(&rt, alloc, &mut none, 2, Err(damaged))?;
     expect_loaded(&rt, alloc, &mut empty, 1, Ok(1))
 }

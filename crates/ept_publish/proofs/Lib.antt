@@ -1,3 +1,4 @@
 mod Putting
 mod Apart
 mod Naming
+mod Refusing

@@ -1,2 +1,3 @@
+pub mod Errors
 pub mod Publishing
 pub mod PublishingLaws

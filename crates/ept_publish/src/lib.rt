@@ -2,11 +2,13 @@
 //! and the build file.
 #![tactic(auto)]
 
+mod error;
 mod hierarchy;
 mod laws;
 mod publishing;
 mod texts;
 mod tiles;
 
+pub use error::PublishError;
 pub use laws::published_law;
 pub use publishing::publish;

@@ -1,19 +1,19 @@
 //! The files of small outputs, put into a store in memory.
 
-ghost use Rattle.std.specs.Prelude.{◌≡◌, ◌∷◌, [], OnOk};
+ghost use Rattle.std.specs.Prelude.{◌≡◌, ◌<◌, ◌≤◌, ◌∷◌, [], OnOk};
 ghost use Rattle.std.specs.BTreeMap.{insert_entry};
 ghost use Rattle.ept_space.specs.VoxelKey.{root, key_cmp};
 ghost use Rattle.ept_node.specs.Shown.{empty_node};
-ghost use Rattle.ept_octree.specs.Adding.{filled, IsFree};
-ghost use Rattle.ept_octree.specs.Octree.{rules_of, nodes_of};
+ghost use Rattle.ept_octree.specs.Adding.{filled, IsFree, HasRoomFor};
+ghost use Rattle.ept_octree.specs.Octree.{rules_of, cache_of, residents_of, nodes_of, IsUnbroken, AgreesWithFiles, AreAlike};
 
-use ept_base::{PutError, SpillFile};
+use ept_base::SpillFile;
 use ept_config::SourceCount;
 use ept_mem::{MemRoom, MemStore};
 use ept_meta::{read_build_json, rules_of};
 use ept_octree::Octree;
 use ept_point::Point;
-use ept_publish::{publish, published_law};
+use ept_publish::{PublishError, publish, published_law};
 use ept_sample::ids_ascend;
 use ept_space::{Bounds, Key};
 use std::alloc::{AllocError, Global};
@@ -87,9 +87,16 @@ fn add<F: SpillFile>(
     mask: u8,
     point: Point,
 ) -> Result<(), AllocError>
-    requires free { IsFree key (nodes_of octree.old) }
-    ensures { OnOk result (nodes_of octree.new ≡ insert_entry key_cmp (nodes_of octree.old) key
-        (filled key (rules_of octree.old) mask (point ∷ []))) }
+    requires free { IsFree key (nodes_of F.held octree.old) }
+    requires room { HasRoomFor key octree.old }
+    requires agrees { AgreesWithFiles F.held F.faults F.keeps octree.old }
+    requires here { key ≡ root → 0 < residents_of octree.old }
+    requires unbroken { IsUnbroken octree.old }
+    ensures nodes { OnOk result (AreAlike (insert_entry key_cmp (nodes_of F.held octree.old) key
+        (filled key (rules_of octree.old) mask (point ∷ []))) (nodes_of F.held octree.new)) }
+    ensures room { OnOk result (residents_of octree.new < cache_of octree.new) }
+    ensures agrees { AgreesWithFiles F.held F.faults F.keeps octree.new }
+    ensures unbroken { OnOk result (IsUnbroken octree.new) }
 {
     let points = [point];
     if key.depth > octree.rules().cube.depth || !ids_ascend(&points) {
@@ -107,7 +114,11 @@ fn fill<F: SpillFile>(
     octree: &mut Octree<F>,
     nodes: &Nodes,
 ) -> Result<(), AllocError>
-    requires new { nodes_of octree.old ≡ (root, empty_node root (rules_of octree.old)) ∷ [] }
+    requires new { nodes_of F.held octree.old ≡ (root, empty_node root (rules_of octree.old)) ∷ [] }
+    requires agrees { AgreesWithFiles F.held F.faults F.keeps octree.old }
+    requires here { 0 < residents_of octree.old }
+    requires unbroken { IsUnbroken octree.old }
+    ensures agrees { AgreesWithFiles F.held F.faults F.keeps octree.new }
 {
     let (top, below) = *nodes;
     add(alloc, octree, Key::ROOT, top.0, top.1)?;
@@ -120,31 +131,48 @@ fn fill<F: SpillFile>(
 /// What is left of a store.
 #[derive(Drop)]
 struct Left {
-    answer: Result<(), PutError>,
+    answer: Result<(), PublishError>,
     store: MemStore,
 }
 
-/// A store with one file, whose call of this number fails.
-fn store_failing(alloc: Global, failing: Option<u64>) -> Result<MemStore, AllocError> {
+/// The call that is to fail, where one is.
+#[derive(Clone, Copy)]
+enum Failing {
+    None,
+    /// That of this number of the store.
+    Store(u64),
+    /// That of this number of each spill file.
+    Spill(u64),
+}
+
+/// A store with one file, and a room for spill files, of which this call fails.
+fn devices_failing(alloc: Global, failing: Failing) -> Result<(MemStore, MemRoom), AllocError> {
     let mut calls = Vec::new(alloc);
-    if let Some(call) = failing {
-        calls.push(call)?;
+    let mut spills = Vec::new(alloc);
+    match failing {
+        Failing::None => {}
+        Failing::Store(call) => calls.push(call)?,
+        Failing::Spill(call) => spills.push(call)?,
     }
     let mut files = Vec::new(alloc);
     let other = Vec::from_slice(alloc, b"kept")?;
     files.push((String::from_str(alloc, "other")?, other))?;
-    Ok(MemStore::new(alloc, files, calls))
+    let store = MemStore::new(alloc, files, calls);
+    Ok((store, MemRoom::new(alloc, Vec::new(alloc), spills)))
 }
 
-/// Publishes these nodes of the one input by what the build file tells, where the store's call of this number
+/// Publishes these nodes of the one input by what the build file tells, with so many nodes in memory, where this call
 /// fails.
 fn published(
     alloc: Global,
     build_file: &str,
     extent: Bounds,
     nodes: &Nodes,
-    failing: Option<u64>,
-) -> Result<Left, AllocError> {
+    cache: u32,
+    failing: Failing,
+) -> Result<Left, AllocError>
+    requires { 1 ≤ cache }
+{
     let Ok(kept) = read_build_json(alloc, build_file.as_bytes()) else {
         return Err(AllocError);
     };
@@ -154,9 +182,8 @@ fn published(
     if counts.len() != kept.inputs.as_slice().len() {
         return Err(AllocError);
     }
-    let mut store = store_failing(alloc, failing)?;
-    let mut room = MemRoom::new(alloc, Vec::new(alloc), Vec::new(alloc));
-    let Ok(mut octree) = Octree::new(alloc, &mut room, 2, &rules_of(&kept)) else {
+    let (mut store, mut room) = devices_failing(alloc, failing)?;
+    let Ok(mut octree) = Octree::new(alloc, &mut room, 2, cache, &rules_of(&kept)) else {
         return Err(AllocError);
     };
     let filled = fill(alloc, &mut octree, nodes);
@@ -178,7 +205,7 @@ fn published(
 fn compare(
     rt: &impl Abort,
     left: &Left,
-    want: Result<(), PutError>,
+    want: Result<(), PublishError>,
     files: &[(&str, Option<&[u8]>)],
 ) {
     assert_eq!(rt; left.answer, want);
@@ -200,7 +227,7 @@ const ONE_MANIFEST: &[u8] = b"[{\"path\":\"a.las\",\"points\":1,\
 fn a_root_with_one_point_is_five_files(rt: HostRuntime) -> Result<(), Fail> {
     published_law();
     let root = ((0, point(0, [1, 2, 3])), None);
-    let left = published(rt.alloc(), ROOT_FILE, ONE, &root, None)?;
+    let left = published(rt.alloc(), ROOT_FILE, ONE, &root, 2, Failing::None)?;
     compare(
         &rt,
         &left,
@@ -223,28 +250,58 @@ fn a_root_with_one_point_is_five_files(rt: HostRuntime) -> Result<(), Fail> {
     Ok(())
 }
 
-// Hierarchy files of one depth each.
+const TWO: Bounds = Bounds {
+    min: [1; 3],
+    max: [3; 3],
+};
+
+/// The root and the node below it, with a point each.
+fn two_nodes() -> Nodes {
+    ((1, point(0, [3; 3])), Some((0, point(1, [1; 3]))))
+}
+
+// Hierarchy files of one depth each; with room for no node between two calls, for one and for both.
 #[test]
 fn a_deeper_node_has_its_tile_and_is_linked(rt: HostRuntime) -> Result<(), Fail> {
-    let extent = Bounds {
-        min: [1; 3],
-        max: [3; 3],
-    };
-    let nodes = ((1, point(0, [3; 3])), Some((0, point(1, [1; 3]))));
-    let left = published(rt.alloc(), STEP_FILE, extent, &nodes, None)?;
     let root = b"{\"0-0-0-0\":1,\"1-0-0-0\":-1}".as_slice();
-    compare(
-        &rt,
-        &left,
-        Ok(()),
-        &[
-            ("ept-data/0-0-0-0.bin", Some(&tile(0, [3; 3]))),
-            ("ept-data/1-0-0-0.bin", Some(&tile(1, [1; 3]))),
-            ("ept-hierarchy/0-0-0-0.json", Some(root)),
-            ("ept-hierarchy/1-0-0-0.json", Some(b"{\"1-0-0-0\":1}")),
-            ("ept-build.json", Some(STEP_FILE.as_bytes())),
-        ],
-    );
+    for cache in [1, 2, 3] {
+        let left = published(
+            rt.alloc(),
+            STEP_FILE,
+            TWO,
+            &two_nodes(),
+            cache,
+            Failing::None,
+        )?;
+        compare(
+            &rt,
+            &left,
+            Ok(()),
+            &[
+                ("ept-data/0-0-0-0.bin", Some(&tile(0, [3; 3]))),
+                ("ept-data/1-0-0-0.bin", Some(&tile(1, [1; 3]))),
+                ("ept-hierarchy/0-0-0-0.json", Some(root)),
+                ("ept-hierarchy/1-0-0-0.json", Some(b"{\"1-0-0-0\":1}")),
+                ("ept-build.json", Some(STEP_FILE.as_bytes())),
+            ],
+        );
+    }
+    Ok(())
+}
+
+// The second call of a spill file is to give back the points of its node.
+#[test]
+fn a_spill_file_that_fails_is_told(rt: HostRuntime) -> Result<(), Fail> {
+    let left = published(
+        rt.alloc(),
+        STEP_FILE,
+        TWO,
+        &two_nodes(),
+        1,
+        Failing::Spill(1),
+    )?;
+    let absent = [("ept-data/0-0-0-0.bin", None), ("ept.json", None)];
+    compare(&rt, &left, Err(PublishError::SpillFault), &absent);
     Ok(())
 }
 
@@ -254,9 +311,9 @@ fn a_deeper_node_has_its_tile_and_is_linked(rt: HostRuntime) -> Result<(), Fail>
 fn each_call_of_the_store_may_fail(rt: HostRuntime) -> Result<(), Fail> {
     let root = ((0, point(0, [1, 2, 3])), None);
     for call in 0..7 {
-        let left = published(rt.alloc(), ROOT_FILE, ONE, &root, Some(call))?;
+        let left = published(rt.alloc(), ROOT_FILE, ONE, &root, 2, Failing::Store(call))?;
         let want = if call < 6 {
-            Err(PutError::Failed)
+            Err(PublishError::StoreFault)
         } else {
             Ok(())
         };

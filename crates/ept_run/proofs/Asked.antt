@@ -12,7 +12,7 @@ use Rattle.ept_run.specs.Requests.{HasBuilt, HasTold, HasHeader, ConfigurationIs
 use Rattle.ept_run.specs.Answers.{AsksBuild, AsksInfo, IsAnswer, IsDone, IsFaulty, IsRefused}
 use Rattle.ept_run.proofs.Runs.{Carries}
 
-one_build : (words : List (List ℕ)) (a b c d : List ℕ) → IsBuild words a b → IsBuild words c d → c ≡ a
+pub one_build : (words : List (List ℕ)) (a b c d : List ℕ) → IsBuild words a b → IsBuild words c d → c ≡ a
 one_build words a b c d is other = first (sym other.words_are ∙ is.words_are)
   where
     first : codes "build" ∷ c ∷ d ∷ [] ≡ codes "build" ∷ a ∷ b ∷ [] → c ≡ a

@@ -22,9 +22,9 @@ use Rattle.ept_scan.specs.declared.scan_error.ScanError.{ScanError}
 use Rattle.ept_scan.specs.declared.scan_error.ScanError.TheVariants as scan
 use Rattle.ept_plan.specs.Plans as plans
 use Rattle.ept_run.specs.declared.refusal.Refusal.{Refusal}
-use Rattle.ept_run.specs.declared.refusal.Refusal.TheVariants.{Usage, BadConfiguration, BadLas, OutOfBounds, NoBounds, SourceChanged, TooManyPoints, TooManyNodes, Differs, BadCheckpoint, TileDamaged, SourceFault, StoreFault, SpillFault, Memory}
+use Rattle.ept_run.specs.declared.refusal.Refusal.TheVariants.{Usage, BadConfiguration, BadLas, OutOfBounds, NoBounds, SourceChanged, TooManyPoints, TooManyNodes, Differs, BadCheckpoint, TileDamaged, SourceFault, StoreFault, SpillFault, SpillDamaged, Memory}
 use Rattle.ept_run.specs.Errors.{of_build}
-use Rattle.ept_run.specs.Requests.{HasConfiguration, HasBadConfiguration, IsAcceptedAt, IsDoneAt, IsBuiltAt, Comes, ComesAt, DiffersAt, IsConfigured, TellsDifference, ConfigurationIsRefused, BuildIsRefused, IsDefinite, IsEarly, Fails}
+use Rattle.ept_run.specs.Requests.{HasConfiguration, HasBadConfiguration, IsAcceptedAt, IsDoneAt, IsBuiltAt, Comes, ComesAt, DiffersAt, IsConfigured, HasSpilled, TellsDifference, ConfigurationIsRefused, BuildIsRefused, IsDefinite, IsEarly, Fails}
 use Rattle.ept_config.proofs.FactsTell.{config_same}
 
 -- a fact of a told thing gives another
@@ -41,6 +41,7 @@ told_as (Err error) = Err (of_build error)
 pub never_configured : (e : BuildError) (error : ConfigError) → of_build e ≡ BadConfiguration error → ⊥
 never_configured build.StoreFault error is = cc
 never_configured build.SpillFault error is = cc
+never_configured (build.SpillDamaged kept found at) error is = cc
 never_configured (build.BadCheckpoint letter) error is = cc
 never_configured (build.TileDamaged key) error is = cc
 never_configured (build.Differs field kept given) error is = cc
@@ -130,6 +131,7 @@ module _ (all : Files) (path : List ℕ) where
   came_bad e SourceFault bad definite why = absurd (definite (inl refl))
   came_bad e StoreFault bad definite why = absurd why
   came_bad e SpillFault bad definite why = absurd why
+  came_bad e SpillDamaged bad definite why = absurd why
   came_bad e Memory bad definite why = absurd (definite (inr (inr (inr refl))))
 
   pub came_before : {A : Type 0} (e r : Refusal) → ConfigurationIsRefused all path e → IsDefinite r → ConfigurationIsRefused all path r
@@ -149,6 +151,7 @@ module _ (all : Files) (path : List ℕ) where
   came_before (TileDamaged key) r is definite why = absurd is
   came_before StoreFault r is definite why = absurd is
   came_before SpillFault r is definite why = absurd is
+  came_before SpillDamaged r is definite why = absurd is
 
   -- it has no build
   pub not_accepted : {A : Type 0} (answer : Result A Refusal) (e : Refusal) (start : Files) → answer ≡ Err e → ConfigurationIsRefused all path e → IsAcceptedAt all start path → IsOk answer ⊎ Fails answer
@@ -167,6 +170,7 @@ module _ (all : Files) (path : List ℕ) where
   not_accepted answer (TileDamaged key) start err is asked = absurd is
   not_accepted answer StoreFault start err is asked = absurd is
   not_accepted answer SpillFault start err is asked = absurd is
+  not_accepted answer SpillDamaged start err is asked = absurd is
 
   -- why a configuration is refused is why its build is
   pub refused_before : (Begins : Files → Files → Type 0) (e : Refusal) → ConfigurationIsRefused all path e → BuildIsRefused all Begins path e
@@ -185,6 +189,7 @@ module _ (all : Files) (path : List ℕ) where
   refused_before Begins (TileDamaged key) is = absurd is
   refused_before Begins StoreFault is = absurd is
   refused_before Begins SpillFault is = absurd is
+  refused_before Begins SpillDamaged is = absurd is
 
   -- ---- the configuration is read, and its build answers
 
@@ -205,6 +210,7 @@ module _ (all : Files) (path : List ℕ) where
     not_refused SourceFault definite why = definite (inl refl)
     not_refused StoreFault definite why = why
     not_refused SpillFault definite why = why
+    not_refused SpillDamaged definite why = why
     not_refused Memory definite why = definite (inr (inr (inr refl)))
 
     module _ (Begins : Files → Files → Type 0) where
@@ -212,6 +218,7 @@ module _ (all : Files) (path : List ℕ) where
       refused_as : (e : BuildError) → ((start : Files) → Begins all start → building.IsRefused all config start e) → BuildIsRefused all Begins path (of_build e)
       refused_as build.StoreFault is = tt
       refused_as build.SpillFault is = tt
+      refused_as (build.SpillDamaged kept found at) is = (kept, found, at, (config, configures, is))
       refused_as build.SourceFault is = tt
       refused_as (build.BadCheckpoint letter) is = (config, configures, is)
       refused_as (build.TileDamaged key) is = (config, configures, is)
@@ -249,6 +256,7 @@ module _ (all : Files) (path : List ℕ) where
 pub early_as : (e : BuildError) → IsEarly (of_build e) → building.IsEarly e
 early_as build.StoreFault early = early
 early_as build.SpillFault early = early
+early_as (build.SpillDamaged kept found at) early = early
 early_as build.SourceFault early = early
 early_as (build.BadCheckpoint letter) early = tt
 early_as (build.TileDamaged key) early = early
@@ -263,36 +271,64 @@ early_as build.Memory early = early
 
 -- ---- the same of a shelf that may tell
 
-module _ (shelf later : Option Files) (same : later ≡ shelf) (path : List ℕ) (config : Config) (configures : Tells (λ all. HasConfiguration all path config) shelf) (store : Option Files) (may : Files → Type 0) where
+module _ {F : Type 0} (held : F → Option (List ℕ)) (shelf later : Option Files) (same : later ≡ shelf) (path : List ℕ) (config : Config) (configures : Tells (λ all. HasConfiguration all path config) shelf) (store : Option Files) (may : Files → Type 0) where
   -- what the build begins with is what the command does
-  begins : (all start : Files) → building.BeginsWith shelf store may all start → building.BeginsWith later store may all start
-  begins all start b = record { shelf_told = same ∙ b.shelf_told; told = b.told; settled = b.settled; sound = b.sound }
+  begins : (all start : Files) → building.BeginsWith held shelf store may all start → building.BeginsWith held later store may all start
+  begins all start b = record { spills = b.spills; shelf_told = same ∙ b.shelf_told; told = b.told; settled = b.settled; sound = b.sound }
 
   -- a shelf that tells has the configuration
-  known : (all start : Files) → building.BeginsWith shelf store may all start → HasConfiguration all path config
+  known : (all start : Files) → building.BeginsWith held shelf store may all start → HasConfiguration all path config
   known all start b = subst (λ (o : Option Files). Tells (λ all. HasConfiguration all path config) o) b.shelf_told configures
 
   module _ (answer : Result Summary BuildError) where
     pub build_refused : (e : BuildError) → answer ≡ Err e
-        → ((all start : Files) → building.BeginsWith later store may all start → IfErr answer (building.IsRefused all config start))
-        → Tells (λ all. BuildIsRefused all (building.BeginsWith shelf store may) path (of_build e)) shelf
+        → ((all start : Files) → building.BeginsWith held later store may all start → IfErr answer (building.IsRefused all config start))
+        → Tells (λ all. BuildIsRefused all (building.BeginsWith held shelf store may) path (of_build e)) shelf
     build_refused e is refused =
-        tells_as (λ all. HasConfiguration all path config) (λ all. BuildIsRefused all (building.BeginsWith shelf store may) path (of_build e)) shelf
-        (λ all has. refused_as all path config has (building.BeginsWith shelf store may) e (λ start b. subst (λ (a : Result Summary BuildError). IfErr a (building.IsRefused all config start)) is (refused all start (begins all start b)))) configures
+        tells_as (λ all. HasConfiguration all path config) (λ all. BuildIsRefused all (building.BeginsWith held shelf store may) path (of_build e)) shelf
+        (λ all has. refused_as all path config has (building.BeginsWith held shelf store may) e (λ start b. subst (λ (a : Result Summary BuildError). IfErr a (building.IsRefused all config start)) is (refused all start (begins all start b)))) configures
 
     pub built_at : (summary : Summary) (new : Option Files) → answer ≡ Ok summary
-        → ((all start : Files) → building.BeginsWith later store may all start → IfOk answer (λ summary. Tells (building.IsBuilt all config start summary) new))
-        → Tells (λ all. IsBuiltAt all (building.BeginsWith shelf store may) path summary new) shelf
+        → ((all start : Files) → building.BeginsWith held later store may all start → IfOk answer (λ summary. Tells (building.IsBuilt all config start summary) new))
+        → Tells (λ all. IsBuiltAt all (building.BeginsWith held shelf store may) path summary new) shelf
     built_at summary new is built =
-        tells_as (λ all. HasConfiguration all path config) (λ all. IsBuiltAt all (building.BeginsWith shelf store may) path summary new) shelf
+        tells_as (λ all. HasConfiguration all path config) (λ all. IsBuiltAt all (building.BeginsWith held shelf store may) path summary new) shelf
         (λ all has. record {
           config = config;
           configures = has;
           built = λ start b. subst (λ (a : Result Summary BuildError). IfOk a (λ summary. Tells (building.IsBuilt all config start summary) new)) is (built all start (begins all start b));
         }) configures
 
-    pub build_accepted : ((all start : Files) → building.BeginsWith later store may all start → building.IsAccepted all config start → IsOk answer ⊎ building.Fails answer)
-        → (all start : Files) → building.BeginsWith shelf store may all start → IsAcceptedAt all start path → IsOk (told_as answer) ⊎ Fails (told_as answer)
+    -- the room was asked to keep each node past those in memory
+    pub spilled_at : (summary : Summary) (new : Option Files) (old_keeps new_keeps : ℕ) → answer ≡ Ok summary
+        → ((all start : Files) → building.BeginsWith held later store may all start → IfOk answer (λ summary. Tells (building.IsBuilt all config start summary) new))
+        → ((all start : Files) → building.BeginsWith held later store may all start → StepsBy (λ (a b : Files). building.IsUnderWay all config start b) store new)
+        → ((start : Files) → store ≡ Some start → ¬ building.IsDoneAlready config start → IfOk answer (λ summary. building.HasKeptBut config.cache summary.nodes old_keeps new_keeps))
+        → (all start : Files) → building.BeginsWith held shelf store may all start → HasSpilled all start old_keeps new_keeps path
+    spilled_at summary new old_keeps new_keeps is built moves kept all start b = by new left reads
+      where
+        left : Tells (building.IsBuilt all config start summary) new
+        left = subst (λ (a : Result Summary BuildError). IfOk a (λ summary. Tells (building.IsBuilt all config start summary) new)) is (built all start (begins all start b))
+
+        reads : StepsBy (λ (a c : Files). building.IsUnderWay all config start c) (Some start) new
+        reads = subst (λ (o : Option Files). StepsBy (λ (a c : Files). building.IsUnderWay all config start c) o new) b.told (moves all start (begins all start b))
+
+        by : (o : Option Files) → Tells (building.IsBuilt all config start summary) o → StepsBy (λ (a c : Files). building.IsUnderWay all config start c) (Some start) o → HasSpilled all start old_keeps new_keeps path
+        by None has goes = absurd goes
+        by (Some files) has goes = record {
+          config = config;
+          configures = known all start b;
+          current = has.current;
+          has_current = has.has_current;
+          kept = has.kept;
+          points = has.points;
+          has_points = has.has_points;
+          spilled = λ left_to_do. subst (λ (n : ℕ). building.HasKeptBut config.cache n old_keeps new_keeps) has.nodes_are
+              (subst (λ (a : Result Summary BuildError). IfOk a (λ summary. building.HasKeptBut config.cache summary.nodes old_keeps new_keeps)) is (kept start b.told left_to_do));
+        }
+
+    pub build_accepted : ((all start : Files) → building.BeginsWith held later store may all start → building.IsAccepted all config start → IsOk answer ⊎ building.Fails answer)
+        → (all start : Files) → building.BeginsWith held shelf store may all start → IsAcceptedAt all start path → IsOk (told_as answer) ⊎ Fails (told_as answer)
     build_accepted accepts all start b asked = accepted_after all path config (known all start b) answer start (accepts all start (begins all start b)) asked
 
   -- a configuration that is read is refused for nothing
@@ -302,18 +338,18 @@ module _ (shelf later : Option Files) (same : later ≡ shelf) (path : List ℕ)
       (λ all has r definite why. absurd (not_refused all path config has r definite why)) configures
 
   -- what holds of a build that begins with sound files holds of the command
-  pub begun : {M : Files → Type 0} → ((all start : Files) → building.BeginsWith later store may all start → M all) → (all start : Files) → building.BeginsWith shelf store may all start → M all
+  pub begun : {M : Files → Type 0} → ((all start : Files) → building.BeginsWith held later store may all start → M all) → (all start : Files) → building.BeginsWith held shelf store may all start → M all
   begun holds all start b = holds all start (begins all start b)
 
-  pub begun_done : {M : Type 0} → ((all start : Files) → building.BeginsWith later store may all start → building.IsDoneAlready config start → M)
-      → (all start : Files) → building.BeginsWith shelf store may all start → IsDoneAt all start path → M
+  pub begun_done : {M : Type 0} → ((all start : Files) → building.BeginsWith held later store may all start → building.IsDoneAlready config start → M)
+      → (all start : Files) → building.BeginsWith held shelf store may all start → IsDoneAt all start path → M
   begun_done holds all start b asked = holds all start (begins all start b) (done_as all path config (known all start b) start asked)
 
   -- why a build comes to a refusal is why the command does
   module _ (answer : Result Summary BuildError) where
-    pub came_to : ((all start : Files) → building.BeginsWith later store may all start → (current : Current) (e : ScanError) → HasCurrent current start → plans.IsDefinite e → building.InputsAreRefused all config current e → (answer ≡ Err (of_scan e)) ⊎ building.Fails answer)
-        → ((all start : Files) → building.BeginsWith later store may all start → (current : Current) → HasCurrent current start → plans.GoesOn config current → ¬ building.IsDoneAlready config start → building.HasTooManyNodes all config current → (answer ≡ Err build.TooManyNodes) ⊎ building.Fails answer)
-        → (all start : Files) → building.BeginsWith shelf store may all start → (r : Refusal) → ComesAt all start r path → (told_as answer ≡ Err r) ⊎ Fails (told_as answer)
+    pub came_to : ((all start : Files) → building.BeginsWith held later store may all start → (current : Current) (e : ScanError) → HasCurrent current start → plans.IsDefinite e → building.InputsAreRefused all config current e → (answer ≡ Err (of_scan e)) ⊎ building.Fails answer)
+        → ((all start : Files) → building.BeginsWith held later store may all start → (current : Current) → HasCurrent current start → plans.GoesOn config current → ¬ building.IsDoneAlready config start → building.HasTooManyNodes all config current → (answer ≡ Err build.TooManyNodes) ⊎ building.Fails answer)
+        → (all start : Files) → building.BeginsWith held shelf store may all start → (r : Refusal) → ComesAt all start r path → (told_as answer ≡ Err r) ⊎ Fails (told_as answer)
     came_to inputs many all start b r asked = by r (subst (λ (c : Config). Comes all c start asked.current r) (one_config all path asked.config config asked.configures (known all start b)) asked.because)
       where
         of : (e : BuildError) → (answer ≡ Err e) ⊎ building.Fails answer → (told_as answer ≡ Err (of_build e)) ⊎ Fails (told_as answer)
@@ -334,10 +370,11 @@ module _ (shelf later : Option Files) (same : later ≡ shelf) (path : List ℕ)
         by SourceFault why = absurd why
         by StoreFault why = absurd why
         by SpillFault why = absurd why
+        by SpillDamaged why = absurd why
         by Memory why = absurd why
 
-    pub differed_to : ((all start : Files) → building.BeginsWith later store may all start → (current : Current) → HasCurrent current start → ¬ plans.GoesOn config current → building.TellsDifference answer ⊎ building.Fails answer)
-        → (all start : Files) → building.BeginsWith shelf store may all start → DiffersAt all start path → TellsDifference (told_as answer) ⊎ Fails (told_as answer)
+    pub differed_to : ((all start : Files) → building.BeginsWith held later store may all start → (current : Current) → HasCurrent current start → ¬ plans.GoesOn config current → building.TellsDifference answer ⊎ building.Fails answer)
+        → (all start : Files) → building.BeginsWith held shelf store may all start → DiffersAt all start path → TellsDifference (told_as answer) ⊎ Fails (told_as answer)
     differed_to differs all start b asked =
         let mine : ¬ plans.GoesOn config asked.current = subst (λ (c : Config). ¬ plans.GoesOn c asked.current) (one_config all path asked.config config asked.configures (known all start b)) asked.differs in
         ⊎_elim (λ (told : building.TellsDifference answer). inl (told.0, ap told_as told.3)) (λ fails. inr (fails_as all path config (known all start b) answer fails)) (differs all start (begins all start b) asked.current asked.has_current mine)
@@ -376,12 +413,13 @@ module _ (files : Option Files) (path : List ℕ) {A : Type 0} (answer : Result 
       by (TileDamaged key) same why = absurd why
       by StoreFault same why = absurd why
       by SpillFault same why = absurd why
+      by SpillDamaged same why = absurd why
 
-  pub never_comes : (store : Option Files) (may : Files → Type 0) (all start : Files) → building.BeginsWith files store may all start → (r : Refusal) → ComesAt all start r path → (answer ≡ Err r) ⊎ Fails answer
-  never_comes store may all start b r asked = inr (only_fails all asked.config b.shelf_told asked.configures)
+  pub never_comes : {F : Type 0} (held : F → Option (List ℕ)) (store : Option Files) (may : Files → Type 0) (all start : Files) → building.BeginsWith held files store may all start → (r : Refusal) → ComesAt all start r path → (answer ≡ Err r) ⊎ Fails answer
+  never_comes held store may all start b r asked = inr (only_fails all asked.config b.shelf_told asked.configures)
 
-  pub never_differs : (store : Option Files) (may : Files → Type 0) (all start : Files) → building.BeginsWith files store may all start → DiffersAt all start path → TellsDifference answer ⊎ Fails answer
-  never_differs store may all start b asked = inr (only_fails all asked.config b.shelf_told asked.configures)
+  pub never_differs : {F : Type 0} (held : F → Option (List ℕ)) (store : Option Files) (may : Files → Type 0) (all start : Files) → building.BeginsWith held files store may all start → DiffersAt all start path → TellsDifference answer ⊎ Fails answer
+  never_differs held store may all start b asked = inr (only_fails all asked.config b.shelf_told asked.configures)
 
   pub never_bad : (store : Option Files) (all start : Files) (letter : Letter) → files ≡ Some all → store ≡ Some start → IsBad start letter → IsConfigured all path → (answer ≡ Err (BadCheckpoint letter)) ⊎ Fails answer
   never_bad store all start letter told stored bad asked = inr (only_fails all asked.0 told asked.1)
@@ -427,8 +465,8 @@ module _ {D : Type 0} (files : D → Option Files) (may_leave : D → Files → 
       same_reads None = tt
       same_reads (Some all) = λ name. refl
 
-  pub stays_sound : SameIsSound → (shelf : Option Files) (d : D) (all start : Files) → building.BeginsWith shelf (files d) (may_leave d) all start → Moves files may_leave moment image_since (λ (a b : Files). IsSound all b) d d
-  stays_sound same_sound shelf d all start b = record {
+  pub stays_sound : SameIsSound → {F : Type 0} (held : F → Option (List ℕ)) (shelf : Option Files) (d : D) (all start : Files) → building.BeginsWith held shelf (files d) (may_leave d) all start → Moves files may_leave moment image_since (λ (a b : Files). IsSound all b) d d
+  stays_sound same_sound held shelf d all start b = record {
     reads = subst (λ (o : Option Files). StepsBy (λ (a b : Files). IsSound all b) o o) (sym b.told) b.sound;
     leaves = λ image now. (image, now, same_sound all start image (settled_some (files d) (may_leave d) start b.told b.settled image now) b.sound);
     later = omega arith;

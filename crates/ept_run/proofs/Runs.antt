@@ -1,6 +1,6 @@
 -- What a run answers follows from what its command does, and from how its line is said.
 use Rattle.std.proofs.Common.{◌≡◌, ◌≢◌, ◌⊎◌, inl, inr, ⊎_elim, ℕ, List, Option, Some, None, Ok, Err, refl, sym, ◌∙◌, ap, subst, arith}
-use Rattle.std.specs.Prelude.{Result, Vec, IfOk, IfErr, IsOk}
+use Rattle.std.specs.Prelude.{Result, Vec, IfOk, IfErr, IsOk, OnOk}
 use Rattle.std.specs.Io.KnownBytes.{Appends}
 use Rattle.std.specs.declared.alloc.Global.{Global}
 use Rattle.ept_base.specs.Files.{Files, Tells}
@@ -8,7 +8,7 @@ use Rattle.ept_config.specs.declared.config_error.ConfigError.{ConfigError}
 use Rattle.ept_las.specs.declared.header.Header.{Header}
 use Rattle.ept_run.specs.Words.{IsUsage}
 use Rattle.ept_run.specs.declared.refusal.Refusal.{Refusal}
-use Rattle.ept_run.specs.declared.refusal.Refusal.TheVariants.{Usage, BadConfiguration, BadLas, OutOfBounds, NoBounds, SourceChanged, TooManyPoints, TooManyNodes, Differs, BadCheckpoint, TileDamaged, SourceFault, StoreFault, SpillFault, Memory}
+use Rattle.ept_run.specs.declared.refusal.Refusal.TheVariants.{Usage, BadConfiguration, BadLas, OutOfBounds, NoBounds, SourceChanged, TooManyPoints, TooManyNodes, Differs, BadCheckpoint, TileDamaged, SourceFault, StoreFault, SpillFault, SpillDamaged, Memory}
 use Rattle.ept_run.specs.Lines.{status_of, line_of}
 use Rattle.ept_run.specs.Requests.{IsDefinite, IsEarly, TellsDifference, Fails}
 use Rattle.ept_run.specs.Answers.{Yields, YieldsRefusal, YieldsDifference, IsAnswer, IsDone, Ends, IsFaulty, IsRefused, HasRisen, Says, IsTold, EndsWith, Refuses, IsCut}
@@ -30,6 +30,7 @@ usage_only (TileDamaged key) is = absurd (omega (arith, is))
 usage_only SourceFault is = absurd (omega (arith, is))
 usage_only StoreFault is = absurd (omega (arith, is))
 usage_only SpillFault is = absurd (omega (arith, is))
+usage_only SpillDamaged is = absurd (omega (arith, is))
 usage_only Memory is = absurd (omega (arith, is))
 
 device_only : (r : Refusal) → status_of r ≡ 7 → (r ≡ SourceFault) ⊎ (r ≡ StoreFault) ⊎ (r ≡ SpillFault)
@@ -47,6 +48,7 @@ device_only (TileDamaged key) is = absurd (omega (arith, is))
 device_only SourceFault is = inl refl
 device_only StoreFault is = inr (inl refl)
 device_only SpillFault is = inr (inr refl)
+device_only SpillDamaged is = absurd (omega (arith, is))
 device_only Memory is = absurd (omega (arith, is))
 
 configuration_only : (r : Refusal) → status_of r ≡ 3 → (e : ConfigError) × (r ≡ BadConfiguration e)
@@ -64,6 +66,7 @@ configuration_only (TileDamaged key) is = absurd (omega (arith, is))
 configuration_only SourceFault is = absurd (omega (arith, is))
 configuration_only StoreFault is = absurd (omega (arith, is))
 configuration_only SpillFault is = absurd (omega (arith, is))
+configuration_only SpillDamaged is = absurd (omega (arith, is))
 configuration_only Memory is = absurd (omega (arith, is))
 
 -- a refusal is not the work done
@@ -82,6 +85,7 @@ never_done (TileDamaged key) = omega arith
 never_done SourceFault = omega arith
 never_done StoreFault = omega arith
 never_done SpillFault = omega arith
+never_done SpillDamaged = omega arith
 never_done Memory = omega arith
 
 -- the count of the device that a refusal names rose
@@ -100,6 +104,7 @@ risen_of (TileDamaged key) shelf store room sources stores spills = tt
 risen_of SourceFault shelf store room sources stores spills = sources refl
 risen_of StoreFault shelf store room sources stores spills = stores refl
 risen_of SpillFault shelf store room sources stores spills = spills refl
+risen_of SpillDamaged shelf store room sources stores spills = tt
 risen_of Memory shelf store room sources stores spills = tt
 
 -- ---- what a command does
@@ -131,6 +136,11 @@ module _ (status : ℕ) (said_old said_new : Option (List ℕ)) (failed : Type 0
   bad_configuration (Err r) ends is =
       let told = configuration_only ends.told (ends.status_is ∙ is) in
       ⊎_elim (λ same. (told.0, ap (λ (w : Refusal). Err w) (sym same ∙ told.1))) (λ same. absurd (omega (arith, ap status_of same, ends.status_is, is))) ends.told_is
+
+  -- status 0 is that of a command that is carried out
+  pub carried_out : {P : Type 0} (answer : Result (Vec ℕ Global) Refusal) → OnOk answer P → EndsWith answer status said_old said_new failed → status ≡ 0 → P
+  carried_out (Ok line) holds ends is = holds
+  carried_out (Err r) holds ends is = absurd (never_done ends.told (ends.status_is ∙ is))
 
   told_status : (r : Refusal) → IsTold r status said_old said_new failed → (status ≡ status_of r) ⊎ (status ≡ 9)
   told_status r ends = ⊎_elim (λ same. inl (sym ends.status_is ∙ ap status_of same)) (λ same. inr (sym ends.status_is ∙ ap status_of same)) ends.told_is

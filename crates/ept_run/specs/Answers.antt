@@ -9,7 +9,7 @@ use Rattle.ept_space.specs.declared.box3.Box3.{Box3}
 use Rattle.ept_scan.specs.Asking.{AsksFor}
 use Rattle.ept_meta.specs.declared.fields.Field.{Field}
 use Rattle.ept_run.specs.declared.refusal.Refusal.{Refusal}
-use Rattle.ept_run.specs.declared.refusal.Refusal.TheVariants.{Usage, BadConfiguration, BadLas, OutOfBounds, NoBounds, SourceChanged, TooManyPoints, TooManyNodes, Differs, BadCheckpoint, TileDamaged, SourceFault, StoreFault, SpillFault, Memory}
+use Rattle.ept_run.specs.declared.refusal.Refusal.TheVariants.{Usage, BadConfiguration, BadLas, OutOfBounds, NoBounds, SourceChanged, TooManyPoints, TooManyNodes, Differs, BadCheckpoint, TileDamaged, SourceFault, StoreFault, SpillFault, SpillDamaged, Memory}
 use Rattle.ept_run.specs.Words.{IsBuild, IsInfo, IsQuery, IsTrial, IsUsage}
 use Rattle.ept_run.specs.Lines.{summary_text, header_text, status_of, line_of}
 use Rattle.ept_run.specs.Requests.{HasBuilt, HasTold, HasTrial, AsksForBuild, ConfigurationIsRefused, BuildIsRefused, InfoIsRefused, IsEarly}
@@ -111,6 +111,7 @@ HasRisen TooManyNodes shelf store room = ⊤
 HasRisen (Differs field) shelf store room = ⊤
 HasRisen (BadCheckpoint letter) shelf store room = ⊤
 HasRisen (TileDamaged key) shelf store room = ⊤
+HasRisen SpillDamaged shelf store room = ⊤
 HasRisen Memory shelf store room = ⊤
 
 -- the sink has gained this line, or, where it failed, a prefix of it

@@ -6,7 +6,7 @@ use Rattle.ept_config.specs.declared.config_error.ConfigError.TheVariants as con
 use Rattle.ept_build.specs.declared.error.BuildError.{BuildError}
 use Rattle.ept_build.specs.declared.error.BuildError.TheVariants as build
 use Rattle.ept_run.specs.declared.refusal.Refusal.{Refusal}
-use Rattle.ept_run.specs.declared.refusal.Refusal.TheVariants.{BadConfiguration, BadLas, OutOfBounds, NoBounds, SourceChanged, TooManyPoints, TooManyNodes, Differs, BadCheckpoint, TileDamaged, SourceFault, StoreFault, SpillFault, Memory}
+use Rattle.ept_run.specs.declared.refusal.Refusal.TheVariants.{BadConfiguration, BadLas, OutOfBounds, NoBounds, SourceChanged, TooManyPoints, TooManyNodes, Differs, BadCheckpoint, TileDamaged, SourceFault, StoreFault, SpillFault, SpillDamaged, Memory}
 
 -- of a file that is opened and read
 abbrev pub of_get : GetError → Refusal
@@ -28,6 +28,7 @@ of_config config.Memory = Memory
 abbrev pub of_build : BuildError → Refusal
 of_build build.StoreFault = StoreFault
 of_build build.SpillFault = SpillFault
+of_build (build.SpillDamaged kept found at) = SpillDamaged
 of_build (build.BadCheckpoint letter) = BadCheckpoint letter
 of_build (build.TileDamaged key) = TileDamaged key
 of_build (build.Differs field kept given) = Differs field

@@ -48,6 +48,7 @@ status_of (refusal.TileDamaged key) = 8
 status_of refusal.SourceFault = 7
 status_of refusal.StoreFault = 7
 status_of refusal.SpillFault = 7
+status_of refusal.SpillDamaged = 8
 status_of refusal.Memory = 9
 
 -- the number of the record at which a file ends early
@@ -113,6 +114,7 @@ refusal_text (refusal.TileDamaged key) = codes "error 8 tile " ++ space.key_text
 refusal_text refusal.SourceFault = codes "error 7 source"
 refusal_text refusal.StoreFault = codes "error 7 store"
 refusal_text refusal.SpillFault = codes "error 7 spill"
+refusal_text refusal.SpillDamaged = codes "error 8 spill"
 refusal_text refusal.Memory = codes "error 9 memory"
 
 -- the line of a refusal

@@ -2,8 +2,10 @@
 use Rattle.std.specs.Prelude.{◌≡◌, ◌≢◌, ◌⊎◌, ℕ, List, [], ◌∷◌, Vec, Option, None, Some, Result, Ok, Err, take, ⊤}
 use Rattle.std.specs.declared.alloc.Global.{Global}
 use Rattle.ept_base.specs.Files.{Files, Tells}
+use Rattle.ept_point.specs.declared.point.Point.{Point}
 use Rattle.ept_config.specs.declared.config.Config.{Config}
 use Rattle.ept_config.specs.declared.config_error.ConfigError.{ConfigError}
+use Rattle.ept_config.specs.declared.kept.Kept.{Kept}
 use Rattle.ept_config.specs.Configuration.{reading}
 use Rattle.ept_config.specs.Facts.{facts}
 use Rattle.ept_las.specs.declared.header.Header.{Header}
@@ -22,7 +24,7 @@ use Rattle.ept_build.specs.Building as building
 use Rattle.ept_trial.specs.declared.trial.Trial.{Trial}
 use Rattle.ept_trial.specs.Trials.{IsTrialOf}
 use Rattle.ept_run.specs.declared.refusal.Refusal.{Refusal}
-use Rattle.ept_run.specs.declared.refusal.Refusal.TheVariants.{Usage, BadConfiguration, BadLas, OutOfBounds, NoBounds, SourceChanged, TooManyPoints, TooManyNodes, Differs, BadCheckpoint, TileDamaged, SourceFault, StoreFault, SpillFault, Memory}
+use Rattle.ept_run.specs.declared.refusal.Refusal.TheVariants.{Usage, BadConfiguration, BadLas, OutOfBounds, NoBounds, SourceChanged, TooManyPoints, TooManyNodes, Differs, BadCheckpoint, TileDamaged, SourceFault, StoreFault, SpillFault, SpillDamaged, Memory}
 use Rattle.ept_run.specs.Lines.{summary_text, header_text, trial_text}
 
 -- these are the first bytes of the file of this path: so many, or all
@@ -61,6 +63,7 @@ ConfigurationIsRefused files path (TileDamaged key) = ⊥
 ConfigurationIsRefused files path SourceFault = ⊤
 ConfigurationIsRefused files path StoreFault = ⊥
 ConfigurationIsRefused files path SpillFault = ⊥
+ConfigurationIsRefused files path SpillDamaged = ⊥
 ConfigurationIsRefused files path Memory = ⊤
 
 -- The file is a configuration, and its build over a store that begins with sound files is refused for this cause. Begins says of the shelf's files and the store's that the build begins with them.
@@ -90,6 +93,7 @@ Comes files config start current (TileDamaged key) = ⊥
 Comes files config start current SourceFault = ⊥
 Comes files config start current StoreFault = ⊥
 Comes files config start current SpillFault = ⊥
+Comes files config start current SpillDamaged = ⊥
 Comes files config start current Memory = ⊥
 
 -- it is a configuration, and its build over a store with these files comes to this refusal
@@ -139,6 +143,17 @@ pub record HasBuilt (files : Files) (Begins : Files → Files → Type 0) (path 
   pub built : IsBuiltAt files Begins path summary new
   pub line_is : line ≡ summary_text summary.points summary.nodes
 
+-- It is a configuration, and its inputs have points. Where its build was not done already over a store with these files, the files of a room were asked to keep something, as far as its count tells, at least as often as the sampling has nodes past those that may be in memory.
+pub record HasSpilled (files start : Files) (old new : ℕ) (path : List ℕ) : Type 0 where
+  pub config : Config
+  pub configures : HasConfiguration files path config
+  pub current : Current
+  pub has_current : HasCurrent current start
+  pub kept : Kept
+  pub points : List Point
+  pub has_points : building.HasPoints files config current kept points
+  pub spilled : ¬ building.IsDoneAlready config start → building.HasKeptBut config.cache (building.node_count kept points) old new
+
 -- why a build of the configuration of this path is refused; device faults and want of memory say nothing of files
 abbrev pub BuildIsRefused : Files → (Files → Files → Type 0) → List ℕ → Refusal → Type 0
 BuildIsRefused files Begins path Usage = ⊥
@@ -155,6 +170,7 @@ BuildIsRefused files Begins path (TileDamaged key) = HasBadBuild files Begins pa
 BuildIsRefused files Begins path SourceFault = ⊤
 BuildIsRefused files Begins path StoreFault = ⊤
 BuildIsRefused files Begins path SpillFault = ⊤
+BuildIsRefused files Begins path SpillDamaged = (kept : ℕ) × (found : ℕ) × (at : ℕ) × HasBadBuild files Begins path (build.SpillDamaged kept found at)
 BuildIsRefused files Begins path Memory = ⊤
 
 -- ---- what is known of a LAS file
@@ -193,6 +209,7 @@ InfoIsRefused files path (TileDamaged key) = ⊥
 InfoIsRefused files path SourceFault = ⊤
 InfoIsRefused files path StoreFault = ⊥
 InfoIsRefused files path SpillFault = ⊥
+InfoIsRefused files path SpillDamaged = ⊥
 InfoIsRefused files path Memory = ⊤
 
 -- ---- a trial
@@ -237,6 +254,7 @@ IsEarly (TileDamaged key) = ⊥
 IsEarly SourceFault = ⊥
 IsEarly StoreFault = ⊥
 IsEarly SpillFault = ⊥
+IsEarly SpillDamaged = ⊥
 IsEarly Memory = ⊥
 
 -- ---- which causes a step may have, whatever the files are
@@ -257,6 +275,7 @@ IsOfConfiguration (TileDamaged key) = ⊥
 IsOfConfiguration SourceFault = ⊤
 IsOfConfiguration StoreFault = ⊥
 IsOfConfiguration SpillFault = ⊥
+IsOfConfiguration SpillDamaged = ⊥
 IsOfConfiguration Memory = ⊤
 
 -- of reading a header, which is that of source 0
@@ -275,6 +294,7 @@ IsOfHeader (TileDamaged key) = ⊥
 IsOfHeader SourceFault = ⊤
 IsOfHeader StoreFault = ⊥
 IsOfHeader SpillFault = ⊥
+IsOfHeader SpillDamaged = ⊥
 IsOfHeader Memory = ⊤
 
 -- of a build

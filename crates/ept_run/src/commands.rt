@@ -12,7 +12,7 @@ ghost use Rattle.ept_save.specs.Opening.{IsBad};
 ghost use Rattle.ept_save.specs.Sound.{IsSound};
 ghost use Rattle.ept_build.specs.Building.{BeginsWith};
 ghost use Rattle.ept_run.specs.Lines.{summary_text, header_text};
-ghost use Rattle.ept_run.specs.Requests.{IsBuiltAt, HasBuilt, AsksForBuild, IsAcceptedAt, IsDoneAt, ComesAt, DiffersAt, IsConfigured, TellsDifference, ConfigurationIsRefused, BuildIsRefused, HasTold, HasHeader, InfoIsRefused, IsOfBuild, IsOfHeader, IsDefinite, IsEarly, Fails, HasTrial};
+ghost use Rattle.ept_run.specs.Requests.{IsBuiltAt, HasBuilt, AsksForBuild, IsAcceptedAt, IsDoneAt, ComesAt, DiffersAt, IsConfigured, HasSpilled, TellsDifference, ConfigurationIsRefused, BuildIsRefused, HasTold, HasHeader, InfoIsRefused, IsOfBuild, IsOfHeader, IsDefinite, IsEarly, Fails, HasTrial};
 
 use crate::files::{read_configuration, read_file_header};
 use crate::lines::{header_line, outcome_line, summary_line};
@@ -44,19 +44,21 @@ where
     H::Source: Send,
     M::File: Send + Sync,
     ensures built { IfOk result (λ line. Tells
-        (λ all. HasBuilt all (BeginsWith (H.files shelf.old) (T.files store.old) (T.may_leave store.old)) path.now line.items (T.files store.new))
+        (λ all. HasBuilt all (BeginsWith M.File.held (H.files shelf.old) (T.files store.old) (T.may_leave store.old)) path.now line.items (T.files store.new))
         (H.files shelf.old)) }
     ensures said { IfOk result (λ line. (points nodes : ℕ) × (line.items ≡ summary_text points nodes)) }
     ensures settled { OnOk result (IsSettled (T.files store.new) (T.may_leave store.new)) }
+    ensures kept { (all start : Files) → BeginsWith M.File.held (H.files shelf.old) (T.files store.old) (T.may_leave store.old) all start
+        → OnOk result (HasSpilled all start (M.keeps room.old) (M.keeps room.new) path.now) }
     ensures refused { IfErr result (λ r. Tells
-        (λ all. BuildIsRefused all (BeginsWith (H.files shelf.old) (T.files store.old) (T.may_leave store.old)) path.now r) (H.files shelf.old)) }
+        (λ all. BuildIsRefused all (BeginsWith M.File.held (H.files shelf.old) (T.files store.old) (T.may_leave store.old)) path.now r) (H.files shelf.old)) }
     ensures refusal_comes { Tells (λ all. (r : Refusal) → IsDefinite r → ConfigurationIsRefused all path.now r
         → (result ≡ Err r) ⊎ Fails result) (H.files shelf.old) }
-    ensures accepted { (all start : Files) → BeginsWith (H.files shelf.old) (T.files store.old) (T.may_leave store.old) all start
+    ensures accepted { (all start : Files) → BeginsWith M.File.held (H.files shelf.old) (T.files store.old) (T.may_leave store.old) all start
         → IsAcceptedAt all start path.now → IsOk result ⊎ Fails result }
-    ensures comes { (all start : Files) → BeginsWith (H.files shelf.old) (T.files store.old) (T.may_leave store.old) all start
+    ensures comes { (all start : Files) → BeginsWith M.File.held (H.files shelf.old) (T.files store.old) (T.may_leave store.old) all start
         → (r : Refusal) → ComesAt all start r path.now → (result ≡ Err r) ⊎ Fails result }
-    ensures differs_comes { (all start : Files) → BeginsWith (H.files shelf.old) (T.files store.old) (T.may_leave store.old) all start
+    ensures differs_comes { (all start : Files) → BeginsWith M.File.held (H.files shelf.old) (T.files store.old) (T.may_leave store.old) all start
         → DiffersAt all start path.now → TellsDifference result ⊎ Fails result }
     ensures bad_comes { (all start : Files) (letter : Letter) → H.files shelf.old ≡ Some all
         → T.files store.old ≡ Some start → IsBad start letter → IsConfigured all path.now
@@ -65,9 +67,9 @@ where
     ensures sources { HasCauseOf Refusal.SourceFault (H.faults shelf.old) (H.faults shelf.new) result }
     ensures stores { HasCauseOf Refusal.StoreFault (T.faults store.old) (T.faults store.new) result }
     ensures spills { HasCauseOf Refusal.SpillFault (M.faults room.old) (M.faults room.new) result }
-    ensures sound { (all start : Files) → BeginsWith (H.files shelf.old) (T.files store.old) (T.may_leave store.old) all start
+    ensures sound { (all start : Files) → BeginsWith M.File.held (H.files shelf.old) (T.files store.old) (T.may_leave store.old) all start
         → Moves T.files T.may_leave T.moment T.image_since (λ (a b : Files). IsSound all b) store.old store.new }
-    ensures done_already { (all start : Files) → BeginsWith (H.files shelf.old) (T.files store.old) (T.may_leave store.old) all start
+    ensures done_already { (all start : Files) → BeginsWith M.File.held (H.files shelf.old) (T.files store.old) (T.may_leave store.old) all start
         → IsDoneAt all start path.now
         → Moves T.files T.may_leave T.moment T.image_since SameFiles store.old store.new }
     ensures early { IfErr result (λ r. IsEarly r
@@ -97,18 +99,20 @@ where
     H::Source: Send,
     M::File: Send + Sync,
     ensures built { IfOk result (λ summary. Tells
-        (λ all. IsBuiltAt all (BeginsWith (H.files shelf.old) (T.files store.old) (T.may_leave store.old)) path.now summary (T.files store.new))
+        (λ all. IsBuiltAt all (BeginsWith M.File.held (H.files shelf.old) (T.files store.old) (T.may_leave store.old)) path.now summary (T.files store.new))
         (H.files shelf.old)) }
     ensures settled { OnOk result (IsSettled (T.files store.new) (T.may_leave store.new)) }
+    ensures kept { (all start : Files) → BeginsWith M.File.held (H.files shelf.old) (T.files store.old) (T.may_leave store.old) all start
+        → OnOk result (HasSpilled all start (M.keeps room.old) (M.keeps room.new) path.now) }
     ensures refused { IfErr result (λ r. Tells
-        (λ all. BuildIsRefused all (BeginsWith (H.files shelf.old) (T.files store.old) (T.may_leave store.old)) path.now r) (H.files shelf.old)) }
+        (λ all. BuildIsRefused all (BeginsWith M.File.held (H.files shelf.old) (T.files store.old) (T.may_leave store.old)) path.now r) (H.files shelf.old)) }
     ensures refusal_comes { Tells (λ all. (r : Refusal) → IsDefinite r → ConfigurationIsRefused all path.now r
         → (result ≡ Err r) ⊎ Fails result) (H.files shelf.old) }
-    ensures accepted { (all start : Files) → BeginsWith (H.files shelf.old) (T.files store.old) (T.may_leave store.old) all start
+    ensures accepted { (all start : Files) → BeginsWith M.File.held (H.files shelf.old) (T.files store.old) (T.may_leave store.old) all start
         → IsAcceptedAt all start path.now → IsOk result ⊎ Fails result }
-    ensures comes { (all start : Files) → BeginsWith (H.files shelf.old) (T.files store.old) (T.may_leave store.old) all start
+    ensures comes { (all start : Files) → BeginsWith M.File.held (H.files shelf.old) (T.files store.old) (T.may_leave store.old) all start
         → (r : Refusal) → ComesAt all start r path.now → (result ≡ Err r) ⊎ Fails result }
-    ensures differs_comes { (all start : Files) → BeginsWith (H.files shelf.old) (T.files store.old) (T.may_leave store.old) all start
+    ensures differs_comes { (all start : Files) → BeginsWith M.File.held (H.files shelf.old) (T.files store.old) (T.may_leave store.old) all start
         → DiffersAt all start path.now → TellsDifference result ⊎ Fails result }
     ensures bad_comes { (all start : Files) (letter : Letter) → H.files shelf.old ≡ Some all
         → T.files store.old ≡ Some start → IsBad start letter → IsConfigured all path.now
@@ -117,9 +121,9 @@ where
     ensures sources { HasCauseOf Refusal.SourceFault (H.faults shelf.old) (H.faults shelf.new) result }
     ensures stores { HasCauseOf Refusal.StoreFault (T.faults store.old) (T.faults store.new) result }
     ensures spills { HasCauseOf Refusal.SpillFault (M.faults room.old) (M.faults room.new) result }
-    ensures sound { (all start : Files) → BeginsWith (H.files shelf.old) (T.files store.old) (T.may_leave store.old) all start
+    ensures sound { (all start : Files) → BeginsWith M.File.held (H.files shelf.old) (T.files store.old) (T.may_leave store.old) all start
         → Moves T.files T.may_leave T.moment T.image_since (λ (a b : Files). IsSound all b) store.old store.new }
-    ensures done_already { (all start : Files) → BeginsWith (H.files shelf.old) (T.files store.old) (T.may_leave store.old) all start
+    ensures done_already { (all start : Files) → BeginsWith M.File.held (H.files shelf.old) (T.files store.old) (T.may_leave store.old) all start
         → IsDoneAt all start path.now
         → Moves T.files T.may_leave T.moment T.image_since SameFiles store.old store.new }
     ensures early { IfErr result (λ r. IsEarly r

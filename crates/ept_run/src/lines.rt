@@ -120,6 +120,7 @@ fn append_refusal(line: &mut Vec<u8>, refusal: Refusal) -> Result<(), AllocError
         Refusal::SourceFault => append(line, b"error 7 source"),
         Refusal::StoreFault => append(line, b"error 7 store"),
         Refusal::SpillFault => append(line, b"error 7 spill"),
+        Refusal::SpillDamaged => append(line, b"error 8 spill"),
         Refusal::Memory => append(line, b"error 9 memory"),
     }
 }

@@ -43,8 +43,10 @@ pub enum Refusal {
     SourceFault,
     /// A call of the store failed: its count of faults rose.
     StoreFault,
-    /// A spill file can't be made: the room's count of faults rose.
+    /// A spill file can't be made or failed: the room's count of faults rose.
     SpillFault,
+    /// A spill file gave back other bytes than were kept.
+    SpillDamaged,
     /// Memory ran out.
     Memory,
 }
@@ -98,6 +100,7 @@ impl From<BuildError> for Refusal {
                 Refusal::SourceChanged { source, number }
             }
             BuildError::SpillFault => Refusal::SpillFault,
+            BuildError::SpillDamaged { .. } => Refusal::SpillDamaged,
             BuildError::TooManyNodes => Refusal::TooManyNodes,
             BuildError::Memory => Refusal::Memory,
         }
@@ -143,7 +146,8 @@ impl Refusal {
             | Refusal::SourceChanged { .. } => BAD_SCAN,
             Refusal::TooManyPoints { .. } | Refusal::TooManyNodes => TOO_MANY,
             Refusal::Differs { .. } => DIFFERS,
-            Refusal::BadCheckpoint { .. } | Refusal::TileDamaged { .. } => DAMAGED,
+            Refusal::BadCheckpoint { .. } | Refusal::TileDamaged { .. } | Refusal::SpillDamaged =>
+                DAMAGED,
             Refusal::SourceFault | Refusal::StoreFault | Refusal::SpillFault => DEVICE,
             Refusal::Memory => MEMORY,
         }

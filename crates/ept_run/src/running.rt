@@ -14,7 +14,7 @@ ghost use Rattle.ept_build.specs.Building.{BeginsWith};
 ghost use Rattle.ept_run.specs.declared.refusal.Refusal as cause;
 ghost use Rattle.ept_run.specs.declared.refusal.Refusal.TheVariants.{BadCheckpoint};
 ghost use Rattle.ept_run.specs.Words.{bytes_of, IsBuild, IsInfo, IsQuery, IsTrial, IsUsage};
-ghost use Rattle.ept_run.specs.Requests.{IsAcceptedAt, IsDoneAt, ComesAt, DiffersAt, IsConfigured, HasHeader, IsDefinite};
+ghost use Rattle.ept_run.specs.Requests.{IsAcceptedAt, IsDoneAt, ComesAt, DiffersAt, IsConfigured, HasSpilled, HasHeader, IsDefinite};
 ghost use Rattle.ept_run.specs.Answers.{Yields, YieldsRefusal, YieldsDifference, IsAskedFor, AsksBuild, AsksInfo, AsksQuery, Ends, IsFaulty, Refuses, IsCut, EndsTrial};
 ghost use Rattle.ept_run.specs.Queries.{EndsQuery};
 
@@ -32,7 +32,8 @@ use std::thread::Threads;
 /// program ends. The words are those behind the program's name.
 ///
 /// `build CONFIG OUT` reads the configuration from the shelf, and the LAS files that it names, puts the
-/// octree of their points into the store, and writes how many points and nodes it has to the sink. `info LAS`
+/// octree of their points into the store, and writes how many points and nodes it has to the sink. Nodes past those
+/// that the configuration lets be in memory at a time are in spill files of the room meanwhile. `info LAS`
 /// reads the header of a LAS file from the shelf and writes what it says to the sink. `query OUT BOX DEPTHS`
 /// writes the packed points of a box and of some depths of the dataset in the store to the sink. `trial N WORKERS
 /// CACHE` builds the octree of generated scans of N points in memory, and writes what it comes to to the sink. A
@@ -59,13 +60,16 @@ where
     // What is done.
     ensures done { result ≡ 0
         → Ends (bytes_of words.now) (H.files shelf.old)
-        (BeginsWith (H.files shelf.old) (T.files store.old) (T.may_leave store.old)) (T.files store.new)
+        (BeginsWith M.File.held (H.files shelf.old) (T.files store.old) (T.may_leave store.old)) (T.files store.new)
         (Appends (O.written out.old) (O.written out.new)) ⊎ AsksQuery (bytes_of words.now) }
     ensures settled { (config folder : List ℕ) → IsBuild (bytes_of words.now) config folder
         → result ≡ 0 → IsSettled (T.files store.new) (T.may_leave store.new) }
-    ensures build_comes { (all start : Files) → BeginsWith (H.files shelf.old) (T.files store.old) (T.may_leave store.old) all start
+    ensures kept { (config folder : List ℕ) → IsBuild (bytes_of words.now) config folder → result ≡ 0
+        → (all start : Files) → BeginsWith M.File.held (H.files shelf.old) (T.files store.old) (T.may_leave store.old) all start
+        → HasSpilled all start (M.keeps room.old) (M.keeps room.new) config }
+    ensures build_comes { (all start : Files) → BeginsWith M.File.held (H.files shelf.old) (T.files store.old) (T.may_leave store.old) all start
         → AsksBuild (bytes_of words.now) (IsAcceptedAt all start) → Yields 0 result }
-    ensures done_already { (all start : Files) → BeginsWith (H.files shelf.old) (T.files store.old) (T.may_leave store.old) all start
+    ensures done_already { (all start : Files) → BeginsWith M.File.held (H.files shelf.old) (T.files store.old) (T.may_leave store.old) all start
         → AsksBuild (bytes_of words.now) (IsDoneAt all start)
         → Moves T.files T.may_leave T.moment T.image_since SameFiles store.old store.new }
     ensures info_comes { Tells (λ all. (header : found.Header)
@@ -74,7 +78,7 @@ where
 
     // Whatever a build answers and whenever it stops, each image that is left is sound.
     ensures sound { (config folder : List ℕ) → IsBuild (bytes_of words.now) config folder
-        → (all start : Files) → BeginsWith (H.files shelf.old) (T.files store.old) (T.may_leave store.old) all start
+        → (all start : Files) → BeginsWith M.File.held (H.files shelf.old) (T.files store.old) (T.may_leave store.old) all start
         → Moves T.files T.may_leave T.moment T.image_since (λ (a b : Files). IsSound all b) store.old store.new }
 
     // A query ends as the query of its area and depths does, and leaves the store as it was.
@@ -91,23 +95,23 @@ where
     // Each other refusal has its cause and its line, but where the line of a command that is carried out is cut.
     ensures refused { result ≢ 0
         → Refuses (bytes_of words.now) (H.files shelf.old)
-        (BeginsWith (H.files shelf.old) (T.files store.old) (T.may_leave store.old)) result
+        (BeginsWith M.File.held (H.files shelf.old) (T.files store.old) (T.may_leave store.old)) result
         (Rose (H.faults shelf.old) (H.faults shelf.new)) (Rose (T.faults store.old) (T.faults store.new))
         (Rose (M.faults room.old) (M.faults room.new)) (Rose (O.faults out.old) (O.faults out.new))
         (O.written out.old) (O.written out.new)
         (Moves T.files T.may_leave T.moment T.image_since SameFiles store.old store.new)
         ⊎ IsCut (bytes_of words.now) (H.files shelf.old)
-        (BeginsWith (H.files shelf.old) (T.files store.old) (T.may_leave store.old)) result (T.files store.new)
+        (BeginsWith M.File.held (H.files shelf.old) (T.files store.old) (T.may_leave store.old)) result (T.files store.new)
         (Rose (O.faults out.old) (O.faults out.new)) (O.written out.old) (O.written out.new)
         ⊎ AsksQuery (bytes_of words.now) }
     ensures refusal_comes { Tells (λ all. (r : cause.Refusal) → IsDefinite r
         → IsFaulty (bytes_of words.now) all r
         → YieldsRefusal r result (O.written out.old) (O.written out.new)
         (Rose (O.faults out.old) (O.faults out.new))) (H.files shelf.old) }
-    ensures build_refusal_comes { (all start : Files) → BeginsWith (H.files shelf.old) (T.files store.old) (T.may_leave store.old) all start
+    ensures build_refusal_comes { (all start : Files) → BeginsWith M.File.held (H.files shelf.old) (T.files store.old) (T.may_leave store.old) all start
         → (r : cause.Refusal) → AsksBuild (bytes_of words.now) (ComesAt all start r)
         → YieldsRefusal r result (O.written out.old) (O.written out.new) (Rose (O.faults out.old) (O.faults out.new)) }
-    ensures differs_comes { (all start : Files) → BeginsWith (H.files shelf.old) (T.files store.old) (T.may_leave store.old) all start
+    ensures differs_comes { (all start : Files) → BeginsWith M.File.held (H.files shelf.old) (T.files store.old) (T.may_leave store.old) all start
         → AsksBuild (bytes_of words.now) (DiffersAt all start)
         → YieldsDifference result (O.written out.old) (O.written out.new) (Rose (O.faults out.old) (O.faults out.new)) }
     ensures bad_comes { (all start : Files) (letter : Letter) → H.files shelf.old ≡ Some all → T.files store.old ≡ Some start

@@ -24,7 +24,8 @@ pub const DIFFERS: u8 = 6;
 /// A device failed: the shelf, the store, the room or the sink.
 pub const DEVICE: u8 = 7;
 
-/// A file of the dataset, or a checkpoint of a build, is absent, or not of its form.
+/// A file of the dataset, or a checkpoint of a build, is absent, or not of its form; or a spill file gave back other
+/// bytes than were kept.
 pub const DAMAGED: u8 = 8;
 
 /// There was no memory.

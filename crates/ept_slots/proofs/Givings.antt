@@ -1,5 +1,6 @@
 -- A give keeps the rule of the table.
 use Rattle.std.proofs.Common.{◌≡◌, ℕ, eqb, ◌+◌, ◌<◌, ◌≤◌, ◌≢◌, List, [], ◌∷◌, length, get_or, set, sym, refl, ap, subst, ◌∙◌, ⊎_elim, arith, length-set}
+use Rattle.std.proofs.lemmas.Bool.{cases_lt}
 use Rattle.std.specs.List.{sum_by}
 use Rattle.std.specs.Vec.{vec_capacity}
 use mathlib.Core.Option.{none, some, some-injective}
@@ -11,21 +12,26 @@ use Rattle.atomic_table.proofs.Lists.{at_set, set_here, set_else, exchanged}
 use Rattle.ept_slots.specs.declared.slot.Slot.{Slot}
 use Rattle.ept_slots.specs.declared.slot.Slot.TheVariants.{Here, Said, Spare}
 use Rattle.ept_slots.specs.declared.view.View.{View}
-use Rattle.ept_slots.specs.Views.{At, Holds, whole, parts_of, refused_of, given}
-use Rattle.ept_slots.specs.Seats.{Seats}
+use Rattle.ept_slots.specs.Views.{At, Holds, whole, parts_of, refused_of, held_weight, permits_after, given}
+use Rattle.ept_slots.specs.Seats.{Seats, Permits}
 use Rattle.ept_slots.specs.Asks.{Gives}
-use Rattle.ept_slots.specs.Locks.{drawn_of, lock_of, Locks, Lies}
+use Rattle.ept_slots.specs.Locks.{drawn_of, free_of, lock_of, Locks, Lies}
 use Rattle.ept_slots.specs.Plays.{play_give}
 use Rattle.ept_slots.proofs.Places.{at-below}
 use Rattle.ept_slots.proofs.Sums.{sum-put}
 use Rattle.ept_slots.proofs.Holders.{same-hold, holds-none, each-put}
 use Rattle.ept_slots.proofs.Keeping.{IsFair, fair}
+use Rattle.ept_slots.proofs.Permitting.{free-stays, permits-given}
 use Rattle.ept_slots.proofs.Hands.{told-said, lone-item}
 use Rattle.ept_slots.proofs.Takings.{Goes, drawn-stays, lock-stays, lock-set}
 
 module _ {T N : Type 0} where
-  seats-given : (most drawn : ℕ) (items : List T) (views : List (View T N)) (id k : ℕ) (v : View T N) (x y : T) (n : N) → Seats most drawn items views → At views id v → Holds v k x → Seats most drawn (set items k y) (set views id (given v n))
-  seats-given most drawn items views id k v x y n s at hold = let w : View T N = given v n in let fv = fair most drawn items views s id v at in
+  -- a holder has a part
+  has-part : (most drawn : ℕ) (items : List T) (views : List (View T N)) (id k : ℕ) (v : View T N) (x : T) → Seats most drawn items views → At views id v → Holds v k x → 0 < v.parts
+  has-part most drawn items views id k v x s at hold = ⊎_elim (λ some. some) (λ none. absurd (holds-none v k x (s.idle id v at (omega arith)) hold)) (cases_lt 0 v.parts)
+
+  seats-given : (most drawn : ℕ) (items : List T) (views : List (View T N)) (id k : ℕ) (v : View T N) (x y : T) (p : ℕ) (n : N) → Seats most drawn items views → At views id v → Holds v k x → Seats most drawn (set items k y) (set views id (given v p n))
+  seats-given most drawn items views id k v x y p n s at hold = let w : View T N = given v p n in let fv = fair most drawn items views s id v at in
       let sp : sum_by parts_of (set views id w) + v.parts ≡ sum_by parts_of views + v.parts = sum-put parts_of views id v w at in
       let sr : sum_by refused_of (set views id w) + v.refused ≡ sum_by refused_of views + v.refused = sum-put refused_of views id v w at in
       let all : sum_by parts_of views ≡ whole = s.shared in let few : drawn ≤ most + sum_by refused_of views = s.counted in
@@ -43,19 +49,19 @@ module _ {T N : Type 0} where
       }
 
 module _ {T N W : Type 0} where
-  locks-given : (most drawn : ℕ) (words : List ℕ) (homes : List (maybe.Option (Slot T W))) (items : List T) (views : List (View T N)) (id k : ℕ) (v : View T N) (x y : T) (n : N) → Locks words homes items views → Seats most drawn items views → At views id v → Holds v k x
-      → Locks (set words (k + 2) 0) (set homes k (some (Here y))) (set items k y) (set views id (given v n))
-  locks-given most drawn words homes items views id k v x y n l s at hold = let w : View T N = given v n in let near : k < length items = at-below items k x (s.held id k v x at hold) in let long : length (set items k y) ≡ length items = length-set items k y in
-      let deep : length homes ≡ length items + 1 = l.deep in let zero_now = lock-set words homes items views k 0 l near in record {
-        wide = length-set words (k + 2) 0 ∙ (l.wide ∙ ap (λ (z : ℕ). z + 2) (sym long));
+  locks-given : (most drawn free : ℕ) (words : List ℕ) (homes : List (maybe.Option (Slot T W))) (items : List T) (views : List (View T N)) (id k : ℕ) (v : View T N) (x y : T) (p : ℕ) (n : N) → free ≢ 1 → Locks words homes items views → Seats most drawn items views → At views id v → Holds v k x
+      → Locks (set words (k + 2) free) (set homes k (some (Here y))) (set items k y) (set views id (given v p n))
+  locks-given most drawn free words homes items views id k v x y p n unheld l s at hold = let w : View T N = given v p n in let near : k < length items = at-below items k x (s.held id k v x at hold) in let long : length (set items k y) ≡ length items = length-set items k y in
+      let deep : length homes ≡ length items + 1 = l.deep in let free_now = lock-set words homes items views k free l near in record {
+        wide = length-set words (k + 2) free ∙ (l.wide ∙ ap (λ (z : ℕ). z + 2) (sym long));
         deep = length-set homes k (some (Here y)) ∙ (deep ∙ ap (λ (z : ℕ). z + 1) (sym long));
         at_home = λ j z e ne. ⊎_elim
             (λ p. subst (λ (a : ℕ × T). At (set homes k (some (Here y))) a.0 (some (Here a.1))) (λ i. (sym p.0 i, p.1 i)) (set_here homes k (some (Here y)) (omega arith)))
-            (λ p. set_else homes k j (some (Here y)) p.0 ∙ l.at_home j z p.1 (λ one. ne (lock-stays words k 0 j p.0 ∙ one))) (at_set items k j y z e);
+            (λ p. set_else homes k j (some (Here y)) p.0 ∙ l.at_home j z p.1 (λ one. ne (lock-stays words k free j p.0 ∙ one))) (at_set items k j y z e);
         marked = λ j m u z e h. ⊎_elim (λ p. absurd (holds-none w m z refl (ap (λ (a : View T N). a.hold) p.1 ∙ h)))
-            (λ p. lock-stays words k 0 m (λ is. p.0 (s.one_holder j id k u v z x p.1 at (subst (λ (a : ℕ). Holds u a z) is h) hold)) ∙ l.marked j m u z p.1 h) (at_set views id j w u e);
-        taken_by = λ m h one. let other : m ≢ k = λ is. let a : lock_of (set words (k + 2) 0) k ≡ 1 = ap (lock_of (set words (k + 2) 0)) (sym is) ∙ one in let z : lock_of (set words (k + 2) 0) k ≡ 0 = zero_now in absurd (omega arith) in
-            let o = l.taken_by m (omega arith) (sym (lock-stays words k 0 m other) ∙ one) in
+            (λ p. lock-stays words k free m (λ is. p.0 (s.one_holder j id k u v z x p.1 at (subst (λ (a : ℕ). Holds u a z) is h) hold)) ∙ l.marked j m u z p.1 h) (at_set views id j w u e);
+        taken_by = λ m h one. let other : m ≢ k = λ is. unheld (sym free_now ∙ (ap (lock_of (set words (k + 2) free)) (sym is) ∙ one)) in
+            let o = l.taken_by m (omega arith) (sym (lock-stays words k free m other) ∙ one) in
             let apart : o.0 ≢ id = λ is. let uv : o.1 ≡ v = some-injective o.1 v (sym o.3 ∙ (ap (λ (i : ℕ). get_elem? views i) is ∙ at)) in other ((same-hold v m k o.2 x (ap (λ (a : View T N). a.hold) (sym uv) ∙ o.4) hold).0) in
             (o.0, o.1, o.2, set_else views id o.0 w apart ∙ o.3, o.4);
         list = l.list;
@@ -64,30 +70,33 @@ module _ {T N W : Type 0} where
         room = subst (λ (z : ℕ). z ≤ vec_capacity l.list) (sym long) l.room;
       }
 
-module _ {T N W : Type 0} (holds : ℕ → List T → List (View T N) → Type 0) (most : ℕ) where
-  gives_slot : (tells : View T N → T → W → N → Type 0) (n id k : ℕ) (v : View T N) (x y : T) (w : W) → Holds v k x → Gives holds most id v k y (tells v y w)
-      → Allows (Lies most holds) n id (v, (k, Here y) ∷ []) (k + 2) (λ z. either (eqb z 1) 0 z) (play_give tells (step n (k + 2) 1 0 (some (Said w))) (v, (k, Here y) ∷ []))
-  gives_slot tells n id k v x y w hold law s r wide at _ = let me : Me (Slot T W) (View T N) = (v, (k, Here y) ∷ []) in let z : ℕ = get_or s.words (k + 2) 0 in let one : z ≡ 1 = r.locks.marked id k v x at hold in let drawn : ℕ = drawn_of s.words in
-      let o = law drawn r.items s.views r.seats r.kept at in let same = sym (drawn-stays s.words k 0) in let views' : List (View T N) = set s.views id (given v o.0) in let items' : List T = set r.items k y in
-      exchanged z 1 0 (Goes holds most s (k + 2) id me (play_give tells (step n (k + 2) 1 0 (some (Said w))) me z))
+module _ {T N W : Type 0} (weight : T → ℕ) (all most : ℕ) (holds : ℕ → List T → List (View T N) → Type 0) where
+  gives_slot : (tells : View T N → T → W → N → Type 0) (n id k free : ℕ) (v : View T N) (x y : T) (w : W) → free ≢ 1 → Holds v k x → weight y ≤ v.permits + held_weight weight v.hold → Gives holds most id v k y (permits_after weight v y) (tells v y w)
+      → Allows (Lies weight all most holds) n id (v, (k, Here y) ∷ []) (k + 2) (λ z. either (eqb z 1) free z) (play_give weight tells (step n (k + 2) 1 free (some (Said w))) (v, (k, Here y) ∷ []))
+  gives_slot tells n id k free v x y w unheld hold enough law s r wide at _ = let me : Me (Slot T W) (View T N) = (v, (k, Here y) ∷ []) in let z : ℕ = get_or s.words (k + 2) 0 in let one : z ≡ 1 = r.locks.marked id k v x at hold in let drawn : ℕ = drawn_of s.words in
+      let o = law drawn r.items s.views r.seats r.kept at in let same = sym (drawn-stays s.words k free) in let p : ℕ = permits_after weight v y in let views' : List (View T N) = set s.views id (given v p o.0) in let items' : List T = set r.items k y in
+      let here = r.seats.held id k v x at hold in let part : 0 < v.parts = has-part most drawn r.items s.views id k v x r.seats at hold in
+      exchanged z 1 free (Goes weight all most holds s (k + 2) id me (play_give weight tells (step n (k + 2) 1 free (some (Said w))) me z))
       (λ hit. (
-        given v o.0,
+        given v p o.0,
         gives,
         tt,
         record {
           items = items';
           small = r.small;
-          locks = locks-given most drawn s.words s.homes r.items s.views id k v x y o.0 r.locks r.seats at hold;
-          seats = subst (λ (a : ℕ). Seats most a items' views') same (seats-given most drawn r.items s.views id k v x y o.0 r.seats at hold);
+          few = r.few;
+          locks = locks-given most drawn free s.words s.homes r.items s.views id k v x y p o.0 unheld r.locks r.seats at hold;
+          seats = subst (λ (a : ℕ). Seats most a items' views') same (seats-given most drawn r.items s.views id k v x y p o.0 r.seats at hold);
+          permits = subst (λ (a : ℕ). Permits weight all a items' views') (sym (free-stays s.words k free)) (permits-given weight all (free_of s.words) r.items s.views id k v x y o.0 r.permits at here hold part enough);
           kept = subst (λ (a : ℕ). holds a items' views') same o.1;
         },
         (λ k' x' w' hand said. let xs = lone-item k k' y x' hand in
-            (o.0, refl, subst (λ (a : T × W). tells v a.0 a.1 o.0) (λ i. (xs i, told-said (some (Said w)) w w' refl said i)) o.2)),
+            (o.0, ap (λ (a : T). let m : Me (Slot T W) (View T N) = (given v (permits_after weight v a) o.0, []) in m) xs, subst (λ (a : T × W). tells v a.0 a.1 o.0) (λ i. (xs i, told-said (some (Said w)) w w' refl said i)) o.2)),
       ))
       (λ miss. absurd (miss one))
 
   -- the same of a seat whose number, view and hand are known by equations
-  pub gives_seat : (tells : View T N → T → W → N → Type 0) (n id id' k : ℕ) (me : Me (Slot T W) (View T N)) (v : View T N) (x y : T) (w : W) → id' ≡ id → me ≡ (v, (k, Here y) ∷ []) → Holds v k x → Gives holds most id v k y (tells v y w)
-      → Allows (Lies most holds) n id' me (k + 2) (λ z. either (eqb z 1) 0 z) (play_give tells (step n (k + 2) 1 0 (some (Said w))) me)
-  gives_seat tells n id id' k me v x y w same is hold law = subst (λ (m : ℕ × Me (Slot T W) (View T N)). Allows (Lies most holds) n m.0 m.1 (k + 2) (λ z. either (eqb z 1) 0 z) (play_give tells (step n (k + 2) 1 0 (some (Said w))) m.1))
-      (λ i. (sym same i, sym is i)) (gives_slot tells n id k v x y w hold law)
+  pub gives_seat : (tells : View T N → T → W → N → Type 0) (n id id' k free : ℕ) (me : Me (Slot T W) (View T N)) (v : View T N) (x y : T) (w : W) → id' ≡ id → me ≡ (v, (k, Here y) ∷ []) → free ≢ 1 → Holds v k x → weight y ≤ v.permits + held_weight weight v.hold → Gives holds most id v k y (permits_after weight v y) (tells v y w)
+      → Allows (Lies weight all most holds) n id' me (k + 2) (λ z. either (eqb z 1) free z) (play_give weight tells (step n (k + 2) 1 free (some (Said w))) me)
+  gives_seat tells n id id' k free me v x y w same is unheld hold enough law = subst (λ (m : ℕ × Me (Slot T W) (View T N)). Allows (Lies weight all most holds) n m.0 m.1 (k + 2) (λ z. either (eqb z 1) free z) (play_give weight tells (step n (k + 2) 1 free (some (Said w))) m.1))
+      (λ i. (sym same i, sym is i)) (gives_slot tells n id k free v x y w unheld hold enough law)

@@ -2,9 +2,11 @@ pub mod Places
 pub mod Sums
 pub mod Holders
 pub mod Keeping
+pub mod Permitting
 pub mod Hands
 pub mod Takings
 pub mod Givings
 pub mod Notings
+pub mod Grants
 pub mod Layings
 pub mod Ends

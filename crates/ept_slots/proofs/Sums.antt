@@ -16,6 +16,11 @@ module _ {A : Type 0} (f : A → ℕ) where
   at-le-sum (x ∷ xs) zero a e = omega (arith, sum_by-cons f x xs, ap f (some-injective x a e))
   at-le-sum (x ∷ xs) (suc i) a e = omega (arith, sum_by-cons f x xs, at-le-sum xs i a e)
 
+-- where nothing weighs
+pub sum-none : {A : Type 0} (l : List A) → sum_by (λ _. 0) l ≡ 0
+sum-none [] = refl
+sum-none (x ∷ xs) = omega (arith, sum_by-cons (λ _. 0) x xs, sum-none xs)
+
 pub sum-le : {A : Type 0} (f g : A → ℕ) (l : List A) → ((i : ℕ) (a : A) → At l i a → f a ≤ g a) → sum_by f l ≤ sum_by g l
 sum-le f g [] each = le_refl 0
 sum-le f g (x ∷ xs) each = omega (arith, sum_by-cons f x xs, sum_by-cons g x xs, each 0 x refl, sum-le f g xs (λ i a e. each (suc i) a e))

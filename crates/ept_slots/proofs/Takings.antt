@@ -14,14 +14,15 @@ use Rattle.ept_slots.specs.declared.slot.Slot.{Slot}
 use Rattle.ept_slots.specs.declared.slot.Slot.TheVariants.{Here}
 use Rattle.ept_slots.specs.declared.view.View.{View}
 use Rattle.ept_slots.specs.Views.{At, Holds, HoldsNothing, whole, parts_of, refused_of, taken}
-use Rattle.ept_slots.specs.Seats.{Seats, IsFree}
+use Rattle.ept_slots.specs.Seats.{Seats, IsFree, Permits}
 use Rattle.ept_slots.specs.Asks.{Takes}
-use Rattle.ept_slots.specs.Locks.{drawn_of, lock_of, Locks, Lies}
+use Rattle.ept_slots.specs.Locks.{drawn_of, free_of, lock_of, Locks, Lies}
 use Rattle.ept_slots.specs.Plays.{play_take, Took}
 use Rattle.ept_slots.proofs.Places.{there, at-below, put-here}
 use Rattle.ept_slots.proofs.Sums.{sum-put}
 use Rattle.ept_slots.proofs.Holders.{same-hold, holds-none, each-put}
 use Rattle.ept_slots.proofs.Keeping.{IsFair, fair}
+use Rattle.ept_slots.proofs.Permitting.{free-stays, unmoved}
 
 -- word 0 stays where a lock changes, and so does each other lock
 pub drawn-stays : (words : List ℕ) (k a : ℕ) → drawn_of (set words (k + 2) a) ≡ drawn_of words
@@ -78,17 +79,17 @@ module _ {T N : Type 0} where
         counted = (let goal : drawn ≤ most + sum_by refused_of (set views id w) = omega arith in goal);
       }
 
-module _ {T N W : Type 0} (holds : ℕ → List T → List (View T N) → Type 0) (most : ℕ) where
+module _ {T N W : Type 0} (weight : T → ℕ) (all most : ℕ) (holds : ℕ → List T → List (View T N) → Type 0) where
   -- what a step has to show, once the word became m
   abbrev pub Goes : (s : State (Slot T W) (View T N)) (i id : ℕ) (me : Me (Slot T W) (View T N)) (then : Me (Slot T W) (View T N) → Type 0) → ℕ → Type 0
-  Goes s i id me then m = (w : View T N) × (a : Act (Slot T W)) × Valid s.homes me.1 a × Lies most holds (stepped s i m id me.1 w a) × then (w, carried_after me.1 a)
+  Goes s i id me then m = (w : View T N) × (a : Act (Slot T W)) × Valid s.homes me.1 a × Lies weight all most holds (stepped s i m id me.1 w a) × then (w, carried_after me.1 a)
 
   -- nothing changes
-  pub relie : (s : State (Slot T W) (View T N)) (i y id : ℕ) (v : View T N) → Lies most holds s → y ≡ get_or s.words i 0 → set s.views id v ≡ s.views → Lies most holds (record { words = set s.words i y; homes = s.homes; views = set s.views id v })
-  relie s i y id v r is same = subst (λ (z : List ℕ × List (View T N)). Lies most holds (record { words = z.0; homes = s.homes; views = z.1 })) (λ j. (sym (ap (λ (a : ℕ). set s.words i a) is ∙ set-get_or s.words i 0) j, sym same j)) r
+  pub relie : (s : State (Slot T W) (View T N)) (i y id : ℕ) (v : View T N) → Lies weight all most holds s → y ≡ get_or s.words i 0 → set s.views id v ≡ s.views → Lies weight all most holds (record { words = set s.words i y; homes = s.homes; views = set s.views id v })
+  relie s i y id v r is same = subst (λ (z : List ℕ × List (View T N)). Lies weight all most holds (record { words = z.0; homes = s.homes; views = z.1 })) (λ j. (sym (ap (λ (a : ℕ). set s.words i a) is ∙ set-get_or s.words i 0) j, sym same j)) r
 
   pub takes_slot : (tells : View T N → ℕ → T → N → Type 0) (n id k old : ℕ) (me : Me (Slot T W) (View T N)) → old ≢ 1 → k + 1 < n → HoldsNothing me.0 → 0 < me.0.parts → Takes holds most id me.0 k (tells me.0 k)
-      → Allows (Lies most holds) n id me (k + 2) (λ y. either (eqb y old) 1 y) (play_take tells (step n (k + 2) old 1 none) me)
+      → Allows (Lies weight all most holds) n id me (k + 2) (λ y. either (eqb y old) 1 y) (play_take tells (step n (k + 2) old 1 none) me)
   takes_slot tells n id k old me free_old near idle some_part law s r wide at _ = let y : ℕ = get_or s.words (k + 2) 0 in let v : View T N = me.0 in let items : List T = r.items in let views : List (View T N) = s.views in
       let told = play_take tells (step n (k + 2) old 1 none) me in let deep : length s.homes ≡ length items + 1 = r.locks.deep in let drawn : ℕ = drawn_of s.words in
       exchanged y old 1 (Goes s (k + 2) id me (told y))
@@ -100,8 +101,10 @@ module _ {T N W : Type 0} (holds : ℕ → List T → List (View T N) → Type 0
         record {
           items = items;
           small = r.small;
+          few = r.few;
           locks = locks-taken s.words s.homes items views id k v (taken v k x.0 o.0) x.0 r.locks at idle refl x.1 was;
           seats = subst (λ (z : ℕ). Seats most z items (set views id (taken v k x.0 o.0))) same (seats-taken most drawn items views id k v (taken v k x.0 o.0) x.0 r.seats at some_part refl refl refl x.1 free);
+          permits = subst (λ (z : ℕ). Permits weight all z items (set views id (taken v k x.0 o.0))) (sym (free-stays s.words k 1)) (unmoved weight all (free_of s.words) items views id v (taken v k x.0 o.0) r.permits at refl refl);
           kept = subst (λ (z : ℕ). holds z items (set views id (taken v k x.0 o.0))) same o.1;
         },
         (λ j e. let is : k ≡ j = omega arith in let m' : Me (Slot T W) (View T N) = (taken v k x.0 o.0, (k, Here x.0) ∷ me.1) in

@@ -1,7 +1,7 @@
 -- What a caller shows of its rule for each step: whatever the table is, the rule stays when the step is made, with some new note of the seat, of which `then` holds.
 use Rattle.std.specs.Prelude.{◌≡◌, ℕ, ◌+◌, ◌<◌, ◌≤◌, List, [], ◌∷◌, ◌++◌, slice_set, Option, Some, None}
 use Rattle.ept_slots.specs.declared.view.View.{View}
-use Rattle.ept_slots.specs.Views.{At, taken, given, noted, refused, left_of, right_of, both_of, spent_view}
+use Rattle.ept_slots.specs.Views.{At, taken, given, noted, with_permits, refused, left_of, right_of, both_of, spent_view}
 use Rattle.ept_slots.specs.Seats.{Seats, IsFree}
 
 module _ {T N : Type 0} (holds : ℕ → List T → List (View T N) → Type 0) (most : ℕ) where
@@ -10,17 +10,21 @@ module _ {T N : Type 0} (holds : ℕ → List T → List (View T N) → Type 0) 
   Takes id v k then = (drawn : ℕ) (items : List T) (views : List (View T N)) (x : T) → Seats most drawn items views → holds drawn items views → At views id v → At items k x → IsFree views k
       → (n : N) × holds drawn items (slice_set views id (taken v k x n)) × then x n
 
-  -- it gives the slot k, which it holds, with the item y
-  abbrev pub Gives : ℕ → View T N → ℕ → T → (N → Type 0) → Type 0
-  Gives id v k y then = (drawn : ℕ) (items : List T) (views : List (View T N)) → Seats most drawn items views → holds drawn items views → At views id v
-      → (n : N) × holds drawn (slice_set items k y) (slice_set views id (given v n)) × then n
+  -- it gives the slot k, which it holds, with the item y, and has p permits afterwards
+  abbrev pub Gives : ℕ → View T N → ℕ → T → ℕ → (N → Type 0) → Type 0
+  Gives id v k y p then = (drawn : ℕ) (items : List T) (views : List (View T N)) → Seats most drawn items views → holds drawn items views → At views id v
+      → (n : N) × holds drawn (slice_set items k y) (slice_set views id (given v p n)) × then n
 
   -- only its note changes
   abbrev pub Notes : ℕ → View T N → (N → Type 0) → Type 0
   Notes id v then = (drawn : ℕ) (items : List T) (views : List (View T N)) → Seats most drawn items views → holds drawn items views → At views id v
       → (n : N) × holds drawn items (slice_set views id (noted v n)) × then n
 
-  -- the same at a look, which sees how many slots were drawn
+  -- only its permits change: it has p afterwards
+  abbrev pub HasPermits : ℕ → View T N → ℕ → Type 0
+  HasPermits id v p = (drawn : ℕ) (items : List T) (views : List (View T N)) → Seats most drawn items views → holds drawn items views → At views id v → holds drawn items (slice_set views id (with_permits v p))
+
+  -- the same as of its note at a look, which sees how many slots were drawn
   abbrev pub Looks : ℕ → View T N → (ℕ → N → Type 0) → Type 0
   Looks id v then = (drawn : ℕ) (items : List T) (views : List (View T N)) → Seats most drawn items views → holds drawn items views → At views id v
       → (n : N) × holds drawn items (slice_set views id (noted v n)) × then drawn n

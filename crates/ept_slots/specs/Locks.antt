@@ -1,6 +1,6 @@
 -- The words and the slots of the table behind them.
--- Word 0 counts the slots that were drawn, word 1 is kept for permits, and word k + 2 is the lock of slot k: 1 while a seat holds it. Any other number is free.
-use Rattle.std.specs.Prelude.{◌≡◌, ◌≢◌, ℕ, ◌+◌, ◌<◌, ◌≤◌, List, [], length, slice_index}
+-- Word 0 counts the slots that were drawn, word 1 the permits that are free, and word k + 2 is the lock of slot k: 1 while a seat holds it. Any other number is free.
+use Rattle.std.specs.Prelude.{◌≡◌, ◌≢◌, ℕ, ◌+◌, ◌<◌, ◌≤◌, ◌^◌, List, [], length, slice_index}
 use Rattle.std.specs.Vec.{vec_capacity}
 use Rattle.std.specs.declared.alloc.Global.{Global}
 use Rattle.std.specs.declared.vec.Vec.{Vec}
@@ -11,10 +11,13 @@ use Rattle.ept_slots.specs.declared.slot.Slot.{Slot}
 use Rattle.ept_slots.specs.declared.slot.Slot.TheVariants.{Here, Spare}
 use Rattle.ept_slots.specs.declared.view.View.{View}
 use Rattle.ept_slots.specs.Views.{At, Holds, whole}
-use Rattle.ept_slots.specs.Seats.{Seats}
+use Rattle.ept_slots.specs.Seats.{Seats, Permits}
 
 abbrev pub drawn_of : List ℕ → ℕ
 drawn_of words = slice_index words 0
+
+abbrev pub free_of : List ℕ → ℕ
+free_of words = slice_index words 1
 
 abbrev pub lock_of : List ℕ → ℕ → ℕ
 lock_of words k = slice_index words (k + 2)
@@ -35,10 +38,12 @@ pub record Locks {T N W : Type 0} (words : List ℕ) (homes : List (maybe.Option
   pub empty : list.items ≡ []
   pub room : length items ≤ vec_capacity list
 
--- the rule of the table: there are items of which all holds
-pub record Lies {T N W : Type 0} (most : ℕ) (holds : ℕ → List T → List (View T N) → Type 0) (s : State (Slot T W) (View T N)) : Type 0 where
+-- the rule of the table, in which there are `all` permits and an item takes as many as its weight: there are items of which all holds
+pub record Lies {T N W : Type 0} (weight : T → ℕ) (all most : ℕ) (holds : ℕ → List T → List (View T N) → Type 0) (s : State (Slot T W) (View T N)) : Type 0 where
   pub items : List T
   pub small : most < whole
+  pub few : all < 2 ^ 64
   pub locks : Locks s.words s.homes items s.views
   pub seats : Seats most (drawn_of s.words) items s.views
+  pub permits : Permits weight all (free_of s.words) items s.views
   pub kept : holds (drawn_of s.words) items s.views

@@ -1,11 +1,11 @@
 -- What each step of the table tells: of the seat m before, the number r that was found, and the seat m' after.
-use Rattle.std.specs.Prelude.{◌≡◌, ◌≢◌, ℕ, ◌+◌, ◌<◌, ◌≤◌, [], ◌∷◌, Option, Some, None}
+use Rattle.std.specs.Prelude.{◌≡◌, ◌≢◌, ℕ, ◌+◌, ◌-◌, ◌<◌, ◌≤◌, [], ◌∷◌, Option, Some, None}
 use mathlib.Core.Option.{some}
 use Rattle.atomic_table.specs.Table.{Me, Step}
 use Rattle.ept_slots.specs.declared.slot.Slot.{Slot}
 use Rattle.ept_slots.specs.declared.slot.Slot.TheVariants.{Here, Said}
 use Rattle.ept_slots.specs.declared.view.View.{View}
-use Rattle.ept_slots.specs.Views.{taken, given, noted, refused}
+use Rattle.ept_slots.specs.Views.{permits_after, taken, given, with_permits, noted, refused}
 
 abbrev pub Seated : Type 0 → Type 0 → Type 0 → Type 0
 Seated T N W = Me (Slot T W) (View T N)
@@ -18,8 +18,16 @@ module _ {T N W : Type 0} where
   abbrev pub play_take : (View T N → ℕ → T → N → Type 0) → Step (Slot T W) → Seated T N W → ℕ → Seated T N W → Type 0
   play_take tells st m r m' = (k : ℕ) → st.word ≡ k + 2 → (r ≡ st.first → Took tells k m m') × (r ≢ st.first → m' ≡ m)
 
-  abbrev pub play_give : (View T N → T → W → N → Type 0) → Step (Slot T W) → Seated T N W → ℕ → Seated T N W → Type 0
-  play_give tells st m r m' = (k : ℕ) (x : T) (w : W) → m.1 ≡ (k, Here x) ∷ [] → st.said ≡ some (Said w) → (n : N) × (m' ≡ (given m.0 n, [])) × tells m.0 x w n
+  abbrev pub play_give : (T → ℕ) → (View T N → T → W → N → Type 0) → Step (Slot T W) → Seated T N W → ℕ → Seated T N W → Type 0
+  play_give weight tells st m r m' = (k : ℕ) (y : T) (w : W) → m.1 ≡ (k, Here y) ∷ [] → st.said ≡ some (Said w) → (n : N) × (m' ≡ (given m.0 (permits_after weight m.0 y) n, [])) × tells m.0 y w n
+
+  -- it has a permit more where the number of free ones was as expected
+  abbrev pub play_grant : Step (Slot T W) → Seated T N W → ℕ → Seated T N W → Type 0
+  play_grant st m r m' = (r ≡ st.first → m' ≡ (with_permits m.0 (m.0.permits + 1), m.1)) × (r ≢ st.first → m' ≡ m)
+
+  -- it has one less
+  abbrev pub play_return : Step (Slot T W) → Seated T N W → ℕ → Seated T N W → Type 0
+  play_return st m r m' = m' ≡ (with_permits m.0 (m.0.permits - 1), m.1)
 
   abbrev pub play_note : (View T N → W → N → Type 0) → Step (Slot T W) → Seated T N W → ℕ → Seated T N W → Type 0
   play_note tells st m r m' = (w : W) → st.said ≡ some (Said w) → (n : N) × (m' ≡ (noted m.0 n, m.1)) × tells m.0 w n

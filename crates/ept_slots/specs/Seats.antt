@@ -3,7 +3,7 @@
 use Rattle.std.specs.Prelude.{◌≡◌, ℕ, ◌+◌, ◌<◌, ◌≤◌, List}
 use Rattle.std.specs.List.{sum_by}
 use Rattle.ept_slots.specs.declared.view.View.{View}
-use Rattle.ept_slots.specs.Views.{At, Holds, HoldsNothing, whole, parts_of, refused_of}
+use Rattle.ept_slots.specs.Views.{At, Holds, HoldsNothing, whole, parts_of, refused_of, permits_of}
 
 pub record Seats {T N : Type 0} (most drawn : ℕ) (items : List T) (views : List (View T N)) : Type 0 where
   -- what a seat holds is what lies there, and no other seat holds it
@@ -16,6 +16,11 @@ pub record Seats {T N : Type 0} (most drawn : ℕ) (items : List T) (views : Lis
   pub seldom : (id : ℕ) (v : View T N) → At views id v → v.refused ≤ v.parts
   pub overdrawn : (id : ℕ) (v : View T N) → At views id v → 0 < v.refused → most < drawn
   pub counted : drawn ≤ most + sum_by refused_of views
+
+-- The permits, of which `all` are in all: so many are free, the seats have some, and the items take the others as they lie in their slots. A seat without a part has none.
+pub record Permits {T N : Type 0} (weight : T → ℕ) (all free : ℕ) (items : List T) (views : List (View T N)) : Type 0 where
+  pub conserved : free + sum_by permits_of views + sum_by weight items ≡ all
+  pub spent : (id : ℕ) (v : View T N) → At views id v → v.parts ≡ 0 → v.permits ≡ 0
 
 -- no seat holds the slot
 abbrev pub IsFree : {T N : Type 0} → List (View T N) → ℕ → Type 0

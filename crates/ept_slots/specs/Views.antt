@@ -1,7 +1,8 @@
 -- What a seat knows, and what each step makes of it.
-use Rattle.std.specs.Prelude.{◌≡◌, ℕ, ◌+◌, ◌-◌, ◌/◌, List, Some, None}
+use Rattle.std.specs.Prelude.{◌≡◌, ℕ, ◌+◌, ◌-◌, ◌/◌, List, Option, Some, None}
 use mathlib.Core.Option.{some}
 use lib.ListN.{get_elem?}
+use Rattle.ept_slots.specs.declared.view.Held.{Held}
 use Rattle.ept_slots.specs.declared.view.View.{View}
 
 -- x stands at the place i
@@ -11,6 +12,11 @@ At xs i x = get_elem? xs i ≡ some x
 -- the parts of all seats together
 abbrev pub whole : ℕ
 whole = 4294967296
+
+-- how many permits the item took that lay in the slot that is held
+abbrev pub held_weight : {T : Type 0} → (T → ℕ) → Option (Held T) → ℕ
+held_weight weight None = 0
+held_weight weight (Some held) = weight held.item
 
 module _ {T N : Type 0} where
   -- the seat holds the slot k, where it took x
@@ -26,36 +32,47 @@ module _ {T N : Type 0} where
   abbrev pub refused_of : View T N → ℕ
   refused_of v = v.refused
 
+  abbrev pub permits_of : View T N → ℕ
+  permits_of v = v.permits
+
+  -- how many permits the seat has once it has given y: those of the item that it took come to it, and y takes its own
+  abbrev pub permits_after : (T → ℕ) → View T N → T → ℕ
+  permits_after weight v y = v.permits + held_weight weight v.hold - weight y
+
   -- of the seat that a table is made with
   abbrev pub first_view : ℕ → N → View T N
-  first_view most n = record { most = most; parts = whole; refused = 0; hold = None; note = n }
+  first_view most n = record { most = most; parts = whole; refused = 0; permits = 0; hold = None; note = n }
 
   -- after x was taken from the slot k
   abbrev pub taken : View T N → ℕ → T → N → View T N
-  taken v k x n = record { most = v.most; parts = v.parts; refused = v.refused; hold = Some (record { slot = k; item = x }); note = n }
+  taken v k x n = record { most = v.most; parts = v.parts; refused = v.refused; permits = v.permits; hold = Some (record { slot = k; item = x }); note = n }
 
-  -- after the slot was given back
-  abbrev pub given : View T N → N → View T N
-  given v n = record { most = v.most; parts = v.parts; refused = v.refused; hold = None; note = n }
+  -- after the slot was given back: the seat has p permits then
+  abbrev pub given : View T N → ℕ → N → View T N
+  given v p n = record { most = v.most; parts = v.parts; refused = v.refused; permits = p; hold = None; note = n }
+
+  -- after a step that changes its permits alone
+  abbrev pub with_permits : View T N → ℕ → View T N
+  with_permits v p = record { most = v.most; parts = v.parts; refused = v.refused; permits = p; hold = v.hold; note = v.note }
 
   -- after a step that changes the note alone
   abbrev pub noted : View T N → N → View T N
-  noted v n = record { most = v.most; parts = v.parts; refused = v.refused; hold = v.hold; note = n }
+  noted v n = record { most = v.most; parts = v.parts; refused = v.refused; permits = v.permits; hold = v.hold; note = n }
 
   -- after a draw that was refused
   abbrev pub refused : View T N → N → View T N
-  refused v n = record { most = v.most; parts = v.parts; refused = v.refused + 1; hold = v.hold; note = n }
+  refused v n = record { most = v.most; parts = v.parts; refused = v.refused + 1; permits = v.permits; hold = v.hold; note = n }
 
-  -- after a split: what the seat keeps, and what the new one has
+  -- after a split: what the seat keeps, its permits among it, and what the new one has
   abbrev pub left_of : View T N → N → View T N
-  left_of v n = record { most = v.most; parts = v.parts - v.parts / 2; refused = v.refused; hold = v.hold; note = n }
+  left_of v n = record { most = v.most; parts = v.parts - v.parts / 2; refused = v.refused; permits = v.permits; hold = v.hold; note = n }
 
   abbrev pub right_of : View T N → N → View T N
-  right_of v n = record { most = v.most; parts = v.parts / 2; refused = 0; hold = None; note = n }
+  right_of v n = record { most = v.most; parts = v.parts / 2; refused = 0; permits = 0; hold = None; note = n }
 
   -- after a join: what the seat has, and what the seat that ended leaves
   abbrev pub both_of : View T N → View T N → N → View T N
-  both_of v w n = record { most = v.most; parts = v.parts + w.parts; refused = v.refused + w.refused; hold = v.hold; note = n }
+  both_of v w n = record { most = v.most; parts = v.parts + w.parts; refused = v.refused + w.refused; permits = v.permits + w.permits; hold = v.hold; note = n }
 
   abbrev pub spent_view : N → View T N
-  spent_view n = record { most = 0; parts = 0; refused = 0; hold = None; note = n }
+  spent_view n = record { most = 0; parts = 0; refused = 0; permits = 0; hold = None; note = n }

@@ -1,7 +1,8 @@
 //! What the steps of the table behind tell. These types are for the proofs alone.
-ghost use Rattle.ept_slots.specs.Plays.{play_take, play_give, play_note, play_look, play_draw};
+ghost use Rattle.ept_slots.specs.Plays.{play_take, play_give, play_grant, play_return, play_note, play_look, play_draw};
 ghost use Rattle.ept_slots.specs.Views.{left_of, right_of, both_of, spent_view};
 
+use crate::rule::SlotRule;
 use crate::slot::Slot;
 use crate::tells::{Draw, Give, Look, Note, Take};
 use crate::view::View;
@@ -16,12 +17,25 @@ impl<T, N, W, M: Take<T, N>> Play<Slot<T, W>, View<T, N>> for Taking<M> {
     ghost then = { play_take M.tells };
 }
 
-pub struct Giving<M> {
-    marker: PhantomData<M>,
+pub struct Giving<M, K, R> {
+    marker: PhantomData<(M, K, R)>,
 }
 
-impl<T, N, W, M: Give<T, N, W>> Play<Slot<T, W>, View<T, N>> for Giving<M> {
-    ghost then = { play_give M.tells };
+impl<T, N, W, M: Give<T, N, W>, K, R: SlotRule<T, N, K>> Play<Slot<T, W>, View<T, N>>
+    for Giving<M, K, R> {
+    ghost then = { play_give R.weight M.tells };
+}
+
+pub struct Granting;
+
+impl<T, N, W> Play<Slot<T, W>, View<T, N>> for Granting {
+    ghost then = { play_grant };
+}
+
+pub struct Returning;
+
+impl<T, N, W> Play<Slot<T, W>, View<T, N>> for Returning {
+    ghost then = { play_return };
 }
 
 pub struct Noting<M> {

@@ -19,17 +19,23 @@ pub trait SlotRule<T, N, K> {
     /// Up to which number slots are drawn.
     ghost most: { K → ℕ };
 
+    /// How many permits there are.
+    ghost permits: { K → ℕ };
+
+    /// How many permits an item takes as it lies in its slot.
+    ghost weight: { T → ℕ };
+
     /// The note of the first seat.
     ghost first: { K → N };
 }
 
-/// The rule of the table behind: the locks, the shares, the counter, and the caller's rule.
+/// The rule of the table behind: the locks, the shares, the counter, the permits, and the caller's rule.
 pub struct Locked<R> {
     rule: PhantomData<R>,
 }
 
 impl<T, N, W, K, R: SlotRule<T, N, K>> TableRule<Slot<T, W>, View<T, N>, K> for Locked<R> {
-    ghost holds = { λ about. Lies (R.most about) (R.holds about) };
+    ghost holds = { λ about. Lies R.weight (R.permits about) (R.most about) (R.holds about) };
 
     ghost first = { λ about. first_view (R.most about) (R.first about) };
 }

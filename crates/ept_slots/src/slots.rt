@@ -9,11 +9,16 @@ use std::alloc::Global;
 
 pub(crate) const DRAWN: usize = 0;
 
+pub(crate) const PERMITS: usize = 1;
+
 pub(crate) const FREE: u64 = 0;
 
 pub(crate) const HELD: u64 = 1;
 
-// The words before the locks: word 0 counts the slots that were drawn, word 1 is kept for permits.
+// Of a free slot with an item that is wanted.
+pub(crate) const WANTED: u64 = 2;
+
+// The words before the locks: word 0 counts the slots that were drawn, word 1 the permits that are free.
 pub(crate) const LOCKS: usize = 2;
 
 /// A token of no bytes with which a thread steps. In a clause, `view` of it is what it knows.
@@ -41,4 +46,6 @@ pub struct Ending<T> {
     pub items: Vec<T, Global>,
     /// How many slots were drawn or refused.
     pub drawn: u64,
+    /// How many permits were free.
+    pub free: u64,
 }

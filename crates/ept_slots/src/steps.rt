@@ -1,13 +1,13 @@
 //! Single steps of a seat.
-ghost use Rattle.std.specs.Prelude.{◌≡◌, ℕ, ◌<◌, ◌≤◌, Some, None, MatchOption, IfSome};
-ghost use Rattle.ept_slots.specs.Views.{Holds, HoldsNothing, taken, given, noted, refused};
-ghost use Rattle.ept_slots.specs.Asks.{Takes, Gives, Notes, Looks, Draws, IsRefused};
+ghost use Rattle.std.specs.Prelude.{◌≡◌, ◌≢◌, ℕ, true, false, ◌+◌, ◌-◌, ◌<◌, ◌≤◌, Some, None, MatchOption, IfSome};
+ghost use Rattle.ept_slots.specs.Views.{Holds, HoldsNothing, held_weight, permits_after, taken, given, with_permits, noted, refused};
+ghost use Rattle.ept_slots.specs.Asks.{Takes, Gives, HasPermits, Notes, Looks, Draws, IsRefused};
 ghost use Rattle.ept_slots.specs.Seating.{view, count_of, key_of, IsSeatOf};
 
-use crate::plays::{Drawing, Giving, Looking, Noting, Taking};
+use crate::plays::{Drawing, Giving, Granting, Looking, Noting, Returning, Taking};
 use crate::rule::SlotRule;
 use crate::slot::Slot;
-use crate::slots::{DRAWN, FREE, HELD, LOCKS, SlotSeat, Slots};
+use crate::slots::{DRAWN, FREE, HELD, LOCKS, PERMITS, SlotSeat, Slots, WANTED};
 use crate::tells::{Draw, Give, Look, Note, Take};
 use std::sync::Wait;
 use std::thread;
@@ -25,6 +25,13 @@ impl<T, N, W, K, R: SlotRule<T, N, K>> Slots<T, N, W, K, R> {
         requires { slot < count_of self.now }
     {
         self.table.shared.peek(slot + LOCKS) == HELD
+    }
+
+    /// Whether a slot is free as it is looked at, and what was last given into it was said to be wanted. Another seat may take it meanwhile.
+    pub fn is_wanted(&self, slot: usize) -> bool
+        requires { slot < count_of self.now }
+    {
+        self.table.shared.peek(slot + LOCKS) == WANTED
     }
 
     /// One try to take what lies in a slot: None where its lock was held, and then nothing changed.
@@ -71,28 +78,62 @@ impl<T, N, W, K, R: SlotRule<T, N, K>> Slots<T, N, W, K, R> {
         unreachable!()
     }
 
-    /// Brings an item home into the slot that the seat holds, and frees the lock. What is said is for
-    /// the caller's rule alone, and comes back.
+    /// Brings an item home into the slot that the seat holds, and frees the lock. The permits of what
+    /// was taken come to the seat, and the item takes its own from it. What is said is for the caller's
+    /// rule alone, and comes back. That an item is wanted is for `is_wanted` alone.
     pub fn give<M: Give<T, N, W>>(
         &self,
         seat: &mut SlotSeat<T, N, W>,
         slot: usize,
         item: T,
         said: W,
+        is_wanted: bool,
     ) -> W
         requires seat { IsSeatOf R.most self.now seat.old }
         requires slot { slot < count_of self.now }
         requires held { (x : T) × Holds (view seat.old) slot x }
-        requires rule { Gives (R.holds (key_of self.now)) (R.most (key_of self.now)) seat.old.id (view seat.old) slot item (M.tells (view seat.old) item said) }
+        requires permits { R.weight item ≤ (view seat.old).permits + held_weight R.weight (view seat.old).hold }
+        requires rule { Gives (R.holds (key_of self.now)) (R.most (key_of self.now)) seat.old.id (view seat.old) slot item (permits_after R.weight (view seat.old) item) (M.tells (view seat.old) item said) }
         ensures seat { IsSeatOf R.most self.now seat.new × (seat.new.id ≡ seat.old.id) }
-        ensures step { (n : N) × (view seat.new ≡ given (view seat.old) n) × M.tells (view seat.old) item said n }
+        ensures step { (n : N) × (view seat.new ≡ given (view seat.old) (permits_after R.weight (view seat.old) item) n) × M.tells (view seat.old) item said n }
         ensures said { result ≡ said }
     {
         let shared = &self.table.shared;
         shared.exchange(seat, slot, Slot::Here(item)).end();
         let told = Slot::Said(said);
-        shared.compare_exchange_with::<Giving<M>>(seat, slot + LOCKS, HELD, FREE, &told);
+        let free = free_word(is_wanted);
+        shared.compare_exchange_with::<Giving<M, K, R>>(seat, slot + LOCKS, HELD, free, &told);
         told.into_said()
+    }
+
+    /// One try to take a permit: false where none was free, or where another seat changed meanwhile how many are.
+    /// Nothing changed then.
+    pub fn try_permit(&self, seat: &mut SlotSeat<T, N, W>) -> bool
+        requires seat { IsSeatOf R.most self.now seat.old }
+        requires share { 0 < (view seat.old).parts }
+        requires rule { HasPermits (R.holds (key_of self.now)) (R.most (key_of self.now)) seat.old.id (view seat.old) ((view seat.old).permits + 1) }
+        ensures seat { IsSeatOf R.most self.now seat.new × (seat.new.id ≡ seat.old.id) }
+        ensures granted { result ≡ true → view seat.new ≡ with_permits (view seat.old) ((view seat.old).permits + 1) }
+        ensures same { result ≡ false → view seat.new ≡ view seat.old }
+    {
+        let shared = &self.table.shared;
+        let free = shared.peek(PERMITS);
+        if free == 0 {
+            return false;
+        }
+        let found = shared.compare_exchange::<Granting>(seat, PERMITS, free, free - 1);
+        found == free
+    }
+
+    /// Gives a permit of the seat back, so that it is free.
+    pub fn give_permit(&self, seat: &mut SlotSeat<T, N, W>)
+        requires seat { IsSeatOf R.most self.now seat.old }
+        requires permit { 0 < (view seat.old).permits }
+        requires rule { HasPermits (R.holds (key_of self.now)) (R.most (key_of self.now)) seat.old.id (view seat.old) ((view seat.old).permits - 1) }
+        ensures seat { IsSeatOf R.most self.now seat.new × (seat.new.id ≡ seat.old.id) }
+        ensures step { view seat.new ≡ with_permits (view seat.old) ((view seat.old).permits - 1) }
+    {
+        self.table.shared.fetch_add::<Returning>(seat, PERMITS, 1);
     }
 
     /// A step of the holder of a slot that changes its note alone. What is said comes back.
@@ -140,4 +181,11 @@ impl<T, N, W, K, R: SlotRule<T, N, K>> Slots<T, N, W, K, R> {
             None
         }
     }
+}
+
+// What the lock of a slot says that is free.
+fn free_word(is_wanted: bool) -> u64
+    ensures { result ≢ 1 }
+{
+    if is_wanted { WANTED } else { FREE }
 }

@@ -14,6 +14,8 @@ pub struct View<T, N> {
     pub parts: u64,
     /// How often it was refused a slot: at most as often as it has parts.
     pub refused: u64,
+    /// The permits that it has.
+    pub permits: u64,
     /// The slot that it holds, if it holds one.
     pub hold: Option<Held<T>>,
     /// What the caller's rule has it know.

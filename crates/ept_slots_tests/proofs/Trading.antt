@@ -8,7 +8,7 @@ use Rattle.atomic_table.proofs.Lists.{at_set, set_else}
 use Rattle.ept_slots.specs.Views.{At, Holds, first_view, taken, given, noted, refused, left_of, right_of, both_of, spent_view}
 use Rattle.ept_slots.specs.Asks.{Takes, Gives, Notes, Looks, Draws, IsRefused, Splits, Joins}
 use Rattle.ept_slots.specs.Seating.{Ended}
-use Rattle.ept_slots.proofs.Sums.{sum-put}
+use Rattle.ept_slots.proofs.Sums.{sum-put, sum-none}
 use Rattle.ept_slots.proofs.Holders.{each-put, each-last}
 use Rattle.ept_slots_tests.specs.Trade.{Known, carried_of, number, IsDone, AddsUp, KeepsNote}
 
@@ -20,11 +20,11 @@ same-note total drawn drawn' items views id v w a at n p = let notes : sum_by ca
 pub takes : (total most id k : ℕ) (v : Known) → Takes (AddsUp total) most id v k (λ x n. KeepsNote v n)
 takes total most id k v drawn items views x s a at there free = (v.note, same-note total drawn drawn items views id v (taken v k x v.note) a at refl refl, refl)
 
-pub gives : (total most id k : ℕ) (v : Known) (x y : ℕ) → Holds v k x → y ≡ v.note → 0 < v.parts → Gives (AddsUp total) most id v k y (λ n. n ≡ x)
-gives total most id k v x y hold is some_part drawn items views s a at =
+pub gives : (total most id k : ℕ) (v : Known) (x y p : ℕ) → Holds v k x → y ≡ v.note → 0 < v.parts → Gives (AddsUp total) most id v k y p (λ n. n ≡ x)
+gives total most id k v x y p hold is some_part drawn items views s a at =
     let numbers : sum_by number (set items k y) + x ≡ sum_by number items + y = sum-put number items k x y (s.held id k v x at hold) in let before : sum_by number items + sum_by carried_of views ≡ total = a.adds in
-    let notes : sum_by carried_of (set views id (given v x)) + v.note ≡ sum_by carried_of views + x = sum-put carried_of views id v (given v x) at in
-    (x, record { adds = omega arith; done = each-put IsDone views id (given v x) a.done (λ e. let none : v.parts ≡ 0 = e in absurd (omega arith)) }, refl)
+    let notes : sum_by carried_of (set views id (given v p x)) + v.note ≡ sum_by carried_of views + x = sum-put carried_of views id v (given v p x) at in
+    (x, record { adds = omega arith; done = each-put IsDone views id (given v p x) a.done (λ e. let none : v.parts ≡ 0 = e in absurd (omega arith)) }, refl)
 
 pub looks : (total most id : ℕ) (v : Known) → Looks (AddsUp total) most id v (λ d n. KeepsNote v n)
 looks total most id v drawn items views s a at = (v.note, same-note total drawn drawn items views id v (noted v v.note) a at refl refl, refl)
@@ -52,6 +52,10 @@ joins total most id j v w some_part drawn items views s a at there apart = let b
 first-done : (id : ℕ) (v : Known) → At (first_view {T = ℕ} 1 0 ∷ []) id v → IsDone v
 first-done zero v e = subst IsDone (some-injective (first_view 1 0) v e) (λ _. refl)
 first-done (suc id) v e = absurd (some-ne-none v (sym e))
+
+-- the numbers take no permit, and there is none
+pub no-permits : (items : List ℕ) → (0 + sum_by (λ (x : ℕ). 0) items ≡ 0) × (0 < 18446744073709551616)
+no-permits items = (omega (arith, sum-none items), omega arith)
 
 pub starts : (total : ℕ) (items : List ℕ) → total ≡ sum_by number items → AddsUp total 0 items (first_view 1 0 ∷ [])
 starts total items is = record { adds = omega (arith, sum_by-cons carried_of (first_view {T = ℕ} 1 0) []); done = first-done }

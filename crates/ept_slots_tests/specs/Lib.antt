@@ -1,1 +1,2 @@
 pub mod Trade
+pub mod Loads

@@ -2,6 +2,8 @@
 #![tactic(auto)]
 
 #[cfg(test)]
+mod load;
+#[cfg(test)]
 mod tests;
 #[cfg(test)]
 mod trade;

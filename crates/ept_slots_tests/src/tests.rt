@@ -1,3 +1,4 @@
+use crate::load::{Loaded, load_apart, load_three};
 use crate::trade::{Drawn, Traded, draw_twice, take_first, trade_apart};
 use std::test::Fail;
 
@@ -61,5 +62,47 @@ fn a_free_slot_is_taken_at_once(rt: HostRuntime) -> Result<(), Fail> {
     };
     assert_eq!(rt; (taken, ending.drawn), (Some(5), 0));
     assert_eq!(rt; ending.items.as_slice(), [0, 7, 9].as_slice());
+    Ok(())
+}
+
+#[test]
+fn permits_run_out_and_are_given_back(rt: HostRuntime) -> Result<(), Fail> {
+    // One of the two permits is in the first slot as the table is made, or none is.
+    for (first, free) in [(false, 2u64), (true, 1)] {
+        let items = [first, false, false].to_vec(rt.alloc())?;
+        let Ok(
+            Loaded {
+                answers,
+                wanted,
+                ending,
+            },
+        ) = load_three(&rt, rt.alloc(), items, free, 2)
+        else {
+            panic!(rt; "no memory")
+        };
+        assert_eq!(rt; answers, (true, true, false, true));
+        assert_eq!(rt; wanted, (true, false));
+        assert_eq!(rt; (ending.free, ending.drawn), (0, 0));
+        assert_eq!(rt; ending.items.as_slice(), [false, true, true].as_slice());
+    }
+    Ok(())
+}
+
+#[test]
+fn two_loaders_lose_no_permit_and_make_none(rt: HostRuntime) -> Result<(), Fail> {
+    for round in 0..100u64 {
+        let items = [false, false, false].to_vec(rt.alloc())?;
+        let permits = round % 4;
+        let Ok(ending) = load_apart(&rt, rt.alloc(), items, permits) else {
+            panic!(rt; "no memory")
+        };
+        let mut loaded = 0u64;
+        for is_loaded in ending.items.as_slice() {
+            if *is_loaded {
+                loaded = loaded.wrapping_add(1);
+            }
+        }
+        assert_eq!(rt; ending.free.wrapping_add(loaded), permits);
+    }
     Ok(())
 }

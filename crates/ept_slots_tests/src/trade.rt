@@ -19,6 +19,10 @@ impl SlotRule<u64, u64, u64> for Constant {
 
     ghost most = { one };
 
+    ghost permits = { λ _. 0 };
+
+    ghost weight = { λ _. 0 };
+
     ghost first = { λ _. 0 };
 }
 
@@ -74,7 +78,7 @@ fn trade<H: Wait>(rt: &H, market: &Market, trader: &mut Trader, slot: usize, car
     ensures step { IsFreeWith (view trader.old) (view trader.new) result }
 {
     let found = market.take::<Same, H>(rt, trader, slot);
-    market.give::<Carries>(trader, slot, carried, found)
+    market.give::<Carries>(trader, slot, carried, found, false)
 }
 
 // Trades at one slot, and then at another.
@@ -115,6 +119,7 @@ fn finish(market: Market, mut trader: Trader, first: u64, other: Trader, second:
     let Ending {
         items,
         drawn: _drawn,
+        free: _free,
     } = market.close(trader);
     Traded {
         items,
@@ -134,7 +139,7 @@ pub fn trade_apart<R: Threads + Wait + Sync>(
     requires total { total ≡ sum_by number items.items }
     ensures { IfOk result (λ t. sum_by number t.items.items + (t.first + t.second) ≡ total) }
 {
-    let (market, mut trader): (Market, Trader) = Slots::new(alloc, items, 0, 1, &total)?;
+    let (market, mut trader): (Market, Trader) = Slots::new(alloc, items, 0, 1, 0, &total)?;
     let other = market.split::<Carries>(&mut trader);
     let there = &market;
     let ((trader, first), (other, second)) = thread::join(
@@ -158,7 +163,7 @@ pub fn draw_twice(alloc: Global, items: Vec<u64, Global>, total: u64) -> Result<
     requires total { total ≡ sum_by number items.items }
     ensures { IfOk result (λ d. IfSome d.first (λ k. k ≡ 1) × (sum_by number d.ending.items.items ≡ total)) }
 {
-    let (market, mut trader): (Market, Trader) = Slots::new(alloc, items, 0, 1, &total)?;
+    let (market, mut trader): (Market, Trader) = Slots::new(alloc, items, 0, 1, 0, &total)?;
     let first = market.draw::<Same>(&mut trader);
     let second = market.draw::<Same>(&mut trader);
     let seen = market.look::<Same>(&mut trader);
@@ -181,7 +186,7 @@ fn try_once(market: &Market, trader: &mut Trader) -> Option<u64>
 {
     let found = market.try_take::<Same>(trader, 0)?;
     market.note::<Same>(trader, 0, found);
-    Some(market.give::<Carries>(trader, 0, 0, found))
+    Some(market.give::<Carries>(trader, 0, 0, found, false))
 }
 
 // What one try takes is missing in the end, and nothing else.
@@ -194,7 +199,7 @@ pub fn take_first(
     requires total { total ≡ sum_by number items.items }
     ensures { IfOk result (λ t. sum_by number t.0.items.items + unwrap_or t.1 0 ≡ total) }
 {
-    let (market, mut trader): (Market, Trader) = Slots::new(alloc, items, 0, 1, &total)?;
+    let (market, mut trader): (Market, Trader) = Slots::new(alloc, items, 0, 1, 0, &total)?;
     let taken = try_once(&market, &mut trader);
     Ok((market.close(trader), taken))
 }

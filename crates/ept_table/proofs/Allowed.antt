@@ -8,7 +8,7 @@ use Rattle.ept_slots.specs.declared.view.Held.{Held}
 use Rattle.ept_slots.specs.Views as views
 use Rattle.ept_slots.specs.Seats.{Seats}
 use Rattle.ept_slots.specs.Seating.{Ended}
-use Rattle.ept_slots.specs.Asks.{Takes, Gives, Notes, Looks, Draws, IsRefused, Splits, Joins}
+use Rattle.ept_slots.specs.Asks.{Takes, Gives, HasPermits, Notes, Looks, Draws, IsRefused, Splits, Joins}
 use Rattle.ept_table.specs.declared.item.Item.{Item}
 use Rattle.ept_table.specs.declared.note.Note.{Note}
 use Rattle.ept_table.specs.declared.note.Told.{Told}
@@ -39,7 +39,7 @@ abbrev pair_or : ℕ → Taken → Option (ℕ × Taken) → ℕ × Taken
 pair_or k x None = (k, x)
 pair_or k x (Some p) = p
 
-module _ (F S : Type 0) (whole left : S → Option (List ℕ)) (given faults : S → ℕ) (told : Told) where
+module _ (F S : Type 0) (held : F → Option (List ℕ)) (node_faults keeps : F → ℕ) (whole left : S → Option (List ℕ)) (given faults : S → ℕ) (told : Told) where
   abbrev pub ItemOf : Type 0
   ItemOf = Item F S
 
@@ -47,17 +47,17 @@ module _ (F S : Type 0) (whole left : S → Option (List ℕ)) (given faults : S
   ViewOf = slots.View (Item F S) Note
 
   abbrev pub rule : ℕ → List ItemOf → List ViewOf → Type 0
-  rule drawn items seats = Stands whole left given faults told drawn items seats
+  rule drawn items seats = Stands held node_faults keeps whole left given faults told drawn items seats
 
   abbrev see : ItemOf → Taken
-  see x = seen whole x
+  see x = seen held whole x
 
   abbrev know : ViewOf → View
-  know v = known whole v
+  know v = known held whole v
 
   -- ---- the locks
 
-  held_from : (o : Option (Held ItemOf)) (k : ℕ) (x : Taken) → seen_hold whole o ≡ Some (k, x) → (y : Held ItemOf) × (o ≡ Some y) × (y.slot ≡ k) × (see y.item ≡ x)
+  held_from : (o : Option (Held ItemOf)) (k : ℕ) (x : Taken) → seen_hold held whole o ≡ Some (k, x) → (y : Held ItemOf) × (o ≡ Some y) × (y.slot ≡ k) × (see y.item ≡ x)
   held_from None k x e = absurd (none_some e)
   held_from (Some y) k x e =
       (y, refl, ap (λ (o : Option (ℕ × Taken)). (pair_or k x o).0) e, ap (λ (o : Option (ℕ × Taken)). (pair_or k x o).1) e)
@@ -77,7 +77,7 @@ module _ (F S : Type 0) (whole left : S → Option (List ℕ)) (given faults : S
           subst (λ (z : Taken). At (map see items) k z) r.4 (at-map see items k r.1 (at-from items k r.1 (locked.held i k r.0 r.1 r.2 r.3))));
       idle = λ i v a e. (
           let r = map-at know seats i v a in
-          sym (ap (λ (z : View). z.hold) r.2) ∙ ap (λ (o : Option (Held ItemOf)). seen_hold whole o) (locked.idle i r.0 (at-to seats i r.0 r.1) (ap (λ (z : View). z.parts) r.2 ∙ e)));
+          sym (ap (λ (z : View). z.hold) r.2) ∙ ap (λ (o : Option (Held ItemOf)). seen_hold held whole o) (locked.idle i r.0 (at-to seats i r.0 r.1) (ap (λ (z : View). z.parts) r.2 ∙ e)));
       one_holder = λ i j v w k x y a b e f. (
           let r = holder i v k x a e in
           let q = holder j w k y b f in
@@ -92,31 +92,37 @@ module _ (F S : Type 0) (whole left : S → Option (List ℕ)) (given faults : S
 
   -- ---- take
 
-  pub takes-allowed : (id : ℕ) (v : ViewOf) (k : ℕ) → views.HoldsNothing v → Takes rule told.most id v k (λ x n. (n ≡ v.note) × Fits told (know v) k (see x) × Filed whole left given faults told x)
+  pub takes-allowed : (id : ℕ) (v : ViewOf) (k : ℕ) → views.HoldsNothing v → Takes rule told.most id v k (λ x n. (n ≡ v.note) × Fits told (know v) k (see x) × Filed held node_faults keeps whole left given faults told x)
   takes-allowed id v k free = λ drawn items seats x locked h at there others. (
       let a : At (map know seats) id (know v) = at_known seats id v at in
-      let none : (know v).hold ≡ None = ap (λ (o : Option (Held ItemOf)). seen_hold whole o) free in
+      let none : (know v).hold ≡ None = ap (λ (o : Option (Held ItemOf)). seen_hold held whole o) free in
       let x_there : At items k x = at-from items k x there in
       (v.note, same_items drawn items seats (set seats id (views.taken v k x v.note)) (set (map know seats) id (holding (know v) k (see x))) (sym (map-set know seats id (views.taken v k x v.note))) h drawn (take-keeps told drawn (map see items) (map know seats) id (know v) h.rule a k (see x) none), (refl, take-fits told drawn (map see items) (map know seats) id (know v) h.rule a k (see x) (at-map see items k x x_there), h.filed k x x_there)))
 
   -- ---- give
 
   hold_known : (v : ViewOf) (k : ℕ) (x : ItemOf) → views.Holds v k x → (know v).hold ≡ Some (k, see x)
-  hold_known v k x e = ap (λ (o : Option (Held ItemOf)). seen_hold whole o) e
+  hold_known v k x e = ap (λ (o : Option (Held ItemOf)). seen_hold held whole o) e
 
-  pub gives-allowed : (id : ℕ) (v : ViewOf) (k : ℕ) (x y : ItemOf) (done : Done) → views.Holds v k x → Visits told (know v) k (see x) (see y) done → Filed whole left given faults told y → Gives rule told.most id v k y (λ n. n ≡ note_said v.note (see y) (Did done))
-  gives-allowed id v k x y done holds visit filed = λ drawn items seats locked h at. (
+  pub gives-allowed : (id : ℕ) (v : ViewOf) (k : ℕ) (x y : ItemOf) (p : ℕ) (done : Done) → views.Holds v k x → Visits told (know v) k (see x) (see y) done → Filed held node_faults keeps whole left given faults told y → Gives rule told.most id v k y p (λ n. n ≡ note_said v.note (see y) (Did done))
+  gives-allowed id v k x y p done holds visit filed = λ drawn items seats locked h at. (
       let a : At (map know seats) id (know v) = at_known seats id v at in
       let kept : Holds told drawn (set (map see items) k (see y)) (set (map know seats) id (given_back (know v) (note_after v.note (see y) done))) = visit-keeps told drawn (map see items) (map know seats) id (know v) k (see x) h.rule (locks drawn items seats locked) a (hold_known v k x holds) (see y) done visit in
-      let views_is : set (map know seats) id (given_back (know v) (note_after v.note (see y) done)) ≡ map know (set seats id (views.given v (note_after v.note (see y) done))) = sym (map-set know seats id (views.given v (note_after v.note (see y) done))) in
+      let views_is : set (map know seats) id (given_back (know v) (note_after v.note (see y) done)) ≡ map know (set seats id (views.given v p (note_after v.note (see y) done))) = sym (map-set know seats id (views.given v p (note_after v.note (see y) done))) in
       let items_is : set (map see items) k (see y) ≡ map see (set items k y) = sym (map-set see items k y) in (
         note_after v.note (see y) done,
         record {
-          rule = subst (λ (xs : List Taken). Holds told drawn xs (map know (set seats id (views.given v (note_after v.note (see y) done))))) items_is (subst (λ (vs : List View). Holds told drawn (set (map see items) k (see y)) vs) views_is kept);
-          filed = λ j z b. elim (set-at items k y b) [ inl s ↦ subst (λ (w : ItemOf). Filed whole left given faults told w) s.1 filed | inr o ↦ h.filed j z o.1 ];
+          rule = subst (λ (xs : List Taken). Holds told drawn xs (map know (set seats id (views.given v p (note_after v.note (see y) done))))) items_is (subst (λ (vs : List View). Holds told drawn (set (map see items) k (see y)) vs) views_is kept);
+          filed = λ j z b. elim (set-at items k y b) [ inl s ↦ subst (λ (w : ItemOf). Filed held node_faults keeps whole left given faults told w) s.1 filed | inr o ↦ h.filed j z o.1 ];
         },
         refl,
       ))
+
+  -- ---- permits
+
+  pub permits-allowed : (id : ℕ) (v : ViewOf) (p : ℕ) → HasPermits rule told.most id v p
+  permits-allowed id v p = λ drawn items seats locked h at. (
+      same_items drawn items seats (set seats id (views.with_permits v p)) (map know seats) (sym (map-set know seats id (views.with_permits v p) ∙ set-again (at_known seats id v at))) h drawn h.rule)
 
   -- ---- note an octant
 
@@ -170,7 +176,7 @@ module _ (F S : Type 0) (whole left : S → Option (List ℕ)) (given faults : S
   abandons-allowed id v free more = λ drawn items seats locked h at. (
       let n : Note = abandoned v.note in
       let a : At (map know seats) id (know v) = at_known seats id v at in
-      let none : (know v).hold ≡ None = ap (λ (o : Option (Held ItemOf)). seen_hold whole o) free in
+      let none : (know v).hold ≡ None = ap (λ (o : Option (Held ItemOf)). seen_hold held whole o) free in
       (n, same_items drawn items seats (set seats id (views.noted v n)) (set (map know seats) id (noting (know v) n)) (sym (map-set know seats id (views.noted v n))) h drawn (abandon-keeps told drawn (map see items) (map know seats) id (know v) h.rule a more none), (refl, λ lacks. (let c = lacks-one v.note.flights lacks in lack-is-too-many told drawn (map see items) (map know seats) id (know v) h.rule a c.0 c.1 c.2))))
 
   -- ---- split, join
@@ -204,7 +210,7 @@ module _ (F S : Type 0) (whole left : S → Option (List ℕ)) (given faults : S
       let both : ViewOf = views.both_of v w (together v.note w.note) in
       let spent : ViewOf = views.spent_view (first_note told) in
       let new : List ViewOf = set (set seats id both) j spent in
-      let none : (know w).hold ≡ None = ap (λ (o : Option (Held ItemOf)). seen_hold whole o) free in
+      let none : (know w).hold ≡ None = ap (λ (o : Option (Held ItemOf)). seen_hold held whole o) free in
       let is : map know new ≡ set (set (map know seats) id (know both)) j (know spent) = map-set know (set seats id both) j spent ∙ ap (λ (vs : List View). set vs j (know spent)) (map-set know seats id both) in
       same_items drawn items seats new (set (set (map know seats) id (know both)) j (know spent)) (sym is) h drawn (join-keeps told drawn (map see items) (map know seats) h.rule id j (know v) (know w) (know spent) (at_known seats id v at) (at_known seats j w other) apart more none landed spent-one))
 
@@ -212,7 +218,7 @@ module _ (F S : Type 0) (whole left : S → Option (List ℕ)) (given faults : S
 
   pub ended-known : (drawn : ℕ) (items : List ItemOf) (id : ℕ) (v : ViewOf) → Ended rule told.most id v drawn items → views.HoldsNothing v → IsEnded told drawn (map see items) (know v)
   ended-known drawn items id v e free =
-      last-seat-tells told drawn (map see items) (map know e.0) id (know v) e.2.rule (locks drawn items e.0 e.1) (at_known e.0 id v e.3) alone (ap (λ (o : Option (Held ItemOf)). seen_hold whole o) free)
+      last-seat-tells told drawn (map see items) (map know e.0) id (know v) e.2.rule (locks drawn items e.0 e.1) (at_known e.0 id v e.3) alone (ap (λ (o : Option (Held ItemOf)). seen_hold held whole o) free)
     where
       alone : IsLast (map know e.0) id
       alone j w a apart =

@@ -37,19 +37,12 @@ use Rattle.ept_table.specs.View.{View, NotesFull, IsNothing, flights_of, all_fli
 use Rattle.ept_table.specs.Shown.{IsOver, KeyOf, HasSlot, IsSound, IsSoundFlight, IsChild, Drew, IsDrawn, IsDraw, Seats, Base, Tree, shown, Shows, Holds, AreLocked}
 use Rattle.ept_table.specs.Steps.{given_back, arrived, GoesBelow, IsArrival, HasArrived}
 use Rattle.ept_table.proofs.Lists.{same_or_not, at-same, at-below, at-get, at-member, at-set, at-other, set-at, set-set, set-again, length-set, between, flat-more, sum-set}
+use Rattle.ept_table.proofs.Glue.{standing-same}
 use Rattle.ept_table.proofs.Keys.{key-same, key-low, child-key, child-octant, child-root, child-apart}
 use Rattle.ept_table.proofs.Flown.{weight, weight-append}
 use Rattle.ept_table.proofs.Mirrors.{flown-same, each-same, holder-parts}
 use Rattle.ept_table.proofs.SlotDrawn.{some_same}
 use Rattle.ept_table.proofs.TooMany.{points-as, node-taken}
-
-standing_same : {a b : Cell} → Standing a ≡ Standing b → a ≡ b
-standing_same {a} {b} e = ap from e
-  where
-    from : Taken → Cell
-    from (Standing c) = c
-    from Blank = a
-    from (Reading r) = a
 
 each_append : (fs gs hs ks : List Flight) → EachIsReordered fs gs → EachIsReordered hs ks → EachIsReordered (fs ++ hs) (gs ++ ks)
 each_append [] [] hs ks first second = second
@@ -109,7 +102,7 @@ module _ (told : Told) (drawn : ℕ) (items : List Taken) (views : List View) (i
   cells : (P : ℕ → Cell → Type 0) → P k y → ((j : ℕ) (d : Cell) → (j ≡ k → ⊥) → At items j (Standing d) → P j d) → (j : ℕ) (d : Cell) → At next_items j (Standing d) → P j d
   cells P mine others j d a =
       elim (set-at items k (Standing y) a) [
-        | inl s ↦ subst (λ (n : ℕ). P n d) (sym s.0) (subst (λ (z : Cell). P k z) (standing_same s.1) mine)
+        | inl s ↦ subst (λ (n : ℕ). P n d) (sym s.0) (subst (λ (z : Cell). P k z) (standing-same s.1) mine)
         | inr o ↦ others j d o.0 o.1
       ]
 
@@ -440,7 +433,7 @@ module _ (told : Told) (drawn : ℕ) (items : List Taken) (views : List View) (i
 
   -- ---- the state
 
-  module _ (s : Shows told h.reader items views) where
+  module _ (tells : told.tells ≡ true) (s : Shows told h.reader items views) where
     abbrev state : State
     state = shown told h.reader s.nodes views
 
@@ -457,7 +450,7 @@ module _ (told : Told) (drawn : ℕ) (items : List Taken) (views : List View) (i
         subst (λ (ps : List Point). HasDistinctIds (f.points ++ ps)) (ap (λ (n : core.Node). n.points) node_was ∙ points-as x) (distinct-flight told.rules told.points state f s.law among)
 
     arrives : IsArrival told x f y fresh
-    arrives = arr.exact different
+    arrives = arr.exact tells different
 
     abbrev node : core.Node
     node = steps.node_after told.rules f.key (node_at s.nodes f.key) (steps.gathered s.nodes f)
@@ -545,5 +538,5 @@ module _ (told : Told) (drawn : ℕ) (items : List Taken) (views : List View) (i
     seats = next_seats;
     base = next_base;
     tree = next_tree;
-    shows = λ tells. next_shows (h.shows tells);
+    shows = λ tells. next_shows tells (h.shows tells);
   }

@@ -19,6 +19,7 @@ use Rattle.ept_table.specs.declared.taken.Taken.TheVariants.{Blank, Standing, Re
 use Rattle.ept_table.specs.At.{At}
 use Rattle.ept_table.specs.Shown.{KeyOf}
 use Rattle.ept_table.specs.Octree.{Branch, key_of, entry_of, keys_in, branch_of, FillSlots, AreStanding}
+use Rattle.ept_table.proofs.Glue.{standing-same}
 use Rattle.ept_table.proofs.Lists.{at-same, at-head, at-rest, at-next, at-zero, nothing-at}
 
 pub le_or_less : (a b : ℕ) → (a ≤ b) ⊎ (b < a)
@@ -95,17 +96,9 @@ one_more n c ys keys f = record {
   there_key = back;
 }
   where
-    standing_same : (d e : Cell) → Standing d ≡ Standing e → d ≡ e
-    standing_same d e is = ap from is
-      where
-        from : Taken → Cell
-        from (Standing c) = c
-        from Blank = d
-        from (Reading r) = d
-
     there : (i : ℕ) (d : Cell) → At (Standing c ∷ ys) i (Standing d) → At (c.node.key ∷ keys) i d.node.key
     there zero d a =
-        subst (λ (z : Cell). At (c.node.key ∷ keys) 0 z.node.key) (standing_same c d (at-head a)) (at-zero c.node.key keys)
+        subst (λ (z : Cell). At (c.node.key ∷ keys) 0 z.node.key) (standing-same (at-head a)) (at-zero c.node.key keys)
     there (suc i) d a =
         at-next c.node.key keys i d.node.key (f.key_there i d (at-rest (Standing c) ys i (Standing d) a))
 

@@ -4,6 +4,9 @@ use Rattle.std.proofs.Common.{reverse}
 use Rattle.std.proofs.lemmas.List.{reverse-append}
 use mathlib.Core.Option.{some, some-injective, some-ne-none}
 use lib.ListN.{get_elem?}
+use Rattle.ept_table.specs.declared.taken.Cell.{Cell}
+use Rattle.ept_table.specs.declared.taken.Taken.{Taken}
+use Rattle.ept_table.specs.declared.taken.Taken.TheVariants.{Blank, Standing, Reading}
 use Rattle.ept_table.specs.At.{At}
 use Rattle.ept_table.proofs.Lists.{at-next, at-rest, at-head, at-zero, nothing-at}
 
@@ -42,3 +45,13 @@ map-set {X} {Y} f (y ∷ ys) (suc i) x = ap (λ (w : List Y). f y ∷ w) (map-se
 
 pub turned-last : {X : Type 0} (xs : List X) (x : X) → reverse (xs ++ x ∷ []) ≡ x ∷ reverse xs
 turned-last xs x = reverse-append xs (x ∷ [])
+
+-- ---- a node in a slot
+
+pub standing-same : {a b : Cell} → Standing a ≡ Standing b → a ≡ b
+standing-same {a} {b} e = ap from e
+  where
+    from : Taken → Cell
+    from (Standing c) = c
+    from Blank = a
+    from (Reading r) = a

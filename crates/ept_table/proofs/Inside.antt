@@ -1,5 +1,5 @@
 -- Of a reader of counted inputs a table may be told.
-use Rattle.std.proofs.Common.{◌≡◌, ◌∙◌, ℕ, ◌<◌, List, map, refl, sym, ap, subst, arith, Option, Some}
+use Rattle.std.proofs.Common.{◌≡◌, ◌∙◌, ℕ, ◌<◌, List, map, sym, ap, subst, arith, Option, Some}
 use Rattle.std.specs.Prelude.{All, slice_get}
 use Rattle.std.proofs.lemmas.Int.{ints}
 use Rattle.std.proofs.lemmas.Option.{slice_get_within, get_or_from_slice_get}
@@ -46,7 +46,7 @@ counted_inside kept counts files cube of_bounds sound known p lies =
     let extent : file.count.extent ≡ Some lies.extent = sym file.reads.limits_are ∙ limits in
     InCube-bounds kept.bounds kept.s kept.max_depth cube (place p) of_bounds (inside_within kept.bounds lies.extent p (count.inside lies.extent extent) lies.within)
 
-module _ {S : Type 0} (whole : S → Option (List ℕ)) (told : Told) (reader : Reader S) (is : told ≡ told_of whole reader told.rules told.most told.begun told.tells told.points) where
+module _ {S : Type 0} (whole : S → Option (List ℕ)) (told : Told) (reader : Reader S) (is : told ≡ told_of whole reader told.rules told.most told.cache told.begun told.tells told.points) where
   pub scanned-fits : FitsReader told (seen_reader whole reader)
   scanned-fits = record {
     inputs = ap (λ (t : Told). t.inputs) (sym is);

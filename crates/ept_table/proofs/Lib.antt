@@ -2,6 +2,7 @@ pub mod Lists
 pub mod Keys
 pub mod Counting
 pub mod Mirrors
+mod Coming
 pub mod Moves
 pub mod Seating
 pub mod Flown
@@ -17,6 +18,7 @@ pub mod Glue
 pub mod Visiting
 pub mod Allowed
 pub mod Rows
+pub mod Sparing
 pub mod Planting
 pub mod ByKey
 mod LandedNodes

@@ -1,5 +1,5 @@
 -- Steps that leave what lies in the slots.
-use Rattle.std.proofs.Common.{◌≡◌, ℕ, ◌<◌, ◌==◌, true, inl, inr, List, [], set, refl, sym, subst, arith, None}
+use Rattle.std.proofs.Common.{◌≡◌, ℕ, ◌<◌, ◌==◌, true, inl, inr, List, [], set, refl, subst, arith, None}
 use Rattle.std.specs.List.Sorted.{IsPermutation}
 use Rattle.std.proofs.lemmas.Bool.{eqb-true}
 use Rattle.std.proofs.lemmas.List.Sorted.{IsPermutation-refl}
@@ -12,8 +12,8 @@ use Rattle.ept_table.specs.declared.taken.Taken.{Taken}
 use Rattle.ept_table.specs.At.{At}
 use Rattle.ept_table.specs.View.{View, flights_of}
 use Rattle.ept_table.specs.Shown.{IsOver, KeyOf, HasSlot, Holds}
-use Rattle.ept_table.specs.Steps.{holding, given_back, noting, wishing, abandoned, lacks_slot}
-use Rattle.ept_table.proofs.Lists.{set-again}
+use Rattle.ept_table.specs.Steps.{holding, given_back, noting, wishing, abandoned, lacks_slot, StaysAlike}
+use Rattle.ept_table.proofs.Coming.{alike-keeps}
 use Rattle.ept_table.proofs.Mirrors.{alike-holds}
 
 pub lacks-one : (flights : List Carried) → lacks_slot flights ≡ true → (c : Carried) × IsMember c flights × (c.slot ≡ 0)
@@ -39,7 +39,7 @@ module _ (told : Told) (drawn : ℕ) (items : List Taken) (views : List View) (i
     draws = inl (h.seats.idle i v at free, h.seats.idle i v at free);
   }) (λ n. n) h
 
-  -- ---- what is held is given back as it was taken
+  -- ---- what is held is given back as it was taken, or its node from elsewhere
 
   returned : v.note.draws ≡ [] → Holds told drawn items (set views i (given_back v v.note))
   returned none = alike-holds told drawn items views i v (given_back v v.note) at (record {
@@ -54,9 +54,9 @@ module _ (told : Told) (drawn : ℕ) (items : List Taken) (views : List View) (i
     draws = inl (none, none);
   }) (λ n. n) h
 
-  pub return-keeps : (k : ℕ) (x : Taken) → At items k x → v.note.draws ≡ [] → Holds told drawn (set items k x) (set views i (given_back v v.note))
-  return-keeps k x there none =
-      subst (λ (xs : List Taken). Holds told drawn xs (set views i (given_back v v.note))) (sym (set-again there)) (returned none)
+  pub return-keeps : (k : ℕ) (x y : Taken) → At items k x → StaysAlike told x y → v.note.draws ≡ [] → Holds told drawn (set items k y) (set views i (given_back v v.note))
+  return-keeps k x y there stays none =
+      alike-keeps told drawn items (set views i (given_back v v.note)) (returned none) k x y there stays
 
   -- ---- an octant is noted
 

@@ -1,5 +1,5 @@
 -- A new forest, and a reader of all points.
-use Rattle.std.proofs.Common.{◌≡◌, ◌∙◌, ℕ, zero, suc, ◌+◌, ◌<◌, true, List, [], ◌∷◌, map, length, slice_index, refl, sym, ap, subst, arith, Option, None}
+use Rattle.std.proofs.Common.{◌≡◌, ◌∙◌, ℕ, zero, suc, ◌+◌, ◌<◌, ◌≤◌, ◌⊎◌, inl, inr, Bool, true, false, List, [], ◌∷◌, map, length, slice_index, refl, sym, ap, subst, arith, Option, None, Some}
 use Rattle.ept_space.specs.VoxelKey.{root}
 use Rattle.ept_sample.specs.SamplingLaws.{CanBeSampled}
 use Rattle.ept_sample.proofs.Members.{all-member}
@@ -7,9 +7,18 @@ use Rattle.ept_scan.specs.declared.second_reading.Reader.{Reader}
 use Rattle.ept_scan.specs.Reader.{drawn_of, refusal_of}
 use Rattle.ept_node.specs.declared.node.Node as node
 use Rattle.ept_node.specs.declared.state.NodeState.{NodeState}
-use Rattle.ept_node.specs.Shown.{node_of, children_of, no_children}
+use Rattle.ept_node.specs.declared.state.NodeState.TheVariants as states
+use Rattle.ept_node.specs.declared.error.NodeError.{NodeError}
+use Rattle.ept_node.specs.declared.error.NodeError.TheVariants.{SpillFault, SpillDamaged}
+use Rattle.ept_node.specs.declared.body.Body.{Body}
+use Rattle.ept_node.specs.declared.body.Body.TheVariants as body
+use Rattle.ept_node.specs.Shown.{no_children, file_of, state_of, state_in, fault_in, is_here, is_here_in, IsTelling}
 use Rattle.ept_forest.specs.declared.forest.Forest.{Forest}
-use Rattle.ept_forest.specs.Slots.{nodes_of, used_of, IsBlank, IsPlanted}
+use Rattle.ept_forest.specs.Slots.{nodes_of, used_of, residents_of, IsBlank, IsPlanted}
+use Rattle.std.specs.List.{All}
+use Rattle.std.specs.Prelude.{cond}
+use Rattle.std.proofs.lemmas.List.Elements.{All-cons, All-head, All-tail, All-weaker}
+use Rattle.std.proofs.lemmas.List.Sums.{sum_by-cons}
 use Rattle.ept_table.specs.declared.item.Item.{Item}
 use Rattle.ept_table.specs.declared.item.Item.TheVariants as items
 use Rattle.ept_table.specs.declared.note.Told.{Told}
@@ -20,7 +29,7 @@ use Rattle.ept_table.specs.At.{At}
 use Rattle.ept_table.specs.Shown.{IsTold, FitsReader}
 use Rattle.ept_table.specs.Steps as steps
 use Rattle.ept_table.specs.Tells.{IsLanded}
-use Rattle.ept_table.specs.Item.{taken_as, seen_node, seen_reader, seen}
+use Rattle.ept_table.specs.Item.{taken_as, cell_of, seen_node, seen_reader, seen, IsFiledNode}
 use Rattle.ept_table.specs.Row.{row}
 use Rattle.ept_table.proofs.Lists.{at-next, at-rest, at-zero, at-member}
 use Rattle.ept_table.proofs.Glue.{map-at}
@@ -38,12 +47,78 @@ none_at (suc (suc (suc (suc (suc (suc zero)))))) low = refl
 none_at (suc (suc (suc (suc (suc (suc (suc zero))))))) low = refl
 none_at (suc (suc (suc (suc (suc (suc (suc (suc o)))))))) low = absurd (omega (arith, low))
 
-module _ {F S : Type 0} (faults keeps : F → ℕ) (whole : S → Option (List ℕ)) (told : Told) (forest : Forest F) (reader : Reader S) (is_told : IsTold told) (points : told.tells ≡ true → CanBeSampled told.rules told.points × (length told.points ≡ told.total)) (begun : told.begun ≡ root ∷ []) (p : IsPlanted faults keeps told.most told.rules forest) (fits : FitsReader told (seen_reader whole reader)) (undrawn : drawn_of reader ≡ 0) (sound : refusal_of reader ≡ None) where
+-- ---- nodes that are blank or begun
+
+module _ {F : Type 0} (held : F → Option (List ℕ)) (faults keeps : F → ℕ) where
+  not_there : (b : Body) (e : NodeError) → (state_in b ≡ states.Blank) ⊎ (state_in b ≡ states.Resident) → fault_in b ≡ Some e → ⊥
+  not_there body.Blank e is f = cc
+  not_there (body.Begun site) e is f = cc
+  not_there (body.Resident kept) e is f = cc
+  not_there (body.Spilled filed) e is f = cc
+  not_there (body.Unkept kept) e (inl is) f = cc
+  not_there (body.Unkept kept) e (inr is) f = cc
+  not_there (body.Lost filed why) e (inl is) f = cc
+  not_there (body.Lost filed why) e (inr is) f = cc
+
+  never_spilled : (s : NodeState) → (s ≡ states.Blank) ⊎ (s ≡ states.Resident) → s ≡ states.Spilled → ⊥
+  never_spilled states.Blank is e = cc
+  never_spilled states.Resident is e = cc
+  never_spilled states.Spilled (inl is) e = cc
+  never_spilled states.Spilled (inr is) e = cc
+  never_spilled states.Broken is e = cc
+
+  filed_here : (told : Told) (n : node.Node F) → (state_of n ≡ states.Blank) ⊎ (state_of n ≡ states.Resident) → (told.tells ≡ true → IsTelling held) → IsFiledNode held faults keeps told n
+  filed_here told n is telling = record {
+    agrees = record {
+      filed = λ spilled. absurd (never_spilled (state_of n) is spilled);
+      kept = λ spilled. absurd (never_spilled (state_of n) is spilled);
+      failed = λ broken. absurd (not_there n.body SpillFault is broken);
+    };
+    telling = λ tells. telling tells (file_of n);
+    undamaged = λ tells kept found at broken. not_there n.body (SpillDamaged kept found at) is broken;
+  }
+
+  module _ (told : Told) (forest : Forest F) (p : IsPlanted held faults keeps told.most told.rules forest) where
+    pub planted-filed : (told.tells ≡ true → IsTelling held) → All (IsFiledNode held faults keeps told) (nodes_of forest)
+    planted-filed telling =
+        subst (λ (ns : List (node.Node F)). All (IsFiledNode held faults keeps told) ns) (sym p.are) (All-cons (IsFiledNode held faults keeps told) p.first p.others (filed_here told p.first (inr p.begun.state) telling) (All-weaker IsBlank (IsFiledNode held faults keeps told) (λ n blank. filed_here told n (inl blank) telling) p.others p.blank))
+
+    abbrev weight : Bool → ℕ
+    weight b = cond b 1 0
+
+    blank_here : (b : Body) → state_in b ≡ states.Blank → is_here_in b ≡ false
+    blank_here body.Blank is = refl
+    blank_here (body.Begun site) is = absurd (cc)
+    blank_here (body.Resident kept) is = absurd (cc)
+    blank_here (body.Spilled filed) is = absurd (cc)
+    blank_here (body.Unkept kept) is = absurd (cc)
+    blank_here (body.Lost filed why) is = absurd (cc)
+
+    none_here : (ns : List (node.Node F)) → All IsBlank ns → residents_of ns ≡ 0
+    none_here [] all = refl
+    none_here (n ∷ ns) all =
+        let one : residents_of (n ∷ ns) ≡ weight (is_here n) + residents_of ns = sum_by-cons (λ (m : node.Node F). weight (is_here m)) n ns in
+        let gone : weight (is_here n) ≡ 0 = ap weight (blank_here n.body (All-head IsBlank n ns all)) in
+        omega (arith, one, gone, none_here ns (All-tail IsBlank n ns all))
+
+    pub planted-few : residents_of (nodes_of forest) ≤ 1
+    planted-few =
+        let all : residents_of (nodes_of forest) ≡ residents_of (p.first ∷ p.others) = ap (λ (ns : List (node.Node F)). residents_of ns) p.are in
+        let one : residents_of (p.first ∷ p.others) ≡ weight (is_here p.first) + residents_of p.others = sum_by-cons (λ (m : node.Node F). weight (is_here m)) p.first p.others in
+        omega (arith, all, one, at_most (is_here p.first), none_here p.others p.blank)
+      where
+        at_most : (b : Bool) → weight b ≤ 1
+        at_most true = let one : weight true ≡ 1 = refl in omega (arith, one)
+        at_most false = let none : weight false ≡ 0 = refl in omega (arith, none)
+
+-- ---- a new table
+
+module _ {F S : Type 0} (held : F → Option (List ℕ)) (faults keeps : F → ℕ) (whole : S → Option (List ℕ)) (told : Told) (forest : Forest F) (reader : Reader S) (is_told : IsTold told) (points : told.tells ≡ true → CanBeSampled told.rules told.points × (length told.points ≡ told.total)) (begun : told.begun ≡ root ∷ []) (p : IsPlanted held faults keeps told.most told.rules forest) (fits : FitsReader told (seen_reader whole reader)) (undrawn : drawn_of reader ≡ 0) (sound : refusal_of reader ≡ None) where
   abbrev as_item : node.Node F → Item F S
   as_item n = items.Node n
 
   abbrev see : Item F S → Taken
-  see x = seen whole x
+  see x = seen held whole x
 
   abbrev behind : List Taken
   behind = map see (map as_item (p.first ∷ p.others))
@@ -51,28 +126,28 @@ module _ {F S : Type 0} (faults keeps : F → ℕ) (whole : S → Option (List �
   abbrev all : List Taken
   all = Reading (seen_reader whole reader) ∷ behind
 
-  all_is : all ≡ row whole reader (nodes_of forest)
+  all_is : all ≡ row held whole reader (nodes_of forest)
   all_is =
       ap (λ (ns : List (node.Node F)). Reading (seen_reader whole reader) ∷ map see (map as_item ns)) (sym p.are)
 
   abbrev top : Cell
-  top = record { node = node_of p.first; children = children_of p.first }
+  top = cell_of held p.first
 
-  top_stands : seen_node p.first ≡ Standing top
+  top_stands : seen_node held p.first ≡ Standing top
   top_stands = ap (λ (s : NodeState). taken_as s top) p.begun.state
 
   at_top : At all 1 (Standing top)
   at_top =
-      at-next (Reading (seen_reader whole reader)) behind 0 (Standing top) (subst (λ (z : Taken). At behind 0 z) top_stands (at-zero (seen_node p.first) (map see (map as_item p.others))))
+      at-next (Reading (seen_reader whole reader)) behind 0 (Standing top) (subst (λ (z : Taken). At behind 0 z) top_stands (at-zero (seen_node held p.first) (map see (map as_item p.others))))
 
-  blank_seen : (n : node.Node F) → IsBlank n → seen_node n ≡ Blank
-  blank_seen n is = ap (λ (s : NodeState). taken_as s (record { node = node_of n; children = children_of n })) is
+  blank_seen : (n : node.Node F) → IsBlank n → seen_node held n ≡ Blank
+  blank_seen n is = ap (λ (s : NodeState). taken_as s (cell_of held n)) is
 
   blank_there : (k : ℕ) (x : Taken) → At all k x → 1 < k → x ≡ Blank
   blank_there zero x a far = absurd (omega (arith, far))
   blank_there (suc zero) x a far = absurd (omega (arith, far))
   blank_there (suc (suc k)) x a far =
-      let b : At (map see (map as_item p.others)) k x = at-rest (seen_node p.first) (map see (map as_item p.others)) k x (at-rest (Reading (seen_reader whole reader)) behind (suc k) x a) in
+      let b : At (map see (map as_item p.others)) k x = at-rest (seen_node held p.first) (map see (map as_item p.others)) k x (at-rest (Reading (seen_reader whole reader)) behind (suc k) x a) in
       let r = map-at see (map as_item p.others) k x b in
       let q = map-at as_item p.others k r.0 r.1 in
       sym r.2 ∙ (ap see (sym q.2) ∙ blank_seen q.0 (all-member (λ (n : node.Node F). IsBlank n) q.0 p.others p.blank (at-member p.others k q.0 q.1)))
@@ -100,6 +175,6 @@ module _ {F S : Type 0} (faults keeps : F → ℕ) (whole : S → Option (List �
     points = points;
   }
 
-  pub planted-landed : IsLanded told (used_of forest) (row whole reader (nodes_of forest))
+  pub planted-landed : IsLanded told (used_of forest) (row held whole reader (nodes_of forest))
   planted-landed =
-      subst (λ (n : ℕ). IsLanded told n (row whole reader (nodes_of forest))) (sym p.used) (subst (λ (xs : List Taken). IsLanded told 1 xs) all_is (beginning-landed told all (seen_reader whole reader) top is_told planted))
+      subst (λ (n : ℕ). IsLanded told n (row held whole reader (nodes_of forest))) (sym p.used) (subst (λ (xs : List Taken). IsLanded told 1 xs) all_is (beginning-landed told all (seen_reader whole reader) top is_told planted))

@@ -1,16 +1,22 @@
 -- The reader and the nodes as they lie in slots.
 use Rattle.std.proofs.Common.{◌≡◌, ◌∙◌, ℕ, zero, suc, ◌+◌, ◌<◌, ◌≤◌, List, [], ◌∷◌, ◌++◌, map, reverse, length, refl, sym, ap, subst, arith, Option}
 use Rattle.std.proofs.lemmas.List.{reverse-reverse, reverse-append, append_assoc}
+use Rattle.std.specs.List.{sum_by, All}
+use Rattle.std.proofs.lemmas.List.Elements.{All-nil, All-cons, All-head, All-tail}
+use Rattle.std.specs.Prelude.{cond}
+use Rattle.std.proofs.lemmas.List.Sums.{sum_by-cons}
 use Rattle.ept_scan.specs.declared.second_reading.Reader.{Reader}
 use Rattle.ept_node.specs.declared.node.Node as node
 use Rattle.ept_slots.specs.Views.{first_view, whole}
+use Rattle.ept_forest.specs.Slots.{residents_of}
+use Rattle.ept_table.specs.Permits.{weight_of}
 use Rattle.ept_table.specs.declared.item.Item.{Item}
 use Rattle.ept_table.specs.declared.item.Item.TheVariants as items
 use Rattle.ept_table.specs.declared.note.Told.{Told}
 use Rattle.ept_table.specs.At.{At}
 use Rattle.ept_table.specs.Steps.{first_note}
 use Rattle.ept_table.specs.Tells.{IsLanded}
-use Rattle.ept_table.specs.Item.{taken_as, seen_node, seen_reader, seen, IsFiled, Filed}
+use Rattle.ept_table.specs.Item.{taken_as, cell_of, seen_node, seen_reader, seen, IsFiled, IsFiledNode, Filed}
 use Rattle.ept_table.specs.Standing.{Stands}
 use Rattle.ept_table.specs.Row.{items_of, row}
 use Rattle.ept_table.specs.declared.taken.Cell.{Cell}
@@ -19,12 +25,29 @@ use Rattle.ept_table.specs.declared.taken.Taken.{Taken}
 use Rattle.ept_table.specs.declared.taken.Taken.TheVariants.{Reading}
 use Rattle.ept_table.specs.View.{View}
 use Rattle.ept_table.specs.Shown.{Holds}
-use Rattle.ept_node.specs.Shown.{state_of, node_of, children_of}
+use Rattle.ept_node.specs.Shown.{state_of, is_here}
 use Rattle.ept_node.specs.declared.state.NodeState.{NodeState}
 use Rattle.ept_node.specs.declared.state.NodeState.TheVariants as states
 use Rattle.ept_table.proofs.Lists.{at-head, at-next, at-rest, at-zero, nothing-at}
 use Rattle.ept_table.proofs.Glue.{at-map}
 use Rattle.ept_table.proofs.Ending.{first-seat-holds}
+
+-- ---- permits
+
+module _ (F S : Type 0) where
+  nodes-weight : (nodes : List (node.Node F)) → sum_by (weight_of {F = F} {S = S}) (map items.Node nodes) ≡ residents_of nodes
+  nodes-weight [] = refl
+  nodes-weight (n ∷ ns) =
+      let first : sum_by (weight_of {F = F} {S = S}) (items.Node n ∷ map items.Node ns) ≡ weight_of {F = F} {S = S} (items.Node n) + sum_by (weight_of {F = F} {S = S}) (map items.Node ns) = sum_by-cons (weight_of {F = F} {S = S}) (items.Node n) (map items.Node ns) in
+      let counted : residents_of (n ∷ ns) ≡ weight_of {F = F} {S = S} (items.Node n) + residents_of ns = sum_by-cons (λ (m : node.Node F). cond (is_here m) 1 0) n ns in
+      let rest : sum_by (weight_of {F = F} {S = S}) (map items.Node ns) ≡ residents_of ns = nodes-weight ns in
+      first ∙ (ap (λ (k : ℕ). weight_of {F = F} {S = S} (items.Node n) + k) rest ∙ sym counted)
+
+  -- the items take a permit for each node that is in memory
+  pub row-weight : (reader : Reader S) (nodes : List (node.Node F)) → sum_by weight_of (items_of reader nodes) ≡ residents_of nodes
+  row-weight reader nodes =
+      let first : sum_by (weight_of {F = F} {S = S}) (items_of reader nodes) ≡ 0 + sum_by (weight_of {F = F} {S = S}) (map items.Node nodes) = sum_by-cons (weight_of {F = F} {S = S}) (items.Reader reader) (map items.Node nodes) in
+      let rest : sum_by (weight_of {F = F} {S = S}) (map items.Node nodes) ≡ residents_of nodes = nodes-weight nodes in omega (arith, first, rest)
 
 -- ---- lists
 
@@ -99,30 +122,41 @@ module _ {F S : Type 0} where
 
   -- ---- a table is made
 
-  module _ (whole_of left : S → Option (List ℕ)) (given faults : S → ℕ) (told : Told) where
-    nodes_filed : (ns : List (node.Node F)) (k : ℕ) (x : Item F S) → At (map as_item ns) k x → Filed whole_of left given faults told x
-    nodes_filed [] k x a = absurd (nothing-at a)
-    nodes_filed (n ∷ ns) zero x a = subst (λ (z : Item F S). Filed whole_of left given faults told z) (at-head a) tt
-    nodes_filed (n ∷ ns) (suc k) x a = nodes_filed ns k x (at-rest (as_item n) (map as_item ns) k x a)
+  module _ (held : F → Option (List ℕ)) (node_faults keeps : F → ℕ) (whole_of left : S → Option (List ℕ)) (given faults : S → ℕ) (told : Told) where
+    abbrev its : Item F S → Type 0
+    its x = Filed held node_faults keeps whole_of left given faults told x
 
-    all_filed : (r : Reader S) (ns : List (node.Node F)) → IsFiled whole_of left given faults told r → (k : ℕ) (x : Item F S) → At (items_of r ns) k x → Filed whole_of left given faults told x
-    all_filed r ns filed zero x a = subst (λ (z : Item F S). Filed whole_of left given faults told z) (at-head a) filed
-    all_filed r ns filed (suc k) x a = nodes_filed ns k x (at-rest (items.Reader r) (map as_item ns) k x a)
+    abbrev are : List (node.Node F) → Type 0
+    are ns = All (IsFiledNode held node_faults keeps told) ns
 
-    pub make-stands : (most used : ℕ) (r : Reader S) (ns : List (node.Node F)) (all : List (Item F S)) → all ≡ items_of r ns → IsLanded told used (row whole_of r ns) → IsFiled whole_of left given faults told r → Stands whole_of left given faults told used all (first_view most (first_note told) ∷ [])
-    make-stands most used r ns all e landed filed =
-        subst (λ (xs : List (Item F S)). Stands whole_of left given faults told used xs (first_view most (first_note told) ∷ [])) (sym e) (record { rule = first-seat-holds told used (row whole_of r ns) whole landed; filed = all_filed r ns filed })
+    nodes_filed : (ns : List (node.Node F)) → are ns → (k : ℕ) (x : Item F S) → At (map as_item ns) k x → its x
+    nodes_filed [] all k x a = absurd (nothing-at a)
+    nodes_filed (n ∷ ns) all zero x a = subst (λ (z : Item F S). its z) (at-head a) (All-head (IsFiledNode held node_faults keeps told) n ns all)
+    nodes_filed (n ∷ ns) all (suc k) x a = nodes_filed ns (All-tail (IsFiledNode held node_faults keeps told) n ns all) k x (at-rest (as_item n) (map as_item ns) k x a)
 
-    pub landed-low : (used : ℕ) (r : Reader S) (ns : List (node.Node F)) → IsLanded told used (row whole_of r ns) → used ≤ told.most
+    all_filed : (r : Reader S) (ns : List (node.Node F)) → IsFiled whole_of left given faults told r → are ns → (k : ℕ) (x : Item F S) → At (items_of r ns) k x → its x
+    all_filed r ns filed all zero x a = subst (λ (z : Item F S). its z) (at-head a) filed
+    all_filed r ns filed all (suc k) x a = nodes_filed ns all k x (at-rest (items.Reader r) (map as_item ns) k x a)
+
+    -- and the nodes of items of which this is known
+    filed_nodes : (ns : List (node.Node F)) → ((k : ℕ) (x : Item F S) → At (map as_item ns) k x → its x) → are ns
+    filed_nodes [] filed = All-nil (IsFiledNode held node_faults keeps told)
+    filed_nodes (n ∷ ns) filed = All-cons (IsFiledNode held node_faults keeps told) n ns (filed 0 (as_item n) (at-zero (as_item n) (map as_item ns))) (filed_nodes ns (λ k x a. filed (suc k) x (at-next (as_item n) (map as_item ns) k x a)))
+
+    pub make-stands : (most used : ℕ) (r : Reader S) (ns : List (node.Node F)) (all : List (Item F S)) → all ≡ items_of r ns → IsLanded told used (row held whole_of r ns) → IsFiled whole_of left given faults told r → are ns → Stands held node_faults keeps whole_of left given faults told used all (first_view most (first_note told) ∷ [])
+    make-stands most used r ns all e landed filed nodes =
+        subst (λ (xs : List (Item F S)). Stands held node_faults keeps whole_of left given faults told used xs (first_view most (first_note told) ∷ [])) (sym e) (record { rule = first-seat-holds told used (row held whole_of r ns) whole landed; filed = all_filed r ns filed nodes })
+
+    pub landed-low : (used : ℕ) (r : Reader S) (ns : List (node.Node F)) → IsLanded told used (row held whole_of r ns) → used ≤ told.most
     landed-low used r ns landed = not_over (λ over. nothing-at (landed.seats.above_full over).2)
       where
         not_over : (told.most < used → ⊥) → used ≤ told.most
         not_over apart = omega (arith, apart)
 
-    pub landed-most : (used : ℕ) (r : Reader S) (ns : List (node.Node F)) → IsLanded told used (row whole_of r ns) → length ns ≡ told.most
+    pub landed-most : (used : ℕ) (r : Reader S) (ns : List (node.Node F)) → IsLanded told used (row held whole_of r ns) → length ns ≡ told.most
     landed-most used r ns landed =
-        let size : length (row whole_of r ns) ≡ told.most + 1 = landed.base.size in
-        let same : length (row whole_of r ns) ≡ length (items_of r ns) = length-map (seen whole_of) (items_of r ns) in
+        let size : length (row held whole_of r ns) ≡ told.most + 1 = landed.base.size in
+        let same : length (row held whole_of r ns) ≡ length (items_of r ns) = length-map (seen held whole_of) (items_of r ns) in
         let nodes : length (map as_item ns) ≡ length ns = length-map as_item ns in
         omega (arith, size, same, nodes)
 
@@ -136,32 +170,38 @@ module _ {F S : Type 0} where
         (n ∷ more.0, ap (λ (w : List (Item F S)). items.Node n ∷ w) more.1)
     as_nodes (items.Reader r ∷ xs) none = absurd (none 0 (items.Reader r) (at-zero (items.Reader r) xs) r refl)
 
-    pub closed-row : (drawn : ℕ) (xs : List (Item F S)) (views : List View) → Holds told drawn (map (seen whole_of) xs) views → (r : Reader S) × (ns : List (node.Node F)) × (xs ≡ items_of r ns)
+    pub closed-row : (drawn : ℕ) (xs : List (Item F S)) (views : List View) → Holds told drawn (map (seen held whole_of) xs) views → (r : Reader S) × (ns : List (node.Node F)) × (xs ≡ items_of r ns)
     closed-row drawn [] views h = absurd (nothing-at h.base.at_first)
     closed-row drawn (items.Node n ∷ xs) views h =
         absurd (no_reader (at-head h.base.at_first))
       where
-        no_reader : {q : Progress} → seen_node n ≡ Reading q → ⊥
-        no_reader e = not_reading (record { node = node_of n; children = children_of n }) (state_of n) e
+        no_reader : {q : Progress} → seen_node held n ≡ Reading q → ⊥
+        no_reader e = not_reading (cell_of held n) (state_of n) e
           where
             not_reading : {q : Progress} (c : Cell) (s : NodeState) → taken_as s c ≡ Reading q → ⊥
             not_reading c states.Blank e = cc
             not_reading c states.Resident e = cc
+            not_reading c states.Spilled e = cc
+            not_reading c states.Broken e = cc
     closed-row drawn (items.Reader r ∷ xs) views h =
         let rest = as_nodes xs (λ k x a q e. (
-        let b : At (map (seen whole_of) (items.Reader r ∷ xs)) (suc k) (seen whole_of x) = at-map (seen whole_of) (items.Reader r ∷ xs) (suc k) x (at-next (items.Reader r) xs k x a) in
-        let z : suc k ≡ 0 = h.base.one_reader (suc k) (seen_reader whole_of q) (subst (λ (t : Taken). At (map (seen whole_of) (items.Reader r ∷ xs)) (suc k) t) (ap (seen whole_of) e) b) in
+        let b : At (map (seen held whole_of) (items.Reader r ∷ xs)) (suc k) (seen held whole_of x) = at-map (seen held whole_of) (items.Reader r ∷ xs) (suc k) x (at-next (items.Reader r) xs k x a) in
+        let z : suc k ≡ 0 = h.base.one_reader (suc k) (seen_reader whole_of q) (subst (λ (t : Taken). At (map (seen held whole_of) (items.Reader r ∷ xs)) (suc k) t) (ap (seen held whole_of) e) b) in
         omega (arith, z))) in
         (r, rest.0, ap (λ (w : List (Item F S)). items.Reader r ∷ w) rest.1)
 
-    pub filed-first : (xs : List (Item F S)) (r : Reader S) (ns : List (node.Node F)) → xs ≡ items_of r ns → ((k : ℕ) (x : Item F S) → At xs k x → Filed whole_of left given faults told x) → IsFiled whole_of left given faults told r
+    pub filed-first : (xs : List (Item F S)) (r : Reader S) (ns : List (node.Node F)) → xs ≡ items_of r ns → ((k : ℕ) (x : Item F S) → At xs k x → its x) → IsFiled whole_of left given faults told r
     filed-first xs r ns e filed =
         filed 0 (items.Reader r) (subst (λ (w : List (Item F S)). At w 0 (items.Reader r)) (sym e) (at-zero (items.Reader r) (map as_item ns)))
 
-    pub closed-most : (drawn : ℕ) (xs : List (Item F S)) (views : List View) (r : Reader S) (ns : List (node.Node F)) → Holds told drawn (map (seen whole_of) xs) views → xs ≡ items_of r ns → length ns ≡ told.most
+    pub closed-most : (drawn : ℕ) (xs : List (Item F S)) (views : List View) (r : Reader S) (ns : List (node.Node F)) → Holds told drawn (map (seen held whole_of) xs) views → xs ≡ items_of r ns → length ns ≡ told.most
     closed-most drawn xs views r ns h e =
-        let size : length (map (seen whole_of) xs) ≡ told.most + 1 = h.base.size in
-        let same : length (map (seen whole_of) xs) ≡ length xs = length-map (seen whole_of) xs in
+        let size : length (map (seen held whole_of) xs) ≡ told.most + 1 = h.base.size in
+        let same : length (map (seen held whole_of) xs) ≡ length xs = length-map (seen held whole_of) xs in
         let both : length xs ≡ length (items_of r ns) = ap (λ (w : List (Item F S)). length w) e in
         let nodes : length (map as_item ns) ≡ length ns = length-map as_item ns in
         omega (arith, size, same, both, nodes)
+
+    pub filed-rest : (xs : List (Item F S)) (r : Reader S) (ns : List (node.Node F)) → xs ≡ items_of r ns → ((k : ℕ) (x : Item F S) → At xs k x → its x) → are ns
+    filed-rest xs r ns e filed =
+        filed_nodes ns (λ k x a. filed (suc k) x (subst (λ (w : List (Item F S)). At w (suc k) x) (sym e) (at-next (items.Reader r) (map as_item ns) k x a)))

@@ -1,5 +1,5 @@
 -- What a visit did keeps the rule.
-use Rattle.std.proofs.Common.{◌≡◌, ◌∙◌, ℕ, ◌<◌, inl, inr, List, [], set, refl, sym, ap, subst, arith, Option, Some}
+use Rattle.std.proofs.Common.{◌≡◌, ◌∙◌, ℕ, ◌<◌, inl, inr, List, [], set, sym, ap, subst, arith, Option, Some}
 use Rattle.ept_point.specs.declared.point.Point.{Point}
 use Rattle.ept_space.specs.VoxelKey.{root}
 use Rattle.ept_table.specs.declared.note.Told.{Told}
@@ -12,7 +12,7 @@ use Rattle.ept_table.specs.declared.taken.Taken.TheVariants.{Blank, Standing, Re
 use Rattle.ept_table.specs.At.{At}
 use Rattle.ept_table.specs.View.{View}
 use Rattle.ept_table.specs.Shown.{Holds, AreLocked}
-use Rattle.ept_table.specs.Steps.{given_back, read, carried_to}
+use Rattle.ept_table.specs.Steps.{given_back, read, carried_to, StaysAlike}
 use Rattle.ept_table.specs.Visits.{fresh_of, note_after, GivesReader, GivesNode, Visits}
 use Rattle.ept_table.proofs.Moves.{return-keeps}
 use Rattle.ept_table.proofs.ReaderBack.{read-keeps}
@@ -22,14 +22,15 @@ module _ (told : Told) (drawn : ℕ) (items : List Taken) (views : List View) (i
   there : At items k x
   there = locks.as_taken i v k x at holds
 
-  same_given : (y : Taken) (done : Done) → done ≡ Nothing → y ≡ x → 0 < k → v.note.draws ≡ [] → Holds told drawn (set items k y) (set views i (given_back v (note_after v.note y Nothing)))
-  same_given Blank done e same some none =
-      return-keeps told drawn items views i v h at k Blank (subst (λ (z : Taken). At items k z) (sym same) there) none
-  same_given (Standing c) done e same some none =
-      return-keeps told drawn items views i v h at k (Standing c) (subst (λ (z : Taken). At items k z) (sym same) there) none
-  same_given (Reading r) done e same some none =
+  alike_given : (y : Taken) → StaysAlike told x y → 0 < k → v.note.draws ≡ [] → Holds told drawn (set items k y) (set views i (given_back v (note_after v.note y Nothing)))
+  alike_given Blank stays some none =
+      return-keeps told drawn items views i v h at k x Blank there stays none
+  alike_given (Standing c) stays some none =
+      return-keeps told drawn items views i v h at k x (Standing c) there stays none
+  alike_given (Reading r) (inl same) some none =
       let first : k ≡ 0 = h.base.one_reader k r (subst (λ (z : Taken). At items k z) (sym same) there) in
       absurd (omega (arith, first, some))
+  alike_given (Reading r) (inr (c, d, was, is, alike)) some none = absurd (let e : Reading r ≡ Standing d = is in cc)
 
   reader_given : (y : Taken) (points : List Point) (fresh : List Carried) → GivesReader told k x y points fresh → (new : Progress) × (y ≡ Reading new) × Holds told drawn (set items k y) (set views i (given_back v (read v.note new fresh)))
   reader_given y points fresh g =
@@ -47,7 +48,7 @@ module _ (told : Told) (drawn : ℕ) (items : List Taken) (views : List View) (i
       subst (λ (z : Taken). Holds told drawn (set items k z) (set views i (given_back v (note_after v.note z (Arrive number fresh))))) (sym g.given) (arrival-keeps told drawn items views i v k x number g.carried g.cell fresh h locks at holds g.its g.goes_there g.is_node g.has_arrived)
 
   pub visit-keeps : (y : Taken) (done : Done) → Visits told v k x y done → Holds told drawn (set items k y) (set views i (given_back v (note_after v.note y done)))
-  visit-keeps y Nothing (inl same) = same_given y Nothing refl same.0 same.1 same.2
+  visit-keeps y Nothing (inl still) = alike_given y still.0 still.1 still.2
   visit-keeps y Nothing (inr g) = let r = reader_given y [] [] g in noted_reader y r.0 Nothing r.1 r.2
   visit-keeps y (Draw fresh) (points, g) =
       let r = reader_given y points fresh g in noted_reader y r.0 (Draw fresh) r.1 r.2

@@ -1,5 +1,5 @@
 -- Items as plain data, and what is known of them besides.
-use Rattle.std.specs.Prelude.{◌≡◌, ⊤, ℕ, true, List, map, drop, Option, Some, None}
+use Rattle.std.specs.Prelude.{◌≡◌, ℕ, true, List, map, drop, Option, Some, None}
 use Rattle.ept_scan.specs.declared.second_reading.Reader.{Reader}
 use Rattle.ept_scan.specs.declared.read_error.ReadError.TheVariants.{SourceChanged}
 use Rattle.ept_scan.specs.Queue as queue
@@ -7,7 +7,8 @@ use Rattle.ept_scan.specs.Reader.{drawn_of, allowed_of, left_of, refusal_of, fil
 use Rattle.ept_node.specs.declared.state.NodeState.{NodeState}
 use Rattle.ept_node.specs.declared.state.NodeState.TheVariants as states
 use Rattle.ept_node.specs.declared.node.Node.{Node}
-use Rattle.ept_node.specs.Shown.{state_of, node_of, children_of}
+use Rattle.ept_node.specs.declared.error.NodeError.TheVariants.{SpillDamaged}
+use Rattle.ept_node.specs.Shown.{state_of, node_of, fault_of, file_of, children_of, AgreesWithFile, DoesTell}
 use Rattle.ept_table.specs.declared.note.Counted.{Counted}
 use Rattle.ept_table.specs.declared.note.Told.{Told}
 use Rattle.ept_table.specs.declared.taken.Cell.{Cell}
@@ -20,10 +21,16 @@ use Rattle.ept_table.specs.declared.item.Item.TheVariants as items
 abbrev pub taken_as : NodeState → Cell → Taken
 taken_as states.Blank c = Blank
 taken_as states.Resident c = Standing c
+taken_as states.Spilled c = Standing c
+taken_as states.Broken c = Standing c
 
--- a node as plain data
-abbrev pub seen_node : {F : Type 0} → Node F → Taken
-seen_node node = taken_as (state_of node) (record { node = node_of node; children = children_of node })
+-- a node with the slots of its children: where its points are in its file, with those that the file tells
+abbrev pub cell_of : {F : Type 0} → (F → Option (List ℕ)) → Node F → Cell
+cell_of held node = record { node = node_of held node; children = children_of node }
+
+-- a node as plain data, wherever its points are
+abbrev pub seen_node : {F : Type 0} → (F → Option (List ℕ)) → Node F → Taken
+seen_node held node = taken_as (state_of node) (cell_of held node)
 
 -- an input as it was found
 abbrev pub counted : queue.Held → Counted
@@ -40,9 +47,9 @@ module _ {S : Type 0} (whole : S → Option (List ℕ)) where
     failed = refusal_of r;
   }
 
-  abbrev pub seen : {F : Type 0} → item.Item F S → Taken
-  seen (items.Node node) = seen_node node
-  seen (items.Reader r) = Reading (seen_reader r)
+abbrev pub seen : {F S : Type 0} → (F → Option (List ℕ)) → (S → Option (List ℕ)) → item.Item F S → Taken
+seen held whole (items.Node node) = seen_node held node
+seen held whole (items.Reader r) = Reading (seen_reader whole r)
 
 -- Of a reader it is known that it stands before its next record, or has a refusal. Where files and sources tell, that is no
 -- change of an input, and if it has not failed, its batches are the points from its place on.
@@ -51,6 +58,14 @@ pub record IsFiled {S : Type 0} (whole left : S → Option (List ℕ)) (given fa
   pub rest : told.tells ≡ true → refusal_of r ≡ None → IsRest whole r (drop (drawn_of r) told.points)
   pub no_change : told.tells ≡ true → (source number : ℕ) → refusal_of r ≡ Some (SourceChanged source number) → ⊥
 
-abbrev pub Filed : {F S : Type 0} → (S → Option (List ℕ)) → (S → Option (List ℕ)) → (S → ℕ) → (S → ℕ) → Told → item.Item F S → Type 0
-Filed whole left given faults told (items.Node node) = ⊤
-Filed whole left given faults told (items.Reader r) = IsFiled whole left given faults told r
+-- Of a node it is known that it agrees with its file. Where files and sources tell, its file does, and it is not broken by
+-- damage.
+pub record IsFiledNode {F : Type 0} (held : F → Option (List ℕ)) (faults keeps : F → ℕ) (told : Told) (node : Node F) : Type 0 where
+  pub agrees : AgreesWithFile held faults keeps node
+  pub telling : told.tells ≡ true → DoesTell held (file_of node)
+  pub undamaged : told.tells ≡ true → (kept found at : ℕ) → fault_of node ≡ Some (SpillDamaged kept found at) → ⊥
+
+module _ {F S : Type 0} (held : F → Option (List ℕ)) (node_faults keeps : F → ℕ) (whole left : S → Option (List ℕ)) (given faults : S → ℕ) (told : Told) where
+  abbrev pub Filed : item.Item F S → Type 0
+  Filed (items.Node node) = IsFiledNode held node_faults keeps told node
+  Filed (items.Reader r) = IsFiled whole left given faults told r

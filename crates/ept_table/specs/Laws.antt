@@ -13,7 +13,7 @@ use Rattle.ept_table.specs.declared.taken.Taken.TheVariants.{Standing, Reading}
 use Rattle.ept_table.specs.At.{At}
 use Rattle.ept_table.specs.View.{View, NotesFull}
 use Rattle.ept_table.specs.Shown.{IsTold, Holds, AreLocked}
-use Rattle.ept_table.specs.Steps.{holding, given_back, noting, refused_more, with_parts, new_seat, joined, IsSpent, wishing, drawing, abandoned, read, arrived, carried_to, HasRead, HasArrived, MayDraw, first_seat, IsPlanted}
+use Rattle.ept_table.specs.Steps.{holding, given_back, noting, refused_more, with_parts, new_seat, joined, IsSpent, wishing, drawing, abandoned, read, arrived, carried_to, HasRead, HasArrived, StaysAlike, MayDraw, first_seat, IsPlanted}
 use Rattle.ept_table.specs.Tells.{IsTooMany, Fits, ShowsLaw, IsLanded, IsLast, IsEnded, IsSampling}
 
 -- ---- steps that leave what lies in the slots
@@ -23,10 +23,10 @@ abbrev pub TakeKeeps : Type 0
 TakeKeeps =
     (told : Told) (drawn : ℕ) (items : List Taken) (views : List View) (i : ℕ) (v : View) (k : ℕ) (x : Taken) → Holds told drawn items views → At views i v → v.hold ≡ None → Holds told drawn items (set views i (holding v k x))
 
--- a seat that has drawn no slot gives what it holds back as it took it
+-- a seat that has drawn no slot gives what it holds back as it took it, or a node that went to its file or came back from it
 abbrev pub ReturnKeeps : Type 0
 ReturnKeeps =
-    (told : Told) (drawn : ℕ) (items : List Taken) (views : List View) (i : ℕ) (v : View) (k : ℕ) (x : Taken) → Holds told drawn items views → At views i v → At items k x → v.note.draws ≡ [] → Holds told drawn (set items k x) (set views i (given_back v v.note))
+    (told : Told) (drawn : ℕ) (items : List Taken) (views : List View) (i : ℕ) (v : View) (k : ℕ) (x y : Taken) → Holds told drawn items views → At views i v → At items k x → StaysAlike told x y → v.note.draws ≡ [] → Holds told drawn (set items k y) (set views i (given_back v v.note))
 
 -- a seat notes an octant
 abbrev pub WishKeeps : Type 0

@@ -9,6 +9,7 @@ pub mod Item
 pub mod Standing
 pub mod Visits
 pub mod Row
+pub mod Permits
 pub mod Table
 pub mod Nothing
 pub mod Octree

@@ -7,6 +7,7 @@ nothing_told = record {
   rules = record { cube = record { corner = []; e = 0; s = 0; depth = 0 }; threshold = 0 };
   points = [];
   most = 0;
+  cache = 0;
   begun = [];
   end = 0;
   total = 0;

@@ -12,5 +12,5 @@ abbrev pub items_of : {F S : Type 0} → Reader S → List (Node F) → List (it
 items_of reader nodes = items.Reader reader ∷ map items.Node nodes
 
 -- the same as plain data
-abbrev pub row : {F S : Type 0} → (S → Option (List ℕ)) → Reader S → List (Node F) → List Taken
-row whole reader nodes = map (seen whole) (items_of reader nodes)
+abbrev pub row : {F S : Type 0} → (F → Option (List ℕ)) → (S → Option (List ℕ)) → Reader S → List (Node F) → List Taken
+row held whole reader nodes = map (seen held whole) (items_of reader nodes)

@@ -8,13 +8,14 @@ use Rattle.ept_scan.specs.Reader.{drawn_of, allowed_of, left_of, files_of}
 use Rattle.ept_table.specs.declared.note.Told.{Told}
 use Rattle.ept_table.specs.Item.{counted}
 
--- By these rules, with so many nodes at most, of which those of these keys stand: the reader's inputs, how many points they
+-- By these rules, with so many nodes at most, so many of them in memory, of which those of these keys stand: the reader's inputs, how many points they
 -- have and where its allowance ends. Whether files and sources tell, and all points where they do, the reader does not say.
-abbrev pub told_of : {S : Type 0} → (S → Option (List ℕ)) → Reader S → Rules → ℕ → List VoxelKey → Bool → List Point → Told
-told_of whole reader rules most begun tells points = record {
+abbrev pub told_of : {S : Type 0} → (S → Option (List ℕ)) → Reader S → Rules → ℕ → ℕ → List VoxelKey → Bool → List Point → Told
+told_of whole reader rules most cache begun tells points = record {
   rules = rules;
   points = points;
   most = most;
+  cache = cache;
   end = drawn_of reader + allowed_of reader;
   total = drawn_of reader + left_of reader;
   inputs = map counted (files_of whole reader);

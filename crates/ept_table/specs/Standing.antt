@@ -11,16 +11,16 @@ use Rattle.ept_table.specs.View.{View}
 use Rattle.ept_table.specs.Item.{seen, Filed}
 use Rattle.ept_table.specs.Shown.{Holds}
 
-module _ {F S : Type 0} (whole : S → Option (List ℕ)) where
+module _ {F S : Type 0} (held : F → Option (List ℕ)) (whole : S → Option (List ℕ)) where
   abbrev pub seen_hold : Option (Held (Item F S)) → Option (ℕ × Taken)
   seen_hold None = None
-  seen_hold (Some held) = Some (held.slot, seen whole held.item)
+  seen_hold (Some it) = Some (it.slot, seen held whole it.item)
 
   -- what a seat knows, with what it holds as plain data
   abbrev pub known : slots.View (Item F S) Note → View
   known v = record { parts = v.parts; refused = v.refused; hold = seen_hold v.hold; note = v.note }
 
 -- the rule holds of what lies in the slots as plain data, and of each item is known what is to be known
-pub record Stands {F S : Type 0} (whole left : S → Option (List ℕ)) (given faults : S → ℕ) (told : Told) (drawn : ℕ) (items : List (Item F S)) (views : List (slots.View (Item F S) Note)) : Type 0 where
-  pub rule : Holds told drawn (map (seen whole) items) (map (known whole) views)
-  pub filed : (k : ℕ) (x : Item F S) → At items k x → Filed whole left given faults told x
+pub record Stands {F S : Type 0} (held : F → Option (List ℕ)) (node_faults keeps : F → ℕ) (whole left : S → Option (List ℕ)) (given faults : S → ℕ) (told : Told) (drawn : ℕ) (items : List (Item F S)) (views : List (slots.View (Item F S) Note)) : Type 0 where
+  pub rule : Holds told drawn (map (seen held whole) items) (map (known held whole) views)
+  pub filed : (k : ℕ) (x : Item F S) → At items k x → Filed held node_faults keeps whole left given faults told x

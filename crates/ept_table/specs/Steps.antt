@@ -5,7 +5,7 @@ use Rattle.ept_point.specs.declared.point.Point.{Point}
 use Rattle.ept_space.specs.VoxelKey.{VoxelKey, root, child}
 use Rattle.ept_space.specs.OctreeCube.{InCube}
 use Rattle.ept_scan.specs.declared.read_error.ReadError.{ReadError}
-use Rattle.ept_sample.specs.Place.{place}
+use Rattle.ept_sample.specs.Place.{place, AllInBox}
 use Rattle.ept_sample.specs.Ids.{HasDistinctIds, in_id_order}
 use Rattle.ept_sample.specs.Members.{IsMember}
 use Rattle.ept_core.specs.declared.flight.Flight.{Flight}
@@ -25,7 +25,7 @@ use Rattle.ept_table.specs.declared.taken.Taken.TheVariants.{Blank, Standing, Re
 use Rattle.ept_table.specs.At.{At}
 use Rattle.ept_table.specs.Taken.{points_of, is_open_at, slot_at, as_node}
 use Rattle.ept_table.specs.View.{View}
-use Rattle.ept_node.specs.Shown.{empty_node}
+use Rattle.ept_node.specs.Shown.{empty_node, IsAlike}
 use Rattle.ept_sample.specs.SamplingLaws.{CanBeSampled}
 use Rattle.ept_table.specs.Shown.{IsSound, IsSoundFlight, OpensOctant, FitsReader}
 
@@ -173,8 +173,21 @@ pub record HasArrived (told : Told) (v : View) (x : Taken) (f : Flight) (c : Cel
   pub goes_below : (g : Carried) → IsMember g fresh → GoesBelow told c g
   pub fills : (o : ℕ) → o < 8 → is_open_at x o ≡ false → is_open_in c.node o ≡ true → (g : Carried) × IsMember g fresh × (g.flight.key ≡ child c.node.key o)
   pub adds_up : length f.points + length (points_of x) ≡ length c.node.points + length (flown (map (λ (g : Carried). g.flight) fresh))
-  -- where the ids are different it is the arrival of the machine
-  pub exact : HasDistinctIds (f.points ++ points_of x) → IsArrival told x f c fresh
+  -- where files and sources tell, and the ids are different, it is the arrival of the machine
+  pub exact : told.tells ≡ true → HasDistinctIds (f.points ++ points_of x) → IsArrival told x f c fresh
+
+-- ---- a node that comes and goes
+
+-- The same node. Where files and sources do not tell, its points may be others, as many, in its box.
+pub record IsAlikeCell (told : Told) (c d : Cell) : Type 0 where
+  pub node : IsAlike c.node d.node
+  pub children : d.children ≡ c.children
+  pub inside : AllInBox d.node.rules.cube d.node.key d.node.points
+  pub exact : told.tells ≡ true → d ≡ c
+
+-- What lies in a slot is what lay there: as it was, or a node that went to its file or came back from it.
+abbrev pub StaysAlike : Told → Taken → Taken → Type 0
+StaysAlike told x y = (y ≡ x) ⊎ ((c d : Cell) × (x ≡ Standing c) × (y ≡ Standing d) × IsAlikeCell told c d)
 
 -- ---- the beginning
 

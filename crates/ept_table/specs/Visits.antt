@@ -15,7 +15,7 @@ use Rattle.ept_table.specs.declared.taken.Taken.{Taken}
 use Rattle.ept_table.specs.declared.taken.Taken.TheVariants.{Blank, Standing, Reading}
 use Rattle.ept_table.specs.At.{At}
 use Rattle.ept_table.specs.View.{View}
-use Rattle.ept_table.specs.Steps.{read, arrived, wishing, carried_to, HasRead, HasArrived}
+use Rattle.ept_table.specs.Steps.{read, arrived, wishing, carried_to, HasRead, HasArrived, StaysAlike}
 
 -- the flights that leave
 abbrev pub fresh_of : Done → List Carried
@@ -61,9 +61,9 @@ pub record GivesNode (told : Told) (v : View) (k : ℕ) (x y : Taken) (number : 
   pub given : y ≡ Standing cell
   pub has_arrived : HasArrived told v x carried.flight cell fresh
 
--- The item differs from the one that was taken as the visit says: not at all, but that a reader may have failed, by a draw,
--- or by an arrival.
+-- The item differs from the one that was taken as the visit says: not at all, but that a node may be elsewhere and a reader may
+-- have failed, by a draw, or by an arrival.
 abbrev pub Visits : Told → View → ℕ → Taken → Taken → Done → Type 0
-Visits told v k x y Nothing = ((y ≡ x) × (0 < k) × (v.note.draws ≡ [])) ⊎ GivesReader told k x y [] []
+Visits told v k x y Nothing = (StaysAlike told x y × (0 < k) × (v.note.draws ≡ [])) ⊎ GivesReader told k x y [] []
 Visits told v k x y (Draw fresh) = (points : List Point) × GivesReader told k x y points fresh
 Visits told v k x y (Arrive number fresh) = GivesNode told v k x y number fresh

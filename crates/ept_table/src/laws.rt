@@ -3,7 +3,7 @@
 ghost use Rattle.ept_table.specs.Laws.{TakeKeeps, ReturnKeeps, WishKeeps, AbandonKeeps, SplitKeeps, JoinKeeps, ReadKeeps, DrawKeeps, RefusalKeeps, RefusalIsTrue, ArrivalKeeps, TakeFits, LackIsTooMany, FullIsTooMany, StateKeepsLaw, FirstSeatHolds, BeginningIsLanded, LastSeatTells, LandedIsSampling};
 ghost use Rattle.ept_table.specs.OctreeLaws.{LandedFillsSlots, LandedKeepsBegun, LandedIsSound, LandedIsRead, LandedIsWhole, LandedIsSampled, LandedGoesOn, ResumedIsLanded};
 
-/// A seat may take a slot, give it back as it was, note an octant and abandon its flights.
+/// A seat may take a slot, give it back as it was or its node from elsewhere, note an octant and abandon its flights.
 pub fn move_law()
     ensures take { TakeKeeps }
     ensures give_back { ReturnKeeps }

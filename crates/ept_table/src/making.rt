@@ -5,7 +5,7 @@ ghost use Rattle.ept_scan.specs.declared.second_reading.Reader as reader_of;
 ghost use Rattle.ept_node.specs.declared.node.Node as node_of;
 ghost use Rattle.ept_slots.specs.Views.{HoldsNothing, first_view, whole};
 ghost use Rattle.ept_slots.specs.Seating.{view};
-ghost use Rattle.ept_forest.specs.Slots.{nodes_of, used_of, IsPlanted};
+ghost use Rattle.ept_forest.specs.Slots.{nodes_of, used_of, residents_of, IsPlanted};
 ghost use Rattle.ept_space.specs.VoxelKey.{root};
 ghost use Rattle.ept_sample.specs.SamplingLaws.{CanBeSampled};
 ghost use Rattle.ept_scan.specs.Reader.{drawn_of, refusal_of};
@@ -13,8 +13,10 @@ ghost use Rattle.ept_table.specs.Shown.{IsTold, FitsReader};
 ghost use Rattle.ept_table.specs.declared.item.Item.TheVariants as items;
 ghost use Rattle.ept_table.specs.Steps.{first_note};
 ghost use Rattle.ept_table.specs.Tells.{IsLanded, IsEnded};
-ghost use Rattle.ept_table.specs.Item.{seen_reader, IsFiled};
+ghost use Rattle.ept_table.specs.Item.{seen_reader, IsFiled, IsFiledNode};
 ghost use Rattle.ept_table.specs.Row.{items_of, row};
+ghost use Rattle.std.specs.List.{All};
+ghost use Rattle.ept_node.specs.Shown.{IsTelling};
 ghost use Rattle.ept_table.specs.Standing.{known};
 
 use crate::item::Item;
@@ -49,7 +51,8 @@ struct Laid<F, S> {
 impl<F: SpillFile, S: Source, J: Scan> NodeTable<F, S, J> {
     ghost use Rattle.ept_table.specs.Table.{slots_of, rules_of, IsSeat};
 
-    /// A table of the nodes of a forest and a reader, and its first seat. Nothing flies, and no slot is held.
+    /// A table of the nodes of a forest and a reader, and its first seat. Nothing flies, and no slot is held. So many nodes may
+    /// be in memory at a time: each that is not there wants a permit to come.
     ///
     /// # Errors
     ///
@@ -59,10 +62,13 @@ impl<F: SpillFile, S: Source, J: Scan> NodeTable<F, S, J> {
         forest: Forest<F>,
         reader: Reader<S>,
         rules: &Rules,
+        cache: u32,
     ) -> Result<(NodeTable<F, S, J>, Seat<F, S>), Unmade<F, S>>
-        requires landed { IsLanded J.told (used_of forest) (row S.whole reader (nodes_of forest)) }
+        requires landed { IsLanded J.told (used_of forest) (row F.held S.whole reader (nodes_of forest)) }
         requires filed { IsFiled S.whole S.left S.given S.faults J.told reader }
+        requires nodes { All (IsFiledNode F.held F.faults F.keeps J.told) (nodes_of forest) }
         requires rules { rules.now ≡ J.told.rules }
+        requires cache { (cache ≡ J.told.cache) × (residents_of (nodes_of forest) ≤ J.told.cache) }
         ensures seat { IfOk result (λ r. IsSeat J.told r.0 r.1) }
         ensures first { IfOk result (λ r. view r.1 ≡ first_view J.told.most (first_note J.told)) }
         ensures slots { IfOk result (λ r. slots_of r.0 ≡ J.told.most + 1) }
@@ -70,6 +76,7 @@ impl<F: SpillFile, S: Source, J: Scan> NodeTable<F, S, J> {
         ensures forest { IfErr result (λ r. (nodes_of r.forest ≡ nodes_of forest) × (used_of r.forest ≡ used_of forest)) }
         ensures reader { IfErr result (λ r. r.reader ≡ reader) }
     {
+        let free = u64::from(cache) - forest.residents();
         let (nodes, used) = forest.into_nodes();
         let Ok(most) = u32::try_from(nodes.len()) else {
             return Err(Unmade {
@@ -82,7 +89,7 @@ impl<F: SpillFile, S: Source, J: Scan> NodeTable<F, S, J> {
             Err(apart) => return Err(given_up(apart, used)),
         };
         let Laid { items, spare } = laid;
-        match Slots::new(alloc, items, used, most, &()) {
+        match Slots::new(alloc, items, used, most, free, &()) {
             Ok((slots, seat)) => {
                 let table = NodeTable {
                     slots,
@@ -105,8 +112,10 @@ impl<F: SpillFile, S: Source, J: Scan> NodeTable<F, S, J> {
         requires idle { HoldsNothing (view seat) × ((view seat).parts ≡ whole) }
         requires slots { slots_of self ≡ J.told.most + 1 }
         ensures ended { (drawn : ℕ) × (used_of result.0 ≡ min drawn J.told.most)
-            × IsEnded J.told drawn (row S.whole result.1 (nodes_of result.0)) (known S.whole (view seat)) }
+            × IsEnded J.told drawn (row F.held S.whole result.1 (nodes_of result.0)) (known F.held S.whole (view seat)) }
         ensures filed { IsFiled S.whole S.left S.given S.faults J.told result.1 }
+        ensures nodes { All (IsFiledNode F.held F.faults F.keeps J.told) (nodes_of result.0) }
+        ensures cached { residents_of (nodes_of result.0) + (view seat).permits ≤ J.told.cache }
     {
         let NodeTable {
             slots,
@@ -115,7 +124,11 @@ impl<F: SpillFile, S: Source, J: Scan> NodeTable<F, S, J> {
             rules: _rules,
         } = self;
         let ending = slots.close(seat);
-        let ept_slots::Ending { items, drawn } = ending;
+        let ept_slots::Ending {
+            items,
+            drawn,
+            free: _free,
+        } = ending;
         let used = if drawn < u64::from(most) {
             drawn as u32
         } else {
@@ -126,17 +139,21 @@ impl<F: SpillFile, S: Source, J: Scan> NodeTable<F, S, J> {
     }
 }
 
-/// With a new forest, and a reader of all points that has drawn none, a table may be made.
+/// With a new forest, and a reader of all points that has drawn none, a table may be made. Where files and sources tell, each spill
+/// file does.
 pub fn plant_law<F: SpillFile, S: Source, J: Scan>(forest: &Forest<F>, reader: &Reader<S>)
     requires told { IsTold J.told }
     requires points { J.told.tells ≡ true → CanBeSampled J.told.rules J.told.points
         × (length J.told.points ≡ J.told.total) }
     requires begun { J.told.begun ≡ root ∷ [] }
-    requires planted { IsPlanted F.faults F.keeps J.told.most J.told.rules forest.now }
+    requires planted { IsPlanted F.held F.faults F.keeps J.told.most J.told.rules forest.now }
     requires fits { FitsReader J.told (seen_reader S.whole reader.now) }
     requires undrawn { drawn_of reader.now ≡ 0 }
     requires sound { refusal_of reader.now ≡ None }
-    ensures { IsLanded J.told (used_of forest.now) (row S.whole reader.now (nodes_of forest.now)) }
+    requires telling { J.told.tells ≡ true → IsTelling F.held }
+    ensures landed { IsLanded J.told (used_of forest.now) (row F.held S.whole reader.now (nodes_of forest.now)) }
+    ensures nodes { All (IsFiledNode F.held F.faults F.keeps J.told) (nodes_of forest.now) }
+    ensures few { residents_of (nodes_of forest.now) ≤ 1 }
 {}
 
 // The forest of nodes of which so many slots are drawn, and the reader.

@@ -21,6 +21,8 @@ pub struct Told {
     pub points: List<Point>,
     /// How many nodes there may be.
     pub most: u32,
+    /// How many nodes may be in memory at a time.
+    pub cache: u32,
     /// The keys of the nodes that stand as the table is made, in the order of their slots: that of slot 1 first.
     pub begun: List<Key>,
     /// How many points are drawn at the end of the reader's allowance.

@@ -5,6 +5,7 @@ ghost use Rattle.ept_table.specs.declared.note.Told.{Told};
 ghost use Rattle.ept_table.specs.Steps.{wishing, drawing, abandoned, beginning, together, lacks_slot, first_note};
 ghost use Rattle.ept_table.specs.Tells.{IsTooMany, Fits, ShowsLaw};
 ghost use Rattle.ept_table.specs.Item.{seen, Filed};
+ghost use Rattle.ept_table.specs.Permits.{weight_of};
 ghost use Rattle.ept_table.specs.Standing.{known, Stands};
 ghost use Rattle.ept_table.specs.Visits.{note_said};
 
@@ -12,7 +13,7 @@ use crate::done::Said;
 use crate::item::Item;
 use crate::note::Note;
 use atomic_table::{Join, Split};
-use ept_base::Source;
+use ept_base::{Source, SpillFile};
 use ept_slots::{Draw, Give, Look, Note as Noted, SlotRule, Take};
 use std::marker::{Brand, PhantomData};
 
@@ -33,10 +34,14 @@ pub struct Rule<F, S, J> {
     marker: PhantomData<(F, S, J)>,
 }
 
-impl<F, S: Source, J: Scan> SlotRule<Item<F, S>, Note, ()> for Rule<F, S, J> {
-    ghost holds = { λ _ drawn items views. Stands S.whole S.left S.given S.faults J.told drawn items views };
+impl<F: SpillFile, S: Source, J: Scan> SlotRule<Item<F, S>, Note, ()> for Rule<F, S, J> {
+    ghost holds = { λ _ drawn items views. Stands F.held F.faults F.keeps S.whole S.left S.given S.faults J.told drawn items views };
 
     ghost most = { λ _. J.told.most };
+
+    ghost permits = { λ _. J.told.cache };
+
+    ghost weight = { weight_of };
 
     ghost first = { λ _. first_note J.told };
 }
@@ -46,9 +51,9 @@ pub struct Taking<F, S, J> {
     marker: PhantomData<(F, S, J)>,
 }
 
-impl<F, S: Source, J: Scan> Take<Item<F, S>, Note> for Taking<F, S, J> {
-    ghost tells = { λ v k x n. (n ≡ v.note) × Fits J.told (known S.whole v) k (seen S.whole x)
-        × Filed S.whole S.left S.given S.faults J.told x };
+impl<F: SpillFile, S: Source, J: Scan> Take<Item<F, S>, Note> for Taking<F, S, J> {
+    ghost tells = { λ v k x n. (n ≡ v.note) × Fits J.told (known F.held S.whole v) k (seen F.held S.whole x)
+        × Filed F.held F.faults F.keeps S.whole S.left S.given S.faults J.told x };
 }
 
 /// An item is given back.
@@ -56,8 +61,8 @@ pub struct Giving<F, S> {
     marker: PhantomData<(F, S)>,
 }
 
-impl<F, S: Source> Give<Item<F, S>, Note, Said> for Giving<F, S> {
-    ghost tells = { λ v y said n. n ≡ note_said v.note (seen S.whole y) said };
+impl<F: SpillFile, S: Source> Give<Item<F, S>, Note, Said> for Giving<F, S> {
+    ghost tells = { λ v y said n. n ≡ note_said v.note (seen F.held S.whole y) said };
 }
 
 /// An octant is noted.
@@ -65,7 +70,7 @@ pub struct Wishing<F, S> {
     marker: PhantomData<(F, S)>,
 }
 
-impl<F, S: Source> Noted<Item<F, S>, Note, Said> for Wishing<F, S> {
+impl<F: SpillFile, S: Source> Noted<Item<F, S>, Note, Said> for Wishing<F, S> {
     ghost use Rattle.ept_table.specs.declared.taken.Taken.TheVariants.{Blank};
 
     ghost tells = { λ v said n. n ≡ note_said v.note Blank said };
@@ -76,7 +81,7 @@ pub struct Drawing<F, S, J> {
     marker: PhantomData<(F, S, J)>,
 }
 
-impl<F, S: Source, J: Scan> Draw<Item<F, S>, Note> for Drawing<F, S, J> {
+impl<F: SpillFile, S: Source, J: Scan> Draw<Item<F, S>, Note> for Drawing<F, S, J> {
     ghost tells = { λ v drawn n. MatchOption drawn ((n ≡ v.note) × IsTooMany J.told) (λ k. n ≡ drawing v.note k) };
 }
 
@@ -85,8 +90,8 @@ pub struct Looking<F, S, J> {
     marker: PhantomData<(F, S, J)>,
 }
 
-impl<F, S: Source, J: Scan> Look<Item<F, S>, Note> for Looking<F, S, J> {
-    ghost tells = { λ v _ n. (n ≡ v.note) × (J.told.tells ≡ true → ShowsLaw J.told (known S.whole v)) };
+impl<F: SpillFile, S: Source, J: Scan> Look<Item<F, S>, Note> for Looking<F, S, J> {
+    ghost tells = { λ v _ n. (n ≡ v.note) × (J.told.tells ≡ true → ShowsLaw J.told (known F.held S.whole v)) };
 }
 
 /// The flights of the seat are abandoned.
@@ -94,7 +99,7 @@ pub struct Abandoning<F, S, J> {
     marker: PhantomData<(F, S, J)>,
 }
 
-impl<F, S: Source, J: Scan> Look<Item<F, S>, Note> for Abandoning<F, S, J> {
+impl<F: SpillFile, S: Source, J: Scan> Look<Item<F, S>, Note> for Abandoning<F, S, J> {
     ghost tells = { λ v _ n. (n ≡ abandoned v.note) × (lacks_slot v.note.flights ≡ true → IsTooMany J.told) };
 }
 

@@ -18,7 +18,7 @@ use ept_scan::Reader;
 
 /// Of a reader of inputs that were counted within the bounds of the cube a table may be told, and the reader fits it.
 pub fn scanned_law<S: Source, J: Scan>(reader: &Reader<S>, kept: &Kept, counts: &[SourceCount])
-    requires told { J.told ≡ told_of S.whole reader.now J.told.rules J.told.most J.told.begun J.told.tells J.told.points }
+    requires told { J.told ≡ told_of S.whole reader.now J.told.rules J.told.most J.told.cache J.told.begun J.told.tells J.told.points }
     requires some { 0 < J.told.most }
     requires top { At J.told.begun 0 root }
     requires cube { IsCubeOf kept.now.bounds kept.now.s kept.now.max_depth J.told.rules.cube }

@@ -1,15 +1,16 @@
 //! A table of nodes and its seats.
 
-ghost use Rattle.std.specs.Prelude.{◌≡◌, ◌+◌, ◌<◌, ◌≤◌, [], true, vec_capacity, IfOk, OnErr};
+ghost use Rattle.std.specs.Prelude.{◌≡◌, ◌+◌, ◌-◌, ◌<◌, ◌≤◌, [], true, false, vec_capacity, IfOk, OnErr, IfSome, IsNone};
 ghost use Rattle.ept_table.specs.Tells.{IsTooMany, Fits, ShowsLaw};
 ghost use Rattle.ept_table.specs.declared.done.Done as done_of;
 ghost use Rattle.ept_table.specs.declared.done.Said.TheVariants.{Did};
 ghost use Rattle.ept_table.specs.declared.item.Item as item_of;
 ghost use Rattle.ept_table.specs.Steps.{holding, given_back, noting, refused_more, wishing, drawing, abandoned, beginning, together, lacks_slot, MayDraw};
 ghost use Rattle.ept_table.specs.Item.{seen, Filed};
+ghost use Rattle.ept_table.specs.Permits.{weight_of, spare_of};
 ghost use Rattle.ept_table.specs.Standing.{known};
 ghost use Rattle.ept_table.specs.Visits.{note_after, Visits};
-ghost use Rattle.ept_slots.specs.Views.{Holds, HoldsNothing, left_of, right_of, both_of};
+ghost use Rattle.ept_slots.specs.Views.{Holds, HoldsNothing, with_permits, left_of, right_of, both_of};
 ghost use Rattle.ept_slots.specs.Seating.{view, count_of};
 
 use crate::done::{Done, Said};
@@ -18,11 +19,12 @@ use crate::note::Note;
 use crate::rule::{
     Abandoning, Dividing, Drawing, Giving, Joining, Looking, Rule, Scan, Taking, Wishing,
 };
-use ept_base::Source;
-use ept_node::Node;
+use ept_base::{Source, SpillFile};
+use ept_node::{Node, NodeState};
 use ept_slots::{SlotSeat, Slots};
 use ept_space::Rules;
 use std::sync::Wait;
+use std::thread;
 
 /// A token of no bytes with which a worker steps on a table.
 pub type Seat<F, S> = SlotSeat<Item<F, S>, Note, Said>;
@@ -33,7 +35,7 @@ pub struct Full;
 
 /// A table of nodes that workers share: slot 0 has the reader, slot 1 the root's node, and each other slot a node or a
 /// blank one.
-pub struct NodeTable<F, S: Source, J: Scan> {
+pub struct NodeTable<F: SpillFile, S: Source, J: Scan> {
     pub(crate) slots: Slots<Item<F, S>, Note, Said, (), Rule<F, S, J>>,
     // The list that the nodes came in, which is emptied.
     pub(crate) spare: Vec<Node<F>>,
@@ -44,7 +46,7 @@ pub struct NodeTable<F, S: Source, J: Scan> {
     ghost limit: { count_of slots ≡ most + 1 },
 }
 
-impl<F, S: Source, J: Scan> NodeTable<F, S, J> {
+impl<F: SpillFile, S: Source, J: Scan> NodeTable<F, S, J> {
     ghost use Rattle.ept_table.specs.Table.{slots_of, rules_of, IsSeat};
 
     /// The rules of the sampling.
@@ -54,10 +56,23 @@ impl<F, S: Source, J: Scan> NodeTable<F, S, J> {
         &self.rules
     }
 
+    /// How many slots there are for nodes: those from 1 to this number.
+    pub fn most(&self) -> u32
+        ensures { result + 1 ≡ slots_of self.now }
+    {
+        self.most
+    }
+
     /// Whether a slot is held as it is looked at, for a worker that has other things to do meanwhile. Never where there is no
     /// such slot.
     pub fn is_held(&self, slot: u32) -> bool {
         (slot as usize) < self.slots.count() && self.slots.is_held(slot as usize)
+    }
+
+    /// Whether a slot is free as it is looked at, and a node in memory was last given into it. Never where there is no such
+    /// slot.
+    pub fn is_resident(&self, slot: u32) -> bool {
+        (slot as usize) < self.slots.count() && self.slots.is_wanted(slot as usize)
     }
 
     /// Takes what lies in a slot, as soon as that is free. The seat is its holder then.
@@ -67,30 +82,88 @@ impl<F, S: Source, J: Scan> NodeTable<F, S, J> {
         requires slot { slot < slots_of self.now }
         ensures seat { IsSeat J.told self.now seat.new }
         ensures holds { Holds (view seat.new) slot result }
-        ensures known { known S.whole (view seat.new) ≡ holding (known S.whole (view seat.old)) slot (seen S.whole result) }
-        ensures fits { Fits J.told (known S.whole (view seat.old)) slot (seen S.whole result) }
-        ensures filed { Filed S.whole S.left S.given S.faults J.told result }
+        ensures known { known F.held S.whole (view seat.new) ≡ holding (known F.held S.whole (view seat.old)) slot (seen F.held S.whole result) }
+        ensures fits { Fits J.told (known F.held S.whole (view seat.old)) slot (seen F.held S.whole result) }
+        ensures filed { Filed F.held F.faults F.keeps S.whole S.left S.given S.faults J.told result }
+        ensures permits { spare_of (view seat.new) ≡ spare_of (view seat.old) + weight_of result }
     {
         self.slots
             .take::<Taking<F, S, J>, H>(rt, seat, slot as usize)
     }
 
+    /// One try to take what lies in a slot: None where that is held, and then nothing changed.
+    pub fn try_take(&self, seat: &mut Seat<F, S>, slot: u32) -> Option<Item<F, S>>
+        requires seat { IsSeat J.told self.now seat.old }
+        requires idle { HoldsNothing (view seat.old) × (0 < (view seat.old).parts) }
+        requires slot { slot < slots_of self.now }
+        ensures seat { IsSeat J.told self.now seat.new }
+        ensures holds { IfSome result (λ item. Holds (view seat.new) slot item) }
+        ensures known { IfSome result (λ item. known F.held S.whole (view seat.new)
+            ≡ holding (known F.held S.whole (view seat.old)) slot (seen F.held S.whole item)) }
+        ensures fits { IfSome result (λ item. Fits J.told (known F.held S.whole (view seat.old)) slot (seen F.held S.whole item)) }
+        ensures filed { IfSome result (λ item. Filed F.held F.faults F.keeps S.whole S.left S.given S.faults J.told item) }
+        ensures unchanged { IsNone result → view seat.new ≡ view seat.old }
+        ensures permits { IfSome result (λ item. spare_of (view seat.new) ≡ spare_of (view seat.old) + weight_of item) }
+    {
+        self.slots.try_take::<Taking<F, S, J>>(seat, slot as usize)
+    }
+
+    /// Takes a permit, as soon as one is free.
+    pub fn take_permit<H: Wait>(&self, rt: &H, seat: &mut Seat<F, S>)
+        requires seat { IsSeat J.told self.now seat.old }
+        requires share { 0 < (view seat.old).parts }
+        ensures seat { IsSeat J.told self.now seat.new }
+        ensures step { view seat.new ≡ with_permits (view seat.old) ((view seat.old).permits + 1) }
+    {
+        for _ in rt.forever() {
+            if self.try_permit(seat) {
+                return;
+            }
+            thread::yield_now();
+        }
+        unreachable!()
+    }
+
+    /// One try to take a permit: false where none was free, or where another seat changed meanwhile how many are.
+    pub fn try_permit(&self, seat: &mut Seat<F, S>) -> bool
+        requires seat { IsSeat J.told self.now seat.old }
+        requires share { 0 < (view seat.old).parts }
+        ensures seat { IsSeat J.told self.now seat.new }
+        ensures granted { result ≡ true → view seat.new ≡ with_permits (view seat.old) ((view seat.old).permits + 1) }
+        ensures unchanged { result ≡ false → view seat.new ≡ view seat.old }
+    {
+        self.slots.try_permit(seat)
+    }
+
+    /// Gives a permit back, so that it is free.
+    pub fn give_permit(&self, seat: &mut Seat<F, S>)
+        requires seat { IsSeat J.told self.now seat.old }
+        requires permit { 0 < (view seat.old).permits }
+        ensures seat { IsSeat J.told self.now seat.new }
+        ensures step { view seat.new ≡ with_permits (view seat.old) ((view seat.old).permits - 1) }
+    {
+        self.slots.give_permit(seat);
+    }
+
     /// Gives an item back into the slot that the seat holds, and frees the slot. What the visit did comes back, with the
-    /// flights that leave.
+    /// flights that leave. A node whose points are in memory takes a permit of the seat, and one that was taken so gives it its own.
     pub fn give(&self, seat: &mut Seat<F, S>, slot: u32, item: Item<F, S>, done: Done) -> Done
         requires seat { IsSeat J.told self.now seat.old }
         requires visit { (x : item_of.Item F S) × Holds (view seat.old) slot x
-            × Visits J.told (known S.whole (view seat.old)) slot (seen S.whole x) (seen S.whole item) done }
+            × Visits J.told (known F.held S.whole (view seat.old)) slot (seen F.held S.whole x) (seen F.held S.whole item) done }
         requires slot { slot < slots_of self.now }
-        requires filed { Filed S.whole S.left S.given S.faults J.told item }
+        requires filed { Filed F.held F.faults F.keeps S.whole S.left S.given S.faults J.told item }
+        requires permit { weight_of item ≤ spare_of (view seat.old) }
         ensures seat { IsSeat J.told self.now seat.new }
-        ensures known { known S.whole (view seat.new)
-            ≡ given_back (known S.whole (view seat.old)) (note_after (view seat.old).note (seen S.whole item) done) }
+        ensures known { known F.held S.whole (view seat.new)
+            ≡ given_back (known F.held S.whole (view seat.old)) (note_after (view seat.old).note (seen F.held S.whole item) done) }
         ensures done { result ≡ done }
+        ensures permits { spare_of (view seat.new) + weight_of item ≡ spare_of (view seat.old) }
     {
+        let is_wanted = could_spill(&item);
         let said = self
             .slots
-            .give::<Giving<F, S>>(seat, slot as usize, item, Said::Did(done));
+            .give::<Giving<F, S>>(seat, slot as usize, item, Said::Did(done), is_wanted);
         done_said(said)
     }
 
@@ -103,15 +176,16 @@ impl<F, S: Source, J: Scan> NodeTable<F, S, J> {
     pub fn draw_slot(&self, seat: &mut Seat<F, S>, slot: u32, octant: u8) -> Result<u32, Full>
         requires seat { IsSeat J.told self.now seat.old }
         requires may { (x : item_of.Item F S) × Holds (view seat.old) slot x
-            × MayDraw J.told (known S.whole (view seat.old)) slot (seen S.whole x) octant }
+            × MayDraw J.told (known F.held S.whole (view seat.old)) slot (seen F.held S.whole x) octant }
         requires slot { slot < slots_of self.now }
         requires share { (view seat.old).refused < (view seat.old).parts }
         ensures seat { IsSeat J.told self.now seat.new }
-        ensures ok { IfOk result (λ n. (0 < n) × (n ≤ J.told.most) × (known S.whole (view seat.new)
-            ≡ noting (known S.whole (view seat.old)) (drawing (wishing (view seat.old).note octant) n))) }
-        ensures full { OnErr result (known S.whole (view seat.new)
-            ≡ refused_more (noting (known S.whole (view seat.old)) (wishing (view seat.old).note octant))) }
+        ensures ok { IfOk result (λ n. (0 < n) × (n ≤ J.told.most) × (known F.held S.whole (view seat.new)
+            ≡ noting (known F.held S.whole (view seat.old)) (drawing (wishing (view seat.old).note octant) n))) }
+        ensures full { OnErr result (known F.held S.whole (view seat.new)
+            ≡ refused_more (noting (known F.held S.whole (view seat.old)) (wishing (view seat.old).note octant))) }
         ensures too_many { OnErr result (IsTooMany J.told) }
+        ensures permits { spare_of (view seat.new) ≡ spare_of (view seat.old) }
     {
         let _said = self
             .slots
@@ -126,8 +200,9 @@ impl<F, S: Source, J: Scan> NodeTable<F, S, J> {
     pub fn look(&self, seat: &mut Seat<F, S>)
         requires { IsSeat J.told self.now seat.old }
         ensures seat { IsSeat J.told self.now seat.new }
-        ensures same { known S.whole (view seat.new) ≡ known S.whole (view seat.old) }
-        ensures law { J.told.tells ≡ true → ShowsLaw J.told (known S.whole (view seat.old)) }
+        ensures same { known F.held S.whole (view seat.new) ≡ known F.held S.whole (view seat.old) }
+        ensures law { J.told.tells ≡ true → ShowsLaw J.told (known F.held S.whole (view seat.old)) }
+        ensures permits { spare_of (view seat.new) ≡ spare_of (view seat.old) }
     {
         self.slots.look::<Looking<F, S, J>>(seat);
     }
@@ -138,9 +213,10 @@ impl<F, S: Source, J: Scan> NodeTable<F, S, J> {
         requires seat { IsSeat J.told self.now seat.old }
         requires idle { HoldsNothing (view seat.old) × (0 < (view seat.old).parts) }
         ensures seat { IsSeat J.told self.now seat.new }
-        ensures known { known S.whole (view seat.new)
-            ≡ noting (known S.whole (view seat.old)) (abandoned (view seat.old).note) }
+        ensures known { known F.held S.whole (view seat.new)
+            ≡ noting (known F.held S.whole (view seat.old)) (abandoned (view seat.old).note) }
         ensures too_many { lacks_slot (view seat.old).note.flights ≡ true → IsTooMany J.told }
+        ensures permits { spare_of (view seat.new) ≡ spare_of (view seat.old) }
     {
         self.slots.look::<Abandoning<F, S, J>>(seat);
     }
@@ -169,6 +245,14 @@ impl<F, S: Source, J: Scan> NodeTable<F, S, J> {
         ensures both { view seat.new ≡ both_of (view seat.old) (view other) (together (view seat.old).note (view other).note) }
     {
         self.slots.join::<Joining<J>>(seat, other);
+    }
+}
+
+// Whether it is a node that could go to its file.
+fn could_spill<F, S>(item: &Item<F, S>) -> bool {
+    match item {
+        Item::Node(node) => node.state() == NodeState::Resident,
+        Item::Reader(_) => false,
     }
 }
 

@@ -5,6 +5,7 @@ ghost use Rattle.ept_space.specs.VoxelKey.{root};
 ghost use Rattle.ept_slots.specs.Views.{first_view};
 ghost use Rattle.ept_slots.specs.Seating.{view};
 ghost use Rattle.ept_forest.specs.Slots.{nodes_of, used_of, IsPlanted};
+ghost use Rattle.ept_node.specs.Shown.{IsTelling};
 ghost use Rattle.ept_table.specs.Scanned.{told_of};
 ghost use Rattle.ept_table.specs.Steps.{first_note};
 ghost use Rattle.ept_table.specs.Table.{slots_of, rules_of, IsSeat};
@@ -16,17 +17,20 @@ use ept_forest::Forest;
 use ept_table::{NodeTable, Scan, Seat, Unmade, plant_law, scanned_law};
 use std::alloc::Global;
 
-/// A table of a new forest of so many nodes and of a known reader, and its first seat. Or there was no memory.
+/// A table of a new forest of so many nodes, so many of which may be in memory, and of a known reader, and its first seat. Or
+/// there was no memory.
 pub fn seated<F: SpillFile, S: Source, J: Scan>(
     alloc: Global,
     forest: Forest<F>,
     known: Known<S>,
     most: u32,
+    cache: u32,
 ) -> Result<(NodeTable<F, S, J>, Seat<F, S>), Unmade<F, S>>
-    requires told { J.told ≡ told_of S.whole known.reader known.rules most (root ∷ []) true known.points.items }
+    requires told { J.told ≡ told_of S.whole known.reader known.rules most cache (root ∷ []) true known.points.items }
     requires known { IsKnown S.whole S.left S.given S.faults known }
-    requires some { 1 ≤ most }
-    requires planted { IsPlanted F.faults F.keeps most known.rules forest }
+    requires some { (1 ≤ most) × (1 ≤ cache) }
+    requires planted { IsPlanted F.held F.faults F.keeps most known.rules forest }
+    requires telling { IsTelling F.held }
     ensures seat { IfOk result (λ r. IsSeat J.told r.0 r.1) }
     ensures first { IfOk result (λ r. view r.1 ≡ first_view J.told.most (first_note J.told)) }
     ensures slots { IfOk result (λ r. slots_of r.0 ≡ J.told.most + 1) }
@@ -42,5 +46,5 @@ pub fn seated<F: SpillFile, S: Source, J: Scan>(
     } = known;
     scanned_law::<S, J>(&reader, &kept, counts.as_slice());
     plant_law::<F, S, J>(&forest, &reader);
-    NodeTable::make(alloc, forest, reader, &rules)
+    NodeTable::make(alloc, forest, reader, &rules, cache)
 }

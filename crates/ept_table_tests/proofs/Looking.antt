@@ -30,4 +30,4 @@ given-as-taken told v w zero x is rest fits =
       actor = 0;
       flies = refl;
     })
-given-as-taken told v w (suc k) x is rest fits = inl (refl, omega arith, ap (λ (u : View). u.note.draws) is ∙ rest.draws)
+given-as-taken told v w (suc k) x is rest fits = inl (inl refl, omega arith, ap (λ (u : View). u.note.draws) is ∙ rest.draws)

@@ -5,6 +5,7 @@ ghost use Rattle.ept_space.specs.VoxelKey.{root};
 ghost use Rattle.ept_scan.specs.Reader.{IsReader};
 ghost use Rattle.ept_slots.specs.Seating.{view};
 ghost use Rattle.ept_forest.specs.Slots.{IsPlanted};
+ghost use Rattle.ept_node.specs.Shown.{IsTelling};
 ghost use Rattle.ept_table.specs.Scanned.{told_of};
 ghost use Rattle.ept_table.specs.Standing.{known};
 ghost use Rattle.ept_table.specs.Table.{slots_of, IsSeat};
@@ -37,7 +38,7 @@ pub struct Left<F, S> {
     pub found: Option<[Found; 4]>,
 }
 
-fn found_in<F, S: Source>(item: &Item<F, S>) -> Found {
+fn found_in<F: SpillFile, S: Source>(item: &Item<F, S>) -> Found {
     match item {
         Item::Reader(reader) => Found::Reader {
             drawn: reader.drawn(),
@@ -54,18 +55,18 @@ fn found_in<F, S: Source>(item: &Item<F, S>) -> Found {
 }
 
 // Takes what lies in a slot, and gives it back as it was.
-fn look_into<F, S: Source, J: Scan, H: Wait>(
+fn look_into<F: SpillFile, S: Source, J: Scan, H: Wait>(
     rt: &H,
     table: &NodeTable<F, S, J>,
     seat: &mut Seat<F, S>,
     slot: u32,
 ) -> Found
     requires seat { IsSeat J.told table.now seat.old }
-    requires rest { IsAtRest (known S.whole (view seat.old)) }
+    requires rest { IsAtRest (known F.held S.whole (view seat.old)) }
     requires share { 0 < (view seat.old).parts }
     requires slot { slot < slots_of table.now }
     ensures seat { IsSeat J.told table.now seat.new }
-    ensures rest { IsAtRest (known S.whole (view seat.new)) }
+    ensures rest { IsAtRest (known F.held S.whole (view seat.new)) }
     ensures share { (view seat.new).parts ≡ (view seat.old).parts }
 {
     let item = table.take(rt, seat, slot);
@@ -82,13 +83,14 @@ pub fn session<F: SpillFile, S: Source, J: Scan, H: Wait>(
     known: Known<S>,
     most: u32,
 ) -> Left<F, S>
-    requires told { J.told ≡ told_of S.whole known.reader known.rules most (root ∷ []) true known.points.items }
+    requires told { J.told ≡ told_of S.whole known.reader known.rules most 1 (root ∷ []) true known.points.items }
     requires known { IsKnown S.whole S.left S.given S.faults known }
     requires some { 1 ≤ most }
-    requires planted { IsPlanted F.faults F.keeps most known.rules forest }
+    requires planted { IsPlanted F.held F.faults F.keeps most known.rules forest }
+    requires telling { IsTelling F.held }
     ensures { IsReader S.whole S.left S.given S.faults result.reader }
 {
-    let (table, mut seat) = match seated::<F, S, J>(alloc, forest, known, most) {
+    let (table, mut seat) = match seated::<F, S, J>(alloc, forest, known, most, 1) {
         Ok(made) => made,
         Err(unmade) => {
             let Unmade { forest, reader } = unmade;

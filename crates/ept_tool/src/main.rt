@@ -12,6 +12,8 @@ mod message_tests;
 #[cfg(test)]
 mod query_tests;
 #[cfg(test)]
+mod spill_tests;
+#[cfg(test)]
 mod tests;
 #[cfg(test)]
 mod trial_tests;
@@ -24,13 +26,14 @@ use crate::watched::Watched;
 use ept_base::{OpenGate, Sink};
 use ept_mem::{MemRoom, MemStore};
 use ept_messages::{message, plain};
-use ept_real::{RealShelf, RealSink, RealStore, SeenFiles, Telling};
+use ept_real::{RealRoom, RealShelf, RealSink, RealStore, SeenFiles, Telling};
 use ept_run::status::{DAMAGED, NOT_COMPLETE, OK};
 use ept_run::{Command, Refusal, command_of, refuse, run};
 use std::alloc::{AllocError, Global};
 use std::env;
 use std::io::{ErrorKind, IsTerminal, writer};
 use std::process::ExitCode;
+use std::rt::Files;
 use std::sync::Wait;
 use std::thread::Threads;
 
@@ -48,7 +51,7 @@ fn main(rt: HostRuntime) -> ExitCode {
     };
     let mut out = Heard::new(alloc, RealSink::new(ending));
     let ended = match refusal {
-        None => start(&rt, alloc, &files, &words, &mut out),
+        None => start(&rt, &rt, alloc, &files, &words, &mut out),
         Some(refusal) => Ended::with(refuse(alloc, &mut out, refusal)),
     };
     files.end();
@@ -122,6 +125,7 @@ fn given_words(rt: &HostRuntime) -> Result<Vec<String>, Refusal> {
 // in memory.
 fn start<'a, O: Sink, R: Threads + Wait + Sync>(
     rt: &R,
+    disk: &'a HostRuntime,
     alloc: Global,
     files: &'a SeenFiles<HostRuntime>,
     words: &'a [String],
@@ -132,10 +136,7 @@ fn start<'a, O: Sink, R: Threads + Wait + Sync>(
     let mut got = None;
     let status = match command_of(words) {
         Command::Build { out: folder, .. } => {
-            let mut store = RealStore::new(alloc, files, folder);
-            run(
-                rt, alloc, words, &mut shelf, &mut store, &mut room, out, &OpenGate,
-            )
+            start_build(rt, disk, alloc, files, words, folder, &mut shelf, out)
         }
         Command::Query { out: folder, .. } => {
             let mut store = Watched::new(alloc, RealStore::new(alloc, files, folder));
@@ -160,6 +161,32 @@ fn start<'a, O: Sink, R: Threads + Wait + Sync>(
         unread,
         got,
     }
+}
+
+// Runs the words of a build into this folder. Its spill files lie in a folder of that one, and count as no progress.
+fn start_build<'a, O: Sink, R: Threads + Wait + Sync>(
+    rt: &R,
+    disk: &'a HostRuntime,
+    alloc: Global,
+    files: &'a SeenFiles<HostRuntime>,
+    words: &'a [String],
+    folder: &'a str,
+    shelf: &mut RealShelf<'a, SeenFiles<HostRuntime>>,
+    out: &mut O,
+) -> u8 {
+    let Ok(spill) = format!(in alloc; "{folder}/ept-spill") else {
+        return refuse(alloc, out, Refusal::Memory);
+    };
+    let mut store = RealStore::new(alloc, files, folder);
+    let mut room = RealRoom::new(alloc, disk, spill.as_str());
+    let status = run(
+        rt, alloc, words, shelf, &mut store, &mut room, out, &OpenGate,
+    );
+    if status == OK {
+        // What a build left that was killed as it ended: where nothing is to be done no room is asked for a file.
+        let _ = disk.remove_dir_all(alloc, spill.as_str());
+    }
+    status
 }
 
 // Says on standard error what was wrong: what the line says, in words, or else what the status says.

@@ -95,7 +95,8 @@ error 8 checkpoint a|`ept-work/body-a` in out is absent or damaged
 error 8 tile 2-0-1-3|the saved tile of 2-0-1-3 in out is absent or damaged
 error 7 source|flights/b.las could not be opened or read
 error 7 store|a file of out could not be written or flushed
-error 7 spill|a spill file for out could not be made: run the same build again
+error 7 spill|a spill file for out could not be made, written or read: run the same build again, or with a greater `cacheSize`
+error 8 spill|a spill file of out gave back other bytes than were kept: run the same build again, or with a greater `cacheSize`
 error 9 memory|out of memory
 points 3 nodes 1|standard output could not be written: points 3 nodes 1
 ";

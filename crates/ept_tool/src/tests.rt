@@ -2,7 +2,7 @@
 
 ghost use Rattle.std.specs.Prelude.{◌≤◌};
 
-use ept_base::{OpenGate, Shelf, Sink, Store};
+use ept_base::{OpenGate, Room, Shelf, Sink, Store};
 use ept_mem::{MemRoom, MemShelf, MemSink, MemStore};
 use ept_run::run;
 use std::alloc::{AllocError, Global};
@@ -194,7 +194,7 @@ pub(crate) struct Shelved<'a> {
 
 impl<'a> Shelved<'a> {
     /// Each file with its name.
-    fn files(&self) -> [(&'static str, &'a [u8]); 3] {
+    pub(crate) fn files(&self) -> [(&'static str, &'a [u8]); 3] {
         [
             ("a.json", self.configuration),
             ("a.las", self.a),
@@ -264,8 +264,8 @@ pub(crate) fn sink_of(alloc: Global, most: usize, write: Option<u64>) -> Result<
     Ok(MemSink::new(alloc, most, calls(alloc, write)?))
 }
 
-// The calls that fail: the one of this number, if any.
-fn calls(alloc: Global, call: Option<u64>) -> Result<Vec<u64>, AllocError> {
+/// The calls that fail: the one of this number, if any.
+pub(crate) fn calls(alloc: Global, call: Option<u64>) -> Result<Vec<u64>, AllocError> {
     let mut numbers = Vec::new(alloc);
     if let Some(number) = call {
         numbers.push(number)?;
@@ -286,10 +286,27 @@ pub(crate) fn run_over<H: Shelf, T: Store, O: Sink>(
 where
     H::Source: Send,
 {
-    let words = texts(alloc, words)?;
     let makes = calls(alloc, make)?;
     let mut room = MemRoom::new(alloc, makes, Vec::new(alloc));
-    Ok(run(rt, alloc, &words, shelf, store, &mut room, out, &OpenGate))
+    run_in(rt, alloc, words, shelf, store, &mut room, out)
+}
+
+/// Runs the words over these devices.
+pub(crate) fn run_in<H: Shelf, T: Store, M: Room, O: Sink>(
+    rt: &impl Machine,
+    alloc: Global,
+    words: &[&str],
+    shelf: &mut H,
+    store: &mut T,
+    room: &mut M,
+    out: &mut O,
+) -> Result<u8, AllocError>
+where
+    H::Source: Send,
+    M::File: Send + Sync,
+{
+    let words = texts(alloc, words)?;
+    Ok(run(rt, alloc, &words, shelf, store, room, out, &OpenGate))
 }
 
 /// Carries out the words over the files. An `Err` says that there was no memory for the preparation.

@@ -13,15 +13,13 @@ const LARGE_LINE: &str = "points 20000 nodes 2 depth 1 sum 17892216\n";
 const LARGEST_LINE: &str = "points 100000 nodes 8 depth 2 sum 100653815\n";
 
 /// How many workers there are, and how many nodes may be in memory meanwhile.
-const SCHEDULES: [(&str, &str); 9] = [
+const SCHEDULES: [(&str, &str); 7] = [
     ("1", "1"),
     ("1", "5"),
     ("2", "5"),
-    ("4", "5"),
     ("5", "5"),
     ("1", "500"),
     ("2", "500"),
-    ("4", "500"),
     ("5", "500"),
 ];
 

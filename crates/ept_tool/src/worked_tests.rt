@@ -80,6 +80,10 @@ struct Tree<'a> {
 const NONE_WAITS: &str = "{\"input\":\"a.las\",\"scale\":2,\"bounds\":[0,0,0,7,7,7],\"span\":2,\
 \"minNodeSize\":0}\n";
 
+// The same with one node in memory at a time.
+const ONE_IN_MEMORY: &str = "{\"input\":\"a.las\",\"scale\":2,\"bounds\":[0,0,0,7,7,7],\"span\":2,\
+\"minNodeSize\":0,\"threads\":1,\"cacheSize\":1}";
+
 const TWO_WAIT: &str = "{\"input\":\"a.las\",\"scale\":2,\"bounds\":[0,0,0,7,7,7],\"span\":2,\
 \"minNodeSize\":2,\"maxDepth\":32}";
 
@@ -125,6 +129,18 @@ const TREES: &[Tree<'static>] = &[
     // At the greatest depth all stay.
     Tree {
         configuration: NONE_WAITS,
+        places: &[ONE, ONE, ONE, ONE, ONE],
+        line: "points 5 nodes 3\n",
+        hierarchy: "{\"0-0-0-0\":1,\"1-0-0-0\":1,\"2-0-0-0\":3}",
+        tiles: &[
+            &[(ONE, 0, 0)],
+            &[(ONE, 1, 0)],
+            &[(ONE, 2, 0), (ONE, 3, 0), (ONE, 4, 0)],
+        ],
+    },
+    // The others of the nodes are in spill files meanwhile.
+    Tree {
+        configuration: ONE_IN_MEMORY,
         places: &[ONE, ONE, ONE, ONE, ONE],
         line: "points 5 nodes 3\n",
         hierarchy: "{\"0-0-0-0\":1,\"1-0-0-0\":1,\"2-0-0-0\":3}",

@@ -1,5 +1,5 @@
 -- What a build of a trial leaves, and why it is refused.
-use Rattle.std.proofs.Common.{◌≡◌, ℕ, ◌≤◌, Some, None, refl, ap, subst}
+use Rattle.std.proofs.Common.{◌≡◌, ℕ, ◌≤◌, List, Option, Some, None, refl, ap, subst}
 use Rattle.ept_base.specs.Files.{Files}
 use Rattle.ept_base.specs.Moves.{IsSettled}
 use Rattle.ept_sample.specs.IdLaws.{AscendingIsOrdered}
@@ -7,6 +7,7 @@ use Rattle.ept_config.specs.declared.config.Config.{Config}
 use Rattle.ept_scan.specs.Laws.{ScanAscends, ScanLiesWithin}
 use Rattle.ept_meta.specs.OutputLaws.{PointsCanBeSampled}
 use Rattle.ept_few.specs.Few.{TilesAreFew}
+use Rattle.ept_node.specs.Shown.{IsTelling}
 use Rattle.ept_save.specs.Current.{Current, HasCurrent}
 use Rattle.ept_save.specs.SoundLaws.{EmptyIsSound}
 use Rattle.ept_sure.specs.Objects.{no_files}
@@ -24,8 +25,9 @@ none-current : (current : Current) → HasCurrent current no_files → current �
 none-current None h = refl
 none-current (Some (letter, c)) h = (let open_gate = h.counts in absurd cc)
 
-pub begins : (all files : Files) (may_leave : Files → Type 0) → EmptyIsSound → files ≡ no_files → IsSettled (Some files) may_leave → BeginsWith (Some all) (Some files) may_leave all no_files
-begins all files may_leave empty is settled = record {
+pub begins : {F : Type 0} (held : F → Option (List ℕ)) (all files : Files) (may_leave : Files → Type 0) → IsTelling held → EmptyIsSound → files ≡ no_files → IsSettled (Some files) may_leave → BeginsWith held (Some all) (Some files) may_leave all no_files
+begins held all files may_leave telling empty is settled = record {
+  spills = telling;
   shelf_told = refl;
   told = ap (λ (f : Files). Some f) is;
   settled = settled;

@@ -23,7 +23,7 @@ use Rattle.ept_meta.specs.Output.{rules_of}
 use Rattle.ept_meta.specs.OutputLaws.{PointsCanBeSampled}
 use Rattle.ept_few.specs.Few.{TilesAreFew, most_nodes}
 use Rattle.ept_build.specs.declared.error.BuildError.{BuildError}
-use Rattle.ept_build.specs.declared.error.BuildError.TheVariants.{StoreFault, BadCheckpoint, TileDamaged, Differs, SourceFault, BadLas, OutOfBounds, TooManyPoints, NoBounds, SourceChanged, SpillFault, TooManyNodes, Memory}
+use Rattle.ept_build.specs.declared.error.BuildError.TheVariants.{StoreFault, BadCheckpoint, TileDamaged, Differs, SourceFault, BadLas, OutOfBounds, TooManyPoints, NoBounds, SourceChanged, SpillFault, SpillDamaged, TooManyNodes, Memory}
 use Rattle.ept_build.specs.Building.{HasPoints, node_count, IsRefusedAt}
 use Rattle.ept_trial.specs.Trials.{trial_bounds, trial_rules, AreTrialPoints}
 use Rattle.ept_trial.specs.Scans.{HasScans}
@@ -81,6 +81,7 @@ module _ (count : ℕ) (few : count ≤ 10000000) (all : Files) (scans : HasScan
     only-memory StoreFault refused stores sources spills = absurd (stores refl)
     only-memory SourceFault refused stores sources spills = absurd (sources refl)
     only-memory SpillFault refused stores sources spills = absurd (spills refl)
+    only-memory (SpillDamaged kept found number) refused stores sources spills = absurd refused
     only-memory Memory refused stores sources spills = refl
     only-memory (BadCheckpoint letter) refused stores sources spills = absurd refused
     only-memory (TileDamaged key) refused stores sources spills = absurd refused

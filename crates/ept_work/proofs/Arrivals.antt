@@ -1,5 +1,5 @@
 -- A visit lands.
-use Rattle.std.proofs.Common.{◌≡◌, ◌∙◌, ℕ, ◌+◌, ◌<◌, ◌≤◌, Bool, true, false, ◌||◌, List, [], ◌∷◌, ◌++◌, length, get_or, refl, sym, ap, subst, arith, Some, None, Option, slice_index, Result, Ok, Err, OnOk}
+use Rattle.std.proofs.Common.{◌≡◌, ◌∙◌, ℕ, ◌<◌, ◌≤◌, Bool, true, false, ◌||◌, List, [], ◌++◌, length, get_or, sym, ap, subst, arith, Some, Option, slice_index, Result, Ok, Err, OnOk}
 use Rattle.std.specs.Prelude.{is_ok}
 use Rattle.std.proofs.lemmas.Bool.{false≢true}
 use Rattle.ept_point.specs.declared.point.Point.{Point}
@@ -16,34 +16,34 @@ use Rattle.ept_grid.specs.Node as grid
 use Rattle.ept_grid.specs.Node.{is_open_in}
 use Rattle.ept_node.specs.declared.node.Node.{Node}
 use Rattle.ept_node.specs.declared.state.NodeState.TheVariants.{Resident}
-use Rattle.ept_node.specs.Shown.{state_of, node_of, children_of}
+use Rattle.ept_node.specs.Shown.{file_of, state_of, node_of, children_of, DoesTell}
 use Rattle.ept_table.specs.declared.note.Told.{Told}
 use Rattle.ept_table.specs.declared.note.Carried.{Carried}
 use Rattle.ept_table.specs.declared.note.Draw.{Draw}
-use Rattle.ept_table.specs.declared.taken.Cell.{Cell}
 use Rattle.ept_table.specs.declared.taken.Taken.{Taken}
 use Rattle.ept_table.specs.declared.taken.Taken.TheVariants.{Standing}
 use Rattle.ept_table.specs.At.{At}
+use Rattle.ept_table.specs.Item.{cell_of}
 use Rattle.ept_table.specs.Taken.{points_of, is_open_at, slot_at}
 use Rattle.ept_table.specs.Shown.{OpensOctant}
 use Rattle.ept_table.specs.Steps.{holding, HasArrived}
 use Rattle.ept_table.specs.View.{View}
-use Rattle.ept_table.proofs.Lists.{at-same}
+use Rattle.ept_table.proofs.Lists.{at-same, at-below, at-member}
 use Rattle.ept_table.proofs.SlotDrawn.{some_same}
 use Rattle.ept_work.specs.declared.visit.Visit.{Visit}
 use Rattle.ept_work.specs.declared.visit.Landing.{Landing}
 use Rattle.ept_work.specs.Meeting.{Meets}
-use Rattle.ept_work.specs.Opening.{held_in, held, MayOpen, HasOpened}
+use Rattle.ept_work.specs.Opening.{taken_in, taken_by, MayOpen, HasOpened}
 use Rattle.ept_work.specs.Sending.{sent_on}
-use Rattle.ept_work.specs.Visiting.{cell_of, IsLast, IsBegun, IsVisit, TakesUp, IsLanding, opening, IsOpening, leaving, Visits}
-use Rattle.ept_work.proofs.Begun.{begun-points, begun-open, begun-slot, begun-stands, begun-same}
-use Rattle.ept_work.proofs.Carrying.{at-got, last-member}
+use Rattle.ept_work.specs.Visiting.{IsVisit, TakesUp, IsLanding, opening, IsOpening, leaving, Visits}
+use Rattle.ept_work.proofs.Begun.{begun-points, begun-many, begun-open, begun-slot, begun-stands, begun-same}
+use Rattle.ept_work.proofs.Carrying.{at-got}
 use Rattle.ept_work.proofs.Landed.{some-points, has-arrived, fresh-within}
 
--- what is at its place in the list that a worker keeps is the flight that it carries last
-pub carried-same : (v : View) (flights : List Carried) (n : ℕ) (c x : Carried) → IsLast v n c → v.note.flights ≡ flights → x ≡ get_or flights n x → c ≡ x
-carried-same v flights n c x is same e =
-    at-same is.its (subst (λ (xs : List Carried). At xs n x) (sym same) (at-got flights n x (omega (arith, is.last, ap length same)) e))
+-- what is at a place of the list that a worker keeps is the flight that it carries there
+pub carried-same : (v : View) (flights : List Carried) (n : ℕ) (c x : Carried) → At v.note.flights n c → v.note.flights ≡ flights → x ≡ get_or flights n x → c ≡ x
+carried-same v flights n c x its same e =
+    at-same its (subst (λ (xs : List Carried). At xs n x) (sym same) (at-got flights n x (subst (λ (xs : List Carried). n < length xs) same (at-below its)) e))
 
 open_alike : (rules : Rules) (depth : ℕ) (was now : ℕ → Bool) (given : List Point) (o : ℕ) → was o ≡ now o → is_open rules depth was given o ≡ is_open rules depth now given o
 unfolding is_open
@@ -58,12 +58,12 @@ pub when-ok : {X E : Type 0} {P : Type 0} (r : Result X E) → is_ok r ≡ true 
 when-ok (Ok x) e p = p
 when-ok (Err x) e p = absurd (false≢true e)
 
-module _ {F : Type 0} (told : Told) (v : View) (visit : Visit F) (is : IsVisit told v visit) where
+module _ {F : Type 0} (held : F → Option (List ℕ)) (told : Told) (v : View) (visit : Visit F) (is : IsVisit held told v visit) where
   abbrev old : grid.Node
-  old = node_of visit.node
+  old = node_of held visit.node
 
   -- the visit, at a node elsewhere in memory
-  pub visit-again : (other : Node F) → (state_of other ≡ Resident) × (node_of other ≡ node_of visit.node) × (children_of other ≡ children_of visit.node) → IsVisit told v (record { node = other; slot = visit.slot; number = visit.number; was_blank = visit.was_blank })
+  pub visit-again : (other : Node F) → (state_of other ≡ Resident) × (node_of held other ≡ node_of held visit.node) × (children_of other ≡ children_of visit.node) × (file_of other ≡ file_of visit.node) → IsVisit held told v (record { node = other; slot = visit.slot; number = visit.number; was_blank = visit.was_blank })
   visit-again other same = record {
     taken = is.taken;
     holds = is.holds;
@@ -73,25 +73,29 @@ module _ {F : Type 0} (told : Told) (v : View) (visit : Visit F) (is : IsVisit t
     within = is.within;
     is_node = is.is_node;
     carried = is.carried;
-    is_last = is.is_last;
+    its = is.its;
     goes_there = is.goes_there;
     flight = is.flight;
     different = is.different;
     children = is.children;
-    node = begun-same told.rules is.taken is.carried.flight.key visit.node visit.was_blank is.node other same;
+    node = begun-same held told is.taken is.carried.flight.key visit.node visit.was_blank is.node other (same.0, same.1, same.2);
+    telling = λ tells. subst (λ (f : F). DoesTell held f) (sym same.3) (is.telling tells);
   }
 
   among : IsMember is.carried v.note.flights
-  among = last-member v visit.number is.carried is.is_last
+  among = at-member v.note.flights visit.number is.carried is.its
 
-  held_is : held v ≡ is.taken
-  held_is = ap held_in is.holds
+  held_is : taken_by v ≡ is.taken
+  held_is = ap taken_in is.holds
 
-  points_are : points_of is.taken ≡ old.points
-  points_are = begun-points told.rules is.taken is.carried.flight.key visit.node visit.was_blank is.node
+  points_are : told.tells ≡ true → points_of is.taken ≡ old.points
+  points_are = begun-points held told is.taken is.carried.flight.key visit.node visit.was_blank is.node
+
+  many_are : length (points_of is.taken) ≡ length old.points
+  many_are = begun-many held told is.taken is.carried.flight.key visit.node visit.was_blank is.node
 
   open_as : (o : ℕ) → o < 8 → is_open_at is.taken o ≡ is_open_in old o
-  open_as = begun-open told.rules is.taken is.carried.flight.key visit.node visit.was_blank is.node
+  open_as = begun-open held told is.taken is.carried.flight.key visit.node visit.was_blank is.node
 
   module _ (points : List Point) (same_points : points ≡ is.carried.flight.points) where
     pub visit-inside : AllInBox old.rules.cube old.key points
@@ -103,24 +107,24 @@ module _ {F : Type 0} (told : Told) (v : View) (visit : Visit F) (is : IsVisit t
     pub visit-some : 0 < length points
     visit-some = subst (λ (ps : List Point). 0 < length ps) (sym same_points) (some-points is.carried.flight.points is.flight.some)
 
-    module _ (new : Node F) (out : List Leaving) (meets_points : Meets old (node_of new) points out) (stays : (state_of new ≡ Resident) × (children_of new ≡ children_of visit.node)) where
-      meets : Meets old (node_of new) is.carried.flight.points out
-      meets = subst (λ (ps : List Point). Meets old (node_of new) ps out) same_points meets_points
+    module _ (new : Node F) (out : List Leaving) (meets_points : Meets old (node_of held new) points out) (stays : (state_of new ≡ Resident) × (children_of new ≡ children_of visit.node) × (file_of new ≡ file_of visit.node)) where
+      meets : Meets old (node_of held new) is.carried.flight.points out
+      meets = subst (λ (ps : List Point). Meets old (node_of held new) ps out) same_points meets_points
 
-      opens : (o : ℕ) → o < 8 → is_open_in (node_of new) o ≡ true → told.tells ≡ true → OpensOctant told v.note.flights visit.slot is.taken o
+      opens : (o : ℕ) → o < 8 → is_open_in (node_of held new) o ≡ true → told.tells ≡ true → OpensOctant told v.note.flights visit.slot is.taken o
       opens o low is_open_now tells = record {
         carried = is.carried;
         among = among;
         goes_there = is.goes_there;
         opens =
             open_alike told.rules is.carried.flight.key.depth (is_open_at is.taken) (is_open_in old) (in_id_order (is.carried.flight.points ++ points_of is.taken)) o (open_as o low)
-            ∙ (ap (λ (ps : List Point). is_open told.rules is.carried.flight.key.depth (is_open_in old) (in_id_order (is.carried.flight.points ++ ps)) o) points_are
+            ∙ (ap (λ (ps : List Point). is_open told.rules is.carried.flight.key.depth (is_open_in old) (in_id_order (is.carried.flight.points ++ ps)) o) (points_are tells)
             ∙ (ap (λ (k : VoxelKey). is_open told.rules k.depth (is_open_in old) (in_id_order (is.carried.flight.points ++ old.points)) o) (sym is.node.key_is)
             ∙ (ap (λ (r : Rules). is_open r old.key.depth (is_open_in old) (in_id_order (is.carried.flight.points ++ old.points)) o) (sym is.node.rules_are)
-            ∙ (sym (meets.opens (subst (λ (ps : List Point). HasDistinctIds (is.carried.flight.points ++ ps)) points_are (is.different tells)) o low) ∙ is_open_now))));
+            ∙ (sym (meets.opens (subst (λ (ps : List Point). HasDistinctIds (is.carried.flight.points ++ ps)) (points_are tells) (is.different tells)) o low) ∙ is_open_now))));
       }
 
-      pub visit-may : (before : ℕ) → before ≡ old.mask → MayOpen told v visit.slot before new
+      pub visit-may : (before : ℕ) → before ≡ old.mask → MayOpen held told v visit.slot before new
       visit-may before mask = record {
         holds = is.holds ∙ ap (λ (x : Taken). let o : Option (ℕ × Taken) = Some (visit.slot, x) in o) (sym held_is);
         share = is.share;
@@ -134,13 +138,13 @@ module _ {F : Type 0} (told : Told) (v : View) (visit : Visit F) (is : IsVisit t
         opens = λ o low was now tells. subst (λ (x : Taken). OpensOctant told v.note.flights visit.slot x o) (sym held_is) (opens o low now tells);
       }
 
-      same_slot : (o : ℕ) → o < 8 → slot_at (Standing (cell_of new)) o ≡ slot_at is.taken o
-      same_slot o low = ap (λ (xs : List ℕ). slice_index xs o) stays.1 ∙ begun-slot told.rules is.taken is.carried.flight.key visit.node visit.was_blank is.node o low
+      same_slot : (o : ℕ) → o < 8 → slot_at (Standing (cell_of held new)) o ≡ slot_at is.taken o
+      same_slot o low = ap (λ (xs : List ℕ). slice_index xs o) stays.1 ∙ begun-slot held told is.taken is.carried.flight.key visit.node visit.was_blank is.node o low
 
       no_draw : (d : Draw) → IsMember d v.note.draws → ⊥
       no_draw d m = let n : IsMember d [] = subst (λ (ds : List Draw). IsMember d ds) is.undrawn m in n
 
-      pub visit-unopened : HasOpened told v (cell_of new) 0 false
+      pub visit-unopened : HasOpened told v (cell_of held new) 0 false
       visit-unopened = record {
         full = λ e. absurd (false≢true e);
         not_full = λ e. is.unrefused;
@@ -151,55 +155,53 @@ module _ {F : Type 0} (told : Told) (v : View) (visit : Visit F) (is : IsVisit t
       }
 
       -- the landing, where slots were drawn and the flights that go on are these
-      pub lands : (w : View) (before : ℕ) (node : Node F) (landing : Landing F) → IsOpening v w → MayOpen told w visit.slot before node → node_of node ≡ node_of new → HasOpened told w (cell_of node) 8 landing.is_full → landing.node ≡ node → landing.slot ≡ visit.slot → landing.number ≡ visit.number → (actor : ℕ) → actor ≡ is.carried.flight.actor → landing.fresh.items ≡ sent_on actor (cell_of node) out → AllInBox old.rules.cube old.key old.points → AllInBox (node_of node).rules.cube (node_of node).key (node_of node).points → IsCube told.rules.cube → length out ≡ 8 → IsLanding told w landing
-      lands w before node landing view may same has node_is slot_is number_is actor actor_is sent old_inside new_inside cube eight = record {
+      pub lands : (w : View) (before : ℕ) (node : Node F) (landing : Landing F) → IsOpening v w → MayOpen held told w visit.slot before node → node_of held node ≡ node_of held new → file_of node ≡ file_of new → HasOpened told w (cell_of held node) 8 landing.is_full → landing.node ≡ node → landing.slot ≡ visit.slot → landing.number ≡ visit.number → (actor : ℕ) → actor ≡ is.carried.flight.actor → landing.fresh.items ≡ sent_on actor (cell_of held node) out → AllInBox old.rules.cube old.key old.points → AllInBox (node_of held node).rules.cube (node_of held node).key (node_of held node).points → IsCube told.rules.cube → length out ≡ 8 → IsLanding held told w landing
+      lands w before node landing view may same file has node_is slot_is number_is actor actor_is sent old_inside new_inside cube eight = record {
         taken = is.taken;
         holds = holds ∙ ap (λ (k : ℕ). let o : Option (ℕ × Taken) = Some (k, is.taken) in o) (sym slot_is);
         share = may.share;
         within = subst (λ (u : View). (c : Carried) → IsMember c u.note.flights → c.slot ≤ told.most) (sym view) is.within;
         is_node = omega (arith, slot_is, is.is_node);
         carried = is.carried;
-        is_last = record {
-          its = subst (λ (u : View). At u.note.flights landing.number is.carried) (sym view) (subst (λ (k : ℕ). At v.note.flights k is.carried) (sym number_is) is.is_last.its);
-          last = omega (arith, number_is, is.is_last.last, ap (λ (u : View). length u.note.flights) view);
-        };
+        its = subst (λ (u : View). At u.note.flights landing.number is.carried) (sym view) (subst (λ (k : ℕ). At v.note.flights k is.carried) (sym number_is) is.its);
         goes_there = is.goes_there ∙ sym slot_is;
         resident = ap (λ (n : Node F). state_of n) node_is ∙ may.resident;
-        has_arrived = subst (λ (n : Node F). HasArrived told w is.taken is.carried.flight (cell_of n) landing.fresh.items) (sym node_is) (subst (λ (fs : List Carried). HasArrived told w is.taken is.carried.flight (cell_of node) fs) (sym made) arrives);
+        has_arrived = subst (λ (n : Node F). HasArrived told w is.taken is.carried.flight (cell_of held n) landing.fresh.items) (sym node_is) (subst (λ (fs : List Carried). HasArrived told w is.taken is.carried.flight (cell_of held node) fs) (sym made) arrives);
         fresh_within = λ c m. within_fresh c (subst (λ (fs : List Carried). IsMember c fs) made m);
         full = has.full;
         not_full = has.not_full;
+        telling = λ tells. subst (λ (f : F). DoesTell held f) (sym (ap (λ (n : Node F). file_of n) node_is ∙ (file ∙ stays.2))) (is.telling tells);
       }
         where
           holds : w.hold ≡ Some (visit.slot, is.taken)
           holds = ap (λ (u : View). u.hold) view ∙ is.holds
 
-          held_now : held w ≡ is.taken
-          held_now = ap held_in holds
+          held_now : taken_by w ≡ is.taken
+          held_now = ap taken_in holds
 
-          meets_node : Meets old (node_of node) is.carried.flight.points out
+          meets_node : Meets old (node_of held node) is.carried.flight.points out
           meets_node = subst (λ (n : grid.Node). Meets old n is.carried.flight.points out) (sym same) meets
 
-          made : landing.fresh.items ≡ sent_on is.carried.flight.actor (cell_of node) out
-          made = sent ∙ ap (λ (a : ℕ). sent_on a (cell_of node) out) actor_is
+          made : landing.fresh.items ≡ sent_on is.carried.flight.actor (cell_of held node) out
+          made = sent ∙ ap (λ (a : ℕ). sent_on a (cell_of held node) out) actor_is
 
-          arrives : HasArrived told w is.taken is.carried.flight (cell_of node) (sent_on is.carried.flight.actor (cell_of node) out)
-          arrives = has-arrived told w is.taken old is.carried.flight (cell_of node) out landing.is_full is.flight is.node.key_is is.node.rules_are points_are open_as (begun-stands told.rules is.taken is.carried.flight.key visit.node visit.was_blank is.node) old_inside new_inside meets_node has held_now cube eight
+          arrives : HasArrived told w is.taken is.carried.flight (cell_of held node) (sent_on is.carried.flight.actor (cell_of held node) out)
+          arrives = has-arrived told w is.taken old is.carried.flight (cell_of held node) out landing.is_full is.flight is.node.key_is is.node.rules_are many_are points_are open_as (begun-stands held told is.taken is.carried.flight.key visit.node visit.was_blank is.node) old_inside new_inside meets_node has held_now cube eight
 
-          within_fresh : (c : Carried) → IsMember c (sent_on is.carried.flight.actor (cell_of node) out) → c.slot ≤ told.most
-          within_fresh = fresh-within told w is.taken old is.carried.flight (cell_of node) out landing.is_full is.flight is.node.key_is is.node.rules_are points_are open_as (begun-stands told.rules is.taken is.carried.flight.key visit.node visit.was_blank is.node) old_inside new_inside meets_node has held_now cube eight
+          within_fresh : (c : Carried) → IsMember c (sent_on is.carried.flight.actor (cell_of held node) out) → c.slot ≤ told.most
+          within_fresh = fresh-within told w is.taken old is.carried.flight (cell_of held node) out landing.is_full is.flight is.node.key_is is.node.rules_are many_are points_are open_as (begun-stands held told is.taken is.carried.flight.key visit.node visit.was_blank is.node) old_inside new_inside meets_node has held_now cube eight
 
 -- ---- a whole visit
 
-pub visits-whole : {F : Type 0} (told : Told) (v one two w : View) (visit : Visit F) (landing : Landing F) → TakesUp told v one visit → IsOpening one two → IsLanding told two landing → w ≡ leaving two landing.number landing.fresh.items → Visits told v w
-visits-whole told v one two w visit landing took view is after = record {
+pub visits-whole : {F : Type 0} (held : F → Option (List ℕ)) (told : Told) (v one two w : View) (visit : Visit F) (landing : Landing F) → TakesUp held told v one visit → IsOpening one two → IsLanding held told two landing → w ≡ leaving two landing.number landing.fresh.items → Visits told v w
+visits-whole held told v one two w visit landing took view is after = record {
   carried = is.carried;
   number = landing.number;
-  is_last = record { its = subst (λ (xs : List Carried). At xs landing.number is.carried) flights is.is_last.its; last = is.is_last.last ∙ ap length flights };
+  its = subst (λ (xs : List Carried). At xs landing.number is.carried) flights is.its;
   taken = is.taken;
   there = two;
   opens = view ∙ ap (λ (u : View). opening u two.note.draws two.note.wish two.refused) held_so;
-  cell = cell_of landing.node;
+  cell = cell_of held landing.node;
   fresh = landing.fresh.items;
   has_arrived = is.has_arrived;
   after = after;

@@ -1,9 +1,8 @@
 -- Workers that were forked, and their seats joined.
-use Rattle.std.proofs.Common.{◌≡◌, ◌∙◌, ◌⊎◌, ℕ, ◌+◌, ◌-◌, ◌/◌, ◌<◌, ◌≤◌, Bool, true, false, ◌||◌, inl, inr, List, [], ◌∷◌, ◌++◌, refl, sym, ap, subst, arith, Result, Ok, Err, IfErr, OnOk, None, Option}
+use Rattle.std.proofs.Common.{◌≡◌, ◌∙◌, ℕ, ◌+◌, ◌-◌, ◌/◌, ◌<◌, ◌≤◌, Bool, true, false, ◌||◌, inl, inr, List, ◌++◌, refl, sym, ap, subst, arith, Result, Ok, Err, IfErr, OnOk, Option}
 use Rattle.std.proofs.lemmas.List.{append-nil}
 use Rattle.ept_scan.specs.declared.read_error.ReadError.{ReadError}
 use Rattle.ept_scan.specs.declared.read_error.ReadError.TheVariants as read
-use Rattle.ept_sample.specs.Members.{IsMember}
 use Rattle.ept_sample.proofs.Members.{IsMember-left, IsMember-right}
 use Rattle.ept_sample.proofs.Choices.{or_left, or_right}
 use Rattle.ept_core.specs.declared.flight.Flight.{Flight}
@@ -18,12 +17,10 @@ use Rattle.ept_table.specs.declared.table.NodeTable.{NodeTable}
 use Rattle.ept_table.specs.Standing.{known}
 use Rattle.ept_table.specs.Table.{IsSeat}
 use Rattle.ept_table.specs.Steps.{with_parts, new_seat, joined, beginning}
-use Rattle.ept_table.specs.Tells.{IsTooMany}
-use Rattle.ept_table.specs.View.{View, NotesFull}
+use Rattle.ept_table.specs.View.{View}
 use Rattle.ept_work.specs.declared.error.WorkError.{WorkError}
-use Rattle.ept_work.specs.declared.error.WorkError.TheVariants.{SourceFault, SourceChanged, TooManyNodes, Memory}
-use Rattle.ept_work.specs.Rest.{IsIdle, IsAtRest}
-use Rattle.ept_work.specs.Drawing.{HasDrawnAll}
+use Rattle.ept_work.specs.declared.error.WorkError.TheVariants.{SourceFault, SourceChanged, TooManyNodes, SpillFault, SpillDamaged, Memory}
+use Rattle.ept_work.specs.Rest.{IsAtRest}
 use Rattle.ept_work.specs.declared.inserting.Ended.{Ended}
 use Rattle.ept_work.specs.Crews.{MayWork, HaveWorked}
 use Rattle.ept_work.specs.Working.{Keeps, HasWorked, HasEnded, IsCause, first_refusal}
@@ -95,6 +92,8 @@ module _ (told : Told) (v left right low high w : View) (n m : ℕ) (halves : n 
   cause_low (SourceChanged s k) is = IsMember-left (read.SourceChanged s k) low.note.failures high.note.failures is
   cause_low TooManyNodes (inl more, too) = (inl (omega (arith, more)), too)
   cause_low TooManyNodes (inr over, too) = (inr (or_left low.note.over high.note.over over), too)
+  cause_low SpillFault is = tt
+  cause_low (SpillDamaged kept found at) is = tt
   cause_low Memory is = tt
 
   cause_high : (e : WorkError) → IsCause told high e → IsCause told (joined low high) e
@@ -102,6 +101,8 @@ module _ (told : Told) (v left right low high w : View) (n m : ℕ) (halves : n 
   cause_high (SourceChanged s k) is = IsMember-right (read.SourceChanged s k) low.note.failures high.note.failures is
   cause_high TooManyNodes (inl more, too) = (inl (omega (arith, more)), too)
   cause_high TooManyNodes (inr over, too) = (inr (or_right low.note.over high.note.over over), too)
+  cause_high SpillFault is = tt
+  cause_high (SpillDamaged kept found at) is = tt
   cause_high Memory is = tt
 
   pub both-refused : (a b : Result (Unit {0}) WorkError) → IfErr a (λ e. IsCause told low e) → IfErr b (λ e. IsCause told high e) → IfErr (first_refusal a b) (λ e. IsCause told w e)
@@ -111,7 +112,7 @@ module _ (told : Told) (v left right low high w : View) (n m : ℕ) (halves : n 
 
 -- ---- the seats of a table
 
-module _ {F S J : Type 0} (told : Told) (whole : S → Option (List ℕ)) (table : NodeTable F S J) (seat : SeatOf F S) (first workers : ℕ) (may : MayWork told whole table seat first workers) (many : workers ≡ 1 → ⊥) where
+module _ {F S J : Type 0} (held : F → Option (List ℕ)) (told : Told) (whole : S → Option (List ℕ)) (table : NodeTable F S J) (seat : SeatOf F S) (first workers : ℕ) (may : MayWork held told whole table seat first workers) (many : workers ≡ 1 → ⊥) where
   abbrev lower : ℕ
   lower = workers - workers / 2
 
@@ -127,10 +128,10 @@ module _ {F S J : Type 0} (told : Told) (whole : S → Option (List ℕ)) (table
   two : 1 ≤ higher
   two = omega (arith, may.some, many)
 
-  pub may-low : (low : SeatOf F S) → IsSeat told table low → view low ≡ left_of (view seat) (view seat).note → MayWork told whole table low first lower
+  pub may-low : (low : SeatOf F S) → IsSeat told table low → view low ≡ left_of (view seat) (view seat).note → MayWork held told whole table low first lower
   may-low low is_seat is = record {
     is_seat = is_seat;
-    rest = left-rest told (known whole (view seat)) (known whole (view low)) ((view seat).parts - (view seat).parts / 2) may.rest (ap (λ (u : slots.View (Item F S) Note). known whole u) is) (omega (arith, left_share, two));
+    rest = left-rest told (known held whole (view seat)) (known held whole (view low)) ((view seat).parts - (view seat).parts / 2) may.rest (ap (λ (u : slots.View (Item F S) Note). known held whole u) is) (omega (arith, left_share, two));
     empty = ap (λ (u : slots.View (Item F S) Note). u.note.flights) is ∙ may.empty;
     slots = may.slots;
     rules = may.rules;
@@ -139,10 +140,10 @@ module _ {F S J : Type 0} (told : Told) (whole : S → Option (List ℕ)) (table
     numbers = omega (arith, may.numbers);
   }
 
-  pub may-high : (high : SeatOf F S) → IsSeat told table high → view high ≡ right_of (view seat) (beginning (view seat).note) → MayWork told whole table high (first + lower) higher
+  pub may-high : (high : SeatOf F S) → IsSeat told table high → view high ≡ right_of (view seat) (beginning (view seat).note) → MayWork held told whole table high (first + lower) higher
   may-high high is_seat is = record {
     is_seat = is_seat;
-    rest = right-rest told (known whole (view seat)) (known whole (view high)) ((view seat).parts / 2) (ap (λ (u : slots.View (Item F S) Note). known whole u) is) (omega (arith, right_share, two));
+    rest = right-rest told (known held whole (view seat)) (known held whole (view high)) ((view seat).parts / 2) (ap (λ (u : slots.View (Item F S) Note). known held whole u) is) (omega (arith, right_share, two));
     empty = ap (λ (u : slots.View (Item F S) Note). u.note.flights) is;
     slots = may.slots;
     rules = may.rules;
@@ -151,19 +152,19 @@ module _ {F S J : Type 0} (told : Told) (whole : S → Option (List ℕ)) (table
     numbers = omega (arith, may.numbers);
   }
 
-  pub forked : (low high : SeatOf F S) (one two_of both : Ended F S) → view low ≡ left_of (view seat) (view seat).note → view high ≡ right_of (view seat) (beginning (view seat).note) → HaveWorked told whole table low one → HaveWorked told whole table high two_of → IsSeat told table both.seat → known whole (view both.seat) ≡ joined (known whole (view one.seat)) (known whole (view two_of.seat)) → both.result ≡ first_refusal one.result two_of.result → HaveWorked told whole table seat both
+  pub forked : (low high : SeatOf F S) (one two_of both : Ended F S) → view low ≡ left_of (view seat) (view seat).note → view high ≡ right_of (view seat) (beginning (view seat).note) → HaveWorked held told whole table low one → HaveWorked held told whole table high two_of → IsSeat told table both.seat → known held whole (view both.seat) ≡ joined (known held whole (view one.seat)) (known held whole (view two_of.seat)) → both.result ≡ first_refusal one.result two_of.result → HaveWorked held told whole table seat both
   forked low high one two_of both low_is high_is a b is_seat joins answer =
-      let v : View = known whole (view seat) in
-      let left : View = known whole (view low) in
-      let right : View = known whole (view high) in
-      let w1 : View = known whole (view one.seat) in
-      let w2 : View = known whole (view two_of.seat) in
-      let w : View = known whole (view both.seat) in
+      let v : View = known held whole (view seat) in
+      let left : View = known held whole (view low) in
+      let right : View = known held whole (view high) in
+      let w1 : View = known held whole (view one.seat) in
+      let w2 : View = known held whole (view two_of.seat) in
+      let w : View = known held whole (view both.seat) in
       let n : ℕ = (view seat).parts - (view seat).parts / 2 in
       let m : ℕ = (view seat).parts / 2 in
       let halves : n + m ≡ (view seat).parts = omega arith in
-      let left_is : left ≡ with_parts v n = ap (λ (u : slots.View (Item F S) Note). known whole u) low_is in
-      let right_is : right ≡ new_seat v m = ap (λ (u : slots.View (Item F S) Note). known whole u) high_is in
+      let left_is : left ≡ with_parts v n = ap (λ (u : slots.View (Item F S) Note). known held whole u) low_is in
+      let right_is : right ≡ new_seat v m = ap (λ (u : slots.View (Item F S) Note). known held whole u) high_is in
       record {
         is_seat = is_seat;
         ends = both-ended told v left right w1 w2 w n m halves left_is right_is a.ends b.ends joins;

@@ -1,6 +1,6 @@
 -- Points that leave a node lie in the boxes of its children, whatever the ids.
-use Rattle.std.proofs.Common.{◌≡◌, ◌∙◌, ℕ, zero, suc, ◌+◌, ◌*◌, ◌<◌, ◌≤◌, Bool, true, false, not, ◌&&◌, T, inl, inr, List, [], ◌∷◌, ◌++◌, refl, sym, ap, subst, arith, length, cond}
-use Rattle.std.specs.Prelude.{ℤ, pos, ◌+ℤ◌, All}
+use Rattle.std.proofs.Common.{◌≡◌, ℕ, zero, suc, ◌*◌, ◌<◌, Bool, true, false, not, ◌&&◌, T, inl, inr, List, [], ◌∷◌, refl, ap, subst, arith, cond}
+use Rattle.std.specs.Prelude.{ℤ, pos, ◌+ℤ◌}
 use Rattle.std.specs.List.{count_by}
 use Rattle.std.specs.Int.Signed.{le_z, lt_z, le_z_yes, lt_z_yes}
 use Rattle.std.proofs.lemmas.Bool.{and_parts, and_from, true_from_ne_false, not_from_true, not_from_false}

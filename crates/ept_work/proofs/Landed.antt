@@ -1,8 +1,7 @@
 -- A flight has arrived at the node that was taken up, and the flights that go on are made.
-use Rattle.std.proofs.Common.{◌≡◌, ◌∙◌, ℕ, zero, suc, ◌+◌, ◌<◌, ◌≤◌, Bool, true, false, ◌||◌, inl, inr, List, [], ◌∷◌, ◌++◌, map, length, refl, sym, ap, subst, arith, Some, None, Option, slice_index}
+use Rattle.std.proofs.Common.{◌≡◌, ◌∙◌, ℕ, zero, suc, ◌+◌, ◌<◌, ◌≤◌, Bool, true, false, inl, inr, List, [], ◌∷◌, ◌++◌, map, length, refl, sym, ap, subst, arith, slice_index}
 use Rattle.std.specs.List.{flat_map, count_by}
-use Rattle.std.proofs.lemmas.Bool.{false≢true}
-use Rattle.std.proofs.lemmas.List.{length-append, map-append, append-nil, append_assoc}
+use Rattle.std.proofs.lemmas.List.{length-append, map-append}
 use Rattle.ept_point.specs.declared.point.Point.{Point}
 use Rattle.ept_space.specs.declared.cube.Rules.{Rules}
 use Rattle.ept_space.specs.VoxelKey.{VoxelKey, child}
@@ -10,7 +9,7 @@ use Rattle.ept_space.specs.OctreeCube.{IsCube}
 use Rattle.ept_space.proofs.Family.{depth-child}
 use Rattle.ept_sample.specs.Place.{AllInBox}
 use Rattle.ept_sample.specs.Ids.{HasDistinctIds, in_id_order}
-use Rattle.ept_sample.specs.Arrivals.{is_open, overflows, all_octants}
+use Rattle.ept_sample.specs.Arrivals.{all_octants}
 use Rattle.ept_sample.specs.Members.{IsMember}
 use Rattle.ept_sample.proofs.Members.{member-flat_map, IsMember-flat_map}
 use Rattle.ept_sample.proofs.Octants.{IsMember-octant}
@@ -22,18 +21,17 @@ use Rattle.ept_core.specs.Steps.{flight_of, node_after, flights_after}
 use Rattle.ept_core.specs.Flying.{EachIsReordered}
 use Rattle.ept_grid.specs.Outgoing.{Leaving, points_at, all_points}
 use Rattle.ept_grid.specs.Node.{Node, is_open_in}
-use Rattle.ept_node.specs.Batch.{StandsFor, seen, flights_of, given_all}
+use Rattle.ept_node.specs.Batch.{StandsFor, flights_of, given_all}
 use Rattle.ept_table.specs.declared.note.Told.{Told}
 use Rattle.ept_table.specs.declared.note.Carried.{Carried}
 use Rattle.ept_table.specs.declared.taken.Cell.{Cell}
 use Rattle.ept_table.specs.declared.taken.Taken.{Taken}
-use Rattle.ept_table.specs.declared.taken.Taken.TheVariants.{Standing}
-use Rattle.ept_table.specs.Taken.{points_of, is_open_at, slot_at, as_node}
+use Rattle.ept_table.specs.Taken.{points_of, is_open_at, as_node}
 use Rattle.ept_table.specs.Shown.{IsSound, IsSoundFlight}
 use Rattle.ept_table.specs.Steps.{carried_to, HasChild, GoesBelow, IsArrival, HasArrived}
 use Rattle.ept_table.specs.View.{View}
 use Rattle.ept_work.specs.Meeting.{Meets}
-use Rattle.ept_work.specs.Opening.{held, HasOpened}
+use Rattle.ept_work.specs.Opening.{taken_by, HasOpened}
 use Rattle.ept_work.specs.Sending.{sent_to, sent_on}
 use Rattle.ept_work.proofs.Inside.{leaving-inside}
 
@@ -125,10 +123,10 @@ all_many (a ∷ b ∷ c ∷ d ∷ e ∷ f ∷ g ∷ h ∷ i ∷ out) eight = abs
 
 module _ (told : Told) (w : View) (x : Taken) (old : Node) (f : Flight) (c : Cell) (out : List Leaving) (full : Bool)
     (flight : IsSoundFlight told f) (old_key : old.key ≡ f.key) (old_rules : old.rules ≡ told.rules)
-    (points : points_of x ≡ old.points) (open_as : (o : ℕ) → o < 8 → is_open_at x o ≡ is_open_in old o)
-    (stands : StandsFor (as_node x) old) (old_inside : AllInBox old.rules.cube old.key old.points)
+    (many : length (points_of x) ≡ length old.points) (points : told.tells ≡ true → points_of x ≡ old.points) (open_as : (o : ℕ) → o < 8 → is_open_at x o ≡ is_open_in old o)
+    (stands : told.tells ≡ true → StandsFor (as_node x) old) (old_inside : AllInBox old.rules.cube old.key old.points)
     (new_inside : AllInBox c.node.rules.cube c.node.key c.node.points) (meets : Meets old c.node f.points out)
-    (opened : HasOpened told w c 8 full) (held_is : held w ≡ x) (cube : IsCube told.rules.cube) (eight : length out ≡ 8) where
+    (opened : HasOpened told w c 8 full) (held_is : taken_by w ≡ x) (cube : IsCube told.rules.cube) (eight : length out ≡ 8) where
   abbrev fresh : List Carried
   fresh = sent_on f.actor c out
 
@@ -191,19 +189,19 @@ module _ (told : Told) (w : View) (x : Taken) (old : Node) (f : Flight) (c : Cel
       (g.0, IsMember-flat_map (sent_to f.actor c out) o g.0 all_octants (octant-member o low) g.1, g.2)
 
   adds_up : length f.points + length (points_of x) ≡ length c.node.points + length (flown (flights fresh))
-  adds_up = omega (arith, meets.together (λ p. true), count_all c.node.points, count_all (all_points out), count_all f.points, count_all old.points, ap length points, sent_many f.actor c out all_octants, all_many out eight)
+  adds_up = omega (arith, meets.together (λ p. true), count_all c.node.points, count_all (all_points out), count_all f.points, count_all old.points, many, sent_many f.actor c out all_octants, all_many out eight)
 
-  exact : HasDistinctIds (f.points ++ points_of x) → IsArrival told x f c fresh
-  exact different =
-      let a = meets.arrives (subst (λ (ps : List Point). HasDistinctIds (f.points ++ ps)) points different) in
-      let given : given_all old f.points ≡ in_id_order (f.points ++ points_of x) = ap (λ (ps : List Point). in_id_order (f.points ++ ps)) (sym points) in
+  exact : told.tells ≡ true → HasDistinctIds (f.points ++ points_of x) → IsArrival told x f c fresh
+  exact tells different =
+      let a = meets.arrives (subst (λ (ps : List Point). HasDistinctIds (f.points ++ ps)) (points tells) different) in
+      let given : given_all old f.points ≡ in_id_order (f.points ++ points_of x) = ap (λ (ps : List Point). in_id_order (f.points ++ ps)) (sym (points tells)) in
       record {
-        node = a.node (as_node x) stands ∙ (ap (λ (ps : List Point). node_after old.rules old.key (as_node x) ps) given ∙ (ap (λ (r : Rules). node_after r old.key (as_node x) (in_id_order (f.points ++ points_of x))) old_rules ∙ ap (λ (k : VoxelKey). node_after told.rules k (as_node x) (in_id_order (f.points ++ points_of x))) old_key));
+        node = a.node (as_node x) (stands tells) ∙ (ap (λ (ps : List Point). node_after old.rules old.key (as_node x) ps) given ∙ (ap (λ (r : Rules). node_after r old.key (as_node x) (in_id_order (f.points ++ points_of x))) old_rules ∙ ap (λ (k : VoxelKey). node_after told.rules k (as_node x) (in_id_order (f.points ++ points_of x))) old_key));
         flights = subst (λ (gs : List Flight). EachIsReordered (flights_after f.actor told.rules f.key (as_node x) (in_id_order (f.points ++ points_of x))) gs)
             (sym (sent_flights f.actor c out all_octants ∙ ap (λ (k : VoxelKey). flat_map (λ o. flight_of f.actor (child k o) (points_at out o)) all_octants) meets.key))
             (subst (λ (k : VoxelKey). EachIsReordered (flights_after f.actor told.rules k (as_node x) (in_id_order (f.points ++ points_of x))) (flights_of f.actor old.key out)) old_key
             (subst (λ (r : Rules). EachIsReordered (flights_after f.actor r old.key (as_node x) (in_id_order (f.points ++ points_of x))) (flights_of f.actor old.key out)) old_rules
-            (subst (λ (ps : List Point). EachIsReordered (flights_after f.actor old.rules old.key (as_node x) ps) (flights_of f.actor old.key out)) given (a.flights (as_node x) f.actor stands))));
+            (subst (λ (ps : List Point). EachIsReordered (flights_after f.actor old.rules old.key (as_node x) ps) (flights_of f.actor old.key out)) given (a.flights (as_node x) f.actor (stands tells)))));
       }
 
   pub has-arrived : HasArrived told w x f c fresh

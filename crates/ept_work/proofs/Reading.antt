@@ -1,5 +1,5 @@
 -- A reader that has drawn a batch, or was refused.
-use Rattle.std.proofs.Common.{◌≡◌, ◌≢◌, ◌∙◌, ℕ, ◌+◌, ◌-◌, ◌<◌, ◌≤◌, min, true, ◌⊎◌, inl, inr, List, [], ◌∷◌, ◌++◌, map, length, take, drop, refl, sym, ap, subst, arith, Option, Some, None, Result, Ok, Err, OnOk, OnErr, IfErr, IfOk, Bool, false, not, ◌==◌, zero, suc}
+use Rattle.std.proofs.Common.{◌≡◌, ◌∙◌, ℕ, ◌+◌, ◌-◌, ◌<◌, min, true, ◌⊎◌, inl, inr, List, [], ◌∷◌, ◌++◌, map, length, take, drop, refl, sym, ap, subst, arith, Option, Some, None, Result, Ok, Err, OnOk, OnErr, IfErr, IfOk, Bool, false, not, ◌==◌, suc}
 use Rattle.std.specs.Prelude.{All, is_ok, if◌then◌else◌}
 use Rattle.std.proofs.lemmas.Bool.Decides.{nat_tests}
 use Rattle.std.proofs.lemmas.List.{drop-drop}
@@ -27,14 +27,12 @@ use Rattle.ept_table.specs.declared.item.Item.TheVariants as items
 use Rattle.ept_table.specs.Visits.{note_after}
 use Rattle.ept_table.proofs.ReaderBack.{reading-same}
 use Rattle.ept_table.specs.Item.{counted, seen, seen_reader, IsFiled}
-use Rattle.ept_table.specs.Shown.{LiesInInput, IsTold, FitsReader}
+use Rattle.ept_table.specs.Shown.{IsTold, FitsReader}
 use Rattle.ept_table.specs.Steps as table
 use Rattle.ept_table.specs.Steps.{holding, given_back, carried_to, failures_of, HasRead}
 use Rattle.ept_table.specs.View.{View}
-use Rattle.ept_work.specs.declared.error.WorkError.{WorkError}
-use Rattle.ept_work.specs.Errors.{of_read}
 use Rattle.ept_work.specs.Drawing.{HasDrawn, DrawsBatch, DrawsNone, IsReadCause, answer_of}
-use Rattle.ept_work.specs.Rest.{IsIdle, IsAtRest}
+use Rattle.ept_work.specs.Rest.{IsAtRest}
 
 some_same : {X : Type 0} {a b : X} → Some a ≡ Some b → a ≡ b
 some_same {X} {a} {b} e = ap from e
@@ -203,9 +201,9 @@ some_more : (n : ℕ) → not (n == 0) ≡ true → 0 < n
 some_more n t = grind (arith, nat_tests)
 
 -- a reader that was taken fits what was told
-abbrev pub fits-taken : {F S : Type 0} (whole : S → Option (List ℕ)) (told : Told) (x : Item F S) (y : Reader S) (r : Progress) → x ≡ items.Reader y → seen whole x ≡ Reading r → FitsReader told r → FitsReader told (seen_reader whole y)
-fits-taken {F} {S} whole told x y r is sees fits =
-    subst (λ (q : Progress). FitsReader told q) (reading-same (sym sees ∙ ap (λ (z : Item F S). seen whole z) is)) fits
+abbrev pub fits-taken : {F S : Type 0} (held : F → Option (List ℕ)) (whole : S → Option (List ℕ)) (told : Told) (x : Item F S) (y : Reader S) (r : Progress) → x ≡ items.Reader y → seen held whole x ≡ Reading r → FitsReader told r → FitsReader told (seen_reader whole y)
+fits-taken {F} {S} held whole told x y r is sees fits =
+    subst (λ (q : Progress). FitsReader told q) (reading-same (sym sees ∙ ap (λ (z : Item F S). seen held whole z) is)) fits
 
 abbrev pub has-drawn : (told : Told) (number : ℕ) (v mid w : View) (x : Taken) (old new : Progress) (points : List Point) (fresh : List Carried) → mid ≡ holding v 0 x → w ≡ given_back mid (note_after mid.note (Reading new) (Draw fresh)) → fresh ≡ carried_to number 1 root points → FitsReader told old → HasRead told old new points → HasDrawn told number v w points
 has-drawn told number v mid w x old new points fresh took gave are fits has = record {

@@ -1,5 +1,5 @@
 -- What comes of a table at which workers have ended.
-use Rattle.std.proofs.Common.{◌≡◌, ◌∙◌, ◌⊎◌, ℕ, ◌+◌, ◌<◌, ◌≤◌, min, Bool, true, false, inl, inr, List, [], ◌∷◌, map, length, take, refl, sym, ap, subst, arith, Option, Some, None, Result, Ok, Err, IfErr, OnOk}
+use Rattle.std.proofs.Common.{◌≡◌, ◌∙◌, ℕ, ◌<◌, ◌≤◌, min, true, inl, inr, List, [], ◌∷◌, map, length, take, refl, sym, ap, subst, arith, Option, Some, None, Result, Ok, Err, IfErr, OnOk}
 use Rattle.std.proofs.lemmas.Bool.{false≢true}
 use Rattle.ept_scan.specs.declared.read_error.ReadError.{ReadError}
 use Rattle.ept_scan.specs.declared.read_error.ReadError.TheVariants as read
@@ -11,21 +11,20 @@ use Rattle.ept_table.specs.declared.note.Told.{Told}
 use Rattle.ept_table.specs.declared.item.Item.{Item}
 use Rattle.ept_table.specs.declared.item.Item.TheVariants as items
 use Rattle.ept_table.specs.declared.taken.Progress.{Progress}
-use Rattle.ept_table.specs.declared.taken.Taken.{Taken}
 use Rattle.ept_table.specs.declared.taken.Taken.TheVariants.{Reading}
 use Rattle.ept_table.specs.At.{At}
 use Rattle.ept_table.specs.Item.{seen, seen_reader, IsFiled}
-use Rattle.ept_table.specs.Row.{items_of, row}
+use Rattle.ept_table.specs.Row.{row}
 use Rattle.ept_table.specs.Shown.{FitsReader}
-use Rattle.ept_table.specs.Steps.{first_note, first_seat}
+use Rattle.ept_table.specs.Steps.{first_seat}
 use Rattle.ept_table.specs.Tells.{IsTooMany, IsLanded, HasNothing, IsEnded, IsSampling}
 use Rattle.ept_table.specs.View.{View, NotesFull}
 use Rattle.ept_table.proofs.Lists.{at-same, at-zero}
 use Rattle.ept_table.proofs.ReaderBack.{reading-same}
 use Rattle.ept_table.proofs.Ending.{landed-sampling}
 use Rattle.ept_work.specs.declared.error.WorkError.{WorkError}
-use Rattle.ept_work.specs.declared.error.WorkError.TheVariants.{SourceFault, SourceChanged, TooManyNodes, Memory}
-use Rattle.ept_work.specs.Rest.{IsIdle, IsAtRest}
+use Rattle.ept_work.specs.declared.error.WorkError.TheVariants.{SourceFault, SourceChanged, TooManyNodes}
+use Rattle.ept_work.specs.Rest.{IsAtRest}
 use Rattle.ept_work.specs.Working.{HasWorked, HasEnded, IsCause}
 
 length_map : {X Y : Type 0} (f : X → Y) (xs : List X) → length (map f xs) ≡ length xs
@@ -44,13 +43,13 @@ first-rest told v parts is some = subst (λ (u : View). IsAtRest told u) (sym is
   within = λ c m. absurd m;
 })
 
-module _ {F S : Type 0} (whole left : S → Option (List ℕ)) (given faults : S → ℕ) (told : Told) (drawn used : ℕ) (reader : Reader S) (nodes : List (Node F)) (first w : View)
-    (ended : IsEnded told drawn (row whole reader nodes) w) (used_is : used ≡ min drawn told.most) (filed : IsFiled whole left given faults told reader) where
+module _ {F S : Type 0} (held : F → Option (List ℕ)) (whole left : S → Option (List ℕ)) (given faults : S → ℕ) (told : Told) (drawn used : ℕ) (reader : Reader S) (nodes : List (Node F)) (first w : View)
+    (ended : IsEnded told drawn (row held whole reader nodes) w) (used_is : used ≡ min drawn told.most) (filed : IsFiled whole left given faults told reader) where
   abbrev progress : Progress
   progress = seen_reader whole reader
 
-  at_first : At (row whole reader nodes) 0 (Reading progress)
-  at_first = at-zero (Reading progress) (map (seen whole) (map items.Node nodes))
+  at_first : At (row held whole reader nodes) 0 (Reading progress)
+  at_first = at-zero (Reading progress) (map (seen held whole) (map items.Node nodes))
 
   same : ended.reader ≡ progress
   same = reading-same (at-same ended.at_first at_first)
@@ -62,7 +61,7 @@ module _ {F S : Type 0} (whole left : S → Option (List ℕ)) (given faults : S
   as_item n = items.Node n
 
   pub ends-slots : length nodes ≡ told.most
-  ends-slots = omega (arith, ended.size, length_map (seen whole) (map as_item nodes), length_map as_item nodes)
+  ends-slots = omega (arith, ended.size, length_map (seen held whole) (map as_item nodes), length_map as_item nodes)
 
   noted : (e : ReadError) → IsMember e w.note.failures → refusal_of reader ≡ Some e
   noted e m = ap (λ (r : Progress). r.failed) (sym same) ∙ ended.noted e m
@@ -88,11 +87,11 @@ module _ {F S : Type 0} (whole left : S → Option (List ℕ)) (given faults : S
     few : drawn ≤ told.most
     few = omega (arith, λ (over : told.most < drawn). not_full (ended.fills over))
 
-    pub ends-landed : IsLanded told used (row whole reader nodes)
-    ends-landed = subst (λ (n : ℕ). IsLanded told n (row whole reader nodes)) (let e : drawn ≡ used = omega (arith, used_is, few) in e) (ended.landed nothing)
+    pub ends-landed : IsLanded told used (row held whole reader nodes)
+    ends-landed = subst (λ (n : ℕ). IsLanded told n (row held whole reader nodes)) (let e : drawn ≡ used = omega (arith, used_is, few) in e) (ended.landed nothing)
 
-    pub ends-sampling : told.tells ≡ true → IsSampling told (row whole reader nodes) (take (drawn_of reader) told.points)
-    ends-sampling tells = landed-sampling told used (row whole reader nodes) progress ends-landed at_first tells
+    pub ends-sampling : told.tells ≡ true → IsSampling told (row held whole reader nodes) (take (drawn_of reader) told.points)
+    ends-sampling tells = landed-sampling told used (row held whole reader nodes) progress ends-landed at_first tells
 
     drawn_same : ended.reader.drawn ≡ drawn_of reader
     drawn_same = ap (λ (r : Progress). r.drawn) same

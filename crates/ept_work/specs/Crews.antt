@@ -12,11 +12,11 @@ use Rattle.ept_work.specs.declared.inserting.Ended.{Ended}
 use Rattle.ept_work.specs.Rest.{IsAtRest}
 use Rattle.ept_work.specs.Working.{HasWorked, HasEnded, IsCause}
 
-module _ {F S J : Type 0} (told : Told) (whole : S → Option (List ℕ)) (table : NodeTable F S J) where
+module _ {F S J : Type 0} (held : F → Option (List ℕ)) (told : Told) (whole : S → Option (List ℕ)) (table : NodeTable F S J) where
   -- so many workers, numbered from the first on, may work, of which each has a part of the seat's share
   pub record MayWork (seat : SlotSeat (Item F S) Note Said) (first workers : ℕ) : Type 0 where
     pub is_seat : IsSeat told table seat
-    pub rest : IsAtRest told (known whole (view seat))
+    pub rest : IsAtRest told (known held whole (view seat))
     pub empty : (view seat).note.flights ≡ []
     pub slots : slots_of table ≡ told.most + 1
     pub rules : rules_of table ≡ told.rules
@@ -27,6 +27,6 @@ module _ {F S J : Type 0} (told : Told) (whole : S → Option (List ℕ)) (table
   -- they have worked, each to its end
   pub record HaveWorked (seat : SlotSeat (Item F S) Note Said) (ended : Ended F S) : Type 0 where
     pub is_seat : IsSeat told table ended.seat
-    pub ends : HasEnded (known whole (view seat)) (known whole (view ended.seat))
-    pub ok : OnOk ended.result (HasWorked told (known whole (view seat)) (known whole (view ended.seat)))
-    pub refused : IfErr ended.result (IsCause told (known whole (view ended.seat)))
+    pub ends : HasEnded (known held whole (view seat)) (known held whole (view ended.seat))
+    pub ok : OnOk ended.result (HasWorked told (known held whole (view seat)) (known held whole (view ended.seat)))
+    pub refused : IfErr ended.result (IsCause told (known held whole (view ended.seat)))

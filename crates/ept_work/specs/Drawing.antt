@@ -13,7 +13,7 @@ use Rattle.ept_table.specs.Steps.{given_back, carried_to, HasRead}
 use Rattle.ept_table.specs.View.{View}
 use Rattle.ept_work.specs.Errors.{of_read}
 use Rattle.ept_work.specs.declared.error.WorkError.{WorkError}
-use Rattle.ept_work.specs.declared.error.WorkError.TheVariants.{SourceFault, SourceChanged, TooManyNodes, Memory}
+use Rattle.ept_work.specs.declared.error.WorkError.TheVariants.{SourceFault, SourceChanged, TooManyNodes, SpillFault, SpillDamaged, Memory}
 
 -- The reader was taken and given back: it has drawn these points, which now fly to the root by slot 1, or has failed.
 pub record HasDrawn (told : Told) (number : ℕ) (v w : View) (points : List Point) : Type 0 where
@@ -45,6 +45,8 @@ abbrev pub IsReadCause : View → WorkError → Type 0
 IsReadCause v SourceFault = IsMember read.SourceFault v.note.failures
 IsReadCause v (SourceChanged source number) = IsMember (read.SourceChanged source number) v.note.failures
 IsReadCause v TooManyNodes = ⊥
+IsReadCause v SpillFault = ⊥
+IsReadCause v (SpillDamaged kept found at) = ⊥
 IsReadCause v Memory = ⊤
 
 -- what a draw answers by which the reader was read so

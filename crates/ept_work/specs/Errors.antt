@@ -1,10 +1,38 @@
--- What the refusals of the reader are told as.
+-- What the refusals of the reader, of nodes and of workers are told as.
+use Rattle.std.specs.Prelude.{Option, Some, None, Result, Ok, Err}
 use Rattle.ept_scan.specs.declared.read_error.ReadError.{ReadError}
 use Rattle.ept_scan.specs.declared.read_error.ReadError.TheVariants as read
+use Rattle.ept_node.specs.declared.error.NodeError.{NodeError}
+use Rattle.ept_node.specs.declared.error.NodeError.TheVariants as node
 use Rattle.ept_work.specs.declared.error.WorkError.{WorkError}
-use Rattle.ept_work.specs.declared.error.WorkError.TheVariants.{SourceFault, SourceChanged, Memory}
+use Rattle.ept_work.specs.declared.error.WorkError.TheVariants.{SourceFault, SourceChanged, TooManyNodes, SpillFault, SpillDamaged, Memory}
 
 abbrev pub of_read : ReadError → WorkError
 of_read read.SourceFault = SourceFault
 of_read (read.SourceChanged source number) = SourceChanged source number
 of_read read.Memory = Memory
+
+abbrev pub of_node : NodeError → WorkError
+of_node node.SpillFault = SpillFault
+of_node (node.SpillDamaged kept found at) = SpillDamaged kept found at
+of_node node.Memory = Memory
+
+-- what is answered where no node was taken up: that it is to be tried again, or why not
+abbrev pub answer_staying : {X : Type 0} → Option NodeError → Result (Option X) WorkError
+answer_staying None = Ok None
+answer_staying (Some why) = Err (of_node why)
+
+-- a refusal of workers where no node is broken: none that a broken node would tell
+abbrev pub unspilled : WorkError → WorkError
+unspilled SourceFault = SourceFault
+unspilled (SourceChanged source number) = SourceChanged source number
+unspilled TooManyNodes = TooManyNodes
+unspilled SpillFault = Memory
+unspilled (SpillDamaged kept found at) = Memory
+unspilled Memory = Memory
+
+-- what is answered: why a node is broken, where one is, or else what the workers answered
+abbrev pub settled_by : Option NodeError → Result (Unit {0}) WorkError → Result (Unit {0}) WorkError
+settled_by (Some why) answer = Err (of_node why)
+settled_by None (Ok u) = Ok u
+settled_by None (Err e) = Err (unspilled e)

@@ -8,3 +8,4 @@ pub mod Opening
 pub mod Sending
 pub mod Working
 pub mod Crews
+pub mod Evicting

@@ -18,34 +18,34 @@ use Rattle.ept_table.specs.Steps.{HasChild}
 use Rattle.ept_table.specs.Tells.{IsTooMany}
 use Rattle.ept_table.specs.View.{View}
 
-abbrev pub held_in : Option (ℕ × Taken) → Taken
-held_in None = Blank
-held_in (Some (slot, x)) = x
+abbrev pub taken_in : Option (ℕ × Taken) → Taken
+taken_in None = Blank
+taken_in (Some (slot, x)) = x
 
 -- what the seat took from the slot that it holds
-abbrev pub held : View → Taken
-held v = held_in v.hold
+abbrev pub taken_by : View → Taken
+taken_by v = taken_in v.hold
 
 -- A flight of the seat goes to the slot that it holds, where points of it have arrived at the node, and has opened the
 -- octants of the node that were closed. Those that were open are known as bits.
-pub record MayOpen {F : Type 0} (told : Told) (v : View) (slot before : ℕ) (node : Node F) : Type 0 where
-  pub holds : v.hold ≡ Some (slot, held v)
+pub record MayOpen {F : Type 0} (held : F → Option (List ℕ)) (told : Told) (v : View) (slot before : ℕ) (node : Node F) : Type 0 where
+  pub holds : v.hold ≡ Some (slot, taken_by v)
   pub share : 0 < v.parts
   pub is_node : 0 < slot
   pub low : slot ≤ told.most
   pub resident : state_of node ≡ Resident
-  pub was : (o : ℕ) → o < 8 → opened before o ≡ is_open_at (held v) o
-  pub stays : (o : ℕ) → o < 8 → is_open_at (held v) o ≡ true → is_open_in (node_of node) o ≡ true
-  pub closed : (o : ℕ) → o < 8 → is_open_at (held v) o ≡ false → slot_at (held v) o ≡ 0
+  pub was : (o : ℕ) → o < 8 → opened before o ≡ is_open_at (taken_by v) o
+  pub stays : (o : ℕ) → o < 8 → is_open_at (taken_by v) o ≡ true → is_open_in (node_of held node) o ≡ true
+  pub closed : (o : ℕ) → o < 8 → is_open_at (taken_by v) o ≡ false → slot_at (taken_by v) o ≡ 0
   pub goes_there : (c : Carried) × IsMember c v.note.flights × (c.slot ≡ slot)
-  pub opens : (o : ℕ) → o < 8 → is_open_at (held v) o ≡ false → is_open_in (node_of node) o ≡ true → told.tells ≡ true → OpensOctant told v.note.flights slot (held v) o
+  pub opens : (o : ℕ) → o < 8 → is_open_at (taken_by v) o ≡ false → is_open_in (node_of held node) o ≡ true → told.tells ≡ true → OpensOctant told v.note.flights slot (taken_by v) o
 
 -- The node has slots for the children of the octants below a number, as the seat notes them, and for the others those
 -- that it had.
 pub record HasOpened (told : Told) (v : View) (c : Cell) (below : ℕ) (is_full : Bool) : Type 0 where
   pub full : is_full ≡ true → (0 < v.refused) × IsTooMany told
   pub not_full : is_full ≡ false → v.refused ≡ 0
-  pub children : (o : ℕ) → o < below → HasChild v (held v) c o
-  pub others : (o : ℕ) → below ≤ o → o < 8 → slot_at (Standing c) o ≡ slot_at (held v) o
+  pub children : (o : ℕ) → o < below → HasChild v (taken_by v) c o
+  pub others : (o : ℕ) → below ≤ o → o < 8 → slot_at (Standing c) o ≡ slot_at (taken_by v) o
   pub draws : (d : Draw) → IsMember d v.note.draws → (d.octant < below) × (is_open_in c.node d.octant ≡ true) × (slot_at (Standing c) d.octant ≡ d.slot)
   pub within : (o : ℕ) → o < 8 → slot_at (Standing c) o ≤ told.most

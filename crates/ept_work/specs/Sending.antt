@@ -1,7 +1,7 @@
 -- The flights in which points that leave a node go on.
 use Rattle.std.specs.Prelude.{ℕ, List, slice_index}
 use Rattle.std.specs.List.{flat_map}
-use Rattle.ept_space.specs.VoxelKey.{VoxelKey, child}
+use Rattle.ept_space.specs.VoxelKey.{child}
 use Rattle.ept_sample.specs.Arrivals.{all_octants}
 use Rattle.ept_grid.specs.Outgoing.{Leaving, points_at}
 use Rattle.ept_table.specs.declared.note.Carried.{Carried}

@@ -1,13 +1,12 @@
--- A visit of a node by the last flight of a worker.
-use Rattle.std.specs.Prelude.{◌≡◌, ⊤, ℕ, ◌+◌, ◌<◌, ◌≤◌, ◌⊎◌, Bool, true, false, List, [], ◌++◌, length, Some}
+-- A visit of a node by a flight of a worker.
+use Rattle.std.specs.Prelude.{◌≡◌, ⊤, ℕ, ◌+◌, ◌<◌, ◌≤◌, ◌⊎◌, Bool, true, false, List, [], ◌++◌, length, Option, Some}
 use Rattle.std.specs.Vec.{vec_capacity}
 use Rattle.ept_space.specs.VoxelKey.{VoxelKey}
-use Rattle.ept_space.specs.declared.cube.Rules.{Rules}
 use Rattle.ept_sample.specs.Ids.{HasDistinctIds}
 use Rattle.ept_sample.specs.Members.{IsMember}
 use Rattle.ept_node.specs.declared.node.Node.{Node}
 use Rattle.ept_node.specs.declared.state.NodeState.TheVariants.{Resident}
-use Rattle.ept_node.specs.Shown.{state_of, node_of, children_of, empty_node, no_children}
+use Rattle.ept_node.specs.Shown.{file_of, state_of, node_of, children_of, empty_node, no_children, DoesTell}
 use Rattle.ept_table.specs.declared.note.Told.{Told}
 use Rattle.ept_table.specs.declared.note.Carried.{Carried}
 use Rattle.ept_table.specs.declared.note.Draw.{Draw}
@@ -15,37 +14,30 @@ use Rattle.ept_table.specs.declared.taken.Cell.{Cell}
 use Rattle.ept_table.specs.declared.taken.Taken.{Taken}
 use Rattle.ept_table.specs.declared.taken.Taken.TheVariants.{Blank, Standing}
 use Rattle.ept_table.specs.At.{At}
+use Rattle.ept_table.specs.Item.{cell_of}
 use Rattle.ept_table.specs.Taken.{points_of}
 use Rattle.ept_table.specs.Shown.{IsSoundFlight}
-use Rattle.ept_table.specs.Steps.{holding, given_back, arrived, lacks_slot, HasArrived}
+use Rattle.ept_table.specs.Steps.{holding, given_back, arrived, lacks_slot, HasArrived, IsAlikeCell}
 use Rattle.ept_table.specs.Tells.{IsTooMany, FitsChild}
 use Rattle.ept_table.specs.View.{View, NotesFull}
 use Rattle.ept_work.specs.declared.error.WorkError.{WorkError}
-use Rattle.ept_work.specs.declared.error.WorkError.TheVariants.{SourceFault, SourceChanged, TooManyNodes, Memory}
+use Rattle.ept_work.specs.declared.error.WorkError.TheVariants.{SourceFault, SourceChanged, TooManyNodes, SpillFault, SpillDamaged, Memory}
 use Rattle.ept_work.specs.declared.visit.Visit.{Visit}
 use Rattle.ept_work.specs.declared.visit.Landing.{Landing}
 use Rattle.ept_work.specs.declared.worker.Worker.{Worker}
 
--- a node with the slots of its children
-abbrev pub cell_of : {F : Type 0} → Node F → Cell
-cell_of node = record { node = node_of node; children = children_of node }
-
--- the worker carries this flight last
-pub record IsLast (v : View) (number : ℕ) (c : Carried) : Type 0 where
-  pub its : At v.note.flights number c
-  pub last : number + 1 ≡ length v.note.flights
-
--- The node of a key: that which was taken, or where that was blank, one without points that has just begun.
-pub record IsBegun {F : Type 0} (rules : Rules) (taken : Taken) (key : VoxelKey) (node : Node F) (was_blank : Bool) : Type 0 where
+-- The node of a key, in memory: that which was taken, which may have come from its file, or where that was blank, one without
+-- points that has just begun.
+pub record IsBegun {F : Type 0} (held : F → Option (List ℕ)) (told : Told) (taken : Taken) (key : VoxelKey) (node : Node F) (was_blank : Bool) : Type 0 where
   pub resident : state_of node ≡ Resident
-  pub key_is : (node_of node).key ≡ key
-  pub rules_are : (node_of node).rules ≡ rules
-  pub as_taken : was_blank ≡ false → taken ≡ Standing (cell_of node)
+  pub key_is : (node_of held node).key ≡ key
+  pub rules_are : (node_of held node).rules ≡ told.rules
+  pub as_taken : was_blank ≡ false → (c : Cell) × (taken ≡ Standing c) × IsAlikeCell told c (cell_of held node)
   pub blank : was_blank ≡ true → taken ≡ Blank
-  pub begun : was_blank ≡ true → (node_of node ≡ empty_node key rules) × (children_of node ≡ no_children)
+  pub begun : was_blank ≡ true → (node_of held node ≡ empty_node key told.rules) × (children_of node ≡ no_children)
 
--- A worker holds the node to which its last flight goes, and has not let it arrive yet.
-pub record IsVisit {F : Type 0} (told : Told) (v : View) (visit : Visit F) : Type 0 where
+-- A worker holds the node to which one of its flights goes, and has not let it arrive yet.
+pub record IsVisit {F : Type 0} (held : F → Option (List ℕ)) (told : Told) (v : View) (visit : Visit F) : Type 0 where
   pub taken : Taken
   pub holds : v.hold ≡ Some (visit.slot, taken)
   pub share : 0 < v.parts
@@ -54,43 +46,48 @@ pub record IsVisit {F : Type 0} (told : Told) (v : View) (visit : Visit F) : Typ
   pub within : (c : Carried) → IsMember c v.note.flights → c.slot ≤ told.most
   pub is_node : 0 < visit.slot
   pub carried : Carried
-  pub is_last : IsLast v visit.number carried
+  pub its : At v.note.flights visit.number carried
   pub goes_there : carried.slot ≡ visit.slot
   pub flight : IsSoundFlight told carried.flight
   pub different : told.tells ≡ true → HasDistinctIds (carried.flight.points ++ points_of taken)
   pub children : (o : ℕ) → o < 8 → FitsChild told taken o
-  pub node : IsBegun told.rules taken carried.flight.key visit.node visit.was_blank
+  pub node : IsBegun held told taken carried.flight.key visit.node visit.was_blank
+  pub telling : told.tells ≡ true → DoesTell held (file_of visit.node)
 
 -- it has taken the node up
-pub record TakesUp {F : Type 0} (told : Told) (v w : View) (visit : Visit F) : Type 0 where
-  pub visits : IsVisit told w visit
+pub record TakesUp {F : Type 0} (held : F → Option (List ℕ)) (told : Told) (v w : View) (visit : Visit F) : Type 0 where
+  pub visits : IsVisit held told w visit
   pub after : w ≡ holding v visit.slot visits.taken
 
 -- The flight has arrived at the node, and these go on.
-pub record IsLanding {F : Type 0} (told : Told) (v : View) (landing : Landing F) : Type 0 where
+pub record IsLanding {F : Type 0} (held : F → Option (List ℕ)) (told : Told) (v : View) (landing : Landing F) : Type 0 where
   pub taken : Taken
   pub holds : v.hold ≡ Some (landing.slot, taken)
   pub share : 0 < v.parts
   pub within : (c : Carried) → IsMember c v.note.flights → c.slot ≤ told.most
   pub is_node : 0 < landing.slot
   pub carried : Carried
-  pub is_last : IsLast v landing.number carried
+  pub its : At v.note.flights landing.number carried
   pub goes_there : carried.slot ≡ landing.slot
   pub resident : state_of landing.node ≡ Resident
-  pub has_arrived : HasArrived told v taken carried.flight (cell_of landing.node) landing.fresh.items
+  pub has_arrived : HasArrived told v taken carried.flight (cell_of held landing.node) landing.fresh.items
   pub fresh_within : (c : Carried) → IsMember c landing.fresh.items → c.slot ≤ told.most
   pub full : landing.is_full ≡ true → (0 < v.refused) × IsTooMany told
   pub not_full : landing.is_full ≡ false → v.refused ≡ 0
+  pub telling : told.tells ≡ true → DoesTell held (file_of landing.node)
 
 -- the worker has room for the flights that go on
 abbrev pub HasRoom : {F S : Type 0} → Worker F S → Landing F → Type 0
 HasRoom worker landing = length worker.flights.items + length landing.fresh.items ≤ vec_capacity worker.flights + 1
 
--- the cause of a refusal: want of memory, or too many nodes, since a slot was refused or a flight that is carried has none
+-- The cause of a refusal: want of memory, or too many nodes, since a slot was refused or a flight that is carried has none. That
+-- of a broken node is told by the node.
 abbrev pub IsVisitCause : Told → View → WorkError → Type 0
 IsVisitCause told v SourceFault = ⊥
 IsVisitCause told v (SourceChanged source number) = ⊥
 IsVisitCause told v TooManyNodes = (NotesFull v × IsTooMany told) ⊎ (lacks_slot v.note.flights ≡ true)
+IsVisitCause told v SpillFault = ⊤
+IsVisitCause told v (SpillDamaged kept found at) = ⊤
 IsVisitCause told v Memory = ⊤
 
 -- ---- what becomes of what a worker knows
@@ -104,15 +101,15 @@ opening v draws wish refused =
 abbrev pub IsOpening : View → View → Type 0
 IsOpening v w = w ≡ opening v w.note.draws w.note.wish w.refused
 
--- the last flight is gone, and these are there in its place
+-- the flight of this number is gone, and these are behind the others
 abbrev pub leaving : View → ℕ → List Carried → View
 leaving v number fresh = given_back v (arrived v.note number fresh)
 
--- The last flight has arrived at the node of its slot, and others go on in its place.
+-- A flight has arrived at the node of its slot, and others go on.
 pub record Visits (told : Told) (v w : View) : Type 0 where
   pub carried : Carried
   pub number : ℕ
-  pub is_last : IsLast v number carried
+  pub its : At v.note.flights number carried
   pub taken : Taken
   pub there : View
   pub opens : IsOpening (holding v carried.slot taken) there

@@ -1,6 +1,6 @@
 -- A worker, as clauses have it.
-use Rattle.std.specs.Prelude.{ℕ, ◌-◌, List, length, slice_get, Option}
-use Rattle.std.specs.Option.{option_map}
+use Rattle.std.specs.Prelude.{◌≡◌, ℕ, List, Option}
+use Rattle.ept_sample.specs.Members.{IsMember}
 use Rattle.ept_slots.specs.Seating.{SlotSeat, view}
 use Rattle.ept_table.specs.declared.done.Said.{Said}
 use Rattle.ept_table.specs.declared.item.Item.{Item}
@@ -20,9 +20,9 @@ module _ {F S : Type 0} where
   number_of worker = worker.number
 
   -- what it knows, its flights among it
-  abbrev pub knows : (S → Option (List ℕ)) → Worker F S → View
-  knows whole worker = known whole (view worker.seat)
+  abbrev pub knows : (F → Option (List ℕ)) → (S → Option (List ℕ)) → Worker F S → View
+  knows held whole worker = known held whole (view worker.seat)
 
--- the slot to which the last of these flights goes
-abbrev pub slot_of_last : List Carried → Option ℕ
-slot_of_last flights = option_map (λ (c : Carried). c.slot) (slice_get flights (length flights - 1))
+-- one of these flights goes to this slot
+abbrev pub IsGoal : List Carried → ℕ → Type 0
+IsGoal flights slot = (c : Carried) × IsMember c flights × (c.slot ≡ slot)

@@ -1,5 +1,5 @@
 -- The work of a worker, and of several.
-use Rattle.std.specs.Prelude.{◌≡◌, ⊤, ℕ, ◌⊎◌, Bool, true, false, List, [], Result, Ok, Err}
+use Rattle.std.specs.Prelude.{◌≡◌, ⊤, ◌⊎◌, true, [], Result, Ok, Err}
 use Rattle.ept_scan.specs.declared.read_error.ReadError.TheVariants as read
 use Rattle.ept_sample.specs.Members.{IsMember}
 use Rattle.ept_table.specs.declared.note.Told.{Told}
@@ -7,7 +7,7 @@ use Rattle.ept_table.specs.Steps.{lacks_slot}
 use Rattle.ept_table.specs.Tells.{IsTooMany}
 use Rattle.ept_table.specs.View.{View, NotesFull}
 use Rattle.ept_work.specs.declared.error.WorkError.{WorkError}
-use Rattle.ept_work.specs.declared.error.WorkError.TheVariants.{SourceFault, SourceChanged, TooManyNodes, Memory}
+use Rattle.ept_work.specs.declared.error.WorkError.TheVariants.{SourceFault, SourceChanged, TooManyNodes, SpillFault, SpillDamaged, Memory}
 use Rattle.ept_work.specs.Rest.{IsIdle}
 use Rattle.ept_work.specs.Drawing.{HasDrawnAll}
 
@@ -30,19 +30,23 @@ pub record HasEnded (v w : View) : Type 0 where
   pub landed : w.note.flights ≡ []
   pub parts : w.parts ≡ v.parts
 
--- the cause for which a worker goes no further
+-- The cause for which a worker goes no further. That of a broken node is told by the node.
 abbrev pub IsStopped : Told → View → WorkError → Type 0
 IsStopped told v SourceFault = IsMember read.SourceFault v.note.failures
 IsStopped told v (SourceChanged source number) = IsMember (read.SourceChanged source number) v.note.failures
 IsStopped told v TooManyNodes = (NotesFull v × IsTooMany told) ⊎ (lacks_slot v.note.flights ≡ true)
+IsStopped told v SpillFault = ⊤
+IsStopped told v (SpillDamaged kept found at) = ⊤
 IsStopped told v Memory = ⊤
 
 -- The cause of a refusal: the reader has failed by it, which the seat notes; there may not be as many nodes as the
--- sampling has, and the seat notes that all slots are drawn; or there was no memory.
+-- sampling has, and the seat notes that all slots are drawn; or there was no memory. That of a broken node is told by the node.
 abbrev pub IsCause : Told → View → WorkError → Type 0
 IsCause told v SourceFault = IsMember read.SourceFault v.note.failures
 IsCause told v (SourceChanged source number) = IsMember (read.SourceChanged source number) v.note.failures
 IsCause told v TooManyNodes = NotesFull v × IsTooMany told
+IsCause told v SpillFault = ⊤
+IsCause told v (SpillDamaged kept found at) = ⊤
 IsCause told v Memory = ⊤
 
 -- the refusal of the first, or else that of the second

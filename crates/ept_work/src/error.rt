@@ -1,5 +1,6 @@
 //! Why workers stop.
 
+use ept_node::NodeError;
 use ept_point::PointNumber;
 use ept_scan::ReadError;
 use std::alloc::AllocError;
@@ -14,6 +15,11 @@ pub enum WorkError {
     SourceChanged { source: u32, number: PointNumber },
     /// The sampling of the points up to the end of the allowance has more nodes than there may be.
     TooManyNodes,
+    /// The spill file of a node failed, which is broken since.
+    SpillFault,
+    /// The spill file of a node gave back other bytes than those of its tile, and the node is broken since: `found` bytes
+    /// in place of the `kept` ones, or the point of the number `at`, from 0, is the first that is wrong.
+    SpillDamaged { kept: u64, found: u64, at: u64 },
     /// Memory ran out.
     Memory,
 }
@@ -31,6 +37,23 @@ impl From<ReadError> for WorkError {
                 WorkError::SourceChanged { source, number }
             }
             ReadError::Memory => WorkError::Memory,
+        }
+    }
+}
+
+impl From<NodeError> for WorkError {
+    ghost use Rattle.std.specs.Prelude.{◌≡◌};
+    ghost use Rattle.ept_work.specs.Errors.{of_node};
+
+    ghost from_gives = { λ from e. e ≡ of_node from };
+
+    fn from(error: NodeError) -> WorkError {
+        match error {
+            NodeError::SpillFault => WorkError::SpillFault,
+            NodeError::SpillDamaged { kept, found, at } => {
+                WorkError::SpillDamaged { kept, found, at }
+            }
+            NodeError::Memory => WorkError::Memory,
         }
     }
 }

@@ -1,18 +1,22 @@
 //! Several workers, and what comes of their table.
 
 ghost use Rattle.std.specs.Prelude.{◌≡◌, ◌≢◌, ◌+◌, ◌*◌, ◌≤◌, ◌<◌, min, ℕ, [], Err, None, Some, OnOk, true, take, length};
-ghost use Rattle.ept_forest.specs.Slots.{nodes_of, used_of};
+ghost use Rattle.std.specs.List.{All, Any};
+ghost use Rattle.ept_forest.specs.Slots.{nodes_of, used_of, residents_of, faults_of};
+ghost use Rattle.ept_node.specs.Shown.{fault_of};
+ghost use Rattle.ept_node.specs.declared.error.NodeError.TheVariants as node;
 ghost use Rattle.ept_scan.specs.Reader.{drawn_of, refusal_of, HasFault};
 ghost use Rattle.ept_scan.specs.declared.read_error.ReadError.TheVariants as read;
 ghost use Rattle.ept_slots.specs.Views.{first_view};
 ghost use Rattle.ept_slots.specs.Seating.{view};
-ghost use Rattle.ept_table.specs.Item.{seen_reader, IsFiled};
+ghost use Rattle.ept_table.specs.Item.{seen_reader, IsFiled, IsFiledNode};
 ghost use Rattle.ept_table.specs.Row.{row};
 ghost use Rattle.ept_table.specs.Shown.{FitsReader};
 ghost use Rattle.ept_table.specs.Standing.{known};
 ghost use Rattle.ept_table.specs.Steps.{first_note, joined};
 ghost use Rattle.ept_table.specs.Tells.{IsTooMany, IsLanded, IsSampling};
 ghost use Rattle.ept_table.specs.Table.{slots_of, rules_of, IsSeat};
+ghost use Rattle.ept_work.specs.Errors.{settled_by};
 ghost use Rattle.ept_work.specs.Working.{first_refusal};
 ghost use Rattle.ept_work.specs.Crews.{MayWork, HaveWorked};
 ghost use Rattle.ept_work.specs.declared.error.WorkError.TheVariants as errors;
@@ -21,6 +25,7 @@ use crate::error::WorkError;
 use crate::worker::Worker;
 use ept_base::{Gate, Source, SpillFile};
 use ept_forest::Forest;
+use ept_node::NodeError;
 use ept_scan::Reader;
 use ept_table::{NodeTable, Scan, Seat};
 use std::alloc::Global;
@@ -38,7 +43,8 @@ struct Ended<F, S> {
 ///
 /// # Errors
 ///
-/// Of several refusals that of the lowest worker. The forest and the reader come back in either case.
+/// Where a node is broken, its fault: `SpillFault` or `SpillDamaged`. Else, of several refusals, that of the lowest worker. The
+/// forest and the reader come back in either case.
 pub fn insert_all<
     F: SpillFile + Send + Sync,
     S: Source + Send,
@@ -59,18 +65,21 @@ pub fn insert_all<
     requires rules { rules_of table ≡ J.told.rules }
     requires workers { (1 ≤ workers) × (workers ≤ 64) }
 
-    // Where nothing is refused nothing flies, and where files and sources tell the nodes are the sampling of all points
-    // that the allowance and the inputs have.
-    ensures landed { OnOk result.2 (IsLanded J.told (used_of result.0) (row S.whole result.1 (nodes_of result.0))) }
+    // Where nothing is refused no node is broken and nothing flies, and where files and sources tell the nodes are the
+    // sampling of all points that the allowance and the inputs have.
+    ensures unbroken { OnOk result.2 (All (λ node. fault_of node ≡ None) (nodes_of result.0)) }
+    ensures landed { OnOk result.2 (IsLanded J.told (used_of result.0) (row F.held S.whole result.1 (nodes_of result.0))) }
     ensures sampling { OnOk result.2 (J.told.tells ≡ true
-        → IsSampling J.told (row S.whole result.1 (nodes_of result.0)) (take (drawn_of result.1) J.told.points)) }
+        → IsSampling J.told (row F.held S.whole result.1 (nodes_of result.0)) (take (drawn_of result.1) J.told.points)) }
     ensures drawn { OnOk result.2 (drawn_of result.1 ≡ min J.told.end J.told.total) }
     ensures sound { OnOk result.2 (refusal_of result.1 ≡ None) }
 
-    // Whatever the answer, the reader and the slots are those of the table.
+    // Whatever the answer, the reader and the slots are those of the table, and the nodes agree with their files.
     ensures filed { IsFiled S.whole S.left S.given S.faults J.told result.1 }
     ensures fits { FitsReader J.told (seen_reader S.whole result.1) }
     ensures slots { length (nodes_of result.0) ≡ J.told.most }
+    ensures nodes { All (IsFiledNode F.held F.faults F.keeps J.told) (nodes_of result.0) }
+    ensures cached { residents_of (nodes_of result.0) ≤ J.told.cache }
 
     // The causes of a refusal.
     ensures too_many { result.2 ≡ Err errors.TooManyNodes → IsTooMany J.told }
@@ -79,10 +88,30 @@ pub fn insert_all<
         → refusal_of result.1 ≡ Some (read.SourceChanged source number) }
     ensures no_change { J.told.tells ≡ true → (source number : ℕ)
         → result.2 ≢ Err (errors.SourceChanged source number) }
+    ensures spill_fault { result.2 ≡ Err errors.SpillFault → 0 < faults_of F.faults (nodes_of result.0) }
+    ensures damaged { (kept found at : ℕ) → result.2 ≡ Err (errors.SpillDamaged kept found at)
+        → Any (λ n. fault_of n ≡ Some (node.SpillDamaged kept found at)) (nodes_of result.0) }
+    ensures no_damage { J.told.tells ≡ true → (kept found at : ℕ)
+        → result.2 ≢ Err (errors.SpillDamaged kept found at) }
 {
     let Ended { seat, result } = work_all(rt, alloc, &table, seat, 0, workers, gate);
     let (forest, reader) = table.close(seat);
+    let result = settled(forest.fault(), result);
     (forest, reader, result)
+}
+
+// The answer of workers, where a node may be broken. A worker that is refused by a spill file leaves its node broken, so there
+// always is one then; no clause of the table says so, and such a refusal without one would be told as want of memory.
+fn settled(broken: Option<NodeError>, answer: Result<(), WorkError>) -> Result<(), WorkError>
+    ensures { result ≡ settled_by broken answer }
+{
+    if let Some(why) = broken {
+        return Err(why.into());
+    }
+    match answer {
+        Err(WorkError::SpillFault | WorkError::SpillDamaged { .. }) => Err(WorkError::Memory),
+        answer => answer,
+    }
 }
 
 // Lets so many workers, numbered from the first on, work at a table, the higher half of them in a thread of their own.
@@ -96,13 +125,13 @@ fn work_all<F, S, J, G, R>(
     gate: &G,
 ) -> Ended<F, S>
 where
-    F: Send + Sync,
+    F: SpillFile + Send + Sync,
     S: Source + Send,
     J: Scan + Sync,
     G: Gate + Sync,
     R: Threads + Wait + Sync,
-    requires { MayWork J.told S.whole table.now seat first workers }
-    ensures { HaveWorked J.told S.whole table.now seat result }
+    requires { MayWork F.held J.told S.whole table.now seat first workers }
+    ensures { HaveWorked F.held J.told S.whole table.now seat result }
 {
     if workers == 1 {
         return work_alone(rt, alloc, table, seat, first, gate);
@@ -114,19 +143,19 @@ where
     let (left, right) = thread::join(
         rt,
         move || -> Ended<F, S>
-            requires { MayWork J.told S.whole table.now seat first lower }
-            ensures { HaveWorked J.told S.whole table.entry.now seat result }
+            requires { MayWork F.held J.told S.whole table.now seat first lower }
+            ensures { HaveWorked F.held J.told S.whole table.entry.now seat result }
         { work_all(rt, alloc, table, seat, first, lower, gate) },
         move || -> Ended<F, S>
-            requires { MayWork J.told S.whole table.now other next higher }
-            ensures { HaveWorked J.told S.whole table.entry.now other result }
+            requires { MayWork F.held J.told S.whole table.now other next higher }
+            ensures { HaveWorked F.held J.told S.whole table.entry.now other result }
         { work_all(rt, alloc, table, other, next, higher, gate) },
     );
     both(table, left, right)
 }
 
 // Lets one worker work.
-fn work_alone<F, S: Source, J: Scan, G: Gate, H: Wait>(
+fn work_alone<F: SpillFile, S: Source, J: Scan, G: Gate, H: Wait>(
     rt: &H,
     alloc: Global,
     table: &NodeTable<F, S, J>,
@@ -134,8 +163,8 @@ fn work_alone<F, S: Source, J: Scan, G: Gate, H: Wait>(
     number: u32,
     gate: &G,
 ) -> Ended<F, S>
-    requires { MayWork J.told S.whole table.now seat number 1 }
-    ensures { HaveWorked J.told S.whole table.now seat result }
+    requires { MayWork F.held J.told S.whole table.now seat number 1 }
+    ensures { HaveWorked F.held J.told S.whole table.now seat result }
 {
     let mut worker = Worker::new(alloc, seat, number);
     let result = worker.work(rt, alloc, table, gate);
@@ -146,7 +175,7 @@ fn work_alone<F, S: Source, J: Scan, G: Gate, H: Wait>(
 }
 
 // Ends the seat of the higher workers in that of the lower ones.
-fn both<F, S: Source, J: Scan>(
+fn both<F: SpillFile, S: Source, J: Scan>(
     table: &NodeTable<F, S, J>,
     lower: Ended<F, S>,
     higher: Ended<F, S>,
@@ -154,10 +183,10 @@ fn both<F, S: Source, J: Scan>(
     requires lower { IsSeat J.told table.now lower.seat }
     requires higher { IsSeat J.told table.now higher.seat }
     requires share { 0 < (view lower.seat).parts }
-    requires idle { (known S.whole (view higher.seat)).hold ≡ None }
+    requires idle { (known F.held S.whole (view higher.seat)).hold ≡ None }
     requires landed { (view higher.seat).note.flights ≡ [] }
     ensures seat { IsSeat J.told table.now result.seat }
-    ensures both { known S.whole (view result.seat) ≡ joined (known S.whole (view lower.seat)) (known S.whole (view higher.seat)) }
+    ensures both { known F.held S.whole (view result.seat) ≡ joined (known F.held S.whole (view lower.seat)) (known F.held S.whole (view higher.seat)) }
     ensures result { result.result ≡ first_refusal lower.result higher.result }
 {
     let Ended {

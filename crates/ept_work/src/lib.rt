@@ -3,9 +3,12 @@
 #![tactic(auto)]
 
 mod error;
+mod evicting;
 mod inserting;
 mod opening;
 mod sending;
+mod taking;
+mod victims;
 mod visit;
 mod worker;
 mod working;

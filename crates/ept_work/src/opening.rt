@@ -2,15 +2,17 @@
 
 ghost use Rattle.std.specs.Prelude.{◌≡◌, ◌+◌, ◌<◌, ◌&&◌, not, false};
 ghost use Rattle.ept_grid.specs.Mask.{opened};
-ghost use Rattle.ept_node.specs.Shown.{node_of};
+ghost use Rattle.ept_node.specs.Shown.{file_of, node_of};
 ghost use Rattle.ept_slots.specs.Seating.{view};
+ghost use Rattle.ept_table.specs.Permits.{spare_of};
 ghost use Rattle.ept_table.specs.Standing.{known};
 ghost use Rattle.ept_table.specs.Table.{slots_of, IsSeat};
-ghost use Rattle.ept_work.specs.Visiting.{cell_of, IsOpening};
+ghost use Rattle.ept_table.specs.Item.{cell_of};
+ghost use Rattle.ept_work.specs.Visiting.{IsOpening};
 ghost use Rattle.ept_work.specs.Opening.{MayOpen, HasOpened};
 ghost use Rattle.ept_grid.specs.declared.octants.TheConstants.{OCTANTS};
 
-use ept_base::Source;
+use ept_base::{Source, SpillFile};
 use ept_grid::OCTANTS;
 use ept_node::Node;
 use ept_table::{NodeTable, Scan, Seat};
@@ -22,7 +24,7 @@ pub(crate) struct Opening<F> {
 }
 
 /// Draws slots for the children of the octants of a node that were closed and are open, until one is refused.
-pub(crate) fn open_children<F, S: Source, J: Scan>(
+pub(crate) fn open_children<F: SpillFile, S: Source, J: Scan>(
     table: &NodeTable<F, S, J>,
     seat: &mut Seat<F, S>,
     node: Node<F>,
@@ -31,13 +33,15 @@ pub(crate) fn open_children<F, S: Source, J: Scan>(
 ) -> Opening<F>
     requires seat { IsSeat J.told table.now seat.old }
     requires slots { slots_of table.now ≡ J.told.most + 1 }
-    requires may { MayOpen J.told (known S.whole (view seat.old)) slot before node }
-    requires unopened { HasOpened J.told (known S.whole (view seat.old)) (cell_of node) 0 false }
+    requires may { MayOpen F.held J.told (known F.held S.whole (view seat.old)) slot before node }
+    requires unopened { HasOpened J.told (known F.held S.whole (view seat.old)) (cell_of F.held node) 0 false }
     ensures seat { IsSeat J.told table.now seat.new }
-    ensures view { IsOpening (known S.whole (view seat.old)) (known S.whole (view seat.new)) }
-    ensures may { MayOpen J.told (known S.whole (view seat.new)) slot before result.node }
-    ensures node { node_of result.node ≡ node_of node }
-    ensures opened { HasOpened J.told (known S.whole (view seat.new)) (cell_of result.node) 8 result.is_full }
+    ensures view { IsOpening (known F.held S.whole (view seat.old)) (known F.held S.whole (view seat.new)) }
+    ensures may { MayOpen F.held J.told (known F.held S.whole (view seat.new)) slot before result.node }
+    ensures node { node_of F.held result.node ≡ node_of F.held node }
+    ensures file { file_of result.node ≡ file_of node }
+    ensures permits { spare_of (view seat.new) ≡ spare_of (view seat.old) }
+    ensures opened { HasOpened J.told (known F.held S.whole (view seat.new)) (cell_of F.held result.node) 8 result.is_full }
 {
     let mut opening = Opening {
         node,
@@ -50,7 +54,7 @@ pub(crate) fn open_children<F, S: Source, J: Scan>(
 }
 
 // Draws a slot for the child of an octant, if it was closed and is open, and none was refused.
-fn open_child<F, S: Source, J: Scan>(
+fn open_child<F: SpillFile, S: Source, J: Scan>(
     table: &NodeTable<F, S, J>,
     seat: &mut Seat<F, S>,
     opening: Opening<F>,
@@ -61,13 +65,15 @@ fn open_child<F, S: Source, J: Scan>(
     requires seat { IsSeat J.told table.now seat.old }
     requires slots { slots_of table.now ≡ J.told.most + 1 }
     requires low { octant < OCTANTS }
-    requires may { MayOpen J.told (known S.whole (view seat.old)) slot before opening.node }
-    requires opened { HasOpened J.told (known S.whole (view seat.old)) (cell_of opening.node) octant opening.is_full }
+    requires may { MayOpen F.held J.told (known F.held S.whole (view seat.old)) slot before opening.node }
+    requires opened { HasOpened J.told (known F.held S.whole (view seat.old)) (cell_of F.held opening.node) octant opening.is_full }
     ensures seat { IsSeat J.told table.now seat.new }
-    ensures view { IsOpening (known S.whole (view seat.old)) (known S.whole (view seat.new)) }
-    ensures may { MayOpen J.told (known S.whole (view seat.new)) slot before result.node }
-    ensures node { node_of result.node ≡ node_of opening.node }
-    ensures opened { HasOpened J.told (known S.whole (view seat.new)) (cell_of result.node) (octant + 1) result.is_full }
+    ensures view { IsOpening (known F.held S.whole (view seat.old)) (known F.held S.whole (view seat.new)) }
+    ensures may { MayOpen F.held J.told (known F.held S.whole (view seat.new)) slot before result.node }
+    ensures node { node_of F.held result.node ≡ node_of F.held opening.node }
+    ensures file { file_of result.node ≡ file_of opening.node }
+    ensures permits { spare_of (view seat.new) ≡ spare_of (view seat.old) }
+    ensures opened { HasOpened J.told (known F.held S.whole (view seat.new)) (cell_of F.held result.node) (octant + 1) result.is_full }
 {
     let Opening { mut node, is_full } = opening;
     let mask = node.open_mask();

@@ -5,9 +5,10 @@ ghost use Rattle.ept_grid.specs.Outgoing.{points_at};
 ghost use Rattle.ept_grid.specs.declared.octants.TheConstants.{OCTANTS};
 ghost use Rattle.ept_node.specs.Shown.{state_of, node_of};
 ghost use Rattle.ept_node.specs.declared.state.NodeState.TheVariants.{Resident};
-ghost use Rattle.ept_work.specs.Visiting.{cell_of};
+ghost use Rattle.ept_table.specs.Item.{cell_of};
 ghost use Rattle.ept_work.specs.Sending.{sent_to, sent_on};
 
+use ept_base::SpillFile;
 use ept_core::Flight;
 use ept_grid::{OCTANTS, Outgoing};
 use ept_node::Node;
@@ -17,7 +18,7 @@ use ept_table::Carried;
 use std::alloc::Global;
 
 /// Adds the flights in which points that leave a node go on to its children to an empty list, which has room for them.
-pub(crate) fn send_on<F>(
+pub(crate) fn send_on<F: SpillFile>(
     alloc: Global,
     node: &Node<F>,
     actor: u32,
@@ -25,10 +26,10 @@ pub(crate) fn send_on<F>(
     mut fresh: Vec<Carried>,
 ) -> Vec<Carried>
     requires resident { state_of node.now ≡ Resident }
-    requires above { (o : ℕ) → o < 8 → 0 < length (points_at out.old o) → (node_of node.now).key.depth < 31 }
+    requires above { (o : ℕ) → o < 8 → 0 < length (points_at out.old o) → (node_of F.held node.now).key.depth < 31 }
     requires empty { fresh.items ≡ [] }
     requires room { 8 ≤ vec_capacity fresh }
-    ensures sent { result.items ≡ sent_on actor (cell_of node.now) out.old }
+    ensures sent { result.items ≡ sent_on actor (cell_of F.held node.now) out.old }
     ensures few { length result.items ≤ 8 }
 {
     for octant in 0..OCTANTS {
@@ -38,7 +39,7 @@ pub(crate) fn send_on<F>(
 }
 
 // Adds the flight of the points that leave for an octant, if there are points.
-fn send<F>(
+fn send<F: SpillFile>(
     alloc: Global,
     node: &Node<F>,
     actor: u32,
@@ -48,9 +49,9 @@ fn send<F>(
 ) -> Vec<Carried>
     requires resident { state_of node.now ≡ Resident }
     requires low { octant < OCTANTS }
-    requires above { 0 < length (points_at out.old octant) → (node_of node.now).key.depth < 31 }
+    requires above { 0 < length (points_at out.old octant) → (node_of F.held node.now).key.depth < 31 }
     requires room { vec_len fresh < vec_capacity fresh }
-    ensures sent { result.items ≡ fresh.items ++ sent_to actor (cell_of node.now) out.old octant }
+    ensures sent { result.items ≡ fresh.items ++ sent_to actor (cell_of F.held node.now) out.old octant }
     ensures capacity { vec_capacity result ≡ vec_capacity fresh }
     ensures one { vec_len result ≤ vec_len fresh + 1 }
     ensures others { (o : ℕ) → o ≢ octant → points_at out.new o ≡ points_at out.old o }

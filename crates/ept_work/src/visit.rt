@@ -1,8 +1,8 @@
 //! A visit of a node, in its three parts.
 
-ghost use Rattle.std.specs.Prelude.{◌≡◌, ◌+◌, ◌<◌, ◌≤◌, ◌⊎◌, ◌++◌, ℕ, [], Ok, Err, IfOk, IfErr, OnOk, OnErr, true, false, length, vec_len, vec_capacity};
+ghost use Rattle.std.specs.Prelude.{◌≡◌, ◌+◌, ◌<◌, ◌≤◌, ◌⊎◌, ◌++◌, ℕ, [], Ok, Err, IfOk, IfErr, OnOk, OnErr, true, false, if◌then◌else◌, length, vec_len, vec_capacity};
 ghost use Rattle.ept_node.specs.declared.node.Node as node_of_type;
-ghost use Rattle.ept_node.specs.Shown.{state_of, node_of, children_of, no_children};
+ghost use Rattle.ept_node.specs.Shown.{file_of, state_of, node_of, children_of, no_children};
 ghost use Rattle.ept_grid.specs.Outgoing.{points_at};
 ghost use Rattle.ept_sample.specs.Place.{AllInBox};
 ghost use Rattle.ept_node.specs.declared.state.NodeState.TheVariants.{Blank, Resident};
@@ -11,8 +11,10 @@ ghost use Rattle.ept_slots.specs.Seating.{view};
 ghost use Rattle.ept_table.specs.declared.item.Item.TheVariants as items;
 ghost use Rattle.ept_table.specs.declared.taken.Taken as taken_of;
 ghost use Rattle.ept_table.specs.Item.{seen_node};
+ghost use Rattle.ept_table.specs.Permits.{spare_of};
 ghost use Rattle.ept_table.specs.Standing.{known};
 ghost use Rattle.ept_table.specs.Steps.{given_back};
+ghost use Rattle.ept_table.specs.Table.{IsSeat};
 ghost use Rattle.ept_work.specs.Rest.{IsIdle, IsAtRest};
 ghost use Rattle.ept_work.specs.Visiting.{IsBegun, IsVisit, TakesUp, IsLanding, HasRoom, IsVisitCause, IsOpening, leaving, Visits};
 ghost use Rattle.ept_work.specs.Meeting.{Meets};
@@ -21,17 +23,17 @@ use crate::error::WorkError;
 use crate::opening::{Opening, open_children};
 use crate::sending::send_on;
 use crate::worker::{Worker, fresh_in, take_over};
-use ept_base::{Gate, Source};
+use ept_base::{Gate, Source, SpillFile};
 use ept_grid::Outgoing;
 use ept_node::{Node, NodeState};
 use ept_point::{List, Memory, Point};
 use ept_space::{Key, Rules};
-use ept_table::{Carried, Done, Item, NodeTable, Scan};
+use ept_table::{Carried, Done, Item, NodeTable, Scan, Seat};
 use std::alloc::Global;
 use std::mem;
 use std::sync::Wait;
 
-/// A node that a worker holds, at which its last flight has not arrived yet.
+/// A node that a worker holds, at which its flight has not arrived yet.
 pub struct Visit<F> {
     pub(crate) node: Node<F>,
     pub(crate) slot: u32,
@@ -39,7 +41,7 @@ pub struct Visit<F> {
     pub(crate) was_blank: bool,
 }
 
-/// A node that a worker holds, at which its last flight has arrived, with the flights that go on.
+/// A node that a worker holds, at which its flight has arrived, with the flights that go on.
 pub struct Landing<F> {
     pub(crate) node: Node<F>,
     pub(crate) slot: u32,
@@ -48,46 +50,11 @@ pub struct Landing<F> {
     pub(crate) is_full: bool,
 }
 
-impl<F, S: Source> Worker<F, S> {
-    ghost use Rattle.ept_table.specs.Table.{slots_of, rules_of, IsSeat};
+impl<F: SpillFile, S: Source> Worker<F, S> {
+    ghost use Rattle.ept_table.specs.Table.{slots_of, rules_of};
     ghost use Rattle.ept_work.specs.Worker.{seat_of, number_of, knows};
 
-    /// Takes the node to which the last flight goes, as soon as it is free. A blank one is begun with the key of the
-    /// flight.
-    ///
-    /// # Errors
-    ///
-    /// `TooManyNodes` where the flight has no slot, and `Memory` where there are too many flights to be counted.
-    pub fn take_up<H: Wait, J: Scan>(
-        &mut self,
-        rt: &H,
-        table: &NodeTable<F, S, J>,
-    ) -> Result<Visit<F>, WorkError>
-        requires seat { IsSeat J.told table.now (seat_of self.old) }
-        requires rest { IsAtRest J.told (knows S.whole self.old) }
-        requires slots { slots_of table.now ≡ J.told.most + 1 }
-        requires rules { rules_of table.now ≡ J.told.rules }
-        requires some { 0 < length (knows S.whole self.old).note.flights }
-        ensures seat { IsSeat J.told table.now (seat_of self.new) }
-        ensures number { number_of self.new ≡ number_of self.old }
-        ensures ok { IfOk result (TakesUp J.told (knows S.whole self.old) (knows S.whole self.new)) }
-        ensures unchanged { OnErr result (knows S.whole self.new ≡ knows S.whole self.old) }
-        ensures refused { IfErr result (IsVisitCause J.told (knows S.whole self.new)) }
-    {
-        let Ok(number) = u32::try_from(self.flights.len() - 1) else {
-            return Err(WorkError::Memory);
-        };
-        let carried = &self.flights[number as usize];
-        let slot = carried.slot;
-        let key = carried.flight.key;
-        if slot == 0 {
-            return Err(WorkError::TooManyNodes);
-        }
-        let item = table.take(rt, &mut self.seat, slot);
-        Ok(begun(node_in(item), slot, number, key, table.rules()))
-    }
-
-    /// Lets the last flight arrive at the node, draws slots for the children of the octants that it opens until that is
+    /// Lets the flight arrive at the node, draws slots for the children of the octants that it opens until that is
     /// refused, and makes the flights that go on. All memory is reserved first, so that nothing is refused once the points
     /// have arrived.
     ///
@@ -101,15 +68,16 @@ impl<F, S: Source> Worker<F, S> {
         visit: Visit<F>,
     ) -> Result<Landing<F>, Visit<F>>
         requires seat { IsSeat J.told table.now (seat_of self.old) }
-        requires visit { IsVisit J.told (knows S.whole self.old) visit }
+        requires visit { IsVisit F.held J.told (knows F.held S.whole self.old) visit }
         requires slots { slots_of table.now ≡ J.told.most + 1 }
         requires rules { rules_of table.now ≡ J.told.rules }
         ensures seat { IsSeat J.told table.now (seat_of self.new) }
         ensures number { number_of self.new ≡ number_of self.old }
-        ensures opens { IsOpening (knows S.whole self.old) (knows S.whole self.new) }
-        ensures ok { IfOk result (λ landing. IsLanding J.told (knows S.whole self.new) landing × HasRoom self.new landing) }
-        ensures unchanged { OnErr result (knows S.whole self.new ≡ knows S.whole self.old) }
-        ensures refused { IfErr result (IsVisit J.told (knows S.whole self.new)) }
+        ensures opens { IsOpening (knows F.held S.whole self.old) (knows F.held S.whole self.new) }
+        ensures ok { IfOk result (λ landing. IsLanding F.held J.told (knows F.held S.whole self.new) landing × HasRoom self.new landing) }
+        ensures unchanged { OnErr result (knows F.held S.whole self.new ≡ knows F.held S.whole self.old) }
+        ensures refused { IfErr result (IsVisit F.held J.told (knows F.held S.whole self.new)) }
+        ensures permits { spare_of (view (seat_of self.new)) ≡ spare_of (view (seat_of self.old)) }
     {
         if self.reserve().is_err() {
             return Err(visit);
@@ -151,7 +119,7 @@ impl<F, S: Source> Worker<F, S> {
         })
     }
 
-    /// Gives the node back at which the last flight has arrived. The flights that go on are carried in its place.
+    /// Gives the node back at which the flight has arrived. The flights that go on are carried in its place.
     ///
     /// # Errors
     ///
@@ -162,15 +130,17 @@ impl<F, S: Source> Worker<F, S> {
         landing: Landing<F>,
     ) -> Result<(), WorkError>
         requires seat { IsSeat J.told table.now (seat_of self.old) }
-        requires landing { IsLanding J.told (knows S.whole self.old) landing }
+        requires landing { IsLanding F.held J.told (knows F.held S.whole self.old) landing }
         requires room { HasRoom self.old landing }
+        requires permit { 1 ≤ spare_of (view (seat_of self.old)) }
         requires slots { slots_of table.now ≡ J.told.most + 1 }
         ensures seat { IsSeat J.told table.now (seat_of self.new) }
         ensures number { number_of self.new ≡ number_of self.old }
-        ensures knows { knows S.whole self.new ≡ leaving (knows S.whole self.old) landing.number landing.fresh.items }
-        ensures idle { IsIdle (knows S.whole self.new) }
-        ensures rest { OnOk result (IsAtRest J.told (knows S.whole self.new)) }
-        ensures refused { IfErr result (IsVisitCause J.told (knows S.whole self.new)) }
+        ensures knows { knows F.held S.whole self.new ≡ leaving (knows F.held S.whole self.old) landing.number landing.fresh.items }
+        ensures idle { IsIdle (knows F.held S.whole self.new) }
+        ensures rest { OnOk result (IsAtRest J.told (knows F.held S.whole self.new)) }
+        ensures refused { IfErr result (IsVisitCause J.told (knows F.held S.whole self.new)) }
+        ensures permits { spare_of (view (seat_of self.new)) + 1 ≡ spare_of (view (seat_of self.old)) }
     {
         let Landing {
             node,
@@ -184,7 +154,8 @@ impl<F, S: Source> Worker<F, S> {
             fresh: List::of(fresh),
         };
         let done = table.give(&mut self.seat, slot, Item::Node(node), done);
-        let _landed = self.flights.pop();
+        let _landed = self.flights.remove(number as usize);
+        self.here = slot;
         self.fresh = take_over(&mut self.flights, fresh_in(done));
         if is_full {
             return Err(WorkError::TooManyNodes);
@@ -192,15 +163,17 @@ impl<F, S: Source> Worker<F, S> {
         Ok(())
     }
 
-    /// Gives the node back as it was taken. The flight is carried on.
+    /// Gives the node back, one that was blank as a blank one. The flight is carried on.
     pub fn put_back<J: Scan>(&mut self, table: &NodeTable<F, S, J>, visit: Visit<F>)
         requires seat { IsSeat J.told table.now (seat_of self.old) }
-        requires visit { IsVisit J.told (knows S.whole self.old) visit }
+        requires visit { IsVisit F.held J.told (knows F.held S.whole self.old) visit }
         requires slots { slots_of table.now ≡ J.told.most + 1 }
+        requires permit { 1 ≤ spare_of (view (seat_of self.old)) }
         ensures seat { IsSeat J.told table.now (seat_of self.new) }
         ensures number { number_of self.new ≡ number_of self.old }
-        ensures knows { knows S.whole self.new ≡ given_back (knows S.whole self.old) (knows S.whole self.old).note }
-        ensures rest { IsAtRest J.told (knows S.whole self.new) }
+        ensures knows { knows F.held S.whole self.new ≡ given_back (knows F.held S.whole self.old) (knows F.held S.whole self.old).note }
+        ensures rest { IsAtRest J.told (knows F.held S.whole self.new) }
+        ensures permits { spare_of (view (seat_of self.new)) + 1 ≡ spare_of (view (seat_of self.old)) }
     {
         let Visit {
             node,
@@ -210,13 +183,14 @@ impl<F, S: Source> Worker<F, S> {
         } = visit;
         let node = as_taken(node, was_blank);
         let _done = table.give(&mut self.seat, slot, Item::Node(node), Done::Nothing);
+        permit_back(table, &mut self.seat, was_blank);
     }
 
-    /// Visits the node of the last flight. The gate is entered once, while the node is held.
+    /// Visits the node of the next flight. The gate is entered once, while the node is held.
     ///
     /// # Errors
     ///
-    /// `TooManyNodes` and `Memory`. No node is held afterwards.
+    /// `TooManyNodes`, the fault of a spill file, and `Memory`. No node is held afterwards.
     pub fn visit<H: Wait, G: Gate, J: Scan>(
         &mut self,
         rt: &H,
@@ -225,19 +199,20 @@ impl<F, S: Source> Worker<F, S> {
         gate: &G,
     ) -> Result<(), WorkError>
         requires seat { IsSeat J.told table.now (seat_of self.old) }
-        requires rest { IsAtRest J.told (knows S.whole self.old) }
+        requires rest { IsAtRest J.told (knows F.held S.whole self.old) }
         requires slots { slots_of table.now ≡ J.told.most + 1 }
         requires rules { rules_of table.now ≡ J.told.rules }
-        requires some { 0 < length (knows S.whole self.old).note.flights }
+        requires some { 0 < length (knows F.held S.whole self.old).note.flights }
         ensures seat { IsSeat J.told table.now (seat_of self.new) }
         ensures number { number_of self.new ≡ number_of self.old }
-        ensures visits { OnOk result (Visits J.told (knows S.whole self.old) (knows S.whole self.new)) }
-        ensures rest { OnOk result (IsAtRest J.told (knows S.whole self.new)) }
-        ensures idle { IsIdle (knows S.whole self.new) }
-        ensures share { (knows S.whole self.new).parts ≡ (knows S.whole self.old).parts }
-        ensures refused { IfErr result (IsVisitCause J.told (knows S.whole self.new)) }
+        ensures visits { OnOk result (Visits J.told (knows F.held S.whole self.old) (knows F.held S.whole self.new)) }
+        ensures rest { OnOk result (IsAtRest J.told (knows F.held S.whole self.new)) }
+        ensures idle { IsIdle (knows F.held S.whole self.new) }
+        ensures share { (knows F.held S.whole self.new).parts ≡ (knows F.held S.whole self.old).parts }
+        ensures refused { IfErr result (IsVisitCause J.told (knows F.held S.whole self.new)) }
+        ensures permits { spare_of (view (seat_of self.new)) ≡ spare_of (view (seat_of self.old)) }
     {
-        let visit = self.take_up(rt, table)?;
+        let visit = self.take_up(rt, alloc, table)?;
         visit.enter(self.number, gate);
         match self.land(alloc, table, visit) {
             Ok(landing) => self.leave(table, landing),
@@ -269,7 +244,9 @@ impl<F> Visit<F> {
     {
         self.slot
     }
+}
 
+impl<F: SpillFile> Visit<F> {
     // Enters the gate.
     fn enter<G: Gate>(&self, worker: u32, gate: &G)
         requires { state_of self.now.node ≡ Resident }
@@ -288,31 +265,31 @@ impl<F> Landing<F> {
     }
 }
 
-// The node of a key: one that was taken, or one that begins in place of a blank one.
-fn begun<F>(mut node: Node<F>, slot: u32, number: u32, key: Key, rules: &Rules) -> Visit<F>
-    requires low { key.depth ≤ rules.now.cube.depth }
-    requires standing { state_of node ≡ Resident → ((node_of node).key ≡ key) × ((node_of node).rules ≡ rules.now) }
-    ensures slot { (result.slot ≡ slot) × (result.number ≡ number) }
-    ensures node { IsBegun rules.now (seen_node node) key result.node result.was_blank }
+// Gives a permit back that is not wanted.
+pub(crate) fn permit_back<F: SpillFile, S: Source, J: Scan>(
+    table: &NodeTable<F, S, J>,
+    seat: &mut Seat<F, S>,
+    is_spare: bool,
+)
+    requires seat { IsSeat J.told table.now seat.old }
+    requires permit { is_spare ≡ true → 0 < (view seat.old).permits }
+    ensures seat { IsSeat J.told table.now seat.new }
+    ensures known { known F.held S.whole (view seat.new) ≡ known F.held S.whole (view seat.old) }
+    ensures permits { spare_of (view seat.new) + (if is_spare then 1 else 0) ≡ spare_of (view seat.old) }
 {
-    let was_blank = node.state() == NodeState::Blank;
-    if was_blank {
-        node.begin(key, rules);
+    if !is_spare {
+        return;
     }
-    Visit {
-        node,
-        slot,
-        number,
-        was_blank,
-    }
+    table.give_permit(seat);
 }
 
 // The node as it was taken.
-fn as_taken<F>(mut node: Node<F>, was_blank: bool) -> Node<F>
+fn as_taken<F: SpillFile>(mut node: Node<F>, was_blank: bool) -> Node<F>
     requires resident { state_of node ≡ Resident }
-    requires blank { was_blank ≡ true → ((node_of node).points ≡ []) × ((node_of node).mask ≡ 0) × (children_of node ≡ no_children) }
+    requires blank { was_blank ≡ true → ((node_of F.held node).points ≡ []) × ((node_of F.held node).mask ≡ 0) × (children_of node ≡ no_children) }
     ensures blank { was_blank ≡ true → state_of result ≡ Blank }
     ensures standing { was_blank ≡ false → result ≡ node }
+    ensures file { file_of result ≡ file_of node }
 {
     if was_blank {
         node.unbegin();
@@ -322,19 +299,19 @@ fn as_taken<F>(mut node: Node<F>, was_blank: bool) -> Node<F>
 
 // Lets points arrive at a node, whose leaving points are added to an empty list. Or there was no memory, and the node is
 // as it was.
-fn arrived<F>(
+fn arrived<F: SpillFile>(
     alloc: Global,
     mut node: Node<F>,
     points: &[Point],
     out: &mut Outgoing,
 ) -> Result<Node<F>, Node<F>>
     requires resident { state_of node ≡ Resident }
-    requires inside { AllInBox (node_of node).rules.cube (node_of node).key points.now }
+    requires inside { AllInBox (node_of F.held node).rules.cube (node_of F.held node).key points.now }
     requires some { 0 < length points.now }
     requires empty { (o : ℕ) → points_at out.old o ≡ [] }
-    ensures ok { IfOk result (λ new. Meets (node_of node) (node_of new) points.now out.new) }
-    ensures state { IfOk result (λ new. (state_of new ≡ Resident) × (children_of new ≡ children_of node)) }
-    ensures refused { IfErr result (λ new. (state_of new ≡ Resident) × (node_of new ≡ node_of node) × (children_of new ≡ children_of node)) }
+    ensures ok { IfOk result (λ new. Meets (node_of F.held node) (node_of F.held new) points.now out.new) }
+    ensures state { IfOk result (λ new. (state_of new ≡ Resident) × (children_of new ≡ children_of node) × (file_of new ≡ file_of node)) }
+    ensures refused { IfErr result (λ new. (state_of new ≡ Resident) × (node_of F.held new ≡ node_of F.held node) × (children_of new ≡ children_of node) × (file_of new ≡ file_of node)) }
 {
     match node.arrive_batch(alloc, points, out) {
         Ok(()) => Ok(node),
@@ -343,7 +320,7 @@ fn arrived<F>(
 }
 
 // The node of an item.
-fn node_in<F, S>(item: Item<F, S>) -> Node<F>
+pub(crate) fn node_in<F, S>(item: Item<F, S>) -> Node<F>
     requires { (node : node_of_type.Node F) × (item ≡ items.Node node) }
     ensures { item ≡ items.Node result }
 {

@@ -1,6 +1,6 @@
 //! A worker, and how it draws a batch.
 
-ghost use Rattle.std.specs.Prelude.{◌≡◌, ◌+◌, ◌++◌, ◌<◌, ◌≤◌, ℕ, List, [], IfOk, IfErr, OnOk, OnErr, Some, None, ◌≢◌, true, false, length, vec_len, vec_capacity};
+ghost use Rattle.std.specs.Prelude.{◌≡◌, ◌+◌, ◌++◌, ◌<◌, ◌≤◌, ℕ, List, [], IfOk, IfErr, IfSome, OnOk, OnErr, Some, None, ◌≢◌, true, false, length, vec_len, vec_capacity};
 ghost use Rattle.ept_point.specs.declared.point.Point as at;
 ghost use Rattle.ept_space.specs.VoxelKey.{root};
 ghost use Rattle.ept_scan.specs.declared.second_reading.Reader as reader_of;
@@ -10,6 +10,7 @@ ghost use Rattle.ept_slots.specs.Seating.{view};
 ghost use Rattle.ept_table.specs.declared.item.Item.TheVariants as items;
 ghost use Rattle.ept_table.specs.Item.{seen_reader, IsFiled};
 ghost use Rattle.ept_table.specs.Shown.{IsTold, FitsReader};
+ghost use Rattle.ept_table.specs.Permits.{spare_of};
 ghost use Rattle.ept_table.specs.Standing.{known};
 ghost use Rattle.ept_table.specs.declared.done.Done.TheVariants as done_of;
 ghost use Rattle.ept_table.specs.Visits.{fresh_of};
@@ -19,7 +20,8 @@ ghost use Rattle.ept_work.specs.Rest.{IsIdle, IsAtRest};
 ghost use Rattle.ept_work.specs.Drawing.{DrawsBatch, DrawsNone, IsReadCause, answer_of};
 
 use crate::error::WorkError;
-use ept_base::Source;
+use crate::victims::Victims;
+use ept_base::{Source, SpillFile};
 use ept_core::Flight;
 use ept_grid::Outgoing;
 use ept_point::{List, Point};
@@ -44,13 +46,18 @@ pub struct Worker<F, S> {
     // The points that leave a node while a flight arrives at it, and the flights in which they go on.
     pub(crate) out: Outgoing,
     pub(crate) fresh: Vec<Carried>,
+    // The nodes that go to their files next, and whether one had to.
+    pub(crate) victims: Victims,
+    pub(crate) is_short: bool,
+    // The slot of the node that was visited last, 0 before the first visit.
+    pub(crate) here: u32,
     ghost carries: { (view seat).note.flights ≡ flights.items },
     ghost emptied: { fresh.items ≡ [] },
 }
 
-impl<F, S: Source> Worker<F, S> {
+impl<F: SpillFile, S: Source> Worker<F, S> {
     ghost use Rattle.ept_table.specs.Table.{slots_of, IsSeat};
-    ghost use Rattle.ept_work.specs.Worker.{seat_of, number_of, knows, slot_of_last};
+    ghost use Rattle.ept_work.specs.Worker.{seat_of, number_of, knows, IsGoal};
 
     /// A worker of this number with a seat that carries no flight. It takes no memory.
     pub fn new(alloc: Global, seat: Seat<F, S>, number: u32) -> Worker<F, S>
@@ -64,6 +71,9 @@ impl<F, S: Source> Worker<F, S> {
             number,
             out: Outgoing::new(alloc),
             fresh: Vec::new(alloc),
+            victims: Victims::new(alloc),
+            is_short: false,
+            here: 0,
         }
     }
 
@@ -77,6 +87,9 @@ impl<F, S: Source> Worker<F, S> {
             number: _number,
             out: _out,
             fresh: _fresh,
+            victims: _victims,
+            is_short: _is_short,
+            here: _here,
         } = self;
         seat
     }
@@ -89,14 +102,32 @@ impl<F, S: Source> Worker<F, S> {
         self.flights.is_empty()
     }
 
-    /// The slot of the node that is visited next, to which the last flight goes: 0 where it has none. None where no flight is
-    /// carried.
+    /// The slot of the node that is visited next, to which one of the flights goes: 0 where it has none. None where no flight
+    /// is carried.
     pub fn next_slot(&self) -> Option<u32>
-        ensures { result ≡ slot_of_last (knows S.whole self.now).note.flights }
+        ensures some { IfSome result (IsGoal (knows F.held S.whole self.now).note.flights) }
+        ensures none { result ≡ None → (knows F.held S.whole self.now).note.flights ≡ [] }
     {
-        match self.flights.last() {
-            Some(carried) => Some(carried.slot),
-            None => None,
+        if self.flights.is_empty() {
+            return None;
+        }
+        Some(self.flights[self.next()].slot)
+    }
+
+    // Which flight goes on next: the newest. Once nodes have to leave memory, the newest to the node that was visited last, as
+    // long as there is one.
+    pub(crate) fn next(&self) -> usize
+        requires { 0 < vec_len self.now.flights }
+        ensures { result < vec_len self.now.flights }
+    {
+        let here = self.here;
+        match self
+            .flights
+            .iter()
+            .rposition(|carried| carried.slot == here)
+        {
+            Some(place) => place,
+            None => self.flights.len() - 1,
         }
     }
 
@@ -113,14 +144,15 @@ impl<F, S: Source> Worker<F, S> {
         table: &NodeTable<F, S, J>,
     ) -> Result<bool, WorkError>
         requires seat { IsSeat J.told table.now (seat_of self.old) }
-        requires rest { IsAtRest J.told (knows S.whole self.old) }
+        requires rest { IsAtRest J.told (knows F.held S.whole self.old) }
         requires slots { slots_of table.now ≡ J.told.most + 1 }
         ensures seat { IsSeat J.told table.now (seat_of self.new) }
         ensures number { number_of self.new ≡ number_of self.old }
-        ensures rest { IsAtRest J.told (knows S.whole self.new) }
-        ensures ok { IfOk result (DrawsBatch J.told (number_of self.old) (knows S.whole self.old) (knows S.whole self.new)) }
-        ensures refused { IfErr result (λ e. IsReadCause (knows S.whole self.new) e
-            × DrawsNone J.told (number_of self.old) (knows S.whole self.old) (knows S.whole self.new)) }
+        ensures rest { IsAtRest J.told (knows F.held S.whole self.new) }
+        ensures ok { IfOk result (DrawsBatch J.told (number_of self.old) (knows F.held S.whole self.old) (knows F.held S.whole self.new)) }
+        ensures refused { IfErr result (λ e. IsReadCause (knows F.held S.whole self.new) e
+            × DrawsNone J.told (number_of self.old) (knows F.held S.whole self.old) (knows F.held S.whole self.new)) }
+        ensures permits { spare_of (view (seat_of self.new)) ≡ spare_of (view (seat_of self.old)) }
     {
         let batch = Vec::with_capacity(alloc, BATCH)?;
         self.flights.reserve(1)?;
@@ -146,11 +178,12 @@ impl<F, S: Source> Worker<F, S> {
     /// nodes as the sampling has.
     pub fn abandon<J: Scan>(&mut self, table: &NodeTable<F, S, J>)
         requires seat { IsSeat J.told table.now (seat_of self.old) }
-        requires idle { IsIdle (knows S.whole self.old) }
+        requires idle { IsIdle (knows F.held S.whole self.old) }
         ensures seat { IsSeat J.told table.now (seat_of self.new) }
         ensures number { number_of self.new ≡ number_of self.old }
-        ensures knows { knows S.whole self.new ≡ noting (knows S.whole self.old) (abandoned (knows S.whole self.old).note) }
-        ensures too_many { lacks_slot (knows S.whole self.old).note.flights ≡ true → IsTooMany J.told }
+        ensures knows { knows F.held S.whole self.new ≡ noting (knows F.held S.whole self.old) (abandoned (knows F.held S.whole self.old).note) }
+        ensures too_many { lacks_slot (knows F.held S.whole self.old).note.flights ≡ true → IsTooMany J.told }
+        ensures permits { spare_of (view (seat_of self.new)) ≡ spare_of (view (seat_of self.old)) }
     {
         table.abandon(&mut self.seat);
         self.flights.clear();

@@ -1,13 +1,15 @@
 //! One worker, from the first batch to the last.
 
 ghost use Rattle.std.specs.Prelude.{◌≡◌, ◌+◌, ℕ, [], IfOk, IfErr, OnOk, OnErr, true, false};
+ghost use Rattle.ept_slots.specs.Seating.{view};
+ghost use Rattle.ept_table.specs.Permits.{spare_of};
 ghost use Rattle.ept_work.specs.Rest.{IsIdle, IsAtRest};
 ghost use Rattle.ept_work.specs.Drawing.{HasDrawnAll};
 ghost use Rattle.ept_work.specs.Working.{Keeps, HasWorked, HasEnded, IsStopped, IsCause};
 
 use crate::error::WorkError;
 use crate::worker::{ROOT_SLOT, Worker};
-use ept_base::{Gate, Source};
+use ept_base::{Gate, Source, SpillFile};
 use ept_table::{NodeTable, Scan};
 use std::alloc::Global;
 use std::sync::Wait;
@@ -18,16 +20,20 @@ const CARRIED: usize = 32;
 
 const CARRIED_TO_ROOT: usize = 4;
 
-impl<F, S: Source> Worker<F, S> {
+// Where nodes have to leave memory, so many batches are drawn before the first is brought down: what they have for a node
+// arrives while it is in memory once.
+const AHEAD: usize = 32;
+
+impl<F: SpillFile, S: Source> Worker<F, S> {
     ghost use Rattle.ept_table.specs.Table.{slots_of, rules_of, IsSeat};
     ghost use Rattle.ept_work.specs.Worker.{seat_of, number_of, knows};
 
-    /// Works from the first batch to the last, one visit at a time, that of the newest flight first. Where another worker
-    /// holds that node it draws a further batch meanwhile. A worker that is refused abandons its flights. At the end it carries no flight and holds no slot, whatever the answer.
+    /// Works from the first batch to the last, one visit at a time: that of the newest flight, or once nodes have to leave
+    /// memory, of the node that it comes from as long as a flight goes there. Where another worker holds that node it draws a further batch meanwhile. A worker that is refused abandons its flights. At the end it carries no flight and holds no slot, whatever the answer.
     ///
     /// # Errors
     ///
-    /// The refusal of the reader, `TooManyNodes` and `Memory`.
+    /// The refusal of the reader, `TooManyNodes`, and those of a spill file, `SpillFault` and `SpillDamaged`, and `Memory`.
     pub fn work<H: Wait, G: Gate, J: Scan>(
         &mut self,
         rt: &H,
@@ -36,14 +42,15 @@ impl<F, S: Source> Worker<F, S> {
         gate: &G,
     ) -> Result<(), WorkError>
         requires seat { IsSeat J.told table.now (seat_of self.old) }
-        requires rest { IsAtRest J.told (knows S.whole self.old) }
+        requires rest { IsAtRest J.told (knows F.held S.whole self.old) }
         requires slots { slots_of table.now ≡ J.told.most + 1 }
         requires rules { rules_of table.now ≡ J.told.rules }
         ensures seat { IsSeat J.told table.now (seat_of self.new) }
         ensures number { number_of self.new ≡ number_of self.old }
-        ensures ended { HasEnded (knows S.whole self.old) (knows S.whole self.new) }
-        ensures ok { OnOk result (HasWorked J.told (knows S.whole self.old) (knows S.whole self.new)) }
-        ensures refused { IfErr result (IsCause J.told (knows S.whole self.new)) }
+        ensures ended { HasEnded (knows F.held S.whole self.old) (knows F.held S.whole self.new) }
+        ensures ok { OnOk result (HasWorked J.told (knows F.held S.whole self.old) (knows F.held S.whole self.new)) }
+        ensures refused { IfErr result (IsCause J.told (knows F.held S.whole self.new)) }
+        ensures permits { spare_of (view (seat_of self.new)) ≡ spare_of (view (seat_of self.old)) }
     {
         match self.go_on(rt, alloc, table, gate) {
             Ok(()) => Ok(()),
@@ -63,16 +70,17 @@ impl<F, S: Source> Worker<F, S> {
         gate: &G,
     ) -> Result<(), WorkError>
         requires seat { IsSeat J.told table.now (seat_of self.old) }
-        requires rest { IsAtRest J.told (knows S.whole self.old) }
+        requires rest { IsAtRest J.told (knows F.held S.whole self.old) }
         requires slots { slots_of table.now ≡ J.told.most + 1 }
         requires rules { rules_of table.now ≡ J.told.rules }
         ensures seat { IsSeat J.told table.now (seat_of self.new) }
         ensures number { number_of self.new ≡ number_of self.old }
-        ensures idle { IsIdle (knows S.whole self.new) }
-        ensures parts { (knows S.whole self.new).parts ≡ (knows S.whole self.old).parts }
-        ensures ok { OnOk result (HasWorked J.told (knows S.whole self.old) (knows S.whole self.new)) }
-        ensures landed { OnOk result ((knows S.whole self.new).note.flights ≡ []) }
-        ensures refused { IfErr result (IsStopped J.told (knows S.whole self.new)) }
+        ensures idle { IsIdle (knows F.held S.whole self.new) }
+        ensures parts { (knows F.held S.whole self.new).parts ≡ (knows F.held S.whole self.old).parts }
+        ensures ok { OnOk result (HasWorked J.told (knows F.held S.whole self.old) (knows F.held S.whole self.new)) }
+        ensures landed { OnOk result ((knows F.held S.whole self.new).note.flights ≡ []) }
+        ensures refused { IfErr result (IsStopped J.told (knows F.held S.whole self.new)) }
+        ensures permits { spare_of (view (seat_of self.new)) ≡ spare_of (view (seat_of self.old)) }
     {
         for _ in rt.forever() {
             if !self.step(rt, alloc, table, gate)? {
@@ -82,8 +90,8 @@ impl<F, S: Source> Worker<F, S> {
         unreachable!()
     }
 
-    // Visits the node of the last flight, or draws a batch where there is no flight or another worker holds that node. Answers
-    // whether there is more to do.
+    // Visits the node of the next flight, or draws a batch where there is no flight, more are to come down together, or another
+    // worker holds that node. Answers whether there is more to do.
     fn step<H: Wait, G: Gate, J: Scan>(
         &mut self,
         rt: &H,
@@ -92,30 +100,31 @@ impl<F, S: Source> Worker<F, S> {
         gate: &G,
     ) -> Result<bool, WorkError>
         requires seat { IsSeat J.told table.now (seat_of self.old) }
-        requires rest { IsAtRest J.told (knows S.whole self.old) }
+        requires rest { IsAtRest J.told (knows F.held S.whole self.old) }
         requires slots { slots_of table.now ≡ J.told.most + 1 }
         requires rules { rules_of table.now ≡ J.told.rules }
         ensures seat { IsSeat J.told table.now (seat_of self.new) }
         ensures number { number_of self.new ≡ number_of self.old }
-        ensures rest { OnOk result (IsAtRest J.told (knows S.whole self.new)) }
-        ensures idle { IsIdle (knows S.whole self.new) }
-        ensures parts { (knows S.whole self.new).parts ≡ (knows S.whole self.old).parts }
-        ensures keeps { OnOk result (Keeps (knows S.whole self.old) (knows S.whole self.new)) }
-        ensures landed { IfOk result (λ more. more ≡ false → (knows S.whole self.new).note.flights ≡ []) }
-        ensures all { IfOk result (λ more. more ≡ false → HasDrawnAll J.told (knows S.whole self.new)) }
-        ensures refused { IfErr result (IsStopped J.told (knows S.whole self.new)) }
+        ensures rest { OnOk result (IsAtRest J.told (knows F.held S.whole self.new)) }
+        ensures idle { IsIdle (knows F.held S.whole self.new) }
+        ensures parts { (knows F.held S.whole self.new).parts ≡ (knows F.held S.whole self.old).parts }
+        ensures keeps { OnOk result (Keeps (knows F.held S.whole self.old) (knows F.held S.whole self.new)) }
+        ensures landed { IfOk result (λ more. more ≡ false → (knows F.held S.whole self.new).note.flights ≡ []) }
+        ensures all { IfOk result (λ more. more ≡ false → HasDrawnAll J.told (knows F.held S.whole self.new)) }
+        ensures refused { IfErr result (IsStopped J.told (knows F.held S.whole self.new)) }
+        ensures permits { spare_of (view (seat_of self.new)) ≡ spare_of (view (seat_of self.old)) }
     {
         if self.is_empty() {
             return self.draw(rt, alloc, table);
         }
-        if self.would_wait(table) {
+        if self.draws_ahead() || self.would_wait(table) {
             return self.draw_meanwhile(rt, alloc, table, gate);
         }
         self.visit(rt, alloc, table, gate)?;
         Ok(true)
     }
 
-    // Draws a batch while another worker holds the node of the last flight, and waits for that node where there is none left.
+    // Draws a batch though flights are carried, and visits the node of the next one where there is none left.
     fn draw_meanwhile<H: Wait, G: Gate, J: Scan>(
         &mut self,
         rt: &H,
@@ -124,17 +133,18 @@ impl<F, S: Source> Worker<F, S> {
         gate: &G,
     ) -> Result<bool, WorkError>
         requires seat { IsSeat J.told table.now (seat_of self.old) }
-        requires rest { IsAtRest J.told (knows S.whole self.old) }
+        requires rest { IsAtRest J.told (knows F.held S.whole self.old) }
         requires slots { slots_of table.now ≡ J.told.most + 1 }
         requires rules { rules_of table.now ≡ J.told.rules }
         ensures seat { IsSeat J.told table.now (seat_of self.new) }
         ensures number { number_of self.new ≡ number_of self.old }
-        ensures rest { OnOk result (IsAtRest J.told (knows S.whole self.new)) }
-        ensures idle { IsIdle (knows S.whole self.new) }
-        ensures parts { (knows S.whole self.new).parts ≡ (knows S.whole self.old).parts }
-        ensures keeps { OnOk result (Keeps (knows S.whole self.old) (knows S.whole self.new)) }
+        ensures rest { OnOk result (IsAtRest J.told (knows F.held S.whole self.new)) }
+        ensures idle { IsIdle (knows F.held S.whole self.new) }
+        ensures parts { (knows F.held S.whole self.new).parts ≡ (knows F.held S.whole self.old).parts }
+        ensures keeps { OnOk result (Keeps (knows F.held S.whole self.old) (knows F.held S.whole self.new)) }
         ensures more { IfOk result (λ more. more ≡ true) }
-        ensures refused { IfErr result (IsStopped J.told (knows S.whole self.new)) }
+        ensures refused { IfErr result (IsStopped J.told (knows F.held S.whole self.new)) }
+        ensures permits { spare_of (view (seat_of self.new)) ≡ spare_of (view (seat_of self.old)) }
     {
         if self.draw(rt, alloc, table)? || self.is_empty() {
             return Ok(true);
@@ -143,16 +153,21 @@ impl<F, S: Source> Worker<F, S> {
         Ok(true)
     }
 
-    // Whether another worker holds the node of the last flight, and few flights are carried.
+    // Whether a further batch is to come down together with those that were drawn.
+    fn draws_ahead(&self) -> bool {
+        self.is_short && self.flights.len() < AHEAD && self.next_slot() == Some(ROOT_SLOT)
+    }
+
+    // Whether another worker holds the node of the next flight, and few flights are carried.
     fn would_wait<J: Scan>(&self, table: &NodeTable<F, S, J>) -> bool {
-        let Some(carried) = self.flights.last() else {
+        let Some(slot) = self.next_slot() else {
             return false;
         };
-        let most = if carried.slot == ROOT_SLOT {
+        let most = if slot == ROOT_SLOT {
             CARRIED_TO_ROOT
         } else {
             CARRIED
         };
-        self.flights.len() < most && table.is_held(carried.slot)
+        self.flights.len() < most && table.is_held(slot)
     }
 }

@@ -5,9 +5,9 @@ ghost use Rattle.ept_table.specs.Table.{IsSeat};
 ghost use Rattle.ept_work.specs.Worker.{seat_of, knows};
 ghost use Rattle.ept_work.specs.Rest.{IsIdle, IsAtRest};
 ghost use Rattle.ept_work.specs.Visiting.{IsVisit, IsLanding, HasRoom};
-ghost use Rattle.ept_work_tests.specs.Hands.{HasEnded, parts_of, IsTable, IsHand};
+ghost use Rattle.ept_work_tests.specs.Hands.{HasEnded, HasPermit, parts_of, IsTable, IsHand};
 
-use ept_base::{Gate, Source};
+use ept_base::{Gate, Source, SpillFile};
 use ept_table::{NodeTable, Scan};
 use ept_work::{Landing, Visit, WorkError, Worker};
 use std::alloc::Global;
@@ -17,7 +17,7 @@ use std::sync::Wait;
 pub enum Doing<F> {
     /// Nothing.
     Rest,
-    /// It holds the node of its last flight.
+    /// It holds the node of one of its flights.
     Up(Visit<F>),
     /// That flight has arrived there.
     Down(Landing<F>),
@@ -38,16 +38,16 @@ pub struct Past<F, S> {
 }
 
 /// The next step of a worker: one that carries no flight draws, one that has drawn nothing ends.
-pub fn step<F, S: Source, J: Scan, H: Wait>(
+pub fn step<F: SpillFile, S: Source, J: Scan, H: Wait>(
     rt: &H,
     alloc: Global,
     table: &NodeTable<F, S, J>,
     hand: Hand<F, S>,
 ) -> Hand<F, S>
     requires table { IsTable J.told table.now }
-    requires hand { IsHand S.whole J.told table.now hand }
-    ensures hand { IsHand S.whole J.told table.now result }
-    ensures share { parts_of S.whole J.told result.worker ≡ parts_of S.whole J.told hand.worker }
+    requires hand { IsHand F.held S.whole J.told table.now hand }
+    ensures hand { IsHand F.held S.whole J.told table.now result }
+    ensures share { parts_of F.held S.whole J.told result.worker ≡ parts_of F.held S.whole J.told hand.worker }
 {
     let Hand { worker, doing } = hand;
     match doing {
@@ -62,7 +62,7 @@ pub fn step<F, S: Source, J: Scan, H: Wait>(
 }
 
 /// As `step`, but a worker at rest that carries flights visits the node of the last one in one step.
-pub fn whole_step<F, S: Source, J: Scan, G: Gate, H: Wait>(
+pub fn whole_step<F: SpillFile, S: Source, J: Scan, G: Gate, H: Wait>(
     rt: &H,
     alloc: Global,
     table: &NodeTable<F, S, J>,
@@ -70,9 +70,9 @@ pub fn whole_step<F, S: Source, J: Scan, G: Gate, H: Wait>(
     gate: &G,
 ) -> Hand<F, S>
     requires table { IsTable J.told table.now }
-    requires hand { IsHand S.whole J.told table.now hand }
-    ensures hand { IsHand S.whole J.told table.now result }
-    ensures share { parts_of S.whole J.told result.worker ≡ parts_of S.whole J.told hand.worker }
+    requires hand { IsHand F.held S.whole J.told table.now hand }
+    ensures hand { IsHand F.held S.whole J.told table.now result }
+    ensures share { parts_of F.held S.whole J.told result.worker ≡ parts_of F.held S.whole J.told hand.worker }
 {
     let Hand { worker, doing } = hand;
     match doing {
@@ -86,8 +86,8 @@ pub fn whole_step<F, S: Source, J: Scan, G: Gate, H: Wait>(
     }
 }
 
-// Draws, where no flight is carried, or visits the last flight's node.
-fn visit<F, S: Source, J: Scan, G: Gate, H: Wait>(
+// Draws, where no flight is carried, or visits the next flight's node.
+fn visit<F: SpillFile, S: Source, J: Scan, G: Gate, H: Wait>(
     rt: &H,
     alloc: Global,
     table: &NodeTable<F, S, J>,
@@ -96,9 +96,9 @@ fn visit<F, S: Source, J: Scan, G: Gate, H: Wait>(
 ) -> Hand<F, S>
     requires table { IsTable J.told table.now }
     requires seat { IsSeat J.told table.now (seat_of worker) }
-    requires rest { IsAtRest J.told (knows S.whole worker) }
-    ensures hand { IsHand S.whole J.told table.now result }
-    ensures share { parts_of S.whole J.told result.worker ≡ parts_of S.whole J.told worker }
+    requires rest { IsAtRest J.told (knows F.held S.whole worker) }
+    ensures hand { IsHand F.held S.whole J.told table.now result }
+    ensures share { parts_of F.held S.whole J.told result.worker ≡ parts_of F.held S.whole J.told worker }
 {
     if worker.is_empty() {
         return draw(rt, alloc, table, worker);
@@ -112,8 +112,8 @@ fn visit<F, S: Source, J: Scan, G: Gate, H: Wait>(
     }
 }
 
-// Draws, where no flight is carried, or takes up the last flight's node.
-fn begin<F, S: Source, J: Scan, H: Wait>(
+// Draws, where no flight is carried, or takes up the next flight's node.
+fn begin<F: SpillFile, S: Source, J: Scan, H: Wait>(
     rt: &H,
     alloc: Global,
     table: &NodeTable<F, S, J>,
@@ -121,14 +121,14 @@ fn begin<F, S: Source, J: Scan, H: Wait>(
 ) -> Hand<F, S>
     requires table { IsTable J.told table.now }
     requires seat { IsSeat J.told table.now (seat_of worker) }
-    requires rest { IsAtRest J.told (knows S.whole worker) }
-    ensures hand { IsHand S.whole J.told table.now result }
-    ensures share { parts_of S.whole J.told result.worker ≡ parts_of S.whole J.told worker }
+    requires rest { IsAtRest J.told (knows F.held S.whole worker) }
+    ensures hand { IsHand F.held S.whole J.told table.now result }
+    ensures share { parts_of F.held S.whole J.told result.worker ≡ parts_of F.held S.whole J.told worker }
 {
     if worker.is_empty() {
         return draw(rt, alloc, table, worker);
     }
-    match worker.take_up(rt, table) {
+    match worker.take_up(rt, alloc, table) {
         Ok(visit) => Hand {
             worker,
             doing: Doing::Up(visit),
@@ -138,7 +138,7 @@ fn begin<F, S: Source, J: Scan, H: Wait>(
 }
 
 // Draws a batch, or ends where there is none.
-fn draw<F, S: Source, J: Scan, H: Wait>(
+fn draw<F: SpillFile, S: Source, J: Scan, H: Wait>(
     rt: &H,
     alloc: Global,
     table: &NodeTable<F, S, J>,
@@ -146,9 +146,9 @@ fn draw<F, S: Source, J: Scan, H: Wait>(
 ) -> Hand<F, S>
     requires table { IsTable J.told table.now }
     requires seat { IsSeat J.told table.now (seat_of worker) }
-    requires rest { IsAtRest J.told (knows S.whole worker) }
-    ensures hand { IsHand S.whole J.told table.now result }
-    ensures share { parts_of S.whole J.told result.worker ≡ parts_of S.whole J.told worker }
+    requires rest { IsAtRest J.told (knows F.held S.whole worker) }
+    ensures hand { IsHand F.held S.whole J.told table.now result }
+    ensures share { parts_of F.held S.whole J.told result.worker ≡ parts_of F.held S.whole J.told worker }
 {
     match worker.draw(rt, alloc, table) {
         Ok(true) => Hand {
@@ -160,7 +160,7 @@ fn draw<F, S: Source, J: Scan, H: Wait>(
     }
 }
 
-fn land<F, S: Source, J: Scan>(
+fn land<F: SpillFile, S: Source, J: Scan>(
     alloc: Global,
     table: &NodeTable<F, S, J>,
     mut worker: Worker<F, S>,
@@ -168,9 +168,10 @@ fn land<F, S: Source, J: Scan>(
 ) -> Hand<F, S>
     requires table { IsTable J.told table.now }
     requires seat { IsSeat J.told table.now (seat_of worker) }
-    requires visit { IsVisit J.told (knows S.whole worker) visit }
-    ensures hand { IsHand S.whole J.told table.now result }
-    ensures share { parts_of S.whole J.told result.worker ≡ parts_of S.whole J.told worker }
+    requires visit { IsVisit F.held J.told (knows F.held S.whole worker) visit }
+    requires permit { HasPermit F.held S.whole J.told worker }
+    ensures hand { IsHand F.held S.whole J.told table.now result }
+    ensures share { parts_of F.held S.whole J.told result.worker ≡ parts_of F.held S.whole J.told worker }
 {
     match worker.land(alloc, table, visit) {
         Ok(landing) => Hand {
@@ -181,7 +182,7 @@ fn land<F, S: Source, J: Scan>(
     }
 }
 
-fn put_back<F, S: Source, J: Scan>(
+fn put_back<F: SpillFile, S: Source, J: Scan>(
     table: &NodeTable<F, S, J>,
     mut worker: Worker<F, S>,
     visit: Visit<F>,
@@ -189,25 +190,27 @@ fn put_back<F, S: Source, J: Scan>(
 ) -> Hand<F, S>
     requires table { IsTable J.told table.now }
     requires seat { IsSeat J.told table.now (seat_of worker) }
-    requires visit { IsVisit J.told (knows S.whole worker) visit }
-    ensures hand { IsHand S.whole J.told table.now result }
-    ensures share { parts_of S.whole J.told result.worker ≡ parts_of S.whole J.told worker }
+    requires visit { IsVisit F.held J.told (knows F.held S.whole worker) visit }
+    requires permit { HasPermit F.held S.whole J.told worker }
+    ensures hand { IsHand F.held S.whole J.told table.now result }
+    ensures share { parts_of F.held S.whole J.told result.worker ≡ parts_of F.held S.whole J.told worker }
 {
     worker.put_back(table, visit);
     end(table, worker, refused)
 }
 
-fn leave<F, S: Source, J: Scan>(
+fn leave<F: SpillFile, S: Source, J: Scan>(
     table: &NodeTable<F, S, J>,
     mut worker: Worker<F, S>,
     landing: Landing<F>,
 ) -> Hand<F, S>
     requires table { IsTable J.told table.now }
     requires seat { IsSeat J.told table.now (seat_of worker) }
-    requires landing { IsLanding J.told (knows S.whole worker) landing }
+    requires landing { IsLanding F.held J.told (knows F.held S.whole worker) landing }
     requires room { HasRoom worker landing }
-    ensures hand { IsHand S.whole J.told table.now result }
-    ensures share { parts_of S.whole J.told result.worker ≡ parts_of S.whole J.told worker }
+    requires permit { HasPermit F.held S.whole J.told worker }
+    ensures hand { IsHand F.held S.whole J.told table.now result }
+    ensures share { parts_of F.held S.whole J.told result.worker ≡ parts_of F.held S.whole J.told worker }
 {
     match worker.leave(table, landing) {
         Ok(()) => Hand {
@@ -218,15 +221,15 @@ fn leave<F, S: Source, J: Scan>(
     }
 }
 
-fn end<F, S: Source, J: Scan>(
+fn end<F: SpillFile, S: Source, J: Scan>(
     table: &NodeTable<F, S, J>,
     mut worker: Worker<F, S>,
     refused: Option<WorkError>,
 ) -> Hand<F, S>
     requires seat { IsSeat J.told table.now (seat_of worker) }
-    requires idle { IsIdle (knows S.whole worker) }
-    ensures hand { IsHand S.whole J.told table.now result }
-    ensures share { parts_of S.whole J.told result.worker ≡ parts_of S.whole J.told worker }
+    requires idle { IsIdle (knows F.held S.whole worker) }
+    ensures hand { IsHand F.held S.whole J.told table.now result }
+    ensures share { parts_of F.held S.whole J.told result.worker ≡ parts_of F.held S.whole J.told worker }
 {
     worker.abandon(table);
     Hand {
@@ -236,12 +239,15 @@ fn end<F, S: Source, J: Scan>(
 }
 
 /// Ends a worker at whatever it is. The flights that it still carries are abandoned.
-pub fn finish<F, S: Source, J: Scan>(table: &NodeTable<F, S, J>, hand: Hand<F, S>) -> Past<F, S>
+pub fn finish<F: SpillFile, S: Source, J: Scan>(
+    table: &NodeTable<F, S, J>,
+    hand: Hand<F, S>,
+) -> Past<F, S>
     requires table { IsTable J.told table.now }
-    requires hand { IsHand S.whole J.told table.now hand }
+    requires hand { IsHand F.held S.whole J.told table.now hand }
     ensures seat { IsSeat J.told table.now (seat_of result.worker) }
-    ensures ended { HasEnded S.whole J.told result.worker }
-    ensures share { parts_of S.whole J.told result.worker ≡ parts_of S.whole J.told hand.worker }
+    ensures ended { HasEnded F.held S.whole J.told result.worker }
+    ensures share { parts_of F.held S.whole J.told result.worker ≡ parts_of F.held S.whole J.told hand.worker }
 {
     let Hand { mut worker, doing } = hand;
     let refused = match doing {

@@ -2,6 +2,7 @@
 
 ghost use Rattle.std.specs.Prelude.{◌≡◌, ◌≤◌, true, [], ◌∷◌};
 ghost use Rattle.ept_space.specs.VoxelKey.{root};
+ghost use Rattle.ept_node.specs.Shown.{IsTelling};
 ghost use Rattle.ept_forest.specs.Slots.{IsPlanted};
 ghost use Rattle.ept_table.specs.Scanned.{told_of};
 ghost use Rattle.ept_table_fixtures.specs.Known.{IsKnown};
@@ -38,6 +39,14 @@ pub struct Crew {
     ghost few: { workers ≤ 64 },
 }
 
+/// How many nodes there may be, and how many of them in memory.
+#[derive(Clone, Copy)]
+pub struct Limits {
+    pub most: u32,
+    pub cache: u32,
+    ghost some: { (1 ≤ most) × (1 ≤ cache) },
+}
+
 /// What the work at a table leaves, and why the workers were refused, if they were.
 pub struct Worked<F, S> {
     pub forest: Forest<F>,
@@ -45,7 +54,7 @@ pub struct Worked<F, S> {
     pub refused: [Option<WorkError>; 2],
 }
 
-/// Workers at a table of a new forest and a known reader.
+/// Workers at a table of a new forest and a known reader, at which so many nodes may be in memory.
 pub fn work<
     F: SpillFile + Send + Sync,
     S: Source + Send,
@@ -57,16 +66,16 @@ pub fn work<
     alloc: Global,
     forest: Forest<F>,
     known: Known<S>,
-    most: u32,
+    limits: Limits,
     plan: Plan<'_>,
     gate: &G,
 ) -> Worked<F, S>
-    requires told { J.told ≡ told_of S.whole known.reader known.rules most (root ∷ []) true known.points.items }
+    requires told { J.told ≡ told_of S.whole known.reader known.rules limits.most limits.cache (root ∷ []) true known.points.items }
     requires known { IsKnown S.whole S.left S.given S.faults known }
-    requires some { 1 ≤ most }
-    requires planted { IsPlanted F.faults F.keeps most known.rules forest }
+    requires planted { IsPlanted F.held F.faults F.keeps limits.most known.rules forest }
+    requires telling { IsTelling F.held }
 {
-    let (table, seat) = match seated::<F, S, J>(alloc, forest, known, most) {
+    let (table, seat) = match seated::<F, S, J>(alloc, forest, known, limits.most, limits.cache) {
         Ok(made) => made,
         Err(unmade) => {
             let Unmade { forest, reader } = unmade;

@@ -2,12 +2,12 @@
 
 ghost use Rattle.std.specs.Prelude.{◌≤◌};
 
-use crate::plans::{Crew, Plan, Worked, work};
-use ept_base::{Gate, OpenGate};
+use crate::plans::{Crew, Limits, Plan, Worked, work};
+use ept_base::{Gate, OpenGate, SpillFile};
 use ept_forest::Forest;
 use ept_meet::MeetGate;
 use ept_mem::{MemRoom, MemSource, MemSpill};
-use ept_node::{Node, NodeState};
+use ept_node::{Node, NodeError, NodeState};
 use ept_num::lcg;
 use ept_point::{Memory, Point};
 use ept_sample::{Tiles, are_in_cube, ids_ascend, sample};
@@ -41,23 +41,30 @@ struct Standing {
     points: Vec<Point>,
 }
 
-// All points and their rules, what stands then, and why the workers were refused.
+// All points and their rules, what stands then if no node is broken, how many nodes are in memory, why one is broken, and why
+// the workers were refused.
 #[derive(Drop)]
 struct Built {
     rules: Rules,
     points: Vec<Point>,
     standing: Vec<Standing>,
     used: u32,
+    residents: u64,
+    fault: Option<NodeError>,
     refused: [Option<WorkError>; 2],
 }
 
 // The nodes that are not blank, slot by slot.
-fn standing_in<F>(alloc: Global, nodes: &mut [Node<F>]) -> Result<Vec<Standing>, Memory> {
+fn standing_in<F: SpillFile>(
+    alloc: Global,
+    nodes: &mut [Node<F>],
+) -> Result<Vec<Standing>, NodeError> {
     let mut standing = Vec::new(alloc);
     for node in nodes.iter_mut() {
-        if node.state() == NodeState::Resident {
+        let state = node.state();
+        if state == NodeState::Resident || state == NodeState::Spilled {
             let mut points = Vec::new(alloc);
-            node.points_into(&mut points)?;
+            node.points_into(alloc, &mut points)?;
             let key = node.key();
             standing.push(Standing { key, points })?;
         }
@@ -65,26 +72,34 @@ fn standing_in<F>(alloc: Global, nodes: &mut [Node<F>]) -> Result<Vec<Standing>,
     Ok(standing)
 }
 
-// Workers bring the points at these places down to at most so many nodes.
-fn build<G: Gate + Sync, R: Threads + Wait + Sync>(
+// Points, and the table that they are brought to.
+#[derive(Clone, Copy)]
+struct Case<'a> {
+    config: &'a str,
+    places: &'a [[i32; 3]],
+    limits: Limits,
+    // Which calls of each node's spill file fail.
+    fails: &'a [u64],
+}
+
+// Workers bring the points of a case down.
+fn build_case<G: Gate + Sync, R: Threads + Wait + Sync>(
     rt: &R,
     alloc: Global,
-    config: &str,
-    places: &[[i32; 3]],
-    most: u32,
+    case: Case<'_>,
     plan: Plan<'_>,
     gate: &G,
-) -> Result<Built, Fail>
-    requires { 1 ≤ most }
-{
-    let mut shelf = shelf_of(alloc, places)?;
-    let mut room = MemRoom::new(alloc, Vec::new(alloc), Vec::new(alloc));
-    let Some(known) = read_known(alloc, &mut shelf, config, 100_000) else {
+) -> Result<Built, Fail> {
+    let limits = case.limits;
+    let mut shelf = shelf_of(alloc, case.places)?;
+    let fails = Vec::from_slice(alloc, case.fails)?;
+    let mut room = MemRoom::new(alloc, Vec::new(alloc), fails);
+    let Some(known) = read_known(alloc, &mut shelf, case.config, 100_000) else {
         return Err(Fail::new("no reader"));
     };
     let rules = known.rules;
     let points = Vec::from_slice(alloc, &known.points);
-    let forest = match Forest::new(alloc, &mut room, most, &rules) {
+    let forest = match Forest::new(alloc, &mut room, limits.most, &rules) {
         Ok(forest) => forest,
         Err(refused) => {
             let Known {
@@ -102,18 +117,48 @@ fn build<G: Gate + Sync, R: Threads + Wait + Sync>(
         forest,
         reader,
         refused,
-    } = work::<MemSpill, MemSource, Brand, G, R>(rt, alloc, forest, known, most, plan, gate);
+    } = work::<MemSpill, MemSource, Brand, G, R>(rt, alloc, forest, known, limits, plan, gate);
     reader.retire_all(&mut shelf);
+    let residents = forest.residents();
+    let fault = forest.fault();
     let (mut nodes, used) = forest.into_nodes();
-    let standing = standing_in(alloc, &mut nodes);
+    let standing = if fault.is_none() {
+        standing_in(alloc, &mut nodes)
+    } else {
+        Ok(Vec::new(alloc))
+    };
     Forest::from_nodes(nodes, used).retire_all(&mut room);
     Ok(Built {
         rules,
         points: points?,
         standing: standing?,
         used,
+        residents,
+        fault,
         refused,
     })
+}
+
+// Workers bring the points at these places down to at most so many nodes, all of which may be in memory.
+fn build<G: Gate + Sync, R: Threads + Wait + Sync>(
+    rt: &R,
+    alloc: Global,
+    config: &str,
+    places: &[[i32; 3]],
+    most: u32,
+    plan: Plan<'_>,
+    gate: &G,
+) -> Result<Built, Fail>
+    requires { 1 ≤ most }
+{
+    let limits = Limits { most, cache: most };
+    let case = Case {
+        config,
+        places,
+        limits,
+        fails: &[],
+    };
+    build_case(rt, alloc, case, plan, gate)
 }
 
 // Whether the node of a key stands there, with the points of these numbers.
@@ -343,4 +388,73 @@ fn two_workers_are_in_two_nodes_at_one_time(rt: HostRuntime) -> Result<(), Fail>
         }
     }
     Err(Fail::new("no worker met the other one"))
+}
+
+// Workers at tables of which few nodes may be in memory.
+const TIGHT: [(Crew, Limits); 3] = [
+    (
+        Crew { workers: 1 },
+        Limits {
+            most: 4_000,
+            cache: 1,
+        },
+    ),
+    (
+        Crew { workers: 2 },
+        Limits {
+            most: 4_000,
+            cache: 2,
+        },
+    ),
+    (
+        Crew { workers: 2 },
+        Limits {
+            most: 4_000,
+            cache: 1,
+        },
+    ),
+];
+
+#[test]
+fn few_nodes_in_memory_are_the_same_nodes(rt: HostRuntime) -> Result<(), Fail> {
+    let alloc = rt.alloc();
+    let places = Lot { state: 7 }.places(alloc, 3_000)?;
+    let mut wanted = None;
+    for (crew, limits) in TIGHT {
+        let case = Case {
+            config: WIDE,
+            places: &places,
+            limits,
+            fails: &[],
+        };
+        let built = build_case(&rt, alloc, case, Plan::Threads(crew), &OpenGate)?;
+        same(&rt, &built.refused, &[None, None]);
+        same(&rt, &built.fault, &None);
+        let is_tight = built.residents <= u64::from(limits.cache) && limits.cache < built.used;
+        same(&rt, &is_tight, &true);
+        let is_sampled = is_sampled(&rt, alloc, &built, &mut wanted)?;
+        same(&rt, &is_sampled, &true);
+    }
+    Ok(())
+}
+
+// The first call of a file keeps the points of its node, and the second one gives them back.
+#[test]
+fn a_file_that_fails_leaves_a_broken_node(rt: HostRuntime) -> Result<(), Fail> {
+    let alloc = rt.alloc();
+    let places = Lot { state: 7 }.places(alloc, 3_000)?;
+    for (crew, limits) in TIGHT {
+        for call in [0, 1] {
+            let case = Case {
+                config: WIDE,
+                places: &places,
+                limits,
+                fails: &[call],
+            };
+            let built = build_case(&rt, alloc, case, Plan::Threads(crew), &OpenGate)?;
+            same(&rt, &built.refused, &[Some(WorkError::SpillFault), None]);
+            same(&rt, &built.fault, &Some(NodeError::SpillFault));
+        }
+    }
+    Ok(())
 }

@@ -27,7 +27,7 @@ fn held_slot<F>(doing: &Doing<F>) -> Option<u32> {
 }
 
 // Whether the next step of one would have to wait for the node that the other holds.
-fn may_wait<F, S: Source>(one: &Hand<F, S>, other: &Hand<F, S>) -> bool {
+fn may_wait<F: SpillFile, S: Source>(one: &Hand<F, S>, other: &Hand<F, S>) -> bool {
     match (&one.doing, held_slot(&other.doing)) {
         (Doing::Rest, Some(held)) => one.worker.next_slot() == Some(held),
         _ => false,
@@ -35,7 +35,7 @@ fn may_wait<F, S: Source>(one: &Hand<F, S>, other: &Hand<F, S>) -> bool {
 }
 
 // One of the workers makes a step. Where it would have to wait, the other one makes it.
-fn turn<F, S: Source, J: Scan, H: Wait>(
+fn turn<F: SpillFile, S: Source, J: Scan, H: Wait>(
     rt: &H,
     alloc: Global,
     table: &NodeTable<F, S, J>,
@@ -43,8 +43,8 @@ fn turn<F, S: Source, J: Scan, H: Wait>(
     is_first: bool,
 ) -> Pair<F, S>
     requires table { IsTable J.told table.now }
-    requires pair { IsPair S.whole J.told table.now pair }
-    ensures { IsPair S.whole J.told table.now result }
+    requires pair { IsPair F.held S.whole J.told table.now pair }
+    ensures { IsPair F.held S.whole J.told table.now result }
 {
     let Pair { first, second } = pair;
     let goes_first = if is_first {
@@ -66,7 +66,7 @@ fn turn<F, S: Source, J: Scan, H: Wait>(
 }
 
 // The workers take these turns.
-fn take_turns<F, S: Source, J: Scan, H: Wait>(
+fn take_turns<F: SpillFile, S: Source, J: Scan, H: Wait>(
     rt: &H,
     alloc: Global,
     table: &NodeTable<F, S, J>,
@@ -74,8 +74,8 @@ fn take_turns<F, S: Source, J: Scan, H: Wait>(
     turns: &[bool],
 ) -> Pair<F, S>
     requires table { IsTable J.told table.now }
-    requires pair { IsPair S.whole J.told table.now pair }
-    ensures { IsPair S.whole J.told table.now result }
+    requires pair { IsPair F.held S.whole J.told table.now pair }
+    ensures { IsPair F.held S.whole J.told table.now result }
 {
     for is_first in turns {
         pair = turn(rt, alloc, table, pair, *is_first);

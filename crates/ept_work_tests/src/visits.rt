@@ -38,7 +38,7 @@ pub fn work_by_visits<F: SpillFile, S: Source, J: Scan, G: Gate, H: Wait>(
 }
 
 // The worker makes so many steps.
-fn take_steps<F, S: Source, J: Scan, G: Gate, H: Wait>(
+fn take_steps<F: SpillFile, S: Source, J: Scan, G: Gate, H: Wait>(
     rt: &H,
     alloc: Global,
     table: &NodeTable<F, S, J>,
@@ -47,9 +47,9 @@ fn take_steps<F, S: Source, J: Scan, G: Gate, H: Wait>(
     gate: &G,
 ) -> Hand<F, S>
     requires table { IsTable J.told table.now }
-    requires hand { IsHand S.whole J.told table.now hand }
-    ensures hand { IsHand S.whole J.told table.now result }
-    ensures share { parts_of S.whole J.told result.worker ≡ parts_of S.whole J.told hand.worker }
+    requires hand { IsHand F.held S.whole J.told table.now hand }
+    ensures hand { IsHand F.held S.whole J.told table.now result }
+    ensures share { parts_of F.held S.whole J.told result.worker ≡ parts_of F.held S.whole J.told hand.worker }
 {
     for _ in 0..steps {
         hand = whole_step(rt, alloc, table, hand, gate);

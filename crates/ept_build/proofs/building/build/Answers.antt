@@ -1,11 +1,14 @@
-use Rattle.std.proofs.Common.{rules, ◌≡◌, ◌∙◌, inr, Bool, refl, sym, ap, subst, arith, Some, ◌≤◌, List, length}
+use Rattle.std.proofs.Common.{rules, ◌≡◌, ◌∙◌, inr, Bool, ℕ, refl, sym, ap, subst, arith, Some, ◌≤◌, List, length}
 use Rattle.std.specs.Prelude.{Result, Ok, Err, IfErr}
 use Rattle.std.proofs.lemmas.Result.{IfOk-weaker, IfErr-weaker, err_from_is_err_and}
+use Rattle.ept_base.specs.Devices.{counts_on}
 use Rattle.ept_base.specs.Files.{Files, SameFiles}
 use Rattle.ept_base.specs.Moves.{Moves}
 use Rattle.ept_base.specs.declared.errors.PutError.{PutError}
 use Rattle.ept_base.proofs.Moving.{moves_once}
 use Rattle.ept_scan.specs.Scans.{IsScan}
+use Rattle.ept_forest.specs.Slots as slots
+use Rattle.ept_forest.specs.Slots.{nodes_of, kept_by}
 use Rattle.ept_save.specs.Names.{done_name}
 use Rattle.ept_save.specs.Current.{Current, HasCurrent}
 use Rattle.ept_save.specs.Done.{IsDone}
@@ -29,7 +32,8 @@ use Rattle.ept_build.proofs.Asking.{opens-front, asked-none, asked-scan, asked-r
 use Rattle.ept_build.proofs.Ground.{has-counts}
 use Rattle.ept_build.proofs.Moved.{moves-then, moves-wider}
 use Rattle.ept_build.proofs.UnderWay.{early-moves}
-use Rattle.ept_build.proofs.Finished.{finished-built, built-from, under-way-from, stops-from, starts-again, done-all}
+use Rattle.ept_build.proofs.Finished.{finished-built, built-from, under-way-from, stops-from, starts-again, done-all, already-done}
+use Rattle.ept_build.proofs.Spilled.{kept-but}
 use Rattle.ept_build.proofs.building.build.Goals as goal
 
 pub returns-in_err-saved-clause-sound : goal.returns-in_err-saved-clause-sound
@@ -152,8 +156,8 @@ returns-clause-built g c = λ all start begins.
     let at_two = stepped SameFiles (g.T.Store.files c.args.store.now) (g.T.Store.files c.is_finished.new.store) start begins.told (same_twice g.T.Store.files g.T.Store.may_leave g.T.Store.moment g.T.Store.image_since c.args.store.now c.open.new.store c.is_finished.new.store c.open.ensures.any_moment c.is_finished.ensures.any_moment).reads in
     let told : g.H.Shelf.files c.make_plan.new.shelf ≡ Some all = c.in_ok-plan.ensures.files ∙ begins.shelf_told in
     let stands = same-stands g.T.Store.files g.T.Store.may_leave g.T.Store.moment g.T.Store.image_since c.in_ok-saved.saved c.open.new.store c.is_finished.new.store c.is_finished.ensures.any_moment (c.in_ok-saved.ensures.stands start begins.told begins.settled) in
-    let starts = starts-again c.sound_steps_law.ensures.same all start at_two.0 c.args.config.now c.in_ok-saved.saved c.in_ok-plan.plan cur begins.sound at_two.2 g.T.Store.files g.T.Store.may_leave g.T.Store.moment g.T.Store.image_since c.args.store.now c.is_finished.new.store begins.told begins.settled at_two.1 (same_twice g.T.Store.files g.T.Store.may_leave g.T.Store.moment g.T.Store.image_since c.args.store.now c.open.new.store c.is_finished.new.store c.open.ensures.any_moment c.is_finished.ensures.any_moment) stands (tells-some _ (g.H.Shelf.files c.args.shelf.now) all begins.shelf_told c.in_ok-plan.ensures.scan) in
-    let begins_at = subst (λ (v : View). Starts all c.args.config.now v c.in_ok-plan.plan at_two.0 (g.T.Store.files c.is_finished.new.store) (g.T.Store.may_leave c.is_finished.new.store)) (sym c.in_ok-at.ensures.saved) starts in
+    let starts = starts-again c.sound_steps_law.ensures.same all start at_two.0 c.args.config.now c.in_ok-saved.saved c.in_ok-plan.plan cur begins.sound at_two.2 g.T.Store.files g.T.Store.may_leave g.T.Store.moment g.T.Store.image_since c.args.store.now c.is_finished.new.store begins.told begins.settled at_two.1 (same_twice g.T.Store.files g.T.Store.may_leave g.T.Store.moment g.T.Store.image_since c.args.store.now c.open.new.store c.is_finished.new.store c.open.ensures.any_moment c.is_finished.ensures.any_moment) g.M.File.SpillFile.held begins.spills stands (tells-some _ (g.H.Shelf.files c.args.shelf.now) all begins.shelf_told c.in_ok-plan.ensures.scan) in
+    let begins_at = subst (λ (v : View). Starts g.M.File.SpillFile.held all c.args.config.now v c.in_ok-plan.plan at_two.0 (g.T.Store.files c.is_finished.new.store) (g.T.Store.may_leave c.is_finished.new.store)) (sym c.in_ok-at.ensures.saved) starts in
     IfOk-weaker c.built-forest.result.1 _ _ (λ summary. built-from all c.args.config.now start at_two.0 at_two.2 summary (g.T.Store.files c.built-forest.new.store)) (c.built-forest.ensures.built all at_two.0 told begins_at)
 
 pub returns-clause-sound : goal.returns-clause-sound
@@ -162,8 +166,8 @@ returns-clause-sound g c = λ all start begins.
     let at_two = stepped SameFiles (g.T.Store.files c.args.store.now) (g.T.Store.files c.is_finished.new.store) start begins.told (same_twice g.T.Store.files g.T.Store.may_leave g.T.Store.moment g.T.Store.image_since c.args.store.now c.open.new.store c.is_finished.new.store c.open.ensures.any_moment c.is_finished.ensures.any_moment).reads in
     let told : g.H.Shelf.files c.make_plan.new.shelf ≡ Some all = c.in_ok-plan.ensures.files ∙ begins.shelf_told in
     let stands = same-stands g.T.Store.files g.T.Store.may_leave g.T.Store.moment g.T.Store.image_since c.in_ok-saved.saved c.open.new.store c.is_finished.new.store c.is_finished.ensures.any_moment (c.in_ok-saved.ensures.stands start begins.told begins.settled) in
-    let starts = starts-again c.sound_steps_law.ensures.same all start at_two.0 c.args.config.now c.in_ok-saved.saved c.in_ok-plan.plan cur begins.sound at_two.2 g.T.Store.files g.T.Store.may_leave g.T.Store.moment g.T.Store.image_since c.args.store.now c.is_finished.new.store begins.told begins.settled at_two.1 (same_twice g.T.Store.files g.T.Store.may_leave g.T.Store.moment g.T.Store.image_since c.args.store.now c.open.new.store c.is_finished.new.store c.open.ensures.any_moment c.is_finished.ensures.any_moment) stands (tells-some _ (g.H.Shelf.files c.args.shelf.now) all begins.shelf_told c.in_ok-plan.ensures.scan) in
-    let begins_at = subst (λ (v : View). Starts all c.args.config.now v c.in_ok-plan.plan at_two.0 (g.T.Store.files c.is_finished.new.store) (g.T.Store.may_leave c.is_finished.new.store)) (sym c.in_ok-at.ensures.saved) starts in
+    let starts = starts-again c.sound_steps_law.ensures.same all start at_two.0 c.args.config.now c.in_ok-saved.saved c.in_ok-plan.plan cur begins.sound at_two.2 g.T.Store.files g.T.Store.may_leave g.T.Store.moment g.T.Store.image_since c.args.store.now c.is_finished.new.store begins.told begins.settled at_two.1 (same_twice g.T.Store.files g.T.Store.may_leave g.T.Store.moment g.T.Store.image_since c.args.store.now c.open.new.store c.is_finished.new.store c.open.ensures.any_moment c.is_finished.ensures.any_moment) g.M.File.SpillFile.held begins.spills stands (tells-some _ (g.H.Shelf.files c.args.shelf.now) all begins.shelf_told c.in_ok-plan.ensures.scan) in
+    let begins_at = subst (λ (v : View). Starts g.M.File.SpillFile.held all c.args.config.now v c.in_ok-plan.plan at_two.0 (g.T.Store.files c.is_finished.new.store) (g.T.Store.may_leave c.is_finished.new.store)) (sym c.in_ok-at.ensures.saved) starts in
     moves-then g.T.Store.files g.T.Store.may_leave g.T.Store.moment g.T.Store.image_since (IsUnderWay all c.args.config.now start) c.args.store.now c.is_finished.new.store c.built-forest.new.store
     (early-moves c.sound_steps_law.ensures.same c.sound_law.ensures.published c.sound_steps_law.ensures.guarding all c.args.config.now start g.T.Store.files g.T.Store.may_leave g.T.Store.moment g.T.Store.image_since c.args.store.now c.is_finished.new.store begins.told begins.settled begins.sound (same_twice g.T.Store.files g.T.Store.may_leave g.T.Store.moment g.T.Store.image_since c.args.store.now c.open.new.store c.is_finished.new.store c.open.ensures.any_moment c.is_finished.ensures.any_moment))
     (moves-wider g.T.Store.files g.T.Store.may_leave g.T.Store.moment g.T.Store.image_since (IsUnderWay all c.args.config.now at_two.0) (IsUnderWay all c.args.config.now start) (under-way-from all c.args.config.now start at_two.0 at_two.2) c.is_finished.new.store c.built-forest.new.store (c.built-forest.ensures.sound all at_two.0 told begins_at))
@@ -182,8 +186,8 @@ returns-clause-refused g c = λ all start begins.
     let at_two = stepped SameFiles (g.T.Store.files c.args.store.now) (g.T.Store.files c.is_finished.new.store) start begins.told (same_twice g.T.Store.files g.T.Store.may_leave g.T.Store.moment g.T.Store.image_since c.args.store.now c.open.new.store c.is_finished.new.store c.open.ensures.any_moment c.is_finished.ensures.any_moment).reads in
     let told : g.H.Shelf.files c.make_plan.new.shelf ≡ Some all = c.in_ok-plan.ensures.files ∙ begins.shelf_told in
     let stands = same-stands g.T.Store.files g.T.Store.may_leave g.T.Store.moment g.T.Store.image_since c.in_ok-saved.saved c.open.new.store c.is_finished.new.store c.is_finished.ensures.any_moment (c.in_ok-saved.ensures.stands start begins.told begins.settled) in
-    let starts = starts-again c.sound_steps_law.ensures.same all start at_two.0 c.args.config.now c.in_ok-saved.saved c.in_ok-plan.plan cur begins.sound at_two.2 g.T.Store.files g.T.Store.may_leave g.T.Store.moment g.T.Store.image_since c.args.store.now c.is_finished.new.store begins.told begins.settled at_two.1 (same_twice g.T.Store.files g.T.Store.may_leave g.T.Store.moment g.T.Store.image_since c.args.store.now c.open.new.store c.is_finished.new.store c.open.ensures.any_moment c.is_finished.ensures.any_moment) stands (tells-some _ (g.H.Shelf.files c.args.shelf.now) all begins.shelf_told c.in_ok-plan.ensures.scan) in
-    let begins_at = subst (λ (v : View). Starts all c.args.config.now v c.in_ok-plan.plan at_two.0 (g.T.Store.files c.is_finished.new.store) (g.T.Store.may_leave c.is_finished.new.store)) (sym c.in_ok-at.ensures.saved) starts in
+    let starts = starts-again c.sound_steps_law.ensures.same all start at_two.0 c.args.config.now c.in_ok-saved.saved c.in_ok-plan.plan cur begins.sound at_two.2 g.T.Store.files g.T.Store.may_leave g.T.Store.moment g.T.Store.image_since c.args.store.now c.is_finished.new.store begins.told begins.settled at_two.1 (same_twice g.T.Store.files g.T.Store.may_leave g.T.Store.moment g.T.Store.image_since c.args.store.now c.open.new.store c.is_finished.new.store c.open.ensures.any_moment c.is_finished.ensures.any_moment) g.M.File.SpillFile.held begins.spills stands (tells-some _ (g.H.Shelf.files c.args.shelf.now) all begins.shelf_told c.in_ok-plan.ensures.scan) in
+    let begins_at = subst (λ (v : View). Starts g.M.File.SpillFile.held all c.args.config.now v c.in_ok-plan.plan at_two.0 (g.T.Store.files c.is_finished.new.store) (g.T.Store.may_leave c.is_finished.new.store)) (sym c.in_ok-at.ensures.saved) starts in
     IfErr-weaker c.built-forest.result.1 (IsRefusedAt all c.args.config.now c.in_ok-saved.saved.current) (IsRefused all c.args.config.now start) (λ e because. record { current = c.in_ok-saved.saved.current; has_current = cur; because = because }) (subst (λ (v : View). IfErr c.built-forest.result.1 (IsRefusedAt all c.args.config.now v.current)) c.in_ok-at.ensures.saved (c.built-forest.ensures.refused all at_two.0 told begins_at))
 
 pub returns-clause-accepted : goal.returns-clause-accepted
@@ -192,8 +196,8 @@ returns-clause-accepted g c = λ all start begins acc.
     let at_two = stepped SameFiles (g.T.Store.files c.args.store.now) (g.T.Store.files c.is_finished.new.store) start begins.told (same_twice g.T.Store.files g.T.Store.may_leave g.T.Store.moment g.T.Store.image_since c.args.store.now c.open.new.store c.is_finished.new.store c.open.ensures.any_moment c.is_finished.ensures.any_moment).reads in
     let told : g.H.Shelf.files c.make_plan.new.shelf ≡ Some all = c.in_ok-plan.ensures.files ∙ begins.shelf_told in
     let stands = same-stands g.T.Store.files g.T.Store.may_leave g.T.Store.moment g.T.Store.image_since c.in_ok-saved.saved c.open.new.store c.is_finished.new.store c.is_finished.ensures.any_moment (c.in_ok-saved.ensures.stands start begins.told begins.settled) in
-    let starts = starts-again c.sound_steps_law.ensures.same all start at_two.0 c.args.config.now c.in_ok-saved.saved c.in_ok-plan.plan cur begins.sound at_two.2 g.T.Store.files g.T.Store.may_leave g.T.Store.moment g.T.Store.image_since c.args.store.now c.is_finished.new.store begins.told begins.settled at_two.1 (same_twice g.T.Store.files g.T.Store.may_leave g.T.Store.moment g.T.Store.image_since c.args.store.now c.open.new.store c.is_finished.new.store c.open.ensures.any_moment c.is_finished.ensures.any_moment) stands (tells-some _ (g.H.Shelf.files c.args.shelf.now) all begins.shelf_told c.in_ok-plan.ensures.scan) in
-    let begins_at = subst (λ (v : View). Starts all c.args.config.now v c.in_ok-plan.plan at_two.0 (g.T.Store.files c.is_finished.new.store) (g.T.Store.may_leave c.is_finished.new.store)) (sym c.in_ok-at.ensures.saved) starts in
+    let starts = starts-again c.sound_steps_law.ensures.same all start at_two.0 c.args.config.now c.in_ok-saved.saved c.in_ok-plan.plan cur begins.sound at_two.2 g.T.Store.files g.T.Store.may_leave g.T.Store.moment g.T.Store.image_since c.args.store.now c.is_finished.new.store begins.told begins.settled at_two.1 (same_twice g.T.Store.files g.T.Store.may_leave g.T.Store.moment g.T.Store.image_since c.args.store.now c.open.new.store c.is_finished.new.store c.open.ensures.any_moment c.is_finished.ensures.any_moment) g.M.File.SpillFile.held begins.spills stands (tells-some _ (g.H.Shelf.files c.args.shelf.now) all begins.shelf_told c.in_ok-plan.ensures.scan) in
+    let begins_at = subst (λ (v : View). Starts g.M.File.SpillFile.held all c.args.config.now v c.in_ok-plan.plan at_two.0 (g.T.Store.files c.is_finished.new.store) (g.T.Store.may_leave c.is_finished.new.store)) (sym c.in_ok-at.ensures.saved) starts in
     let same : acc.current ≡ c.in_ok-saved.saved.current = c.sound_law.ensures.one start acc.current c.in_ok-saved.saved.current acc.has_current cur in
     built-accepted c.built-forest.result.1 all c.args.config.now c.in_ok-saved.saved.current c.built-forest.ensures.only (subst (λ (v : View). IfErr c.built-forest.result.1 (IsRefusedAt all c.args.config.now v.current)) c.in_ok-at.ensures.saved (c.built-forest.ensures.refused all at_two.0 told begins_at)) acc.kept acc.points (subst (λ (w : Current). HasPoints all c.args.config.now w acc.kept acc.points) same acc.has_points) acc.few
 
@@ -241,8 +245,8 @@ returns-clause-too_many_comes g c = λ all start begins current has on not_done 
     let at_two = stepped SameFiles (g.T.Store.files c.args.store.now) (g.T.Store.files c.is_finished.new.store) start begins.told (same_twice g.T.Store.files g.T.Store.may_leave g.T.Store.moment g.T.Store.image_since c.args.store.now c.open.new.store c.is_finished.new.store c.open.ensures.any_moment c.is_finished.ensures.any_moment).reads in
     let told : g.H.Shelf.files c.make_plan.new.shelf ≡ Some all = c.in_ok-plan.ensures.files ∙ begins.shelf_told in
     let stands = same-stands g.T.Store.files g.T.Store.may_leave g.T.Store.moment g.T.Store.image_since c.in_ok-saved.saved c.open.new.store c.is_finished.new.store c.is_finished.ensures.any_moment (c.in_ok-saved.ensures.stands start begins.told begins.settled) in
-    let starts = starts-again c.sound_steps_law.ensures.same all start at_two.0 c.args.config.now c.in_ok-saved.saved c.in_ok-plan.plan cur begins.sound at_two.2 g.T.Store.files g.T.Store.may_leave g.T.Store.moment g.T.Store.image_since c.args.store.now c.is_finished.new.store begins.told begins.settled at_two.1 (same_twice g.T.Store.files g.T.Store.may_leave g.T.Store.moment g.T.Store.image_since c.args.store.now c.open.new.store c.is_finished.new.store c.open.ensures.any_moment c.is_finished.ensures.any_moment) stands (tells-some _ (g.H.Shelf.files c.args.shelf.now) all begins.shelf_told c.in_ok-plan.ensures.scan) in
-    let begins_at = subst (λ (v : View). Starts all c.args.config.now v c.in_ok-plan.plan at_two.0 (g.T.Store.files c.is_finished.new.store) (g.T.Store.may_leave c.is_finished.new.store)) (sym c.in_ok-at.ensures.saved) starts in
+    let starts = starts-again c.sound_steps_law.ensures.same all start at_two.0 c.args.config.now c.in_ok-saved.saved c.in_ok-plan.plan cur begins.sound at_two.2 g.T.Store.files g.T.Store.may_leave g.T.Store.moment g.T.Store.image_since c.args.store.now c.is_finished.new.store begins.told begins.settled at_two.1 (same_twice g.T.Store.files g.T.Store.may_leave g.T.Store.moment g.T.Store.image_since c.args.store.now c.open.new.store c.is_finished.new.store c.open.ensures.any_moment c.is_finished.ensures.any_moment) g.M.File.SpillFile.held begins.spills stands (tells-some _ (g.H.Shelf.files c.args.shelf.now) all begins.shelf_told c.in_ok-plan.ensures.scan) in
+    let begins_at = subst (λ (v : View). Starts g.M.File.SpillFile.held all c.args.config.now v c.in_ok-plan.plan at_two.0 (g.T.Store.files c.is_finished.new.store) (g.T.Store.may_leave c.is_finished.new.store)) (sym c.in_ok-at.ensures.saved) starts in
     let same : current ≡ c.in_ok-saved.saved.current = c.sound_law.ensures.one start current c.in_ok-saved.saved.current has cur in
     let end = stepped (λ (a b : Files). IsUnderWay all c.args.config.now at_two.0 b) (g.T.Store.files c.is_finished.new.store) (g.T.Store.files c.built-forest.new.store) at_two.0 at_two.1 (c.built-forest.ensures.sound all at_two.0 told begins_at).reads in
     built-many c.built-forest.result.1 all c.args.config.now c.in_ok-saved.saved.current at_two.0 (g.T.Store.files c.built-forest.new.store) end.0 end.1 c.built-forest.ensures.only (subst (λ (v : View). IfErr c.built-forest.result.1 (IsRefusedAt all c.args.config.now v.current)) c.in_ok-at.ensures.saved (c.built-forest.ensures.refused all at_two.0 told begins_at)) c.built-forest.ensures.few (c.built-forest.ensures.built all at_two.0 told begins_at)
@@ -278,8 +282,8 @@ returns-clause-stops g c = λ is all start begins.
     let at_two = stepped SameFiles (g.T.Store.files c.args.store.now) (g.T.Store.files c.is_finished.new.store) start begins.told (same_twice g.T.Store.files g.T.Store.may_leave g.T.Store.moment g.T.Store.image_since c.args.store.now c.open.new.store c.is_finished.new.store c.open.ensures.any_moment c.is_finished.ensures.any_moment).reads in
     let told : g.H.Shelf.files c.make_plan.new.shelf ≡ Some all = c.in_ok-plan.ensures.files ∙ begins.shelf_told in
     let stands = same-stands g.T.Store.files g.T.Store.may_leave g.T.Store.moment g.T.Store.image_since c.in_ok-saved.saved c.open.new.store c.is_finished.new.store c.is_finished.ensures.any_moment (c.in_ok-saved.ensures.stands start begins.told begins.settled) in
-    let starts = starts-again c.sound_steps_law.ensures.same all start at_two.0 c.args.config.now c.in_ok-saved.saved c.in_ok-plan.plan cur begins.sound at_two.2 g.T.Store.files g.T.Store.may_leave g.T.Store.moment g.T.Store.image_since c.args.store.now c.is_finished.new.store begins.told begins.settled at_two.1 (same_twice g.T.Store.files g.T.Store.may_leave g.T.Store.moment g.T.Store.image_since c.args.store.now c.open.new.store c.is_finished.new.store c.open.ensures.any_moment c.is_finished.ensures.any_moment) stands (tells-some _ (g.H.Shelf.files c.args.shelf.now) all begins.shelf_told c.in_ok-plan.ensures.scan) in
-    let begins_at = subst (λ (v : View). Starts all c.args.config.now v c.in_ok-plan.plan at_two.0 (g.T.Store.files c.is_finished.new.store) (g.T.Store.may_leave c.is_finished.new.store)) (sym c.in_ok-at.ensures.saved) starts in
+    let starts = starts-again c.sound_steps_law.ensures.same all start at_two.0 c.args.config.now c.in_ok-saved.saved c.in_ok-plan.plan cur begins.sound at_two.2 g.T.Store.files g.T.Store.may_leave g.T.Store.moment g.T.Store.image_since c.args.store.now c.is_finished.new.store begins.told begins.settled at_two.1 (same_twice g.T.Store.files g.T.Store.may_leave g.T.Store.moment g.T.Store.image_since c.args.store.now c.open.new.store c.is_finished.new.store c.open.ensures.any_moment c.is_finished.ensures.any_moment) g.M.File.SpillFile.held begins.spills stands (tells-some _ (g.H.Shelf.files c.args.shelf.now) all begins.shelf_told c.in_ok-plan.ensures.scan) in
+    let begins_at = subst (λ (v : View). Starts g.M.File.SpillFile.held all c.args.config.now v c.in_ok-plan.plan at_two.0 (g.T.Store.files c.is_finished.new.store) (g.T.Store.may_leave c.is_finished.new.store)) (sym c.in_ok-at.ensures.saved) starts in
     let its = c.built-forest.ensures.stops is all at_two.0 told begins_at in
     (its.0, stops-from all c.args.config.now start at_two.0 at_two.2 g.T.Store.files g.T.Store.may_leave g.T.Store.moment g.T.Store.image_since c.args.store.now c.is_finished.new.store c.built-forest.new.store (same_twice g.T.Store.files g.T.Store.may_leave g.T.Store.moment g.T.Store.image_since c.args.store.now c.open.new.store c.is_finished.new.store c.open.ensures.any_moment c.is_finished.ensures.any_moment) its.1)
 
@@ -505,10 +509,26 @@ returns-clause-stores g c =
       failed = λ is. omega (arith, c.open.ensures.cause.later, c.is_finished.ensures.stores.later, c.built-forest.ensures.stores.failed is);
     }
 
--- a room fails only as the files are made
+-- the room takes back a file that failed
 pub returns-clause-spills : goal.returns-clause-spills
 returns-clause-spills g c =
     record {
       later = omega (arith, c.start.ensures.spills.later, c.retire_all.ensures.later);
-      failed = λ is. absurd (subst (λ (r : Result Summary BuildError). IfErr r IsPhaseFault) is c.built-forest.ensures.only);
+      failed = λ is. omega (arith, c.start.ensures.spills.later, c.retire_all.ensures.failed (c.built-forest.ensures.spill is));
     }
+
+-- ---- what is kept in spill files
+
+pub returns-then-branch-clause-kept : goal.returns-then-branch-clause-kept
+returns-then-branch-clause-kept g c = λ start told not_done.
+    let cur = told_some (HasCurrent c.in_ok-saved.saved.current) (g.T.Store.files c.args.store.now) start told c.in_ok-saved.ensures.current in
+    let finished = c.in_ok-is_finished.ensures.finished (ap (λ (b : Bool). Ok b) c.if-branch.true) in
+    let at_one = stepped SameFiles (g.T.Store.files c.args.store.now) (g.T.Store.files c.open.new.store) start told c.open.ensures.any_moment.reads in
+    let opened = told_some IsDone (g.T.Store.files c.open.new.store) at_one.0 at_one.1 finished.1 in
+    absurd (not_done (already-done c.args.config.now start c.in_ok-saved.saved.current c.in_ok-plan.plan c.in_ok-plan.ensures.plan cur finished.0 (sym (at_one.2 done_name) ∙ opened)))
+
+pub returns-clause-kept : goal.returns-clause-kept
+returns-clause-kept g c = λ start told not_done.
+    let kept = kept_by g.M.File.SpillFile.keeps (nodes_of c.built-forest.result.0) in
+    let same : slots.told (g.M.Room.keeps c.retire_all.new.room) ≡ counts_on (g.M.Room.keeps c.args.room.now) kept = c.retire_all.ensures.counted ∙ ap (λ (n : ℕ). counts_on n kept) c.in_ok-at.ensures.counted in
+    IfOk-weaker c.built-forest.result.1 _ _ (λ summary few. kept-but c.args.config.now.cache summary.nodes kept (g.M.Room.keeps c.args.room.now) (g.M.Room.keeps c.retire_all.new.room) (omega (arith, few, c.in_ok-at.ensures.cache)) same) c.built-forest.ensures.kept

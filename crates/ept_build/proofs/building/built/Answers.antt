@@ -5,7 +5,10 @@ use Rattle.ept_base.specs.Moves.{Moves}
 use Rattle.ept_space.specs.VoxelKey.{VoxelKey}
 use Rattle.ept_sample.specs.Nodes.{sampled as sampled-nodes}
 use Rattle.ept_table.specs.Octree.{Branch}
-use Rattle.ept_octree.specs.Octree.{nodes_of, most_of}
+use Rattle.ept_forest.specs.declared.forest.Forest.{Forest}
+use Rattle.ept_forest.specs.Slots as trees
+use Rattle.ept_forest.specs.Slots.{faults_of, kept_by}
+use Rattle.ept_octree.specs.Octree.{forest_of, nodes_of, most_of}
 use Rattle.ept_config.specs.declared.input.Input.{Input}
 use Rattle.ept_meta.specs.Output.{rules_of}
 use Rattle.ept_save.specs.Current.{HasCurrent}
@@ -14,17 +17,17 @@ use Rattle.ept_save.proofs.Standing.{stepped, told_some}
 use Rattle.ept_phase.specs.Loaded.{HasNoDamage}
 use Rattle.ept_plan.specs.Plans.{inserted_by}
 use Rattle.ept_build.specs.declared.error.BuildError.{BuildError}
-use Rattle.ept_build.specs.declared.error.BuildError.TheVariants.{TileDamaged, SourceChanged, TooManyNodes}
+use Rattle.ept_build.specs.declared.error.BuildError.TheVariants.{TileDamaged, SourceChanged, SpillDamaged, TooManyNodes}
 use Rattle.ept_build.specs.Building.{IsUnderWay, HasTooManyNodes, IsRefusedAt}
 use Rattle.ept_build.specs.Reached.{IsThrough}
 use Rattle.ept_build.specs.Phases.{IsSoundAt, AreMany}
 use Rattle.ept_build.proofs.Causes.{tells-some}
 use Rattle.ept_build.proofs.Ground.{IsGround, ground as ground-of, extent-found, many-at}
-use Rattle.ept_build.proofs.Damage.{loading-tells, store-no-tile}
-use Rattle.ept_build.proofs.Judging.{err-one, store-refused, store-not-many, store-no-source}
+use Rattle.ept_build.proofs.Damage.{loading-tells, end-no-tile}
+use Rattle.ept_build.proofs.Judging.{err-one, end-refused, end-not-many, end-no-source}
 use Rattle.ept_build.proofs.Moved.{moves-then, moves-wider}
 use Rattle.ept_build.proofs.Numbers.{nodes-number}
-use Rattle.ept_build.proofs.Refusals.{phase-refused, store-phase}
+use Rattle.ept_build.proofs.Refusals.{phase-refused, end-phase}
 use Rattle.ept_build.proofs.Roomy.{many-front, many-phases}
 use Rattle.ept_build.proofs.Running.{few-lines}
 use Rattle.ept_build.proofs.UnderWay.{under-way-at, first-moves, grow-moves, end-moves, stopped-at, too-many-already, settled-stays, complete-end}
@@ -42,7 +45,7 @@ returns-in-Err-clause-refused g c = λ all start shelf_told starts.
     ground-of c.output_once_law.ensures.one c.output_once_law.ensures.sampled c.output_names_law.ensures.grow c.saved_law.ensures.loaded all start c.args.config.now c.args.at.saved.current c.args.plan.now c.requires.plan starts.scans starts.ready.has_current starts.ready.sound c.whole_extent-extent.result (extent-found c.args.plan.now.counts c.as_slice.result.now c.whole_extent-extent.result c.as_slice.ensures c.whole_extent-extent.ensures) in
     let many : c.in-Err.refused ≡ TooManyNodes → HasTooManyNodes all c.args.config.now c.args.at.saved.current =
     λ same. many-at c.node_law.ensures.more_nodes all start c.args.config.now c.args.at.saved.current c.args.plan.now c.whole_extent-extent.result ground c.args.plan.now.inserted (few-lines c.args.config.now.max_nodes (most_of c.args.at.octree) _ _ c.requires.room.for_lines (c.in-Err.ensures.too_many (ap (λ (w : BuildError). Err w) same)) ground.lines) in
-    phase-refused all c.args.config.now c.args.at.saved.current c.in-Err.refused c.in-Err.ensures.only (λ key same. c.in-Err.ensures.undamaged all start starts.ready key (ap (λ (w : BuildError). Err w) same)) (λ source number same. c.in-Err.ensures.no_change source number (ap (λ (w : BuildError). Err w) same)) many
+    phase-refused all c.args.config.now c.args.at.saved.current c.in-Err.refused c.in-Err.ensures.only (λ key same. c.in-Err.ensures.undamaged all start starts.ready key (ap (λ (w : BuildError). Err w) same)) (λ source number same. c.in-Err.ensures.no_change source number (ap (λ (w : BuildError). Err w) same)) (λ kept found number same. c.in-Err.ensures.no_damage kept found number (ap (λ (w : BuildError). Err w) same)) many
 
 pub returns-in-Err-clause-stops : goal.returns-in-Err-clause-stops
 returns-in-Err-clause-stops g c = λ is all start shelf_told starts.
@@ -61,7 +64,7 @@ returns-in-Err-clause-damaged g c = λ key is stands.
 
 pub returns-in-Err-clause-damaged_comes : goal.returns-in-Err-clause-damaged_comes
 returns-in-Err-clause-damaged_comes g c = λ start key told has damaged few.
-    loading-tells (Err c.in-Err.refused) c.in-Err.refused refl c.in-Err.ensures.only (λ same. c.in-Err.ensures.no_source (ap (λ (w : BuildError). Err w) same)) (λ source number same. c.in-Err.ensures.no_change source number (ap (λ (w : BuildError). Err w) same))
+    loading-tells (Err c.in-Err.refused) c.in-Err.refused refl c.in-Err.ensures.only (λ same. c.in-Err.ensures.no_source (ap (λ (w : BuildError). Err w) same)) (λ source number same. c.in-Err.ensures.no_change source number (ap (λ (w : BuildError). Err w) same)) (λ kept found number same. c.in-Err.ensures.no_damage kept found number (ap (λ (w : BuildError). Err w) same))
     (λ same. let more = c.in-Err.ensures.too_many (ap (λ (w : BuildError). Err w) same) in omega (arith, more, few, c.requires.room.for_lines more))
 
 pub returns-in-Err-clause-stores : goal.returns-in-Err-clause-stores
@@ -71,7 +74,14 @@ returns-in-Err-clause-stores g c =
       failed = λ is. c.in-Err.ensures.stores.failed (ap (λ (w : BuildError). Err w) (err-one is));
     }
 
+pub returns-in-Err-clause-spill : goal.returns-in-Err-clause-spill
+returns-in-Err-clause-spill g c = λ is.
+    subst (λ (w : Forest _). 0 < faults_of g.F.SpillFile.faults (trees.nodes_of w)) (sym c.into_forest.ensures) (c.in-Err.ensures.spill (ap (λ (w : BuildError). Err w) (err-one is)))
+
 -- ---- a phase is refused
+
+pub returns-in-Err-grow-clause-spill : goal.returns-in-Err-grow-clause-spill
+returns-in-Err-grow-clause-spill g c = λ is. c.in-Err-grow.ensures.spill (err-one is)
 
 pub returns-in-Err-grow-clause-sound : goal.returns-in-Err-grow-clause-sound
 returns-in-Err-grow-clause-sound g c = λ all start shelf_told starts.
@@ -80,11 +90,11 @@ returns-in-Err-grow-clause-sound g c = λ all start shelf_told starts.
     (ground-of c.output_once_law.ensures.one c.output_once_law.ensures.sampled c.output_names_law.ensures.grow c.saved_law.ensures.loaded all start c.args.config.now c.args.at.saved.current c.args.plan.now c.requires.plan starts.scans starts.ready.has_current starts.ready.sound c.whole_extent-extent.result (extent-found c.args.plan.now.counts c.as_slice.result.now c.whole_extent-extent.result c.as_slice.ensures c.whole_extent-extent.ensures)) in
     let has : HasCurrent c.take_up.new.at.saved.current start = subst (λ (v : View). HasCurrent v.current start) (sym c.take_up.ensures.saved) starts.ready.has_current in
     let inserted : c.take_up.new.at.inserted ≡ c.args.plan.now.inserted = c.take_up.ensures.inserted ∙ (sym c.requires.begun.by_checkpoint ∙ sym c.requires.plan.inserted_is) in
-    let sampled = it.loaded (nodes_of c.take_up.new.at.octree) (g.T.Store.files c.args.store.now) c.take_up.new.at.inserted inserted starts.ready.told c.in_default.ensures.loaded in
+    let sampled = it.loaded (nodes_of g.F.SpillFile.held c.take_up.new.at.octree) (g.T.Store.files c.args.store.now) c.take_up.new.at.inserted inserted starts.ready.told (c.in_default.ensures.loaded starts.spills) in
     let way = c.in_default.ensures.on_way all start it.out starts.ready it.names in
     let first = first-moves all start c.args.config.now c.take_up.new.at.saved.current c.args.plan.now c.whole_extent-extent.result it has g.T.Store.files g.T.Store.may_leave g.T.Store.moment g.T.Store.image_since c.args.store.now c.take_up.new.store (subst (λ (v : View). Moves g.T.Store.files g.T.Store.may_leave g.T.Store.moment g.T.Store.image_since (λ (a b : Files). IsSoundAt all v.current b) c.args.store.now c.take_up.new.store) (sym c.take_up.ensures.saved) (c.take_up.ensures.sound all start starts.ready)) in
     let second = grow-moves all start c.args.config.now c.take_up.new.at.saved.current c.args.plan.now c.whole_extent-extent.result it has g.T.Store.files g.T.Store.may_leave g.T.Store.moment g.T.Store.image_since c.take_up.new.store c.grow.new.store
-    (tells-some _ (g.H.Shelf.files c.args.shelf.now) all shelf_told c.grow.ensures.sound it.points it.out it.are sampled way) (c.grow.ensures.reached way.stands) in
+    (tells-some _ (g.H.Shelf.files c.args.shelf.now) all shelf_told (c.grow.ensures.sound starts.spills) it.points it.out it.are sampled way) (c.grow.ensures.reached starts.spills way.stands) in
     let both = moves-then g.T.Store.files g.T.Store.may_leave g.T.Store.moment g.T.Store.image_since (IsUnderWay all c.args.config.now start) c.args.store.now c.take_up.new.store c.grow.new.store first second in
     both
 
@@ -95,14 +105,15 @@ returns-in-Err-grow-clause-refused g c = λ all start shelf_told starts.
     (ground-of c.output_once_law.ensures.one c.output_once_law.ensures.sampled c.output_names_law.ensures.grow c.saved_law.ensures.loaded all start c.args.config.now c.args.at.saved.current c.args.plan.now c.requires.plan starts.scans starts.ready.has_current starts.ready.sound c.whole_extent-extent.result (extent-found c.args.plan.now.counts c.as_slice.result.now c.whole_extent-extent.result c.as_slice.ensures c.whole_extent-extent.ensures)) in
     let has : HasCurrent c.take_up.new.at.saved.current start = subst (λ (v : View). HasCurrent v.current start) (sym c.take_up.ensures.saved) starts.ready.has_current in
     let inserted : c.take_up.new.at.inserted ≡ c.args.plan.now.inserted = c.take_up.ensures.inserted ∙ (sym c.requires.begun.by_checkpoint ∙ sym c.requires.plan.inserted_is) in
-    let sampled = it.loaded (nodes_of c.take_up.new.at.octree) (g.T.Store.files c.args.store.now) c.take_up.new.at.inserted inserted starts.ready.told c.in_default.ensures.loaded in
+    let sampled = it.loaded (nodes_of g.F.SpillFile.held c.take_up.new.at.octree) (g.T.Store.files c.args.store.now) c.take_up.new.at.inserted inserted starts.ready.told (c.in_default.ensures.loaded starts.spills) in
     let way = c.in_default.ensures.on_way all start it.out starts.ready it.names in
-    let damaged : (key : VoxelKey) → c.in-Err-grow.stopped.error ≢ TileDamaged key = λ key same. tells-some _ (g.H.Shelf.files c.args.shelf.now) all shelf_told c.in-Err-grow.ensures.undamaged it.points it.out it.are sampled way key same in
-    let changed : (source number : ℕ) → c.in-Err-grow.stopped.error ≢ SourceChanged source number = λ source number same. tells-some _ (g.H.Shelf.files c.args.shelf.now) all shelf_told (c.in-Err-grow.ensures.no_change source number same) it.points it.are.scan it.are.can sampled in
+    let damaged : (key : VoxelKey) → c.in-Err-grow.stopped.error ≢ TileDamaged key = λ key same. tells-some _ (g.H.Shelf.files c.args.shelf.now) all shelf_told (c.in-Err-grow.ensures.undamaged starts.spills) it.points it.out it.are sampled way key same in
+    let changed : (source number : ℕ) → c.in-Err-grow.stopped.error ≢ SourceChanged source number = λ source number same. tells-some _ (g.H.Shelf.files c.args.shelf.now) all shelf_told (c.in-Err-grow.ensures.no_change starts.spills source number same) it.points it.are.scan it.are.can sampled in
+    let whole : (kept found number : ℕ) → c.in-Err-grow.stopped.error ≢ SpillDamaged kept found number = λ kept found number same. tells-some _ (g.H.Shelf.files c.args.shelf.now) all shelf_told (c.in-Err-grow.ensures.no_damage starts.spills kept found number same) it.points it.are.scan it.are.can sampled in
     let many : c.in-Err-grow.stopped.error ≡ TooManyNodes → HasTooManyNodes all c.args.config.now c.take_up.new.at.saved.current =
-    λ same. (let some = tells-some _ (g.H.Shelf.files c.args.shelf.now) all shelf_told (c.in-Err-grow.ensures.too_many same) it.points it.are.scan it.are.can sampled in many-at c.node_law.ensures.more_nodes all start c.args.config.now c.take_up.new.at.saved.current c.args.plan.now c.whole_extent-extent.result it _ (many-front c.room_law.ensures c.args.plan.now c.args.at.saved.current c.args.config.now.max_nodes (most_of c.args.at.octree) c.requires.room it.points it.are.can it.number (inserted_by c.in-Err-grow.stopped.saved.current + c.args.config.now.checkpoint) (subst (λ (n : ℕ). n < length (sampled-nodes (rules_of c.args.plan.now.kept) (take (inserted_by c.in-Err-grow.stopped.saved.current + c.args.config.now.checkpoint) it.points))) c.take_up.ensures.most some.many))) in
+    λ same. (let some = tells-some _ (g.H.Shelf.files c.args.shelf.now) all shelf_told (c.in-Err-grow.ensures.too_many starts.spills same) it.points it.are.scan it.are.can sampled in many-at c.node_law.ensures.more_nodes all start c.args.config.now c.take_up.new.at.saved.current c.args.plan.now c.whole_extent-extent.result it _ (many-front c.room_law.ensures c.args.plan.now c.args.at.saved.current c.args.config.now.max_nodes (most_of c.args.at.octree) c.requires.room it.points it.are.can it.number (inserted_by c.in-Err-grow.stopped.saved.current + c.args.config.now.checkpoint) (subst (λ (n : ℕ). n < length (sampled-nodes (rules_of c.args.plan.now.kept) (take (inserted_by c.in-Err-grow.stopped.saved.current + c.args.config.now.checkpoint) it.points))) c.take_up.ensures.most some.many))) in
     subst (λ (v : View). IsRefusedAt all c.args.config.now v.current c.in-Err-grow.stopped.error) c.take_up.ensures.saved
-    (phase-refused all c.args.config.now c.take_up.new.at.saved.current c.in-Err-grow.stopped.error c.in-Err-grow.ensures.only damaged changed many)
+    (phase-refused all c.args.config.now c.take_up.new.at.saved.current c.in-Err-grow.stopped.error c.in-Err-grow.ensures.only damaged changed whole many)
 
 pub returns-in-Err-grow-clause-stops : goal.returns-in-Err-grow-clause-stops
 returns-in-Err-grow-clause-stops g c = λ is all start shelf_told starts.
@@ -111,12 +122,15 @@ returns-in-Err-grow-clause-stops g c = λ is all start shelf_told starts.
     (ground-of c.output_once_law.ensures.one c.output_once_law.ensures.sampled c.output_names_law.ensures.grow c.saved_law.ensures.loaded all start c.args.config.now c.args.at.saved.current c.args.plan.now c.requires.plan starts.scans starts.ready.has_current starts.ready.sound c.whole_extent-extent.result (extent-found c.args.plan.now.counts c.as_slice.result.now c.whole_extent-extent.result c.as_slice.ensures c.whole_extent-extent.ensures)) in
     let has : HasCurrent c.take_up.new.at.saved.current start = subst (λ (v : View). HasCurrent v.current start) (sym c.take_up.ensures.saved) starts.ready.has_current in
     let inserted : c.take_up.new.at.inserted ≡ c.args.plan.now.inserted = c.take_up.ensures.inserted ∙ (sym c.requires.begun.by_checkpoint ∙ sym c.requires.plan.inserted_is) in
-    let sampled = it.loaded (nodes_of c.take_up.new.at.octree) (g.T.Store.files c.args.store.now) c.take_up.new.at.inserted inserted starts.ready.told c.in_default.ensures.loaded in
+    let sampled = it.loaded (nodes_of g.F.SpillFile.held c.take_up.new.at.octree) (g.T.Store.files c.args.store.now) c.take_up.new.at.inserted inserted starts.ready.told (c.in_default.ensures.loaded starts.spills) in
     let way = c.in_default.ensures.on_way all start it.out starts.ready it.names in
     let its = err-one is in
-    let some = tells-some _ (g.H.Shelf.files c.args.shelf.now) all shelf_told (c.in-Err-grow.ensures.too_many its) it.points it.are.scan it.are.can sampled in
+    let some = tells-some _ (g.H.Shelf.files c.args.shelf.now) all shelf_told (c.in-Err-grow.ensures.too_many starts.spills its) it.points it.are.scan it.are.can sampled in
     let many = many-phases c.room_law.ensures c.args.plan.now c.args.at.saved.current c.args.config.now.max_nodes (most_of c.args.at.octree) c.requires.room it.points it.are.can it.number c.take_up.new.at.saved.current c.in-Err-grow.stopped.saved.current c.args.config.now.checkpoint (subst (λ (n : ℕ). AreMany c.args.plan.now c.take_up.new.at.saved.current c.args.config.now.checkpoint n it.points c.in-Err-grow.stopped.saved.current) c.take_up.ensures.most some) in
     (c.in-Err-grow.ensures.settled its c.in_default.ensures.settled, inr (stopped-at all start c.args.config.now c.take_up.new.at.saved.current c.args.plan.now c.whole_extent-extent.result it has c.in-Err-grow.stopped.saved (g.T.Store.files c.grow.new.store) (g.T.Store.may_leave c.grow.new.store) (c.in-Err-grow.ensures.stands its way.stands) many))
+
+pub returns-in-Err-grow-clause-damaged : goal.returns-in-Err-grow-clause-damaged
+returns-in-Err-grow-clause-damaged g c = λ key is stands. c.in-Err-grow.ensures.damaged key (err-one is) (c.in_default.ensures.stands stands)
 
 pub returns-in-Err-grow-clause-damaged_comes : goal.returns-in-Err-grow-clause-damaged_comes
 returns-in-Err-grow-clause-damaged_comes g c = λ start key told has damaged few.
@@ -142,29 +156,29 @@ returns-in-Err-finish-clause-sound g c = λ all start shelf_told starts.
     (ground-of c.output_once_law.ensures.one c.output_once_law.ensures.sampled c.output_names_law.ensures.grow c.saved_law.ensures.loaded all start c.args.config.now c.args.at.saved.current c.args.plan.now c.requires.plan starts.scans starts.ready.has_current starts.ready.sound c.whole_extent-extent.result (extent-found c.args.plan.now.counts c.as_slice.result.now c.whole_extent-extent.result c.as_slice.ensures c.whole_extent-extent.ensures)) in
     let has : HasCurrent c.take_up.new.at.saved.current start = subst (λ (v : View). HasCurrent v.current start) (sym c.take_up.ensures.saved) starts.ready.has_current in
     let inserted : c.take_up.new.at.inserted ≡ c.args.plan.now.inserted = c.take_up.ensures.inserted ∙ (sym c.requires.begun.by_checkpoint ∙ sym c.requires.plan.inserted_is) in
-    let sampled = it.loaded (nodes_of c.take_up.new.at.octree) (g.T.Store.files c.args.store.now) c.take_up.new.at.inserted inserted starts.ready.told c.in_default.ensures.loaded in
+    let sampled = it.loaded (nodes_of g.F.SpillFile.held c.take_up.new.at.octree) (g.T.Store.files c.args.store.now) c.take_up.new.at.inserted inserted starts.ready.told (c.in_default.ensures.loaded starts.spills) in
     let way = c.in_default.ensures.on_way all start it.out starts.ready it.names in
     let first = first-moves all start c.args.config.now c.take_up.new.at.saved.current c.args.plan.now c.whole_extent-extent.result it has g.T.Store.files g.T.Store.may_leave g.T.Store.moment g.T.Store.image_since c.args.store.now c.take_up.new.store (subst (λ (v : View). Moves g.T.Store.files g.T.Store.may_leave g.T.Store.moment g.T.Store.image_since (λ (a b : Files). IsSoundAt all v.current b) c.args.store.now c.take_up.new.store) (sym c.take_up.ensures.saved) (c.take_up.ensures.sound all start starts.ready)) in
     let second = grow-moves all start c.args.config.now c.take_up.new.at.saved.current c.args.plan.now c.whole_extent-extent.result it has g.T.Store.files g.T.Store.may_leave g.T.Store.moment g.T.Store.image_since c.take_up.new.store c.grow.new.store
-    (tells-some _ (g.H.Shelf.files c.args.shelf.now) all shelf_told c.grow.ensures.sound it.points it.out it.are sampled way) (c.grow.ensures.reached way.stands) in
+    (tells-some _ (g.H.Shelf.files c.args.shelf.now) all shelf_told (c.grow.ensures.sound starts.spills) it.points it.out it.are sampled way) (c.grow.ensures.reached starts.spills way.stands) in
     let both = moves-then g.T.Store.files g.T.Store.may_leave g.T.Store.moment g.T.Store.image_since (IsUnderWay all c.args.config.now start) c.args.store.now c.take_up.new.store c.grow.new.store first second in
-    let way_on = tells-some _ (g.H.Shelf.files c.args.shelf.now) all shelf_told c.in-Ok.ensures.on_way it.points it.out it.are sampled way in
-    let grown = tells-some _ (g.H.Shelf.files c.args.shelf.now) all shelf_told c.in-Ok.ensures.sampled it.points it.are.scan it.are.can sampled in
+    let way_on = tells-some _ (g.H.Shelf.files c.args.shelf.now) all shelf_told (c.in-Ok.ensures.on_way starts.spills) it.points it.out it.are sampled way in
+    let grown = tells-some _ (g.H.Shelf.files c.args.shelf.now) all shelf_told (c.in-Ok.ensures.sampled starts.spills) it.points it.are.scan it.are.can sampled in
     moves-then g.T.Store.files g.T.Store.may_leave g.T.Store.moment g.T.Store.image_since (IsUnderWay all c.args.config.now start) c.args.store.now c.grow.new.store c.finish.new.store both
     (end-moves all start c.args.config.now c.take_up.new.at.saved.current c.args.plan.now c.whole_extent-extent.result it has g.T.Store.files g.T.Store.may_leave g.T.Store.moment g.T.Store.image_since c.grow.new.store c.finish.new.store (length c.args.plan.now.kept.inputs) c.in-Ok.end.saved.current c.in-Ok.ensures.through
-    (c.finish.ensures.sound all it.points it.out it.are it.number it.has_extent grown way_on))
+    (c.finish.ensures.sound starts.spills all it.points it.out it.are it.number it.has_extent grown way_on))
 
 pub returns-in-Err-finish-clause-stops : goal.returns-in-Err-finish-clause-stops
 returns-in-Err-finish-clause-stops g c = λ is all start shelf_told starts.
-    absurd (store-not-many c.in-Err-finish.refused c.in-Err-finish.ensures.only (err-one is))
+    absurd (end-not-many c.in-Err-finish.refused c.in-Err-finish.ensures.only (err-one is))
 
 pub returns-in-Err-finish-clause-only : goal.returns-in-Err-finish-clause-only
 returns-in-Err-finish-clause-only g c =
-    store-phase c.in-Err-finish.refused c.in-Err-finish.ensures.only
+    end-phase c.in-Err-finish.refused c.in-Err-finish.ensures.only
 
 pub returns-in-Err-finish-clause-damaged : goal.returns-in-Err-finish-clause-damaged
 returns-in-Err-finish-clause-damaged g c = λ key is stands.
-    absurd (store-no-tile c.in-Err-finish.refused key c.in-Err-finish.ensures.only (err-one is))
+    absurd (end-no-tile c.in-Err-finish.refused key c.in-Err-finish.ensures.only (err-one is))
 
 pub returns-in-Err-finish-clause-damaged_comes : goal.returns-in-Err-finish-clause-damaged_comes
 returns-in-Err-finish-clause-damaged_comes g c = λ start key told has damaged few.
@@ -172,13 +186,20 @@ returns-in-Err-finish-clause-damaged_comes g c = λ start key told has damaged f
 
 pub returns-in-Err-finish-clause-refused : goal.returns-in-Err-finish-clause-refused
 returns-in-Err-finish-clause-refused g c = λ all start shelf_told starts.
-    store-refused all c.args.config.now c.args.at.saved.current c.in-Err-finish.refused c.in-Err-finish.ensures.only
+    let it : IsGround all start c.args.config.now c.take_up.new.at.saved.current c.args.plan.now c.whole_extent-extent.result =
+    subst (λ (v : View). IsGround all start c.args.config.now v.current c.args.plan.now c.whole_extent-extent.result) (sym c.take_up.ensures.saved)
+    (ground-of c.output_once_law.ensures.one c.output_once_law.ensures.sampled c.output_names_law.ensures.grow c.saved_law.ensures.loaded all start c.args.config.now c.args.at.saved.current c.args.plan.now c.requires.plan starts.scans starts.ready.has_current starts.ready.sound c.whole_extent-extent.result (extent-found c.args.plan.now.counts c.as_slice.result.now c.whole_extent-extent.result c.as_slice.ensures c.whole_extent-extent.ensures)) in
+    let inserted : c.take_up.new.at.inserted ≡ c.args.plan.now.inserted = c.take_up.ensures.inserted ∙ (sym c.requires.begun.by_checkpoint ∙ sym c.requires.plan.inserted_is) in
+    let sampled = it.loaded (nodes_of g.F.SpillFile.held c.take_up.new.at.octree) (g.T.Store.files c.args.store.now) c.take_up.new.at.inserted inserted starts.ready.told (c.in_default.ensures.loaded starts.spills) in
+    let grown = tells-some _ (g.H.Shelf.files c.args.shelf.now) all shelf_told (c.in-Ok.ensures.sampled starts.spills) it.points it.are.scan it.are.can sampled in
+    end-refused all c.args.config.now c.args.at.saved.current c.in-Err-finish.refused c.in-Err-finish.ensures.only
+    (λ kept found number same. c.in-Err-finish.ensures.no_damage starts.spills it.points it.are.can grown kept found number (ap (λ (w : BuildError). Err w) same))
 
 pub returns-in-Err-finish-clause-sources : goal.returns-in-Err-finish-clause-sources
 returns-in-Err-finish-clause-sources g c =
     record {
       later = c.in-Ok.ensures.sources_later;
-      failed = λ is. absurd (store-no-source c.in-Err-finish.refused c.in-Err-finish.ensures.only (err-one is));
+      failed = λ is. absurd (end-no-source c.in-Err-finish.refused c.in-Err-finish.ensures.only (err-one is));
     }
 
 pub returns-in-Err-finish-clause-stores : goal.returns-in-Err-finish-clause-stores
@@ -188,7 +209,18 @@ returns-in-Err-finish-clause-stores g c =
       failed = λ is. omega (arith, c.take_up.ensures.stores.later, c.in-Ok.ensures.stores_later, c.in-Err-finish.ensures.stores.failed (ap (λ (w : BuildError). Err w) (err-one is)));
     }
 
+pub returns-in-Err-finish-clause-spill : goal.returns-in-Err-finish-clause-spill
+returns-in-Err-finish-clause-spill g c = λ is.
+    subst (λ (w : Forest _). 0 < faults_of g.F.SpillFile.faults (trees.nodes_of w)) (sym c.into_forest-in-Err-finish.ensures) (c.in-Err-finish.ensures.spill (ap (λ (w : BuildError). Err w) (err-one is)))
+
 -- ---- all is done
+
+pub returns-in-Ok-finish-clause-kept : goal.returns-in-Ok-finish-clause-kept
+returns-in-Ok-finish-clause-kept g c =
+    let few = c.len.ensures.kept c.in-Ok-finish.ensures.unbroken c.finish.ensures.agrees in
+    let same : kept_by g.F.SpillFile.keeps (trees.nodes_of c.into_forest-in-Ok-finish.result) ≡ kept_by g.F.SpillFile.keeps (trees.nodes_of (forest_of c.finish.new.at.octree)) =
+    ap (λ (w : Forest _). kept_by g.F.SpillFile.keeps (trees.nodes_of w)) c.into_forest-in-Ok-finish.ensures in
+    omega (arith, few, same, c.len.ensures.number, c.finish.ensures.cache, c.in-Ok.ensures.cache, c.take_up.ensures.cache)
 
 pub returns-in-Ok-finish-clause-sound : goal.returns-in-Ok-finish-clause-sound
 returns-in-Ok-finish-clause-sound g c = λ all start shelf_told starts.
@@ -197,17 +229,17 @@ returns-in-Ok-finish-clause-sound g c = λ all start shelf_told starts.
     (ground-of c.output_once_law.ensures.one c.output_once_law.ensures.sampled c.output_names_law.ensures.grow c.saved_law.ensures.loaded all start c.args.config.now c.args.at.saved.current c.args.plan.now c.requires.plan starts.scans starts.ready.has_current starts.ready.sound c.whole_extent-extent.result (extent-found c.args.plan.now.counts c.as_slice.result.now c.whole_extent-extent.result c.as_slice.ensures c.whole_extent-extent.ensures)) in
     let has : HasCurrent c.take_up.new.at.saved.current start = subst (λ (v : View). HasCurrent v.current start) (sym c.take_up.ensures.saved) starts.ready.has_current in
     let inserted : c.take_up.new.at.inserted ≡ c.args.plan.now.inserted = c.take_up.ensures.inserted ∙ (sym c.requires.begun.by_checkpoint ∙ sym c.requires.plan.inserted_is) in
-    let sampled = it.loaded (nodes_of c.take_up.new.at.octree) (g.T.Store.files c.args.store.now) c.take_up.new.at.inserted inserted starts.ready.told c.in_default.ensures.loaded in
+    let sampled = it.loaded (nodes_of g.F.SpillFile.held c.take_up.new.at.octree) (g.T.Store.files c.args.store.now) c.take_up.new.at.inserted inserted starts.ready.told (c.in_default.ensures.loaded starts.spills) in
     let way = c.in_default.ensures.on_way all start it.out starts.ready it.names in
     let first = first-moves all start c.args.config.now c.take_up.new.at.saved.current c.args.plan.now c.whole_extent-extent.result it has g.T.Store.files g.T.Store.may_leave g.T.Store.moment g.T.Store.image_since c.args.store.now c.take_up.new.store (subst (λ (v : View). Moves g.T.Store.files g.T.Store.may_leave g.T.Store.moment g.T.Store.image_since (λ (a b : Files). IsSoundAt all v.current b) c.args.store.now c.take_up.new.store) (sym c.take_up.ensures.saved) (c.take_up.ensures.sound all start starts.ready)) in
     let second = grow-moves all start c.args.config.now c.take_up.new.at.saved.current c.args.plan.now c.whole_extent-extent.result it has g.T.Store.files g.T.Store.may_leave g.T.Store.moment g.T.Store.image_since c.take_up.new.store c.grow.new.store
-    (tells-some _ (g.H.Shelf.files c.args.shelf.now) all shelf_told c.grow.ensures.sound it.points it.out it.are sampled way) (c.grow.ensures.reached way.stands) in
+    (tells-some _ (g.H.Shelf.files c.args.shelf.now) all shelf_told (c.grow.ensures.sound starts.spills) it.points it.out it.are sampled way) (c.grow.ensures.reached starts.spills way.stands) in
     let both = moves-then g.T.Store.files g.T.Store.may_leave g.T.Store.moment g.T.Store.image_since (IsUnderWay all c.args.config.now start) c.args.store.now c.take_up.new.store c.grow.new.store first second in
-    let way_on = tells-some _ (g.H.Shelf.files c.args.shelf.now) all shelf_told c.in-Ok.ensures.on_way it.points it.out it.are sampled way in
-    let grown = tells-some _ (g.H.Shelf.files c.args.shelf.now) all shelf_told c.in-Ok.ensures.sampled it.points it.are.scan it.are.can sampled in
+    let way_on = tells-some _ (g.H.Shelf.files c.args.shelf.now) all shelf_told (c.in-Ok.ensures.on_way starts.spills) it.points it.out it.are sampled way in
+    let grown = tells-some _ (g.H.Shelf.files c.args.shelf.now) all shelf_told (c.in-Ok.ensures.sampled starts.spills) it.points it.are.scan it.are.can sampled in
     moves-then g.T.Store.files g.T.Store.may_leave g.T.Store.moment g.T.Store.image_since (IsUnderWay all c.args.config.now start) c.args.store.now c.grow.new.store c.finish.new.store both
     (end-moves all start c.args.config.now c.take_up.new.at.saved.current c.args.plan.now c.whole_extent-extent.result it has g.T.Store.files g.T.Store.may_leave g.T.Store.moment g.T.Store.image_since c.grow.new.store c.finish.new.store (length c.args.plan.now.kept.inputs) c.in-Ok.end.saved.current c.in-Ok.ensures.through
-    (c.finish.ensures.sound all it.points it.out it.are it.number it.has_extent grown way_on))
+    (c.finish.ensures.sound starts.spills all it.points it.out it.are it.number it.has_extent grown way_on))
 
 pub returns-in-Ok-finish-clause-built : goal.returns-in-Ok-finish-clause-built
 returns-in-Ok-finish-clause-built g c = λ all start shelf_told starts.
@@ -216,14 +248,14 @@ returns-in-Ok-finish-clause-built g c = λ all start shelf_told starts.
     (ground-of c.output_once_law.ensures.one c.output_once_law.ensures.sampled c.output_names_law.ensures.grow c.saved_law.ensures.loaded all start c.args.config.now c.args.at.saved.current c.args.plan.now c.requires.plan starts.scans starts.ready.has_current starts.ready.sound c.whole_extent-extent.result (extent-found c.args.plan.now.counts c.as_slice.result.now c.whole_extent-extent.result c.as_slice.ensures c.whole_extent-extent.ensures)) in
     let has : HasCurrent c.take_up.new.at.saved.current start = subst (λ (v : View). HasCurrent v.current start) (sym c.take_up.ensures.saved) starts.ready.has_current in
     let inserted : c.take_up.new.at.inserted ≡ c.args.plan.now.inserted = c.take_up.ensures.inserted ∙ (sym c.requires.begun.by_checkpoint ∙ sym c.requires.plan.inserted_is) in
-    let sampled = it.loaded (nodes_of c.take_up.new.at.octree) (g.T.Store.files c.args.store.now) c.take_up.new.at.inserted inserted starts.ready.told c.in_default.ensures.loaded in
+    let sampled = it.loaded (nodes_of g.F.SpillFile.held c.take_up.new.at.octree) (g.T.Store.files c.args.store.now) c.take_up.new.at.inserted inserted starts.ready.told (c.in_default.ensures.loaded starts.spills) in
     let way = c.in_default.ensures.on_way all start it.out starts.ready it.names in
-    let way_on = tells-some _ (g.H.Shelf.files c.args.shelf.now) all shelf_told c.in-Ok.ensures.on_way it.points it.out it.are sampled way in
-    let grown = tells-some _ (g.H.Shelf.files c.args.shelf.now) all shelf_told c.in-Ok.ensures.sampled it.points it.are.scan it.are.can sampled in
-    let complete = c.in-Ok-finish.ensures.complete all it.points it.out it.are it.number it.has_extent grown way_on in
-    let nodes_are = nodes-number (rules_of c.args.plan.now.kept) it.points (nodes_of c.in-Ok.end.octree) grown in
-    complete-end all start c.args.config.now c.take_up.new.at.saved.current c.args.plan.now c.whole_extent-extent.result it has c.in-Ok.end.saved.current (subst (λ (w : List Input). IsThrough c.take_up.new.at.saved.current c.args.config.now.checkpoint c.args.plan.now.points (length w) c.in-Ok.end.saved.current) c.requires.plan.kept_is.inputs_is c.in-Ok.ensures.through) c.len.result (omega (arith, c.len.ensures.number, ap (λ (w : List Branch). length w) c.finish.ensures.nodes, nodes_are))
-    (g.T.Store.files c.grow.new.store) (g.T.Store.files c.finish.new.store) (c.in-Ok-finish.ensures.sound all it.points it.out it.are it.number it.has_extent grown way_on).reads complete
+    let way_on = tells-some _ (g.H.Shelf.files c.args.shelf.now) all shelf_told (c.in-Ok.ensures.on_way starts.spills) it.points it.out it.are sampled way in
+    let grown = tells-some _ (g.H.Shelf.files c.args.shelf.now) all shelf_told (c.in-Ok.ensures.sampled starts.spills) it.points it.are.scan it.are.can sampled in
+    let complete = c.in-Ok-finish.ensures.complete starts.spills all it.points it.out it.are it.number it.has_extent grown way_on in
+    let nodes_are = nodes-number (rules_of c.args.plan.now.kept) it.points (nodes_of g.F.SpillFile.held c.in-Ok.end.octree) grown in
+    complete-end all start c.args.config.now c.take_up.new.at.saved.current c.args.plan.now c.whole_extent-extent.result it has c.in-Ok.end.saved.current (subst (λ (w : List Input). IsThrough c.take_up.new.at.saved.current c.args.config.now.checkpoint c.args.plan.now.points (length w) c.in-Ok.end.saved.current) c.requires.plan.kept_is.inputs_is c.in-Ok.ensures.through) c.len.result (omega (arith, c.len.ensures.number, ap (λ (w : List Branch). length w) c.finish.ensures.same, nodes_are))
+    (g.T.Store.files c.grow.new.store) (g.T.Store.files c.finish.new.store) (c.in-Ok-finish.ensures.sound starts.spills all it.points it.out it.are it.number it.has_extent grown way_on).reads complete
 
 pub returns-in-Ok-finish-clause-damaged_comes : goal.returns-in-Ok-finish-clause-damaged_comes
 returns-in-Ok-finish-clause-damaged_comes g c = λ start key told has damaged few.

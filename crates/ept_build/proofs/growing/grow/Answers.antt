@@ -9,7 +9,7 @@ use Rattle.ept_scan.specs.Opening.{IsKeptScan, IsFileOf}
 use Rattle.ept_scan.specs.Reader.{files_of, IsRest}
 use Rattle.ept_meta.specs.Output.{rules_of}
 use Rattle.ept_build.specs.Phases.{IsSoundUndone}
-use Rattle.ept_build.proofs.Causes.{read-changed, tells-more, tells-all}
+use Rattle.ept_build.proofs.Causes.{read-changed, read-no-spill, read-no-damage, tells-more, tells-all}
 use Rattle.ept_build.proofs.Ground.{kept-number}
 use Rattle.ept_build.proofs.Inside.{lies-in-cube}
 use Rattle.ept_scan.specs.Asking.{paths_left}
@@ -35,22 +35,22 @@ phases-requires-clause-reader g c lives within =
 -- ---- all is brought in
 
 pub returns-in-Ok-phases-clause-sampled : goal.returns-in-Ok-phases-clause-sampled
-returns-in-Ok-phases-clause-sampled g c =
+returns-in-Ok-phases-clause-sampled g c = λ telling.
     let plan = c.args.plan.now in
     tells-more (λ (all : Files). (points : List Point) → IsKeptScan all plan.kept c.as_slice-counts.result.now points → IsRest g.H.Source.Source.whole c.in-Ok.reader (drop c.args.at.inserted points)) _
-    (λ all rest points scan can are. c.in-Ok-phases.ensures.sampled points can (kept-number all plan.kept plan.counts points scan ∙ sym c.requires.fit.points_are) (record { sampled = are; rest = rest points (subst (λ (w : List SourceCount). IsKeptScan all plan.kept w points) (sym c.as_slice-counts.ensures) scan) })) (g.H.Shelf.files c.args.shelf.now) c.in-Ok.ensures.rest
+    (λ all rest points scan can are. c.in-Ok-phases.ensures.sampled points can (kept-number all plan.kept plan.counts points scan ∙ sym c.requires.fit.points_are) (record { telling = telling; sampled = are; rest = rest points (subst (λ (w : List SourceCount). IsKeptScan all plan.kept w points) (sym c.as_slice-counts.ensures) scan) })) (g.H.Shelf.files c.args.shelf.now) c.in-Ok.ensures.rest
 
 pub returns-in-Ok-phases-clause-on_way : goal.returns-in-Ok-phases-clause-on_way
-returns-in-Ok-phases-clause-on_way g c =
+returns-in-Ok-phases-clause-on_way g c = λ telling.
     let plan = c.args.plan.now in
     tells-more (λ (all : Files). (points : List Point) → IsKeptScan all plan.kept c.as_slice-counts.result.now points → IsRest g.H.Source.Source.whole c.in-Ok.reader (drop c.args.at.inserted points)) _
-    (λ all rest points output are inserted way. c.in-Ok-phases.ensures.on_way all points output are (record { sampled = inserted; rest = rest points (subst (λ (w : List SourceCount). IsKeptScan all plan.kept w points) (sym c.as_slice-counts.ensures) are.scan) }) way) (g.H.Shelf.files c.args.shelf.now) c.in-Ok.ensures.rest
+    (λ all rest points output are inserted way. c.in-Ok-phases.ensures.on_way all points output are (record { telling = telling; sampled = inserted; rest = rest points (subst (λ (w : List SourceCount). IsKeptScan all plan.kept w points) (sym c.as_slice-counts.ensures) are.scan) }) way) (g.H.Shelf.files c.args.shelf.now) c.in-Ok.ensures.rest
 
 pub returns-in-Ok-phases-clause-sound : goal.returns-in-Ok-phases-clause-sound
-returns-in-Ok-phases-clause-sound g c =
+returns-in-Ok-phases-clause-sound g c = λ telling.
     let plan = c.args.plan.now in
     tells-more (λ (all : Files). (points : List Point) → IsKeptScan all plan.kept c.as_slice-counts.result.now points → IsRest g.H.Source.Source.whole c.in-Ok.reader (drop c.args.at.inserted points)) _
-    (λ all rest points output are inserted way. c.phases.ensures.sound all points output are (record { sampled = inserted; rest = rest points (subst (λ (w : List SourceCount). IsKeptScan all plan.kept w points) (sym c.as_slice-counts.ensures) are.scan) }) way) (g.H.Shelf.files c.args.shelf.now) c.in-Ok.ensures.rest
+    (λ all rest points output are inserted way. c.phases.ensures.sound all points output are (record { telling = telling; sampled = inserted; rest = rest points (subst (λ (w : List SourceCount). IsKeptScan all plan.kept w points) (sym c.as_slice-counts.ensures) are.scan) }) way) (g.H.Shelf.files c.args.shelf.now) c.in-Ok.ensures.rest
 
 pub returns-in-Ok-phases-clause-asked : goal.returns-in-Ok-phases-clause-asked
 returns-in-Ok-phases-clause-asked g c =
@@ -61,28 +61,34 @@ returns-in-Ok-phases-clause-asked g c =
 -- ---- a phase is refused
 
 pub returns-in-Err-phases-clause-sound : goal.returns-in-Err-phases-clause-sound
-returns-in-Err-phases-clause-sound g c =
+returns-in-Err-phases-clause-sound g c = λ telling.
     let plan = c.args.plan.now in
     tells-more (λ (all : Files). (points : List Point) → IsKeptScan all plan.kept c.as_slice-counts.result.now points → IsRest g.H.Source.Source.whole c.in-Ok.reader (drop c.args.at.inserted points)) _
-    (λ all rest points output are inserted way. c.phases.ensures.sound all points output are (record { sampled = inserted; rest = rest points (subst (λ (w : List SourceCount). IsKeptScan all plan.kept w points) (sym c.as_slice-counts.ensures) are.scan) }) way) (g.H.Shelf.files c.args.shelf.now) c.in-Ok.ensures.rest
+    (λ all rest points output are inserted way. c.phases.ensures.sound all points output are (record { telling = telling; sampled = inserted; rest = rest points (subst (λ (w : List SourceCount). IsKeptScan all plan.kept w points) (sym c.as_slice-counts.ensures) are.scan) }) way) (g.H.Shelf.files c.args.shelf.now) c.in-Ok.ensures.rest
 
 pub returns-in-Err-phases-clause-undamaged : goal.returns-in-Err-phases-clause-undamaged
-returns-in-Err-phases-clause-undamaged g c =
+returns-in-Err-phases-clause-undamaged g c = λ telling.
     let plan = c.args.plan.now in
     tells-more (λ (all : Files). (points : List Point) → IsKeptScan all plan.kept c.as_slice-counts.result.now points → IsRest g.H.Source.Source.whole c.in-Ok.reader (drop c.args.at.inserted points)) _
-    (λ all rest points output are inserted way. c.in-Err-phases.ensures.undamaged all points output are (record { sampled = inserted; rest = rest points (subst (λ (w : List SourceCount). IsKeptScan all plan.kept w points) (sym c.as_slice-counts.ensures) are.scan) }) way) (g.H.Shelf.files c.args.shelf.now) c.in-Ok.ensures.rest
+    (λ all rest points output are inserted way. c.in-Err-phases.ensures.undamaged all points output are (record { telling = telling; sampled = inserted; rest = rest points (subst (λ (w : List SourceCount). IsKeptScan all plan.kept w points) (sym c.as_slice-counts.ensures) are.scan) }) way) (g.H.Shelf.files c.args.shelf.now) c.in-Ok.ensures.rest
 
 pub returns-in-Err-phases-clause-too_many : goal.returns-in-Err-phases-clause-too_many
-returns-in-Err-phases-clause-too_many g c = λ is.
+returns-in-Err-phases-clause-too_many g c = λ telling is.
     let plan = c.args.plan.now in
     tells-more (λ (all : Files). (points : List Point) → IsKeptScan all plan.kept c.as_slice-counts.result.now points → IsRest g.H.Source.Source.whole c.in-Ok.reader (drop c.args.at.inserted points)) _
-    (λ all rest points scan can are. c.in-Err-phases.ensures.too_many is points can (kept-number all plan.kept plan.counts points scan ∙ sym c.requires.fit.points_are) (record { sampled = are; rest = rest points (subst (λ (w : List SourceCount). IsKeptScan all plan.kept w points) (sym c.as_slice-counts.ensures) scan) })) (g.H.Shelf.files c.args.shelf.now) c.in-Ok.ensures.rest
+    (λ all rest points scan can are. c.in-Err-phases.ensures.too_many is points can (kept-number all plan.kept plan.counts points scan ∙ sym c.requires.fit.points_are) (record { telling = telling; sampled = are; rest = rest points (subst (λ (w : List SourceCount). IsKeptScan all plan.kept w points) (sym c.as_slice-counts.ensures) scan) })) (g.H.Shelf.files c.args.shelf.now) c.in-Ok.ensures.rest
 
 pub returns-in-Err-phases-clause-no_change : goal.returns-in-Err-phases-clause-no_change
-returns-in-Err-phases-clause-no_change g c = λ source number is.
+returns-in-Err-phases-clause-no_change g c = λ telling source number is.
     let plan = c.args.plan.now in
     tells-more (λ (all : Files). (points : List Point) → IsKeptScan all plan.kept c.as_slice-counts.result.now points → IsRest g.H.Source.Source.whole c.in-Ok.reader (drop c.args.at.inserted points)) _
-    (λ all rest points scan can are. c.in-Err-phases.ensures.no_change source number is points can (record { sampled = are; rest = rest points (subst (λ (w : List SourceCount). IsKeptScan all plan.kept w points) (sym c.as_slice-counts.ensures) scan) })) (g.H.Shelf.files c.args.shelf.now) c.in-Ok.ensures.rest
+    (λ all rest points scan can are. c.in-Err-phases.ensures.no_change source number is points can (record { telling = telling; sampled = are; rest = rest points (subst (λ (w : List SourceCount). IsKeptScan all plan.kept w points) (sym c.as_slice-counts.ensures) scan) })) (g.H.Shelf.files c.args.shelf.now) c.in-Ok.ensures.rest
+
+pub returns-in-Err-phases-clause-no_damage : goal.returns-in-Err-phases-clause-no_damage
+returns-in-Err-phases-clause-no_damage g c = λ telling kept found number is.
+    let plan = c.args.plan.now in
+    tells-more (λ (all : Files). (points : List Point) → IsKeptScan all plan.kept c.as_slice-counts.result.now points → IsRest g.H.Source.Source.whole c.in-Ok.reader (drop c.args.at.inserted points)) _
+    (λ all rest points scan can are. c.in-Err-phases.ensures.no_damage kept found number is points can (record { telling = telling; sampled = are; rest = rest points (subst (λ (w : List SourceCount). IsKeptScan all plan.kept w points) (sym c.as_slice-counts.ensures) scan) })) (g.H.Shelf.files c.args.shelf.now) c.in-Ok.ensures.rest
 
 pub returns-in-Err-phases-clause-asked : goal.returns-in-Err-phases-clause-asked
 returns-in-Err-phases-clause-asked g c =
@@ -97,17 +103,25 @@ returns-in-Err-phases-clause-sources g c = λ is.
 -- ---- the reader is refused
 
 pub returns-in-Err-clause-sound : goal.returns-in-Err-clause-sound
-returns-in-Err-clause-sound g c =
+returns-in-Err-clause-sound g c = λ telling.
     tells-all _ (λ all points output are sampled way.
     moves-none g.T.Store.files g.T.Store.may_leave g.T.Store.moment g.T.Store.image_since (IsSoundUndone all) c.args.store.now
     (all-images g.T.Store.files g.T.Store.may_leave g.T.Store.moment g.T.Store.image_since (IsSoundUndone all) c.args.store.now (g.met.T.Store.reads_an_image c.args.store.now) way.sound))
     (g.H.Shelf.files c.args.shelf.now)
 
 pub returns-in-Err-clause-reached : goal.returns-in-Err-clause-reached
-returns-in-Err-clause-reached g c = λ stands.
+returns-in-Err-clause-reached g c = λ telling stands.
     none-moves g.T.Store.files g.T.Store.may_leave g.T.Store.moment g.T.Store.image_since c.args.at.saved c.args.store.now (g.met.T.Store.reads_an_image c.args.store.now) stands (HasReached c.args.at.saved.current c.args.step c.args.plan.now.points)
     (reached-now c.args.at.saved.current c.args.at.saved.current c.args.step c.args.plan.now.points 0 (after-none c.args.at.saved.current c.args.step c.args.plan.now.points (omega (arith, c.requires.tree.by_checkpoint, c.requires.inserted))))
 
 pub returns-in-Err-clause-no_change : goal.returns-in-Err-clause-no_change
-returns-in-Err-clause-no_change g c = λ source number is.
+returns-in-Err-clause-no_change g c = λ telling source number is.
     absurd (c.in-Err.ensures.no_change source number (ap (λ (e : ReadError). Err e) (read-changed c.in-Err.refused source number (sym c.from.ensures ∙ (sym c.stop.ensures.error ∙ is)))))
+
+pub returns-in-Err-clause-no_damage : goal.returns-in-Err-clause-no_damage
+returns-in-Err-clause-no_damage g c = λ telling kept found number is.
+    absurd (read-no-damage c.in-Err.refused kept found number (sym c.from.ensures ∙ (sym c.stop.ensures.error ∙ is)))
+
+pub returns-in-Err-clause-spill : goal.returns-in-Err-clause-spill
+returns-in-Err-clause-spill g c = λ is.
+    absurd (read-no-spill c.in-Err.refused (sym c.from.ensures ∙ (sym c.stop.ensures.error ∙ is)))

@@ -24,6 +24,7 @@ pub loop-alloc-init : goal.loop-alloc-init
 loop-alloc-init g c = record {
   tree = c.requires.tree;
   most = refl;
+  cache = refl;
   reads = c.requires.reader;
   same = c.requires.same;
   later = omega arith;
@@ -38,7 +39,7 @@ loop-alloc-init g c = record {
   fewest = no-fewer-none _ _ c.args.step;
   stands = λ stands. stands;
   settled = λ settled. settled;
-  reached = λ stands.
+  reached = λ telling stands.
       none-moves g.T.Store.files g.T.Store.may_leave g.T.Store.moment g.T.Store.image_since c.args.at.saved c.args.store.now (g.met.T.Store.reads_an_image c.args.store.now) stands (HasReached c.args.at.saved.current c.args.step c.args.plan.now.points)
       (reached-now c.args.at.saved.current c.args.at.saved.current c.args.step c.args.plan.now.points 0 (after-none c.args.at.saved.current c.args.step c.args.plan.now.points (omega (arith, c.requires.tree.by_checkpoint, c.requires.reader.to_come))));
 }
@@ -72,6 +73,7 @@ loop-alloc-preserved g c =
     record {
       tree = c.in_ok-at.ensures.tree;
       most = c.in_ok-at.ensures.most ∙ i.invariant.most;
+      cache = c.in_ok-at.ensures.cache ∙ i.invariant.cache;
       reads = c.in_ok-at.ensures.reader;
       same = λ all. c.in_ok-at.ensures.checkpoint;
       later = omega (arith, i.invariant.later, c.in_ok-at.ensures.stores_later);
@@ -90,10 +92,10 @@ loop-alloc-preserved g c =
           (λ all. let yes = c.has_all.ensures.1 all in let no = c.loop-alloc-test.true in cc);
       stands = λ stands. c.in_ok-at.ensures.stands (i.invariant.stands stands);
       settled = λ settled. c.in_ok-at.ensures.settled;
-      reached = λ stands.
-          moves-then g.T.Store.files g.T.Store.may_leave g.T.Store.moment g.T.Store.image_since (HasReached c.args.at.saved.current c.args.step c.args.plan.now.points) c.args.store.now i.store c.phase.new.store (i.invariant.reached stands)
+      reached = λ telling stands.
+          moves-then g.T.Store.files g.T.Store.may_leave g.T.Store.moment g.T.Store.image_since (HasReached c.args.at.saved.current c.args.step c.args.plan.now.points) c.args.store.now i.store c.phase.new.store (i.invariant.reached telling stands)
           (moves-wider g.T.Store.files g.T.Store.may_leave g.T.Store.moment g.T.Store.image_since (HasThisOrNext i.at.saved.current (i.at.inserted + c.min-count.result)) (HasReached c.args.at.saved.current c.args.step c.args.plan.now.points)
-          (reached-then c.args.at.saved.current i.at.saved.current c.args.step c.args.plan.now.points i.invariant.phases i.invariant.after i.at.inserted c.min-count.result i.invariant.tree.by_checkpoint c.min-count.ensures) i.store c.phase.new.store (c.in_ok-at.ensures.either (i.invariant.stands stands)));
+          (reached-then c.args.at.saved.current i.at.saved.current c.args.step c.args.plan.now.points i.invariant.phases i.invariant.after i.at.inserted c.min-count.result i.invariant.tree.by_checkpoint c.min-count.ensures) i.store c.phase.new.store (c.in_ok-at.ensures.either telling (i.invariant.stands stands)));
     }
 
 pub returns-in_err-at-clause-sound : goal.returns-in_err-at-clause-sound
@@ -103,17 +105,17 @@ returns-in_err-at-clause-sound g c = λ shelf points output are has way.
     (c.in_err-at.ensures.sound shelf points output are (i.invariant.has points are.can has) (i.invariant.way shelf points output are has way))
 
 pub returns-in_err-at-clause-reached : goal.returns-in_err-at-clause-reached
-returns-in_err-at-clause-reached g c = λ stands.
+returns-in_err-at-clause-reached g c = λ telling stands.
     let i = c.loop-alloc in
-    moves-then g.T.Store.files g.T.Store.may_leave g.T.Store.moment g.T.Store.image_since (HasReached c.args.at.saved.current c.args.step c.args.plan.now.points) c.args.store.now i.store c.phase.new.store (i.invariant.reached stands)
+    moves-then g.T.Store.files g.T.Store.may_leave g.T.Store.moment g.T.Store.image_since (HasReached c.args.at.saved.current c.args.step c.args.plan.now.points) c.args.store.now i.store c.phase.new.store (i.invariant.reached telling stands)
     (moves-wider g.T.Store.files g.T.Store.may_leave g.T.Store.moment g.T.Store.image_since (HasThisOrNext i.at.saved.current (i.at.inserted + c.min-count.result)) (HasReached c.args.at.saved.current c.args.step c.args.plan.now.points)
-    (reached-then c.args.at.saved.current i.at.saved.current c.args.step c.args.plan.now.points i.invariant.phases i.invariant.after i.at.inserted c.min-count.result i.invariant.tree.by_checkpoint c.min-count.ensures) i.store c.phase.new.store (c.in_err-at.ensures.either (i.invariant.stands stands)))
+    (reached-then c.args.at.saved.current i.at.saved.current c.args.step c.args.plan.now.points i.invariant.phases i.invariant.after i.at.inserted c.min-count.result i.invariant.tree.by_checkpoint c.min-count.ensures) i.store c.phase.new.store (c.in_err-at.ensures.either telling (i.invariant.stands stands)))
 
 pub returns-clause-tree : goal.returns-clause-tree
 returns-clause-tree g c =
     let i = c.loop-alloc in
     let all = c.has_all.ensures.0 c.loop-alloc-test.false in
-    subst (λ (n : ℕ). IsTreeOf c.args.plan.now n i.at.octree i.at.saved) (sym i.invariant.tree.by_checkpoint ∙ all.inserted) i.invariant.tree
+    subst (λ (n : ℕ). IsTreeOf g.F.SpillFile.held g.F.SpillFile.faults g.F.SpillFile.keeps c.args.plan.now n i.at.octree i.at.saved) (sym i.invariant.tree.by_checkpoint ∙ all.inserted) i.invariant.tree
 
 pub returns-clause-all : goal.returns-clause-all
 returns-clause-all g c = c.loop-alloc.invariant.same (c.has_all.ensures.0 c.loop-alloc-test.false).inputs
@@ -123,7 +125,7 @@ returns-clause-sampled g c = λ points can number has.
     let i = c.loop-alloc in
     let all = c.has_all.ensures.0 c.loop-alloc-test.false in
     let at_end : i.at.inserted ≡ c.args.plan.now.points = sym i.invariant.tree.by_checkpoint ∙ all.inserted in
-    subst (λ (w : List Point). AreSampled (rules_of c.args.plan.now.kept) w (nodes_of i.at.octree)) (ap (λ (n : ℕ). take n points) at_end ∙ all-front points c.args.plan.now.points number) (i.invariant.has points can has).sampled
+    subst (λ (w : List Point). AreSampled (rules_of c.args.plan.now.kept) w (nodes_of g.F.SpillFile.held i.at.octree)) (ap (λ (n : ℕ). take n points) at_end ∙ all-front points c.args.plan.now.points number) (i.invariant.has points can has).sampled
 
 pub returns-clause-on_way : goal.returns-clause-on_way
 returns-clause-on_way g c = λ shelf points output are has way. c.loop-alloc.invariant.way shelf points output are has way
@@ -137,7 +139,7 @@ returns-clause-through g c =
     through c.args.plan.now c.args.at.saved.current i.at.saved.current c.args.step i.invariant.phases i.invariant.after (omega (arith, c.requires.tree.by_checkpoint, c.requires.reader.to_come)) c.requires.tree.inputs_least i.invariant.begun i.invariant.fewest (c.has_all.ensures.0 c.loop-alloc-test.false)
 
 pub returns-clause-reached : goal.returns-clause-reached
-returns-clause-reached g c = λ stands. c.loop-alloc.invariant.reached stands
+returns-clause-reached g c = λ telling stands. c.loop-alloc.invariant.reached telling stands
 
 pub returns-in_err-at-clause-damaged : goal.returns-in_err-at-clause-damaged
 returns-in_err-at-clause-damaged g c =
@@ -167,7 +169,7 @@ returns-in_err-at-clause-too_many g c =
     let next : take (i.at.inserted + c.min-count.result) points ≡ take (inserted_by i.at.saved.current + c.args.step) points =
     ap (λ (n : ℕ). take (i.at.inserted + n) points) c.min-count.ensures ∙ (take-most i.at.inserted c.args.step plan.points points number (omega (arith, i.invariant.reads.to_come)) ∙ ap (λ (n : ℕ). take (n + c.args.step) points) (sym by)) in
     let few : length (sampled (rules_of plan.kept) (take (inserted_by i.at.saved.current) points)) ≤ most_of c.args.at.octree =
-    omega (arith, c.in_err-at.ensures.few, i.invariant.most, nodes-number (rules_of plan.kept) (take i.at.inserted points) (nodes_of i.at.octree) its.sampled, ap (λ (n : ℕ). length (sampled (rules_of plan.kept) (take n points))) by) in
+    omega (arith, c.in_err-at.ensures.few, i.invariant.most, nodes-number (rules_of plan.kept) (take i.at.inserted points) (nodes_of g.F.SpillFile.held i.at.octree) its.sampled, ap (λ (n : ℕ). length (sampled (rules_of plan.kept) (take n points))) by) in
     let more : most_of c.args.at.octree < length (sampled (rules_of plan.kept) (take (inserted_by i.at.saved.current + c.args.step) points)) =
     subst (λ (w : List Point). most_of c.args.at.octree < length (sampled (rules_of plan.kept) w)) next (subst (λ (n : ℕ). n < length (sampled (rules_of plan.kept) (take (i.at.inserted + c.min-count.result) points))) i.invariant.most many) in
     subst (λ (v : View). AreMany plan c.args.at.saved.current c.args.step (most_of c.args.at.octree) points v.current) (sym same.0)
@@ -203,3 +205,16 @@ returns-in_err-at-clause-stores g c =
     let was : c.from_residual.result ≡ Err c.in_err-at.field-0.0 = p.1 ∙ ap (λ (w : _). Err w) p.2 in
     if-refused _ c.from_residual.result c.in_err-at.field-0.0 was
     (λ is. omega (arith, c.loop-alloc.invariant.later, c.in_err-at.ensures.stores is))
+
+pub returns-in_err-at-clause-no_damage : goal.returns-in_err-at-clause-no_damage
+returns-in_err-at-clause-no_damage g c =
+    let p = err_from_is_err_and c.from_residual.result c.from_residual.ensures.1 in
+    let was : c.from_residual.result ≡ Err c.in_err-at.field-0.0 = p.1 ∙ ap (λ (w : _). Err w) p.2 in
+    if-refused _ c.from_residual.result c.in_err-at.field-0.0 was
+    (λ kept found number is points can has. c.in_err-at.ensures.no_damage kept found number is points can (c.loop-alloc.invariant.has points can has))
+
+pub returns-in_err-at-clause-spill : goal.returns-in_err-at-clause-spill
+returns-in_err-at-clause-spill g c =
+    let p = err_from_is_err_and c.from_residual.result c.from_residual.ensures.1 in
+    let was : c.from_residual.result ≡ Err c.in_err-at.field-0.0 = p.1 ∙ ap (λ (w : _). Err w) p.2 in
+    if-refused _ c.from_residual.result c.in_err-at.field-0.0 was (λ is. c.in_err-at.ensures.spill is)

@@ -2,10 +2,10 @@ use Rattle.std.proofs.Common.{rules, ◌≡◌, ◌∙◌, sym, ap}
 use Rattle.std.specs.Prelude.{Err}
 use Rattle.ept_base.specs.Files.{Files, SameFiles}
 use Rattle.ept_save.proofs.Standing.{stepped, settled_some}
-use Rattle.ept_phase.specs.declared.error.LoadError.{LoadError}
-use Rattle.ept_build.specs.Errors.{of_load}
+use Rattle.ept_phase.specs.declared.error.PhaseError.{PhaseError}
+use Rattle.ept_build.specs.Errors.{of_phase}
 use Rattle.ept_build.specs.Phases.{IsSoundAt}
-use Rattle.ept_build.proofs.Causes.{loaded-damaged}
+use Rattle.ept_build.proofs.Causes.{phase-damaged, phase-spill, phase-damage}
 use Rattle.ept_build.proofs.Damage.{same-damage}
 use Rattle.ept_build.proofs.Judging.{err-one}
 use Rattle.ept_build.proofs.Moved.{moves-then}
@@ -19,15 +19,27 @@ returns-in_err-load_octree-clause-sound g c = λ all start starts.
 pub returns-in_err-load_octree-clause-damaged : goal.returns-in_err-load_octree-clause-damaged
 returns-in_err-load_octree-clause-damaged g c = λ key is stands.
     let e = c.in_err-load_octree.field-0.0 in
-    let its : c.from_residual.result ≡ Err (of_load e) = search rules in
-    let damaged = c.in_err-load_octree.ensures.damaged key (ap (λ (w : LoadError). Err w) (loaded-damaged e key (err-one (sym its ∙ is)))) in
+    let its : c.from_residual.result ≡ Err (of_phase e) = search rules in
+    let damaged = c.in_err-load_octree.ensures.damaged key (ap (λ (w : PhaseError). Err w) (phase-damaged e key (err-one (sym its ∙ is)))) in
     same-damage c.args.at.now.saved key (g.T.Store.files c.args.store.now) (g.T.Store.files c.load_octree.new.store) (c.load_octree.ensures.stands c.args.at.now.saved stands) c.load_octree.ensures.any_moment.reads damaged.0 damaged.1
 
 pub returns-in_err-load_octree-clause-undamaged : goal.returns-in_err-load_octree-clause-undamaged
 returns-in_err-load_octree-clause-undamaged g c = λ all start starts key is.
     let e = c.in_err-load_octree.field-0.0 in
-    let its : c.from_residual.result ≡ Err (of_load e) = search rules in
-    c.in_err-load_octree.ensures.sound all start starts.told starts.sound starts.has_current key (ap (λ (w : LoadError). Err w) (loaded-damaged e key (err-one (sym its ∙ is))))
+    let its : c.from_residual.result ≡ Err (of_phase e) = search rules in
+    c.in_err-load_octree.ensures.sound all start starts.told starts.sound starts.has_current key (ap (λ (w : PhaseError). Err w) (phase-damaged e key (err-one (sym its ∙ is))))
+
+pub returns-in_err-load_octree-clause-spill : goal.returns-in_err-load_octree-clause-spill
+returns-in_err-load_octree-clause-spill g c = λ is.
+    let e = c.in_err-load_octree.field-0.0 in
+    let its : c.from_residual.result ≡ Err (of_phase e) = search rules in
+    c.in_err-load_octree.ensures.spill (ap (λ (w : PhaseError). Err w) (phase-spill e (err-one (sym its ∙ is))))
+
+pub returns-in_err-load_octree-clause-no_damage : goal.returns-in_err-load_octree-clause-no_damage
+returns-in_err-load_octree-clause-no_damage g c = λ kept found number is.
+    let e = c.in_err-load_octree.field-0.0 in
+    let its : c.from_residual.result ≡ Err (of_phase e) = search rules in
+    c.in_err-load_octree.ensures.no_damage kept found number (ap (λ (w : PhaseError). Err w) (phase-damage e kept found number (err-one (sym its ∙ is))))
 
 pub returns-in_err-close_done-clause-sound : goal.returns-in_err-close_done-clause-sound
 returns-in_err-close_done-clause-sound g c = λ all start starts.
@@ -66,4 +78,8 @@ returns-clause-on_way g c = λ all start output starts names.
 pub returns-clause-tree : goal.returns-clause-tree
 returns-clause-tree g c =
     let own = c.in_ok-load_octree.ensures in
-    tree-loaded c.args.plan.now c.args.at.now.inserted c.args.at.now.saved c.args.at.now.octree c.load_octree.new.octree c.requires.begun own.rules own.whole own.linked own.told own.begun
+    tree-loaded g.F.SpillFile.held g.F.SpillFile.faults g.F.SpillFile.keeps c.args.plan.now c.args.at.now.inserted c.args.at.now.saved c.args.at.now.octree c.load_octree.new.octree c.requires.begun own.rules own.whole own.linked own.agrees own.unbroken own.told own.begun
+
+pub returns-clause-stands : goal.returns-clause-stands
+returns-clause-stands g c = λ stands.
+    c.in_ok-close_done.ensures.stands c.args.at.now.saved (c.load_octree.ensures.stands c.args.at.now.saved stands)

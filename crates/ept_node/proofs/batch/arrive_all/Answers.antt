@@ -1,9 +1,8 @@
-use Rattle.std.proofs.Common.{◌≡◌, ◌∙◌, ℕ, ◌+◌, ◌++◌, ◌∷◌, [], take, length, List, refl, sym, ap, subst, arith, count_by}
+use Rattle.std.proofs.Common.{◌≡◌, ◌∙◌, ◌+◌, ◌++◌, ◌∷◌, [], take, List, refl, sym, ap, arith, count_by}
 use Rattle.std.proofs.lemmas.List.{take_more}
 use Rattle.ept_point.specs.declared.point.Point.{Point}
 use Rattle.ept_sample.proofs.IdLaws.{count_by-cons, count_by-append}
-use Rattle.ept_grid.specs.Node.{Node}
-use Rattle.ept_grid.specs.Outgoing.{Leaving, points_at, all_points}
+use Rattle.ept_grid.specs.Outgoing.{points_at}
 use Rattle.ept_node.proofs.Batches.{taken-next}
 use Rattle.ept_node.proofs.Bridges.{sends-none, sends-more}
 use Rattle.ept_node.proofs.batch.arrive_all.Goals as goal

@@ -1,4 +1,4 @@
-use Rattle.std.proofs.Common.{◌≡◌, ℕ, ◌++◌, List, sym, ap, subst, arith, count_by}
+use Rattle.std.proofs.Common.{◌≡◌, ◌++◌, List, sym, ap, subst, arith, count_by}
 use Rattle.ept_point.specs.declared.point.Point.{Point}
 use Rattle.ept_sample.specs.Ids.{HasDistinctIds}
 use Rattle.ept_grid.specs.Node.{Node, SendsOn}

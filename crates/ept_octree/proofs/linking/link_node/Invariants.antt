@@ -5,8 +5,8 @@ use Rattle.ept_octree.proofs.linking.link_node.Given as goal
 
 abbrev pub invariant-loop-octant : goal.invariant-loop-octant
 invariant-loop-octant g l = record {
-  children : (o : ℕ) → o < l.octant → slice_index (children_of l.node) o ≡ child_slot l.slots.entries (node_of l.initial.node) o;
+  children : (o : ℕ) → o < l.octant → slice_index (children_of l.node) o ≡ child_slot l.slots.entries (node_of g.F.SpillFile.held l.initial.node) o;
   state : state_of l.node ≡ state_of l.initial.node;
-  node : node_of l.node ≡ node_of l.initial.node;
+  node : node_of g.F.SpillFile.held l.node ≡ node_of g.F.SpillFile.held l.initial.node;
   file : file_of l.node ≡ file_of l.initial.node;
 }

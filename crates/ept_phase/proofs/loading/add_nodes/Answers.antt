@@ -1,4 +1,4 @@
-use Rattle.std.proofs.Common.{◌≡◌, ◌∙◌, ℕ, ◌<◌, ◌≤◌, List, ◌++◌, length, get_or, take, sym, ap, subst, arith, rules, Option, Some}
+use Rattle.std.proofs.Common.{◌≡◌, ◌∙◌, ℕ, ◌+◌, ◌<◌, ◌≤◌, inr, List, ◌++◌, length, get_or, take, sym, ap, subst, arith, rules, Option, Some}
 use Rattle.std.specs.Prelude.{Err}
 use Rattle.std.proofs.lemmas.List.{take_all}
 use Rattle.std.proofs.lemmas.Result.{err_from_is_err_and}
@@ -10,6 +10,7 @@ use Rattle.ept_space.specs.declared.cube.Rules.{Rules}
 use Rattle.ept_ckpt.specs.declared.node_line.NodeLine.{NodeLine}
 use Rattle.ept_ckpt.specs.declared.checkpoint.Checkpoint.{Checkpoint}
 use Rattle.ept_meta.specs.Output as meta
+use Rattle.ept_node.specs.Shown.{IsTelling}
 use Rattle.ept_save.specs.declared.error.SaveError.{SaveError}
 use Rattle.ept_save.specs.declared.error.SaveError.TheVariants.{TileDamaged}
 use Rattle.ept_save.specs.Current.{Current}
@@ -19,11 +20,11 @@ use Rattle.ept_table.specs.Octree.{Branch}
 use Rattle.ept_octree.specs.Adding.{filled}
 use Rattle.ept_octree.specs.Octree.{rules_of, most_of, nodes_of}
 use Rattle.ept_phase.specs.Lines.{NamesTile}
-use Rattle.ept_phase.specs.declared.error.LoadError.{LoadError}
-use Rattle.ept_phase.specs.declared.error.LoadError.TheVariants.{TooManyNodes}
+use Rattle.ept_phase.specs.declared.error.PhaseError.{PhaseError}
+use Rattle.ept_phase.specs.declared.error.PhaseError.TheVariants.{TooManyNodes}
 use Rattle.ept_phase.specs.Loaded.{HasNoDamage}
 use Rattle.ept_phase.proofs.Lining.{member-at, line-there, line-depth, next-are, next-tile, tells-more}
-use Rattle.ept_phase.proofs.LoadedNodes.{next-free, next-full, loaded-more, tells-filled}
+use Rattle.ept_phase.proofs.LoadedNodes.{next-free, next-room, next-here, next-full, loaded-more, tells-filled}
 use Rattle.ept_phase.proofs.Compared.{images-then}
 use Rattle.ept_phase.proofs.Undamaged.{AreIntact, intact-next, loaded-whole, all-intact}
 use Rattle.ept_phase.proofs.Refusing.{was-save, damaged-told, none-damaged, load-fault, stays-sound}
@@ -50,8 +51,12 @@ add_node-requires g c =
     let its : rules_of c.loop-line.octree ≡ meta.rules_of at.kept = invariant.rules ∙ c.requires.rules in
     record {
       low = subst (λ (r : Rules). line.key.depth ≤ r.cube.depth) (sym its) (line-depth current at c.requires.current line there);
-      free = next-free (rules_of c.args.octree.now) at items same c.loop-line.line-index line c.loop-line-test.true (sym c.line-item.is) (nodes_of c.loop-line.octree) (g.T.Store.files c.args.store.now) invariant.far;
+      free = next-free (IsTelling g.F.SpillFile.held) (rules_of c.args.octree.now) at items same c.loop-line.line-index line c.loop-line-test.true (sym c.line-item.is) (nodes_of g.F.SpillFile.held c.loop-line.octree) (g.T.Store.files c.args.store.now) invariant.far;
+      room = next-room (IsTelling g.F.SpillFile.held) (rules_of c.args.octree.now) at items same c.loop-line.line-index line c.loop-line-test.true (sym c.line-item.is) (nodes_of g.F.SpillFile.held c.loop-line.octree) (g.T.Store.files c.args.store.now) invariant.far c.loop-line.octree invariant.place;
+      here = next-here (IsTelling g.F.SpillFile.held) (rules_of c.args.octree.now) at items same c.loop-line.line-index line c.loop-line-test.true (sym c.line-item.is) (nodes_of g.F.SpillFile.held c.loop-line.octree) (g.T.Store.files c.args.store.now) invariant.far c.loop-line.octree invariant.place;
       are = subst (λ (r : Rules). AreOfLine r line c.deref.result.now) (sym its) (subst (λ (w : List Point). AreOfLine (meta.rules_of at.kept) line w) (sym points) (next-are current at c.requires.current line there found.points found.are_found));
+      agrees = invariant.agrees;
+      unbroken = invariant.unbroken;
     }
 
 pub loop-line-preserved : goal.loop-line-preserved
@@ -80,8 +85,11 @@ loop-line-preserved g c =
       later = omega (arith, invariant.later, c.load_tile.ensures.cause.later);
       rules = c.add_node.ensures.rules ∙ invariant.rules;
       most = c.add_node.ensures.most ∙ invariant.most;
-      files = c.add_node.ensures.files ∙ invariant.files;
-      far = loaded-more (rules_of c.args.octree.now) at items same i line inside is (nodes_of c.loop-line.octree) files invariant.far next.1 (nodes_of c.add_node.new.octree) c.in_ok-add_node.ensures.ok mid invariant.moves.reads (tells-filled rules (meta.rules_of at.kept) line here are)
+      cache = c.add_node.ensures.cache ∙ invariant.cache;
+      agrees = c.add_node.ensures.agrees;
+      unbroken = c.in_ok-add_node.ensures.unbroken;
+      place = inr (let more : 0 < i + 1 = omega arith in more, c.in_ok-add_node.ensures.room);
+      far = loaded-more (IsTelling g.F.SpillFile.held) (rules_of c.args.octree.now) at items same i line inside is (nodes_of g.F.SpillFile.held c.loop-line.octree) files invariant.far next.1 (nodes_of g.F.SpillFile.held c.add_node.new.octree) c.in_ok-add_node.ensures.ok c.in_ok-add_node.ensures.told mid invariant.moves.reads (tells-filled rules (meta.rules_of at.kept) line here are)
           (tells-more (HasTile current line.key found.points) (λ all. NamesTile all next line) (λ all has. next-tile current at c.requires.current line there found.points all has ∙ ap (λ (w : List Point). Some (tile w)) (sym points)) mid found.has_tile);
       intact = intact-next current items i line inside is files mid invariant.moves.reads invariant.intact (loaded-whole c.load_tile.result c.in_ok-load_tile.field-0 c.in_ok-load_tile.was current line.key mid c.load_tile.ensures.refusal_comes);
     }
@@ -140,6 +148,6 @@ returns-in_err-add_node-clause-any_moment g c =
 pub returns-in_err-add_node-clause-too_many : goal.returns-in_err-add_node-clause-too_many
 returns-in_err-add_node-clause-too_many g c = λ is.
     let its : c.in_err-add_node.field-0.0 ≡ TooManyNodes = search (rules, is) in
-    let full = c.add_node.ensures.too_many (c.in_err-add_node.was ∙ ap (λ (e : LoadError). Err e) its) in
-    let many = next-full (rules_of c.args.octree.now) c.args.checkpoint.now c.as_slice-line-items.result.now c.as_slice-line-items.ensures c.loop-line.line-index c.line-item.result c.loop-line-test.true (sym c.line-item.is) (nodes_of c.loop-line.octree) (g.T.Store.files c.args.store.now) c.loop-line.invariant.far (most_of c.loop-line.octree) full in
+    let full = c.add_node.ensures.too_many (c.in_err-add_node.was ∙ ap (λ (e : PhaseError). Err e) its) in
+    let many = next-full (IsTelling g.F.SpillFile.held) (rules_of c.args.octree.now) c.args.checkpoint.now c.as_slice-line-items.result.now c.as_slice-line-items.ensures c.loop-line.line-index c.line-item.result c.loop-line-test.true (sym c.line-item.is) (nodes_of g.F.SpillFile.held c.loop-line.octree) (g.T.Store.files c.args.store.now) c.loop-line.invariant.far (most_of c.loop-line.octree) full in
     omega (arith, many, c.loop-line.invariant.most)

@@ -14,57 +14,69 @@ use Rattle.ept_save.specs.Current.{Current, HasCurrent, Keeps}
 use Rattle.ept_save.specs.Lines.{free_letter}
 use Rattle.ept_save.specs.Loading.{HasLine, IsDamaged}
 use Rattle.ept_save.specs.View.{View}
-use Rattle.ept_save.proofs.LoadedLines.{handed-on}
 use Rattle.ept_table.specs.Octree.{Branch, key_of}
+use Rattle.ept_node.specs.Shown.{IsTelling}
 use Rattle.ept_octree.specs.Octree.{rules_of, nodes_of}
 use Rattle.ept_octree.proofs.Walked.{node-at}
 use Rattle.ept_phase.specs.Loaded.{HasNoDamage}
+use Rattle.ept_phase.specs.declared.error.PhaseError.TheVariants.{Save}
+use Rattle.ept_phase.specs.Errors.{of_node}
 use Rattle.ept_phase.specs.Saving.{SavesNode, keys_in}
 use Rattle.ept_phase.proofs.Compared.{keeps-none, keeps-then}
 use Rattle.ept_phase.proofs.Lining.{take-next, drop-next}
-use Rattle.ept_phase.proofs.Refusing.{keeps-sound, save-fault}
+use Rattle.ept_octree.proofs.Sampled.{node-distinct}
+use Rattle.ept_phase.proofs.Refusing.{keeps-sound, save-fault, store-devices, store-refusal, store-no-spill, store-no-damage, devices-fault, node-devices, node-fault, node-damaged, node-tile, node-store}
+use Rattle.ept_phase.proofs.SameForest.{still-linked, still-agrees, still-unbroken, still-most}
 use Rattle.ept_phase.proofs.SavedTo.{IsSavedTo, Rise, keys-rise, saved-none, saved-more, saved-all, saved-end}
-use Rattle.ept_phase.proofs.Undamaged.{keeps-undamaged, one-refusal, one-tile, damaged-kept}
+use Rattle.ept_phase.proofs.Undamaged.{keeps-undamaged, one-tile, damaged-kept}
 use Rattle.ept_phase.proofs.saving.save_nodes.Goals as goal
 
 pub loop-key-init : goal.loop-key-init
 loop-key-init g c = record {
-  far = saved-none c.args.saved.now (nodes_of c.args.octree.now) (g.T.Store.files c.args.store.now) c.requires.fresh c.requires.each;
+  far = saved-none (IsTelling g.F.SpillFile.held) c.args.saved.now (nodes_of g.F.SpillFile.held c.args.octree.now) (g.T.Store.files c.args.store.now) c.requires.fresh c.requires.each;
   keeps = keeps-none g.T.Store.files g.T.Store.may_leave g.T.Store.moment g.T.Store.image_since c.args.saved.now.current c.args.store.now;
   stands = λ stands. stands;
   later = omega arith;
-  nodes = refl;
   same = refl;
+  linked = λ linked. linked;
+  agrees = c.requires.agrees;
+  unbroken = λ unbroken. unbroken;
   rules = refl;
+  most = refl;
+  cache = refl;
 }
 
 pub points_into-requires : goal.points_into-requires
 points_into-requires g c =
-    let nodes : List Branch = nodes_of c.args.octree.now in
+    let nodes : List Branch = nodes_of g.F.SpillFile.held c.args.octree.now in
     let all : c.deref-key-items.result.now ≡ map key_of nodes = c.deref-key-items.ensures.value ∙ c.in_ok-keys.ensures.keys in
     let at = node-at nodes c.deref-key-items.result.now c.loop-key.key-index c.key-item.result all c.loop-key-test.true c.key-item.is in
-    (at.0, subst (λ (w : List Branch). IsMember at.0 w) (sym c.loop-key.invariant.same) at.3, at.4)
+    record {
+      key = (at.0, subst (λ (w : List Branch). IsMember at.0 w) (sym c.loop-key.invariant.same) at.3, at.4);
+      agrees = c.loop-key.invariant.agrees;
+    }
 
 pub open_mask-mask-requires : goal.open_mask-mask-requires
 open_mask-mask-requires g c =
-    let nodes : List Branch = nodes_of c.args.octree.now in
+    let nodes : List Branch = nodes_of g.F.SpillFile.held c.args.octree.now in
     let all : c.deref-key-items.result.now ≡ map key_of nodes = c.deref-key-items.ensures.value ∙ c.in_ok-keys.ensures.keys in
     let at = node-at nodes c.deref-key-items.result.now c.loop-key.key-index c.key-item.result all c.loop-key-test.true c.key-item.is in
     (at.0, subst (λ (w : List Branch). IsMember at.0 w) (sym (c.points_into.ensures.same ∙ c.loop-key.invariant.same)) at.3, at.4)
 
 pub loop-key-preserved : goal.loop-key-preserved
 loop-key-preserved g c =
+    let telling : Type 0 = IsTelling g.F.SpillFile.held in
     let start : View = c.args.saved.now in
     let now : View = c.loop-key.saved in
     let new : View = c.save_node.new.saved in
-    let nodes : List Branch = nodes_of c.args.octree.now in
+    let nodes : List Branch = nodes_of g.F.SpillFile.held c.args.octree.now in
     let key : VoxelKey = c.key-item.result in
     let i : ℕ = c.loop-key.key-index in
     let all : c.deref-key-items.result.now ≡ map key_of nodes = c.deref-key-items.ensures.value ∙ c.in_ok-keys.ensures.keys in
     let at = node-at nodes c.deref-key-items.result.now i key all c.loop-key-test.true c.key-item.is in
     let b : Branch = at.0 in
-    let member : IsMember b (nodes_of c.loop-key.octree) = subst (λ (w : List Branch). IsMember b w) (sym c.loop-key.invariant.same) at.3 in
-    let member_then : IsMember b (nodes_of c.points_into.new.self) = subst (λ (w : List Branch). IsMember b w) (sym c.points_into.ensures.same) member in
+    let member : IsMember b (nodes_of g.F.SpillFile.held c.loop-key.octree) = subst (λ (w : List Branch). IsMember b w) (sym c.loop-key.invariant.same) at.3 in
+    let member_then : IsMember b (nodes_of g.F.SpillFile.held c.points_into.new.self) = subst (λ (w : List Branch). IsMember b w) (sym c.points_into.ensures.same) member in
     let done : List Branch = take i nodes in
     let rest : List Branch = drop (i + 1) nodes in
     let next : drop i nodes ≡ b ∷ rest = drop-next nodes i b at.1 at.2 in
@@ -72,27 +84,39 @@ loop-key-preserved g c =
     let rises : Rise (keys_in (done ++ b ∷ rest)) = subst (λ (w : List Branch). Rise (keys_in w)) (sym whole) (keys-rise (keys_in nodes) (subst (λ (w : List VoxelKey). AreAscending w) c.in_ok-keys.ensures.keys c.in_ok-keys.ensures.ascend)) in
     let mask : c.open_mask-mask.result ≡ b.1.mask = c.open_mask-mask.ensures.mask b member_then at.4 in
     let points : List Point = c.deref.result.now in
-    let points_are : points ≡ b.1.points = c.deref.ensures.value ∙ (c.in_ok-points_into.ensures.ok b member at.4 ∙ ap (λ (w : List Point). w ++ b.1.points) c.clear.ensures.items) in
+    let alike = c.in_ok-points_into.ensures.ok b member at.4 in
+    let many : length points ≡ length b.1.points =
+    ap length (c.deref.ensures.value ∙ (alike.grows ∙ ap (λ (w : List Point). w ++ alike.added) c.clear.ensures.items)) ∙ alike.count in
+    let points_are : telling → points ≡ b.1.points = λ tell.
+    c.deref.ensures.value ∙ (c.in_ok-points_into.ensures.told tell b member at.4 ∙ ap (λ (w : List Point). w ++ b.1.points) c.clear.ensures.items) in
+    let held = g.F.SpillFile.held in
+    let read = c.points_into.new.self in
+    let after_mask = c.open_mask-mask.new.self in
+    let kept = c.open_mask-mask.ensures.nodes in
     let files : Option Files = g.T.Store.files c.loop-key.store in
     let after : Option Files = g.T.Store.files c.save_node.new.store in
-    let far : IsSavedTo start now done (b ∷ rest) files = subst (λ (w : List Branch). IsSavedTo start now done w files) next c.loop-key.invariant.far in
+    let far : IsSavedTo telling start now done (b ∷ rest) files = subst (λ (w : List Branch). IsSavedTo telling start now done w files) next c.loop-key.invariant.far in
     let saves : SavesNode now new b.0 b.1.mask points after =
     subst (λ (k : VoxelKey). SavesNode now new k b.1.mask points after) (sym at.4) (subst (λ (m : ℕ). SavesNode now new key m points after) mask c.in_ok-save_node.ensures.node) in
     let is_key : IsKey b.0 = subst IsKey (sym at.4) c.known.ensures in
     let own = c.len.ensures.own b at.3 in
     let shallow : b.1.key.depth ≤ b.1.rules.cube.depth = subst (λ (r : Rules). b.1.key.depth ≤ r.cube.depth) (sym own.1) (subst (λ (k : VoxelKey). k.depth ≤ (rules_of c.args.octree.now).cube.depth) (sym own.0) (c.len.ensures.shallow b at.3)) in
     let byte : b.1.mask < 2 ^ 8 = omega (arith, mask, c.open_mask-mask.type_inv) in
-    let more : IsSavedTo start new (done ++ b ∷ []) rest after =
-    saved-more start now new done rest b points files after rises is_key shallow byte far saves points_are (free_letter now.current b.0) (subst (λ (k : VoxelKey). StepsBy (SameBut (work_tile_name (free_letter now.current k) k)) files after) (sym at.4) c.save_node.ensures.one_tile.reads) in
+    let more : IsSavedTo telling start new (done ++ b ∷ []) rest after =
+    saved-more telling start now new done rest b points files after rises is_key shallow byte far saves many points_are (free_letter now.current b.0) (subst (λ (k : VoxelKey). StepsBy (SameBut (work_tile_name (free_letter now.current k) k)) files after) (sym at.4) c.save_node.ensures.one_tile.reads) in
     record {
-      far = subst (λ (w : List Branch). IsSavedTo start new w rest after) (take-next nodes i b at.1 at.2) more;
+      far = subst (λ (w : List Branch). IsSavedTo telling start new w rest after) (take-next nodes i b at.1 at.2) more;
       keeps = keeps-then g.T.Store.files g.T.Store.may_leave g.T.Store.moment g.T.Store.image_since start.current c.args.store.now c.loop-key.store c.save_node.new.store c.loop-key.invariant.keeps
           (subst (λ (w : Current). Moves g.T.Store.files g.T.Store.may_leave g.T.Store.moment g.T.Store.image_since (Keeps w) c.loop-key.store c.save_node.new.store) (ap (λ (v : View). v.current) c.loop-key.invariant.far.view_is) c.save_node.ensures.keeps);
       stands = λ stands. c.save_node.ensures.stands (c.loop-key.invariant.stands stands);
       later = omega (arith, c.loop-key.invariant.later, c.save_node.ensures.cause.later);
-      nodes = c.open_mask-mask.ensures.nodes ∙ (c.points_into.ensures.nodes ∙ c.loop-key.invariant.nodes);
       same = c.open_mask-mask.ensures.same ∙ (c.points_into.ensures.same ∙ c.loop-key.invariant.same);
+      linked = λ linked. still-linked read after_mask kept held (c.points_into.ensures.linked (c.loop-key.invariant.linked linked));
+      agrees = still-agrees read after_mask kept held g.F.SpillFile.faults g.F.SpillFile.keeps c.points_into.ensures.agrees;
+      unbroken = λ unbroken. still-unbroken read after_mask kept (c.in_ok-points_into.ensures.unbroken (c.loop-key.invariant.unbroken unbroken));
       rules = c.open_mask-mask.ensures.rules ∙ (c.points_into.ensures.rules ∙ c.loop-key.invariant.rules);
+      most = still-most read after_mask kept ∙ (c.points_into.ensures.most ∙ c.loop-key.invariant.most);
+      cache = c.open_mask-mask.ensures.cache ∙ (c.points_into.ensures.cache ∙ c.loop-key.invariant.cache);
     }
 
 pub returns-in_err-save_node-clause-keeps : goal.returns-in_err-save_node-clause-keeps
@@ -114,47 +138,112 @@ returns-in_err-save_node-clause-sound g c = λ shelf all told sound has.
     let at = c.loop-key.invariant in
     let there = keeps-sound c.sound_steps_law.ensures.keeping shelf all c.args.saved.now.current (g.T.Store.files c.args.store.now) (g.T.Store.files c.loop-key.store) at.keeps.reads told sound has in
     let stores = c.save_node.ensures.sound shelf there.0 there.1 there.2 (subst (λ (w : Current). HasCurrent w there.0) (sym (ap (λ (v : View). v.current) at.far.view_is)) there.3) in
-    let is : c.from_residual-in_err-save_node.result ≡ Err c.in_err-save_node.field-0.0 = search rules in
-    handed-on c.save_node.result c.from_residual-in_err-save_node.result c.in_err-save_node.field-0.0 c.in_err-save_node.was is stores
+    let is : c.from_residual-in_err-save_node.result ≡ Err (Save c.in_err-save_node.field-0.0) = search rules in
+    store-devices c.save_node.result c.from_residual-in_err-save_node.result c.in_err-save_node.field-0.0 c.in_err-save_node.was is stores
 
 pub returns-in_err-save_node-clause-undamaged : goal.returns-in_err-save_node-clause-undamaged
 returns-in_err-save_node-clause-undamaged g c = λ all told none.
     let at = c.loop-key.invariant in
     let there = keeps-undamaged c.args.saved.now.current all (g.T.Store.files c.args.store.now) (g.T.Store.files c.loop-key.store) at.keeps.reads told none in
     let stores = c.save_node.ensures.undamaged there.0 there.1 (subst (λ (w : Current). HasNoDamage w there.0) (sym (ap (λ (v : View). v.current) at.far.view_is)) there.2) in
-    let is : c.from_residual-in_err-save_node.result ≡ Err c.in_err-save_node.field-0.0 = search rules in
-    handed-on c.save_node.result c.from_residual-in_err-save_node.result c.in_err-save_node.field-0.0 c.in_err-save_node.was is stores
+    let is : c.from_residual-in_err-save_node.result ≡ Err (Save c.in_err-save_node.field-0.0) = search rules in
+    store-devices c.save_node.result c.from_residual-in_err-save_node.result c.in_err-save_node.field-0.0 c.in_err-save_node.was is stores
 
 pub returns-clause-told : goal.returns-clause-told
 returns-clause-told g c =
-    let nodes : List Branch = nodes_of c.args.octree.now in
+    let nodes : List Branch = nodes_of g.F.SpillFile.held c.args.octree.now in
     let all : c.deref-key-items.result.now ≡ map key_of nodes = c.deref-key-items.ensures.value ∙ c.in_ok-keys.ensures.keys in
     let end : length nodes ≤ c.loop-key.key-index = omega (arith, c.loop-key-test.false, ap length all, length-map nodes key_of) in
-    let far : IsSavedTo c.args.saved.now c.loop-key.saved nodes [] (g.T.Store.files c.loop-key.store) = saved-end c.args.saved.now c.loop-key.saved nodes c.loop-key.key-index (g.T.Store.files c.loop-key.store) end c.loop-key.invariant.far in
-    (saved-all c.args.saved.now c.loop-key.saved nodes (g.T.Store.files c.loop-key.store) far).0
+    let far : IsSavedTo (IsTelling g.F.SpillFile.held) c.args.saved.now c.loop-key.saved nodes [] (g.T.Store.files c.loop-key.store) = saved-end (IsTelling g.F.SpillFile.held) c.args.saved.now c.loop-key.saved nodes c.loop-key.key-index (g.T.Store.files c.loop-key.store) end c.loop-key.invariant.far in
+    (saved-all (IsTelling g.F.SpillFile.held) c.args.saved.now c.loop-key.saved nodes (g.T.Store.files c.loop-key.store) far).0
 
 pub returns-clause-tiles : goal.returns-clause-tiles
 returns-clause-tiles g c =
-    let nodes : List Branch = nodes_of c.args.octree.now in
+    let nodes : List Branch = nodes_of g.F.SpillFile.held c.args.octree.now in
     let all : c.deref-key-items.result.now ≡ map key_of nodes = c.deref-key-items.ensures.value ∙ c.in_ok-keys.ensures.keys in
     let end : length nodes ≤ c.loop-key.key-index = omega (arith, c.loop-key-test.false, ap length all, length-map nodes key_of) in
-    let far : IsSavedTo c.args.saved.now c.loop-key.saved nodes [] (g.T.Store.files c.loop-key.store) = saved-end c.args.saved.now c.loop-key.saved nodes c.loop-key.key-index (g.T.Store.files c.loop-key.store) end c.loop-key.invariant.far in
-    (saved-all c.args.saved.now c.loop-key.saved nodes (g.T.Store.files c.loop-key.store) far).1
+    let far : IsSavedTo (IsTelling g.F.SpillFile.held) c.args.saved.now c.loop-key.saved nodes [] (g.T.Store.files c.loop-key.store) = saved-end (IsTelling g.F.SpillFile.held) c.args.saved.now c.loop-key.saved nodes c.loop-key.key-index (g.T.Store.files c.loop-key.store) end c.loop-key.invariant.far in
+    (saved-all (IsTelling g.F.SpillFile.held) c.args.saved.now c.loop-key.saved nodes (g.T.Store.files c.loop-key.store) far).1
 
 pub returns-clause-known : goal.returns-clause-known
 returns-clause-known g c =
-    let nodes : List Branch = nodes_of c.args.octree.now in
+    let nodes : List Branch = nodes_of g.F.SpillFile.held c.args.octree.now in
     let all : c.deref-key-items.result.now ≡ map key_of nodes = c.deref-key-items.ensures.value ∙ c.in_ok-keys.ensures.keys in
     let end : length nodes ≤ c.loop-key.key-index = omega (arith, c.loop-key-test.false, ap length all, length-map nodes key_of) in
-    (saved-end c.args.saved.now c.loop-key.saved nodes c.loop-key.key-index (g.T.Store.files c.loop-key.store) end c.loop-key.invariant.far).known
+    (saved-end (IsTelling g.F.SpillFile.held) c.args.saved.now c.loop-key.saved nodes c.loop-key.key-index (g.T.Store.files c.loop-key.store) end c.loop-key.invariant.far).known
 
 pub returns-in_err-save_node-clause-damaged : goal.returns-in_err-save_node-clause-damaged
 returns-in_err-save_node-clause-damaged g c = λ key is.
-    let also : c.from_residual-in_err-save_node.result ≡ Err c.in_err-save_node.field-0.0 = search rules in
-    let told = one-refusal c.save_node.result c.from_residual-in_err-save_node.result c.in_err-save_node.field-0.0 (TileDamaged key) c.in_err-save_node.was also is in
+    let also : c.from_residual-in_err-save_node.result ≡ Err (Save c.in_err-save_node.field-0.0) = search rules in
+    let told = store-refusal c.save_node.result c.from_residual-in_err-save_node.result c.in_err-save_node.field-0.0 c.in_err-save_node.was also (TileDamaged key) is in
     let its = one-tile c.save_node.result c.key-item.result key c.save_node.ensures.only told in
     let damaged = c.save_node.ensures.damaged its.0 in
     let same : c.loop-key.saved.current ≡ c.args.saved.now.current = ap (λ (v : View). v.current) c.loop-key.invariant.far.view_is in
     subst (λ (w : Current). HasLine w key × Tells (IsDamaged w key) (g.T.Store.files c.save_node.new.store)) same
     (subst (λ (k : VoxelKey). HasLine c.loop-key.saved.current k × Tells (IsDamaged c.loop-key.saved.current k) (g.T.Store.files c.save_node.new.store)) its.1
     (damaged.0, damaged-kept c.loop-key.saved.current c.key-item.result (g.T.Store.files c.loop-key.store) (g.T.Store.files c.save_node.new.store) c.save_node.ensures.keeps.reads damaged.1))
+
+-- ---- where the points of a node are not given
+
+pub returns-in_err-points_into-clause-only : goal.returns-in_err-points_into-clause-only
+returns-in_err-points_into-clause-only g c =
+    let out = c.from_residual-in_err-points_into.result in
+    let is : out ≡ Err (of_node c.in_err-points_into.field-0.0) = search rules in
+    devices-fault out (node-devices c.points_into.result out c.in_err-points_into.field-0.0 c.in_err-points_into.was is)
+
+pub returns-in_err-points_into-clause-undamaged : goal.returns-in_err-points_into-clause-undamaged
+returns-in_err-points_into-clause-undamaged g c = λ all told none.
+    let out = c.from_residual-in_err-points_into.result in
+    let is : out ≡ Err (of_node c.in_err-points_into.field-0.0) = search rules in
+    node-devices c.points_into.result out c.in_err-points_into.field-0.0 c.in_err-points_into.was is
+
+pub returns-in_err-points_into-clause-sound : goal.returns-in_err-points_into-clause-sound
+returns-in_err-points_into-clause-sound g c = λ shelf all told sound has.
+    let out = c.from_residual-in_err-points_into.result in
+    let is : out ≡ Err (of_node c.in_err-points_into.field-0.0) = search rules in
+    node-devices c.points_into.result out c.in_err-points_into.field-0.0 c.in_err-points_into.was is
+
+pub returns-in_err-points_into-clause-damaged : goal.returns-in_err-points_into-clause-damaged
+returns-in_err-points_into-clause-damaged g c = λ key told.
+    let out = c.from_residual-in_err-points_into.result in
+    let is : out ≡ Err (of_node c.in_err-points_into.field-0.0) = search rules in
+    absurd (node-tile c.points_into.result out c.in_err-points_into.field-0.0 c.in_err-points_into.was is key told)
+
+pub returns-in_err-points_into-clause-spill : goal.returns-in_err-points_into-clause-spill
+returns-in_err-points_into-clause-spill g c = λ told.
+    let out = c.from_residual-in_err-points_into.result in
+    let is : out ≡ Err (of_node c.in_err-points_into.field-0.0) = search rules in
+    c.points_into.ensures.spill (node-fault c.points_into.result out c.in_err-points_into.field-0.0 c.in_err-points_into.was is told)
+
+pub returns-in_err-points_into-clause-no_damage : goal.returns-in_err-points_into-clause-no_damage
+returns-in_err-points_into-clause-no_damage g c = λ points can are unbroken tell kept found at told.
+    let out = c.from_residual-in_err-points_into.result in
+    let is : out ≡ Err (of_node c.in_err-points_into.field-0.0) = search rules in
+    let nodes : List Branch = nodes_of g.F.SpillFile.held c.args.octree.now in
+    let same = c.loop-key.invariant.same in
+    c.points_into.ensures.intact (c.loop-key.invariant.unbroken unbroken) tell
+    (λ b m at_key. node-distinct (rules_of c.args.octree.now) points can nodes are b (subst (λ (w : List Branch). IsMember b w) same m)) kept found at
+    (node-damaged c.points_into.result out c.in_err-points_into.field-0.0 c.in_err-points_into.was is kept found at told)
+
+pub returns-in_err-points_into-clause-cause : goal.returns-in_err-points_into-clause-cause
+returns-in_err-points_into-clause-cause g c =
+    let out = c.from_residual-in_err-points_into.result in
+    let is : out ≡ Err (of_node c.in_err-points_into.field-0.0) = search rules in
+    record {
+      later = c.loop-key.invariant.later;
+      failed = λ told. absurd (node-store c.points_into.result out c.in_err-points_into.field-0.0 c.in_err-points_into.was is told);
+    }
+
+-- ---- where a node is not saved
+
+pub returns-in_err-save_node-clause-spill : goal.returns-in_err-save_node-clause-spill
+returns-in_err-save_node-clause-spill g c = λ told.
+    let out = c.from_residual-in_err-save_node.result in
+    let is : out ≡ Err (Save c.in_err-save_node.field-0.0) = search rules in
+    absurd (store-no-spill c.save_node.result out c.in_err-save_node.field-0.0 c.in_err-save_node.was is told)
+
+pub returns-in_err-save_node-clause-no_damage : goal.returns-in_err-save_node-clause-no_damage
+returns-in_err-save_node-clause-no_damage g c = λ points can are unbroken tell kept found at told.
+    let out = c.from_residual-in_err-save_node.result in
+    let is : out ≡ Err (Save c.in_err-save_node.field-0.0) = search rules in
+    store-no-damage c.save_node.result out c.in_err-save_node.field-0.0 c.in_err-save_node.was is kept found at told

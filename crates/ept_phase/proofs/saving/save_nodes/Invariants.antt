@@ -1,7 +1,7 @@
 use Rattle.std.proofs.Common.{◌≡◌, ◌≤◌, take, drop}
 use Rattle.ept_base.specs.Moves.{Moves}
-use Rattle.ept_forest.specs.Slots as trees
-use Rattle.ept_octree.specs.Octree.{forest_of, rules_of, nodes_of}
+use Rattle.ept_node.specs.Shown.{IsTelling}
+use Rattle.ept_octree.specs.Octree.{rules_of, most_of, cache_of, nodes_of, IsLinked, IsUnbroken, AgreesWithFiles}
 use Rattle.ept_save.specs.Current.{Keeps}
 use Rattle.ept_save.specs.View.{StandsFor}
 use Rattle.ept_phase.proofs.SavedTo.{IsSavedTo}
@@ -11,13 +11,18 @@ abbrev pub invariant-loop-key : goal.invariant-loop-key
 invariant-loop-key g l =
     let files = g.T.Store.files in
     let may_leave = g.T.Store.may_leave in
-    let all = nodes_of l.initial.octree in
+    let held = g.F.SpillFile.held in
+    let all = nodes_of held l.initial.octree in
     record {
-      far : IsSavedTo l.initial.saved l.saved (take l.key-index all) (drop l.key-index all) (files l.store);
+      far : IsSavedTo (IsTelling held) l.initial.saved l.saved (take l.key-index all) (drop l.key-index all) (files l.store);
       keeps : Moves files may_leave g.T.Store.moment g.T.Store.image_since (Keeps l.initial.saved.current) l.initial.store l.store;
       stands : StandsFor l.initial.saved (files l.initial.store) (may_leave l.initial.store) → StandsFor l.saved (files l.store) (may_leave l.store);
       later : g.T.Store.faults l.initial.store ≤ g.T.Store.faults l.store;
-      nodes : trees.nodes_of (forest_of l.octree) ≡ trees.nodes_of (forest_of l.initial.octree);
-      same : nodes_of l.octree ≡ all;
+      same : nodes_of held l.octree ≡ all;
+      linked : IsLinked held l.initial.octree → IsLinked held l.octree;
+      agrees : AgreesWithFiles held g.F.SpillFile.faults g.F.SpillFile.keeps l.octree;
+      unbroken : IsUnbroken l.initial.octree → IsUnbroken l.octree;
       rules : rules_of l.octree ≡ rules_of l.initial.octree;
+      most : most_of l.octree ≡ most_of l.initial.octree;
+      cache : cache_of l.octree ≡ cache_of l.initial.octree;
     }

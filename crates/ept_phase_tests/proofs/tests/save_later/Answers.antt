@@ -46,7 +46,7 @@ pub save_octree-requires-clause-each : goal.save_octree-requires-clause-each
 save_octree-requires-clause-each g c =
     let current : Current = c.args.saved.now.current in
     let first : Checkpoint = c.in-Some-Some.first.now in
-    let nodes : List Branch = nodes_of c.load_octree.new.octree in
+    let nodes : List Branch = nodes_of g.F.SpillFile.held c.load_octree.new.octree in
     let is : option_map (λ (at : Letter × Checkpoint). at.1) current ≡ Some first = search rules in
     let lines : lines_of current ≡ first.nodes = lines_in current ∙ (ap nodes_in is ∙ its_nodes first) in
     let equal : c.as_slice-2.result.now ≡ c.as_slice-3.result.now = (slice_eq-Decides same-key c.as_slice-2.result.now c.as_slice-3.result.now c.eq.result c.eq.ensures).0 c.if-eq.true in

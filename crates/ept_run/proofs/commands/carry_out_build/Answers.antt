@@ -12,46 +12,51 @@ use Rattle.ept_build.specs.Building as building
 use Rattle.ept_run.specs.declared.refusal.Refusal.{Refusal}
 use Rattle.ept_run.specs.Requests.{BuildIsRefused, IsEarly, Fails, TellsDifference}
 use Rattle.ept_run.specs.declared.refusal.Refusal.TheVariants.{BadCheckpoint}
-use Rattle.ept_run.proofs.Refused.{came_to, differed_to, bad_to, build_refused, build_comes, build_accepted, built_at, begun, begun_done, early_as, told_as, stays_sound, never_configured}
+use Rattle.ept_run.proofs.Refused.{came_to, differed_to, bad_to, build_refused, build_comes, build_accepted, built_at, spilled_at, begun, begun_done, early_as, told_as, stays_sound, never_configured}
 use Rattle.ept_run.proofs.commands.carry_out_build.Goals as goal
 
 pub returns-in-Ok-clause-built : goal.returns-in-Ok-clause-built
 returns-in-Ok-clause-built g c =
-    built_at (g.H.Shelf.files c.args.shelf.now) (g.H.Shelf.files c.read_configuration.new.shelf) c.read_configuration.ensures.files c.args.path.now c.in_ok-config.config c.in_ok-config.ensures.ok (g.T.Store.files c.args.store.now) (g.T.Store.may_leave c.args.store.now) c.build.result c.in-Ok.summary (g.T.Store.files c.build.new.store) c.in-Ok.is c.build.ensures.built
+    built_at g.M.File.SpillFile.held (g.H.Shelf.files c.args.shelf.now) (g.H.Shelf.files c.read_configuration.new.shelf) c.read_configuration.ensures.files c.args.path.now c.in_ok-config.config c.in_ok-config.ensures.ok (g.T.Store.files c.args.store.now) (g.T.Store.may_leave c.args.store.now) c.build.result c.in-Ok.summary (g.T.Store.files c.build.new.store) c.in-Ok.is c.build.ensures.built
+
+pub returns-in-Ok-clause-kept : goal.returns-in-Ok-clause-kept
+returns-in-Ok-clause-kept g c =
+    spilled_at g.M.File.SpillFile.held (g.H.Shelf.files c.args.shelf.now) (g.H.Shelf.files c.read_configuration.new.shelf) c.read_configuration.ensures.files c.args.path.now c.in_ok-config.config c.in_ok-config.ensures.ok (g.T.Store.files c.args.store.now) (g.T.Store.may_leave c.args.store.now) c.build.result c.in-Ok.summary (g.T.Store.files c.build.new.store) (g.M.Room.keeps c.args.room.now) (g.M.Room.keeps c.build.new.room) c.in-Ok.is
+    c.build.ensures.built (λ all start begins. (c.build.ensures.sound all start begins).reads) c.build.ensures.kept
 
 pub returns-in-Ok-clause-refusal_comes : goal.returns-in-Ok-clause-refusal_comes
 returns-in-Ok-clause-refusal_comes g c =
-    build_comes (g.H.Shelf.files c.args.shelf.now) (g.H.Shelf.files c.read_configuration.new.shelf) c.read_configuration.ensures.files c.args.path.now c.in_ok-config.config c.in_ok-config.ensures.ok (g.T.Store.files c.args.store.now) (g.T.Store.may_leave c.args.store.now) (Ok c.in-Ok.summary)
+    build_comes g.M.File.SpillFile.held (g.H.Shelf.files c.args.shelf.now) (g.H.Shelf.files c.read_configuration.new.shelf) c.read_configuration.ensures.files c.args.path.now c.in_ok-config.config c.in_ok-config.ensures.ok (g.T.Store.files c.args.store.now) (g.T.Store.may_leave c.args.store.now) (Ok c.in-Ok.summary)
 
 pub returns-in-Ok-clause-sound : goal.returns-in-Ok-clause-sound
 returns-in-Ok-clause-sound g c =
-    begun (g.H.Shelf.files c.args.shelf.now) (g.H.Shelf.files c.read_configuration.new.shelf) c.read_configuration.ensures.files c.args.path.now c.in_ok-config.config c.in_ok-config.ensures.ok (g.T.Store.files c.args.store.now) (g.T.Store.may_leave c.args.store.now) {M = (λ (all : Files). Moves g.T.Store.files g.T.Store.may_leave g.T.Store.moment g.T.Store.image_since (λ (a b : Files). IsSound all b) c.args.store.now c.build.new.store)} (λ all start begins. moves_weaker g.T.Store.files g.T.Store.may_leave g.T.Store.moment g.T.Store.image_since (λ (a b : Files). building.IsUnderWay all c.in_ok-config.config start b) (λ (a b : Files). IsSound all b) (λ a b at. at.sound) c.args.store.now c.build.new.store (c.build.ensures.sound all start begins))
+    begun g.M.File.SpillFile.held (g.H.Shelf.files c.args.shelf.now) (g.H.Shelf.files c.read_configuration.new.shelf) c.read_configuration.ensures.files c.args.path.now c.in_ok-config.config c.in_ok-config.ensures.ok (g.T.Store.files c.args.store.now) (g.T.Store.may_leave c.args.store.now) {M = (λ (all : Files). Moves g.T.Store.files g.T.Store.may_leave g.T.Store.moment g.T.Store.image_since (λ (a b : Files). IsSound all b) c.args.store.now c.build.new.store)} (λ all start begins. moves_weaker g.T.Store.files g.T.Store.may_leave g.T.Store.moment g.T.Store.image_since (λ (a b : Files). building.IsUnderWay all c.in_ok-config.config start b) (λ (a b : Files). IsSound all b) (λ a b at. at.sound) c.args.store.now c.build.new.store (c.build.ensures.sound all start begins))
 
 pub returns-in-Ok-clause-done_already : goal.returns-in-Ok-clause-done_already
 returns-in-Ok-clause-done_already g c =
-    begun_done (g.H.Shelf.files c.args.shelf.now) (g.H.Shelf.files c.read_configuration.new.shelf) c.read_configuration.ensures.files c.args.path.now c.in_ok-config.config c.in_ok-config.ensures.ok (g.T.Store.files c.args.store.now) (g.T.Store.may_leave c.args.store.now) {M = (Moves g.T.Store.files g.T.Store.may_leave g.T.Store.moment g.T.Store.image_since SameFiles c.args.store.now c.build.new.store)} c.build.ensures.done_already
+    begun_done g.M.File.SpillFile.held (g.H.Shelf.files c.args.shelf.now) (g.H.Shelf.files c.read_configuration.new.shelf) c.read_configuration.ensures.files c.args.path.now c.in_ok-config.config c.in_ok-config.ensures.ok (g.T.Store.files c.args.store.now) (g.T.Store.may_leave c.args.store.now) {M = (Moves g.T.Store.files g.T.Store.may_leave g.T.Store.moment g.T.Store.image_since SameFiles c.args.store.now c.build.new.store)} c.build.ensures.done_already
 
 pub returns-clause-refused : goal.returns-clause-refused
 returns-clause-refused g c =
-    subst (λ (r : Refusal). Tells (λ all. BuildIsRefused all (BeginsWith (g.H.Shelf.files c.args.shelf.now) (g.T.Store.files c.args.store.now) (g.T.Store.may_leave c.args.store.now)) c.args.path.now r) (g.H.Shelf.files c.args.shelf.now)) (sym c.from.ensures)
-    (build_refused (g.H.Shelf.files c.args.shelf.now) (g.H.Shelf.files c.read_configuration.new.shelf) c.read_configuration.ensures.files c.args.path.now c.in_ok-config.config c.in_ok-config.ensures.ok (g.T.Store.files c.args.store.now) (g.T.Store.may_leave c.args.store.now) c.build.result c.in-Err.error c.in-Err.is c.build.ensures.refused)
+    subst (λ (r : Refusal). Tells (λ all. BuildIsRefused all (BeginsWith g.M.File.SpillFile.held (g.H.Shelf.files c.args.shelf.now) (g.T.Store.files c.args.store.now) (g.T.Store.may_leave c.args.store.now)) c.args.path.now r) (g.H.Shelf.files c.args.shelf.now)) (sym c.from.ensures)
+    (build_refused g.M.File.SpillFile.held (g.H.Shelf.files c.args.shelf.now) (g.H.Shelf.files c.read_configuration.new.shelf) c.read_configuration.ensures.files c.args.path.now c.in_ok-config.config c.in_ok-config.ensures.ok (g.T.Store.files c.args.store.now) (g.T.Store.may_leave c.args.store.now) c.build.result c.in-Err.error c.in-Err.is c.build.ensures.refused)
 
 pub returns-clause-refusal_comes : goal.returns-clause-refusal_comes
 returns-clause-refusal_comes g c =
-    build_comes (g.H.Shelf.files c.args.shelf.now) (g.H.Shelf.files c.read_configuration.new.shelf) c.read_configuration.ensures.files c.args.path.now c.in_ok-config.config c.in_ok-config.ensures.ok (g.T.Store.files c.args.store.now) (g.T.Store.may_leave c.args.store.now) (Err c.from.result)
+    build_comes g.M.File.SpillFile.held (g.H.Shelf.files c.args.shelf.now) (g.H.Shelf.files c.read_configuration.new.shelf) c.read_configuration.ensures.files c.args.path.now c.in_ok-config.config c.in_ok-config.ensures.ok (g.T.Store.files c.args.store.now) (g.T.Store.may_leave c.args.store.now) (Err c.from.result)
 
 pub returns-clause-accepted : goal.returns-clause-accepted
 returns-clause-accepted g c =
     λ all start begins asked. subst (λ (a : Result Summary Refusal). IsOk a ⊎ Fails a) (ap told_as c.in-Err.is ∙ ap Err (sym c.from.ensures))
-    (build_accepted (g.H.Shelf.files c.args.shelf.now) (g.H.Shelf.files c.read_configuration.new.shelf) c.read_configuration.ensures.files c.args.path.now c.in_ok-config.config c.in_ok-config.ensures.ok (g.T.Store.files c.args.store.now) (g.T.Store.may_leave c.args.store.now) c.build.result c.build.ensures.accepted all start begins asked)
+    (build_accepted g.M.File.SpillFile.held (g.H.Shelf.files c.args.shelf.now) (g.H.Shelf.files c.read_configuration.new.shelf) c.read_configuration.ensures.files c.args.path.now c.in_ok-config.config c.in_ok-config.ensures.ok (g.T.Store.files c.args.store.now) (g.T.Store.may_leave c.args.store.now) c.build.result c.build.ensures.accepted all start begins asked)
 
 pub returns-clause-sound : goal.returns-clause-sound
 returns-clause-sound g c =
-    begun (g.H.Shelf.files c.args.shelf.now) (g.H.Shelf.files c.read_configuration.new.shelf) c.read_configuration.ensures.files c.args.path.now c.in_ok-config.config c.in_ok-config.ensures.ok (g.T.Store.files c.args.store.now) (g.T.Store.may_leave c.args.store.now) {M = (λ (all : Files). Moves g.T.Store.files g.T.Store.may_leave g.T.Store.moment g.T.Store.image_since (λ (a b : Files). IsSound all b) c.args.store.now c.build.new.store)} (λ all start begins. moves_weaker g.T.Store.files g.T.Store.may_leave g.T.Store.moment g.T.Store.image_since (λ (a b : Files). building.IsUnderWay all c.in_ok-config.config start b) (λ (a b : Files). IsSound all b) (λ a b at. at.sound) c.args.store.now c.build.new.store (c.build.ensures.sound all start begins))
+    begun g.M.File.SpillFile.held (g.H.Shelf.files c.args.shelf.now) (g.H.Shelf.files c.read_configuration.new.shelf) c.read_configuration.ensures.files c.args.path.now c.in_ok-config.config c.in_ok-config.ensures.ok (g.T.Store.files c.args.store.now) (g.T.Store.may_leave c.args.store.now) {M = (λ (all : Files). Moves g.T.Store.files g.T.Store.may_leave g.T.Store.moment g.T.Store.image_since (λ (a b : Files). IsSound all b) c.args.store.now c.build.new.store)} (λ all start begins. moves_weaker g.T.Store.files g.T.Store.may_leave g.T.Store.moment g.T.Store.image_since (λ (a b : Files). building.IsUnderWay all c.in_ok-config.config start b) (λ (a b : Files). IsSound all b) (λ a b at. at.sound) c.args.store.now c.build.new.store (c.build.ensures.sound all start begins))
 
 pub returns-clause-done_already : goal.returns-clause-done_already
 returns-clause-done_already g c =
-    begun_done (g.H.Shelf.files c.args.shelf.now) (g.H.Shelf.files c.read_configuration.new.shelf) c.read_configuration.ensures.files c.args.path.now c.in_ok-config.config c.in_ok-config.ensures.ok (g.T.Store.files c.args.store.now) (g.T.Store.may_leave c.args.store.now) {M = (Moves g.T.Store.files g.T.Store.may_leave g.T.Store.moment g.T.Store.image_since SameFiles c.args.store.now c.build.new.store)} c.build.ensures.done_already
+    begun_done g.M.File.SpillFile.held (g.H.Shelf.files c.args.shelf.now) (g.H.Shelf.files c.read_configuration.new.shelf) c.read_configuration.ensures.files c.args.path.now c.in_ok-config.config c.in_ok-config.ensures.ok (g.T.Store.files c.args.store.now) (g.T.Store.may_leave c.args.store.now) {M = (Moves g.T.Store.files g.T.Store.may_leave g.T.Store.moment g.T.Store.image_since SameFiles c.args.store.now c.build.new.store)} c.build.ensures.done_already
 
 pub returns-clause-early : goal.returns-clause-early
 returns-clause-early g c =
@@ -59,31 +64,31 @@ returns-clause-early g c =
 
 pub returns-in_err-config-clause-sound : goal.returns-in_err-config-clause-sound
 returns-in_err-config-clause-sound g c =
-    stays_sound g.T.Store.files g.T.Store.may_leave g.T.Store.moment g.T.Store.image_since c.sound_steps_law.ensures.same (g.H.Shelf.files c.args.shelf.now) c.args.store.now
+    stays_sound g.T.Store.files g.T.Store.may_leave g.T.Store.moment g.T.Store.image_since c.sound_steps_law.ensures.same g.M.File.SpillFile.held (g.H.Shelf.files c.args.shelf.now) c.args.store.now
 
 pub returns-in-Ok-clause-comes : goal.returns-in-Ok-clause-comes
 returns-in-Ok-clause-comes g c = λ all start begins r asked. subst (λ (a : Result Summary Refusal). (a ≡ Err r) ⊎ Fails a) (ap told_as c.in-Ok.is)
-    (came_to (g.H.Shelf.files c.args.shelf.now) (g.H.Shelf.files c.read_configuration.new.shelf) c.read_configuration.ensures.files c.args.path.now c.in_ok-config.config c.in_ok-config.ensures.ok (g.T.Store.files c.args.store.now) (g.T.Store.may_leave c.args.store.now) c.build.result c.build.ensures.refusal_comes c.build.ensures.too_many_comes all start begins r asked)
+    (came_to g.M.File.SpillFile.held (g.H.Shelf.files c.args.shelf.now) (g.H.Shelf.files c.read_configuration.new.shelf) c.read_configuration.ensures.files c.args.path.now c.in_ok-config.config c.in_ok-config.ensures.ok (g.T.Store.files c.args.store.now) (g.T.Store.may_leave c.args.store.now) c.build.result c.build.ensures.refusal_comes c.build.ensures.too_many_comes all start begins r asked)
 
 pub returns-in-Ok-clause-differs_comes : goal.returns-in-Ok-clause-differs_comes
 returns-in-Ok-clause-differs_comes g c = λ all start begins asked. subst (λ (a : Result Summary Refusal). TellsDifference a ⊎ Fails a) (ap told_as c.in-Ok.is)
-    (differed_to (g.H.Shelf.files c.args.shelf.now) (g.H.Shelf.files c.read_configuration.new.shelf) c.read_configuration.ensures.files c.args.path.now c.in_ok-config.config c.in_ok-config.ensures.ok (g.T.Store.files c.args.store.now) (g.T.Store.may_leave c.args.store.now) c.build.result c.build.ensures.differs_comes all start begins asked)
+    (differed_to g.M.File.SpillFile.held (g.H.Shelf.files c.args.shelf.now) (g.H.Shelf.files c.read_configuration.new.shelf) c.read_configuration.ensures.files c.args.path.now c.in_ok-config.config c.in_ok-config.ensures.ok (g.T.Store.files c.args.store.now) (g.T.Store.may_leave c.args.store.now) c.build.result c.build.ensures.differs_comes all start begins asked)
 
 pub returns-in-Ok-clause-bad_comes : goal.returns-in-Ok-clause-bad_comes
 returns-in-Ok-clause-bad_comes g c = λ all start letter told stored bad asked. subst (λ (a : Result Summary Refusal). (a ≡ Err (BadCheckpoint letter)) ⊎ Fails a) (ap told_as c.in-Ok.is)
-    (bad_to (g.H.Shelf.files c.args.shelf.now) (g.H.Shelf.files c.read_configuration.new.shelf) c.read_configuration.ensures.files c.args.path.now c.in_ok-config.config c.in_ok-config.ensures.ok (g.T.Store.files c.args.store.now) (g.T.Store.may_leave c.args.store.now) c.build.result c.build.ensures.bad_comes all start letter told stored bad asked)
+    (bad_to g.M.File.SpillFile.held (g.H.Shelf.files c.args.shelf.now) (g.H.Shelf.files c.read_configuration.new.shelf) c.read_configuration.ensures.files c.args.path.now c.in_ok-config.config c.in_ok-config.ensures.ok (g.T.Store.files c.args.store.now) (g.T.Store.may_leave c.args.store.now) c.build.result c.build.ensures.bad_comes all start letter told stored bad asked)
 
 pub returns-clause-comes : goal.returns-clause-comes
 returns-clause-comes g c = λ all start begins r asked. subst (λ (a : Result Summary Refusal). (a ≡ Err r) ⊎ Fails a) (ap told_as c.in-Err.is ∙ ap Err (sym c.from.ensures))
-    (came_to (g.H.Shelf.files c.args.shelf.now) (g.H.Shelf.files c.read_configuration.new.shelf) c.read_configuration.ensures.files c.args.path.now c.in_ok-config.config c.in_ok-config.ensures.ok (g.T.Store.files c.args.store.now) (g.T.Store.may_leave c.args.store.now) c.build.result c.build.ensures.refusal_comes c.build.ensures.too_many_comes all start begins r asked)
+    (came_to g.M.File.SpillFile.held (g.H.Shelf.files c.args.shelf.now) (g.H.Shelf.files c.read_configuration.new.shelf) c.read_configuration.ensures.files c.args.path.now c.in_ok-config.config c.in_ok-config.ensures.ok (g.T.Store.files c.args.store.now) (g.T.Store.may_leave c.args.store.now) c.build.result c.build.ensures.refusal_comes c.build.ensures.too_many_comes all start begins r asked)
 
 pub returns-clause-differs_comes : goal.returns-clause-differs_comes
 returns-clause-differs_comes g c = λ all start begins asked. subst (λ (a : Result Summary Refusal). TellsDifference a ⊎ Fails a) (ap told_as c.in-Err.is ∙ ap Err (sym c.from.ensures))
-    (differed_to (g.H.Shelf.files c.args.shelf.now) (g.H.Shelf.files c.read_configuration.new.shelf) c.read_configuration.ensures.files c.args.path.now c.in_ok-config.config c.in_ok-config.ensures.ok (g.T.Store.files c.args.store.now) (g.T.Store.may_leave c.args.store.now) c.build.result c.build.ensures.differs_comes all start begins asked)
+    (differed_to g.M.File.SpillFile.held (g.H.Shelf.files c.args.shelf.now) (g.H.Shelf.files c.read_configuration.new.shelf) c.read_configuration.ensures.files c.args.path.now c.in_ok-config.config c.in_ok-config.ensures.ok (g.T.Store.files c.args.store.now) (g.T.Store.may_leave c.args.store.now) c.build.result c.build.ensures.differs_comes all start begins asked)
 
 pub returns-clause-bad_comes : goal.returns-clause-bad_comes
 returns-clause-bad_comes g c = λ all start letter told stored bad asked. subst (λ (a : Result Summary Refusal). (a ≡ Err (BadCheckpoint letter)) ⊎ Fails a) (ap told_as c.in-Err.is ∙ ap Err (sym c.from.ensures))
-    (bad_to (g.H.Shelf.files c.args.shelf.now) (g.H.Shelf.files c.read_configuration.new.shelf) c.read_configuration.ensures.files c.args.path.now c.in_ok-config.config c.in_ok-config.ensures.ok (g.T.Store.files c.args.store.now) (g.T.Store.may_leave c.args.store.now) c.build.result c.build.ensures.bad_comes all start letter told stored bad asked)
+    (bad_to g.M.File.SpillFile.held (g.H.Shelf.files c.args.shelf.now) (g.H.Shelf.files c.read_configuration.new.shelf) c.read_configuration.ensures.files c.args.path.now c.in_ok-config.config c.in_ok-config.ensures.ok (g.T.Store.files c.args.store.now) (g.T.Store.may_leave c.args.store.now) c.build.result c.build.ensures.bad_comes all start letter told stored bad asked)
 
 pub returns-in_err-config-clause-asked : goal.returns-in_err-config-clause-asked
 returns-in_err-config-clause-asked g c = λ start told. inl c.read_configuration.ensures.asked

@@ -1,12 +1,12 @@
-use Rattle.std.proofs.Common.{map, string_bytes, refl, sym, inl, inr, ⊎_elim, subst, ℕ}
+use Rattle.std.proofs.Common.{map, string_bytes, refl, sym, inl, inr, ⊎_elim, subst, ℕ, List}
 use Rattle.ept_base.specs.Causes.{Rose}
 use Rattle.ept_las.specs.declared.header.Header.{Header}
 use Rattle.ept_run.specs.declared.refusal.Refusal.{Refusal}
 use Rattle.ept_run.specs.declared.refusal.Refusal.TheVariants.{Usage, BadCheckpoint}
-use Rattle.ept_run.specs.Requests.{IsAcceptedAt, IsDoneAt, ComesAt, DiffersAt, IsConfigured, HasHeader, IsDefinite}
+use Rattle.ept_run.specs.Requests.{IsAcceptedAt, IsDoneAt, ComesAt, DiffersAt, IsConfigured, HasSpilled, HasHeader, IsDefinite}
 use Rattle.ept_run.specs.Answers.{Yields, YieldsRefusal, AsksInfo, IsFaulty, IsRefused, EndsTrial}
-use Rattle.ept_run.proofs.Runs.{Carries, never_usage, is_done, has_risen, is_refused, refusal_yields, accepted_yields, comes_yields, differs_yields, info_yields, usage_yields, bad_configuration}
-use Rattle.ept_run.proofs.Asked.{told_always, of_build, build_or_info, build_carries, info_carries, info_accepted}
+use Rattle.ept_run.proofs.Runs.{Carries, never_usage, is_done, has_risen, is_refused, refusal_yields, accepted_yields, comes_yields, differs_yields, info_yields, usage_yields, bad_configuration, carried_out}
+use Rattle.ept_run.proofs.Asked.{told_always, one_build, of_build, build_or_info, build_carries, info_carries, info_accepted}
 use Rattle.ept_build.specs.Building.{BeginsWith}
 use Rattle.ept_base.specs.Files.{SameFiles}
 use Rattle.ept_base.specs.Moves.{Moves}
@@ -18,9 +18,9 @@ use Rattle.ept_run.proofs.running.run.Goals as goal
 
 -- ---- build
 
-build_known : (g : given.Over) (c : goal.After-finish g) → Carries (map string_bytes c.args.words.now) (g.H.Shelf.files c.args.shelf.now) (BeginsWith (g.H.Shelf.files c.args.shelf.now) (g.T.Store.files c.args.store.now) (g.T.Store.may_leave c.args.store.now)) (g.T.Store.files c.build_line-line.new.store) (Rose (g.H.Shelf.faults c.args.shelf.now) (g.H.Shelf.faults c.build_line-line.new.shelf)) (Rose (g.T.Store.faults c.args.store.now) (g.T.Store.faults c.build_line-line.new.store)) (Rose (g.M.Room.faults c.args.room.now) (g.M.Room.faults c.build_line-line.new.room)) (Moves g.T.Store.files g.T.Store.may_leave g.T.Store.moment g.T.Store.image_since SameFiles c.args.store.now c.build_line-line.new.store) c.build_line-line.result
+build_known : (g : given.Over) (c : goal.After-finish g) → Carries (map string_bytes c.args.words.now) (g.H.Shelf.files c.args.shelf.now) (BeginsWith g.M.File.SpillFile.held (g.H.Shelf.files c.args.shelf.now) (g.T.Store.files c.args.store.now) (g.T.Store.may_leave c.args.store.now)) (g.T.Store.files c.build_line-line.new.store) (Rose (g.H.Shelf.faults c.args.shelf.now) (g.H.Shelf.faults c.build_line-line.new.shelf)) (Rose (g.T.Store.faults c.args.store.now) (g.T.Store.faults c.build_line-line.new.store)) (Rose (g.M.Room.faults c.args.room.now) (g.M.Room.faults c.build_line-line.new.room)) (Moves g.T.Store.files g.T.Store.may_leave g.T.Store.moment g.T.Store.image_since SameFiles c.args.store.now c.build_line-line.new.store) c.build_line-line.result
 build_known g c =
-    build_carries (map string_bytes c.args.words.now) c.in-Build.config.now c.in-Build.out.now c.in-Build.ensures c.build_line-line.result (g.H.Shelf.files c.args.shelf.now) (BeginsWith (g.H.Shelf.files c.args.shelf.now) (g.T.Store.files c.args.store.now) (g.T.Store.may_leave c.args.store.now)) (g.T.Store.files c.build_line-line.new.store) (Rose (g.H.Shelf.faults c.args.shelf.now) (g.H.Shelf.faults c.build_line-line.new.shelf)) (Rose (g.T.Store.faults c.args.store.now) (g.T.Store.faults c.build_line-line.new.store)) (Rose (g.M.Room.faults c.args.room.now) (g.M.Room.faults c.build_line-line.new.room)) (Moves g.T.Store.files g.T.Store.may_leave g.T.Store.moment g.T.Store.image_since SameFiles c.args.store.now c.build_line-line.new.store)
+    build_carries (map string_bytes c.args.words.now) c.in-Build.config.now c.in-Build.out.now c.in-Build.ensures c.build_line-line.result (g.H.Shelf.files c.args.shelf.now) (BeginsWith g.M.File.SpillFile.held (g.H.Shelf.files c.args.shelf.now) (g.T.Store.files c.args.store.now) (g.T.Store.may_leave c.args.store.now)) (g.T.Store.files c.build_line-line.new.store) (Rose (g.H.Shelf.faults c.args.shelf.now) (g.H.Shelf.faults c.build_line-line.new.shelf)) (Rose (g.T.Store.faults c.args.store.now) (g.T.Store.faults c.build_line-line.new.store)) (Rose (g.M.Room.faults c.args.room.now) (g.M.Room.faults c.build_line-line.new.room)) (Moves g.T.Store.files g.T.Store.may_leave g.T.Store.moment g.T.Store.image_since SameFiles c.args.store.now c.build_line-line.new.store)
     c.build_line-line.ensures.said c.build_line-line.ensures.built c.build_line-line.ensures.causes c.build_line-line.ensures.refused c.build_line-line.ensures.sources.failed c.build_line-line.ensures.stores.failed c.build_line-line.ensures.spills.failed
     c.build_line-line.ensures.early c.build_line-line.ensures.refusal_comes
 
@@ -31,14 +31,14 @@ returns-in-Build-clause-usage g c = (
 )
 
 pub returns-in-Build-clause-done : goal.returns-in-Build-clause-done
-returns-in-Build-clause-done g c = λ ok. inl (is_done c.finish.result (g.O.Sink.written c.args.out.now) (g.O.Sink.written c.finish.new.out) (Rose (g.O.Sink.faults c.args.out.now) (g.O.Sink.faults c.finish.new.out)) (map string_bytes c.args.words.now) (g.H.Shelf.files c.args.shelf.now) (BeginsWith (g.H.Shelf.files c.args.shelf.now) (g.T.Store.files c.args.store.now) (g.T.Store.may_leave c.args.store.now)) (g.T.Store.files c.build_line-line.new.store) (Rose (g.H.Shelf.faults c.args.shelf.now) (g.H.Shelf.faults c.build_line-line.new.shelf)) (Rose (g.T.Store.faults c.args.store.now) (g.T.Store.faults c.build_line-line.new.store)) (Rose (g.M.Room.faults c.args.room.now) (g.M.Room.faults c.build_line-line.new.room)) (Moves g.T.Store.files g.T.Store.may_leave g.T.Store.moment g.T.Store.image_since SameFiles c.args.store.now c.build_line-line.new.store) c.build_line-line.result (build_known g c) c.finish.ensures ok)
+returns-in-Build-clause-done g c = λ ok. inl (is_done c.finish.result (g.O.Sink.written c.args.out.now) (g.O.Sink.written c.finish.new.out) (Rose (g.O.Sink.faults c.args.out.now) (g.O.Sink.faults c.finish.new.out)) (map string_bytes c.args.words.now) (g.H.Shelf.files c.args.shelf.now) (BeginsWith g.M.File.SpillFile.held (g.H.Shelf.files c.args.shelf.now) (g.T.Store.files c.args.store.now) (g.T.Store.may_leave c.args.store.now)) (g.T.Store.files c.build_line-line.new.store) (Rose (g.H.Shelf.faults c.args.shelf.now) (g.H.Shelf.faults c.build_line-line.new.shelf)) (Rose (g.T.Store.faults c.args.store.now) (g.T.Store.faults c.build_line-line.new.store)) (Rose (g.M.Room.faults c.args.room.now) (g.M.Room.faults c.build_line-line.new.room)) (Moves g.T.Store.files g.T.Store.may_leave g.T.Store.moment g.T.Store.image_since SameFiles c.args.store.now c.build_line-line.new.store) c.build_line-line.result (build_known g c) c.finish.ensures ok)
 
 pub returns-in-Build-clause-refused : goal.returns-in-Build-clause-refused
-returns-in-Build-clause-refused g c = λ not_ok. first_two (is_refused c.finish.result (g.O.Sink.written c.args.out.now) (g.O.Sink.written c.finish.new.out) (Rose (g.O.Sink.faults c.args.out.now) (g.O.Sink.faults c.finish.new.out)) (map string_bytes c.args.words.now) (g.H.Shelf.files c.args.shelf.now) (BeginsWith (g.H.Shelf.files c.args.shelf.now) (g.T.Store.files c.args.store.now) (g.T.Store.may_leave c.args.store.now)) (g.T.Store.files c.build_line-line.new.store) (Rose (g.H.Shelf.faults c.args.shelf.now) (g.H.Shelf.faults c.build_line-line.new.shelf)) (Rose (g.T.Store.faults c.args.store.now) (g.T.Store.faults c.build_line-line.new.store)) (Rose (g.M.Room.faults c.args.room.now) (g.M.Room.faults c.build_line-line.new.room)) (Moves g.T.Store.files g.T.Store.may_leave g.T.Store.moment g.T.Store.image_since SameFiles c.args.store.now c.build_line-line.new.store) c.build_line-line.result (build_known g c) c.finish.ensures not_ok)
+returns-in-Build-clause-refused g c = λ not_ok. first_two (is_refused c.finish.result (g.O.Sink.written c.args.out.now) (g.O.Sink.written c.finish.new.out) (Rose (g.O.Sink.faults c.args.out.now) (g.O.Sink.faults c.finish.new.out)) (map string_bytes c.args.words.now) (g.H.Shelf.files c.args.shelf.now) (BeginsWith g.M.File.SpillFile.held (g.H.Shelf.files c.args.shelf.now) (g.T.Store.files c.args.store.now) (g.T.Store.may_leave c.args.store.now)) (g.T.Store.files c.build_line-line.new.store) (Rose (g.H.Shelf.faults c.args.shelf.now) (g.H.Shelf.faults c.build_line-line.new.shelf)) (Rose (g.T.Store.faults c.args.store.now) (g.T.Store.faults c.build_line-line.new.store)) (Rose (g.M.Room.faults c.args.room.now) (g.M.Room.faults c.build_line-line.new.room)) (Moves g.T.Store.files g.T.Store.may_leave g.T.Store.moment g.T.Store.image_since SameFiles c.args.store.now c.build_line-line.new.store) c.build_line-line.result (build_known g c) c.finish.ensures not_ok)
 
 pub returns-in-Build-clause-fault : goal.returns-in-Build-clause-fault
 returns-in-Build-clause-fault g c =
-    has_risen c.finish.result (g.O.Sink.written c.args.out.now) (g.O.Sink.written c.finish.new.out) (Rose (g.O.Sink.faults c.args.out.now) (g.O.Sink.faults c.finish.new.out)) (map string_bytes c.args.words.now) (g.H.Shelf.files c.args.shelf.now) (BeginsWith (g.H.Shelf.files c.args.shelf.now) (g.T.Store.files c.args.store.now) (g.T.Store.may_leave c.args.store.now)) (g.T.Store.files c.build_line-line.new.store) (Rose (g.H.Shelf.faults c.args.shelf.now) (g.H.Shelf.faults c.build_line-line.new.shelf)) (Rose (g.T.Store.faults c.args.store.now) (g.T.Store.faults c.build_line-line.new.store)) (Rose (g.M.Room.faults c.args.room.now) (g.M.Room.faults c.build_line-line.new.room)) (Moves g.T.Store.files g.T.Store.may_leave g.T.Store.moment g.T.Store.image_since SameFiles c.args.store.now c.build_line-line.new.store) c.build_line-line.result (build_known g c) c.finish.ensures
+    has_risen c.finish.result (g.O.Sink.written c.args.out.now) (g.O.Sink.written c.finish.new.out) (Rose (g.O.Sink.faults c.args.out.now) (g.O.Sink.faults c.finish.new.out)) (map string_bytes c.args.words.now) (g.H.Shelf.files c.args.shelf.now) (BeginsWith g.M.File.SpillFile.held (g.H.Shelf.files c.args.shelf.now) (g.T.Store.files c.args.store.now) (g.T.Store.may_leave c.args.store.now)) (g.T.Store.files c.build_line-line.new.store) (Rose (g.H.Shelf.faults c.args.shelf.now) (g.H.Shelf.faults c.build_line-line.new.shelf)) (Rose (g.T.Store.faults c.args.store.now) (g.T.Store.faults c.build_line-line.new.store)) (Rose (g.M.Room.faults c.args.room.now) (g.M.Room.faults c.build_line-line.new.room)) (Moves g.T.Store.files g.T.Store.may_leave g.T.Store.moment g.T.Store.image_since SameFiles c.args.store.now c.build_line-line.new.store) c.build_line-line.result (build_known g c) c.finish.ensures
 
 pub returns-in-Build-clause-refusal_comes : goal.returns-in-Build-clause-refusal_comes
 returns-in-Build-clause-refusal_comes g c =
@@ -53,6 +53,11 @@ pub returns-in-Build-clause-done_already : goal.returns-in-Build-clause-done_alr
 returns-in-Build-clause-done_already g c = λ all start begins asks.
     c.build_line-line.ensures.done_already all start begins (of_build (map string_bytes c.args.words.now) c.in-Build.config.now c.in-Build.out.now c.in-Build.ensures {P = IsDoneAt all start} asks)
 
+pub returns-in-Build-clause-kept : goal.returns-in-Build-clause-kept
+returns-in-Build-clause-kept g c = λ config folder is ok all start begins.
+    subst (λ (p : List ℕ). HasSpilled all start (g.M.Room.keeps c.args.room.now) (g.M.Room.keeps c.build_line-line.new.room) p) (one_build (map string_bytes c.args.words.now) config folder c.in-Build.config.now c.in-Build.out.now is c.in-Build.ensures)
+    (carried_out c.finish.result (g.O.Sink.written c.args.out.now) (g.O.Sink.written c.finish.new.out) (Rose (g.O.Sink.faults c.args.out.now) (g.O.Sink.faults c.finish.new.out)) c.build_line-line.result (c.build_line-line.ensures.kept all start begins) c.finish.ensures ok)
+
 pub returns-in-Build-clause-others_put_nothing : goal.returns-in-Build-clause-others_put_nothing
 returns-in-Build-clause-others_put_nothing g c = inl (record { path = c.in-Build.config.now; out = c.in-Build.out.now; words_are = c.in-Build.ensures; holds = tt })
 
@@ -61,9 +66,9 @@ returns-in-Build-clause-sound g c = λ config folder is. c.build_line-line.ensur
 
 -- ---- info
 
-info_known : (g : given.Over) (c : goal.After-finish-in-Info g) → Carries (map string_bytes c.args.words.now) (g.H.Shelf.files c.args.shelf.now) (BeginsWith (g.H.Shelf.files c.args.shelf.now) (g.T.Store.files c.args.store.now) (g.T.Store.may_leave c.args.store.now)) (g.T.Store.files c.args.store.now) (Rose (g.H.Shelf.faults c.args.shelf.now) (g.H.Shelf.faults c.info_line-line.new.shelf)) (Rose (g.T.Store.faults c.args.store.now) (g.T.Store.faults c.args.store.now)) (Rose (g.M.Room.faults c.args.room.now) (g.M.Room.faults c.args.room.now)) (Moves g.T.Store.files g.T.Store.may_leave g.T.Store.moment g.T.Store.image_since SameFiles c.args.store.now c.args.store.now) c.info_line-line.result
+info_known : (g : given.Over) (c : goal.After-finish-in-Info g) → Carries (map string_bytes c.args.words.now) (g.H.Shelf.files c.args.shelf.now) (BeginsWith g.M.File.SpillFile.held (g.H.Shelf.files c.args.shelf.now) (g.T.Store.files c.args.store.now) (g.T.Store.may_leave c.args.store.now)) (g.T.Store.files c.args.store.now) (Rose (g.H.Shelf.faults c.args.shelf.now) (g.H.Shelf.faults c.info_line-line.new.shelf)) (Rose (g.T.Store.faults c.args.store.now) (g.T.Store.faults c.args.store.now)) (Rose (g.M.Room.faults c.args.room.now) (g.M.Room.faults c.args.room.now)) (Moves g.T.Store.files g.T.Store.may_leave g.T.Store.moment g.T.Store.image_since SameFiles c.args.store.now c.args.store.now) c.info_line-line.result
 info_known g c =
-    info_carries (map string_bytes c.args.words.now) c.in-Info.las.now c.in-Info.ensures c.info_line-line.result (g.H.Shelf.files c.args.shelf.now) (BeginsWith (g.H.Shelf.files c.args.shelf.now) (g.T.Store.files c.args.store.now) (g.T.Store.may_leave c.args.store.now)) (g.T.Store.files c.args.store.now) (Rose (g.H.Shelf.faults c.args.shelf.now) (g.H.Shelf.faults c.info_line-line.new.shelf)) (Rose (g.T.Store.faults c.args.store.now) (g.T.Store.faults c.args.store.now)) (Rose (g.M.Room.faults c.args.room.now) (g.M.Room.faults c.args.room.now)) (Moves g.T.Store.files g.T.Store.may_leave g.T.Store.moment g.T.Store.image_since SameFiles c.args.store.now c.args.store.now) (stays g.T.Store.files g.T.Store.may_leave g.T.Store.moment g.T.Store.image_since c.args.store.now)
+    info_carries (map string_bytes c.args.words.now) c.in-Info.las.now c.in-Info.ensures c.info_line-line.result (g.H.Shelf.files c.args.shelf.now) (BeginsWith g.M.File.SpillFile.held (g.H.Shelf.files c.args.shelf.now) (g.T.Store.files c.args.store.now) (g.T.Store.may_leave c.args.store.now)) (g.T.Store.files c.args.store.now) (Rose (g.H.Shelf.faults c.args.shelf.now) (g.H.Shelf.faults c.info_line-line.new.shelf)) (Rose (g.T.Store.faults c.args.store.now) (g.T.Store.faults c.args.store.now)) (Rose (g.M.Room.faults c.args.room.now) (g.M.Room.faults c.args.room.now)) (Moves g.T.Store.files g.T.Store.may_leave g.T.Store.moment g.T.Store.image_since SameFiles c.args.store.now c.args.store.now) (stays g.T.Store.files g.T.Store.may_leave g.T.Store.moment g.T.Store.image_since c.args.store.now)
     c.info_line-line.ensures.said c.info_line-line.ensures.told c.info_line-line.ensures.causes c.info_line-line.ensures.refused c.info_line-line.ensures.sources.failed c.info_line-line.ensures.refusal_comes
 
 pub returns-in-Info-clause-usage : goal.returns-in-Info-clause-usage
@@ -73,14 +78,14 @@ returns-in-Info-clause-usage g c = (
 )
 
 pub returns-in-Info-clause-done : goal.returns-in-Info-clause-done
-returns-in-Info-clause-done g c = λ ok. inl (is_done c.finish-in-Info.result (g.O.Sink.written c.args.out.now) (g.O.Sink.written c.finish-in-Info.new.out) (Rose (g.O.Sink.faults c.args.out.now) (g.O.Sink.faults c.finish-in-Info.new.out)) (map string_bytes c.args.words.now) (g.H.Shelf.files c.args.shelf.now) (BeginsWith (g.H.Shelf.files c.args.shelf.now) (g.T.Store.files c.args.store.now) (g.T.Store.may_leave c.args.store.now)) (g.T.Store.files c.args.store.now) (Rose (g.H.Shelf.faults c.args.shelf.now) (g.H.Shelf.faults c.info_line-line.new.shelf)) (Rose (g.T.Store.faults c.args.store.now) (g.T.Store.faults c.args.store.now)) (Rose (g.M.Room.faults c.args.room.now) (g.M.Room.faults c.args.room.now)) (Moves g.T.Store.files g.T.Store.may_leave g.T.Store.moment g.T.Store.image_since SameFiles c.args.store.now c.args.store.now) c.info_line-line.result (info_known g c) c.finish-in-Info.ensures ok)
+returns-in-Info-clause-done g c = λ ok. inl (is_done c.finish-in-Info.result (g.O.Sink.written c.args.out.now) (g.O.Sink.written c.finish-in-Info.new.out) (Rose (g.O.Sink.faults c.args.out.now) (g.O.Sink.faults c.finish-in-Info.new.out)) (map string_bytes c.args.words.now) (g.H.Shelf.files c.args.shelf.now) (BeginsWith g.M.File.SpillFile.held (g.H.Shelf.files c.args.shelf.now) (g.T.Store.files c.args.store.now) (g.T.Store.may_leave c.args.store.now)) (g.T.Store.files c.args.store.now) (Rose (g.H.Shelf.faults c.args.shelf.now) (g.H.Shelf.faults c.info_line-line.new.shelf)) (Rose (g.T.Store.faults c.args.store.now) (g.T.Store.faults c.args.store.now)) (Rose (g.M.Room.faults c.args.room.now) (g.M.Room.faults c.args.room.now)) (Moves g.T.Store.files g.T.Store.may_leave g.T.Store.moment g.T.Store.image_since SameFiles c.args.store.now c.args.store.now) c.info_line-line.result (info_known g c) c.finish-in-Info.ensures ok)
 
 pub returns-in-Info-clause-refused : goal.returns-in-Info-clause-refused
-returns-in-Info-clause-refused g c = λ not_ok. first_two (is_refused c.finish-in-Info.result (g.O.Sink.written c.args.out.now) (g.O.Sink.written c.finish-in-Info.new.out) (Rose (g.O.Sink.faults c.args.out.now) (g.O.Sink.faults c.finish-in-Info.new.out)) (map string_bytes c.args.words.now) (g.H.Shelf.files c.args.shelf.now) (BeginsWith (g.H.Shelf.files c.args.shelf.now) (g.T.Store.files c.args.store.now) (g.T.Store.may_leave c.args.store.now)) (g.T.Store.files c.args.store.now) (Rose (g.H.Shelf.faults c.args.shelf.now) (g.H.Shelf.faults c.info_line-line.new.shelf)) (Rose (g.T.Store.faults c.args.store.now) (g.T.Store.faults c.args.store.now)) (Rose (g.M.Room.faults c.args.room.now) (g.M.Room.faults c.args.room.now)) (Moves g.T.Store.files g.T.Store.may_leave g.T.Store.moment g.T.Store.image_since SameFiles c.args.store.now c.args.store.now) c.info_line-line.result (info_known g c) c.finish-in-Info.ensures not_ok)
+returns-in-Info-clause-refused g c = λ not_ok. first_two (is_refused c.finish-in-Info.result (g.O.Sink.written c.args.out.now) (g.O.Sink.written c.finish-in-Info.new.out) (Rose (g.O.Sink.faults c.args.out.now) (g.O.Sink.faults c.finish-in-Info.new.out)) (map string_bytes c.args.words.now) (g.H.Shelf.files c.args.shelf.now) (BeginsWith g.M.File.SpillFile.held (g.H.Shelf.files c.args.shelf.now) (g.T.Store.files c.args.store.now) (g.T.Store.may_leave c.args.store.now)) (g.T.Store.files c.args.store.now) (Rose (g.H.Shelf.faults c.args.shelf.now) (g.H.Shelf.faults c.info_line-line.new.shelf)) (Rose (g.T.Store.faults c.args.store.now) (g.T.Store.faults c.args.store.now)) (Rose (g.M.Room.faults c.args.room.now) (g.M.Room.faults c.args.room.now)) (Moves g.T.Store.files g.T.Store.may_leave g.T.Store.moment g.T.Store.image_since SameFiles c.args.store.now c.args.store.now) c.info_line-line.result (info_known g c) c.finish-in-Info.ensures not_ok)
 
 pub returns-in-Info-clause-fault : goal.returns-in-Info-clause-fault
 returns-in-Info-clause-fault g c =
-    has_risen c.finish-in-Info.result (g.O.Sink.written c.args.out.now) (g.O.Sink.written c.finish-in-Info.new.out) (Rose (g.O.Sink.faults c.args.out.now) (g.O.Sink.faults c.finish-in-Info.new.out)) (map string_bytes c.args.words.now) (g.H.Shelf.files c.args.shelf.now) (BeginsWith (g.H.Shelf.files c.args.shelf.now) (g.T.Store.files c.args.store.now) (g.T.Store.may_leave c.args.store.now)) (g.T.Store.files c.args.store.now) (Rose (g.H.Shelf.faults c.args.shelf.now) (g.H.Shelf.faults c.info_line-line.new.shelf)) (Rose (g.T.Store.faults c.args.store.now) (g.T.Store.faults c.args.store.now)) (Rose (g.M.Room.faults c.args.room.now) (g.M.Room.faults c.args.room.now)) (Moves g.T.Store.files g.T.Store.may_leave g.T.Store.moment g.T.Store.image_since SameFiles c.args.store.now c.args.store.now) c.info_line-line.result (info_known g c) c.finish-in-Info.ensures
+    has_risen c.finish-in-Info.result (g.O.Sink.written c.args.out.now) (g.O.Sink.written c.finish-in-Info.new.out) (Rose (g.O.Sink.faults c.args.out.now) (g.O.Sink.faults c.finish-in-Info.new.out)) (map string_bytes c.args.words.now) (g.H.Shelf.files c.args.shelf.now) (BeginsWith g.M.File.SpillFile.held (g.H.Shelf.files c.args.shelf.now) (g.T.Store.files c.args.store.now) (g.T.Store.may_leave c.args.store.now)) (g.T.Store.files c.args.store.now) (Rose (g.H.Shelf.faults c.args.shelf.now) (g.H.Shelf.faults c.info_line-line.new.shelf)) (Rose (g.T.Store.faults c.args.store.now) (g.T.Store.faults c.args.store.now)) (Rose (g.M.Room.faults c.args.room.now) (g.M.Room.faults c.args.room.now)) (Moves g.T.Store.files g.T.Store.may_leave g.T.Store.moment g.T.Store.image_since SameFiles c.args.store.now c.args.store.now) c.info_line-line.result (info_known g c) c.finish-in-Info.ensures
 
 pub returns-in-Info-clause-refusal_comes : goal.returns-in-Info-clause-refusal_comes
 returns-in-Info-clause-refusal_comes g c =
@@ -103,7 +108,13 @@ returns-in-Info-clause-others_put_nothing g c = inr (stays g.T.Store.files g.T.S
 pub returns-in-Info-clause-sound : goal.returns-in-Info-clause-sound
 returns-in-Info-clause-sound g c = λ config folder is. absurd (build_or_info (map string_bytes c.args.words.now) config folder c.in-Info.las.now is c.in-Info.ensures)
 
+pub returns-in-Info-clause-kept : goal.returns-in-Info-clause-kept
+returns-in-Info-clause-kept g c = λ config folder is ok all start begins. absurd (build_or_info (map string_bytes c.args.words.now) config folder c.in-Info.las.now is c.in-Info.ensures)
+
 -- ---- words that are no command
+
+pub returns-in-Usage-clause-kept : goal.returns-in-Usage-clause-kept
+returns-in-Usage-clause-kept g c = λ config folder is ok all start begins. absurd (c.in-Usage.ensures.not_build config folder is)
 
 pub returns-in-Usage-clause-build_comes : goal.returns-in-Usage-clause-build_comes
 returns-in-Usage-clause-build_comes g c = λ all start begins asks. absurd (c.in-Usage.ensures.not_build asks.path asks.out asks.words_are)
@@ -121,7 +132,7 @@ pub returns-in-Usage-clause-refused : goal.returns-in-Usage-clause-refused
 returns-in-Usage-clause-refused g c = λ not_ok. inl (record {
   cause = Usage;
   status_is = sym c.refuse_usage.ensures.status;
-  has_cause = told_always (λ all. IsRefused (map string_bytes c.args.words.now) all (BeginsWith (g.H.Shelf.files c.args.shelf.now) (g.T.Store.files c.args.store.now) (g.T.Store.may_leave c.args.store.now)) Usage) (g.H.Shelf.files c.args.shelf.now) (λ all. inl (refl, c.in-Usage.ensures));
+  has_cause = told_always (λ all. IsRefused (map string_bytes c.args.words.now) all (BeginsWith g.M.File.SpillFile.held (g.H.Shelf.files c.args.shelf.now) (g.T.Store.files c.args.store.now) (g.T.Store.may_leave c.args.store.now)) Usage) (g.H.Shelf.files c.args.shelf.now) (λ all. inl (refl, c.in-Usage.ensures));
   risen = tt;
   says = c.refuse_usage.ensures.says;
   early = λ early. stays g.T.Store.files g.T.Store.may_leave g.T.Store.moment g.T.Store.image_since c.args.store.now;
@@ -145,6 +156,9 @@ returns-in-Query-clause-done g c = λ ok. inr (query_asked (map string_bytes c.a
 
 pub returns-in-Query-clause-settled : goal.returns-in-Query-clause-settled
 returns-in-Query-clause-settled g c = λ config folder is ok. absurd (query_or_build (map string_bytes c.args.words.now) c.in-Query.out.now c.in-Query.area c.in-Query.depths.0 c.in-Query.depths.1 c.in-Query.ensures config folder is)
+
+pub returns-in-Query-clause-kept : goal.returns-in-Query-clause-kept
+returns-in-Query-clause-kept g c = λ config folder is ok all start begins. absurd (query_or_build (map string_bytes c.args.words.now) c.in-Query.out.now c.in-Query.area c.in-Query.depths.0 c.in-Query.depths.1 c.in-Query.ensures config folder is)
 
 pub returns-in-Query-clause-build_comes : goal.returns-in-Query-clause-build_comes
 returns-in-Query-clause-build_comes g c = λ all start begins asks. absurd (query_or_build (map string_bytes c.args.words.now) c.in-Query.out.now c.in-Query.area c.in-Query.depths.0 c.in-Query.depths.1 c.in-Query.ensures asks.path asks.out asks.words_are)
@@ -263,9 +277,9 @@ returns-in-Build-clause-configuration_given g c = λ is.
 
 -- ---- trial
 
-trial_known : (g : given.Over) (c : goal.After-finish-in-Trial g) → Carries (map string_bytes c.args.words.now) (g.H.Shelf.files c.args.shelf.now) (BeginsWith (g.H.Shelf.files c.args.shelf.now) (g.T.Store.files c.args.store.now) (g.T.Store.may_leave c.args.store.now)) (g.T.Store.files c.args.store.now) (Rose (g.H.Shelf.faults c.args.shelf.now) (g.H.Shelf.faults c.args.shelf.now)) (Rose (g.T.Store.faults c.args.store.now) (g.T.Store.faults c.args.store.now)) (Rose (g.M.Room.faults c.args.room.now) (g.M.Room.faults c.args.room.now)) (Moves g.T.Store.files g.T.Store.may_leave g.T.Store.moment g.T.Store.image_since SameFiles c.args.store.now c.args.store.now) c.trial_line-line.result
+trial_known : (g : given.Over) (c : goal.After-finish-in-Trial g) → Carries (map string_bytes c.args.words.now) (g.H.Shelf.files c.args.shelf.now) (BeginsWith g.M.File.SpillFile.held (g.H.Shelf.files c.args.shelf.now) (g.T.Store.files c.args.store.now) (g.T.Store.may_leave c.args.store.now)) (g.T.Store.files c.args.store.now) (Rose (g.H.Shelf.faults c.args.shelf.now) (g.H.Shelf.faults c.args.shelf.now)) (Rose (g.T.Store.faults c.args.store.now) (g.T.Store.faults c.args.store.now)) (Rose (g.M.Room.faults c.args.room.now) (g.M.Room.faults c.args.room.now)) (Moves g.T.Store.files g.T.Store.may_leave g.T.Store.moment g.T.Store.image_since SameFiles c.args.store.now c.args.store.now) c.trial_line-line.result
 trial_known g c =
-    trial_carries (map string_bytes c.args.words.now) c.in-Trial.points c.in-Trial.workers c.in-Trial.cache c.in-Trial.ensures c.trial_line-line.result c.trial_line-line.ensures.told c.trial_line-line.ensures.refused (g.H.Shelf.files c.args.shelf.now) (BeginsWith (g.H.Shelf.files c.args.shelf.now) (g.T.Store.files c.args.store.now) (g.T.Store.may_leave c.args.store.now)) (g.T.Store.files c.args.store.now) (Rose (g.H.Shelf.faults c.args.shelf.now) (g.H.Shelf.faults c.args.shelf.now)) (Rose (g.T.Store.faults c.args.store.now) (g.T.Store.faults c.args.store.now)) (Rose (g.M.Room.faults c.args.room.now) (g.M.Room.faults c.args.room.now)) (Moves g.T.Store.files g.T.Store.may_leave g.T.Store.moment g.T.Store.image_since SameFiles c.args.store.now c.args.store.now) (stays g.T.Store.files g.T.Store.may_leave g.T.Store.moment g.T.Store.image_since c.args.store.now)
+    trial_carries (map string_bytes c.args.words.now) c.in-Trial.points c.in-Trial.workers c.in-Trial.cache c.in-Trial.ensures c.trial_line-line.result c.trial_line-line.ensures.told c.trial_line-line.ensures.refused (g.H.Shelf.files c.args.shelf.now) (BeginsWith g.M.File.SpillFile.held (g.H.Shelf.files c.args.shelf.now) (g.T.Store.files c.args.store.now) (g.T.Store.may_leave c.args.store.now)) (g.T.Store.files c.args.store.now) (Rose (g.H.Shelf.faults c.args.shelf.now) (g.H.Shelf.faults c.args.shelf.now)) (Rose (g.T.Store.faults c.args.store.now) (g.T.Store.faults c.args.store.now)) (Rose (g.M.Room.faults c.args.room.now) (g.M.Room.faults c.args.room.now)) (Moves g.T.Store.files g.T.Store.may_leave g.T.Store.moment g.T.Store.image_since SameFiles c.args.store.now c.args.store.now) (stays g.T.Store.files g.T.Store.may_leave g.T.Store.moment g.T.Store.image_since c.args.store.now)
 
 pub returns-in-Trial-clause-usage : goal.returns-in-Trial-clause-usage
 returns-in-Trial-clause-usage g c = (
@@ -274,14 +288,14 @@ returns-in-Trial-clause-usage g c = (
 )
 
 pub returns-in-Trial-clause-done : goal.returns-in-Trial-clause-done
-returns-in-Trial-clause-done g c = λ ok. inl (is_done c.finish-in-Trial.result (g.O.Sink.written c.args.out.now) (g.O.Sink.written c.finish-in-Trial.new.out) (Rose (g.O.Sink.faults c.args.out.now) (g.O.Sink.faults c.finish-in-Trial.new.out)) (map string_bytes c.args.words.now) (g.H.Shelf.files c.args.shelf.now) (BeginsWith (g.H.Shelf.files c.args.shelf.now) (g.T.Store.files c.args.store.now) (g.T.Store.may_leave c.args.store.now)) (g.T.Store.files c.args.store.now) (Rose (g.H.Shelf.faults c.args.shelf.now) (g.H.Shelf.faults c.args.shelf.now)) (Rose (g.T.Store.faults c.args.store.now) (g.T.Store.faults c.args.store.now)) (Rose (g.M.Room.faults c.args.room.now) (g.M.Room.faults c.args.room.now)) (Moves g.T.Store.files g.T.Store.may_leave g.T.Store.moment g.T.Store.image_since SameFiles c.args.store.now c.args.store.now) c.trial_line-line.result (trial_known g c) c.finish-in-Trial.ensures ok)
+returns-in-Trial-clause-done g c = λ ok. inl (is_done c.finish-in-Trial.result (g.O.Sink.written c.args.out.now) (g.O.Sink.written c.finish-in-Trial.new.out) (Rose (g.O.Sink.faults c.args.out.now) (g.O.Sink.faults c.finish-in-Trial.new.out)) (map string_bytes c.args.words.now) (g.H.Shelf.files c.args.shelf.now) (BeginsWith g.M.File.SpillFile.held (g.H.Shelf.files c.args.shelf.now) (g.T.Store.files c.args.store.now) (g.T.Store.may_leave c.args.store.now)) (g.T.Store.files c.args.store.now) (Rose (g.H.Shelf.faults c.args.shelf.now) (g.H.Shelf.faults c.args.shelf.now)) (Rose (g.T.Store.faults c.args.store.now) (g.T.Store.faults c.args.store.now)) (Rose (g.M.Room.faults c.args.room.now) (g.M.Room.faults c.args.room.now)) (Moves g.T.Store.files g.T.Store.may_leave g.T.Store.moment g.T.Store.image_since SameFiles c.args.store.now c.args.store.now) c.trial_line-line.result (trial_known g c) c.finish-in-Trial.ensures ok)
 
 pub returns-in-Trial-clause-refused : goal.returns-in-Trial-clause-refused
-returns-in-Trial-clause-refused g c = λ not_ok. first_two (is_refused c.finish-in-Trial.result (g.O.Sink.written c.args.out.now) (g.O.Sink.written c.finish-in-Trial.new.out) (Rose (g.O.Sink.faults c.args.out.now) (g.O.Sink.faults c.finish-in-Trial.new.out)) (map string_bytes c.args.words.now) (g.H.Shelf.files c.args.shelf.now) (BeginsWith (g.H.Shelf.files c.args.shelf.now) (g.T.Store.files c.args.store.now) (g.T.Store.may_leave c.args.store.now)) (g.T.Store.files c.args.store.now) (Rose (g.H.Shelf.faults c.args.shelf.now) (g.H.Shelf.faults c.args.shelf.now)) (Rose (g.T.Store.faults c.args.store.now) (g.T.Store.faults c.args.store.now)) (Rose (g.M.Room.faults c.args.room.now) (g.M.Room.faults c.args.room.now)) (Moves g.T.Store.files g.T.Store.may_leave g.T.Store.moment g.T.Store.image_since SameFiles c.args.store.now c.args.store.now) c.trial_line-line.result (trial_known g c) c.finish-in-Trial.ensures not_ok)
+returns-in-Trial-clause-refused g c = λ not_ok. first_two (is_refused c.finish-in-Trial.result (g.O.Sink.written c.args.out.now) (g.O.Sink.written c.finish-in-Trial.new.out) (Rose (g.O.Sink.faults c.args.out.now) (g.O.Sink.faults c.finish-in-Trial.new.out)) (map string_bytes c.args.words.now) (g.H.Shelf.files c.args.shelf.now) (BeginsWith g.M.File.SpillFile.held (g.H.Shelf.files c.args.shelf.now) (g.T.Store.files c.args.store.now) (g.T.Store.may_leave c.args.store.now)) (g.T.Store.files c.args.store.now) (Rose (g.H.Shelf.faults c.args.shelf.now) (g.H.Shelf.faults c.args.shelf.now)) (Rose (g.T.Store.faults c.args.store.now) (g.T.Store.faults c.args.store.now)) (Rose (g.M.Room.faults c.args.room.now) (g.M.Room.faults c.args.room.now)) (Moves g.T.Store.files g.T.Store.may_leave g.T.Store.moment g.T.Store.image_since SameFiles c.args.store.now c.args.store.now) c.trial_line-line.result (trial_known g c) c.finish-in-Trial.ensures not_ok)
 
 pub returns-in-Trial-clause-fault : goal.returns-in-Trial-clause-fault
 returns-in-Trial-clause-fault g c =
-    has_risen c.finish-in-Trial.result (g.O.Sink.written c.args.out.now) (g.O.Sink.written c.finish-in-Trial.new.out) (Rose (g.O.Sink.faults c.args.out.now) (g.O.Sink.faults c.finish-in-Trial.new.out)) (map string_bytes c.args.words.now) (g.H.Shelf.files c.args.shelf.now) (BeginsWith (g.H.Shelf.files c.args.shelf.now) (g.T.Store.files c.args.store.now) (g.T.Store.may_leave c.args.store.now)) (g.T.Store.files c.args.store.now) (Rose (g.H.Shelf.faults c.args.shelf.now) (g.H.Shelf.faults c.args.shelf.now)) (Rose (g.T.Store.faults c.args.store.now) (g.T.Store.faults c.args.store.now)) (Rose (g.M.Room.faults c.args.room.now) (g.M.Room.faults c.args.room.now)) (Moves g.T.Store.files g.T.Store.may_leave g.T.Store.moment g.T.Store.image_since SameFiles c.args.store.now c.args.store.now) c.trial_line-line.result (trial_known g c) c.finish-in-Trial.ensures
+    has_risen c.finish-in-Trial.result (g.O.Sink.written c.args.out.now) (g.O.Sink.written c.finish-in-Trial.new.out) (Rose (g.O.Sink.faults c.args.out.now) (g.O.Sink.faults c.finish-in-Trial.new.out)) (map string_bytes c.args.words.now) (g.H.Shelf.files c.args.shelf.now) (BeginsWith g.M.File.SpillFile.held (g.H.Shelf.files c.args.shelf.now) (g.T.Store.files c.args.store.now) (g.T.Store.may_leave c.args.store.now)) (g.T.Store.files c.args.store.now) (Rose (g.H.Shelf.faults c.args.shelf.now) (g.H.Shelf.faults c.args.shelf.now)) (Rose (g.T.Store.faults c.args.store.now) (g.T.Store.faults c.args.store.now)) (Rose (g.M.Room.faults c.args.room.now) (g.M.Room.faults c.args.room.now)) (Moves g.T.Store.files g.T.Store.may_leave g.T.Store.moment g.T.Store.image_since SameFiles c.args.store.now c.args.store.now) c.trial_line-line.result (trial_known g c) c.finish-in-Trial.ensures
 
 pub returns-in-Trial-clause-refusal_comes : goal.returns-in-Trial-clause-refusal_comes
 returns-in-Trial-clause-refusal_comes g c =
@@ -301,6 +315,9 @@ returns-in-Trial-clause-info_comes g c =
 
 pub returns-in-Trial-clause-settled : goal.returns-in-Trial-clause-settled
 returns-in-Trial-clause-settled g c = λ config folder is ok. absurd (trial_or_build (map string_bytes c.args.words.now) c.in-Trial.points c.in-Trial.workers c.in-Trial.cache c.in-Trial.ensures config folder is)
+
+pub returns-in-Trial-clause-kept : goal.returns-in-Trial-clause-kept
+returns-in-Trial-clause-kept g c = λ config folder is ok all start begins. absurd (trial_or_build (map string_bytes c.args.words.now) c.in-Trial.points c.in-Trial.workers c.in-Trial.cache c.in-Trial.ensures config folder is)
 
 pub returns-in-Trial-clause-done_already : goal.returns-in-Trial-clause-done_already
 returns-in-Trial-clause-done_already g c = λ all start begins asks. stays g.T.Store.files g.T.Store.may_leave g.T.Store.moment g.T.Store.image_since c.args.store.now

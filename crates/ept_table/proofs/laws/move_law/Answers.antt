@@ -7,7 +7,7 @@ returns-clause-take c =
 
 pub returns-clause-give_back : goal.returns-clause-give_back
 returns-clause-give_back c =
-    λ told drawn items views i v k x h at there none. return-keeps told drawn items views i v h at k x there none
+    λ told drawn items views i v k x y h at there stays none. return-keeps told drawn items views i v h at k x y there stays none
 
 pub returns-clause-wish : goal.returns-clause-wish
 returns-clause-wish c = λ told drawn items views i v o h at. wish-keeps told drawn items views i v h at o

@@ -1,4 +1,5 @@
-use Rattle.std.proofs.Common.{[], ap, sym, subst, List}
+use Rattle.std.proofs.Common.{◌≡◌, ◌≤◌, [], ap, sym, subst, arith, List}
+use Rattle.ept_forest.specs.Slots.{nodes_of, residents_of}
 use Rattle.std.specs.Prelude.{All}
 use Rattle.ept_space.specs.VoxelKey.{VoxelKey, root}
 use Rattle.ept_config.specs.declared.source_count.SourceCount.{SourceCount}
@@ -16,3 +17,9 @@ scanned_law-requires-clause-top g c =
 pub scanned_law-requires-clause-files : goal.scanned_law-requires-clause-files
 scanned_law-requires-clause-files g c =
     subst (λ (w : List SourceCount). All (IsFileOf c.args.known.kept w) (files_of g.S.Source.whole c.args.known.reader)) (sym c.as_slice.ensures) c.requires.known.files
+
+pub make-requires-clause-cache : goal.make-requires-clause-cache
+make-requires-clause-cache g c =
+    let cache : c.args.cache ≡ g.J.Scan.told.cache = sym (ap (λ (t : Told). t.cache) c.requires.told) in
+    let few : residents_of (nodes_of c.args.forest) ≤ 1 = c.plant_law.ensures.few in
+    (cache, omega (arith, cache, few, c.requires.some.1))

@@ -7,4 +7,4 @@ use Rattle.ept_table_tests.proofs.tests.hold_session.Given as goal
 
 -- what the known reader has
 abbrev pub ghosts-session : goal.ghosts-session
-ghosts-session g a = record { told = told_of (λ (source : MemSource). Some (source_bytes source)) a.known.reader a.known.rules a.most (root ∷ []) true a.known.points.items }
+ghosts-session g a = record { told = told_of (λ (source : MemSource). Some (source_bytes source)) a.known.reader a.known.rules a.most 1 (root ∷ []) true a.known.points.items }

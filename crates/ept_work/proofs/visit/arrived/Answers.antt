@@ -1,4 +1,4 @@
-use Rattle.std.proofs.Common.{◌≡◌, ℕ, ◌+◌, List, [], subst, arith}
+use Rattle.std.proofs.Common.{List, subst, arith}
 use Rattle.ept_point.specs.declared.point.Point.{Point}
 use Rattle.ept_grid.specs.Outgoing.{points_at}
 use Rattle.ept_grid.specs.Node.{SendsOn}
@@ -9,8 +9,8 @@ use Rattle.ept_work.proofs.visit.arrived.Goals as goal
 pub returns-in-Ok-clause-ok : goal.returns-in-Ok-clause-ok
 returns-in-Ok-clause-ok g c =
     let e = c.in-Ok.ensures in
-    let old = node_of c.args.node in
-    let new = node_of c.arrive_batch.new.self in
+    let old = node_of g.F.SpillFile.held c.args.node in
+    let new = node_of g.F.SpillFile.held c.arrive_batch.new.self in
     record {
       key = e.key;
       rules = e.rules;

@@ -1,4 +1,4 @@
-use Rattle.ept_work.proofs.Reading.{read-any, many}
+use Rattle.ept_work.proofs.Reading.{read-any}
 use Rattle.ept_work.proofs.worker.read_batch.Goals as goal
 
 pub returns-clause-reads : goal.returns-clause-reads

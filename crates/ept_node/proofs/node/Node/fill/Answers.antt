@@ -1,4 +1,4 @@
-use Rattle.std.proofs.Common.{◌≡◌, ◌∙◌, ap}
+use Rattle.std.proofs.Common.{◌∙◌, ap}
 use Rattle.ept_grid.specs.Node.{Node}
 use Rattle.ept_node.specs.Shown.{bare, node_of}
 use Rattle.ept_node.proofs.Bridges.{filled-resumed}
@@ -6,7 +6,7 @@ use Rattle.ept_node.proofs.node.Node.fill.Goals as goal
 
 pub returns-clause-resumed : goal.returns-clause-resumed
 returns-clause-resumed g c = λ all same opens. (
-    let old = node_of c.args.self.now in
+    let old = node_of g.F.SpillFile.held c.args.self.now in
     let of = c.in_ok-grid.ensures.node in
     let kept = c.in_ok-boxed.ensures in
     filled-resumed old.rules all old.key c.args.mask c.args.points.now (bare c.in_ok-boxed.field-0.value) (record {

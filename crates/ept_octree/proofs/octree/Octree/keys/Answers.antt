@@ -11,7 +11,7 @@ pub returns-clause-keys : goal.returns-clause-keys
 returns-clause-keys g c =
     let sites : List Site = c.args.self.now.slots.entries in
     let all : map deref_pair c.loop-key.yielded ≡ sites = search (rules, iter_end) in
-    c.loop-key.invariant ∙ (ap (λ (w : List Site). map (λ (s : Site). s.0) w) all ∙ sym (keys-all (in_slots (nodes_of c.args.self.now.forest)) sites))
+    c.loop-key.invariant ∙ (ap (λ (w : List Site). map (λ (s : Site). s.0) w) all ∙ sym (keys-all (in_slots g.F.SpillFile.held (nodes_of c.args.self.now.forest)) sites))
 
 pub returns-clause-ascend : goal.returns-clause-ascend
 returns-clause-ascend g c =

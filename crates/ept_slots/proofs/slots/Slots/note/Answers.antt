@@ -4,7 +4,7 @@ use Rattle.ept_slots.proofs.Hands.{seat-is}
 use Rattle.ept_slots.proofs.slots.Slots.note.Goals as goal
 
 pub compare_exchange_with-requires : goal.compare_exchange_with-requires
-compare_exchange_with-requires g c = (search rules, search rules, notes_seat _ _ g.M.Note.tells _ _ c.args.slot c.args.seat.now.me _ c.args.said c.requires.held.1 c.requires.rule)
+compare_exchange_with-requires g c = (search rules, search rules, notes_seat _ _ _ _ g.M.Note.tells _ _ c.args.slot c.args.seat.now.me _ c.args.said c.requires.held.1 c.requires.rule)
 
 pub returns-clause-seat : goal.returns-clause-seat
 returns-clause-seat g c = let did = c.compare_exchange_with.ensures in let was = c.requires.seat in let told = did.2 c.args.said refl in

@@ -7,7 +7,7 @@ use Rattle.ept_slots.proofs.slots.Slots.try_take.Goals as goal
 
 pub compare_exchange-found-requires : goal.compare_exchange-found-requires
 compare_exchange-found-requires g c = let near : c.args.slot < c.args.self.now.count = c.requires.slot in let size : c.args.self.now.table.shared.table_id.slots ≡ c.args.self.now.count + 1 = c.args.self.now.sized.1 in
-    (search rules, search rules, takes_slot _ _ g.M.Take.tells _ _ _ _ _ c.if-seen-eq-HELD.false (omega arith) c.requires.idle.0 c.requires.idle.1 c.requires.rule)
+    (search rules, search rules, takes_slot _ _ _ _ g.M.Take.tells _ _ _ _ _ c.if-seen-eq-HELD.false (omega arith) c.requires.idle.0 c.requires.idle.1 c.requires.rule)
 
 pub returns-then-found-seen-clause-seat : goal.returns-then-found-seen-clause-seat
 returns-then-found-seen-clause-seat g c = let did = c.compare_exchange-found.ensures in let same = (did.2 c.args.slot refl).1 c.if-found-seen.true in let was = c.requires.seat in

@@ -1,0 +1,4 @@
+pub mod Places
+pub mod PlaceLaws
+pub mod Showing
+pub mod ShowingLaws
