@@ -1,5 +1,5 @@
 -- What a table shows, with its nodes where they are.
-use Rattle.std.proofs.Common.{◌≡◌, ◌∙◌, ℕ, zero, suc, ◌+◌, Bool, true, false, cond, ◌==◌, ◌⊎◌, inl, inr, List, [], ◌∷◌, drop, refl, sym, ap, subst, arith}
+use Rattle.std.proofs.Common.{◌≡◌, ◌∙◌, ℕ, zero, suc, ◌+◌, Bool, true, false, cond, ◌==◌, ◌⊎◌, inl, inr, List, [], ◌∷◌, map, set, drop, get_or, Option, refl, sym, ap, subst, arith}
 use Rattle.std.proofs.lemmas.Bool.{false≢true, eq-eqb, ne_eqb}
 use Rattle.ept_space.specs.VoxelKey.{VoxelKey, same_key}
 use Rattle.ept_space.proofs.Within.{same_key-true}
@@ -15,17 +15,27 @@ use Rattle.ept_core.specs.Steps.{Step, moved, with_node}
 use Rattle.ept_core.proofs.NodeMap.{same_key-self, same_key-apart, node_at-here, node_at-other, has_node-with, IsMember-with}
 use Rattle.ept_core.proofs.CoreLaws.{step-keeps}
 use Rattle.ept_node.specs.Batch.{seen}
+use Rattle.ept_node.specs.declared.node.Node as node
+use Rattle.ept_node.specs.declared.state.NodeState.{NodeState}
+use Rattle.ept_node.specs.declared.state.NodeState.TheVariants as states
+use Rattle.ept_node.specs.Shown.{state_of, node_of, is_here}
 use Rattle.ept_table.specs.declared.note.Told.{Told}
+use Rattle.ept_table.specs.declared.item.Item.{Item}
+use Rattle.ept_table.specs.declared.item.Item.TheVariants as items
 use Rattle.ept_table.specs.declared.taken.Cell.{Cell}
 use Rattle.ept_table.specs.declared.taken.Progress.{Progress}
 use Rattle.ept_table.specs.declared.taken.Taken.{Taken}
 use Rattle.ept_table.specs.declared.taken.Taken.TheVariants.{Standing, Reading}
 use Rattle.ept_table.specs.At.{At}
+use Rattle.ept_table.specs.Item as item
+use Rattle.ept_table.specs.Item.{cell_of, taken_as, seen_node}
+use Rattle.ept_table.specs.Steps.{StaysAlike}
 use Rattle.ept_table.specs.View.{View, all_flights}
 use Rattle.ept_table.specs.Shown.{KeyOf, Holds, Shows, shown}
-use Rattle.ept_table.proofs.Lists.{same_or_not, at-same, at-zero, at-next, at-rest, at-head, nothing-at}
+use Rattle.ept_table.proofs.Lists.{same_or_not, at-same, at-zero, at-next, at-rest, at-head, nothing-at, at-get, at-set, at-other, set-at, set-again, at-below}
+use Rattle.ept_table.proofs.Glue.{at-map, map-at, map-set}
 use Rattle.ept_places.specs.Places.{kept_where, placed_nodes, placed}
-use Rattle.ept_places.specs.Showing.{ShowsPlaces, but_at}
+use Rattle.ept_places.specs.Showing.{ShowsPlaces, is_in_memory, in_memory, IsMoved, but_at}
 use Rattle.ept_places.proofs.Placed.{places-free, same-has, is-placed}
 
 -- ---- the slot of a key
@@ -144,12 +154,91 @@ module _ (told : Told) (drawn : ℕ) (items : List Taken) (views : List View) (h
       in_slot = λ j now. shows.in_slot j (has_back there j now);
     }
 
-    pub slot-evicts : here k ≡ true → (new : State) × Step told.rules s (Evict key) new × ShowsPlaces told reader items views (but_at k false here) new
+    slot-evicts : here k ≡ true → (new : State) × Step told.rules s (Evict key) new × ShowsPlaces told reader items views (but_at k false here) new
     slot-evicts is =
         let step : Step told.rules s (Evict key) (moved key false s) = (has, ap (λ (n : Node). n.is_resident) (shows.standing k c at).1 ∙ is, refl) in
         (moved key false s, step, shows_moved (Evict key) false step)
 
-    pub slot-reloads : here k ≡ false → (new : State) × Step told.rules s (Reload key) new × ShowsPlaces told reader items views (but_at k true here) new
+    slot-reloads : here k ≡ false → (new : State) × Step told.rules s (Reload key) new × ShowsPlaces told reader items views (but_at k true here) new
     slot-reloads is =
         let step : Step told.rules s (Reload key) (moved key true s) = (has, ap (λ (n : Node). n.is_resident) (shows.standing k c at).1 ∙ is, refl) in
         (moved key true s, step, shows_moved (Reload key) true step)
+
+-- ---- a node that is given back from elsewhere
+
+standing_as : (at : NodeState) (c : Cell) → (at ≡ states.Blank → ⊥) → taken_as at c ≡ Standing c
+standing_as states.Blank c not = absurd (not refl)
+standing_as states.Resident c not = refl
+standing_as states.Spilled c not = refl
+standing_as states.Broken c not = refl
+
+-- where files and sources tell, it shows what it showed
+shows_same : (told : Told) (x y : Taken) → told.tells ≡ true → StaysAlike told x y → y ≡ x
+shows_same told x y tells (inl same) = same
+shows_same told x y tells (inr (c, d, was, is, alike)) = is ∙ (ap (λ (e : Cell). Standing e) (alike.exact tells) ∙ sym was)
+
+-- what is said of the slots of nodes alone is said of each that says the same there
+elsewhere : (told : Told) (reader : Progress) (items : List Taken) (views : List View) (here there : ℕ → Bool) (s : State) → ((k : ℕ) (c : Cell) → At items k (Standing c) → here k ≡ there k) → ShowsPlaces told reader items views here s → ShowsPlaces told reader items views there s
+elsewhere told reader items views here there s same shows = record {
+  law = shows.law;
+  left = shows.left;
+  flights = shows.flights;
+  standing = λ k c at. (
+    (shows.standing k c at).0,
+    (shows.standing k c at).1 ∙ ap (λ (b : Bool). kept_where b (seen c.node)) (same k c at),
+  );
+  in_slot = shows.in_slot;
+}
+
+module _ {F S : Type 0} (held : F → Option (List ℕ)) (whole : S → Option (List ℕ)) (told : Told) (slots : List (Item F S)) (k : ℕ) (old new : node.Node F) (tells : told.tells ≡ true) (moved_is : IsMoved held told slots k old new) where
+  abbrev see : Item F S → Taken
+  see = item.seen held whole
+
+  at_cell : At (map see slots) k (Standing (cell_of held old))
+  at_cell = subst (λ (x : Taken). At (map see slots) k x) (standing_as (state_of old) (cell_of held old) moved_is.stands) (at-map see slots k (items.Node old) moved_is.at)
+
+  same_slots : map see (set slots k (items.Node new)) ≡ map see slots
+  same_slots =
+      map-set see slots k (items.Node new)
+      ∙ (ap (λ (x : Taken). set (map see slots) k x) (shows_same told (seen_node held old) (seen_node held new) tells moved_is.alike)
+      ∙ set-again (at-map see slots k (items.Node old) moved_is.at))
+
+  in_slot_is : (all : List (Item F S)) (j : ℕ) (x : Item F S) → At all j x → in_memory all j ≡ is_in_memory x
+  in_slot_is all j x at = at-get false (at-map is_in_memory all j x at)
+
+  was_here : in_memory slots k ≡ is_here old
+  was_here = in_slot_is slots k (items.Node old) moved_is.at
+
+  now_here : (there : Bool) → is_here new ≡ there → (j : ℕ) (c : Cell) → At (map see slots) j (Standing c) → but_at k there (in_memory slots) j ≡ in_memory (set slots k (items.Node new)) j
+  now_here there is j c at =
+      elim (same_or_not j k) [
+        | inl same ↦
+            ap (λ (b : Bool). cond b there (in_memory slots j)) (eq-eqb j k same)
+            ∙ (sym is
+            ∙ (sym (in_slot_is (set slots k (items.Node new)) k (items.Node new) (at-set slots k (items.Node new) (at-below moved_is.at)))
+            ∙ ap (λ (n : ℕ). in_memory (set slots k (items.Node new)) n) (sym same)))
+        | inr differ ↦
+            let r = map-at see slots j (Standing c) at in
+            ap (λ (b : Bool). cond b there (in_memory slots j)) (ne_eqb j k differ)
+            ∙ (in_slot_is slots j r.0 r.1
+            ∙ sym (in_slot_is (set slots k (items.Node new)) j r.0 (at-other k (items.Node new) r.1 differ)))
+      ]
+
+  abbrev ShowsNow : Progress → List View → State → Type 0
+  ShowsNow reader views t = ShowsPlaces told reader (map see (set slots k (items.Node new))) views (in_memory (set slots k (items.Node new))) t
+
+  now_shown : (reader : Progress) (views : List View) (there : Bool) (t : State) → is_here new ≡ there → ShowsPlaces told reader (map see slots) views (but_at k there (in_memory slots)) t → ShowsNow reader views t
+  now_shown reader views there t is shows =
+      subst (λ (xs : List Taken). ShowsPlaces told reader xs views (in_memory (set slots k (items.Node new))) t) (sym same_slots)
+      (elsewhere told reader (map see slots) views (but_at k there (in_memory slots)) (in_memory (set slots k (items.Node new))) t (now_here there is) shows)
+
+  module _ (drawn : ℕ) (reader : Progress) (views : List View) (s : State) (h : Holds told drawn (map see slots) views) (shows : ShowsPlaces told reader (map see slots) views (in_memory slots) s) where
+    pub slots-evict : is_here old ≡ true → is_here new ≡ false → (t : State) × Step told.rules s (Evict (node_of held old).key) t × ShowsNow reader views t
+    slots-evict was is =
+        let r = slot-evicts told drawn (map see slots) views h reader (in_memory slots) s k (cell_of held old) shows at_cell (was_here ∙ was) in
+        (r.0, r.1, now_shown reader views false r.0 is r.2)
+
+    pub slots-reload : is_here old ≡ false → is_here new ≡ true → (t : State) × Step told.rules s (Reload (node_of held old).key) t × ShowsNow reader views t
+    slots-reload was is =
+        let r = slot-reloads told drawn (map see slots) views h reader (in_memory slots) s k (cell_of held old) shows at_cell (was_here ∙ was) in
+        (r.0, r.1, now_shown reader views true r.0 is r.2)

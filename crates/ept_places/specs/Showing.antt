@@ -1,10 +1,12 @@
 -- What a table shows, with where the points of its nodes are.
-use Rattle.std.specs.Prelude.{◌≡◌, ℕ, Bool, true, false, ◌==◌, List, map, drop, slice_index_or, if◌then◌else◌}
+use Rattle.std.specs.Prelude.{◌≡◌, ◌≢◌, ℕ, Bool, true, false, ◌==◌, List, map, drop, slice_index_or, Option, if◌then◌else◌}
 use Rattle.ept_space.specs.VoxelKey.{VoxelKey}
 use Rattle.ept_core.specs.State.{State, node_at, has_node}
 use Rattle.ept_core.specs.Law.{KeepsLaw}
 use Rattle.ept_node.specs.Batch.{seen}
-use Rattle.ept_node.specs.Shown.{is_here}
+use Rattle.ept_node.specs.declared.node.Node.{Node}
+use Rattle.ept_node.specs.declared.state.NodeState.TheVariants as states
+use Rattle.ept_node.specs.Shown.{state_of, is_here}
 use Rattle.ept_table.specs.declared.note.Told.{Told}
 use Rattle.ept_table.specs.declared.item.Item.{Item}
 use Rattle.ept_table.specs.declared.item.Item.TheVariants as items
@@ -13,6 +15,8 @@ use Rattle.ept_table.specs.declared.taken.Progress.{Progress}
 use Rattle.ept_table.specs.declared.taken.Taken.{Taken}
 use Rattle.ept_table.specs.declared.taken.Taken.TheVariants.{Standing}
 use Rattle.ept_table.specs.At.{At}
+use Rattle.ept_table.specs.Item.{seen_node}
+use Rattle.ept_table.specs.Steps.{StaysAlike}
 use Rattle.ept_table.specs.View.{View, all_flights}
 use Rattle.ept_places.specs.Places.{kept_where}
 
@@ -37,3 +41,9 @@ pub record ShowsPlaces (told : Told) (reader : Progress) (items : List Taken) (v
 -- the same slots but for one
 abbrev pub but_at : ℕ → Bool → (ℕ → Bool) → ℕ → Bool
 but_at k there here j = if j == k then there else here j
+
+-- A node in a slot is given back as it was, or from elsewhere.
+pub record IsMoved {F S : Type 0} (held : F → Option (List ℕ)) (told : Told) (slots : List (Item F S)) (k : ℕ) (old new : Node F) : Type 0 where
+  pub at : At slots k (items.Node old)
+  pub stands : state_of old ≢ states.Blank
+  pub alike : StaysAlike told (seen_node held old) (seen_node held new)

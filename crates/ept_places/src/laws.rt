@@ -17,6 +17,6 @@ pub fn place_law()
 /// to its file is evicted, and one that comes back is reloaded.
 pub fn show_law<F, S>()
     ensures shows { TablesShowPlaces F S }
-    ensures evicts { SlotsEvict }
-    ensures reloads { SlotsReload }
+    ensures evicts { SlotsEvict F S }
+    ensures reloads { SlotsReload F S }
 {}
