@@ -1,2 +1,3 @@
 mod Planted
 mod Retiring
+pub mod Residents

@@ -1,7 +1,6 @@
 //! A node of the octree with its points.
 
 ghost use Rattle.std.specs.Prelude.{◌≡◌, ◌≢◌, ◌<◌, ◌≤◌, ◌+◌, ◌∷◌, [], ◌++◌, ◌↔◌, ℕ, Bool, IsTrue, OnOk, OnErr, IfOk, IfErr, length, count_by, MatchOption, slice_index};
-ghost use Rattle.ept_grid.specs.declared.octants.TheConstants.{OCTANTS};
 ghost use Rattle.ept_point.specs.declared.point.Point.{Point};
 ghost use Rattle.std.specs.List.{All};
 ghost use Rattle.ept_point.specs.Order.{IsAscending};
@@ -122,7 +121,7 @@ impl Grid {
         ensures together { (test : Point → Bool) →
             count_by test self.new.points + count_by test (all_points out.new)
             ≡ count_by test (point ∷ self.old.points) + count_by test (all_points out.old) }
-        ensures sends_on { (o : ℕ) → o < OCTANTS →
+        ensures sends_on { (o : ℕ) → o < 8 →
             SendsOn self.old self.new o (points_at out.old o) (points_at out.new o) }
         ensures spare { spare self.old out.old ≤ spare self.new out.new + 1 }
 

@@ -19,7 +19,7 @@ pub(crate) fn octant_of(rules: &Rules, depth: u8, point: &Point) -> u8
     requires low { depth ≤ rules.now.cube.depth }
     requires inside { InCube rules.now.cube (place point.now) }
     ensures value { result ≡ octant rules.now depth point.now }
-    ensures one_of_eight { result < OCTANTS }
+    ensures one_of_eight { result < 8 }
 {
     let cell = cell(&rules.cube, depth, place_of(point));
     // Half a box has half the cells of the box.
@@ -38,7 +38,7 @@ fn upper(index: u32, shift: u32) -> u8
 
 /// Whether the octant is in the set.
 pub(crate) fn is_open(mask: u8, octant: u8) -> bool
-    requires { octant < OCTANTS }
+    requires { octant < 8 }
     ensures { result ≡ opened mask octant }
 {
     mask >> octant & 1 == 1
@@ -46,7 +46,7 @@ pub(crate) fn is_open(mask: u8, octant: u8) -> bool
 
 /// The set with the octant.
 pub(crate) fn with_open(mask: u8, octant: u8) -> u8
-    requires { octant < OCTANTS }
+    requires { octant < 8 }
     ensures { (o : ℕ) → opened result o ≡ (opened mask o || (o == octant)) }
 {
     mask | 1 << octant

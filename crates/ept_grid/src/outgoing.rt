@@ -2,7 +2,6 @@
 
 ghost use Rattle.std.specs.Prelude.{◌≡◌, ◌≢◌, ◌<◌, ◌≤◌, ◌+◌, ◌∷◌, [], ◌++◌, ℕ, length, OnOk, IsPermutation};
 ghost use Rattle.ept_sample.specs.Ids.{HasDistinctIds, in_id_order};
-ghost use Rattle.ept_grid.specs.declared.octants.TheConstants.{OCTANTS};
 
 use ept_point::{Memory, Point};
 use std::alloc::Global;
@@ -151,7 +150,7 @@ impl Outgoing {
 
     /// The points that leave for an octant, in the order in which they came.
     pub fn points(&self, octant: u8) -> &[Point]
-        requires { octant < OCTANTS }
+        requires { octant < 8 }
         ensures { result.now ≡ points_at self.now octant }
     {
         self.lanes[octant as usize].as_slice()
@@ -166,7 +165,7 @@ impl Outgoing {
 
     /// Adds a point to the list of an octant that has room for it. It takes no memory.
     pub(crate) fn push(&mut self, octant: u8, point: Point)
-        requires one_of_eight { octant < OCTANTS }
+        requires one_of_eight { octant < 8 }
         requires room { 0 < (leaving_at self.old octant).room }
         ensures added { points_at self.new octant ≡ points_at self.old octant ++ point ∷ [] }
         ensures room { (leaving_at self.old octant).room ≡ (leaving_at self.new octant).room + 1 }
@@ -178,7 +177,7 @@ impl Outgoing {
 
     /// Adds a point to the list of an octant. After `Memory` the points are as they were.
     pub(crate) fn add(&mut self, octant: u8, point: Point) -> Result<(), Memory>
-        requires one_of_eight { octant < OCTANTS }
+        requires one_of_eight { octant < 8 }
         ensures added { OnOk result (points_at self.new octant ≡ points_at self.old octant ++ point ∷ []) }
         ensures others { (o : ℕ) → o ≢ octant → points_at self.new o ≡ points_at self.old o }
         ensures eight { length self.new ≡ length self.old }
@@ -188,7 +187,7 @@ impl Outgoing {
 
     /// How many points leave for an octant.
     pub(crate) fn count(&self, octant: u8) -> usize
-        requires { octant < OCTANTS }
+        requires { octant < 8 }
         ensures { result ≡ length (points_at self.now octant) }
     {
         self.lanes[octant as usize].count()
@@ -218,7 +217,7 @@ impl Outgoing {
 
     /// Puts the points of an octant in id order. It takes no memory.
     pub(crate) fn sort(&mut self, octant: u8)
-        requires one_of_eight { octant < OCTANTS }
+        requires one_of_eight { octant < 8 }
         ensures moved { IsPermutation (points_at self.old octant) (points_at self.new octant) }
         ensures sorted { HasDistinctIds (points_at self.old octant) →
             points_at self.new octant ≡ in_id_order (points_at self.old octant) }
@@ -233,7 +232,7 @@ impl Outgoing {
     /// Gives the points of an octant to the list of that octant in `out`, which has room for them. It
     /// takes no memory.
     pub(crate) fn give(&mut self, octant: u8, out: &mut Outgoing)
-        requires one_of_eight { octant < OCTANTS }
+        requires one_of_eight { octant < 8 }
         requires room { length (points_at self.old octant) ≤ (leaving_at out.old octant).room }
         ensures none { points_at self.new octant ≡ [] }
         ensures room { (leaving_at self.old octant).room ≤ (leaving_at self.new octant).room }
@@ -252,7 +251,7 @@ impl Outgoing {
     pub(crate) fn reserve(&mut self, more: usize) -> Result<(), Memory>
         ensures points { (o : ℕ) → points_at self.new o ≡ points_at self.old o }
         ensures eight { length self.new ≡ length self.old }
-        ensures room { OnOk result ((o : ℕ) → o < OCTANTS → more ≤ (leaving_at self.new o).room) }
+        ensures room { OnOk result ((o : ℕ) → o < 8 → more ≤ (leaving_at self.new o).room) }
     {
         for lane in self.lanes.iter_mut() {
             lane.reserve(more)?;
@@ -262,7 +261,7 @@ impl Outgoing {
 
     /// Takes the points that leave for an octant, with their place in memory. It takes no memory.
     pub fn take(&mut self, alloc: Global, octant: u8) -> Vec<Point>
-        requires { octant < OCTANTS }
+        requires { octant < 8 }
         ensures taken { result.items ≡ points_at self.old octant }
         ensures none { points_at self.new octant ≡ [] }
         ensures others { (o : ℕ) → o ≢ octant → points_at self.new o ≡ points_at self.old o }

@@ -171,7 +171,7 @@ fn first_open_loser(
 
 // Whether a list of losers of an open octant has points.
 fn has_open_losers(mask: u8, losers: &Outgoing) -> bool
-    ensures { OnFalse result ((o : ℕ) → o < OCTANTS → opened mask o ≡ true → length (points_at losers.now o) ≡ 0) }
+    ensures { OnFalse result ((o : ℕ) → o < 8 → opened mask o ≡ true → length (points_at losers.now o) ≡ 0) }
 {
     for octant in 0..OCTANTS {
         if is_open(mask, octant) && losers.count(octant) != 0 {
@@ -211,9 +211,9 @@ fn first_losing(
 // The first closed octant with more losers than the threshold.
 fn first_overfull(rules: &Rules, depth: u8, losers: &Outgoing, mask: u8) -> Option<u8>
     ensures { MatchOption result
-        ((o : ℕ) → o < OCTANTS →
+        ((o : ℕ) → o < 8 →
         (not (opened mask o) && opens_with rules.now depth (length (points_at losers.now o))) ≡ false)
-        (λ o. (o < OCTANTS)
+        (λ o. (o < 8)
         × ((not (opened mask o) && opens_with rules.now depth (length (points_at losers.now o))) ≡ true)
         × ((k : ℕ) → k < o →
         (not (opened mask k) && opens_with rules.now depth (length (points_at losers.now k))) ≡ false)) }

@@ -2,3 +2,4 @@ pub mod Tellings
 pub mod Filings
 pub mod Batches
 pub mod Bridges
+pub mod Here

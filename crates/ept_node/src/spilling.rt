@@ -174,8 +174,8 @@ impl<F: SpillFile> Node<F> {
     ///
     /// # Errors
     ///
-    /// Those of [`reload`](Node::reload) where the node is spilled; where it is resident, `Memory` alone. After each the list is as it
-    /// was.
+    /// Those of [`reload`](Node::reload) where the node is spilled; where it is resident, `Memory` alone. After each the list
+    /// is as it was.
     pub fn points_into(&mut self, alloc: Global, out: &mut Vec<Point>) -> Result<(), NodeError>
         requires { (state_of self.old ≡ Resident) ⊎ (state_of self.old ≡ Spilled) }
 

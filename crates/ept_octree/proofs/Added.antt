@@ -26,7 +26,8 @@ use Rattle.ept_octree.specs.declared.octree.Octree.{Octree}
 use Rattle.ept_octree.specs.Octree.{nodes_of}
 use Rattle.ept_octree.specs.Adding.{filled, IsFree}
 use Rattle.ept_octree.specs.declared.error.AddError.{AddError}
-use Rattle.ept_octree.proofs.Here.{all-at, here-resident, first-here}
+use Rattle.ept_node.proofs.Here.{here-resident}
+use Rattle.ept_octree.proofs.Here.{all-at, first-here}
 use Rattle.ept_octree.proofs.Alike.{index-any, told-index}
 use Rattle.ept_octree.proofs.Placing.{slice-at, either-way, on-ok, both-ok, on-err, its-slot, put-in, same-in, long-in, length-in, sound-filled, free-slot, root-there, none-below, index-more, branches-more, put-removed, root-used, root-node, index-root, branches-root, named-some, named-none}
 

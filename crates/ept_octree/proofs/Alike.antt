@@ -9,7 +9,6 @@ use Rattle.ept_space.specs.VoxelKey.{VoxelKey}
 use Rattle.ept_sample.specs.Place.{AllInBox}
 use Rattle.ept_grid.specs.Mask.{opened}
 use Rattle.ept_grid.specs.Node as grid
-use Rattle.ept_grid.specs.Node.{is_open_in}
 use Rattle.ept_node.specs.declared.node.Node as node
 use Rattle.ept_node.specs.declared.site.Filed.{Filed}
 use Rattle.ept_node.specs.declared.body.Body.{Body}

@@ -30,7 +30,8 @@ use Rattle.ept_table.specs.Octree.{AreLinked}
 use Rattle.ept_table.proofs.Lists.{at-head, at-rest, nothing-at}
 use Rattle.ept_octree.specs.Index.{Site, named, in_slot, in_slots, taken_in, slot_of, node_in, IsSoundBy, AreSites, IsIndex}
 use Rattle.ept_octree.proofs.Sites.{next-site}
-use Rattle.ept_octree.proofs.Here.{resident-here, no-fault, none-here, residents-cons, apart-agrees}
+use Rattle.ept_node.proofs.Here.{resident-here, no-fault, apart-agrees}
+use Rattle.ept_forest.proofs.Residents.{none-here, residents-cons}
 
 -- ---- a node without points
 

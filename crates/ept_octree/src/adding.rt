@@ -24,8 +24,8 @@ use std::alloc::Global;
 impl<F: SpillFile> Octree<F> {
     ghost use Rattle.ept_octree.specs.Octree.{forest_of, rules_of, most_of, cache_of, residents_of, nodes_of, AreAlike, IsUnbroken, AgreesWithFiles};
 
-    /// Adds a node of a checkpoint, whose ids ascend. It goes to its file where no more nodes could be in memory then. The slots of
-    /// the children are set by `link`, once all are added.
+    /// Adds a node of a checkpoint, whose ids ascend. It goes to its file where no more nodes could be in memory then. The
+    /// slots of the children are set by `link`, once all are added.
     ///
     /// # Errors
     ///

@@ -29,7 +29,8 @@ pub struct Octree<F> {
     // How many nodes may be in memory, and how many are.
     pub(crate) cache: u32,
     pub(crate) here: u32,
-    // Whatever the files tell: it speaks of no more than the key, the rules, the open octants and the count of a node in its file.
+    // Whatever the files tell: it speaks of no more than the key, the rules, the open octants and the count of a node in its
+    // file.
     ghost indexed: { IsIndex rules (trees.used_of forest) (in_slots untold (trees.nodes_of forest)) slots.entries } by { Prim.hlevel props },
     ghost limit: { most ≡ length (trees.nodes_of forest) },
     ghost some: { 1 ≤ cache },

@@ -1,29 +1,28 @@
 -- Nodes with their points in memory or in their files.
-use Rattle.std.proofs.Common.{◌≡◌, ◌∙◌, ℕ, ◌≤◌, Bool, true, false, cond, ◌||◌, ◌⊎◌, inl, inr, List, [], ◌∷◌, ◌++◌, map, length, refl, sym, ap, subst, Ordering}
+use Rattle.std.proofs.Common.{◌≡◌, ◌∙◌, ℕ, ◌≤◌, Bool, true, false, cond, ◌||◌, ◌⊎◌, inl, inr, List, [], ◌∷◌, ◌++◌, length, refl, sym, ap, subst, Ordering}
 use Rattle.std.specs.declared.cmp.Ordering.TheVariants.{Less, Equal, Greater}
 use Rattle.std.specs.Ordering.{match_ordering, is_lt}
-use Rattle.std.specs.List.{flat_map, list_any}
 use Rattle.std.specs.List.Sorted.{IsPermutation}
 use Rattle.std.proofs.lemmas.Bool.{false≢true}
 use Rattle.ept_point.specs.declared.point.Point.{Point}
 use Rattle.ept_point.specs.Order.{IsAscending}
 use Rattle.ept_space.specs.declared.cube.Rules.{Rules}
-use Rattle.ept_space.specs.VoxelKey.{VoxelKey, root, child, same_key, key_cmp, is_below, AreAscending}
+use Rattle.ept_space.specs.VoxelKey.{VoxelKey, root, child, same_key, key_cmp, AreAscending}
 use Rattle.ept_space.proofs.Within.{same_key-true, same_key-same}
 use Rattle.ept_sample.specs.Ids.{in_id_order}
 use Rattle.ept_sample.specs.Arrivals.{loses, octant, losers}
 use Rattle.ept_sample.specs.Members.{IsMember}
 use Rattle.ept_sample.proofs.Members.{member-map}
 use Rattle.ept_sample.proofs.Ascending.{IsRising, IsBeforeAll}
-use Rattle.ept_sample.proofs.Choices.{either, not_both}
+use Rattle.ept_sample.proofs.Choices.{not_both}
 use Rattle.ept_sample.proofs.KeyOrder.{key_before, key_order, key-self, key-equal}
 use Rattle.ept_core.specs.declared.flight.Flight.{Flight}
 use Rattle.ept_core.specs.declared.node.Node.{Node}
 use Rattle.ept_core.specs.declared.event.Event.TheVariants.{Arrive, Evict, Reload}
-use Rattle.ept_core.specs.State.{State, Entry, blank, node_at, has_node, has_open, keys_of, held, flown, IsHeld}
+use Rattle.ept_core.specs.State.{State, Entry, blank, node_at, has_node, has_open, keys_of, flown, IsHeld}
 use Rattle.ept_core.specs.Law.{HoldsMore, HasPoint, KeepsLaw}
-use Rattle.ept_core.specs.Steps.{IsFlight, Step, Run, gathered, node_after, flights_after, arrived, moved, with_node}
-use Rattle.ept_core.proofs.NodeMap.{same_key-self, same_key-apart, has_node-key, points_of}
+use Rattle.ept_core.specs.Steps.{Step, Run, gathered, node_after, flights_after, arrived, moved, with_node}
+use Rattle.ept_core.proofs.NodeMap.{same_key-apart, has_node-key, points_of}
 use Rattle.ept_core.proofs.Held.{keys-rise}
 use Rattle.ept_places.specs.Places.{kept_where, placed_nodes, placed, but_for}
 use Rattle.ept_places.specs.PlaceLaws.{GoesTo}

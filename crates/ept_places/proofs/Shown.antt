@@ -1,16 +1,13 @@
 -- What a table shows, with its nodes where they are.
-use Rattle.std.proofs.Common.{◌≡◌, ◌∙◌, ℕ, zero, suc, ◌+◌, Bool, true, false, cond, ◌==◌, ◌⊎◌, inl, inr, List, [], ◌∷◌, map, set, drop, get_or, Option, refl, sym, ap, subst, arith}
+use Rattle.std.proofs.Common.{◌≡◌, ◌∙◌, ℕ, zero, suc, ◌+◌, Bool, true, false, cond, inl, inr, List, [], ◌∷◌, map, set, drop, Option, refl, sym, ap, subst, arith}
 use Rattle.std.proofs.lemmas.Bool.{false≢true, eq-eqb, ne_eqb}
 use Rattle.ept_space.specs.VoxelKey.{VoxelKey, same_key}
 use Rattle.ept_space.proofs.Within.{same_key-true}
-use Rattle.ept_sample.specs.Members.{IsMember}
 use Rattle.ept_sample.proofs.Members.{member-any, any-member}
-use Rattle.ept_sample.proofs.Choices.{either, not_both}
 use Rattle.ept_core.specs.declared.node.Node.{Node}
 use Rattle.ept_core.specs.declared.event.Event.{Event}
 use Rattle.ept_core.specs.declared.event.Event.TheVariants.{Evict, Reload}
 use Rattle.ept_core.specs.State.{State, Entry, node_at, has_node}
-use Rattle.ept_core.specs.Law.{KeepsLaw}
 use Rattle.ept_core.specs.Steps.{Step, moved, with_node}
 use Rattle.ept_core.proofs.NodeMap.{same_key-self, same_key-apart, node_at-here, node_at-other, has_node-with, IsMember-with}
 use Rattle.ept_core.proofs.CoreLaws.{step-keeps}
@@ -30,11 +27,11 @@ use Rattle.ept_table.specs.At.{At}
 use Rattle.ept_table.specs.Item as item
 use Rattle.ept_table.specs.Item.{cell_of, taken_as, seen_node}
 use Rattle.ept_table.specs.Steps.{StaysAlike}
-use Rattle.ept_table.specs.View.{View, all_flights}
-use Rattle.ept_table.specs.Shown.{KeyOf, Holds, Shows, shown}
-use Rattle.ept_table.proofs.Lists.{same_or_not, at-same, at-zero, at-next, at-rest, at-head, nothing-at, at-get, at-set, at-other, set-at, set-again, at-below}
+use Rattle.ept_table.specs.View.{View}
+use Rattle.ept_table.specs.Shown.{KeyOf, Holds, shown}
+use Rattle.ept_table.proofs.Lists.{same_or_not, at-same, at-zero, at-next, at-rest, at-head, nothing-at, at-get, at-set, at-other, set-again, at-below}
 use Rattle.ept_table.proofs.Glue.{at-map, map-at, map-set}
-use Rattle.ept_places.specs.Places.{kept_where, placed_nodes, placed}
+use Rattle.ept_places.specs.Places.{kept_where, placed}
 use Rattle.ept_places.specs.Showing.{ShowsPlaces, is_in_memory, in_memory, IsMoved, but_at}
 use Rattle.ept_places.proofs.Placed.{places-free, same-has, is-placed}
 

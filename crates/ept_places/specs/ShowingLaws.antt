@@ -1,5 +1,5 @@
 -- What holds of what a table shows. Each statement stands on the contract of `show_law`.
-use Rattle.std.specs.Prelude.{◌≡◌, ℕ, Bool, true, false, List, map, set, Option}
+use Rattle.std.specs.Prelude.{◌≡◌, ℕ, true, false, List, map, set, Option}
 use Rattle.ept_core.specs.declared.event.Event.TheVariants.{Evict, Reload}
 use Rattle.ept_core.specs.State.{State}
 use Rattle.ept_core.specs.Steps.{Step}
@@ -9,7 +9,6 @@ use Rattle.ept_node.specs.Shown.{node_of, is_here}
 use Rattle.ept_table.specs.declared.item.Item.{Item}
 use Rattle.ept_table.specs.declared.item.Item.TheVariants as items
 use Rattle.ept_table.specs.declared.taken.Progress.{Progress}
-use Rattle.ept_table.specs.declared.taken.Taken.{Taken}
 use Rattle.ept_table.specs.declared.taken.Taken.TheVariants.{Reading}
 use Rattle.ept_table.specs.At.{At}
 use Rattle.ept_table.specs.Item.{seen}

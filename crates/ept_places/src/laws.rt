@@ -13,8 +13,8 @@ pub fn place_law()
     ensures brings_back { FlightsBringBack }
 {}
 
-/// At every moment a table and its seats show a state that keeps the law, with each node where it is. A node of a slot that goes
-/// to its file is evicted, and one that comes back is reloaded.
+/// At every moment a table and its seats show a state that keeps the law, with each node where it is. A node of a slot that
+/// goes to its file is evicted, and one that comes back is reloaded.
 pub fn show_law<F, S>()
     ensures shows { TablesShowPlaces F S }
     ensures evicts { SlotsEvict F S }

@@ -329,9 +329,9 @@ fn read_in_time<R: Files>(
 ) -> Result<(), Fail> {
     let mut input = fs::open(files, "a.las")?;
     let mut into = vec![in alloc; 0u8; 1_000_000]?;
-    for now in &TIMES {
-        seen.now.set(*now);
-        same_at(rt, &input.read(&mut into)?, &1_000_000, now);
+    for time in &TIMES {
+        seen.now.set(*time);
+        same_at(rt, &input.read(&mut into)?, &1_000_000, time);
     }
     Ok(())
 }

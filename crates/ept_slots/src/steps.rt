@@ -27,7 +27,8 @@ impl<T, N, W, K, R: SlotRule<T, N, K>> Slots<T, N, W, K, R> {
         self.table.shared.peek(slot + LOCKS) == HELD
     }
 
-    /// Whether a slot is free as it is looked at, and what was last given into it was said to be wanted. Another seat may take it meanwhile.
+    /// Whether a slot is free as it is looked at, and what was last given into it was said to be wanted. Another seat may
+    /// take it meanwhile.
     pub fn is_wanted(&self, slot: usize) -> bool
         requires { slot < count_of self.now }
     {

@@ -8,17 +8,14 @@ use Rattle.ept_scan.specs.Reader.{drawn_of, refusal_of}
 use Rattle.ept_node.specs.declared.node.Node as node
 use Rattle.ept_node.specs.declared.state.NodeState.{NodeState}
 use Rattle.ept_node.specs.declared.state.NodeState.TheVariants as states
-use Rattle.ept_node.specs.declared.error.NodeError.{NodeError}
-use Rattle.ept_node.specs.declared.error.NodeError.TheVariants.{SpillFault, SpillDamaged}
-use Rattle.ept_node.specs.declared.body.Body.{Body}
-use Rattle.ept_node.specs.declared.body.Body.TheVariants as body
-use Rattle.ept_node.specs.Shown.{no_children, file_of, state_of, state_in, fault_in, is_here, is_here_in, IsTelling}
+use Rattle.ept_node.specs.Shown.{no_children, file_of, state_of, is_here, IsTelling}
+use Rattle.ept_node.proofs.Here.{no-fault, apart-agrees}
 use Rattle.ept_forest.specs.declared.forest.Forest.{Forest}
 use Rattle.ept_forest.specs.Slots.{nodes_of, used_of, residents_of, IsBlank, IsPlanted}
+use Rattle.ept_forest.proofs.Residents.{residents-cons, none-here}
 use Rattle.std.specs.List.{All}
 use Rattle.std.specs.Prelude.{cond}
-use Rattle.std.proofs.lemmas.List.Elements.{All-cons, All-head, All-tail, All-weaker}
-use Rattle.std.proofs.lemmas.List.Sums.{sum_by-cons}
+use Rattle.std.proofs.lemmas.List.Elements.{All-cons, All-weaker}
 use Rattle.ept_table.specs.declared.item.Item.{Item}
 use Rattle.ept_table.specs.declared.item.Item.TheVariants as items
 use Rattle.ept_table.specs.declared.note.Told.{Told}
@@ -50,16 +47,6 @@ none_at (suc (suc (suc (suc (suc (suc (suc (suc o)))))))) low = absurd (omega (a
 -- ---- nodes that are blank or begun
 
 module _ {F : Type 0} (held : F → Option (List ℕ)) (faults keeps : F → ℕ) where
-  not_there : (b : Body) (e : NodeError) → (state_in b ≡ states.Blank) ⊎ (state_in b ≡ states.Resident) → fault_in b ≡ Some e → ⊥
-  not_there body.Blank e is f = cc
-  not_there (body.Begun site) e is f = cc
-  not_there (body.Resident kept) e is f = cc
-  not_there (body.Spilled filed) e is f = cc
-  not_there (body.Unkept kept) e (inl is) f = cc
-  not_there (body.Unkept kept) e (inr is) f = cc
-  not_there (body.Lost filed why) e (inl is) f = cc
-  not_there (body.Lost filed why) e (inr is) f = cc
-
   never_spilled : (s : NodeState) → (s ≡ states.Blank) ⊎ (s ≡ states.Resident) → s ≡ states.Spilled → ⊥
   never_spilled states.Blank is e = cc
   never_spilled states.Resident is e = cc
@@ -67,15 +54,18 @@ module _ {F : Type 0} (held : F → Option (List ℕ)) (faults keeps : F → ℕ
   never_spilled states.Spilled (inr is) e = cc
   never_spilled states.Broken is e = cc
 
+  never_broken : (s : NodeState) → (s ≡ states.Blank) ⊎ (s ≡ states.Resident) → s ≡ states.Broken → ⊥
+  never_broken states.Blank is e = cc
+  never_broken states.Resident is e = cc
+  never_broken states.Spilled is e = cc
+  never_broken states.Broken (inl is) e = cc
+  never_broken states.Broken (inr is) e = cc
+
   filed_here : (told : Told) (n : node.Node F) → (state_of n ≡ states.Blank) ⊎ (state_of n ≡ states.Resident) → (told.tells ≡ true → IsTelling held) → IsFiledNode held faults keeps told n
   filed_here told n is telling = record {
-    agrees = record {
-      filed = λ spilled. absurd (never_spilled (state_of n) is spilled);
-      kept = λ spilled. absurd (never_spilled (state_of n) is spilled);
-      failed = λ broken. absurd (not_there n.body SpillFault is broken);
-    };
+    agrees = apart-agrees held faults keeps n (never_spilled (state_of n) is) (never_broken (state_of n) is);
     telling = λ tells. telling tells (file_of n);
-    undamaged = λ tells kept found at broken. not_there n.body (SpillDamaged kept found at) is broken;
+    undamaged = λ tells kept found at broken. absurd (let none = no-fault n (never_broken (state_of n) is) in cc);
   }
 
   module _ (told : Told) (forest : Forest F) (p : IsPlanted held faults keeps told.most told.rules forest) where
@@ -83,33 +73,17 @@ module _ {F : Type 0} (held : F → Option (List ℕ)) (faults keeps : F → ℕ
     planted-filed telling =
         subst (λ (ns : List (node.Node F)). All (IsFiledNode held faults keeps told) ns) (sym p.are) (All-cons (IsFiledNode held faults keeps told) p.first p.others (filed_here told p.first (inr p.begun.state) telling) (All-weaker IsBlank (IsFiledNode held faults keeps told) (λ n blank. filed_here told n (inl blank) telling) p.others p.blank))
 
-    abbrev weight : Bool → ℕ
-    weight b = cond b 1 0
-
-    blank_here : (b : Body) → state_in b ≡ states.Blank → is_here_in b ≡ false
-    blank_here body.Blank is = refl
-    blank_here (body.Begun site) is = absurd (cc)
-    blank_here (body.Resident kept) is = absurd (cc)
-    blank_here (body.Spilled filed) is = absurd (cc)
-    blank_here (body.Unkept kept) is = absurd (cc)
-    blank_here (body.Lost filed why) is = absurd (cc)
-
-    none_here : (ns : List (node.Node F)) → All IsBlank ns → residents_of ns ≡ 0
-    none_here [] all = refl
-    none_here (n ∷ ns) all =
-        let one : residents_of (n ∷ ns) ≡ weight (is_here n) + residents_of ns = sum_by-cons (λ (m : node.Node F). weight (is_here m)) n ns in
-        let gone : weight (is_here n) ≡ 0 = ap weight (blank_here n.body (All-head IsBlank n ns all)) in
-        omega (arith, one, gone, none_here ns (All-tail IsBlank n ns all))
+    abbrev one_if : Bool → ℕ
+    one_if b = cond b 1 0
 
     pub planted-few : residents_of (nodes_of forest) ≤ 1
     planted-few =
         let all : residents_of (nodes_of forest) ≡ residents_of (p.first ∷ p.others) = ap (λ (ns : List (node.Node F)). residents_of ns) p.are in
-        let one : residents_of (p.first ∷ p.others) ≡ weight (is_here p.first) + residents_of p.others = sum_by-cons (λ (m : node.Node F). weight (is_here m)) p.first p.others in
-        omega (arith, all, one, at_most (is_here p.first), none_here p.others p.blank)
+        omega (arith, all, residents-cons p.first p.others, at_most (is_here p.first), none-here p.others p.blank)
       where
-        at_most : (b : Bool) → weight b ≤ 1
-        at_most true = let one : weight true ≡ 1 = refl in omega (arith, one)
-        at_most false = let none : weight false ≡ 0 = refl in omega (arith, none)
+        at_most : (b : Bool) → one_if b ≤ 1
+        at_most true = let one : one_if true ≡ 1 = refl in omega (arith, one)
+        at_most false = let none : one_if false ≡ 0 = refl in omega (arith, none)
 
 -- ---- a new table
 

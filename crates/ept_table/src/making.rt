@@ -139,8 +139,8 @@ impl<F: SpillFile, S: Source, J: Scan> NodeTable<F, S, J> {
     }
 }
 
-/// With a new forest, and a reader of all points that has drawn none, a table may be made. Where files and sources tell, each spill
-/// file does.
+/// With a new forest, and a reader of all points that has drawn none, a table may be made. Where files and sources tell, each
+/// spill file does.
 pub fn plant_law<F: SpillFile, S: Source, J: Scan>(forest: &Forest<F>, reader: &Reader<S>)
     requires told { IsTold J.told }
     requires points { J.told.tells ≡ true → CanBeSampled J.told.rules J.told.points

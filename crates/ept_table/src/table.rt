@@ -65,13 +65,17 @@ impl<F: SpillFile, S: Source, J: Scan> NodeTable<F, S, J> {
 
     /// Whether a slot is held as it is looked at, for a worker that has other things to do meanwhile. Never where there is no
     /// such slot.
-    pub fn is_held(&self, slot: u32) -> bool {
+    pub fn is_held(&self, slot: u32) -> bool
+        ensures none { result ≡ true → slot < slots_of self.now }
+    {
         (slot as usize) < self.slots.count() && self.slots.is_held(slot as usize)
     }
 
     /// Whether a slot is free as it is looked at, and a node in memory was last given into it. Never where there is no such
     /// slot.
-    pub fn is_resident(&self, slot: u32) -> bool {
+    pub fn is_resident(&self, slot: u32) -> bool
+        ensures none { result ≡ true → slot < slots_of self.now }
+    {
         (slot as usize) < self.slots.count() && self.slots.is_wanted(slot as usize)
     }
 
@@ -146,7 +150,8 @@ impl<F: SpillFile, S: Source, J: Scan> NodeTable<F, S, J> {
     }
 
     /// Gives an item back into the slot that the seat holds, and frees the slot. What the visit did comes back, with the
-    /// flights that leave. A node whose points are in memory takes a permit of the seat, and one that was taken so gives it its own.
+    /// flights that leave. A node whose points are in memory takes a permit of the seat, and one that was taken so gives it
+    /// its own.
     pub fn give(&self, seat: &mut Seat<F, S>, slot: u32, item: Item<F, S>, done: Done) -> Done
         requires seat { IsSeat J.told self.now seat.old }
         requires visit { (x : item_of.Item F S) × Holds (view seat.old) slot x

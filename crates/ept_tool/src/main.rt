@@ -2,24 +2,8 @@
 //! what the header of a LAS file says, and what an octree of generated scans comes to.
 #![tactic(auto)]
 
-#[cfg(test)]
-mod again_tests;
-#[cfg(test)]
-mod build_tests;
 mod heard;
-#[cfg(test)]
-mod message_tests;
-#[cfg(test)]
-mod query_tests;
-#[cfg(test)]
-mod spill_tests;
-#[cfg(test)]
-mod tests;
-#[cfg(test)]
-mod trial_tests;
 mod watched;
-#[cfg(test)]
-mod worked_tests;
 
 use crate::heard::Heard;
 use crate::watched::Watched;

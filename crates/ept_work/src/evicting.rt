@@ -64,7 +64,8 @@ impl<F: SpillFile, S: Source> Worker<F, S> {
         unreachable!()
     }
 
-    // Lets the node whose turn it is go to its file, if it is free and in memory, and keeps its permit. Answers whether it has gone.
+    // Lets the node whose turn it is go to its file, if it is free and in memory, and keeps its permit. Answers whether it
+    // has gone.
     fn evict<J: Scan>(
         &mut self,
         alloc: Global,

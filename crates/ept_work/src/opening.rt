@@ -10,7 +10,6 @@ ghost use Rattle.ept_table.specs.Table.{slots_of, IsSeat};
 ghost use Rattle.ept_table.specs.Item.{cell_of};
 ghost use Rattle.ept_work.specs.Visiting.{IsOpening};
 ghost use Rattle.ept_work.specs.Opening.{MayOpen, HasOpened};
-ghost use Rattle.ept_grid.specs.declared.octants.TheConstants.{OCTANTS};
 
 use ept_base::{Source, SpillFile};
 use ept_grid::OCTANTS;
@@ -64,7 +63,7 @@ fn open_child<F: SpillFile, S: Source, J: Scan>(
 ) -> Opening<F>
     requires seat { IsSeat J.told table.now seat.old }
     requires slots { slots_of table.now ≡ J.told.most + 1 }
-    requires low { octant < OCTANTS }
+    requires low { octant < 8 }
     requires may { MayOpen F.held J.told (known F.held S.whole (view seat.old)) slot before opening.node }
     requires opened { HasOpened J.told (known F.held S.whole (view seat.old)) (cell_of F.held opening.node) octant opening.is_full }
     ensures seat { IsSeat J.told table.now seat.new }
@@ -94,7 +93,7 @@ fn open_child<F: SpillFile, S: Source, J: Scan>(
 
 // Whether a slot is asked for: none was refused, and the octant is in the second set and not in the first.
 fn asks(is_full: bool, before: u8, after: u8, octant: u8) -> bool
-    requires { octant < OCTANTS }
+    requires { octant < 8 }
     ensures { result ≡ (not is_full && (not (opened before octant) && opened after octant)) }
 {
     !is_full && !is_open(before, octant) && is_open(after, octant)
@@ -102,7 +101,7 @@ fn asks(is_full: bool, before: u8, after: u8, octant: u8) -> bool
 
 // Whether the octant is in the set.
 fn is_open(mask: u8, octant: u8) -> bool
-    requires { octant < OCTANTS }
+    requires { octant < 8 }
     ensures { result ≡ opened mask octant }
 {
     mask >> octant & 1 == 1

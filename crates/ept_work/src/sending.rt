@@ -2,7 +2,6 @@
 
 ghost use Rattle.std.specs.Prelude.{◌≡◌, ◌≢◌, ◌+◌, ◌++◌, ◌<◌, ◌≤◌, ℕ, [], length, vec_len, vec_capacity};
 ghost use Rattle.ept_grid.specs.Outgoing.{points_at};
-ghost use Rattle.ept_grid.specs.declared.octants.TheConstants.{OCTANTS};
 ghost use Rattle.ept_node.specs.Shown.{state_of, node_of};
 ghost use Rattle.ept_node.specs.declared.state.NodeState.TheVariants.{Resident};
 ghost use Rattle.ept_table.specs.Item.{cell_of};
@@ -48,7 +47,7 @@ fn send<F: SpillFile>(
     mut fresh: Vec<Carried>,
 ) -> Vec<Carried>
     requires resident { state_of node.now ≡ Resident }
-    requires low { octant < OCTANTS }
+    requires low { octant < 8 }
     requires above { 0 < length (points_at out.old octant) → (node_of F.held node.now).key.depth < 31 }
     requires room { vec_len fresh < vec_capacity fresh }
     ensures sent { result.items ≡ fresh.items ++ sent_to actor (cell_of F.held node.now) out.old octant }
@@ -74,7 +73,7 @@ fn send<F: SpillFile>(
 // The points that leave for an octant, in a list of their own size. Where there is no memory for it the list that they
 // left in is taken.
 fn taken(alloc: Global, out: &mut Outgoing, octant: u8) -> Vec<Point>
-    requires { octant < OCTANTS }
+    requires { octant < 8 }
     ensures taken { result.items ≡ points_at out.old octant }
     ensures others { (o : ℕ) → o ≢ octant → points_at out.new o ≡ points_at out.old o }
 {

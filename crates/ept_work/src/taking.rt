@@ -40,13 +40,13 @@ impl<F: SpillFile, S: Source> Worker<F, S> {
     ghost use Rattle.ept_table.specs.Table.{slots_of, rules_of, IsSeat};
     ghost use Rattle.ept_work.specs.Worker.{seat_of, number_of, knows};
 
-    /// Takes the node to which the next flight goes, as soon as it is free. A blank one is begun with the key of the flight, and one
-    /// whose points are in its file gets them back. A permit for it is taken before, while no node is held.
+    /// Takes the node to which the next flight goes, as soon as it is free. A blank one is begun with the key of the flight,
+    /// and one whose points are in its file gets them back. A permit for it is taken before, while no node is held.
     ///
     /// # Errors
     ///
-    /// `TooManyNodes` where the flight has no slot. `SpillFault` and `SpillDamaged` where a spill file fails or is damaged, that
-    /// of the node or of one that was to leave its permit, or where that node is broken already. `Memory`.
+    /// `TooManyNodes` where the flight has no slot. `SpillFault` and `SpillDamaged` where a spill file fails or is damaged,
+    /// that of the node or of one that was to leave its permit, or where that node is broken already. `Memory`.
     pub fn take_up<H: Wait, J: Scan>(
         &mut self,
         rt: &H,
@@ -158,8 +158,8 @@ impl<F: SpillFile, S: Source> Worker<F, S> {
     }
 }
 
-// The node of a key in memory: one that is there, one that begins in place of a blank one, or one that comes back from its file. The
-// latter two want a permit. Or the node stays where it is.
+// The node of a key in memory: one that is there, one that begins in place of a blank one, or one that comes back from its
+// file. The latter two want a permit. Or the node stays where it is.
 fn readied<F: SpillFile, J: Scan>(
     alloc: Global,
     mut node: Node<F>,

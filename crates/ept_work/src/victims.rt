@@ -10,8 +10,8 @@ use ept_clock::Clock;
 use ept_table::{NodeTable, Scan};
 use std::alloc::{AllocError, Global};
 
-/// The slots of nodes that may go to their files: of those that were seen in memory as the slots were last looked through, the ones
-/// whose turn has not come yet.
+/// The slots of nodes that may go to their files: of those that were seen in memory as the slots were last looked through,
+/// the ones whose turn has not come yet.
 #[derive(Drop)]
 pub(crate) struct Victims {
     clock: Clock,
@@ -31,9 +31,9 @@ impl Victims {
         }
     }
 
-    /// The slot whose turn it is: by the hand of a clock among those of nodes that are seen in memory, free to be taken. Where
-    /// none is seen so, the slots are told one after another, since others may have permits: nodes that no worker has visited yet,
-    /// and broken ones.
+    /// The slot whose turn it is: by the hand of a clock among those of nodes that are seen in memory, free to be taken.
+    /// Where none is seen so, the slots are told one after another, since others may have permits: nodes that no worker has
+    /// visited yet, and broken ones.
     pub(crate) fn next<F: SpillFile, S: Source, J: Scan>(
         &mut self,
         table: &NodeTable<F, S, J>,
@@ -101,5 +101,5 @@ fn look_through<F: SpillFile, S: Source, J: Scan>(
 fn is_seen<F: SpillFile, S: Source, J: Scan>(table: &NodeTable<F, S, J>, slot: u32) -> bool
     ensures { result ≡ true → IsNodeSlot table.now slot }
 {
-    0 < slot && slot <= table.most() && table.is_resident(slot)
+    0 < slot && table.is_resident(slot)
 }

@@ -29,7 +29,9 @@ impl<F: SpillFile, S: Source> Worker<F, S> {
     ghost use Rattle.ept_work.specs.Worker.{seat_of, number_of, knows};
 
     /// Works from the first batch to the last, one visit at a time: that of the newest flight, or once nodes have to leave
-    /// memory, of the node that it comes from as long as a flight goes there. Where another worker holds that node it draws a further batch meanwhile. A worker that is refused abandons its flights. At the end it carries no flight and holds no slot, whatever the answer.
+    /// memory, of the node that it comes from as long as a flight goes there. Where another worker holds that node it draws a
+    /// further batch meanwhile. A worker that is refused abandons its flights. At the end it carries no flight and holds no
+    /// slot, whatever the answer.
     ///
     /// # Errors
     ///

@@ -4,7 +4,8 @@ use Rattle.std.proofs.lemmas.List.Elements.{All-set}
 use Rattle.ept_forest.specs.Slots.{nodes_of, used_of}
 use Rattle.ept_node.specs.Shown.{file_of, fault_of, AgreesWithFile}
 use Rattle.ept_octree.proofs.Placing.{slice-at, same-in, same-file}
-use Rattle.ept_octree.proofs.Here.{all-at, same-here, same-fault, residents-same}
+use Rattle.ept_node.proofs.Here.{same-here, same-fault}
+use Rattle.ept_octree.proofs.Here.{all-at, residents-same}
 use Rattle.ept_octree.proofs.Linked.{same-slot, step-may, step-children, step-agrees}
 use Rattle.ept_octree.proofs.linking.link_all.Goals as goal
 

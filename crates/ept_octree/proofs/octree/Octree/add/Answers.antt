@@ -6,7 +6,8 @@ use Rattle.ept_forest.specs.Slots as forest
 use Rattle.ept_table.proofs.Lists.{at-below, at-set}
 use Rattle.ept_octree.specs.Index.{in_slots, branches}
 use Rattle.ept_octree.specs.Octree.{nodes_of, AreAlike}
-use Rattle.ept_octree.proofs.Here.{telling, resident-here, spilled-away, residents-same, residents-less, faults-at}
+use Rattle.ept_node.proofs.Here.{resident-here, spilled-away}
+use Rattle.ept_octree.proofs.Here.{telling, residents-same, residents-less, faults-at}
 use Rattle.ept_octree.proofs.Alike.{spilled-like, still-like, alike-nodes}
 use Rattle.ept_octree.proofs.Gone.{here-low, here-at, here-state, gone-index, gone-nodes, same-nodes}
 use Rattle.ept_octree.proofs.octree.Octree.add.Goals as goal

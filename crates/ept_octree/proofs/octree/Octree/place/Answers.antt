@@ -13,7 +13,8 @@ use Rattle.ept_table.proofs.Lists.{at-below, at-set}
 use Rattle.ept_octree.specs.declared.error.AddError.{AddError}
 use Rattle.ept_octree.specs.declared.error.AddError.TheVariants.{Damaged}
 use Rattle.ept_octree.specs.Index.{in_slots, untold, branches, IsIndex}
-use Rattle.ept_octree.proofs.Here.{resident-here, blank-away, no-fault, apart-agrees, residents-same, residents-more}
+use Rattle.ept_node.proofs.Here.{resident-here, blank-away, no-fault, apart-agrees}
+use Rattle.ept_octree.proofs.Here.{residents-same, residents-more}
 use Rattle.ept_octree.proofs.Placing.{root-test, err-same, long-in, next-used, same-in}
 use Rattle.ept_octree.proofs.Added.{top-at, top-resident, top-empty, top-tile, top-fault, top-index, top-ok, new-at, new-blank, new-index, new-nodes, no-index, no-nodes}
 use Rattle.ept_octree.proofs.octree.Octree.place.Goals as goal

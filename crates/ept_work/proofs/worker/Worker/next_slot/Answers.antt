@@ -1,4 +1,4 @@
-use Rattle.std.proofs.Common.{◌≡◌, ◌<◌, refl, arith}
+use Rattle.std.proofs.Common.{refl, arith}
 use Rattle.ept_table.specs.Standing.{known}
 use Rattle.ept_table.proofs.Lists.{at-member}
 use Rattle.ept_work.proofs.Carrying.{is-at}
