@@ -9,8 +9,14 @@ use crate::rule::SlotRule;
 use crate::slot::Slot;
 use crate::slots::{DRAWN, FREE, HELD, LOCKS, PERMITS, SlotSeat, Slots, WANTED};
 use crate::tells::{Draw, Give, Look, Note, Take};
+use std::hint;
 use std::sync::Wait;
-use std::thread;
+use std::time::Duration;
+
+// How often one that waits looks before it sleeps, and for how many microseconds it sleeps then before it looks again.
+const LOOKS: u32 = 100;
+
+const SLEEP: u64 = 20;
 
 impl<T, N, W, K, R: SlotRule<T, N, K>> Slots<T, N, W, K, R> {
     /// The number of slots.
@@ -70,13 +76,33 @@ impl<T, N, W, K, R: SlotRule<T, N, K>> Slots<T, N, W, K, R> {
         ensures seat { IsSeatOf R.most self.now seat.new × (seat.new.id ≡ seat.old.id) }
         ensures step { (n : N) × (view seat.new ≡ taken (view seat.old) slot result n) × M.tells (view seat.old) slot result n }
     {
+        let mut looks = 0;
         for _ in rt.forever() {
             if let Some(item) = self.try_take::<M>(seat, slot) {
                 return item;
             }
-            thread::yield_now();
+            self.rest(rt, slot + LOCKS, HELD as u32, looks);
+            looks = looks.saturating_add(1);
         }
         unreachable!()
+    }
+
+    /// Lets a moment go by for one that has looked so often and found no permit free.
+    pub fn rest_for_permit<H: Wait>(&self, rt: &H, looks: u32) {
+        self.rest(rt, PERMITS, 0, looks);
+    }
+
+    // Lets a moment go by for one that has looked so often and seen the word like this. A thread that waits for long sleeps:
+    // the processor that it would keep busy may be the one that the holder of a slot needs.
+    fn rest<H: Wait>(&self, rt: &H, word: usize, seen: u32, looks: u32)
+        requires { word < count_of self.now + 2 }
+    {
+        if looks < LOOKS {
+            hint::spin_loop();
+            return;
+        }
+        let sleep = Duration::from_micros(SLEEP);
+        self.table.shared.park_timeout(rt, word, seen, sleep);
     }
 
     /// Brings an item home into the slot that the seat holds, and frees the lock. The permits of what

@@ -24,7 +24,6 @@ use ept_node::{Node, NodeState};
 use ept_slots::{SlotSeat, Slots};
 use ept_space::Rules;
 use std::sync::Wait;
-use std::thread;
 
 /// A token of no bytes with which a worker steps on a table.
 pub type Seat<F, S> = SlotSeat<Item<F, S>, Note, Said>;
@@ -79,6 +78,11 @@ impl<F: SpillFile, S: Source, J: Scan> NodeTable<F, S, J> {
         (slot as usize) < self.slots.count() && self.slots.is_wanted(slot as usize)
     }
 
+    /// Lets a moment go by for a worker that has looked so often and found no permit free.
+    pub fn rest_for_permit<H: Wait>(&self, rt: &H, looks: u32) {
+        self.slots.rest_for_permit(rt, looks);
+    }
+
     /// Takes what lies in a slot, as soon as that is free. The seat is its holder then.
     pub fn take<H: Wait>(&self, rt: &H, seat: &mut Seat<F, S>, slot: u32) -> Item<F, S>
         requires seat { IsSeat J.told self.now seat.old }
@@ -110,22 +114,6 @@ impl<F: SpillFile, S: Source, J: Scan> NodeTable<F, S, J> {
         ensures permits { IfSome result (λ item. spare_of (view seat.new) ≡ spare_of (view seat.old) + weight_of item) }
     {
         self.slots.try_take::<Taking<F, S, J>>(seat, slot as usize)
-    }
-
-    /// Takes a permit, as soon as one is free.
-    pub fn take_permit<H: Wait>(&self, rt: &H, seat: &mut Seat<F, S>)
-        requires seat { IsSeat J.told self.now seat.old }
-        requires share { 0 < (view seat.old).parts }
-        ensures seat { IsSeat J.told self.now seat.new }
-        ensures step { view seat.new ≡ with_permits (view seat.old) ((view seat.old).permits + 1) }
-    {
-        for _ in rt.forever() {
-            if self.try_permit(seat) {
-                return;
-            }
-            thread::yield_now();
-        }
-        unreachable!()
     }
 
     /// One try to take a permit: false where none was free, or where another seat changed meanwhile how many are.

@@ -18,7 +18,6 @@ use ept_node::{Node, NodeError, NodeState};
 use ept_table::{Done, Item, NodeTable, Scan};
 use std::alloc::Global;
 use std::sync::Wait;
-use std::thread;
 
 // A node that was to go to its file, and whether it has gone there.
 struct Evicted<F> {
@@ -51,6 +50,7 @@ impl<F: SpillFile, S: Source> Worker<F, S> {
         ensures no_permit { OnErr result (spare_of (view (seat_of self.new)) ≡ spare_of (view (seat_of self.old))) }
         ensures refused { IfErr result (IsVisitCause J.told (knows F.held S.whole self.new)) }
     {
+        let mut looks = 0;
         for _ in rt.forever() {
             if table.try_permit(&mut self.seat) {
                 return Ok(());
@@ -59,7 +59,8 @@ impl<F: SpillFile, S: Source> Worker<F, S> {
             if self.evict(alloc, table)? {
                 return Ok(());
             }
-            thread::yield_now();
+            table.rest_for_permit(rt, looks);
+            looks = looks.saturating_add(1);
         }
         unreachable!()
     }

@@ -97,7 +97,7 @@ impl<F: SpillFile, S: Source> Worker<F, S> {
         ensures again_permit { IfOk result (λ found. IsNone found → spare_of (view (seat_of self.new)) ≡ spare_of (view (seat_of self.old))) }
         ensures no_permit { OnErr result (spare_of (view (seat_of self.new)) ≡ spare_of (view (seat_of self.old))) }
     {
-        let Ok(number) = u32::try_from(self.next()) else {
+        let Ok(number) = u32::try_from(self.next(table)) else {
             return Err(WorkError::Memory);
         };
         let carried = &self.flights[number as usize];

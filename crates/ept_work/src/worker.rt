@@ -104,31 +104,31 @@ impl<F: SpillFile, S: Source> Worker<F, S> {
 
     /// The slot of the node that is visited next, to which one of the flights goes: 0 where it has none. None where no flight
     /// is carried.
-    pub fn next_slot(&self) -> Option<u32>
+    pub fn next_slot<J: Scan>(&self, table: &NodeTable<F, S, J>) -> Option<u32>
         ensures some { IfSome result (IsGoal (knows F.held S.whole self.now).note.flights) }
         ensures none { result ≡ None → (knows F.held S.whole self.now).note.flights ≡ [] }
     {
         if self.flights.is_empty() {
             return None;
         }
-        Some(self.flights[self.next()].slot)
+        Some(self.flights[self.next(table)].slot)
     }
 
-    // Which flight goes on next: the newest. Once nodes have to leave memory, the newest to the node that was visited last, as
-    // long as there is one.
-    pub(crate) fn next(&self) -> usize
+    // Which flight goes on next, of those to nodes that no other worker holds as they are looked at: the newest to the node
+    // that was visited last, or else the newest. Where all these nodes are held, the newest.
+    pub(crate) fn next<J: Scan>(&self, table: &NodeTable<F, S, J>) -> usize
         requires { 0 < vec_len self.now.flights }
         ensures { result < vec_len self.now.flights }
     {
         let here = self.here;
-        match self
-            .flights
+        let flights = self.flights.as_slice();
+        flights
             .iter()
-            .rposition(|carried| carried.slot == here)
-        {
-            Some(place) => place,
-            None => self.flights.len() - 1,
-        }
+            .rposition(|carried| carried.slot == here && is_free(table, here))
+            .or_else(|| flights
+                .iter()
+                .rposition(|carried| is_free(table, carried.slot)))
+            .unwrap_or(flights.len() - 1)
     }
 
     /// Takes the reader as soon as it is free, draws a batch of at most 1,024 records, and gives it back. The points fly
@@ -188,6 +188,11 @@ impl<F: SpillFile, S: Source> Worker<F, S> {
         table.abandon(&mut self.seat);
         self.flights.clear();
     }
+}
+
+// Whether a flight with this slot need not wait for another worker. One without a slot waits for none.
+fn is_free<F: SpillFile, S: Source, J: Scan>(table: &NodeTable<F, S, J>, slot: u32) -> bool {
+    slot == 0 || !table.is_held(slot)
 }
 
 // A reader that was read, and what came of it.

@@ -28,10 +28,10 @@ impl<F: SpillFile, S: Source> Worker<F, S> {
     ghost use Rattle.ept_table.specs.Table.{slots_of, rules_of, IsSeat};
     ghost use Rattle.ept_work.specs.Worker.{seat_of, number_of, knows};
 
-    /// Works from the first batch to the last, one visit at a time: that of the newest flight, or once nodes have to leave
-    /// memory, of the node that it comes from as long as a flight goes there. Where another worker holds that node it draws a
-    /// further batch meanwhile. A worker that is refused abandons its flights. At the end it carries no flight and holds no
-    /// slot, whatever the answer.
+    /// Works from the first batch to the last, one visit at a time: that of the newest flight to a node that no other worker is
+    /// seen to hold, or once nodes have to leave memory, to the node of the visit before as long as a flight goes there. Where
+    /// others hold the nodes of all its flights it draws a further batch meanwhile. A worker that is refused abandons its
+    /// flights. At the end it carries no flight and holds no slot, whatever the answer.
     ///
     /// # Errors
     ///
@@ -92,8 +92,8 @@ impl<F: SpillFile, S: Source> Worker<F, S> {
         unreachable!()
     }
 
-    // Visits the node of the next flight, or draws a batch where there is no flight, more are to come down together, or another
-    // worker holds that node. Answers whether there is more to do.
+    // Visits the node of the next flight, or draws a batch where there is no flight, more are to come down together, or others
+    // hold the nodes of all flights. Answers whether there is more to do.
     fn step<H: Wait, G: Gate, J: Scan>(
         &mut self,
         rt: &H,
@@ -119,7 +119,7 @@ impl<F: SpillFile, S: Source> Worker<F, S> {
         if self.is_empty() {
             return self.draw(rt, alloc, table);
         }
-        if self.draws_ahead() || self.would_wait(table) {
+        if self.draws_ahead(table) || self.would_wait(table) {
             return self.draw_meanwhile(rt, alloc, table, gate);
         }
         self.visit(rt, alloc, table, gate)?;
@@ -156,13 +156,13 @@ impl<F: SpillFile, S: Source> Worker<F, S> {
     }
 
     // Whether a further batch is to come down together with those that were drawn.
-    fn draws_ahead(&self) -> bool {
-        self.is_short && self.flights.len() < AHEAD && self.next_slot() == Some(ROOT_SLOT)
+    fn draws_ahead<J: Scan>(&self, table: &NodeTable<F, S, J>) -> bool {
+        self.is_short && self.flights.len() < AHEAD && self.next_slot(table) == Some(ROOT_SLOT)
     }
 
-    // Whether another worker holds the node of the next flight, and few flights are carried.
+    // Whether other workers hold the nodes of all flights, and few are carried.
     fn would_wait<J: Scan>(&self, table: &NodeTable<F, S, J>) -> bool {
-        let Some(slot) = self.next_slot() else {
+        let Some(slot) = self.next_slot(table) else {
             return false;
         };
         let most = if slot == ROOT_SLOT {

@@ -27,9 +27,13 @@ fn held_slot<F>(doing: &Doing<F>) -> Option<u32> {
 }
 
 // Whether the next step of one would have to wait for the node that the other holds.
-fn may_wait<F: SpillFile, S: Source>(one: &Hand<F, S>, other: &Hand<F, S>) -> bool {
+fn may_wait<F: SpillFile, S: Source, J: Scan>(
+    table: &NodeTable<F, S, J>,
+    one: &Hand<F, S>,
+    other: &Hand<F, S>,
+) -> bool {
     match (&one.doing, held_slot(&other.doing)) {
-        (Doing::Rest, Some(held)) => one.worker.next_slot() == Some(held),
+        (Doing::Rest, Some(held)) => one.worker.next_slot(table) == Some(held),
         _ => false,
     }
 }
@@ -48,9 +52,9 @@ fn turn<F: SpillFile, S: Source, J: Scan, H: Wait>(
 {
     let Pair { first, second } = pair;
     let goes_first = if is_first {
-        !may_wait(&first, &second)
+        !may_wait(table, &first, &second)
     } else {
-        may_wait(&second, &first)
+        may_wait(table, &second, &first)
     };
     if goes_first {
         Pair {
