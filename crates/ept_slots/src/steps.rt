@@ -14,7 +14,7 @@ use std::sync::Wait;
 use std::time::Duration;
 
 // How often one that waits looks before it sleeps, and for how many microseconds it sleeps then before it looks again.
-const LOOKS: u32 = 100;
+const LOOKS: u32 = 1_000;
 
 const SLEEP: u64 = 20;
 
