@@ -29,9 +29,9 @@ impl<F: SpillFile, S: Source> Worker<F, S> {
     ghost use Rattle.ept_work.specs.Worker.{seat_of, number_of, knows};
 
     /// Works from the first batch to the last, one visit at a time: that of the newest flight to a node that no other worker is
-    /// seen to hold, or once nodes have to leave memory, to the node of the visit before as long as a flight goes there. Where
-    /// others hold the nodes of all its flights it draws a further batch meanwhile. A worker that is refused abandons its
-    /// flights. At the end it carries no flight and holds no slot, whatever the answer.
+    /// seen to hold, flights to the node of the visit before first. Where others hold the nodes of all its flights it draws a
+    /// further batch meanwhile. A worker that is refused abandons its flights. At the end it carries no flight and holds no
+    /// slot, whatever the answer.
     ///
     /// # Errors
     ///
