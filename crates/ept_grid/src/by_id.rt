@@ -1,13 +1,13 @@
 //! The points of a node in id order.
 
-ghost use Rattle.std.specs.Prelude.{◌≡◌, ◌<◌, ◌≤◌, ◌+◌, ◌++◌, IfOk, IfSome, OnOk, OnErr, length, position, vec_len, vec_capacity};
+ghost use Rattle.std.specs.Prelude.{◌≡◌, ◌<◌, ◌≤◌, ◌+◌, ◌++◌, IfOk, IfSome, OnOk, OnErr, length, position, vec_len, vec_capacity, map, IsPermutation};
 ghost use Rattle.ept_sample.specs.Ids.{comes_before, placed_by_id, in_id_order};
 ghost use Rattle.ept_grid.specs.Settling.{winners};
 ghost use Rattle.ept_grid.specs.Contents.{contents};
 
 use crate::outgoing::Outgoing;
 use crate::pool::Cell;
-use ept_point::{Memory, Point};
+use ept_point::{Memory, Point, PointId};
 use ept_sample::ids_ascend;
 use std::alloc::Global;
 
@@ -41,14 +41,39 @@ pub(crate) fn append_by_id(
 fn by_id(alloc: Global, cells: &[Cell], losers: &Outgoing) -> Result<Vec<Point>, Memory>
     ensures { IfOk result (λ v. v.items ≡ in_id_order (contents (winners cells.now) losers.now)) }
 {
-    let mut points = gather(alloc, cells, losers)?;
-    points.sort_unstable_by_key(|point| point.id());
+    let gathered = gather(alloc, cells, losers)?;
+    let points = sorted(alloc, gathered.as_slice())?;
     if ids_ascend(points.as_slice()) {
         return Ok(points);
     }
     // An id stands twice, so that the sort left the order of its points open.
-    let gathered = gather(alloc, cells, losers)?;
     placed_one_by_one(alloc, gathered.as_slice())
+}
+
+// The points sorted by their ids. What a sort moves about is an id and a reference, a fourth of a point.
+fn sorted(alloc: Global, points: &[Point]) -> Result<Vec<Point>, Memory>
+    ensures moved { IfOk result (λ v. IsPermutation points.now v.items) }
+{
+    let mut order = with_ids(alloc, points)?;
+    order.sort_unstable_by_key(|entry| entry.0);
+    copied(alloc, order.as_slice())
+}
+
+fn with_ids<'a>(alloc: Global, points: &'a [Point]) -> Result<Vec<(PointId, &'a Point)>, Memory>
+    ensures { IfOk result (λ v. map (λ e. e.1.now) v.items ≡ points.now) }
+{
+    let mut entries = Vec::with_capacity(alloc, points.len())?;
+    for point in points {
+        entries.push_reserved((point.id(), point));
+    }
+    Ok(entries)
+}
+
+fn copied(alloc: Global, entries: &[(PointId, &Point)]) -> Result<Vec<Point>, Memory>
+    ensures { IfOk result (λ v. v.items ≡ map (λ e. e.1.now) entries.now) }
+{
+    let points = entries.iter().map(|entry| *entry.1).collect(alloc)?;
+    Ok(points)
 }
 
 // The winners, and the losers octant by octant.

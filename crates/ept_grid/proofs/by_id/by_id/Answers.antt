@@ -1,4 +1,4 @@
-use Rattle.std.proofs.Common.{subst, List}
+use Rattle.std.proofs.Common.{◌∙◌, subst, List}
 use Rattle.std.specs.List.Sorted.{IsPermutation}
 use Rattle.ept_point.specs.declared.point.Point.{Point}
 use Rattle.ept_point.specs.Order.{IsAscending}
@@ -9,4 +9,4 @@ use Rattle.ept_grid.proofs.by_id.by_id.Goals as goal
 
 pub returns-then-ids_ascend : goal.returns-then-ids_ascend
 returns-then-ids_ascend c =
-    ascending-order (contents (winners c.args.cells.now) c.args.losers.now) c.sort_unstable_by_key.new.self.items (subst (λ (w : List Point). IsPermutation w c.sort_unstable_by_key.new.self.items) c.in_ok-points.ensures c.sort_unstable_by_key.ensures.permutation) (subst (λ (w : List Point). IsAscending w) c.as_slice.ensures.value (c.ids_ascend.ensures.ascend.0 c.if-ids_ascend.true))
+    ascending-order (contents (winners c.args.cells.now) c.args.losers.now) c.in_ok-points.points.items (subst (λ (w : List Point). IsPermutation w c.in_ok-points.points.items) (c.as_slice.ensures.value ∙ c.in_ok-gathered.ensures) c.in_ok-points.ensures.moved) (subst (λ (w : List Point). IsAscending w) c.as_slice-2.ensures.value (c.ids_ascend.ensures.ascend.0 c.if-ids_ascend.true))
