@@ -50,7 +50,7 @@ fn by_id(alloc: Global, cells: &[Cell], losers: &Outgoing) -> Result<Vec<Point>,
     placed_one_by_one(alloc, gathered.as_slice())
 }
 
-// The points sorted by their ids. What a sort moves about is an id and a reference, a fourth of a point.
+// The points sorted by their ids. What a sort moves about is an id and a reference, a third of a point.
 fn sorted(alloc: Global, points: &[Point]) -> Result<Vec<Point>, Memory>
     ensures moved { IfOk result (λ v. IsPermutation points.now v.items) }
 {
