@@ -1,6 +1,6 @@
 //! The points of a node in id order.
 
-ghost use Rattle.std.specs.Prelude.{◌≡◌, ◌<◌, ◌≤◌, ◌+◌, ◌++◌, IfOk, IfSome, OnOk, OnErr, length, position, vec_len, vec_capacity, map, IsPermutation};
+ghost use Rattle.std.specs.Prelude.{◌≡◌, ◌<◌, ◌≤◌, ◌+◌, ◌++◌, IfOk, IfSome, OnOk, OnErr, length, take, drop, position, vec_len, vec_capacity, map, IsPermutation};
 ghost use Rattle.ept_sample.specs.Ids.{comes_before, placed_by_id, in_id_order};
 ghost use Rattle.ept_grid.specs.Settling.{winners};
 ghost use Rattle.ept_grid.specs.Contents.{contents};
@@ -19,7 +19,8 @@ pub(crate) fn count(cells: &[Cell], losers: &Outgoing) -> usize
     cells.len() + losers.total()
 }
 
-/// Appends the points of a node, in id order. After `Memory` the list is as it was.
+/// Appends the points of a node, in id order, in the list's own room as far as that goes. After `Memory` the list is as it
+/// was.
 pub(crate) fn append_by_id(
     cells: &[Cell],
     losers: &Outgoing,
@@ -28,52 +29,76 @@ pub(crate) fn append_by_id(
     ensures ok { OnOk result (out.new.items ≡ out.old.items ++ in_id_order (contents (winners cells.now) losers.now)) }
     ensures unchanged { OnErr result (out.new.items ≡ out.old.items) }
 {
-    let mut points = by_id(*out.allocator(), cells, losers)?;
-    if out.is_empty() {
-        // A list without points takes them as they are, without a copy.
-        *out = points;
+    let before = out.len();
+    append_sorted(cells, losers, out)?;
+    if ids_ascend(&out.as_slice()[before..]) {
         return Ok(());
     }
-    out.append(&mut points)?;
-    Ok(())
-}
-
-fn by_id(alloc: Global, cells: &[Cell], losers: &Outgoing) -> Result<Vec<Point>, Memory>
-    ensures { IfOk result (λ v. v.items ≡ in_id_order (contents (winners cells.now) losers.now)) }
-{
-    let gathered = gather(alloc, cells, losers)?;
-    let points = sorted(alloc, gathered.as_slice())?;
-    if ids_ascend(points.as_slice()) {
-        return Ok(points);
-    }
     // An id stands twice, so that the sort left the order of its points open.
-    placed_one_by_one(alloc, gathered.as_slice())
+    out.truncate(before);
+    append_one_by_one(cells, losers, out)
 }
 
-// The points sorted by their ids. What a sort moves about is an id and a reference, a third of a point.
-fn sorted(alloc: Global, points: &[Point]) -> Result<Vec<Point>, Memory>
-    ensures moved { IfOk result (λ v. IsPermutation points.now v.items) }
+// Appends the points sorted by their ids. What a sort moves about is an id and a reference, a third of a point.
+fn append_sorted(cells: &[Cell], losers: &Outgoing, out: &mut Vec<Point>) -> Result<(), Memory>
+    ensures before { OnOk result (take (length out.old.items) out.new.items ≡ out.old.items) }
+    ensures moved { OnOk result (IsPermutation (contents (winners cells.now) losers.now) (drop (length out.old.items) out.new.items)) }
+    ensures unchanged { OnErr result (out.new.items ≡ out.old.items) }
 {
-    let mut order = with_ids(alloc, points)?;
+    let mut order = with_ids(*out.allocator(), cells, losers)?;
     order.sort_unstable_by_key(|entry| entry.0);
-    copied(alloc, order.as_slice())
+    append_entries(order.as_slice(), out)
 }
 
-fn with_ids<'a>(alloc: Global, points: &'a [Point]) -> Result<Vec<(PointId, &'a Point)>, Memory>
-    ensures { IfOk result (λ v. map (λ e. e.1.now) v.items ≡ points.now) }
+// The points with their ids: the winners, and the losers octant by octant.
+fn with_ids<'a>(
+    alloc: Global,
+    cells: &'a [Cell],
+    losers: &'a Outgoing,
+) -> Result<Vec<(PointId, &'a Point)>, Memory>
+    ensures { IfOk result (λ v. map (λ e. e.1.now) v.items ≡ contents (winners cells.now) losers.now) }
 {
-    let mut entries = Vec::with_capacity(alloc, points.len())?;
-    for point in points {
-        entries.push_reserved((point.id(), point));
-    }
+    let mut entries = Vec::with_capacity(alloc, count(cells, losers))?;
+    append_winner_ids(cells, &mut entries)?;
+    losers.append_ids(&mut entries)?;
     Ok(entries)
 }
 
-fn copied(alloc: Global, entries: &[(PointId, &Point)]) -> Result<Vec<Point>, Memory>
-    ensures { IfOk result (λ v. v.items ≡ map (λ e. e.1.now) entries.now) }
+fn append_winner_ids<'a>(
+    cells: &'a [Cell],
+    out: &mut Vec<(PointId, &'a Point)>,
+) -> Result<(), Memory>
+    ensures { OnOk result (map (λ e. e.1.now) out.new.items ≡ map (λ e. e.1.now) out.old.items ++ winners cells.now) }
 {
-    let points = entries.iter().map(|entry| *entry.1).collect(alloc)?;
-    Ok(points)
+    out.reserve(cells.len())?;
+    for cell in cells {
+        out.push_reserved((cell.point.id(), &cell.point));
+    }
+    Ok(())
+}
+
+// Appends the points of these entries. After `Memory` the list is as it was.
+fn append_entries(entries: &[(PointId, &Point)], out: &mut Vec<Point>) -> Result<(), Memory>
+    ensures ok { OnOk result (out.new.items ≡ out.old.items ++ map (λ e. e.1.now) entries.now) }
+    ensures unchanged { OnErr result (out.new.items ≡ out.old.items) }
+{
+    out.reserve(entries.len())?;
+    for entry in entries {
+        out.push_reserved(*entry.1);
+    }
+    Ok(())
+}
+
+// Appends the points in id order, each put at its place. After `Memory` the list is as it was.
+fn append_one_by_one(cells: &[Cell], losers: &Outgoing, out: &mut Vec<Point>) -> Result<(), Memory>
+    ensures ok { OnOk result (out.new.items ≡ out.old.items ++ in_id_order (contents (winners cells.now) losers.now)) }
+    ensures unchanged { OnErr result (out.new.items ≡ out.old.items) }
+{
+    let alloc = *out.allocator();
+    let gathered = gather(alloc, cells, losers)?;
+    let mut points = placed_one_by_one(alloc, gathered.as_slice())?;
+    out.append(&mut points)?;
+    Ok(())
 }
 
 // The winners, and the losers octant by octant.

@@ -14,6 +14,7 @@ ghost use Rattle.ept_grid.specs.Node.{IsNodeOf, IsInIdOrder, SendsOn, TakesIn, s
 
 use crate::by_id::{append_by_id, count};
 use crate::error::GridError;
+use crate::lists::Lists;
 use crate::outgoing::Outgoing;
 use crate::pool::Cell;
 use crate::reserving::make_room;
@@ -85,9 +86,9 @@ impl Grid {
     }
 
     /// The node of a key with these points and open octants, or the first cause why they are no node.
-    /// The ids ascend.
+    /// The ids ascend. It is made in these lists, whatever they had.
     pub fn from_tile(
-        alloc: Global,
+        lists: Lists,
         key: Key,
         rules: &Rules,
         mask: u8,
@@ -99,7 +100,7 @@ impl Grid {
         ensures tile { OnOk result (IsTile key rules.now mask points.now) }
         ensures refused { IfErr result (λ e. e ≢ GridError.Memory → IsTileFault key rules.now mask points.now e) }
     {
-        let node = node_of_tile(alloc, &key, rules, mask, points)?;
+        let node = node_of_tile(lists, &key, rules, mask, points)?;
         Ok(Grid {
             key,
             rules: *rules,
@@ -108,6 +109,23 @@ impl Grid {
             losers: node.losers,
             mask,
         })
+    }
+
+    /// The lists of the node, for the next one that is made. Its points are gone.
+    pub fn into_lists(self) -> Lists {
+        let Grid {
+            key: _key,
+            rules: _rules,
+            heads,
+            cells,
+            losers,
+            mask: _mask,
+        } = self;
+        Lists {
+            heads,
+            cells,
+            losers,
+        }
     }
 
     /// Takes in a point, and gives out the points that leave. It takes no memory.

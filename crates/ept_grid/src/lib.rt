@@ -5,6 +5,7 @@
 mod by_id;
 mod error;
 mod grid;
+mod lists;
 mod lookup;
 mod losing;
 mod making;
@@ -22,6 +23,7 @@ mod walk;
 
 pub use error::GridError;
 pub use grid::Grid;
+pub use lists::Lists;
 pub use octants::OCTANTS;
 pub use outgoing::Outgoing;
 pub use steps::Steps;

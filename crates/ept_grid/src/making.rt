@@ -1,6 +1,6 @@
 //! Room for cells, and the heads of their columns.
 
-ghost use Rattle.std.specs.Prelude.{◌≡◌, ◌⊎◌, ◌<◌, ◌≤◌, ◌-◌, ◌*◌, ◌^◌, ℕ, min, length, slice_index, vec_capacity, OnOk, OnErr};
+ghost use Rattle.std.specs.Prelude.{◌≡◌, ◌⊎◌, [], ◌<◌, ◌≤◌, ◌-◌, ◌*◌, ◌^◌, ℕ, min, length, slice_index, vec_capacity, OnOk, OnErr};
 ghost use Rattle.ept_grid.specs.Columns.{spots_of, nexts_of, IsChained};
 
 use crate::pool::Cell;
@@ -9,6 +9,23 @@ use ept_space::Rules;
 
 /// How many cells links can name.
 const MAX_CELLS: usize = 4_294_967_295;
+
+/// The heads of the columns of a node without cells, and its list of cells, in these two lists, whatever they had.
+pub(crate) fn emptied(
+    rules: &Rules,
+    heads: &mut Vec<u32>,
+    cells: &mut Vec<Cell>,
+) -> Result<(), Memory>
+    ensures cells { cells.new.items ≡ [] }
+    ensures table { OnOk result (length heads.new.items ≡ 2 ^ (2 * rules.now.cube.s)) }
+    ensures some { OnOk result (0 < length heads.new.items) }
+    ensures chained { OnOk result ((depth : ℕ) →
+        IsChained heads.new.items (nexts_of cells.new.items) (spots_of rules.now depth cells.new.items)) }
+{
+    cells.clear();
+    heads.clear();
+    make_heads(rules, heads)
+}
 
 /// Makes the heads of the columns where there are none yet, and room for so many more cells. The cells
 /// stay, whatever the answer.

@@ -1,9 +1,9 @@
 //! The points that leave a node, by octant.
 
-ghost use Rattle.std.specs.Prelude.{◌≡◌, ◌≢◌, ◌<◌, ◌≤◌, ◌+◌, ◌∷◌, [], ◌++◌, ℕ, length, OnOk, IsPermutation};
+ghost use Rattle.std.specs.Prelude.{◌≡◌, ◌≢◌, ◌<◌, ◌≤◌, ◌+◌, ◌∷◌, [], ◌++◌, ℕ, length, map, OnOk, IsPermutation};
 ghost use Rattle.ept_sample.specs.Ids.{HasDistinctIds, in_id_order};
 
-use ept_point::{Memory, Point};
+use ept_point::{Memory, Point, PointId};
 use std::alloc::Global;
 use std::marker::Model;
 
@@ -70,6 +70,18 @@ impl Lane {
         ensures small { result < 288230376151711744 }
     {
         self.points.as_slice().len()
+    }
+
+    // Appends the points with their ids.
+    fn append_ids<'a>(&'a self, out: &mut Vec<(PointId, &'a Point)>) -> Result<(), Memory>
+        ensures { OnOk result (map (λ e. e.1.now) out.new.items ≡ map (λ e. e.1.now) out.old.items ++ self.now.points) }
+    {
+        let points = self.points.as_slice();
+        out.reserve(points.len())?;
+        for point in points {
+            out.push_reserved((point.id(), point));
+        }
+        Ok(())
     }
 
     // Puts the points in id order, in place.
@@ -211,6 +223,19 @@ impl Outgoing {
     {
         for lane in self.lanes.iter() {
             out.extend_from_slice(lane.as_slice())?;
+        }
+        Ok(())
+    }
+
+    /// Appends the points with their ids, octant by octant.
+    pub(crate) fn append_ids<'a>(
+        &'a self,
+        out: &mut Vec<(PointId, &'a Point)>,
+    ) -> Result<(), Memory>
+        ensures { OnOk result (map (λ e. e.1.now) out.new.items ≡ map (λ e. e.1.now) out.old.items ++ all_points self.now) }
+    {
+        for lane in self.lanes.iter() {
+            lane.append_ids(out)?;
         }
         Ok(())
     }

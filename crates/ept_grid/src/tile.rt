@@ -15,9 +15,10 @@ ghost use Rattle.ept_grid.specs.Contents.{contents, opens_with, IsFilled, IsNode
 ghost use Rattle.ept_grid.specs.Tile.{is_open_loser, IsFirstOutside, IsTile, IsTileFault};
 
 use crate::error::GridError;
+use crate::lists::Lists;
 use crate::lookup::is_no_winner;
 use crate::losing::is_too_many;
-use crate::making::make_cells;
+use crate::making::{emptied, make_cells};
 use crate::octants::{OCTANTS, is_open, octant_of};
 use crate::outgoing::Outgoing;
 use crate::pool::Cell;
@@ -25,7 +26,6 @@ use crate::settling::settle;
 use ept_point::{Memory, Point};
 use ept_sample::place_of;
 use ept_space::{Key, Rules, contains, node_box};
-use std::alloc::Global;
 
 /// The points of a node as it keeps them.
 #[derive(Debug, Drop)]
@@ -37,7 +37,7 @@ pub(crate) struct Kept {
 
 /// The points of a node of these points and open octants, or the first cause why they are none.
 pub(crate) fn node_of_tile(
-    alloc: Global,
+    lists: Lists,
     key: &Key,
     rules: &Rules,
     mask: u8,
@@ -54,7 +54,7 @@ pub(crate) fn node_of_tile(
     if let Some(at) = first_outside(key, rules, points) {
         return Err(GridError::Outside { at: at as u64 });
     }
-    let kept = settle_all(alloc, key, rules, points)?;
+    let kept = settle_all(lists, key, rules, points)?;
     if let Some(at) = first_open_loser(key, rules, mask, &kept, points) {
         return Err(GridError::OpenLoser { at: at as u64 });
     }
@@ -97,17 +97,23 @@ pub(crate) fn is_inside(key: &Key, rules: &Rules, point: &Point) -> bool
 }
 
 // The points settled one by one, with no octant open.
-fn settle_all(alloc: Global, key: &Key, rules: &Rules, points: &[Point]) -> Result<Kept, Memory>
+fn settle_all(lists: Lists, key: &Key, rules: &Rules, points: &[Point]) -> Result<Kept, Memory>
     requires low { key.now.depth ≤ rules.now.cube.depth }
     requires inside { AllInBox rules.now.cube key.now points.now }
     ensures filled { IfOk result (λ kept.
         IsFilled key.now rules.now kept.heads.items kept.cells.items (vec_capacity kept.cells) kept.losers points.now) }
 {
-    let losers = Outgoing::new(alloc);
+    let Lists {
+        mut heads,
+        mut cells,
+        mut losers,
+    } = lists;
+    emptied(rules, &mut heads, &mut cells)?;
+    losers.clear();
     losers.known();
     let mut kept = Kept {
-        heads: Vec::new(alloc),
-        cells: Vec::new(alloc),
+        heads,
+        cells,
         losers,
     };
     make_cells(rules, &mut kept.heads, &mut kept.cells, points.len())?;

@@ -16,6 +16,7 @@ ghost use Rattle.ept_node.specs.Damage.{IsDamaged, IsWrongAt};
 use crate::body::boxed;
 use crate::error::NodeError;
 use crate::site::{Filed, Site};
+use crate::workspace::Workspace;
 use ept_base::{PutError, SpillFile};
 use ept_grid::{Grid, GridError};
 use ept_point::{
@@ -27,6 +28,7 @@ use std::alloc::Global;
 /// Puts the points of a node into a file, as the bytes of its tile. It answers what stays in memory.
 pub(crate) fn keep_grid<F: SpillFile>(
     alloc: Global,
+    workspace: &mut Workspace,
     file: &mut F,
     grid: &Grid,
 ) -> Result<Box<Filed>, NodeError>
@@ -41,27 +43,35 @@ pub(crate) fn keep_grid<F: SpillFile>(
     ensures at_most_once { (F.keeps file.new ≡ counts_on (F.keeps file.old) 1) ⊎ (F.keeps file.new ≡ F.keeps file.old) }
     ensures cause { HasCauseOf SpillFault (F.faults file.old) (F.faults file.new) result }
 {
-    let (filed, bytes) = pack_grid(alloc, grid)?;
+    let (filed, bytes) = pack_grid(alloc, workspace, grid)?;
     grid.known();
     match file.keep(bytes.as_slice()) {
-        Ok(()) => Ok(filed),
+        Ok(()) => {
+            workspace.keep_bytes(bytes);
+            Ok(filed)
+        }
         Err(PutError::Failed) => Err(NodeError::SpillFault),
         Err(PutError::Memory) => Err(NodeError::Memory),
     }
 }
 
 // What stays in memory of a node whose points go to its file, and the bytes that go there: its tile.
-fn pack_grid(alloc: Global, grid: &Grid) -> Result<(Box<Filed>, Vec<u8>), NodeError>
+fn pack_grid(
+    alloc: Global,
+    workspace: &mut Workspace,
+    grid: &Grid,
+) -> Result<(Box<Filed>, Vec<u8>), NodeError>
     ensures label { IfOk result (λ made. IsLabelOf grid.now made.0.value) }
     ensures bytes { IfOk result (λ made. made.1.items ≡ tile grid.now.points) }
     ensures in_order { IsInIdOrder grid.now.points }
     ensures only { IfErr result (λ e. e ≡ Memory) }
 {
-    let mut points = Vec::new(alloc);
+    let mut points = workspace.take_points(alloc);
     grid.points_into(&mut points)?;
-    let mut bytes = Vec::new(alloc);
+    let mut bytes = workspace.take_bytes(alloc);
     tile_bytes(points.as_slice(), &mut bytes)?;
     let filed = label(grid, points.len() as u64, bytes.as_slice());
+    workspace.keep_points(points);
     Ok((Box::new(alloc, filed)?, bytes))
 }
 
@@ -89,6 +99,7 @@ fn label(grid: &Grid, count: u64, bytes: &[u8]) -> Filed
 /// The node whose points a file gives back. The file holds what it held.
 pub(crate) fn load_grid<F: SpillFile>(
     alloc: Global,
+    workspace: &mut Workspace,
     file: &mut F,
     filed: &Filed,
 ) -> Result<Box<Grid>, NodeError>
@@ -108,8 +119,9 @@ pub(crate) fn load_grid<F: SpillFile>(
     tile_length_law();
     tile_once_law();
     filed.known();
-    let bytes = load_bytes(alloc, file, filed)?;
-    let grid = grid_of_bytes(alloc, filed, bytes.as_slice())?;
+    let bytes = load_bytes(alloc, workspace, file, filed)?;
+    let grid = grid_of_bytes(alloc, workspace, filed, bytes.as_slice())?;
+    workspace.keep_bytes(bytes);
     Ok(boxed(alloc, grid)?)
 }
 
@@ -129,6 +141,7 @@ pub(crate) fn append(grid: &Grid, out: &mut Vec<Point>) -> Result<(), NodeError>
 // The bytes of a node's tile, as many as the file has kept.
 fn load_bytes<F: SpillFile>(
     alloc: Global,
+    workspace: &mut Workspace,
     file: &mut F,
     filed: &Filed,
 ) -> Result<Vec<u8>, NodeError>
@@ -143,7 +156,8 @@ fn load_bytes<F: SpillFile>(
 {
     layout_law();
     let kept = PACKED_LENGTH * filed.count as usize;
-    let mut bytes = vec![in alloc; 0u8; kept]?;
+    let mut bytes = workspace.take_bytes(alloc);
+    bytes.resize(kept, 0)?;
     let found = file.load(bytes.as_mut_slice())?;
     if found != kept {
         return Err(NodeError::SpillDamaged {
@@ -156,7 +170,12 @@ fn load_bytes<F: SpillFile>(
 }
 
 // The node of a key, count and open octants whose tile these bytes are.
-fn grid_of_bytes(alloc: Global, filed: &Filed, bytes: &[u8]) -> Result<Grid, NodeError>
+fn grid_of_bytes(
+    alloc: Global,
+    workspace: &mut Workspace,
+    filed: &Filed,
+    bytes: &[u8],
+) -> Result<Grid, NodeError>
     requires { length bytes.now ≡ packed_width * filed.now.count }
     ensures fits { IfOk result (FitsLabel filed.now) }
     ensures bytes { IfOk result (λ grid. bytes.now ≡ tile grid.points) }
@@ -166,7 +185,7 @@ fn grid_of_bytes(alloc: Global, filed: &Filed, bytes: &[u8]) -> Result<Grid, Nod
     ensures only { IfErr result (λ e. e ≢ SpillFault) }
 {
     tile_length_law();
-    let mut points = Vec::new(alloc);
+    let mut points = workspace.take_points(alloc);
     match read_tile(bytes, &mut points) {
         Ok(()) => {}
         Err(TileError::Length) => unreachable!(),
@@ -175,8 +194,12 @@ fn grid_of_bytes(alloc: Global, filed: &Filed, bytes: &[u8]) -> Result<Grid, Nod
         Err(TileError::Memory) => return Err(NodeError::Memory),
     }
     let site = &filed.site;
-    match Grid::from_tile(alloc, site.key, &site.rules, filed.mask, points.as_slice()) {
-        Ok(grid) => Ok(grid),
+    let lists = workspace.take_lists(alloc);
+    match Grid::from_tile(lists, site.key, &site.rules, filed.mask, points.as_slice()) {
+        Ok(grid) => {
+            workspace.keep_points(points);
+            Ok(grid)
+        }
         Err(GridError::Outside { at }) => Err(damaged_at(filed, at)),
         Err(GridError::OpenLoser { at }) => Err(damaged_at(filed, at)),
         Err(GridError::TooMany { octant: _octant }) => Err(damaged_at(filed, filed.count)),

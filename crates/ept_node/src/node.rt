@@ -23,7 +23,7 @@ use crate::error::NodeError;
 use crate::site::Site;
 use crate::state::NodeState;
 use ept_base::SpillFile;
-use ept_grid::{Grid, GridError, Outgoing};
+use ept_grid::{Grid, GridError, Lists, Outgoing};
 use ept_point::{Memory, Point};
 use ept_space::{Key, Rules};
 use std::alloc::Global;
@@ -226,7 +226,7 @@ impl<F: SpillFile> Node<F> {
             → seen (node_of F.held self.new) ≡ resumed_node (node_of F.held self.old).rules all true (node_of F.held self.old).key) }
     {
         let rules = self.rules();
-        let grid = Grid::from_tile(alloc, self.key(), &rules, mask, points)?;
+        let grid = Grid::from_tile(Lists::new(alloc), self.key(), &rules, mask, points)?;
         self.body = Body::Resident(boxed(alloc, grid)?);
         Ok(())
     }

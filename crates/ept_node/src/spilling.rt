@@ -19,6 +19,7 @@ use crate::body::Body;
 use crate::error::NodeError;
 use crate::filing::{append, keep_grid, load_grid};
 use crate::node::Node;
+use crate::workspace::Workspace;
 use ept_base::SpillFile;
 use ept_point::Point;
 use std::alloc::Global;
@@ -26,13 +27,13 @@ use std::mem::replace;
 
 impl<F: SpillFile> Node<F> {
     /// Puts the points of a resident node into its spill file, as the bytes of its tile. Its key, its rules, its
-    /// count, its open octants and its children stay in memory.
+    /// count, its open octants and its children stay in memory. The room that the points had stays with the workspace.
     ///
     /// # Errors
     ///
     /// `SpillFault` where the file fails: the node is broken then, and its points stay in memory. After `Memory` the node is
     /// as it was, and the file holds what it held.
-    pub fn spill(&mut self, alloc: Global) -> Result<(), NodeError>
+    pub fn spill(&mut self, alloc: Global, workspace: &mut Workspace) -> Result<(), NodeError>
         requires { state_of self.old ≡ Resident }
         ensures ok { OnOk result (state_of self.new ≡ Spilled) }
 
@@ -67,9 +68,11 @@ impl<F: SpillFile> Node<F> {
         let Body::Resident(grid) = &self.body else {
             unreachable!()
         };
-        match keep_grid(alloc, &mut self.file, grid) {
+        match keep_grid(alloc, workspace, &mut self.file, grid) {
             Ok(filed) => {
+                let body = replace(&mut self.body, Body::Blank);
                 self.body = Body::Spilled(filed);
+                keep_room(workspace, body);
                 Ok(())
             }
             Err(NodeError::SpillFault) => {
@@ -98,13 +101,13 @@ impl<F: SpillFile> Node<F> {
         };
     }
 
-    /// Brings the points of a spilled node back into memory. The file holds what it held.
+    /// Brings the points of a spilled node back into memory, into the room that the workspace has. The file holds what it held.
     ///
     /// # Errors
     ///
     /// `SpillFault` where the file fails, and `SpillDamaged` where it gives back other bytes than those of a tile that fits the
     /// node: the node is broken then. After `Memory` the node is as it was.
-    pub fn reload(&mut self, alloc: Global) -> Result<(), NodeError>
+    pub fn reload(&mut self, alloc: Global, workspace: &mut Workspace) -> Result<(), NodeError>
         requires { state_of self.old ≡ Spilled }
         ensures ok { OnOk result (state_of self.new ≡ Resident) }
 
@@ -139,7 +142,7 @@ impl<F: SpillFile> Node<F> {
         let Body::Spilled(filed) = &self.body else {
             unreachable!()
         };
-        match load_grid(alloc, &mut self.file, filed) {
+        match load_grid(alloc, workspace, &mut self.file, filed) {
             Ok(grid) => {
                 self.body = Body::Resident(grid);
                 Ok(())
@@ -150,6 +153,7 @@ impl<F: SpillFile> Node<F> {
             }
         }
     }
+
     // Breaks a node whose points are in its file, unless they did not come for want of memory.
     fn give_up_loading(&mut self, why: NodeError)
         requires { state_of self.old ≡ Spilled }
@@ -215,7 +219,8 @@ impl<F: SpillFile> Node<F> {
             Body::Resident(grid) => append(grid, out),
             Body::Spilled(filed) => {
                 filed.known();
-                match load_grid(alloc, &mut self.file, filed) {
+                let mut workspace = Workspace::new(alloc);
+                match load_grid(alloc, &mut workspace, &mut self.file, filed) {
                     Ok(grid) => append(&grid, out),
                     Err(why) => {
                         self.give_up_loading(why);
@@ -225,5 +230,12 @@ impl<F: SpillFile> Node<F> {
             }
             _ => unreachable!(),
         }
+    }
+}
+
+// Keeps the room of points that have gone to their file.
+fn keep_room(workspace: &mut Workspace, body: Body) {
+    if let Body::Resident(grid) = body {
+        workspace.keep_lists(Box::into_inner(grid));
     }
 }

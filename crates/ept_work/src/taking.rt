@@ -17,7 +17,7 @@ use crate::error::WorkError;
 use crate::visit::{Visit, node_in, permit_back};
 use crate::worker::Worker;
 use ept_base::{Source, SpillFile};
-use ept_node::{Node, NodeError, NodeState};
+use ept_node::{Node, NodeError, NodeState, Workspace};
 use ept_space::{Key, Rules};
 use ept_table::{Done, Item, NodeTable, Scan};
 use std::alloc::Global;
@@ -108,7 +108,14 @@ impl<F: SpillFile, S: Source> Worker<F, S> {
         }
         let has_permit = self.permit_for(rt, alloc, table, slot)?;
         let node = node_in(table.take(rt, &mut self.seat, slot));
-        match readied::<F, J>(alloc, node, key, table.rules(), has_permit) {
+        match readied::<F, J>(
+            alloc,
+            &mut self.workspace,
+            node,
+            key,
+            table.rules(),
+            has_permit,
+        ) {
             Ok(ready) => {
                 let Ready {
                     node,
@@ -162,6 +169,7 @@ impl<F: SpillFile, S: Source> Worker<F, S> {
 // file. The latter two want a permit. Or the node stays where it is.
 fn readied<F: SpillFile, J: Scan>(
     alloc: Global,
+    workspace: &mut Workspace,
     mut node: Node<F>,
     key: Key,
     rules: &Rules,
@@ -206,7 +214,7 @@ fn readied<F: SpillFile, J: Scan>(
             })
         }
         NodeState::Spilled => Ok(Ready {
-            node: reloaded::<F, J>(alloc, node)?,
+            node: reloaded::<F, J>(alloc, workspace, node)?,
             was_blank: false,
             spends: true,
         }),
@@ -214,7 +222,11 @@ fn readied<F: SpillFile, J: Scan>(
 }
 
 // A node with its points back from its file. Or it stays there.
-fn reloaded<F: SpillFile, J: Scan>(alloc: Global, mut node: Node<F>) -> Result<Node<F>, Stays<F>>
+fn reloaded<F: SpillFile, J: Scan>(
+    alloc: Global,
+    workspace: &mut Workspace,
+    mut node: Node<F>,
+) -> Result<Node<F>, Stays<F>>
     requires spilled { state_of node ≡ Spilled }
     requires filed { IsFiledNode F.held F.faults F.keeps J.told node }
     requires different { J.told.tells ≡ true → HasDistinctIds (node_of F.held node).points }
@@ -226,7 +238,7 @@ fn reloaded<F: SpillFile, J: Scan>(alloc: Global, mut node: Node<F>) -> Result<N
     ensures here { IfErr result (λ it. is_here it.node ≡ false) }
     ensures why { IfErr result (λ it. it.why ≢ None) }
 {
-    match node.reload(alloc) {
+    match node.reload(alloc, workspace) {
         Ok(()) => {
             node.known();
             Ok(node)

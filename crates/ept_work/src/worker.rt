@@ -24,6 +24,7 @@ use crate::victims::Victims;
 use ept_base::{Source, SpillFile};
 use ept_core::Flight;
 use ept_grid::Outgoing;
+use ept_node::Workspace;
 use ept_point::{List, Point};
 use ept_scan::{ReadError, Reader};
 use ept_space::Key;
@@ -46,6 +47,8 @@ pub struct Worker<F, S> {
     // The points that leave a node while a flight arrives at it, and the flights in which they go on.
     pub(crate) out: Outgoing,
     pub(crate) fresh: Vec<Carried>,
+    // What nodes use again on their way into their files and back.
+    pub(crate) workspace: Workspace,
     // The nodes that go to their files next, and whether one had to.
     pub(crate) victims: Victims,
     pub(crate) is_short: bool,
@@ -71,6 +74,7 @@ impl<F: SpillFile, S: Source> Worker<F, S> {
             number,
             out: Outgoing::new(alloc),
             fresh: Vec::new(alloc),
+            workspace: Workspace::new(alloc),
             victims: Victims::new(alloc),
             is_short: false,
             here: 0,
@@ -87,6 +91,7 @@ impl<F: SpillFile, S: Source> Worker<F, S> {
             number: _number,
             out: _out,
             fresh: _fresh,
+            workspace: _workspace,
             victims: _victims,
             is_short: _is_short,
             here: _here,

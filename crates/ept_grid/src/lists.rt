@@ -1,0 +1,25 @@
+//! The lists of a node that has left memory.
+
+use crate::outgoing::Outgoing;
+use crate::pool::Cell;
+use std::alloc::Global;
+
+/// The lists of a node that has left memory. The node that comes next is made in them, and asks for memory only where their
+/// room does not do.
+#[derive(Debug, Drop)]
+pub struct Lists {
+    pub(crate) heads: Vec<u32>,
+    pub(crate) cells: Vec<Cell>,
+    pub(crate) losers: Outgoing,
+}
+
+impl Lists {
+    /// Lists without room. They take no memory.
+    pub fn new(alloc: Global) -> Lists {
+        Lists {
+            heads: Vec::new(alloc),
+            cells: Vec::new(alloc),
+            losers: Outgoing::new(alloc),
+        }
+    }
+}
