@@ -25,6 +25,10 @@ EmptyIsSound = (shelf : Files) → IsSound shelf no_files
 abbrev pub CurrentIsOne : Type 0
 CurrentIsOne = (files : Files) (a b : Current) → HasCurrent a files → HasCurrent b files → a ≡ b
 
+-- where there is a current checkpoint, or none for want of any, no checkpoint is bad
+abbrev pub CurrentIsNotBad : Type 0
+CurrentIsNotBad = (current : Current) (files : Files) (letter : Letter) → HasCurrent current files → ¬ IsBad files letter
+
 -- sound files have no bad checkpoint
 abbrev pub SoundHasNoBad : Type 0
 SoundHasNoBad = (shelf files : Files) (letter : Letter) → IsSound shelf files → ¬ IsBad files letter
