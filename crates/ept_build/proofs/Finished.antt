@@ -27,7 +27,8 @@ use Rattle.ept_save.proofs.Keeping.{has_current-same}
 use Rattle.ept_save.proofs.SoundFiles.{sound-at}
 use Rattle.ept_save.proofs.Standing.{settled_some, same_twice}
 use Rattle.ept_plan.specs.declared.plan.Plan.{Plan}
-use Rattle.ept_plan.specs.Plans.{IsPlan, IsOf, ScansAll, inputs_by, inserted_by}
+use Rattle.ept_plan.specs.Plans.{IsPlan, IsOf, ScansAll, GoesOn, bounds_or, limits_by, inputs_by, inserted_by}
+use Rattle.ept_plan.proofs.Fields.{same-kept}
 use Rattle.ept_build.specs.declared.summary.Summary.{Summary}
 use Rattle.ept_build.specs.Building.{Starts, IsBuilt, IsUnderWay, HasTooManyAlready, IsStopped, IsDoneAlready}
 use Rattle.ept_build.specs.Phases.{HasAll}
@@ -157,6 +158,28 @@ done-all one published all start config current plan is has sound done = record 
         let of : IsOf plan (Some (letter, c)) = is_it.same all_in in
         let number : length pub_it.0 ≡ total c.counts = kept-number all c.kept c.counts pub_it.0 pub_it.2 in
         pub_it.4.inserted ∙ (number ∙ (ap total of.1 ∙ sym is_it.points_are))
+
+-- the inputs of a finished folder have points, within the bounds that it keeps
+pub done-scan : CurrentIsOne → DoneIsPublished → (all start : Files) (config : Config) (current : Current) → HasCurrent current start → IsSound all start → IsDoneAlready config start → GoesOn config current × ((points : List Point) × (done : ScanDone) × IsScan all config.scale (limits_by config.bounds current) config.inputs 0 points done)
+done-scan one published all start config current has sound done =
+    (goes, at current goes no_more (published all start current has sound done.done))
+  where
+    same : done.current ≡ current
+    same = one start done.current current done.has_current has
+
+    goes : GoesOn config current
+    goes = subst (λ (w : Current). GoesOn config w) same done.goes_on
+
+    no_more : inputs_by current ≡ length config.inputs
+    no_more = ap inputs_by (sym same) ∙ done.no_more
+
+    at : (it : Current) → GoesOn config it → inputs_by it ≡ length config.inputs → IsPublished all it start → (points : List Point) × (found : ScanDone) × IsScan all config.scale (limits_by config.bounds it) config.inputs 0 points found
+    at None on number of = absurd of
+    at (Some (letter, c)) (given, is, on) number of =
+        let kept_is : IsKeptOf config (bounds_or config.bounds c.kept.bounds) c.kept = subst (λ (k : Kept). IsKeptOf config (bounds_or config.bounds c.kept.bounds) k) (same-kept config c.kept given is on (number ∙ ap (λ (w : List Input). length w) (sym is.inputs_is))) is in
+        let found : ScanDone = record { counts = c.counts; bounds = c.kept.bounds } in
+        let scan : IsScan all config.scale (Some c.kept.bounds) c.kept.inputs 0 of.0 found = subst (λ (k : ℕ). IsScan all k (Some c.kept.bounds) c.kept.inputs 0 of.0 found) kept_is.scale_is of.2 in
+        (of.0, found, subst (λ (w : List Input). IsScan all config.scale (Some c.kept.bounds) w 0 of.0 found) kept_is.inputs_is scan)
 
 -- where it has all points of all inputs and the done gate is open, nothing is to be done
 pub already-done : (config : Config) (start : Files) (current : Current) (plan : Plan) → IsPlan config current plan → HasCurrent current start → HasAll plan current → IsDone start → IsDoneAlready config start

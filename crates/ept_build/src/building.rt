@@ -1,6 +1,7 @@
 //! A build.
 
-ghost use Rattle.std.specs.Prelude.{◌≡◌, ◌⊎◌, ◌≤◌, ◌<◌, ◌+◌, ℕ, take, true, false, Some, Ok, Err, IsOk, IfOk, IfErr, OnOk, length};
+ghost use Rattle.std.specs.Prelude.{◌≡◌, ◌⊎◌, ◌≤◌, ◌<◌, ◌+◌, ℕ, take, true, false, Some, Ok, Err, IsOk, IfOk, IfErr, OnOk, Vec, length};
+ghost use Rattle.std.specs.declared.alloc.Global as allocators;
 ghost use Rattle.ept_base.specs.Causes.{HasCauseOf};
 ghost use Rattle.ept_base.specs.Files.{Files, SameFiles, Tells};
 ghost use Rattle.ept_base.specs.Moves.{Moves, IsSettled};
@@ -15,7 +16,8 @@ ghost use Rattle.ept_save.specs.Done.{IsDone};
 ghost use Rattle.ept_save.specs.Loading.{HasLine, IsDamaged};
 ghost use Rattle.ept_save.specs.Opening.{lines_of, IsBad};
 ghost use Rattle.ept_save.specs.View.{StandsFor};
-ghost use Rattle.ept_plan.specs.Plans.{IsPlan, IsDefinite, GoesOn};
+ghost use Rattle.ept_meta.specs.declared.fields.Field.{Field};
+ghost use Rattle.ept_plan.specs.Plans.{IsPlan, IsDefinite, GoesOn, DiffersBy};
 ghost use Rattle.ept_few.specs.Few.{TilesAreFew};
 ghost use Rattle.ept_build.specs.Building.{BeginsWith, Starts, InputsAreRefused, HasTooManyNodes, HasTooManyAlready, TellsDifference, IsBuilt, IsUnderWay, IsStopped, AsksInOrder, ComesToDamage, TellsDamage, IsDoneAlready, HasKeptBut, IsAccepted, IsRefusedAt, IsRefused, IsEarly, Fails};
 ghost use Rattle.ept_build.specs.Errors.{of_scan};
@@ -97,11 +99,16 @@ where
         → IfErr result (IsRefused all config.now start) }
     ensures accepted { (all start : Files) → BeginsWith M.File.held (H.files shelf.old) (T.files store.old) (T.may_leave store.old) all start
         → IsAccepted all config.now start → IsOk result ⊎ Fails result }
+    ensures done_comes { (all start : Files) → BeginsWith M.File.held (H.files shelf.old) (T.files store.old) (T.may_leave store.old) all start
+        → IsDoneAlready config.now start → IsOk result ⊎ Fails result }
     ensures refusal_comes { (all start : Files) → BeginsWith M.File.held (H.files shelf.old) (T.files store.old) (T.may_leave store.old) all start
         → (current : Current) (e : ScanError) → HasCurrent current start → IsDefinite e
         → InputsAreRefused all config.now current e → (result ≡ Err (of_scan e)) ⊎ Fails result }
-    ensures differs_comes { (all start : Files) → BeginsWith M.File.held (H.files shelf.old) (T.files store.old) (T.may_leave store.old) all start
-        → (current : Current) → HasCurrent current start → ¬ GoesOn config.now current → TellsDifference result ⊎ Fails result }
+    ensures differs { (field : Field) (kept given : Vec ℕ allocators.Global) → result ≡ Err (BuildError.Differs field kept given)
+        → (start : Files) (current : Current) → T.files store.old ≡ Some start → HasCurrent current start
+        → DiffersBy config.now current (record { field = field; kept = kept; given = given }) }
+    ensures differs_comes { (start : Files) (current : Current) → T.files store.old ≡ Some start → HasCurrent current start
+        → ¬ GoesOn config.now current → TellsDifference result ⊎ Fails result }
     ensures too_many_comes { (all start : Files) → BeginsWith M.File.held (H.files shelf.old) (T.files store.old) (T.may_leave store.old) all start
         → (current : Current) → HasCurrent current start → GoesOn config.now current → ¬ IsDoneAlready config.now start
         → HasTooManyNodes all config.now current → (result ≡ Err BuildError.TooManyNodes) ⊎ Fails result }

@@ -10,3 +10,4 @@ pub mod Conversing
 pub mod Unanswered
 mod Undamaged
 mod Complete
+mod Answered

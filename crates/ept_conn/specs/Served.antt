@@ -1,5 +1,6 @@
 -- What is sent of a folder.
 use Rattle.std.specs.Prelude.{◌≡◌, ◌≤◌, ◌⊎◌, ℕ, List, Some, None, Contains}
+use Rattle.std.specs.List.{flat_map}
 use Rattle.ept_base.specs.Files.{Files}
 use Rattle.ept_point.specs.declared.point.Point.{Point}
 use Rattle.ept_point.specs.Packed.{tile}
@@ -12,6 +13,7 @@ use Rattle.ept_save.specs.Done.{IsDone}
 use Rattle.ept_query.specs.Planning.{IsPlanFor}
 use Rattle.ept_query.specs.Damage.{HasTile}
 use Rattle.ept_query.specs.Parts.{points_in}
+use Rattle.ept_query.specs.Rows.{answer}
 use Rattle.ept_conn.specs.Answers.{Served}
 
 -- a tile is there, and these bytes are its points in an area, packed
@@ -45,3 +47,9 @@ ShutIsServed = (files : Files) → ¬ IsDone files → (served : Served) × IsSe
 abbrev pub CompleteIsServed : Type 0
 CompleteIsServed =
     (kept : Kept) (points : List Point) (files : Files) → IsComplete kept points files → (served : Served) × IsOpenTo files served
+
+-- Of such a folder the tiles of the plan of a query, as they are sent one after another, are its answer: the packed points of
+-- the box in nodes of the depths, and nothing else.
+abbrev pub QueriesAreAnswered : Type 0
+QueriesAreAnswered =
+    (kept : Kept) (points : List Point) (files : Files) (served : Served) → IsComplete kept points files → IsServed files served → (area : Box3) (first second : ℕ) → IsOrdered area → first ≤ second → (nodes : List Node) × (served.plan area first second ≡ Some nodes) × (flat_map (served.part area) nodes ≡ answer kept points area first second)

@@ -1,6 +1,6 @@
 //! What holds of every list of calls. Each law is the contract of a function that does nothing.
 
-ghost use Rattle.ept_conn.specs.Served.{ShutIsServed, CompleteIsServed};
+ghost use Rattle.ept_conn.specs.Served.{ShutIsServed, CompleteIsServed, QueriesAreAnswered};
 ghost use Rattle.ept_conn.specs.SessionCalls.{SendsAnswers, EndsSo, ReadsAnswered, WorksUnanswered, OwesTheRest};
 ghost use Rattle.ept_conn.specs.Calls.{HoweverCut, AllAreGiven, TurnsAreThere, TurnsAreOne, JudgeGivesTurns, NextIsGiven, TurnsMayBeAsked};
 
@@ -26,7 +26,8 @@ pub fn one_list_of_turns_law()
 /// Over any list of calls of a session on one folder, what was sent and is to be sent now is what may be sent
 /// of the bytes fed: the answers to their turns, in order, as far as the session has come; and where it is at
 /// its end, what is sent at that end. There is what is sent of a folder whose done gate is not open, and of one
-/// that is complete.
+/// that is complete. Of the latter what is sent of a query's tiles, one after another, is exactly the points of its box in
+/// nodes of its depths.
 pub fn session_law()
     ensures sends { SendsAnswers }
     ensures ends { EndsSo }
@@ -35,6 +36,7 @@ pub fn session_law()
     ensures owes { OwesTheRest }
     ensures shut { ShutIsServed }
     ensures complete { CompleteIsServed }
+    ensures queries { QueriesAreAnswered }
 {
     complete_law();
 }

@@ -1,5 +1,5 @@
 mod Told
-mod Fields
+pub mod Fields
 mod Currents
 mod Scanned
 mod Judged

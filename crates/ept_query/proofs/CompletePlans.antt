@@ -1,6 +1,6 @@
 -- A folder with the whole output of some points has the plan of each query, and its tiles.
 use Rattle.std.proofs.Common.{◌≡◌, ◌∙◌, ℕ, List, [], ◌∷◌, map, filter, Bool, true, sym, ap, subst}
-use Rattle.std.specs.List.{Contains}
+use Rattle.std.specs.List.{AllZip, Contains}
 use Rattle.ept_base.specs.Files.{Files}
 use Rattle.ept_point.specs.declared.point.Point.{Point}
 use Rattle.ept_space.specs.declared.box3.Box3.{Box3}
@@ -21,13 +21,16 @@ use Rattle.ept_save.specs.Complete.{IsComplete}
 use Rattle.ept_query.specs.declared.search.Search.{Search}
 use Rattle.ept_query.specs.Search.{search_of}
 use Rattle.ept_query.specs.Damage.{HasTile}
-use Rattle.ept_query.specs.Parts.{Plan}
+use Rattle.ept_query.specs.Complete.{IsWholePlan}
+use Rattle.ept_query.specs.Parts.{Plan, IsPart, points_of}
+use Rattle.ept_query.specs.Rows.{Row, asked_rows}
 use Rattle.ept_query.specs.Plan.{IsBuiltWith, EachIsThere, IsPlanned, IsPlan}
 use Rattle.ept_query.specs.Planning.{IsPlanFor}
 use Rattle.ept_query.specs.CompleteLaws.{TileIsOfOne}
 use Rattle.ept_query.proofs.Readings.{some-is}
 use Rattle.ept_query.proofs.Laid.{IsLaid, nodes_of, node-at, at-node, each-laid, planned-laid, laid-planned, tile-laid}
-use Rattle.ept_query.proofs.Asked.{tile-once}
+use Rattle.ept_query.proofs.Asked.{tile-once, parts-whole}
+use Rattle.ept_query.proofs.Whole.{plan-tiles}
 use Rattle.ept_query.proofs.Completing.{output-laid}
 use Rattle.ept_query.proofs.Meeting.{is_so, holds, passes, asked-decided}
 
@@ -121,3 +124,13 @@ module _ (read-back : FilesAreReadBack) (can-sample : PointsCanBeSampled) (kept 
     pub has-tiles : (plan : Plan) → IsPlanFor area first last plan files → (node : Node) → Contains plan.tiles node → HasTile files node.0 node.1 (sampling (rules_of kept) points node.0)
     has-tiles plan is-for node there =
         tile-laid kept points files area first last laid node.0 node.1 (((is-for.tiles kept laid.built).each node.0 node.1).0 there)
+
+    -- ---- what they are
+
+    pub plans-whole : (plan : Plan) → IsPlanFor area first last plan files → IsWholePlan kept points area first last plan.tiles
+    plans-whole plan is-for =
+        plan-tiles read-back can-sample kept points area first last files whole plan.tiles (is-for.tiles kept laid.built)
+
+    pub plans-answer : (plan : Plan) → IsPlanFor area first last plan files → (parts : List (List Point)) → AllZip (IsPart files area) plan.tiles parts → points_of parts ≡ map (λ (row : Row). row.1) (asked_rows kept points area first last)
+    plans-answer plan is-for parts read =
+        parts-whole kept points files area first last laid plan.tiles (is-for.tiles kept laid.built) parts read

@@ -91,7 +91,7 @@ module _ (read-back : FilesAreReadBack) (can-sample : PointsCanBeSampled) (kept 
 
   -- ---- the plan
 
-  plan-tiles : (tiles : List Node) → IsPlan (search_of kept area first last) all tiles → IsWholePlan kept points area first last tiles
+  pub plan-tiles : (tiles : List Node) → IsPlan (search_of kept area first last) all tiles → IsWholePlan kept points area first last tiles
   unfolding size-at
   plan-tiles tiles plan = record {
     ascend = plan.ascend;

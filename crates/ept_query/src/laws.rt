@@ -1,15 +1,19 @@
 //! What holds of every folder that is complete. Each law is the contract of a function that does nothing.
 
-ghost use Rattle.ept_query.specs.CompleteLaws.{CompleteHasPlan, CompleteHasTiles, TileIsOfOne};
+ghost use Rattle.ept_query.specs.CompleteLaws.{CompleteHasPlan, CompleteHasTiles, PlansAreWhole, PlansAnswer, TileIsOfOne};
 
 use ept_hier::reading_law;
 use ept_meta::output_once_law;
 
 /// In a folder that is complete for some points an area and depths have their plan, and each tile of a plan
-/// is there, with the points that the sampling gives its node. A tile of any folder has one list of points.
+/// is there, with the points that the sampling gives its node. The tiles of a plan are the nodes of the sampling that are
+/// asked for, and their points in the area, one tile after another, are the answer. A tile of any folder has one list of
+/// points.
 pub fn complete_law()
     ensures plan { CompleteHasPlan }
     ensures tiles { CompleteHasTiles }
+    ensures nodes { PlansAreWhole }
+    ensures answered { PlansAnswer }
     ensures once { TileIsOfOne }
 {
     reading_law();

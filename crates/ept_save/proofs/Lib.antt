@@ -15,3 +15,4 @@ pub mod SampledTiles
 pub mod SoundTiles
 pub mod ScanCounts
 mod DoneFiles
+mod OtherShelf

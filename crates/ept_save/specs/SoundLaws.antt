@@ -1,7 +1,8 @@
 -- What holds of sound files. Each statement stands on the contract of a function of `laws`.
-use Rattle.std.specs.Prelude.{◌≡◌, ℕ, List, length, Some, None, ⊤, Contains}
+use Rattle.std.specs.Prelude.{◌≡◌, ℕ, List, length, Some, None, ⊤, Contains, slice_get}
 use Rattle.ept_base.specs.Files.{Files, SameFiles}
 use Rattle.ept_point.specs.declared.point.Point.{Point}
+use Rattle.ept_config.specs.declared.input.Input.{Input}
 use Rattle.ept_ckpt.specs.declared.letter.Letter.{Letter}
 use Rattle.ept_ckpt.specs.declared.checkpoint.Checkpoint.{Checkpoint}
 use Rattle.ept_meta.specs.Output.{File, IsOutput, names_of}
@@ -24,6 +25,10 @@ EmptyIsSound = (shelf : Files) → IsSound shelf no_files
 abbrev pub CurrentIsOne : Type 0
 CurrentIsOne = (files : Files) (a b : Current) → HasCurrent a files → HasCurrent b files → a ≡ b
 
+-- where there is a current checkpoint, or none for want of any, no checkpoint is bad
+abbrev pub CurrentIsNotBad : Type 0
+CurrentIsNotBad = (current : Current) (files : Files) (letter : Letter) → HasCurrent current files → ¬ IsBad files letter
+
 -- sound files have no bad checkpoint
 abbrev pub SoundHasNoBad : Type 0
 SoundHasNoBad = (shelf files : Files) (letter : Letter) → IsSound shelf files → ¬ IsBad files letter
@@ -43,6 +48,18 @@ KeepingKeepsSound =
 -- so soundness depends on what is read alone
 abbrev pub SameIsSound : Type 0
 SameIsSound = (shelf old new : Files) → SameFiles old new → IsSound shelf old → IsSound shelf new
+
+-- two shelves have the same files under the paths of the checkpoint's inputs
+abbrev pub HaveSameInputs : Files → Files → Current → Type 0
+HaveSameInputs one two None = ⊤
+HaveSameInputs one two (Some (letter, c)) =
+    (i : ℕ) (input : Input) → slice_get c.kept.inputs i ≡ Some input → two input.path ≡ one input.path
+
+-- and of the shelf on the inputs of the current checkpoint alone: so a folder stays sound where scans are added, or
+-- another configuration lies there
+abbrev pub InputsAreEnough : Type 0
+InputsAreEnough =
+    (one two files : Files) (current : Current) → HasCurrent current files → HaveSameInputs one two current → IsSound one files → IsSound two files
 
 -- The current checkpoint has all points inserted, and their output is all there.
 abbrev pub IsPublished : Files → Current → Files → Type 0

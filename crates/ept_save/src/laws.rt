@@ -1,27 +1,30 @@
 //! What holds of sound files, and of a store that stands for a [`Saved`]. Each law is the contract of a function that does nothing.
 
 ghost use Rattle.ept_save.specs.View.{StandsFor, IsInEachImage};
-ghost use Rattle.ept_save.specs.SoundLaws.{EmptyIsSound, CurrentIsOne, SoundHasNoBad, DoneIsComplete, KeepingKeepsSound, SameIsSound, DoneIsPublished, GuardingKeepsSound, PuttingKeepsSound, CommittingKeepsSound};
+ghost use Rattle.ept_save.specs.SoundLaws.{EmptyIsSound, CurrentIsOne, CurrentIsNotBad, SoundHasNoBad, DoneIsComplete, KeepingKeepsSound, SameIsSound, InputsAreEnough, DoneIsPublished, GuardingKeepsSound, PuttingKeepsSound, CommittingKeepsSound};
 
 use crate::saved::Saved;
 use ept_base::Store;
 use ept_meta::{output_names_law, output_once_law};
 
-/// A folder without files is sound. Sound files have one current checkpoint and no bad one, and are complete
-/// where their done gate is open.
+/// A folder without files is sound. Files have one current checkpoint, and no bad one where they have that. Sound files have
+/// one, and are complete where their done gate is open.
 pub fn sound_law()
     ensures empty { EmptyIsSound }
     ensures one { CurrentIsOne }
+    ensures not_bad { CurrentIsNotBad }
     ensures none_bad { SoundHasNoBad }
     ensures complete { DoneIsComplete }
     ensures published { DoneIsPublished }
 {}
 
-/// Sound files stay sound where what is current is kept, where the done gate is closed or opened with the
+/// Sound files stay sound where what is current is kept, whatever else becomes of the shelf than the inputs of the current
+/// checkpoint, where the done gate is closed or opened with the
 /// output all there, where files of the output change behind a closed done gate, and where the next
 /// checkpoint is committed with its tiles.
 pub fn sound_steps_law()
     ensures same { SameIsSound }
+    ensures shelf { InputsAreEnough }
     ensures keeping { KeepingKeepsSound }
     ensures guarding { GuardingKeepsSound }
     ensures putting { PuttingKeepsSound }

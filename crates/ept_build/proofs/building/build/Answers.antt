@@ -32,7 +32,7 @@ use Rattle.ept_build.proofs.Asking.{opens-front, asked-none, asked-scan, asked-r
 use Rattle.ept_build.proofs.Ground.{has-counts}
 use Rattle.ept_build.proofs.Moved.{moves-then, moves-wider}
 use Rattle.ept_build.proofs.UnderWay.{early-moves}
-use Rattle.ept_build.proofs.Finished.{finished-built, built-from, under-way-from, stops-from, starts-again, done-all, already-done}
+use Rattle.ept_build.proofs.Finished.{finished-built, built-from, under-way-from, stops-from, starts-again, done-all, done-scan, already-done}
 use Rattle.ept_build.proofs.Spilled.{kept-but}
 use Rattle.ept_build.proofs.building.build.Goals as goal
 
@@ -63,6 +63,15 @@ returns-in_err-plan-clause-accepted g c = λ all start begins acc.
     (comes acc.points acc.has_points.done (subst (λ (w : Current). GoesOn c.args.config.now w) same acc.goes_on)
     (subst (λ (w : Current). IsScan all c.args.config.now.scale (limits_by c.args.config.now.bounds w) c.args.config.now.inputs 0 acc.points acc.has_points.done) same acc.has_points.scan))
 
+pub returns-in_err-plan-clause-done_comes : goal.returns-in_err-plan-clause-done_comes
+returns-in_err-plan-clause-done_comes g c = λ all start begins done.
+    let cur = told_some (HasCurrent c.in_ok-saved.saved.current) (g.T.Store.files c.args.store.now) start begins.told c.in_ok-saved.ensures.current in
+    let e = c.in_err-plan.field-0.0 in
+    let is : c.from_residual-in_err-plan.result ≡ Err (of_plan e) = search rules in
+    let scan = done-scan c.sound_law.ensures.one c.sound_law.ensures.published all start c.args.config.now c.in_ok-saved.saved.current cur begins.sound done in
+    let comes = tells-some _ (g.H.Shelf.files c.args.shelf.now) all begins.shelf_told c.in_err-plan.ensures.accepted in
+    plan-accepted c.from_residual-in_err-plan.result e is (comes scan.1 scan.2 scan.0 scan.3)
+
 pub returns-in_err-is_finished-clause-sound : goal.returns-in_err-is_finished-clause-sound
 returns-in_err-is_finished-clause-sound g c = λ all start begins.
     early-moves c.sound_steps_law.ensures.same c.sound_law.ensures.published c.sound_steps_law.ensures.guarding all c.args.config.now start g.T.Store.files g.T.Store.may_leave g.T.Store.moment g.T.Store.image_since c.args.store.now c.is_finished.new.store begins.told begins.settled begins.sound (same_twice g.T.Store.files g.T.Store.may_leave g.T.Store.moment g.T.Store.image_since c.args.store.now c.open.new.store c.is_finished.new.store c.open.ensures.any_moment c.is_finished.ensures.any_moment)
@@ -91,6 +100,12 @@ returns-in_err-is_finished-clause-accepted g c = λ all start begins acc.
     let is : c.from_residual-in_err-is_finished.result ≡ Err c.in_err-is_finished.field-0.0 = p.1 ∙ ap (λ (w : BuildError). Err w) p.2 in
     inr (stores-fails c.from_residual-in_err-is_finished.result c.in_err-is_finished.field-0.0 is c.in_err-is_finished.ensures.only)
 
+pub returns-in_err-is_finished-clause-done_comes : goal.returns-in_err-is_finished-clause-done_comes
+returns-in_err-is_finished-clause-done_comes g c = λ all start begins done.
+    let p = err_from_is_err_and c.from_residual-in_err-is_finished.result c.from_residual-in_err-is_finished.ensures.1 in
+    let is : c.from_residual-in_err-is_finished.result ≡ Err c.in_err-is_finished.field-0.0 = p.1 ∙ ap (λ (w : BuildError). Err w) p.2 in
+    inr (stores-fails c.from_residual-in_err-is_finished.result c.in_err-is_finished.field-0.0 is c.in_err-is_finished.ensures.only)
+
 pub returns-in_err-sync-clause-sound : goal.returns-in_err-sync-clause-sound
 returns-in_err-sync-clause-sound g c = λ all start begins.
     early-moves c.sound_steps_law.ensures.same c.sound_law.ensures.published c.sound_steps_law.ensures.guarding all c.args.config.now start g.T.Store.files g.T.Store.may_leave g.T.Store.moment g.T.Store.image_since c.args.store.now c.sync.new.self begins.told begins.settled begins.sound (same_twice g.T.Store.files g.T.Store.may_leave g.T.Store.moment g.T.Store.image_since c.args.store.now c.is_finished.new.store c.sync.new.self (same_twice g.T.Store.files g.T.Store.may_leave g.T.Store.moment g.T.Store.image_since c.args.store.now c.open.new.store c.is_finished.new.store c.open.ensures.any_moment c.is_finished.ensures.any_moment) (moves_once g.T.Store.files g.T.Store.may_leave g.T.Store.moment g.T.Store.image_since SameFiles c.is_finished.new.store c.sync.new.self c.sync.ensures.reads (λ image is. (image, c.sync.ensures.images image is, λ name. refl)) c.sync.ensures.time))
@@ -115,6 +130,12 @@ returns-in_err-sync-clause-refused g c = λ all start begins.
 
 pub returns-in_err-sync-clause-accepted : goal.returns-in_err-sync-clause-accepted
 returns-in_err-sync-clause-accepted g c = λ all start begins acc.
+    let p = err_from_is_err_and c.from_residual-in_err-sync.result c.from_residual-in_err-sync.ensures.1 in
+    let is : c.from_residual-in_err-sync.result ≡ Err (of_put c.in_err-sync.field-0.0) = p.1 ∙ ap (λ (w : BuildError). Err w) p.2 in
+    inr (stores-fails c.from_residual-in_err-sync.result (of_put c.in_err-sync.field-0.0) is (put-store c.in_err-sync.field-0.0))
+
+pub returns-in_err-sync-clause-done_comes : goal.returns-in_err-sync-clause-done_comes
+returns-in_err-sync-clause-done_comes g c = λ all start begins done.
     let p = err_from_is_err_and c.from_residual-in_err-sync.result c.from_residual-in_err-sync.ensures.1 in
     let is : c.from_residual-in_err-sync.result ≡ Err (of_put c.in_err-sync.field-0.0) = p.1 ∙ ap (λ (w : BuildError). Err w) p.2 in
     inr (stores-fails c.from_residual-in_err-sync.result (of_put c.in_err-sync.field-0.0) is (put-store c.in_err-sync.field-0.0))
@@ -180,6 +201,14 @@ returns-clause-done_already g c = λ all start begins done.
     let undone = told_some (λ f. ¬ IsDone f) (g.T.Store.files c.open.new.store) at_one.0 at_one.1 (c.in_ok-is_finished.ensures.not (ap (λ (b : Bool). Ok b) c.if-branch.false) has) in
     absurd (undone (at_one.2 done_name ∙ done.done))
 
+pub returns-clause-done_comes : goal.returns-clause-done_comes
+returns-clause-done_comes g c = λ all start begins done.
+    let cur = told_some (HasCurrent c.in_ok-saved.saved.current) (g.T.Store.files c.args.store.now) start begins.told c.in_ok-saved.ensures.current in
+    let has = done-all c.sound_law.ensures.one c.sound_law.ensures.published all start c.args.config.now c.in_ok-saved.saved.current c.in_ok-plan.plan c.in_ok-plan.ensures.plan cur begins.sound done in
+    let at_one = stepped SameFiles (g.T.Store.files c.args.store.now) (g.T.Store.files c.open.new.store) start begins.told c.open.ensures.any_moment.reads in
+    let undone = told_some (λ f. ¬ IsDone f) (g.T.Store.files c.open.new.store) at_one.0 at_one.1 (c.in_ok-is_finished.ensures.not (ap (λ (b : Bool). Ok b) c.if-branch.false) has) in
+    absurd (undone (at_one.2 done_name ∙ done.done))
+
 pub returns-clause-refused : goal.returns-clause-refused
 returns-clause-refused g c = λ all start begins.
     let cur = told_some (HasCurrent c.in_ok-saved.saved.current) (g.T.Store.files c.args.store.now) start begins.told c.in_ok-saved.ensures.current in
@@ -202,8 +231,8 @@ returns-clause-accepted g c = λ all start begins acc.
     built-accepted c.built-forest.result.1 all c.args.config.now c.in_ok-saved.saved.current c.built-forest.ensures.only (subst (λ (v : View). IfErr c.built-forest.result.1 (IsRefusedAt all c.args.config.now v.current)) c.in_ok-at.ensures.saved (c.built-forest.ensures.refused all at_two.0 told begins_at)) acc.kept acc.points (subst (λ (w : Current). HasPoints all c.args.config.now w acc.kept acc.points) same acc.has_points) acc.few
 
 pub returns-in_err-plan-clause-differs_comes : goal.returns-in_err-plan-clause-differs_comes
-returns-in_err-plan-clause-differs_comes g c = λ all start begins current has not_on.
-    let cur = told_some (HasCurrent c.in_ok-saved.saved.current) (g.T.Store.files c.args.store.now) start begins.told c.in_ok-saved.ensures.current in
+returns-in_err-plan-clause-differs_comes g c = λ start current told has not_on.
+    let cur = told_some (HasCurrent c.in_ok-saved.saved.current) (g.T.Store.files c.args.store.now) start told c.in_ok-saved.ensures.current in
     let e = c.in_err-plan.field-0.0 in
     let is : c.from_residual-in_err-plan.result ≡ Err (of_plan e) = search rules in
     let same : current ≡ c.in_ok-saved.saved.current = c.sound_law.ensures.one start current c.in_ok-saved.saved.current has cur in
@@ -411,6 +440,14 @@ pub returns-in_err-at-clause-done_already : goal.returns-in_err-at-clause-done_a
 returns-in_err-at-clause-done_already g c = λ all start begins done.
     (same_twice g.T.Store.files g.T.Store.may_leave g.T.Store.moment g.T.Store.image_since c.args.store.now c.open.new.store c.is_finished.new.store c.open.ensures.any_moment c.is_finished.ensures.any_moment)
 
+pub returns-in_err-at-clause-done_comes : goal.returns-in_err-at-clause-done_comes
+returns-in_err-at-clause-done_comes g c = λ all start begins done.
+    let cur = told_some (HasCurrent c.in_ok-saved.saved.current) (g.T.Store.files c.args.store.now) start begins.told c.in_ok-saved.ensures.current in
+    let has = done-all c.sound_law.ensures.one c.sound_law.ensures.published all start c.args.config.now c.in_ok-saved.saved.current c.in_ok-plan.plan c.in_ok-plan.ensures.plan cur begins.sound done in
+    let at_one = stepped SameFiles (g.T.Store.files c.args.store.now) (g.T.Store.files c.open.new.store) start begins.told c.open.ensures.any_moment.reads in
+    let undone = told_some (λ f. ¬ IsDone f) (g.T.Store.files c.open.new.store) at_one.0 at_one.1 (c.in_ok-is_finished.ensures.not (ap (λ (b : Bool). Ok b) c.if-branch.false) has) in
+    absurd (undone (at_one.2 done_name ∙ done.done))
+
 pub returns-in_err-at-clause-early : goal.returns-in_err-at-clause-early
 returns-in_err-at-clause-early g c =
     let p = err_from_is_err_and c.from_residual-in_err-at.result c.from_residual-in_err-at.ensures.1 in
@@ -488,8 +525,8 @@ returns-clause-refusal_comes g c = λ all start begins current e has definite re
     absurd (plan-is-ok c.in_ok-plan.plan (plan.Scan e) (comes e (subst (λ (w : Current). GoesOn c.args.config.now w) same refused.0) definite (subst (λ (w : Current). AreRefused all c.args.config.now w e) same refused.1)))
 
 pub returns-clause-differs_comes : goal.returns-clause-differs_comes
-returns-clause-differs_comes g c = λ all start begins current has not_on.
-    let cur = told_some (HasCurrent c.in_ok-saved.saved.current) (g.T.Store.files c.args.store.now) start begins.told c.in_ok-saved.ensures.current in
+returns-clause-differs_comes g c = λ start current told has not_on.
+    let cur = told_some (HasCurrent c.in_ok-saved.saved.current) (g.T.Store.files c.args.store.now) start told c.in_ok-saved.ensures.current in
     let same : c.in_ok-saved.saved.current ≡ current = c.sound_law.ensures.one start c.in_ok-saved.saved.current current cur has in
     absurd (not_on (subst (λ (w : Current). GoesOn c.args.config.now w) same c.in_ok-plan.ensures.plan.goes_on))
 

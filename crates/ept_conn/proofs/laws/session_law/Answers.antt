@@ -1,5 +1,6 @@
 use Rattle.std.proofs.Common.{◌≡◌, true, [], None, inl, refl}
 use Rattle.ept_base.specs.Causes.{Rose}
+use Rattle.ept_conn.proofs.Answered.{queries-answered}
 use Rattle.ept_conn.proofs.Complete.{complete-served}
 use Rattle.ept_conn.proofs.Histories.{sends-answers, ends-has, reads-has, owes-has}
 use Rattle.ept_conn.proofs.Unanswered.{works-unanswered}
@@ -16,5 +17,6 @@ returns c = record {
     record { file = λ name. None; plan = λ area first second. None; part = λ area node. [] },
     inl (record { done = not; file = λ name. refl; plan = λ area first second. refl }),
   );
+  queries = λ kept points files served whole. queries-answered c.complete_law.ensures.answered kept points files served whole;
   complete = complete-served c.complete_law.ensures.plan c.complete_law.ensures.tiles c.complete_law.ensures.once;
 }

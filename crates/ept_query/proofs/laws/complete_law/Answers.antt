@@ -1,4 +1,4 @@
-use Rattle.ept_query.proofs.CompletePlans.{tile-of-one, has-plan, has-tiles}
+use Rattle.ept_query.proofs.CompletePlans.{tile-of-one, has-plan, has-tiles, plans-whole, plans-answer}
 use Rattle.ept_query.proofs.laws.complete_law.Goals as goal
 
 pub returns-clause-plan : goal.returns-clause-plan
@@ -9,3 +9,9 @@ returns-clause-tiles c = λ kept points files whole area first last. has-tiles c
 
 pub returns-clause-once : goal.returns-clause-once
 returns-clause-once c = tile-of-one
+
+pub returns-clause-nodes : goal.returns-clause-nodes
+returns-clause-nodes c = λ kept points files whole area first last. plans-whole c.reading_law.ensures.files c.output_once_law.ensures.sampled kept points files whole area first last
+
+pub returns-clause-answered : goal.returns-clause-answered
+returns-clause-answered c = λ kept points files whole area first last. plans-answer c.reading_law.ensures.files c.output_once_law.ensures.sampled kept points files whole area first last

@@ -72,7 +72,7 @@ returns-in-Ok-clause-comes g c = λ all start begins r asked. subst (λ (a : Res
 
 pub returns-in-Ok-clause-differs_comes : goal.returns-in-Ok-clause-differs_comes
 returns-in-Ok-clause-differs_comes g c = λ all start begins asked. subst (λ (a : Result Summary Refusal). TellsDifference a ⊎ Fails a) (ap told_as c.in-Ok.is)
-    (differed_to g.M.File.SpillFile.held (g.H.Shelf.files c.args.shelf.now) (g.H.Shelf.files c.read_configuration.new.shelf) c.read_configuration.ensures.files c.args.path.now c.in_ok-config.config c.in_ok-config.ensures.ok (g.T.Store.files c.args.store.now) (g.T.Store.may_leave c.args.store.now) c.build.result c.build.ensures.differs_comes all start begins asked)
+    (differed_to g.M.File.SpillFile.held (g.H.Shelf.files c.args.shelf.now) (g.H.Shelf.files c.read_configuration.new.shelf) c.read_configuration.ensures.files c.args.path.now c.in_ok-config.config c.in_ok-config.ensures.ok (g.T.Store.files c.args.store.now) (g.T.Store.may_leave c.args.store.now) c.build.result (λ one begin first current has no. c.build.ensures.differs_comes begin current first.told has no) all start begins asked)
 
 pub returns-in-Ok-clause-bad_comes : goal.returns-in-Ok-clause-bad_comes
 returns-in-Ok-clause-bad_comes g c = λ all start letter told stored bad asked. subst (λ (a : Result Summary Refusal). (a ≡ Err (BadCheckpoint letter)) ⊎ Fails a) (ap told_as c.in-Ok.is)
@@ -84,7 +84,7 @@ returns-clause-comes g c = λ all start begins r asked. subst (λ (a : Result Su
 
 pub returns-clause-differs_comes : goal.returns-clause-differs_comes
 returns-clause-differs_comes g c = λ all start begins asked. subst (λ (a : Result Summary Refusal). TellsDifference a ⊎ Fails a) (ap told_as c.in-Err.is ∙ ap Err (sym c.from.ensures))
-    (differed_to g.M.File.SpillFile.held (g.H.Shelf.files c.args.shelf.now) (g.H.Shelf.files c.read_configuration.new.shelf) c.read_configuration.ensures.files c.args.path.now c.in_ok-config.config c.in_ok-config.ensures.ok (g.T.Store.files c.args.store.now) (g.T.Store.may_leave c.args.store.now) c.build.result c.build.ensures.differs_comes all start begins asked)
+    (differed_to g.M.File.SpillFile.held (g.H.Shelf.files c.args.shelf.now) (g.H.Shelf.files c.read_configuration.new.shelf) c.read_configuration.ensures.files c.args.path.now c.in_ok-config.config c.in_ok-config.ensures.ok (g.T.Store.files c.args.store.now) (g.T.Store.may_leave c.args.store.now) c.build.result (λ one begin first current has no. c.build.ensures.differs_comes begin current first.told has no) all start begins asked)
 
 pub returns-clause-bad_comes : goal.returns-clause-bad_comes
 returns-clause-bad_comes g c = λ all start letter told stored bad asked. subst (λ (a : Result Summary Refusal). (a ≡ Err (BadCheckpoint letter)) ⊎ Fails a) (ap told_as c.in-Err.is ∙ ap Err (sym c.from.ensures))

@@ -9,6 +9,9 @@ returns-clause-empty c = empty-sound
 pub returns-clause-one : goal.returns-clause-one
 returns-clause-one c = current-one
 
+pub returns-clause-not_bad : goal.returns-clause-not_bad
+returns-clause-not_bad c = not-bad
+
 pub returns-clause-none_bad : goal.returns-clause-none_bad
 returns-clause-none_bad c = λ shelf files letter sound. not-bad sound.current files letter sound.has_current
 

@@ -1,4 +1,5 @@
 use Rattle.ept_scan.proofs.OneScan.{scan_once}
+use Rattle.ept_save.proofs.OtherShelf.{inputs-enough}
 use Rattle.ept_save.proofs.SoundFiles.{same-sound, keeping-sound, guarding-sound, putting-sound, committing-sound}
 use Rattle.ept_save.proofs.laws.sound_steps_law.Goals as goal
 
@@ -18,3 +19,6 @@ returns-clause-putting c = λ shelf old new letter at points output has scan is 
 
 pub returns-clause-committing : goal.returns-clause-committing
 returns-clause-committing c = committing-sound c.output_names_law.ensures.names c.output_names_law.ensures.outside
+
+pub returns-clause-shelf : goal.returns-clause-shelf
+returns-clause-shelf c = inputs-enough
