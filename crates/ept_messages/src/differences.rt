@@ -1,8 +1,10 @@
 //! What is said of a configuration that differs from what its folder keeps: both values, as they can be shown.
 
-use crate::sentences::Names;
+use crate::keys::key_of;
+use ept_meta::Field;
 use serde_json::Value;
 use std::alloc::{AllocError, Global};
+use std::fmt;
 use std::fmt::Write;
 
 /// How many characters of a value are shown.
@@ -14,125 +16,179 @@ const BEFORE: usize = 20;
 /// The keys of an input, in the order in which they are looked at.
 const INPUT_KEYS: [&str; 4] = ["path", "scale", "shift", "expect"];
 
+// What to do if a value differs, and if an input does.
+const VALUE_ADVICE: &str = "build into a new folder, or give the old value back";
+
+const INPUT_ADVICE: &str = "build into a new folder, or put the old inputs first, in order";
+
 /// The first field in which a configuration differs from what its folder keeps, with both values as JSON texts;
-/// of the inputs those of the first that differs, the given one empty where the list ends before it.
+/// of the inputs those of the first that differs, the given one empty if the list ends before it.
 #[derive(Clone, Copy, Debug, PartialEq, Eq)]
 pub struct Differing<'a> {
-    pub field: &'a str,
+    pub field: Field,
     pub kept: &'a [u8],
     pub given: &'a [u8],
 }
 
-/// The sentence of a difference.
-pub fn difference_sentence(
+/// Writes the sentence of a difference between the configuration of this path and what this folder keeps.
+///
+/// # Errors
+///
+/// Out of memory.
+pub fn write_difference(
     alloc: Global,
+    text: &mut String,
     differing: &Differing<'_>,
-    names: &Names<'_>,
-) -> Result<String, AllocError> {
+    config: &str,
+    out: &str,
+) -> Result<(), AllocError> {
     let Differing { field, kept, given } = *differing;
-    if field != "input" {
-        return of_value(alloc, field, kept, given, names);
+    match (field, given) {
+        (Field::Input, []) => write_end(alloc, text, kept, config, out),
+        (Field::Input, _) => write_input(alloc, text, kept, given, config, out),
+        _ => write_value(alloc, text, field, kept, given, config, out),
     }
-    if given.is_empty() {
-        return of_end(alloc, kept, names);
-    }
-    of_input(alloc, kept, given, names)
 }
 
-// Of a field that is no input.
-fn of_value(
+// Of the values of a field.
+fn write_value(
     alloc: Global,
-    field: &str,
+    text: &mut String,
+    field: Field,
     kept: &[u8],
     given: &[u8],
-    names: &Names<'_>,
-) -> Result<String, AllocError> {
-    let Names { config, out, .. } = *names;
-    let (kept, given) = shown(alloc, kept, given)?;
-    format!(in alloc;
-        "{out} was built with `{field}` {kept}, and {config} has {given}: {VALUE_ADVICE}"
+    config: &str,
+    out: &str,
+) -> Result<(), AllocError> {
+    let name = key_of(field).name();
+    let kept = safe(alloc, kept)?;
+    let given = safe(alloc, given)?;
+    let (kept, given) = excerpts(&kept, &given);
+    write!(
+        text,
+        "{out} was built with `{name}` {kept}, and {config} has {given}: {VALUE_ADVICE}"
     )
 }
 
 // Of a list of inputs that ends before this one.
-fn of_end(alloc: Global, kept: &[u8], names: &Names<'_>) -> Result<String, AllocError> {
-    let Names { config, out, .. } = *names;
-    let path = path_of(alloc, kept)?;
-    format!(in alloc;
+fn write_end(
+    alloc: Global,
+    text: &mut String,
+    kept: &[u8],
+    config: &str,
+    out: &str,
+) -> Result<(), AllocError> {
+    let path = member(alloc, kept, "path")?;
+    let path = Excerpt::whole(&path);
+    write!(
+        text,
         "the inputs of {config} end before {path}, with which {out} was built: {INPUT_ADVICE}"
     )
 }
 
-// Of an input: its path, or else its first key that differs.
-fn of_input(
+// Of an input: its first key that differs.
+fn write_input(
     alloc: Global,
+    text: &mut String,
     kept: &[u8],
     given: &[u8],
-    names: &Names<'_>,
-) -> Result<String, AllocError> {
+    config: &str,
+    out: &str,
+) -> Result<(), AllocError> {
     for key in INPUT_KEYS {
-        let one = member(alloc, kept, key)?;
-        let other = member(alloc, given, key)?;
-        if one != other {
-            let (one, other) = shown(alloc, one.as_bytes(), other.as_bytes())?;
-            let path = path_of(alloc, kept)?;
-            return of_member(alloc, key, (&one, &other), &path, names);
+        if differs(alloc, kept, given, key)? {
+            return write_member(alloc, text, key, kept, given, config, out);
         }
     }
-    of_value(alloc, "input", kept, given, names)
+    write_value(alloc, text, Field::Input, kept, given, config, out)
 }
 
-// Of a key of the input of this path.
-fn of_member(
+// Whether both inputs have another value of this key.
+fn differs(alloc: Global, kept: &[u8], given: &[u8], key: &str) -> Result<bool, AllocError> {
+    let one = member(alloc, kept, key)?;
+    let other = member(alloc, given, key)?;
+    Ok(one != other)
+}
+
+// Of a key of an input.
+fn write_member(
     alloc: Global,
+    text: &mut String,
     key: &str,
-    values: (&str, &str),
-    path: &str,
-    names: &Names<'_>,
-) -> Result<String, AllocError> {
-    let Names { config, out, .. } = *names;
-    let (kept, given) = values;
+    kept: &[u8],
+    given: &[u8],
+    config: &str,
+    out: &str,
+) -> Result<(), AllocError> {
+    let one = member(alloc, kept, key)?;
+    let other = member(alloc, given, key)?;
+    let (one, other) = excerpts(&one, &other);
     if key == "path" {
-        format!(in alloc;
-            "{out} was built with {kept} where the inputs of {config} have {given}: {INPUT_ADVICE}"
-        )
-    } else {
-        format!(in alloc;
-            "{out} was built with `{key}` {kept} of {path}, and {config} has {given}: {VALUE_ADVICE}"
-        )
+        return write!(
+            text,
+            "{out} was built with {one} where the inputs of {config} have {other}: {INPUT_ADVICE}"
+        );
     }
+    write!(text, "{out} was built with `{key}` {one} of ")?;
+    write_path(alloc, text, kept)?;
+    write!(text, ", and {config} has {other}: {VALUE_ADVICE}")
 }
-
-// What to do.
-const VALUE_ADVICE: &str = "build into a new folder, or give the old value back";
-
-const INPUT_ADVICE: &str = "build into a new folder, or list the old inputs first, in their order";
 
 // The path of an input, as it is shown.
-fn path_of(alloc: Global, input: &[u8]) -> Result<String, AllocError> {
+fn write_path(alloc: Global, text: &mut String, input: &[u8]) -> Result<(), AllocError> {
     let path = member(alloc, input, "path")?;
-    cut(alloc, safe(alloc, path.as_bytes())?.as_str(), 0)
+    write!(text, "{}", Excerpt::whole(&path))
 }
 
-// The JSON text of a key of an input, or what stands for it where there is none.
+// The JSON text of a key of an input, as it can be shown, or what stands for it if there is none.
 fn member(alloc: Global, input: &[u8], key: &str) -> Result<String, AllocError> {
     let found = Value::from_slice(alloc, input);
     match found.as_ref().ok().and_then(|value| value.get(key)) {
-        Some(value) => value.to_string(alloc),
+        Some(value) => {
+            let text = value.to_string(alloc)?;
+            safe(alloc, text.as_bytes())
+        }
         None => String::from_str(alloc, "none"),
     }
 }
 
-// Both values as they are shown: where one is long, from shortly before the first character that differs.
-fn shown(alloc: Global, kept: &[u8], given: &[u8]) -> Result<(String, String), AllocError> {
-    let kept = safe(alloc, kept)?;
-    let given = safe(alloc, given)?;
-    let from = if is_long(&kept) || is_long(&given) {
-        alike(&kept, &given).saturating_sub(BEFORE)
+// A text of which a part is shown: from this character on, with dots for what is left out.
+#[derive(Clone, Copy)]
+struct Excerpt<'a> {
+    text: &'a str,
+    from: usize,
+}
+
+impl<'a> Excerpt<'a> {
+    // From its first character on.
+    fn whole(text: &'a str) -> Self {
+        Excerpt { text, from: 0 }
+    }
+}
+
+impl fmt::Display for Excerpt<'_> {
+    fn fmt<W: fmt::Write>(&self, f: &mut fmt::Formatter<W>) -> fmt::Result {
+        if self.from > 0 {
+            f.write_str("..")?;
+        }
+        for (at, letter) in self.text.chars().skip(self.from).enumerate() {
+            if at == SHOWN {
+                return f.write_str("..");
+            }
+            f.write_char(letter)?;
+        }
+        Ok(())
+    }
+}
+
+// Both values as they are shown: if one is long, from shortly before the first character that differs.
+fn excerpts<'a>(kept: &'a str, given: &'a str) -> (Excerpt<'a>, Excerpt<'a>) {
+    let from = if is_long(kept) || is_long(given) {
+        alike(kept, given).saturating_sub(BEFORE)
     } else {
         0
     };
-    Ok((cut(alloc, &kept, from)?, cut(alloc, &given, from)?))
+    (Excerpt { text: kept, from }, Excerpt { text: given, from })
 }
 
 // Whether a text has more characters than are shown.
@@ -146,22 +202,6 @@ fn alike(one: &str, other: &str) -> usize {
         .zip(other.chars())
         .take_while(|(a, b)| a == b)
         .count()
-}
-
-// The part of a text from this character on that is shown, with dots where something is left out.
-fn cut(alloc: Global, text: &str, from: usize) -> Result<String, AllocError> {
-    let mut part = String::new(alloc);
-    if from > 0 {
-        part.push_str("..")?;
-    }
-    for (at, letter) in text.chars().skip(from).enumerate() {
-        if at == SHOWN {
-            part.push_str("..")?;
-            break;
-        }
-        part.push(letter)?;
-    }
-    Ok(part)
 }
 
 // Bytes as text: without control characters, and with the numbers of bytes that are no text.

@@ -1,10 +1,11 @@
-//! What is said on standard error of a run that is refused: what its line says, in words, each file by its path.
+//! What is said on standard error of a run that fails: why, in words, each file by its path.
 #![tactic(auto)]
 
 mod differences;
+mod keys;
 mod messages;
 mod sentences;
 
-pub use differences::{Differing, difference_sentence};
-pub use messages::{message, plain};
-pub use sentences::Names;
+pub use differences::{Differing, write_difference};
+pub use messages::{Found, message};
+pub use sentences::OUT_OF_MEMORY;

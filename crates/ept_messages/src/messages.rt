@@ -1,216 +1,218 @@
-//! The message of a run that is refused: the sentence of its line, with the names that it takes.
+//! The message of a run that fails: the sentence of its failure, with the names that it takes.
 
-use crate::differences::{Differing, difference_sentence};
-use crate::sentences::{MEMORY_SENTENCE, Names, Record, Told, USAGE_SENTENCE, read_line, sentence};
+use crate::differences::{Differing, write_difference};
+use crate::keys::KEYS;
+use crate::sentences::{Names, write_query, write_refusal};
 use ept_base::{Shelf, Store};
-use ept_config::{Config, ConfigKey, MAX_LENGTH};
+use ept_batch::Difference;
+use ept_config::{Config, ConfigError, MAX_LENGTH};
 use ept_mem::MemShelf;
 use ept_plan::{PlanError, make_plan};
-use ept_run::status::{
-    BAD_CONFIGURATION, BAD_SCAN, DAMAGED, DEVICE, MEMORY, NOT_COMPLETE, TOO_MANY, USAGE,
-};
-use ept_run::{Command, Refusal, command_of, read_configuration, read_front};
+use ept_run::{Command, Failure, Refusal, command_of, read_configuration, read_front};
 use ept_save::open;
 use serde_json::Value;
-use std::alloc::Global;
+use std::alloc::{AllocError, Global};
+use std::fmt::Write;
 
-/// The keys of a configuration.
-const KEYS: [ConfigKey; 13] = [
-    ConfigKey::Input,
-    ConfigKey::Scale,
-    ConfigKey::Offset,
-    ConfigKey::Bounds,
-    ConfigKey::Span,
-    ConfigKey::MinNodeSize,
-    ConfigKey::MaxDepth,
-    ConfigKey::HierarchyStep,
-    ConfigKey::Srs,
-    ConfigKey::Threads,
-    ConfigKey::CacheSize,
-    ConfigKey::MaxNodes,
-    ConfigKey::Checkpoint,
-];
+/// What a program found of the files that a run failed at.
+#[derive(Clone, Copy, Debug, Default)]
+pub struct Found<'a> {
+    /// The file that could not be opened or read; none if there is no such file, or no memory to keep its path.
+    pub unread: Option<&'a str>,
+    /// Whether that file exists.
+    pub has_unread: bool,
+    /// Whether the folder of a build exists.
+    pub has_out: bool,
+}
 
-/// Why these words did not end with status 0, after this line was written, or was to be. `unread` is the
-/// file that could not be opened or read, or what stands for it. The configuration is read again where an input,
-/// a key or a value of it is to be named, and so is the checkpoint in the store, the folder of a build, where it
-/// differs from what that keeps. Nothing is answered where there is nothing to say but what the status says.
-pub fn message<'x, H: Shelf, T: Store>(
+/// Why the run of these words failed, as one sentence, or as the usage if they are no command.
+///
+/// The configuration is read from the shelf again if an input, a key or a value of it is to be named; so is the
+/// checkpoint in the store, the folder of a build, if the configuration differs from what that keeps.
+///
+/// # Errors
+///
+/// Out of memory.
+pub fn message<H: Shelf, T: Store>(
     alloc: Global,
-    words: &'x [String],
-    line: &str,
-    unread: &'x str,
+    words: &[String],
+    failure: &Failure,
+    found: &Found<'_>,
     shelf: &mut H,
     store: &mut T,
-) -> Result<Option<String>, Refusal> {
-    let command = command_of(words);
-    if let Command::Query { .. } = command {
-        // What a query writes are points, and no line.
-        return Ok(None);
+) -> Result<String, AllocError> {
+    let mut text = String::new(alloc);
+    let names = names_of(words, found);
+    match failure {
+        Failure::Refused(refusal) if names.config.is_empty() => write_refusal(
+            &mut text, refusal, &names,
+        )?,
+        Failure::Refused(refusal) => write_build(alloc, &mut text, refusal, &names, shelf, store)?,
+        Failure::QueryRefused(error) => write_query(&mut text, *error, names.out)?,
+        Failure::LineNotWritten(line) => write_line(&mut text, line)?,
     }
-    let Some(told) = read_line(line) else {
-        return unsaid(alloc, line);
+    Ok(text)
+}
+
+// The names in these words, and what was found.
+fn names_of<'a>(words: &'a [String], found: &Found<'a>) -> Names<'a> {
+    let names = Names {
+        has_out: found.has_out,
+        unread: found.unread.unwrap_or(""),
+        has_unread: found.has_unread,
+        ..Names::default()
     };
-    match command {
-        Command::Build { config, out } => {
-            let names = Names {
-                config,
-                out,
-                unread,
-                ..Names::default()
-            };
-            of_build(alloc, told, names, shelf, store)
-        }
-        Command::Info { las } => {
-            let names = Names {
-                input: las,
-                unread: las,
-                ..Names::default()
-            };
-            Ok(Some(sentence(alloc, told, &names)?))
-        }
-        _ => Ok(Some(sentence(alloc, told, &Names::default())?)),
+    match command_of(words) {
+        Command::Build { config, out } => Names {
+            config,
+            out,
+            ..names
+        },
+        Command::Query { out, .. } => Names { out, ..names },
+        Command::Info { las } => Names {
+            input: las,
+            ..names
+        },
+        Command::Trial { .. } | Command::Usage => names,
     }
 }
 
-// Of the line of a command that is carried out, which could not be written.
-fn unsaid(alloc: Global, line: &str) -> Result<Option<String>, Refusal> {
-    if line.is_empty() || line.starts_with("error") {
-        return Ok(None);
-    }
-    let text = format!(in alloc; "standard output could not be written: {line}")?;
-    Ok(Some(text))
+// Of a line that could not be written.
+fn write_line(text: &mut String, line: &[u8]) -> Result<(), AllocError> {
+    let line = str::from_utf8(line).unwrap_or("").trim_end();
+    write!(text, "standard output could not be written: {line}")
 }
 
 // Of a build. The configuration is read again for what is not in the words.
-fn of_build<H: Shelf, T: Store>(
+fn write_build<H: Shelf, T: Store>(
     alloc: Global,
-    told: Told<'_>,
-    names: Names<'_>,
+    text: &mut String,
+    refusal: &Refusal,
+    names: &Names<'_>,
     shelf: &mut H,
     store: &mut T,
-) -> Result<Option<String>, Refusal> {
-    match told {
-        Told::Differs { field } => {
-            let config = read_configuration(alloc, shelf, names.config)?;
-            match values_of(alloc, &config, store) {
-                Some(values) => of_difference(alloc, field, names, &values),
-                None => Ok(Some(sentence(alloc, told, &names)?)),
-            }
+) -> Result<(), AllocError> {
+    match *refusal {
+        Refusal::Differs { .. } => write_differs(alloc, text, refusal, names, shelf, store),
+        Refusal::BadLas { source, .. }
+        | Refusal::OutOfBounds { source, .. }
+        | Refusal::SourceChanged { source, .. }
+        | Refusal::TooManyPoints { source } => {
+            write_of_input(alloc, text, refusal, source, names, shelf)
         }
-        Told::Las { at, .. } | Told::Bounds { at } | Told::Changed { at } | Told::Points { at } => {
-            let config = read_configuration(alloc, shelf, names.config)?;
-            of_input(alloc, told, at, names, &config)
+        Refusal::BadConfiguration(ConfigError::Unknown) => {
+            write_unknown(alloc, text, refusal, names, shelf)
         }
-        Told::Configuration { cause: "2", .. } => {
-            let text = read_front(alloc, shelf, names.config, MAX_LENGTH)?;
-            of_unknown(alloc, told, names, &text)
-        }
-        _ => Ok(Some(sentence(alloc, told, &names)?)),
-    }
-}
-
-// What is kept of the first field that differs, and what is given.
-#[derive(Drop)]
-struct Values {
-    kept: Vec<u8>,
-    given: Vec<u8>,
-}
-
-// Both values of the first field that differs from what the current checkpoint keeps, if one does. No input is
-// opened where a field differs, so a shelf without files serves.
-fn values_of<T: Store>(alloc: Global, config: &Config, store: &mut T) -> Option<Values> {
-    let saved = open(alloc, store).ok()?;
-    let mut shelf = MemShelf::new(alloc, Vec::new(alloc), Vec::new(alloc), Vec::new(alloc));
-    match make_plan(alloc, config, &mut shelf, &saved) {
-        Err(PlanError::Differs(found)) => Some(Values {
-            kept: found.kept,
-            given: found.given,
-        }),
-        _ => None,
+        _ => write_refusal(text, refusal, names),
     }
 }
 
 // With both values of the field that differs.
-fn of_difference(
+fn write_differs<H: Shelf, T: Store>(
     alloc: Global,
-    field: &str,
-    names: Names<'_>,
-    values: &Values,
-) -> Result<Option<String>, Refusal> {
-    let differing = Differing {
-        field,
-        kept: &values.kept,
-        given: &values.given,
-    };
-    Ok(Some(difference_sentence(alloc, &differing, &names)?))
+    text: &mut String,
+    refusal: &Refusal,
+    names: &Names<'_>,
+    shelf: &mut H,
+    store: &mut T,
+) -> Result<(), AllocError> {
+    match difference_of(alloc, names.config, shelf, store) {
+        Some(found) => {
+            let differing = Differing {
+                field: found.field,
+                kept: &found.kept,
+                given: &found.given,
+            };
+            write_difference(alloc, text, &differing, names.config, names.out)
+        }
+        None => write_refusal(text, refusal, names),
+    }
 }
 
-// With the path of the input.
-fn of_input(
+// The first field in which the configuration of this path differs from what the current checkpoint keeps, if one does.
+// No input is opened if a field differs, so a shelf without files serves.
+fn difference_of<H: Shelf, T: Store>(
     alloc: Global,
-    told: Told<'_>,
-    at: Record<'_>,
-    names: Names<'_>,
-    config: &Config,
-) -> Result<Option<String>, Refusal> {
-    let Ok(source) = at.source.parse::<usize>() else {
-        return Ok(None);
-    };
-    let Some(input) = config.inputs.as_slice().get(source) else {
-        return Ok(None);
-    };
-    let names = Names {
-        input: input.path.as_str(),
-        has_bounds: config.bounds.is_some(),
-        ..names
-    };
-    Ok(Some(sentence(alloc, told, &names)?))
+    path: &str,
+    shelf: &mut H,
+    store: &mut T,
+) -> Option<Difference> {
+    let config = read_configuration(alloc, shelf, path).ok()?;
+    let saved = open(alloc, store).ok()?;
+    let mut empty = MemShelf::new(alloc, Vec::new(alloc), Vec::new(alloc), Vec::new(alloc));
+    match make_plan(alloc, &config, &mut empty, &saved) {
+        Err(PlanError::Differs(found)) => Some(found),
+        _ => None,
+    }
+}
+
+// With the path of the input of this number, or with its number if the configuration can't be read again.
+fn write_of_input<H: Shelf>(
+    alloc: Global,
+    text: &mut String,
+    refusal: &Refusal,
+    source: u32,
+    names: &Names<'_>,
+    shelf: &mut H,
+) -> Result<(), AllocError> {
+    match read_configuration(alloc, shelf, names.config) {
+        Ok(config) => {
+            let names = Names {
+                input: path_of(&config, source),
+                has_bounds: config.bounds.is_some(),
+                ..*names
+            };
+            write_refusal(text, refusal, &names)
+        }
+        Err(_) => {
+            let names = Names {
+                input: "an input",
+                ..*names
+            };
+            write_refusal(text, refusal, &names)
+        }
+    }
+}
+
+// The path of the input of this number.
+fn path_of(config: &Config, source: u32) -> &str {
+    match config.inputs.as_slice().get(source as usize) {
+        Some(input) => input.path.as_str(),
+        None => "an input",
+    }
 }
 
 // With the first key that is none of a configuration's.
-fn of_unknown(
+fn write_unknown<H: Shelf>(
     alloc: Global,
-    told: Told<'_>,
-    names: Names<'_>,
-    text: &[u8],
-) -> Result<Option<String>, Refusal> {
-    let value = match Value::from_slice(alloc, text) {
-        Ok(value) => value,
-        Err(error) if error.is_memory() => return Err(Refusal::Memory),
-        Err(_) => return Ok(None),
-    };
-    let unknown = unknown_key(&value).unwrap_or("");
-    let names = Names { unknown, ..names };
-    Ok(Some(sentence(alloc, told, &names)?))
+    text: &mut String,
+    refusal: &Refusal,
+    names: &Names<'_>,
+    shelf: &mut H,
+) -> Result<(), AllocError> {
+    match read_object(alloc, names.config, shelf) {
+        Some(value) => {
+            let unknown = unknown_key(&value).unwrap_or("");
+            write_refusal(text, refusal, &Names { unknown, ..*names })
+        }
+        None => write_refusal(text, refusal, names),
+    }
+}
+
+// The value of the JSON text of this path, if it can be read again.
+fn read_object<H: Shelf>(alloc: Global, path: &str, shelf: &mut H) -> Option<Value> {
+    let text = read_front(alloc, shelf, path, MAX_LENGTH).ok()?;
+    Value::from_slice(alloc, &text).ok()
 }
 
 fn unknown_key(value: &Value) -> Option<&str> {
-    for key in value.as_object()?.keys() {
-        if !is_known(key.as_str()) {
-            return Some(key.as_str());
-        }
-    }
-    None
+    value
+        .as_object()?
+        .keys()
+        .map(|key| key.as_str())
+        .find(|key| !is_known(key))
 }
 
 fn is_known(key: &str) -> bool {
     KEYS.iter().any(|known| known.name() == key)
-}
-
-/// What a status says by itself.
-pub fn plain(status: u8) -> &'static str {
-    match status {
-        USAGE => USAGE_SENTENCE,
-        BAD_CONFIGURATION => "the configuration is refused",
-        BAD_SCAN => "a LAS file can't be read, or its points don't fit the bounds",
-        TOO_MANY => "there are too many points, or too many nodes",
-        NOT_COMPLETE => "the folder has no complete dataset, or that of another configuration",
-        DEVICE => "a file could not be read or written",
-        DAMAGED => {
-            "a file of the dataset, a checkpoint or a spill file is absent or not of its form"
-        }
-        MEMORY => MEMORY_SENTENCE,
-        _ => "refused",
-    }
 }

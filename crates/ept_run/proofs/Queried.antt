@@ -1,6 +1,6 @@
 -- The words of a query are those of no other command, and what its status says.
-use Rattle.std.proofs.Common.{◌≡◌, ◌≢◌, ◌⊎◌, inl, inr, ℕ, List, [], ◌∷◌, Option, Ok, Err, ap, refl, sym, ◌∙◌, subst, arith}
-use Rattle.std.specs.Prelude.{Result, String, codes, string_bytes, length}
+use Rattle.std.proofs.Common.{◌≡◌, ◌≢◌, ◌⊎◌, inl, inr, ℕ, List, [], ◌∷◌, Option, None, Some, Ok, Err, ap, refl, sym, ◌∙◌, subst, arith}
+use Rattle.std.specs.Prelude.{◌↔◌, Result, String, codes, string_bytes, length}
 use Rattle.std.specs.declared.alloc.Global.{Global}
 use Rattle.std.proofs.lemmas.List.{length-map}
 use Rattle.ept_base.specs.Files.{Files}
@@ -9,10 +9,13 @@ use Rattle.ept_http.specs.QueryWords.{IsBoxText, IsDepthsText}
 use Rattle.ept_http.specs.Laws.{TextHasOneBox, TextHasOneRange}
 use Rattle.ept_query.specs.declared.query_error.QueryError.{QueryError}
 use Rattle.ept_query.specs.declared.query_error.QueryError.TheVariants.{NotComplete, StoreFault, Damaged, SinkFault, Memory}
+use Rattle.ept_run.specs.declared.ended.Failure.{Failure}
+use Rattle.ept_run.specs.declared.ended.Failure.TheVariants.{QueryRefused}
 use Rattle.ept_run.specs.declared.refusal.Refusal.{Refusal}
 use Rattle.ept_run.specs.Words.{bytes_of, IsBuild, IsInfo, IsQuery, IsUsage}
 use Rattle.ept_run.specs.Answers.{AsksInfo, AsksQuery, IsFaulty}
-use Rattle.ept_run.specs.Queries.{query_status, EndsQuery}
+use Rattle.ept_run.specs.Queries.{query_status, query_failure, EndsQuery}
+use Rattle.ept_run.proofs.Runs.{some_or_none}
 
 -- ---- one command
 
@@ -51,11 +54,13 @@ module _ (one_box : TextHasOneBox) (one_range : TextHasOneRange) (words : List (
       let depths = one_range two.depths first last least most (subst (λ (t : List ℕ). IsDepthsText t first last) same.1 one.depths_are) two.depths_are in
       (one_box two.box area found (subst (λ (t : List ℕ). IsBoxText t area) same.0 one.area_is) two.area_is, depths.0, depths.1)
 
-  pub query_ends : (out other : List ℕ) (area found : Box3) (first last least most status : ℕ) (files : Option Files) (old new : Option (List ℕ)) (store sink : Type 0) → IsQuery words out area first last → IsQuery words other found least most → EndsQuery area first last status files old new store sink → EndsQuery found least most status files old new store sink
-  query_ends out other area found first last least most status files old new store sink one two ends =
+  pub query_ends : (out other : List ℕ) (area found : Box3) (first last least most status : ℕ) (failure : Option Failure) (files : Option Files) (old new : Option (List ℕ)) (store sink : Type 0) → IsQuery words out area first last → IsQuery words other found least most
+      → ((ends : EndsQuery area first last status files old new store sink) × (failure ≡ query_failure ends.answer)) → (ends : EndsQuery found least most status files old new store sink) × (failure ≡ query_failure ends.answer)
+  query_ends out other area found first last least most status failure files old new store sink one two ends =
       let same = query_once out other area found first last least most one two in
-      subst (λ (a : Box3). EndsQuery a least most status files old new store sink) same.0
-      (subst (λ (n : ℕ). EndsQuery area n most status files old new store sink) same.1 (subst (λ (n : ℕ). EndsQuery area first n status files old new store sink) same.2 ends))
+      subst (λ (a : Box3). (ends : EndsQuery a least most status files old new store sink) × (failure ≡ query_failure ends.answer)) same.0
+      (subst (λ (n : ℕ). (ends : EndsQuery area n most status files old new store sink) × (failure ≡ query_failure ends.answer)) same.1
+      (subst (λ (n : ℕ). (ends : EndsQuery area first n status files old new store sink) × (failure ≡ query_failure ends.answer)) same.2 ends))
 
 -- words of another number than those of a command
 pub no_command : (words : List (String Global)) → length words ≢ 2 → length words ≢ 3 → length words ≢ 4 → IsUsage (bytes_of words)
@@ -85,6 +90,18 @@ device_rose (Err StoreFault) store sink stores sinks is = inl (stores refl)
 device_rose (Err (Damaged file)) store sink stores sinks is = absurd (omega (arith, is))
 device_rose (Err SinkFault) store sink stores sinks is = inr (sinks refl)
 device_rose (Err Memory) store sink stores sinks is = absurd (omega (arith, is))
+
+fails_at : (answer : Result ℕ QueryError) → (query_status answer ≡ 0) ↔ (query_failure answer ≡ None)
+fails_at (Ok count) = (λ is. refl, λ none. refl)
+fails_at (Err NotComplete) = (λ is. absurd (omega (arith, is)), λ none. absurd (some_or_none (QueryRefused NotComplete) (Some (QueryRefused NotComplete)) refl none))
+fails_at (Err StoreFault) = (λ is. absurd (omega (arith, is)), λ none. absurd (some_or_none (QueryRefused StoreFault) (Some (QueryRefused StoreFault)) refl none))
+fails_at (Err (Damaged file)) = (λ is. absurd (omega (arith, is)), λ none. absurd (some_or_none (QueryRefused (Damaged file)) (Some (QueryRefused (Damaged file))) refl none))
+fails_at (Err SinkFault) = (λ is. absurd (omega (arith, is)), λ none. absurd (some_or_none (QueryRefused SinkFault) (Some (QueryRefused SinkFault)) refl none))
+fails_at (Err Memory) = (λ is. absurd (omega (arith, is)), λ none. absurd (some_or_none (QueryRefused Memory) (Some (QueryRefused Memory)) refl none))
+
+-- there is a failure at each status but 0
+pub query_no_failure : (answer : Result ℕ QueryError) (status : ℕ) (failure : Option Failure) → status ≡ query_status answer → failure ≡ query_failure answer → (status ≡ 0) ↔ (failure ≡ None)
+query_no_failure answer status failure status_is failure_is = (λ is. failure_is ∙ (fails_at answer).0 (sym status_is ∙ is), λ none. status_is ∙ (fails_at answer).1 (sym failure_is ∙ none))
 
 module _ (area : Box3) (first last status : ℕ) (files : Option Files) (old new : Option (List ℕ)) (store sink : Type 0) (ends : EndsQuery area first last status files old new store sink) where
   pub query_not_usage : status ≡ 2 → ⊥

@@ -1,17 +1,19 @@
 -- What a run answers follows from what its command does, and from how its line is said.
 use Rattle.std.proofs.Common.{◌≡◌, ◌≢◌, ◌⊎◌, inl, inr, ⊎_elim, ℕ, List, Option, Some, None, Ok, Err, refl, sym, ◌∙◌, ap, subst, arith}
-use Rattle.std.specs.Prelude.{Result, Vec, IfOk, IfErr, IsOk, OnOk}
+use Rattle.std.specs.Prelude.{◌↔◌, Result, Vec, IfOk, IfErr, IsOk, OnOk}
 use Rattle.std.specs.Io.KnownBytes.{Appends}
 use Rattle.std.specs.declared.alloc.Global.{Global}
 use Rattle.ept_base.specs.Files.{Files, Tells}
 use Rattle.ept_config.specs.declared.config_error.ConfigError.{ConfigError}
 use Rattle.ept_las.specs.declared.header.Header.{Header}
 use Rattle.ept_run.specs.Words.{IsUsage}
+use Rattle.ept_run.specs.declared.ended.Failure.{Failure}
+use Rattle.ept_run.specs.declared.ended.Failure.TheVariants.{Refused, LineNotWritten}
 use Rattle.ept_run.specs.declared.refusal.Refusal.{Refusal}
 use Rattle.ept_run.specs.declared.refusal.Refusal.TheVariants.{Usage, BadConfiguration, BadLas, OutOfBounds, NoBounds, SourceChanged, TooManyPoints, TooManyNodes, Differs, BadCheckpoint, TileDamaged, SourceFault, StoreFault, SpillFault, SpillDamaged, Memory}
 use Rattle.ept_run.specs.Lines.{status_of, line_of}
 use Rattle.ept_run.specs.Requests.{IsDefinite, IsEarly, TellsDifference, Fails}
-use Rattle.ept_run.specs.Answers.{Yields, YieldsRefusal, YieldsDifference, IsAnswer, IsDone, Ends, IsFaulty, IsRefused, HasRisen, Says, IsTold, EndsWith, Refuses, IsCut}
+use Rattle.ept_run.specs.Answers.{Yields, YieldsRefusal, YieldsDifference, IsAnswer, IsDone, Ends, IsFaulty, IsRefused, HasRisen, Says, IsTold, EndsWith, EndsFor, Refuses, IsCut, IsUnwritten}
 
 -- ---- statuses
 
@@ -107,6 +109,9 @@ risen_of SpillFault shelf store room sources stores spills = spills refl
 risen_of SpillDamaged shelf store room sources stores spills = tt
 risen_of Memory shelf store room sources stores spills = tt
 
+pub some_or_none : {X : Type 0} (x : X) (o : Option X) → o ≡ Some x → o ≡ None → ⊥
+some_or_none x o some none = cc
+
 -- ---- what a command does
 
 -- What is known of a command whose answer is a line or a refusal: shelf, store and room say that the count of that device rose, same that nothing was put, and Begins of the shelf's files and the store's that a build begins with them.
@@ -123,6 +128,18 @@ pub record Carries (words : List (List ℕ)) (files : Option Files) (Begins : Fi
   pub comes : Tells (λ all. (r : Refusal) → IsDefinite r → IsFaulty words all r → (answer ≡ Err r) ⊎ Fails answer) files
 
 module _ (status : ℕ) (said_old said_new : Option (List ℕ)) (failed : Type 0) where
+  -- how a command ends, whatever its failure is
+  pub ends_with : (answer : Result (Vec ℕ Global) Refusal) (failure : Option Failure) → EndsFor answer status failure said_old said_new failed → EndsWith answer status said_old said_new failed
+  ends_with (Ok line) failure (inl ok) = inl (ok.0, ok.2)
+  ends_with (Ok line) failure (inr device) = inr (device.0, device.2, device.3)
+  ends_with (Err r) failure reports = reports.0
+
+  -- there is a failure at each status but 0
+  pub no_failure : (answer : Result (Vec ℕ Global) Refusal) (failure : Option Failure) → EndsFor answer status failure said_old said_new failed → (status ≡ 0) ↔ (failure ≡ None)
+  no_failure (Ok line) failure (inl ok) = (λ is. ok.1, λ none. ok.0)
+  no_failure (Ok line) failure (inr device) = (λ is. absurd (omega (arith, device.0, is)), λ none. absurd (some_or_none (LineNotWritten line) failure device.1 none))
+  no_failure (Err r) failure reports = (λ is. absurd (never_done reports.0.told (reports.0.status_is ∙ is)), λ none. absurd (some_or_none (Refused reports.0.told) failure reports.1 none))
+
   pub never_usage : (answer : Result (Vec ℕ Global) Refusal) → IfErr answer (λ r. r ≢ Usage) → EndsWith answer status said_old said_new failed → status ≡ 2 → ⊥
   never_usage (Ok line) named (inl ok) is = omega (arith, ok.0, is)
   never_usage (Ok line) named (inr device) is = omega (arith, device.0, is)
@@ -192,20 +209,25 @@ module _ (status : ℕ) (said_old said_new : Option (List ℕ)) (failed : Type 0
         one_rose (inr (inl store)) = inr (inl (carries.stores (ap Err store)))
         one_rose (inr (inr spill)) = inr (inr (inl (carries.spills (ap Err spill))))
 
-    pub is_refused : (answer : Result (Vec ℕ Global) Refusal) → Carries words files Begins new shelf store room same answer → EndsWith answer status said_old said_new failed → status ≢ 0
-        → Refuses words files Begins status shelf store room failed said_old said_new same ⊎ IsCut words files Begins status new failed said_old said_new
-    is_refused (Ok line) carries (inl ok) not_ok = absurd (not_ok ok.0)
-    is_refused (Ok line) carries (inr device) not_ok = inr (record { status_is = device.0; risen = device.1; ends = record { line = line.items; is_answer = carries.is_answer; done = carries.done; said = device.2 } })
-    is_refused (Err r) carries ends not_ok = inl (record {
-      cause = ends.told;
-      status_is = ends.status_is;
-      has_cause = ⊎_elim (λ is. subst (λ (x : Refusal). Tells (λ all. IsRefused words all Begins x) files) (sym is) carries.refused)
-          (λ is. subst (λ (x : Refusal). Tells (λ all. IsRefused words all Begins x) files) (sym is) carries.lacks) ends.told_is;
-      risen = ⊎_elim (λ is. subst (λ (x : Refusal). HasRisen x shelf store room) (sym is) (risen_of r shelf store room (λ e. carries.sources (ap Err e)) (λ e. carries.stores (ap Err e)) (λ e. carries.spills (ap Err e))))
-          (λ is. subst (λ (x : Refusal). HasRisen x shelf store room) (sym is) tt) ends.told_is;
-      says = ends.says;
-      early = λ early. ⊎_elim (λ is. carries.early (subst IsEarly is early)) (λ is. absurd (subst IsEarly is early)) ends.told_is;
-    })
+    pub is_refused : (answer : Result (Vec ℕ Global) Refusal) (failure : Option Failure) → Carries words files Begins new shelf store room same answer → EndsFor answer status failure said_old said_new failed → status ≢ 0
+        → ((refuses : Refuses words files Begins status shelf store room failed said_old said_new same) × (failure ≡ Some (Refused refuses.cause)))
+        ⊎ ((cut : IsCut words files Begins status new failed said_old said_new) × IsUnwritten failure cut.ends.line)
+    is_refused (Ok line) failure carries (inl ok) not_ok = absurd (not_ok ok.0)
+    is_refused (Ok line) failure carries (inr device) not_ok =
+        inr (record { status_is = device.0; risen = device.2; ends = record { line = line.items; is_answer = carries.is_answer; done = carries.done; said = device.3 } }, line, device.1, refl)
+    is_refused (Err r) failure carries reports not_ok = inl (
+      record {
+        cause = reports.0.told;
+        status_is = reports.0.status_is;
+        has_cause = ⊎_elim (λ is. subst (λ (x : Refusal). Tells (λ all. IsRefused words all Begins x) files) (sym is) carries.refused)
+            (λ is. subst (λ (x : Refusal). Tells (λ all. IsRefused words all Begins x) files) (sym is) carries.lacks) reports.0.told_is;
+        risen = ⊎_elim (λ is. subst (λ (x : Refusal). HasRisen x shelf store room) (sym is) (risen_of r shelf store room (λ e. carries.sources (ap Err e)) (λ e. carries.stores (ap Err e)) (λ e. carries.spills (ap Err e))))
+            (λ is. subst (λ (x : Refusal). HasRisen x shelf store room) (sym is) tt) reports.0.told_is;
+        says = reports.0.says;
+        early = λ early. ⊎_elim (λ is. carries.early (subst IsEarly is early)) (λ is. absurd (subst IsEarly is early)) reports.0.told_is;
+      },
+      reports.1,
+    )
 
   -- where the shelf tells, an answer that comes is told
   pub refusal_yields : (answer : Result (Vec ℕ Global) Refusal) (files : Option Files) (Why : Files → Refusal → Type 0) → EndsWith answer status said_old said_new failed

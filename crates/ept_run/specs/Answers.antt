@@ -1,5 +1,5 @@
 -- What a run answers, and what it leaves.
-use Rattle.std.specs.Prelude.{◌≡◌, ◌⊎◌, ℕ, Option, List, [], ◌∷◌, take, Vec, Result, Ok, Err, ⊤}
+use Rattle.std.specs.Prelude.{◌≡◌, ◌⊎◌, ℕ, Option, None, Some, List, [], ◌∷◌, take, Vec, Result, Ok, Err, ⊤}
 use Rattle.std.specs.Io.KnownBytes.{Appends}
 use Rattle.std.specs.declared.alloc.Global.{Global}
 use Rattle.ept_base.specs.Devices.{AppendsPrefix}
@@ -8,6 +8,8 @@ use Rattle.ept_las.specs.declared.header.Header.{Header}
 use Rattle.ept_space.specs.declared.box3.Box3.{Box3}
 use Rattle.ept_scan.specs.Asking.{AsksFor}
 use Rattle.ept_meta.specs.declared.fields.Field.{Field}
+use Rattle.ept_run.specs.declared.ended.Failure.{Failure}
+use Rattle.ept_run.specs.declared.ended.Failure.TheVariants.{Refused, LineNotWritten}
 use Rattle.ept_run.specs.declared.refusal.Refusal.{Refusal}
 use Rattle.ept_run.specs.declared.refusal.Refusal.TheVariants.{Usage, BadConfiguration, BadLas, OutOfBounds, NoBounds, SourceChanged, TooManyPoints, TooManyNodes, Differs, BadCheckpoint, TileDamaged, SourceFault, StoreFault, SpillFault, SpillDamaged, Memory}
 use Rattle.ept_run.specs.Words.{IsBuild, IsInfo, IsQuery, IsTrial, IsUsage}
@@ -125,10 +127,24 @@ pub record IsTold (r : Refusal) (status : ℕ) (old new : Option (List ℕ)) (fa
   pub status_is : status_of told ≡ status
   pub says : Says (line_of told) old new failed
 
+-- the same, and the failure is the refusal that is told
+abbrev pub IsReported : Refusal → ℕ → Option Failure → Option (List ℕ) → Option (List ℕ) → Type 0 → Type 0
+IsReported r status failure old new failed =
+    (reports : IsTold r status old new failed) × (failure ≡ Some (Refused reports.told))
+
 -- the line of a command that is carried out is said, or the sink failed at it
 abbrev pub IsSaid : List ℕ → ℕ → Option (List ℕ) → Option (List ℕ) → Type 0 → Type 0
 IsSaid line status old new failed = ((status ≡ 0) × Appends old new line)
     ⊎ ((status ≡ 7) × failed × AppendsPrefix old new line)
+
+-- the same: there is no failure, or it has the line
+abbrev pub IsSaidFor : Vec ℕ Global → ℕ → Option Failure → Option (List ℕ) → Option (List ℕ) → Type 0 → Type 0
+IsSaidFor line status failure old new failed = ((status ≡ 0) × (failure ≡ None) × Appends old new line.items)
+    ⊎ ((status ≡ 7) × (failure ≡ Some (LineNotWritten line)) × failed × AppendsPrefix old new line.items)
+
+-- the failure has this line, which could not be written
+abbrev pub IsUnwritten : Option Failure → List ℕ → Type 0
+IsUnwritten failure line = (kept : Vec ℕ Global) × (failure ≡ Some (LineNotWritten kept)) × (kept.items ≡ line)
 
 -- a trial of so many points ends: its line is said, or want of memory is told
 abbrev pub EndsTrial : ℕ → ℕ → Option (List ℕ) → Option (List ℕ) → Type 0 → Type 0
@@ -140,6 +156,12 @@ abbrev pub EndsWith : Result (Vec ℕ Global) Refusal → ℕ → Option (List �
     → Type 0 → Type 0
 EndsWith (Ok line) status old new failed = IsSaid line.items status old new failed
 EndsWith (Err r) status old new failed = IsTold r status old new failed
+
+-- the same, with the failure that says why its status is not 0
+abbrev pub EndsFor : Result (Vec ℕ Global) Refusal → ℕ → Option Failure → Option (List ℕ) → Option (List ℕ)
+    → Type 0 → Type 0
+EndsFor (Ok line) status failure old new failed = IsSaidFor line status failure old new failed
+EndsFor (Err r) status failure old new failed = IsReported r status failure old new failed
 
 -- A run is refused for a cause, with its status and its line: the device that it names has failed (shelf, store, room and out say that the count of that one rose), and nothing was put where the cause is an early one (same).
 pub record Refuses (words : List (List ℕ)) (files : Option Files) (Begins : Files → Files → Type 0) (status : ℕ) (shelf store room out : Type 0)

@@ -1,5 +1,5 @@
 -- How a query ends.
-use Rattle.std.specs.Prelude.{◌≡◌, ℕ, Option, Some, List, Result, Ok, Err, IfOk, IfErr}
+use Rattle.std.specs.Prelude.{◌≡◌, ℕ, Option, None, Some, List, Result, Ok, Err, IfOk, IfErr}
 use Rattle.ept_base.specs.Files.{Files, Tells}
 use Rattle.ept_point.specs.declared.point.Point.{Point}
 use Rattle.ept_space.specs.declared.box3.Box3.{Box3}
@@ -10,6 +10,8 @@ use Rattle.ept_query.specs.Answers.{Answers, LeavesQuery}
 use Rattle.ept_save.specs.Complete.{IsComplete}
 use Rattle.ept_query.specs.Complete.{AnswersWhole}
 use Rattle.ept_query.specs.Refusals.{RefusesQuery, CallsOfQuery, RefusesAsCalled}
+use Rattle.ept_run.specs.declared.ended.Failure.{Failure}
+use Rattle.ept_run.specs.declared.ended.Failure.TheVariants.{QueryRefused}
 
 -- the status of what a query answers
 abbrev pub query_status : Result ℕ QueryError → ℕ
@@ -19,6 +21,11 @@ query_status (Err StoreFault) = 7
 query_status (Err (Damaged file)) = 8
 query_status (Err SinkFault) = 7
 query_status (Err Memory) = 9
+
+-- why a query that answers this does not end with status 0
+abbrev pub query_failure : Result ℕ QueryError → Option Failure
+query_failure (Ok count) = None
+query_failure (Err error) = Some (QueryRefused error)
 
 -- A query of an area and depths ends with a status: it answers the points, or a refusal, whose status this is. Store and
 -- out say that the count of that device rose.

@@ -1,42 +1,56 @@
 //! The query of a run.
 
-ghost use Rattle.std.specs.Prelude.{◌≡◌};
+ghost use Rattle.std.specs.Prelude.{◌≡◌, Err};
 ghost use Rattle.ept_base.specs.Causes.{Rose};
 ghost use Rattle.ept_base.specs.Files.{SameFiles};
 ghost use Rattle.ept_base.specs.Moves.{Moves};
-ghost use Rattle.ept_run.specs.Queries.{query_status, EndsQuery};
+ghost use Rattle.ept_run.specs.Queries.{query_status, query_failure, EndsQuery};
 
-use crate::status::{DAMAGED, DEVICE, MEMORY, NOT_COMPLETE, OK};
+use crate::ended::{Ended, Failure};
+use crate::status::{DAMAGED, DEVICE, MEMORY, NOT_COMPLETE};
 use ept_base::{Sink, Store};
 use ept_query::{QueryError, query};
 use ept_space::Box3;
 use std::alloc::Global;
 
-/// Appends the points of an area and depths of the dataset in a store to the sink, and answers the status.
-/// A refusal writes no line.
+/// Appends the points of an area and depths of the dataset in a store to the sink. A refusal writes no line.
 pub(crate) fn answer_query<T: Store, O: Sink>(
     alloc: Global,
     area: &Box3,
     depths: (u8, u8),
     store: &mut T,
     out: &mut O,
-) -> u8
-    ensures ends { EndsQuery area.now depths.0 depths.1 result (T.files store.old) (O.written out.old) (O.written out.new)
-        (Rose (T.faults store.old) (T.faults store.new)) (Rose (O.faults out.old) (O.faults out.new)) }
+) -> Ended
+    ensures ends { (ends : EndsQuery area.now depths.0 depths.1 result.status (T.files store.old) (O.written out.old) (O.written out.new)
+        (Rose (T.faults store.old) (T.faults store.new)) (Rose (O.faults out.old) (O.faults out.new)))
+        × (result.failure ≡ query_failure ends.answer) }
     ensures any_moment { Moves T.files T.may_leave T.moment T.image_since SameFiles store.old store.new }
 {
-    status_of(query(alloc, store, area, depths, out))
+    ended_by(query(alloc, store, area, depths, out))
 }
 
-// The status of what a query answers.
-fn status_of(answer: Result<u64, QueryError>) -> u8
-    ensures { result ≡ query_status answer }
+// How a query ends that answers this.
+fn ended_by(answer: Result<u64, QueryError>) -> Ended
+    ensures status { result.status ≡ query_status answer }
+    ensures failure { result.failure ≡ query_failure answer }
 {
     match answer {
-        Ok(_) => OK,
-        Err(QueryError::NotComplete) => NOT_COMPLETE,
-        Err(QueryError::StoreFault | QueryError::SinkFault) => DEVICE,
-        Err(QueryError::Damaged { .. }) => DAMAGED,
-        Err(QueryError::Memory) => MEMORY,
+        Ok(_) => Ended::done(),
+        Err(error) => Ended {
+            status: status_of(error),
+            failure: Some(Failure::QueryRefused(error)),
+        },
+    }
+}
+
+// The status of a query that is refused.
+fn status_of(error: QueryError) -> u8
+    ensures { result ≡ query_status (Err error) }
+{
+    match error {
+        QueryError::NotComplete => NOT_COMPLETE,
+        QueryError::StoreFault | QueryError::SinkFault => DEVICE,
+        QueryError::Damaged { .. } => DAMAGED,
+        QueryError::Memory => MEMORY,
     }
 }

@@ -18,12 +18,8 @@ ghost use Rattle.ept_run.specs.Requests.{IsAcceptedAt, IsDoneAt, ComesAt, Differ
 ghost use Rattle.ept_run.specs.Answers.{Yields, YieldsRefusal, YieldsDifference, IsAskedFor, AsksBuild, AsksInfo, AsksQuery, Ends, IsFaulty, Refuses, IsCut, EndsTrial};
 ghost use Rattle.ept_run.specs.Queries.{EndsQuery};
 
-use crate::answers::{finish, refuse_usage};
-use crate::commands::{build_line, info_line, trial_line};
-use crate::querying::answer_query;
-use crate::words::{Command, command_of};
+use crate::carrying::carry_out;
 use ept_base::{Gate, Room, Shelf, Sink, Store};
-use ept_http::query_words_law;
 use std::alloc::Global;
 use std::sync::Wait;
 use std::thread::Threads;
@@ -138,27 +134,5 @@ where
     ensures files { H.files shelf.new ≡ H.files shelf.old }
     ensures same_room { AsksBuild (bytes_of words.now) (λ _. ⊤) ⊎ (room.new ≡ room.old) }
 {
-    match command_of(words) {
-        Command::Build { config, .. } => {
-            let line = build_line(rt, alloc, config, shelf, store, room, gate);
-            finish(alloc, out, line)
-        }
-        Command::Info { las } => {
-            let line = info_line(alloc, shelf, las);
-            finish(alloc, out, line)
-        }
-        Command::Query { area, depths, .. } => {
-            query_words_law();
-            answer_query(alloc, &area, depths, store, out)
-        }
-        Command::Trial {
-            points,
-            workers,
-            cache,
-        } => {
-            let line = trial_line(rt, alloc, points, workers, cache);
-            finish(alloc, out, line)
-        }
-        Command::Usage => refuse_usage(out),
-    }
+    carry_out(rt, alloc, words, shelf, store, room, out, gate).status
 }

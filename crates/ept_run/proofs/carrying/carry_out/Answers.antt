@@ -1,20 +1,21 @@
-use Rattle.std.proofs.Common.{map, string_bytes, refl, sym, inl, inr, ⊎_elim, subst, ℕ, List}
+use Rattle.std.proofs.Common.{map, string_bytes, refl, sym, inl, inr, ⊎_elim, subst, ℕ, List, arith}
 use Rattle.ept_base.specs.Causes.{Rose}
 use Rattle.ept_las.specs.declared.header.Header.{Header}
+use Rattle.ept_run.specs.declared.ended.Failure.TheVariants.{Refused}
 use Rattle.ept_run.specs.declared.refusal.Refusal.{Refusal}
 use Rattle.ept_run.specs.declared.refusal.Refusal.TheVariants.{Usage, BadCheckpoint}
 use Rattle.ept_run.specs.Requests.{IsAcceptedAt, IsDoneAt, ComesAt, DiffersAt, IsConfigured, HasSpilled, HasHeader, IsDefinite}
-use Rattle.ept_run.specs.Answers.{Yields, YieldsRefusal, AsksInfo, IsFaulty, IsRefused, EndsTrial}
-use Rattle.ept_run.proofs.Runs.{Carries, never_usage, is_done, has_risen, is_refused, refusal_yields, accepted_yields, comes_yields, differs_yields, info_yields, usage_yields, bad_configuration, carried_out}
+use Rattle.ept_run.specs.Answers.{Yields, YieldsRefusal, AsksInfo, IsFaulty, IsRefused, EndsTrial, EndsWith}
+use Rattle.ept_run.proofs.Runs.{Carries, some_or_none, ends_with, no_failure, never_usage, is_done, has_risen, is_refused, refusal_yields, accepted_yields, comes_yields, differs_yields, info_yields, usage_yields, bad_configuration, carried_out}
 use Rattle.ept_run.proofs.Asked.{told_always, one_build, of_build, build_or_info, build_carries, info_carries, info_accepted}
 use Rattle.ept_build.specs.Building.{BeginsWith}
 use Rattle.ept_base.specs.Files.{SameFiles}
 use Rattle.ept_base.specs.Moves.{Moves}
 use Rattle.ept_run.proofs.Refused.{stays}
-use Rattle.ept_run.proofs.Queried.{query_or_build, query_or_info, query_asked, query_unrefused, query_untold, query_ends, query_not_usage, query_rose, first_two}
+use Rattle.ept_run.proofs.Queried.{query_or_build, query_or_info, query_asked, query_unrefused, query_untold, query_ends, query_not_usage, query_no_failure, query_rose, first_two}
 use Rattle.ept_run.proofs.Tried.{trial_or_build, trial_or_info, trial_or_query, trial_untold, one_count, trial_carries, trial_ends}
-use Rattle.ept_run.proofs.running.run.Given as given
-use Rattle.ept_run.proofs.running.run.Goals as goal
+use Rattle.ept_run.proofs.carrying.carry_out.Given as given
+use Rattle.ept_run.proofs.carrying.carry_out.Goals as goal
 
 -- ---- build
 
@@ -24,30 +25,36 @@ build_known g c =
     c.build_line-line.ensures.said c.build_line-line.ensures.built c.build_line-line.ensures.causes c.build_line-line.ensures.refused c.build_line-line.ensures.sources.failed c.build_line-line.ensures.stores.failed c.build_line-line.ensures.spills.failed
     c.build_line-line.ensures.early c.build_line-line.ensures.refusal_comes
 
+build_ended : (g : given.Over) (c : goal.After-finish g) → EndsWith c.build_line-line.result c.finish.result.status (g.O.Sink.written c.args.out.now) (g.O.Sink.written c.finish.new.out) (Rose (g.O.Sink.faults c.args.out.now) (g.O.Sink.faults c.finish.new.out))
+build_ended g c = ends_with c.finish.result.status (g.O.Sink.written c.args.out.now) (g.O.Sink.written c.finish.new.out) (Rose (g.O.Sink.faults c.args.out.now) (g.O.Sink.faults c.finish.new.out)) c.build_line-line.result c.finish.result.failure c.finish.ensures
+
+pub returns-in-Build-clause-failure : goal.returns-in-Build-clause-failure
+returns-in-Build-clause-failure g c = no_failure c.finish.result.status (g.O.Sink.written c.args.out.now) (g.O.Sink.written c.finish.new.out) (Rose (g.O.Sink.faults c.args.out.now) (g.O.Sink.faults c.finish.new.out)) c.build_line-line.result c.finish.result.failure c.finish.ensures
+
 pub returns-in-Build-clause-usage : goal.returns-in-Build-clause-usage
 returns-in-Build-clause-usage g c = (
-  λ is. absurd (never_usage c.finish.result (g.O.Sink.written c.args.out.now) (g.O.Sink.written c.finish.new.out) (Rose (g.O.Sink.faults c.args.out.now) (g.O.Sink.faults c.finish.new.out)) c.build_line-line.result (build_known g c).named c.finish.ensures is),
+  λ is. absurd (never_usage c.finish.result.status (g.O.Sink.written c.args.out.now) (g.O.Sink.written c.finish.new.out) (Rose (g.O.Sink.faults c.args.out.now) (g.O.Sink.faults c.finish.new.out)) c.build_line-line.result (build_known g c).named (build_ended g c) is),
   λ usage. absurd (usage.not_build c.in-Build.config.now c.in-Build.out.now c.in-Build.ensures),
 )
 
 pub returns-in-Build-clause-done : goal.returns-in-Build-clause-done
-returns-in-Build-clause-done g c = λ ok. inl (is_done c.finish.result (g.O.Sink.written c.args.out.now) (g.O.Sink.written c.finish.new.out) (Rose (g.O.Sink.faults c.args.out.now) (g.O.Sink.faults c.finish.new.out)) (map string_bytes c.args.words.now) (g.H.Shelf.files c.args.shelf.now) (BeginsWith g.M.File.SpillFile.held (g.H.Shelf.files c.args.shelf.now) (g.T.Store.files c.args.store.now) (g.T.Store.may_leave c.args.store.now)) (g.T.Store.files c.build_line-line.new.store) (Rose (g.H.Shelf.faults c.args.shelf.now) (g.H.Shelf.faults c.build_line-line.new.shelf)) (Rose (g.T.Store.faults c.args.store.now) (g.T.Store.faults c.build_line-line.new.store)) (Rose (g.M.Room.faults c.args.room.now) (g.M.Room.faults c.build_line-line.new.room)) (Moves g.T.Store.files g.T.Store.may_leave g.T.Store.moment g.T.Store.image_since SameFiles c.args.store.now c.build_line-line.new.store) c.build_line-line.result (build_known g c) c.finish.ensures ok)
+returns-in-Build-clause-done g c = λ ok. inl (is_done c.finish.result.status (g.O.Sink.written c.args.out.now) (g.O.Sink.written c.finish.new.out) (Rose (g.O.Sink.faults c.args.out.now) (g.O.Sink.faults c.finish.new.out)) (map string_bytes c.args.words.now) (g.H.Shelf.files c.args.shelf.now) (BeginsWith g.M.File.SpillFile.held (g.H.Shelf.files c.args.shelf.now) (g.T.Store.files c.args.store.now) (g.T.Store.may_leave c.args.store.now)) (g.T.Store.files c.build_line-line.new.store) (Rose (g.H.Shelf.faults c.args.shelf.now) (g.H.Shelf.faults c.build_line-line.new.shelf)) (Rose (g.T.Store.faults c.args.store.now) (g.T.Store.faults c.build_line-line.new.store)) (Rose (g.M.Room.faults c.args.room.now) (g.M.Room.faults c.build_line-line.new.room)) (Moves g.T.Store.files g.T.Store.may_leave g.T.Store.moment g.T.Store.image_since SameFiles c.args.store.now c.build_line-line.new.store) c.build_line-line.result (build_known g c) (build_ended g c) ok)
 
 pub returns-in-Build-clause-refused : goal.returns-in-Build-clause-refused
-returns-in-Build-clause-refused g c = λ not_ok. first_two (is_refused c.finish.result (g.O.Sink.written c.args.out.now) (g.O.Sink.written c.finish.new.out) (Rose (g.O.Sink.faults c.args.out.now) (g.O.Sink.faults c.finish.new.out)) (map string_bytes c.args.words.now) (g.H.Shelf.files c.args.shelf.now) (BeginsWith g.M.File.SpillFile.held (g.H.Shelf.files c.args.shelf.now) (g.T.Store.files c.args.store.now) (g.T.Store.may_leave c.args.store.now)) (g.T.Store.files c.build_line-line.new.store) (Rose (g.H.Shelf.faults c.args.shelf.now) (g.H.Shelf.faults c.build_line-line.new.shelf)) (Rose (g.T.Store.faults c.args.store.now) (g.T.Store.faults c.build_line-line.new.store)) (Rose (g.M.Room.faults c.args.room.now) (g.M.Room.faults c.build_line-line.new.room)) (Moves g.T.Store.files g.T.Store.may_leave g.T.Store.moment g.T.Store.image_since SameFiles c.args.store.now c.build_line-line.new.store) c.build_line-line.result (build_known g c) c.finish.ensures not_ok)
+returns-in-Build-clause-refused g c = λ not_ok. first_two (is_refused c.finish.result.status (g.O.Sink.written c.args.out.now) (g.O.Sink.written c.finish.new.out) (Rose (g.O.Sink.faults c.args.out.now) (g.O.Sink.faults c.finish.new.out)) (map string_bytes c.args.words.now) (g.H.Shelf.files c.args.shelf.now) (BeginsWith g.M.File.SpillFile.held (g.H.Shelf.files c.args.shelf.now) (g.T.Store.files c.args.store.now) (g.T.Store.may_leave c.args.store.now)) (g.T.Store.files c.build_line-line.new.store) (Rose (g.H.Shelf.faults c.args.shelf.now) (g.H.Shelf.faults c.build_line-line.new.shelf)) (Rose (g.T.Store.faults c.args.store.now) (g.T.Store.faults c.build_line-line.new.store)) (Rose (g.M.Room.faults c.args.room.now) (g.M.Room.faults c.build_line-line.new.room)) (Moves g.T.Store.files g.T.Store.may_leave g.T.Store.moment g.T.Store.image_since SameFiles c.args.store.now c.build_line-line.new.store) c.build_line-line.result c.finish.result.failure (build_known g c) c.finish.ensures not_ok)
 
 pub returns-in-Build-clause-fault : goal.returns-in-Build-clause-fault
 returns-in-Build-clause-fault g c =
-    has_risen c.finish.result (g.O.Sink.written c.args.out.now) (g.O.Sink.written c.finish.new.out) (Rose (g.O.Sink.faults c.args.out.now) (g.O.Sink.faults c.finish.new.out)) (map string_bytes c.args.words.now) (g.H.Shelf.files c.args.shelf.now) (BeginsWith g.M.File.SpillFile.held (g.H.Shelf.files c.args.shelf.now) (g.T.Store.files c.args.store.now) (g.T.Store.may_leave c.args.store.now)) (g.T.Store.files c.build_line-line.new.store) (Rose (g.H.Shelf.faults c.args.shelf.now) (g.H.Shelf.faults c.build_line-line.new.shelf)) (Rose (g.T.Store.faults c.args.store.now) (g.T.Store.faults c.build_line-line.new.store)) (Rose (g.M.Room.faults c.args.room.now) (g.M.Room.faults c.build_line-line.new.room)) (Moves g.T.Store.files g.T.Store.may_leave g.T.Store.moment g.T.Store.image_since SameFiles c.args.store.now c.build_line-line.new.store) c.build_line-line.result (build_known g c) c.finish.ensures
+    has_risen c.finish.result.status (g.O.Sink.written c.args.out.now) (g.O.Sink.written c.finish.new.out) (Rose (g.O.Sink.faults c.args.out.now) (g.O.Sink.faults c.finish.new.out)) (map string_bytes c.args.words.now) (g.H.Shelf.files c.args.shelf.now) (BeginsWith g.M.File.SpillFile.held (g.H.Shelf.files c.args.shelf.now) (g.T.Store.files c.args.store.now) (g.T.Store.may_leave c.args.store.now)) (g.T.Store.files c.build_line-line.new.store) (Rose (g.H.Shelf.faults c.args.shelf.now) (g.H.Shelf.faults c.build_line-line.new.shelf)) (Rose (g.T.Store.faults c.args.store.now) (g.T.Store.faults c.build_line-line.new.store)) (Rose (g.M.Room.faults c.args.room.now) (g.M.Room.faults c.build_line-line.new.room)) (Moves g.T.Store.files g.T.Store.may_leave g.T.Store.moment g.T.Store.image_since SameFiles c.args.store.now c.build_line-line.new.store) c.build_line-line.result (build_known g c) (build_ended g c)
 
 pub returns-in-Build-clause-refusal_comes : goal.returns-in-Build-clause-refusal_comes
 returns-in-Build-clause-refusal_comes g c =
-    refusal_yields c.finish.result (g.O.Sink.written c.args.out.now) (g.O.Sink.written c.finish.new.out) (Rose (g.O.Sink.faults c.args.out.now) (g.O.Sink.faults c.finish.new.out)) c.build_line-line.result (g.H.Shelf.files c.args.shelf.now) (λ all r. IsFaulty (map string_bytes c.args.words.now) all r) c.finish.ensures (build_known g c).comes
+    refusal_yields c.finish.result.status (g.O.Sink.written c.args.out.now) (g.O.Sink.written c.finish.new.out) (Rose (g.O.Sink.faults c.args.out.now) (g.O.Sink.faults c.finish.new.out)) c.build_line-line.result (g.H.Shelf.files c.args.shelf.now) (λ all r. IsFaulty (map string_bytes c.args.words.now) all r) (build_ended g c) (build_known g c).comes
 
 pub returns-in-Build-clause-build_comes : goal.returns-in-Build-clause-build_comes
 returns-in-Build-clause-build_comes g c = λ all start begins asks.
-    accepted_yields c.finish.result (g.O.Sink.written c.args.out.now) (g.O.Sink.written c.finish.new.out) (Rose (g.O.Sink.faults c.args.out.now) (g.O.Sink.faults c.finish.new.out)) c.build_line-line.result
-    (c.build_line-line.ensures.accepted all start begins (of_build (map string_bytes c.args.words.now) c.in-Build.config.now c.in-Build.out.now c.in-Build.ensures {P = IsAcceptedAt all start} asks)) c.finish.ensures
+    accepted_yields c.finish.result.status (g.O.Sink.written c.args.out.now) (g.O.Sink.written c.finish.new.out) (Rose (g.O.Sink.faults c.args.out.now) (g.O.Sink.faults c.finish.new.out)) c.build_line-line.result
+    (c.build_line-line.ensures.accepted all start begins (of_build (map string_bytes c.args.words.now) c.in-Build.config.now c.in-Build.out.now c.in-Build.ensures {P = IsAcceptedAt all start} asks)) (build_ended g c)
 
 pub returns-in-Build-clause-done_already : goal.returns-in-Build-clause-done_already
 returns-in-Build-clause-done_already g c = λ all start begins asks.
@@ -56,7 +63,7 @@ returns-in-Build-clause-done_already g c = λ all start begins asks.
 pub returns-in-Build-clause-kept : goal.returns-in-Build-clause-kept
 returns-in-Build-clause-kept g c = λ config folder is ok all start begins.
     subst (λ (p : List ℕ). HasSpilled all start (g.M.Room.keeps c.args.room.now) (g.M.Room.keeps c.build_line-line.new.room) p) (one_build (map string_bytes c.args.words.now) config folder c.in-Build.config.now c.in-Build.out.now is c.in-Build.ensures)
-    (carried_out c.finish.result (g.O.Sink.written c.args.out.now) (g.O.Sink.written c.finish.new.out) (Rose (g.O.Sink.faults c.args.out.now) (g.O.Sink.faults c.finish.new.out)) c.build_line-line.result (c.build_line-line.ensures.kept all start begins) c.finish.ensures ok)
+    (carried_out c.finish.result.status (g.O.Sink.written c.args.out.now) (g.O.Sink.written c.finish.new.out) (Rose (g.O.Sink.faults c.args.out.now) (g.O.Sink.faults c.finish.new.out)) c.build_line-line.result (c.build_line-line.ensures.kept all start begins) (build_ended g c) ok)
 
 pub returns-in-Build-clause-others_put_nothing : goal.returns-in-Build-clause-others_put_nothing
 returns-in-Build-clause-others_put_nothing g c = inl (record { path = c.in-Build.config.now; out = c.in-Build.out.now; words_are = c.in-Build.ensures; holds = tt })
@@ -71,29 +78,35 @@ info_known g c =
     info_carries (map string_bytes c.args.words.now) c.in-Info.las.now c.in-Info.ensures c.info_line-line.result (g.H.Shelf.files c.args.shelf.now) (BeginsWith g.M.File.SpillFile.held (g.H.Shelf.files c.args.shelf.now) (g.T.Store.files c.args.store.now) (g.T.Store.may_leave c.args.store.now)) (g.T.Store.files c.args.store.now) (Rose (g.H.Shelf.faults c.args.shelf.now) (g.H.Shelf.faults c.info_line-line.new.shelf)) (Rose (g.T.Store.faults c.args.store.now) (g.T.Store.faults c.args.store.now)) (Rose (g.M.Room.faults c.args.room.now) (g.M.Room.faults c.args.room.now)) (Moves g.T.Store.files g.T.Store.may_leave g.T.Store.moment g.T.Store.image_since SameFiles c.args.store.now c.args.store.now) (stays g.T.Store.files g.T.Store.may_leave g.T.Store.moment g.T.Store.image_since c.args.store.now)
     c.info_line-line.ensures.said c.info_line-line.ensures.told c.info_line-line.ensures.causes c.info_line-line.ensures.refused c.info_line-line.ensures.sources.failed c.info_line-line.ensures.refusal_comes
 
+info_ended : (g : given.Over) (c : goal.After-finish-in-Info g) → EndsWith c.info_line-line.result c.finish-in-Info.result.status (g.O.Sink.written c.args.out.now) (g.O.Sink.written c.finish-in-Info.new.out) (Rose (g.O.Sink.faults c.args.out.now) (g.O.Sink.faults c.finish-in-Info.new.out))
+info_ended g c = ends_with c.finish-in-Info.result.status (g.O.Sink.written c.args.out.now) (g.O.Sink.written c.finish-in-Info.new.out) (Rose (g.O.Sink.faults c.args.out.now) (g.O.Sink.faults c.finish-in-Info.new.out)) c.info_line-line.result c.finish-in-Info.result.failure c.finish-in-Info.ensures
+
+pub returns-in-Info-clause-failure : goal.returns-in-Info-clause-failure
+returns-in-Info-clause-failure g c = no_failure c.finish-in-Info.result.status (g.O.Sink.written c.args.out.now) (g.O.Sink.written c.finish-in-Info.new.out) (Rose (g.O.Sink.faults c.args.out.now) (g.O.Sink.faults c.finish-in-Info.new.out)) c.info_line-line.result c.finish-in-Info.result.failure c.finish-in-Info.ensures
+
 pub returns-in-Info-clause-usage : goal.returns-in-Info-clause-usage
 returns-in-Info-clause-usage g c = (
-  λ is. absurd (never_usage c.finish-in-Info.result (g.O.Sink.written c.args.out.now) (g.O.Sink.written c.finish-in-Info.new.out) (Rose (g.O.Sink.faults c.args.out.now) (g.O.Sink.faults c.finish-in-Info.new.out)) c.info_line-line.result (info_known g c).named c.finish-in-Info.ensures is),
+  λ is. absurd (never_usage c.finish-in-Info.result.status (g.O.Sink.written c.args.out.now) (g.O.Sink.written c.finish-in-Info.new.out) (Rose (g.O.Sink.faults c.args.out.now) (g.O.Sink.faults c.finish-in-Info.new.out)) c.info_line-line.result (info_known g c).named (info_ended g c) is),
   λ usage. absurd (usage.not_info c.in-Info.las.now c.in-Info.ensures),
 )
 
 pub returns-in-Info-clause-done : goal.returns-in-Info-clause-done
-returns-in-Info-clause-done g c = λ ok. inl (is_done c.finish-in-Info.result (g.O.Sink.written c.args.out.now) (g.O.Sink.written c.finish-in-Info.new.out) (Rose (g.O.Sink.faults c.args.out.now) (g.O.Sink.faults c.finish-in-Info.new.out)) (map string_bytes c.args.words.now) (g.H.Shelf.files c.args.shelf.now) (BeginsWith g.M.File.SpillFile.held (g.H.Shelf.files c.args.shelf.now) (g.T.Store.files c.args.store.now) (g.T.Store.may_leave c.args.store.now)) (g.T.Store.files c.args.store.now) (Rose (g.H.Shelf.faults c.args.shelf.now) (g.H.Shelf.faults c.info_line-line.new.shelf)) (Rose (g.T.Store.faults c.args.store.now) (g.T.Store.faults c.args.store.now)) (Rose (g.M.Room.faults c.args.room.now) (g.M.Room.faults c.args.room.now)) (Moves g.T.Store.files g.T.Store.may_leave g.T.Store.moment g.T.Store.image_since SameFiles c.args.store.now c.args.store.now) c.info_line-line.result (info_known g c) c.finish-in-Info.ensures ok)
+returns-in-Info-clause-done g c = λ ok. inl (is_done c.finish-in-Info.result.status (g.O.Sink.written c.args.out.now) (g.O.Sink.written c.finish-in-Info.new.out) (Rose (g.O.Sink.faults c.args.out.now) (g.O.Sink.faults c.finish-in-Info.new.out)) (map string_bytes c.args.words.now) (g.H.Shelf.files c.args.shelf.now) (BeginsWith g.M.File.SpillFile.held (g.H.Shelf.files c.args.shelf.now) (g.T.Store.files c.args.store.now) (g.T.Store.may_leave c.args.store.now)) (g.T.Store.files c.args.store.now) (Rose (g.H.Shelf.faults c.args.shelf.now) (g.H.Shelf.faults c.info_line-line.new.shelf)) (Rose (g.T.Store.faults c.args.store.now) (g.T.Store.faults c.args.store.now)) (Rose (g.M.Room.faults c.args.room.now) (g.M.Room.faults c.args.room.now)) (Moves g.T.Store.files g.T.Store.may_leave g.T.Store.moment g.T.Store.image_since SameFiles c.args.store.now c.args.store.now) c.info_line-line.result (info_known g c) (info_ended g c) ok)
 
 pub returns-in-Info-clause-refused : goal.returns-in-Info-clause-refused
-returns-in-Info-clause-refused g c = λ not_ok. first_two (is_refused c.finish-in-Info.result (g.O.Sink.written c.args.out.now) (g.O.Sink.written c.finish-in-Info.new.out) (Rose (g.O.Sink.faults c.args.out.now) (g.O.Sink.faults c.finish-in-Info.new.out)) (map string_bytes c.args.words.now) (g.H.Shelf.files c.args.shelf.now) (BeginsWith g.M.File.SpillFile.held (g.H.Shelf.files c.args.shelf.now) (g.T.Store.files c.args.store.now) (g.T.Store.may_leave c.args.store.now)) (g.T.Store.files c.args.store.now) (Rose (g.H.Shelf.faults c.args.shelf.now) (g.H.Shelf.faults c.info_line-line.new.shelf)) (Rose (g.T.Store.faults c.args.store.now) (g.T.Store.faults c.args.store.now)) (Rose (g.M.Room.faults c.args.room.now) (g.M.Room.faults c.args.room.now)) (Moves g.T.Store.files g.T.Store.may_leave g.T.Store.moment g.T.Store.image_since SameFiles c.args.store.now c.args.store.now) c.info_line-line.result (info_known g c) c.finish-in-Info.ensures not_ok)
+returns-in-Info-clause-refused g c = λ not_ok. first_two (is_refused c.finish-in-Info.result.status (g.O.Sink.written c.args.out.now) (g.O.Sink.written c.finish-in-Info.new.out) (Rose (g.O.Sink.faults c.args.out.now) (g.O.Sink.faults c.finish-in-Info.new.out)) (map string_bytes c.args.words.now) (g.H.Shelf.files c.args.shelf.now) (BeginsWith g.M.File.SpillFile.held (g.H.Shelf.files c.args.shelf.now) (g.T.Store.files c.args.store.now) (g.T.Store.may_leave c.args.store.now)) (g.T.Store.files c.args.store.now) (Rose (g.H.Shelf.faults c.args.shelf.now) (g.H.Shelf.faults c.info_line-line.new.shelf)) (Rose (g.T.Store.faults c.args.store.now) (g.T.Store.faults c.args.store.now)) (Rose (g.M.Room.faults c.args.room.now) (g.M.Room.faults c.args.room.now)) (Moves g.T.Store.files g.T.Store.may_leave g.T.Store.moment g.T.Store.image_since SameFiles c.args.store.now c.args.store.now) c.info_line-line.result c.finish-in-Info.result.failure (info_known g c) c.finish-in-Info.ensures not_ok)
 
 pub returns-in-Info-clause-fault : goal.returns-in-Info-clause-fault
 returns-in-Info-clause-fault g c =
-    has_risen c.finish-in-Info.result (g.O.Sink.written c.args.out.now) (g.O.Sink.written c.finish-in-Info.new.out) (Rose (g.O.Sink.faults c.args.out.now) (g.O.Sink.faults c.finish-in-Info.new.out)) (map string_bytes c.args.words.now) (g.H.Shelf.files c.args.shelf.now) (BeginsWith g.M.File.SpillFile.held (g.H.Shelf.files c.args.shelf.now) (g.T.Store.files c.args.store.now) (g.T.Store.may_leave c.args.store.now)) (g.T.Store.files c.args.store.now) (Rose (g.H.Shelf.faults c.args.shelf.now) (g.H.Shelf.faults c.info_line-line.new.shelf)) (Rose (g.T.Store.faults c.args.store.now) (g.T.Store.faults c.args.store.now)) (Rose (g.M.Room.faults c.args.room.now) (g.M.Room.faults c.args.room.now)) (Moves g.T.Store.files g.T.Store.may_leave g.T.Store.moment g.T.Store.image_since SameFiles c.args.store.now c.args.store.now) c.info_line-line.result (info_known g c) c.finish-in-Info.ensures
+    has_risen c.finish-in-Info.result.status (g.O.Sink.written c.args.out.now) (g.O.Sink.written c.finish-in-Info.new.out) (Rose (g.O.Sink.faults c.args.out.now) (g.O.Sink.faults c.finish-in-Info.new.out)) (map string_bytes c.args.words.now) (g.H.Shelf.files c.args.shelf.now) (BeginsWith g.M.File.SpillFile.held (g.H.Shelf.files c.args.shelf.now) (g.T.Store.files c.args.store.now) (g.T.Store.may_leave c.args.store.now)) (g.T.Store.files c.args.store.now) (Rose (g.H.Shelf.faults c.args.shelf.now) (g.H.Shelf.faults c.info_line-line.new.shelf)) (Rose (g.T.Store.faults c.args.store.now) (g.T.Store.faults c.args.store.now)) (Rose (g.M.Room.faults c.args.room.now) (g.M.Room.faults c.args.room.now)) (Moves g.T.Store.files g.T.Store.may_leave g.T.Store.moment g.T.Store.image_since SameFiles c.args.store.now c.args.store.now) c.info_line-line.result (info_known g c) (info_ended g c)
 
 pub returns-in-Info-clause-refusal_comes : goal.returns-in-Info-clause-refusal_comes
 returns-in-Info-clause-refusal_comes g c =
-    refusal_yields c.finish-in-Info.result (g.O.Sink.written c.args.out.now) (g.O.Sink.written c.finish-in-Info.new.out) (Rose (g.O.Sink.faults c.args.out.now) (g.O.Sink.faults c.finish-in-Info.new.out)) c.info_line-line.result (g.H.Shelf.files c.args.shelf.now) (λ all r. IsFaulty (map string_bytes c.args.words.now) all r) c.finish-in-Info.ensures (info_known g c).comes
+    refusal_yields c.finish-in-Info.result.status (g.O.Sink.written c.args.out.now) (g.O.Sink.written c.finish-in-Info.new.out) (Rose (g.O.Sink.faults c.args.out.now) (g.O.Sink.faults c.finish-in-Info.new.out)) c.info_line-line.result (g.H.Shelf.files c.args.shelf.now) (λ all r. IsFaulty (map string_bytes c.args.words.now) all r) (info_ended g c) (info_known g c).comes
 
 pub returns-in-Info-clause-info_comes : goal.returns-in-Info-clause-info_comes
 returns-in-Info-clause-info_comes g c =
-    info_yields c.finish-in-Info.result (g.O.Sink.written c.args.out.now) (g.O.Sink.written c.finish-in-Info.new.out) (Rose (g.O.Sink.faults c.args.out.now) (g.O.Sink.faults c.finish-in-Info.new.out)) c.info_line-line.result (g.H.Shelf.files c.args.shelf.now) (λ all header. AsksInfo (map string_bytes c.args.words.now) (λ path. HasHeader all path header)) c.finish-in-Info.ensures
+    info_yields c.finish-in-Info.result.status (g.O.Sink.written c.args.out.now) (g.O.Sink.written c.finish-in-Info.new.out) (Rose (g.O.Sink.faults c.args.out.now) (g.O.Sink.faults c.finish-in-Info.new.out)) c.info_line-line.result (g.H.Shelf.files c.args.shelf.now) (λ all header. AsksInfo (map string_bytes c.args.words.now) (λ path. HasHeader all path header)) (info_ended g c)
     (info_accepted (map string_bytes c.args.words.now) c.in-Info.las.now c.in-Info.ensures c.info_line-line.result (g.H.Shelf.files c.args.shelf.now) c.info_line-line.ensures.accepted)
 
 pub returns-in-Info-clause-build_comes : goal.returns-in-Info-clause-build_comes
@@ -128,26 +141,38 @@ returns-in-Usage-clause-others_put_nothing g c = inr (stays g.T.Store.files g.T.
 pub returns-in-Usage-clause-sound : goal.returns-in-Usage-clause-sound
 returns-in-Usage-clause-sound g c = λ config folder is. absurd (c.in-Usage.ensures.not_build config folder is)
 
+pub returns-in-Usage-clause-failure : goal.returns-in-Usage-clause-failure
+returns-in-Usage-clause-failure g c = (
+  λ is. absurd (omega (arith, c.refuse_usage.ensures.status, is)),
+  λ none. absurd (some_or_none (Refused Usage) c.refuse_usage.result.failure c.refuse_usage.ensures.failure none),
+)
+
 pub returns-in-Usage-clause-refused : goal.returns-in-Usage-clause-refused
-returns-in-Usage-clause-refused g c = λ not_ok. inl (record {
-  cause = Usage;
-  status_is = sym c.refuse_usage.ensures.status;
-  has_cause = told_always (λ all. IsRefused (map string_bytes c.args.words.now) all (BeginsWith g.M.File.SpillFile.held (g.H.Shelf.files c.args.shelf.now) (g.T.Store.files c.args.store.now) (g.T.Store.may_leave c.args.store.now)) Usage) (g.H.Shelf.files c.args.shelf.now) (λ all. inl (refl, c.in-Usage.ensures));
-  risen = tt;
-  says = c.refuse_usage.ensures.says;
-  early = λ early. stays g.T.Store.files g.T.Store.may_leave g.T.Store.moment g.T.Store.image_since c.args.store.now;
-})
+returns-in-Usage-clause-refused g c = λ not_ok. inl (
+  record {
+    cause = Usage;
+    status_is = sym c.refuse_usage.ensures.status;
+    has_cause = told_always (λ all. IsRefused (map string_bytes c.args.words.now) all (BeginsWith g.M.File.SpillFile.held (g.H.Shelf.files c.args.shelf.now) (g.T.Store.files c.args.store.now) (g.T.Store.may_leave c.args.store.now)) Usage) (g.H.Shelf.files c.args.shelf.now) (λ all. inl (refl, c.in-Usage.ensures));
+    risen = tt;
+    says = c.refuse_usage.ensures.says;
+    early = λ early. stays g.T.Store.files g.T.Store.may_leave g.T.Store.moment g.T.Store.image_since c.args.store.now;
+  },
+  c.refuse_usage.ensures.failure,
+)
 
 pub returns-in-Usage-clause-refusal_comes : goal.returns-in-Usage-clause-refusal_comes
 returns-in-Usage-clause-refusal_comes g c =
-    usage_yields (g.H.Shelf.files c.args.shelf.now) (map string_bytes c.args.words.now) c.refuse_usage.result (g.O.Sink.written c.args.out.now) (g.O.Sink.written c.refuse_usage.new.out)
+    usage_yields (g.H.Shelf.files c.args.shelf.now) (map string_bytes c.args.words.now) c.refuse_usage.result.status (g.O.Sink.written c.args.out.now) (g.O.Sink.written c.refuse_usage.new.out)
     (Rose (g.O.Sink.faults c.args.out.now) (g.O.Sink.faults c.refuse_usage.new.out)) c.in-Usage.ensures c.refuse_usage.ensures.status c.refuse_usage.ensures.says
 
 -- ---- query
 
+pub returns-in-Query-clause-failure : goal.returns-in-Query-clause-failure
+returns-in-Query-clause-failure g c = query_no_failure c.answer_query.ensures.ends.0.answer c.answer_query.result.status c.answer_query.result.failure c.answer_query.ensures.ends.0.status_is c.answer_query.ensures.ends.1
+
 pub returns-in-Query-clause-usage : goal.returns-in-Query-clause-usage
 returns-in-Query-clause-usage g c = (
-  λ is. absurd (query_not_usage c.in-Query.area c.in-Query.depths.0 c.in-Query.depths.1 c.answer_query.result (g.T.Store.files c.args.store.now) (g.O.Sink.written c.args.out.now) (g.O.Sink.written c.answer_query.new.out) (Rose (g.T.Store.faults c.args.store.now) (g.T.Store.faults c.answer_query.new.store)) (Rose (g.O.Sink.faults c.args.out.now) (g.O.Sink.faults c.answer_query.new.out)) c.answer_query.ensures.ends is),
+  λ is. absurd (query_not_usage c.in-Query.area c.in-Query.depths.0 c.in-Query.depths.1 c.answer_query.result.status (g.T.Store.files c.args.store.now) (g.O.Sink.written c.args.out.now) (g.O.Sink.written c.answer_query.new.out) (Rose (g.T.Store.faults c.args.store.now) (g.T.Store.faults c.answer_query.new.store)) (Rose (g.O.Sink.faults c.args.out.now) (g.O.Sink.faults c.answer_query.new.out)) c.answer_query.ensures.ends.0 is),
   λ usage. absurd (usage.not_query c.in-Query.out.now c.in-Query.area c.in-Query.depths.0 c.in-Query.depths.1 c.in-Query.ensures),
 )
 
@@ -174,10 +199,10 @@ returns-in-Query-clause-sound g c = λ config folder is. absurd (query_or_build 
 
 pub returns-in-Query-clause-info_comes : goal.returns-in-Query-clause-info_comes
 returns-in-Query-clause-info_comes g c =
-    told_always (λ all. (header : Header) → AsksInfo (map string_bytes c.args.words.now) (λ path. HasHeader all path header) → Yields 0 c.answer_query.result) (g.H.Shelf.files c.args.shelf.now) (λ all header asks. absurd (query_untold (map string_bytes c.args.words.now) c.in-Query.out.now c.in-Query.area c.in-Query.depths.0 c.in-Query.depths.1 c.in-Query.ensures asks))
+    told_always (λ all. (header : Header) → AsksInfo (map string_bytes c.args.words.now) (λ path. HasHeader all path header) → Yields 0 c.answer_query.result.status) (g.H.Shelf.files c.args.shelf.now) (λ all header asks. absurd (query_untold (map string_bytes c.args.words.now) c.in-Query.out.now c.in-Query.area c.in-Query.depths.0 c.in-Query.depths.1 c.in-Query.ensures asks))
 
 pub returns-in-Query-clause-query : goal.returns-in-Query-clause-query
-returns-in-Query-clause-query g c = λ folder area first last is. query_ends c.query_words_law.ensures.one_box c.query_words_law.ensures.one_range (map string_bytes c.args.words.now) c.in-Query.out.now folder c.in-Query.area area c.in-Query.depths.0 c.in-Query.depths.1 first last c.answer_query.result (g.T.Store.files c.args.store.now) (g.O.Sink.written c.args.out.now) (g.O.Sink.written c.answer_query.new.out) (Rose (g.T.Store.faults c.args.store.now) (g.T.Store.faults c.answer_query.new.store)) (Rose (g.O.Sink.faults c.args.out.now) (g.O.Sink.faults c.answer_query.new.out)) c.in-Query.ensures is c.answer_query.ensures.ends
+returns-in-Query-clause-query g c = λ folder area first last is. query_ends c.query_words_law.ensures.one_box c.query_words_law.ensures.one_range (map string_bytes c.args.words.now) c.in-Query.out.now folder c.in-Query.area area c.in-Query.depths.0 c.in-Query.depths.1 first last c.answer_query.result.status c.answer_query.result.failure (g.T.Store.files c.args.store.now) (g.O.Sink.written c.args.out.now) (g.O.Sink.written c.answer_query.new.out) (Rose (g.T.Store.faults c.args.store.now) (g.T.Store.faults c.answer_query.new.store)) (Rose (g.O.Sink.faults c.args.out.now) (g.O.Sink.faults c.answer_query.new.out)) c.in-Query.ensures is c.answer_query.ensures.ends
 
 pub returns-in-Query-clause-query_puts_nothing : goal.returns-in-Query-clause-query_puts_nothing
 returns-in-Query-clause-query_puts_nothing g c = λ asks. c.answer_query.ensures.any_moment
@@ -187,10 +212,10 @@ returns-in-Query-clause-refused g c = λ not_ok. inr (inr (query_asked (map stri
 
 pub returns-in-Query-clause-refusal_comes : goal.returns-in-Query-clause-refusal_comes
 returns-in-Query-clause-refusal_comes g c =
-    told_always (λ all. (r : Refusal) → IsDefinite r → IsFaulty (map string_bytes c.args.words.now) all r → YieldsRefusal r c.answer_query.result (g.O.Sink.written c.args.out.now) (g.O.Sink.written c.answer_query.new.out) (Rose (g.O.Sink.faults c.args.out.now) (g.O.Sink.faults c.answer_query.new.out))) (g.H.Shelf.files c.args.shelf.now) (λ all r definite refused. absurd (query_unrefused (map string_bytes c.args.words.now) c.in-Query.out.now c.in-Query.area c.in-Query.depths.0 c.in-Query.depths.1 c.in-Query.ensures all r refused))
+    told_always (λ all. (r : Refusal) → IsDefinite r → IsFaulty (map string_bytes c.args.words.now) all r → YieldsRefusal r c.answer_query.result.status (g.O.Sink.written c.args.out.now) (g.O.Sink.written c.answer_query.new.out) (Rose (g.O.Sink.faults c.args.out.now) (g.O.Sink.faults c.answer_query.new.out))) (g.H.Shelf.files c.args.shelf.now) (λ all r definite refused. absurd (query_unrefused (map string_bytes c.args.words.now) c.in-Query.out.now c.in-Query.area c.in-Query.depths.0 c.in-Query.depths.1 c.in-Query.ensures all r refused))
 
 pub returns-in-Query-clause-fault : goal.returns-in-Query-clause-fault
-returns-in-Query-clause-fault g c = λ is. ⊎_elim (λ store. inr (inl store)) (λ sink. inr (inr (inr sink))) (query_rose c.in-Query.area c.in-Query.depths.0 c.in-Query.depths.1 c.answer_query.result (g.T.Store.files c.args.store.now) (g.O.Sink.written c.args.out.now) (g.O.Sink.written c.answer_query.new.out) (Rose (g.T.Store.faults c.args.store.now) (g.T.Store.faults c.answer_query.new.store)) (Rose (g.O.Sink.faults c.args.out.now) (g.O.Sink.faults c.answer_query.new.out)) c.answer_query.ensures.ends is)
+returns-in-Query-clause-fault g c = λ is. ⊎_elim (λ store. inr (inl store)) (λ sink. inr (inr (inr sink))) (query_rose c.in-Query.area c.in-Query.depths.0 c.in-Query.depths.1 c.answer_query.result.status (g.T.Store.files c.args.store.now) (g.O.Sink.written c.args.out.now) (g.O.Sink.written c.answer_query.new.out) (Rose (g.T.Store.faults c.args.store.now) (g.T.Store.faults c.answer_query.new.store)) (Rose (g.O.Sink.faults c.args.out.now) (g.O.Sink.faults c.answer_query.new.out)) c.answer_query.ensures.ends.0 is)
 
 -- ---- no query
 
@@ -216,15 +241,15 @@ returns-in-Usage-clause-query_puts_nothing g c = λ asks. absurd (c.in-Usage.ens
 
 pub returns-in-Build-clause-build_refusal_comes : goal.returns-in-Build-clause-build_refusal_comes
 returns-in-Build-clause-build_refusal_comes g c = λ all start begins r asks.
-    comes_yields c.finish.result (g.O.Sink.written c.args.out.now) (g.O.Sink.written c.finish.new.out) (Rose (g.O.Sink.faults c.args.out.now) (g.O.Sink.faults c.finish.new.out)) c.build_line-line.result r (c.build_line-line.ensures.comes all start begins r (of_build (map string_bytes c.args.words.now) c.in-Build.config.now c.in-Build.out.now c.in-Build.ensures {P = ComesAt all start r} asks)) c.finish.ensures
+    comes_yields c.finish.result.status (g.O.Sink.written c.args.out.now) (g.O.Sink.written c.finish.new.out) (Rose (g.O.Sink.faults c.args.out.now) (g.O.Sink.faults c.finish.new.out)) c.build_line-line.result r (c.build_line-line.ensures.comes all start begins r (of_build (map string_bytes c.args.words.now) c.in-Build.config.now c.in-Build.out.now c.in-Build.ensures {P = ComesAt all start r} asks)) (build_ended g c)
 
 pub returns-in-Build-clause-differs_comes : goal.returns-in-Build-clause-differs_comes
 returns-in-Build-clause-differs_comes g c = λ all start begins asks.
-    differs_yields c.finish.result (g.O.Sink.written c.args.out.now) (g.O.Sink.written c.finish.new.out) (Rose (g.O.Sink.faults c.args.out.now) (g.O.Sink.faults c.finish.new.out)) c.build_line-line.result (c.build_line-line.ensures.differs_comes all start begins (of_build (map string_bytes c.args.words.now) c.in-Build.config.now c.in-Build.out.now c.in-Build.ensures {P = DiffersAt all start} asks)) c.finish.ensures
+    differs_yields c.finish.result.status (g.O.Sink.written c.args.out.now) (g.O.Sink.written c.finish.new.out) (Rose (g.O.Sink.faults c.args.out.now) (g.O.Sink.faults c.finish.new.out)) c.build_line-line.result (c.build_line-line.ensures.differs_comes all start begins (of_build (map string_bytes c.args.words.now) c.in-Build.config.now c.in-Build.out.now c.in-Build.ensures {P = DiffersAt all start} asks)) (build_ended g c)
 
 pub returns-in-Build-clause-bad_comes : goal.returns-in-Build-clause-bad_comes
 returns-in-Build-clause-bad_comes g c = λ all start letter told stored bad asks.
-    comes_yields c.finish.result (g.O.Sink.written c.args.out.now) (g.O.Sink.written c.finish.new.out) (Rose (g.O.Sink.faults c.args.out.now) (g.O.Sink.faults c.finish.new.out)) c.build_line-line.result (BadCheckpoint letter) (c.build_line-line.ensures.bad_comes all start letter told stored bad (of_build (map string_bytes c.args.words.now) c.in-Build.config.now c.in-Build.out.now c.in-Build.ensures {P = IsConfigured all} asks)) c.finish.ensures
+    comes_yields c.finish.result.status (g.O.Sink.written c.args.out.now) (g.O.Sink.written c.finish.new.out) (Rose (g.O.Sink.faults c.args.out.now) (g.O.Sink.faults c.finish.new.out)) c.build_line-line.result (BadCheckpoint letter) (c.build_line-line.ensures.bad_comes all start letter told stored bad (of_build (map string_bytes c.args.words.now) c.in-Build.config.now c.in-Build.out.now c.in-Build.ensures {P = IsConfigured all} asks)) (build_ended g c)
 
 pub returns-in-Usage-clause-build_refusal_comes : goal.returns-in-Usage-clause-build_refusal_comes
 returns-in-Usage-clause-build_refusal_comes g c = λ all start begins r asks. absurd (c.in-Usage.ensures.not_build asks.path asks.out asks.words_are)
@@ -272,7 +297,7 @@ returns-in-Build-clause-header_given g c = λ las is. absurd (build_or_info (map
 
 pub returns-in-Build-clause-configuration_given : goal.returns-in-Build-clause-configuration_given
 returns-in-Build-clause-configuration_given g c = λ is.
-    let bad = bad_configuration c.finish.result (g.O.Sink.written c.args.out.now) (g.O.Sink.written c.finish.new.out) (Rose (g.O.Sink.faults c.args.out.now) (g.O.Sink.faults c.finish.new.out)) c.build_line-line.result c.finish.ensures is in
+    let bad = bad_configuration c.finish.result.status (g.O.Sink.written c.args.out.now) (g.O.Sink.written c.finish.new.out) (Rose (g.O.Sink.faults c.args.out.now) (g.O.Sink.faults c.finish.new.out)) c.build_line-line.result (build_ended g c) is in
     c.build_line-line.ensures.given bad.0 bad.1
 
 -- ---- trial
@@ -281,37 +306,43 @@ trial_known : (g : given.Over) (c : goal.After-finish-in-Trial g) → Carries (m
 trial_known g c =
     trial_carries (map string_bytes c.args.words.now) c.in-Trial.points c.in-Trial.workers c.in-Trial.cache c.in-Trial.ensures c.trial_line-line.result c.trial_line-line.ensures.told c.trial_line-line.ensures.refused (g.H.Shelf.files c.args.shelf.now) (BeginsWith g.M.File.SpillFile.held (g.H.Shelf.files c.args.shelf.now) (g.T.Store.files c.args.store.now) (g.T.Store.may_leave c.args.store.now)) (g.T.Store.files c.args.store.now) (Rose (g.H.Shelf.faults c.args.shelf.now) (g.H.Shelf.faults c.args.shelf.now)) (Rose (g.T.Store.faults c.args.store.now) (g.T.Store.faults c.args.store.now)) (Rose (g.M.Room.faults c.args.room.now) (g.M.Room.faults c.args.room.now)) (Moves g.T.Store.files g.T.Store.may_leave g.T.Store.moment g.T.Store.image_since SameFiles c.args.store.now c.args.store.now) (stays g.T.Store.files g.T.Store.may_leave g.T.Store.moment g.T.Store.image_since c.args.store.now)
 
+trial_ended : (g : given.Over) (c : goal.After-finish-in-Trial g) → EndsWith c.trial_line-line.result c.finish-in-Trial.result.status (g.O.Sink.written c.args.out.now) (g.O.Sink.written c.finish-in-Trial.new.out) (Rose (g.O.Sink.faults c.args.out.now) (g.O.Sink.faults c.finish-in-Trial.new.out))
+trial_ended g c = ends_with c.finish-in-Trial.result.status (g.O.Sink.written c.args.out.now) (g.O.Sink.written c.finish-in-Trial.new.out) (Rose (g.O.Sink.faults c.args.out.now) (g.O.Sink.faults c.finish-in-Trial.new.out)) c.trial_line-line.result c.finish-in-Trial.result.failure c.finish-in-Trial.ensures
+
+pub returns-in-Trial-clause-failure : goal.returns-in-Trial-clause-failure
+returns-in-Trial-clause-failure g c = no_failure c.finish-in-Trial.result.status (g.O.Sink.written c.args.out.now) (g.O.Sink.written c.finish-in-Trial.new.out) (Rose (g.O.Sink.faults c.args.out.now) (g.O.Sink.faults c.finish-in-Trial.new.out)) c.trial_line-line.result c.finish-in-Trial.result.failure c.finish-in-Trial.ensures
+
 pub returns-in-Trial-clause-usage : goal.returns-in-Trial-clause-usage
 returns-in-Trial-clause-usage g c = (
-  λ is. absurd (never_usage c.finish-in-Trial.result (g.O.Sink.written c.args.out.now) (g.O.Sink.written c.finish-in-Trial.new.out) (Rose (g.O.Sink.faults c.args.out.now) (g.O.Sink.faults c.finish-in-Trial.new.out)) c.trial_line-line.result (trial_known g c).named c.finish-in-Trial.ensures is),
+  λ is. absurd (never_usage c.finish-in-Trial.result.status (g.O.Sink.written c.args.out.now) (g.O.Sink.written c.finish-in-Trial.new.out) (Rose (g.O.Sink.faults c.args.out.now) (g.O.Sink.faults c.finish-in-Trial.new.out)) c.trial_line-line.result (trial_known g c).named (trial_ended g c) is),
   λ usage. absurd (usage.not_trial c.in-Trial.points c.in-Trial.workers c.in-Trial.cache c.in-Trial.ensures),
 )
 
 pub returns-in-Trial-clause-done : goal.returns-in-Trial-clause-done
-returns-in-Trial-clause-done g c = λ ok. inl (is_done c.finish-in-Trial.result (g.O.Sink.written c.args.out.now) (g.O.Sink.written c.finish-in-Trial.new.out) (Rose (g.O.Sink.faults c.args.out.now) (g.O.Sink.faults c.finish-in-Trial.new.out)) (map string_bytes c.args.words.now) (g.H.Shelf.files c.args.shelf.now) (BeginsWith g.M.File.SpillFile.held (g.H.Shelf.files c.args.shelf.now) (g.T.Store.files c.args.store.now) (g.T.Store.may_leave c.args.store.now)) (g.T.Store.files c.args.store.now) (Rose (g.H.Shelf.faults c.args.shelf.now) (g.H.Shelf.faults c.args.shelf.now)) (Rose (g.T.Store.faults c.args.store.now) (g.T.Store.faults c.args.store.now)) (Rose (g.M.Room.faults c.args.room.now) (g.M.Room.faults c.args.room.now)) (Moves g.T.Store.files g.T.Store.may_leave g.T.Store.moment g.T.Store.image_since SameFiles c.args.store.now c.args.store.now) c.trial_line-line.result (trial_known g c) c.finish-in-Trial.ensures ok)
+returns-in-Trial-clause-done g c = λ ok. inl (is_done c.finish-in-Trial.result.status (g.O.Sink.written c.args.out.now) (g.O.Sink.written c.finish-in-Trial.new.out) (Rose (g.O.Sink.faults c.args.out.now) (g.O.Sink.faults c.finish-in-Trial.new.out)) (map string_bytes c.args.words.now) (g.H.Shelf.files c.args.shelf.now) (BeginsWith g.M.File.SpillFile.held (g.H.Shelf.files c.args.shelf.now) (g.T.Store.files c.args.store.now) (g.T.Store.may_leave c.args.store.now)) (g.T.Store.files c.args.store.now) (Rose (g.H.Shelf.faults c.args.shelf.now) (g.H.Shelf.faults c.args.shelf.now)) (Rose (g.T.Store.faults c.args.store.now) (g.T.Store.faults c.args.store.now)) (Rose (g.M.Room.faults c.args.room.now) (g.M.Room.faults c.args.room.now)) (Moves g.T.Store.files g.T.Store.may_leave g.T.Store.moment g.T.Store.image_since SameFiles c.args.store.now c.args.store.now) c.trial_line-line.result (trial_known g c) (trial_ended g c) ok)
 
 pub returns-in-Trial-clause-refused : goal.returns-in-Trial-clause-refused
-returns-in-Trial-clause-refused g c = λ not_ok. first_two (is_refused c.finish-in-Trial.result (g.O.Sink.written c.args.out.now) (g.O.Sink.written c.finish-in-Trial.new.out) (Rose (g.O.Sink.faults c.args.out.now) (g.O.Sink.faults c.finish-in-Trial.new.out)) (map string_bytes c.args.words.now) (g.H.Shelf.files c.args.shelf.now) (BeginsWith g.M.File.SpillFile.held (g.H.Shelf.files c.args.shelf.now) (g.T.Store.files c.args.store.now) (g.T.Store.may_leave c.args.store.now)) (g.T.Store.files c.args.store.now) (Rose (g.H.Shelf.faults c.args.shelf.now) (g.H.Shelf.faults c.args.shelf.now)) (Rose (g.T.Store.faults c.args.store.now) (g.T.Store.faults c.args.store.now)) (Rose (g.M.Room.faults c.args.room.now) (g.M.Room.faults c.args.room.now)) (Moves g.T.Store.files g.T.Store.may_leave g.T.Store.moment g.T.Store.image_since SameFiles c.args.store.now c.args.store.now) c.trial_line-line.result (trial_known g c) c.finish-in-Trial.ensures not_ok)
+returns-in-Trial-clause-refused g c = λ not_ok. first_two (is_refused c.finish-in-Trial.result.status (g.O.Sink.written c.args.out.now) (g.O.Sink.written c.finish-in-Trial.new.out) (Rose (g.O.Sink.faults c.args.out.now) (g.O.Sink.faults c.finish-in-Trial.new.out)) (map string_bytes c.args.words.now) (g.H.Shelf.files c.args.shelf.now) (BeginsWith g.M.File.SpillFile.held (g.H.Shelf.files c.args.shelf.now) (g.T.Store.files c.args.store.now) (g.T.Store.may_leave c.args.store.now)) (g.T.Store.files c.args.store.now) (Rose (g.H.Shelf.faults c.args.shelf.now) (g.H.Shelf.faults c.args.shelf.now)) (Rose (g.T.Store.faults c.args.store.now) (g.T.Store.faults c.args.store.now)) (Rose (g.M.Room.faults c.args.room.now) (g.M.Room.faults c.args.room.now)) (Moves g.T.Store.files g.T.Store.may_leave g.T.Store.moment g.T.Store.image_since SameFiles c.args.store.now c.args.store.now) c.trial_line-line.result c.finish-in-Trial.result.failure (trial_known g c) c.finish-in-Trial.ensures not_ok)
 
 pub returns-in-Trial-clause-fault : goal.returns-in-Trial-clause-fault
 returns-in-Trial-clause-fault g c =
-    has_risen c.finish-in-Trial.result (g.O.Sink.written c.args.out.now) (g.O.Sink.written c.finish-in-Trial.new.out) (Rose (g.O.Sink.faults c.args.out.now) (g.O.Sink.faults c.finish-in-Trial.new.out)) (map string_bytes c.args.words.now) (g.H.Shelf.files c.args.shelf.now) (BeginsWith g.M.File.SpillFile.held (g.H.Shelf.files c.args.shelf.now) (g.T.Store.files c.args.store.now) (g.T.Store.may_leave c.args.store.now)) (g.T.Store.files c.args.store.now) (Rose (g.H.Shelf.faults c.args.shelf.now) (g.H.Shelf.faults c.args.shelf.now)) (Rose (g.T.Store.faults c.args.store.now) (g.T.Store.faults c.args.store.now)) (Rose (g.M.Room.faults c.args.room.now) (g.M.Room.faults c.args.room.now)) (Moves g.T.Store.files g.T.Store.may_leave g.T.Store.moment g.T.Store.image_since SameFiles c.args.store.now c.args.store.now) c.trial_line-line.result (trial_known g c) c.finish-in-Trial.ensures
+    has_risen c.finish-in-Trial.result.status (g.O.Sink.written c.args.out.now) (g.O.Sink.written c.finish-in-Trial.new.out) (Rose (g.O.Sink.faults c.args.out.now) (g.O.Sink.faults c.finish-in-Trial.new.out)) (map string_bytes c.args.words.now) (g.H.Shelf.files c.args.shelf.now) (BeginsWith g.M.File.SpillFile.held (g.H.Shelf.files c.args.shelf.now) (g.T.Store.files c.args.store.now) (g.T.Store.may_leave c.args.store.now)) (g.T.Store.files c.args.store.now) (Rose (g.H.Shelf.faults c.args.shelf.now) (g.H.Shelf.faults c.args.shelf.now)) (Rose (g.T.Store.faults c.args.store.now) (g.T.Store.faults c.args.store.now)) (Rose (g.M.Room.faults c.args.room.now) (g.M.Room.faults c.args.room.now)) (Moves g.T.Store.files g.T.Store.may_leave g.T.Store.moment g.T.Store.image_since SameFiles c.args.store.now c.args.store.now) c.trial_line-line.result (trial_known g c) (trial_ended g c)
 
 pub returns-in-Trial-clause-refusal_comes : goal.returns-in-Trial-clause-refusal_comes
 returns-in-Trial-clause-refusal_comes g c =
-    refusal_yields c.finish-in-Trial.result (g.O.Sink.written c.args.out.now) (g.O.Sink.written c.finish-in-Trial.new.out) (Rose (g.O.Sink.faults c.args.out.now) (g.O.Sink.faults c.finish-in-Trial.new.out)) c.trial_line-line.result (g.H.Shelf.files c.args.shelf.now) (λ all r. IsFaulty (map string_bytes c.args.words.now) all r) c.finish-in-Trial.ensures (trial_known g c).comes
+    refusal_yields c.finish-in-Trial.result.status (g.O.Sink.written c.args.out.now) (g.O.Sink.written c.finish-in-Trial.new.out) (Rose (g.O.Sink.faults c.args.out.now) (g.O.Sink.faults c.finish-in-Trial.new.out)) c.trial_line-line.result (g.H.Shelf.files c.args.shelf.now) (λ all r. IsFaulty (map string_bytes c.args.words.now) all r) (trial_ended g c) (trial_known g c).comes
 
 pub returns-in-Trial-clause-trial : goal.returns-in-Trial-clause-trial
 returns-in-Trial-clause-trial g c = λ count workers cache is.
-    subst (λ (n : ℕ). EndsTrial n c.finish-in-Trial.result (g.O.Sink.written c.args.out.now) (g.O.Sink.written c.finish-in-Trial.new.out) (Rose (g.O.Sink.faults c.args.out.now) (g.O.Sink.faults c.finish-in-Trial.new.out))) (one_count (map string_bytes c.args.words.now) c.in-Trial.points c.in-Trial.workers c.in-Trial.cache c.in-Trial.ensures count workers cache is)
-    (trial_ends c.in-Trial.points c.finish-in-Trial.result (g.O.Sink.written c.args.out.now) (g.O.Sink.written c.finish-in-Trial.new.out) (Rose (g.O.Sink.faults c.args.out.now) (g.O.Sink.faults c.finish-in-Trial.new.out)) c.trial_line-line.result c.trial_line-line.ensures.told c.trial_line-line.ensures.refused c.finish-in-Trial.ensures)
+    subst (λ (n : ℕ). EndsTrial n c.finish-in-Trial.result.status (g.O.Sink.written c.args.out.now) (g.O.Sink.written c.finish-in-Trial.new.out) (Rose (g.O.Sink.faults c.args.out.now) (g.O.Sink.faults c.finish-in-Trial.new.out))) (one_count (map string_bytes c.args.words.now) c.in-Trial.points c.in-Trial.workers c.in-Trial.cache c.in-Trial.ensures count workers cache is)
+    (trial_ends c.in-Trial.points c.finish-in-Trial.result.status (g.O.Sink.written c.args.out.now) (g.O.Sink.written c.finish-in-Trial.new.out) (Rose (g.O.Sink.faults c.args.out.now) (g.O.Sink.faults c.finish-in-Trial.new.out)) c.trial_line-line.result c.trial_line-line.ensures.told c.trial_line-line.ensures.refused (trial_ended g c))
 
 pub returns-in-Trial-clause-build_comes : goal.returns-in-Trial-clause-build_comes
 returns-in-Trial-clause-build_comes g c = λ all start begins asks. absurd (trial_or_build (map string_bytes c.args.words.now) c.in-Trial.points c.in-Trial.workers c.in-Trial.cache c.in-Trial.ensures asks.path asks.out asks.words_are)
 
 pub returns-in-Trial-clause-info_comes : goal.returns-in-Trial-clause-info_comes
 returns-in-Trial-clause-info_comes g c =
-    told_always (λ all. (header : Header) → AsksInfo (map string_bytes c.args.words.now) (λ path. HasHeader all path header) → Yields 0 c.finish-in-Trial.result) (g.H.Shelf.files c.args.shelf.now) (λ all header asks. absurd (trial_untold (map string_bytes c.args.words.now) c.in-Trial.points c.in-Trial.workers c.in-Trial.cache c.in-Trial.ensures {Fact = λ path. HasHeader all path header} asks))
+    told_always (λ all. (header : Header) → AsksInfo (map string_bytes c.args.words.now) (λ path. HasHeader all path header) → Yields 0 c.finish-in-Trial.result.status) (g.H.Shelf.files c.args.shelf.now) (λ all header asks. absurd (trial_untold (map string_bytes c.args.words.now) c.in-Trial.points c.in-Trial.workers c.in-Trial.cache c.in-Trial.ensures {Fact = λ path. HasHeader all path header} asks))
 
 pub returns-in-Trial-clause-settled : goal.returns-in-Trial-clause-settled
 returns-in-Trial-clause-settled g c = λ config folder is ok. absurd (trial_or_build (map string_bytes c.args.words.now) c.in-Trial.points c.in-Trial.workers c.in-Trial.cache c.in-Trial.ensures config folder is)

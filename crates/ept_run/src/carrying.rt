@@ -1,0 +1,164 @@
+//! A run of the program, and why it ends as it does.
+
+ghost use Rattle.std.specs.Prelude.{◌≡◌, ◌≢◌, ◌⊎◌, ◌↔◌, ◌≤◌, ◌+◌, ◌^◌, ℕ, List, None, Some, ⊤};
+ghost use Rattle.std.specs.Io.KnownBytes.{Appends};
+ghost use Rattle.ept_base.specs.Causes.{Rose};
+ghost use Rattle.ept_base.specs.Files.{Files, SameFiles, Tells};
+ghost use Rattle.ept_base.specs.Moves.{Moves, IsSettled};
+ghost use Rattle.ept_las.specs.declared.header.Header as found;
+ghost use Rattle.ept_space.specs.declared.box3.Box3 as space;
+ghost use Rattle.ept_ckpt.specs.declared.letter.Letter.{Letter};
+ghost use Rattle.ept_save.specs.Opening.{IsBad};
+ghost use Rattle.ept_save.specs.Sound.{IsSound};
+ghost use Rattle.ept_build.specs.Building.{BeginsWith};
+ghost use Rattle.ept_run.specs.declared.ended.Failure.TheVariants.{Refused};
+ghost use Rattle.ept_run.specs.declared.refusal.Refusal as cause;
+ghost use Rattle.ept_run.specs.declared.refusal.Refusal.TheVariants.{BadCheckpoint};
+ghost use Rattle.ept_run.specs.Words.{bytes_of, IsBuild, IsInfo, IsQuery, IsTrial, IsUsage};
+ghost use Rattle.ept_run.specs.Requests.{IsAcceptedAt, IsDoneAt, ComesAt, DiffersAt, IsConfigured, HasSpilled, HasHeader, IsDefinite};
+ghost use Rattle.ept_run.specs.Answers.{Yields, YieldsRefusal, YieldsDifference, IsAskedFor, AsksBuild, AsksInfo, AsksQuery, Ends, IsFaulty, Refuses, IsCut, IsUnwritten, EndsTrial};
+ghost use Rattle.ept_run.specs.Queries.{query_failure, EndsQuery};
+
+use crate::answers::{finish, refuse_usage};
+use crate::commands::{build_line, info_line, trial_line};
+use crate::ended::Ended;
+use crate::querying::answer_query;
+use crate::words::{Command, command_of};
+use ept_base::{Gate, Room, Shelf, Sink, Store};
+use ept_http::query_words_law;
+use std::alloc::Global;
+use std::sync::Wait;
+use std::thread::Threads;
+
+/// Carries out the command that the words are, as [`run`](crate::run) does, and reports why it ends so.
+pub fn carry_out<H: Shelf, T: Store, M: Room, O: Sink, G: Gate + Sync, R: Threads + Wait + Sync>(
+    rt: &R,
+    alloc: Global,
+    words: &[String],
+    shelf: &mut H,
+    store: &mut T,
+    room: &mut M,
+    out: &mut O,
+    gate: &G,
+) -> Ended
+where
+    H::Source: Send,
+    M::File: Send + Sync,
+    // The statuses: 0 done, 2 no command, 3 the configuration, 4 a scan, 5 too many, 6 another configuration or no
+    // complete dataset, 7 a device, 8 a damaged file, 9 memory.
+
+    // There is a failure at each status but 0.
+    ensures failure { (result.status ≡ 0) ↔ (result.failure ≡ None) }
+
+    // Words that are no command, and nothing else, are faulty.
+    ensures usage { (result.status ≡ 2) ↔ IsUsage (bytes_of words.now) }
+
+    // What is done.
+    ensures done { result.status ≡ 0
+        → Ends (bytes_of words.now) (H.files shelf.old)
+        (BeginsWith M.File.held (H.files shelf.old) (T.files store.old) (T.may_leave store.old)) (T.files store.new)
+        (Appends (O.written out.old) (O.written out.new)) ⊎ AsksQuery (bytes_of words.now) }
+    ensures settled { (config folder : List ℕ) → IsBuild (bytes_of words.now) config folder
+        → result.status ≡ 0 → IsSettled (T.files store.new) (T.may_leave store.new) }
+    ensures kept { (config folder : List ℕ) → IsBuild (bytes_of words.now) config folder → result.status ≡ 0
+        → (all start : Files) → BeginsWith M.File.held (H.files shelf.old) (T.files store.old) (T.may_leave store.old) all start
+        → HasSpilled all start (M.keeps room.old) (M.keeps room.new) config }
+    ensures build_comes { (all start : Files) → BeginsWith M.File.held (H.files shelf.old) (T.files store.old) (T.may_leave store.old) all start
+        → AsksBuild (bytes_of words.now) (IsAcceptedAt all start) → Yields 0 result.status }
+    ensures done_already { (all start : Files) → BeginsWith M.File.held (H.files shelf.old) (T.files store.old) (T.may_leave store.old) all start
+        → AsksBuild (bytes_of words.now) (IsDoneAt all start)
+        → Moves T.files T.may_leave T.moment T.image_since SameFiles store.old store.new }
+    ensures info_comes { Tells (λ all. (header : found.Header)
+        → AsksInfo (bytes_of words.now) (λ path. HasHeader all path header) → Yields 0 result.status)
+        (H.files shelf.old) }
+
+    // Whatever a build answers and whenever it stops, each image that is left is sound.
+    ensures sound { (config folder : List ℕ) → IsBuild (bytes_of words.now) config folder
+        → (all start : Files) → BeginsWith M.File.held (H.files shelf.old) (T.files store.old) (T.may_leave store.old) all start
+        → Moves T.files T.may_leave T.moment T.image_since (λ (a b : Files). IsSound all b) store.old store.new }
+
+    // A query ends as the query of its area and depths does, whose refusal the failure is, and leaves the store as it was.
+    ensures query { (folder : List ℕ) (area : space.Box3) (first last : ℕ) → IsQuery (bytes_of words.now) folder area first last
+        → (ends : EndsQuery area first last result.status (T.files store.old) (O.written out.old) (O.written out.new)
+        (Rose (T.faults store.old) (T.faults store.new)) (Rose (O.faults out.old) (O.faults out.new)))
+        × (result.failure ≡ query_failure ends.answer) }
+    ensures query_puts_nothing { AsksQuery (bytes_of words.now)
+        → Moves T.files T.may_leave T.moment T.image_since SameFiles store.old store.new }
+
+    // A trial ends with the line of what its octree comes to, whatever the files are, or for want of memory.
+    ensures trial { (count workers cache : ℕ) → IsTrial (bytes_of words.now) count workers cache
+        → EndsTrial count result.status (O.written out.old) (O.written out.new) (Rose (O.faults out.old) (O.faults out.new)) }
+
+    // Each other refusal has its cause, which the failure is, and its line, but where the line of a command that is
+    // carried out is cut: then the failure has this line.
+    ensures refused { result.status ≢ 0
+        → ((refuses : Refuses (bytes_of words.now) (H.files shelf.old)
+        (BeginsWith M.File.held (H.files shelf.old) (T.files store.old) (T.may_leave store.old)) result.status
+        (Rose (H.faults shelf.old) (H.faults shelf.new)) (Rose (T.faults store.old) (T.faults store.new))
+        (Rose (M.faults room.old) (M.faults room.new)) (Rose (O.faults out.old) (O.faults out.new))
+        (O.written out.old) (O.written out.new)
+        (Moves T.files T.may_leave T.moment T.image_since SameFiles store.old store.new))
+        × (result.failure ≡ Some (Refused refuses.cause)))
+        ⊎ ((cut : IsCut (bytes_of words.now) (H.files shelf.old)
+        (BeginsWith M.File.held (H.files shelf.old) (T.files store.old) (T.may_leave store.old)) result.status (T.files store.new)
+        (Rose (O.faults out.old) (O.faults out.new)) (O.written out.old) (O.written out.new))
+        × IsUnwritten result.failure cut.ends.line)
+        ⊎ AsksQuery (bytes_of words.now) }
+    ensures refusal_comes { Tells (λ all. (r : cause.Refusal) → IsDefinite r
+        → IsFaulty (bytes_of words.now) all r
+        → YieldsRefusal r result.status (O.written out.old) (O.written out.new)
+        (Rose (O.faults out.old) (O.faults out.new))) (H.files shelf.old) }
+    ensures build_refusal_comes { (all start : Files) → BeginsWith M.File.held (H.files shelf.old) (T.files store.old) (T.may_leave store.old) all start
+        → (r : cause.Refusal) → AsksBuild (bytes_of words.now) (ComesAt all start r)
+        → YieldsRefusal r result.status (O.written out.old) (O.written out.new) (Rose (O.faults out.old) (O.faults out.new)) }
+    ensures differs_comes { (all start : Files) → BeginsWith M.File.held (H.files shelf.old) (T.files store.old) (T.may_leave store.old) all start
+        → AsksBuild (bytes_of words.now) (DiffersAt all start)
+        → YieldsDifference result.status (O.written out.old) (O.written out.new) (Rose (O.faults out.old) (O.faults out.new)) }
+    ensures bad_comes { (all start : Files) (letter : Letter) → H.files shelf.old ≡ Some all → T.files store.old ≡ Some start
+        → IsBad start letter → AsksBuild (bytes_of words.now) (IsConfigured all)
+        → YieldsRefusal (BadCheckpoint letter) result.status (O.written out.old) (O.written out.new)
+        (Rose (O.faults out.old) (O.faults out.new)) }
+    ensures fault { result.status ≡ 7 → Rose (H.faults shelf.old) (H.faults shelf.new)
+        ⊎ Rose (T.faults store.old) (T.faults store.new) ⊎ Rose (M.faults room.old) (M.faults room.new)
+        ⊎ Rose (O.faults out.old) (O.faults out.new) }
+
+    // What is opened, and how much of a file is read: of a LAS file its first 375 bytes by `info`, and of what is no
+    // configuration at most 16 MiB and one byte.
+    ensures asked { (start : Files) → T.files store.old ≡ Some start
+        → IsAskedFor (bytes_of words.now) (H.files shelf.old) start (H.asked shelf.old) (H.asked shelf.new) }
+    ensures header_given { (las : List ℕ) → IsInfo (bytes_of words.now) las
+        → H.given shelf.new ≤ H.given shelf.old + 375 }
+    ensures configuration_given { result.status ≡ 3 → H.given shelf.new ≤ H.given shelf.old + (2 ^ 24 + 1) }
+
+    // What stays as it was.
+    ensures others_put_nothing { AsksBuild (bytes_of words.now) (λ _. ⊤)
+        ⊎ Moves T.files T.may_leave T.moment T.image_since SameFiles store.old store.new }
+    ensures same_store { AsksBuild (bytes_of words.now) (λ _. ⊤) ⊎ AsksQuery (bytes_of words.now) ⊎ (store.new ≡ store.old) }
+    ensures same_shelf { AsksBuild (bytes_of words.now) (λ _. ⊤) ⊎ AsksInfo (bytes_of words.now) (λ _. ⊤) ⊎ (shelf.new ≡ shelf.old) }
+    ensures files { H.files shelf.new ≡ H.files shelf.old }
+    ensures same_room { AsksBuild (bytes_of words.now) (λ _. ⊤) ⊎ (room.new ≡ room.old) }
+{
+    match command_of(words) {
+        Command::Build { config, .. } => {
+            let line = build_line(rt, alloc, config, shelf, store, room, gate);
+            finish(alloc, out, line)
+        }
+        Command::Info { las } => {
+            let line = info_line(alloc, shelf, las);
+            finish(alloc, out, line)
+        }
+        Command::Query { area, depths, .. } => {
+            query_words_law();
+            answer_query(alloc, &area, depths, store, out)
+        }
+        Command::Trial {
+            points,
+            workers,
+            cache,
+        } => {
+            let line = trial_line(rt, alloc, points, workers, cache);
+            finish(alloc, out, line)
+        }
+        Command::Usage => refuse_usage(out),
+    }
+}

@@ -1,0 +1,53 @@
+//! How a run ends.
+
+use crate::refusal::Refusal;
+use crate::status::OK;
+use ept_query::QueryError;
+
+/// How a run ends: its status, and why that is not 0.
+#[derive(Drop)]
+pub struct Ended {
+    /// The status with which the program ends.
+    pub status: u8,
+    /// Why the status is not 0; none at status 0.
+    pub failure: Option<Failure>,
+}
+
+/// Why a run does not end with status 0.
+#[derive(Drop)]
+pub enum Failure {
+    /// The words, or the files that they name, are refused.
+    Refused(Refusal),
+    /// A query is refused.
+    QueryRefused(QueryError),
+    /// The command is carried out, and its line could not be written: this one, with its line feed.
+    LineNotWritten(Vec<u8>),
+}
+
+impl Ended {
+    ghost use Rattle.std.specs.Prelude.{◌≡◌, None, Some};
+    ghost use Rattle.ept_run.specs.Lines.{status_of};
+    ghost use Rattle.ept_run.specs.declared.ended.Failure.TheVariants.{Refused};
+
+    /// A run whose command is carried out.
+    pub(crate) fn done() -> Self
+        ensures status { result.status ≡ 0 }
+        ensures failure { result.failure ≡ None }
+    {
+        Ended {
+            status: OK,
+            failure: None,
+        }
+    }
+
+    /// A run that is refused.
+    pub(crate) fn refused(refusal: Refusal) -> Self
+        ensures status { result.status ≡ status_of refusal }
+        ensures failure { result.failure ≡ Some (Refused refusal) }
+    {
+        Ended {
+            status: refusal.status(),
+            failure: Some(Failure::Refused(refusal)),
+        }
+    }
+}

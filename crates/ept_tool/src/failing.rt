@@ -1,0 +1,56 @@
+//! What is said of a run that fails.
+
+use ept_messages::{Found, OUT_OF_MEMORY, message};
+use ept_real::{RealShelf, RealStore};
+use ept_run::{Command, Ended, Failure, command_of};
+use std::alloc::AllocError;
+use std::io::ErrorKind;
+use std::rt::Files;
+
+/// Says on standard error why the run of these words failed, if it did. `unread` is the file that could not be opened
+/// or read.
+pub(crate) fn report(disk: &HostRuntime, words: &[String], ended: &Ended, unread: Option<&str>) {
+    let Some(failure) = &ended.failure else {
+        return;
+    };
+    // A sentence that can't be written changes no status.
+    let _ = match sentence(disk, words, failure, unread) {
+        Ok(sentence) => eprintln!(disk; "ept_tool: {sentence}"),
+        Err(_) => eprintln!(disk; "ept_tool: status {}, and {OUT_OF_MEMORY}", ended.status),
+    };
+}
+
+// Why the run of these words failed.
+fn sentence(
+    disk: &HostRuntime,
+    words: &[String],
+    failure: &Failure,
+    unread: Option<&str>,
+) -> Result<String, AllocError> {
+    let alloc = disk.alloc();
+    let folder = folder_of(words);
+    let found = Found {
+        unread,
+        has_unread: unread.is_some_and(|path| exists(disk, path)),
+        has_out: exists(disk, folder),
+    };
+    let mut shelf = RealShelf::new(alloc, disk);
+    let mut store = RealStore::new(alloc, disk, folder);
+    message(alloc, words, failure, &found, &mut shelf, &mut store)
+}
+
+// Whether there is a file or a folder of this path.
+fn exists(disk: &HostRuntime, path: &str) -> bool {
+    match disk.metadata(path) {
+        Ok(_) => true,
+        Err(error) => !matches!(error.kind(), ErrorKind::NotFound | ErrorKind::NotADirectory),
+    }
+}
+
+/// The folder of a build or of a query, as it is named; empty for other words.
+pub(crate) fn folder_of(words: &[String]) -> &str {
+    match command_of(words) {
+        Command::Build { out, .. } | Command::Query { out, .. } => out,
+        _ => "",
+    }
+}
