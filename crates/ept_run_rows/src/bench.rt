@@ -5,7 +5,7 @@ use crate::devices::{RowRoom, RowShelf};
 use crate::words::Miss;
 use ept_base::{Gate, OpenGate};
 use ept_mem::{MemRoom, MemShelf, MemSink, MemStore};
-use ept_run::run;
+use ept_run::{Failure, carry_out, run};
 use std::alloc::{AllocError, Global};
 use std::mem;
 use std::sync::Wait;
@@ -40,8 +40,10 @@ impl Faults {
 
 /// How a run ended.
 #[derive(Drop)]
-pub(crate) struct Ended {
+pub(crate) struct Left {
+    pub(crate) words: Vec<String>,
     pub(crate) status: u8,
+    pub(crate) failure: Option<Failure>,
     pub(crate) written: Vec<u8>,
     /// How often the spill files were asked to keep something.
     pub(crate) keeps: u64,
@@ -56,7 +58,7 @@ pub(crate) struct Bench {
     pub(crate) kept: MemStore,
     pub(crate) names: Vec<String>,
     pub(crate) faults: Faults,
-    pub(crate) ended: Ended,
+    pub(crate) left: Left,
 }
 
 impl Bench {
@@ -69,8 +71,10 @@ impl Bench {
             kept: empty_store(alloc),
             names: Vec::new(alloc),
             faults: Faults::NONE,
-            ended: Ended {
+            left: Left {
+                words: Vec::new(alloc),
                 status: 0,
+                failure: None,
                 written: Vec::new(alloc),
                 keeps: 0,
             },
@@ -83,38 +87,65 @@ impl Bench {
     }
 
     /// Carries out the words, which are separated by `|`, over the devices.
-    pub(crate) fn run<R: Threads + Wait + Sync>(&mut self, rt: &R, words: &str) -> Result<(), Miss> {
-        self.run_through(rt, words, &OpenGate)
+    pub(crate) fn carry_out<R: Threads + Wait + Sync>(
+        &mut self,
+        rt: &R,
+        words: &str,
+    ) -> Result<(), Miss> {
+        self.left.words = words_of(self.alloc, words)?;
+        let mut devices = devices_of(self.alloc, &self.files, self.faults)?;
+        let ended = carry_out(
+            rt,
+            self.alloc,
+            &self.left.words,
+            &mut devices.shelf,
+            &mut self.store,
+            &mut devices.room,
+            &mut devices.out,
+            &OpenGate,
+        );
+        self.left.status = ended.status;
+        self.left.failure = ended.failure;
+        self.note(&devices)
     }
 
-    /// The same through this gate.
-    pub(crate) fn run_through<R: Threads + Wait + Sync, G: Gate + Sync>(
+    /// Runs the words, which are separated by `|`, over the devices and through this gate.
+    pub(crate) fn run<R: Threads + Wait + Sync, G: Gate + Sync>(
         &mut self,
         rt: &R,
         words: &str,
         gate: &G,
     ) -> Result<(), Miss> {
-        let words = words_of(self.alloc, words)?;
+        self.left.words = words_of(self.alloc, words)?;
+        self.left.failure = None;
         let mut devices = devices_of(self.alloc, &self.files, self.faults)?;
-        self.ended.status = run(
+        self.left.status = run(
             rt,
             self.alloc,
-            &words,
+            &self.left.words,
             &mut devices.shelf,
             &mut self.store,
             &mut devices.room,
             &mut devices.out,
             gate,
         );
-        self.ended.keeps = devices.room.keeps();
-        self.ended.written.clear();
-        self.ended.written.extend_from_slice(devices.out.bytes())?;
+        self.note(&devices)
+    }
+
+    // Notes what a run wrote, and how often its spill files kept something.
+    fn note(&mut self, devices: &Devices) -> Result<(), Miss> {
+        self.left.keeps = devices.room.keeps();
+        self.left.written.clear();
+        self.left.written.extend_from_slice(devices.out.bytes())?;
         Ok(())
     }
 }
 
 /// A store with one file, `other`, which no build touches.
-pub(crate) fn store_with_other(alloc: Global, failing: Option<u64>) -> Result<MemStore, AllocError> {
+pub(crate) fn store_with_other(
+    alloc: Global,
+    failing: Option<u64>,
+) -> Result<MemStore, AllocError> {
     let mut files = Vec::new(alloc);
     files.push(file(alloc, "other", b"kept")?)?;
     Ok(MemStore::new(alloc, files, calls(alloc, failing)?))
@@ -132,14 +163,23 @@ struct Devices {
     out: MemSink,
 }
 
-fn devices_of(alloc: Global, files: &[(String, Vec<u8>)], faults: Faults) -> Result<Devices, AllocError> {
+fn devices_of(
+    alloc: Global,
+    files: &[(String, Vec<u8>)],
+    faults: Faults,
+) -> Result<Devices, AllocError> {
     let shelf = shelf_of(alloc, files, faults)?;
     let room = room_of(alloc, faults)?;
     let out = MemSink::new(alloc, faults.most.max(1), calls(alloc, faults.write)?);
     Ok(Devices { shelf, room, out })
 }
 
-fn shelf_of(alloc: Global, files: &[(String, Vec<u8>)], faults: Faults) -> Result<RowShelf, AllocError> {
+/// A shelf of these files, on which these calls fail.
+pub(crate) fn shelf_of(
+    alloc: Global,
+    files: &[(String, Vec<u8>)],
+    faults: Faults,
+) -> Result<RowShelf, AllocError> {
     let mut copies = Vec::new(alloc);
     let mut changes = false;
     for (name, bytes) in files {
@@ -148,11 +188,7 @@ fn shelf_of(alloc: Global, files: &[(String, Vec<u8>)], faults: Faults) -> Resul
     }
     let opens = calls(alloc, faults.open)?;
     let reads = calls(alloc, faults.read)?;
-    Ok(RowShelf::new(
-        alloc,
-        MemShelf::new(alloc, copies, opens, reads),
-        changes,
-    ))
+    Ok(RowShelf::new(alloc, MemShelf::new(alloc, copies, opens, reads), changes))
 }
 
 fn room_of(alloc: Global, faults: Faults) -> Result<RowRoom, AllocError> {
@@ -161,7 +197,7 @@ fn room_of(alloc: Global, faults: Faults) -> Result<RowRoom, AllocError> {
     Ok(RowRoom::new(MemRoom::new(alloc, makes, spills), faults.forgets))
 }
 
-/// The words of a text, which are separated by `|`. An empty text has none.
+// The words of a text, which are separated by `|`. An empty text has none.
 fn words_of(alloc: Global, text: &str) -> Result<Vec<String>, AllocError> {
     let mut words = Vec::new(alloc);
     if !text.is_empty() {
@@ -173,7 +209,11 @@ fn words_of(alloc: Global, text: &str) -> Result<Vec<String>, AllocError> {
 }
 
 /// A file of this name.
-pub(crate) fn file(alloc: Global, name: &str, bytes: &[u8]) -> Result<(String, Vec<u8>), AllocError> {
+pub(crate) fn file(
+    alloc: Global,
+    name: &str,
+    bytes: &[u8],
+) -> Result<(String, Vec<u8>), AllocError> {
     Ok((
         String::from_str(alloc, name)?,
         Vec::from_slice(alloc, bytes)?,

@@ -23,7 +23,10 @@ impl RowShelf {
 
     // Whether this path was opened before.
     fn is_asked(&self, path: &str) -> bool {
-        self.shelf.asked().iter().any(|asked| asked.as_str() == path)
+        self.shelf
+            .asked()
+            .iter()
+            .any(|asked| asked.as_str() == path)
     }
 }
 

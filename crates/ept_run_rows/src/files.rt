@@ -81,11 +81,11 @@ fn append_header(bytes: &mut Vec<u8>, count: u32) -> Result<(), Miss> {
 
 // A record of format 0 at a place of three numbers below 256.
 fn append_place(bytes: &mut Vec<u8>, place: &str) -> Result<(), Miss> {
-    let mut axes = 0;
+    let mut axes = 0u8;
     for axis in place.split(',') {
         let low = axis.parse::<u8>().map_err(|_| Miss::Form)?;
         bytes.extend_from_slice(&[low, 0, 0, 0])?;
-        axes += 1;
+        axes = axes.saturating_add(1);
     }
     if axes != 3 {
         return Err(Miss::Form);
@@ -159,7 +159,10 @@ fn generate(bench: &mut Bench, count: u64) -> Result<(), Miss> {
 // The scan of an input: each fourth of the points, from that of this number on.
 fn generated(alloc: Global, count: u32, input: u32) -> Result<Vec<u8>, Miss> {
     let mut bytes = Vec::new(alloc);
-    append_header(&mut bytes, count.saturating_add(3).saturating_sub(input) / 4)?;
+    append_header(
+        &mut bytes,
+        count.saturating_add(3).saturating_sub(input) / 4,
+    )?;
     let mut state = u64::from(count);
     for point in 0..count {
         let (x, y, z) = drawn(&mut state);

@@ -25,8 +25,8 @@ pub(crate) fn answer(
         "part" => tell(out, text_of(&bench.store, name).contains(text)),
         "names" => names(bench, rest, out),
         "same" => same(bench, out),
-        "keeps" => tell(out, number(name)? <= bench.ended.keeps),
-        "kept" => Ok(write!(out, "{}", bench.ended.keeps)?),
+        "keeps" => tell(out, number(name)? <= bench.left.keeps),
+        "kept" => Ok(write!(out, "{}", bench.left.keeps)?),
         "checkpoint" => checkpoint(bench.alloc, &mut bench.store, out),
         _ => Err(Miss::Form),
     }
@@ -121,10 +121,7 @@ fn same(bench: &Bench, out: &mut String) -> Result<(), Miss> {
 
 /// Whether each of the files is the same in both stores, or in neither.
 pub(crate) fn is_same(bench: &Bench) -> bool {
-    bench
-        .names
-        .iter()
-        .all(|name| bench.store.file(name.as_str()) == bench.kept.file(name.as_str()))
+    bench.names.iter().all(|name| bench.store.file(name.as_str()) == bench.kept.file(name.as_str()))
 }
 
 /// How many points the current checkpoint of a store has, and which generation it is; no points and no generation

@@ -7,6 +7,7 @@ mod devices;
 mod files;
 mod looks;
 mod runs;
+mod sentences;
 mod stops;
 mod stores;
 mod words;
@@ -63,6 +64,7 @@ fn answer<R: Threads + Wait + Sync>(
         }
         "run" | "query" | "meet" => runs::answer(rt, bench, call, rest, out),
         "stops" | "spills" => stops::answer(rt, bench, call, rest, out),
+        "say" | "starve" | "differ" | "differ-hex" => sentences::answer(bench, call, rest, out),
         _ => looks::answer(bench, call, rest, out),
     }
 }

@@ -19,7 +19,7 @@ pub(crate) fn answer<R: Threads + Wait + Sync>(
 ) -> Result<(), Miss> {
     match call {
         "run" => {
-            bench.run(rt, rest)?;
+            bench.carry_out(rt, rest)?;
             append_end(bench, out)
         }
         "query" => query(rt, bench, rest, out),
@@ -31,13 +31,13 @@ pub(crate) fn answer<R: Threads + Wait + Sync>(
 /// Writes the status of the last run, the text that it wrote, and whether the metadata are in the store; and where the
 /// file `other` is no more what it was, that it is lost.
 pub(crate) fn append_end(bench: &Bench, out: &mut String) -> Result<(), Miss> {
-    let text = str::from_utf8(&bench.ended.written).unwrap_or("no text");
+    let text = str::from_utf8(&bench.left.written).unwrap_or("no text");
     let left = if bench.store.file("ept.json").is_some() {
         "complete"
     } else {
         "nothing"
     };
-    write!(out, "{} {text:?} {left}", bench.ended.status)?;
+    write!(out, "{} {text:?} {left}", bench.left.status)?;
     if bench.store.file("other") != Some(b"kept".as_slice()) {
         out.push_str(" lost")?;
     }
@@ -53,9 +53,9 @@ fn query<R: Threads + Wait + Sync>(
 ) -> Result<(), Miss> {
     let (area, depths) = first_word(asked);
     let words = format!(in bench.alloc; "query|out|{area}|{depths}")?;
-    bench.run(rt, words.as_str())?;
-    write!(out, "{} ", bench.ended.status)?;
-    append_bytes(out, &bench.ended.written)
+    bench.carry_out(rt, words.as_str())?;
+    write!(out, "{} ", bench.left.status)?;
+    append_bytes(out, &bench.left.written)
 }
 
 // How often a worker that is held looks for another one, at most.
@@ -75,7 +75,7 @@ fn meet<R: Threads + Wait + Sync>(
     for _ in 0..TRIES {
         let gate = MeetGate::new(TURNS);
         renew(bench)?;
-        bench.run_through(rt, words, &gate)?;
+        bench.run(rt, words, &gate)?;
         if gate.met() {
             out.push_str("met ")?;
             return append_end(bench, out);

@@ -65,7 +65,7 @@ fn all_go_on<R: Threads + Wait + Sync>(
     for how in [Crash::Old, Crash::New, Crash::Absent, Crash::Junk] {
         renew(bench)?;
         fuse(bench, calls)?;
-        bench.run(rt, BUILD)?;
+        bench.carry_out(rt, BUILD)?;
         crash(bench, how)?;
         let checkpoint = current(bench.alloc, &mut bench.store)?;
         if !seen.contains(&checkpoint) {
@@ -80,15 +80,13 @@ fn all_go_on<R: Threads + Wait + Sync>(
 
 // Runs the build again: whether it ends with this line, and its files are those that are kept.
 fn goes_on<R: Threads + Wait + Sync>(rt: &R, bench: &mut Bench, line: &str) -> Result<bool, Miss> {
-    bench.run(rt, BUILD)?;
-    Ok(bench.ended.status == 0 && written(bench) == line && is_same(bench))
+    bench.carry_out(rt, BUILD)?;
+    Ok(bench.left.status == 0 && written(bench) == line && is_same(bench))
 }
 
 // What the last run wrote, without the line feed at its end.
 fn written(bench: &Bench) -> &str {
-    str::from_utf8(&bench.ended.written)
-        .unwrap_or("")
-        .trim_end()
+    str::from_utf8(&bench.left.written).unwrap_or("").trim_end()
 }
 
 fn append_checkpoints(seen: &mut Vec<Checkpoint>, out: &mut String) -> Result<(), Miss> {
@@ -130,8 +128,8 @@ fn spills<R: Threads + Wait + Sync>(
 fn is_done<R: Threads + Wait + Sync>(rt: &R, bench: &mut Bench, call: u64) -> Result<bool, Miss> {
     renew(bench)?;
     bench.faults.spill = Some(call);
-    let ended = bench.run(rt, BUILD);
+    let ended = bench.carry_out(rt, BUILD);
     bench.faults.spill = None;
     ended?;
-    Ok(bench.ended.status == 0)
+    Ok(bench.left.status == 0)
 }
