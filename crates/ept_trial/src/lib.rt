@@ -6,8 +6,6 @@ mod laws;
 mod scans;
 mod settings;
 mod tallying;
-#[cfg(test)]
-mod tests;
 mod trial;
 
 pub use building::build_trial;

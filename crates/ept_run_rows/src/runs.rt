@@ -1,0 +1,86 @@
+//! Lines that run the words of a command line.
+
+use crate::bench::Bench;
+use crate::looks::append_bytes;
+use crate::stores::renew;
+use crate::words::{Miss, first_word};
+use ept_meet::MeetGate;
+use std::fmt::Write;
+use std::sync::Wait;
+use std::thread::Threads;
+
+/// Runs the words of a line, and writes how that ended.
+pub(crate) fn answer<R: Threads + Wait + Sync>(
+    rt: &R,
+    bench: &mut Bench,
+    call: &str,
+    rest: &str,
+    out: &mut String,
+) -> Result<(), Miss> {
+    match call {
+        "run" => {
+            bench.carry_out(rt, rest)?;
+            append_end(bench, out)
+        }
+        "query" => query(rt, bench, rest, out),
+        "meet" => meet(rt, bench, rest, out),
+        _ => Err(Miss::Form),
+    }
+}
+
+/// Writes the status of the last run, the text that it wrote, and whether the metadata are in the store; and where the
+/// file `other` is no more what it was, that it is lost.
+pub(crate) fn append_end(bench: &Bench, out: &mut String) -> Result<(), Miss> {
+    let text = str::from_utf8(&bench.left.written).unwrap_or("no text");
+    let left = if bench.store.file("ept.json").is_some() {
+        "complete"
+    } else {
+        "nothing"
+    };
+    write!(out, "{} {text:?} {left}", bench.left.status)?;
+    if bench.store.file("other") != Some(b"kept".as_slice()) {
+        out.push_str(" lost")?;
+    }
+    Ok(())
+}
+
+// `query BOX DEPTHS`: the status of a query of the folder, and the bytes of its points.
+fn query<R: Threads + Wait + Sync>(
+    rt: &R,
+    bench: &mut Bench,
+    asked: &str,
+    out: &mut String,
+) -> Result<(), Miss> {
+    let (area, depths) = first_word(asked);
+    let words = format!(in bench.alloc; "query|out|{area}|{depths}")?;
+    bench.carry_out(rt, words.as_str())?;
+    write!(out, "{} ", bench.left.status)?;
+    append_bytes(out, &bench.left.written)
+}
+
+// How often a worker that is held looks for another one, at most.
+const TURNS: u64 = 10_000_000;
+
+// How often it is tried, should the machine let no other worker run while one is held.
+const TRIES: usize = 4;
+
+// `meet WORDS`: runs the words through a gate that holds a worker in a node until another one is in another node, and
+// tells how that ended once two workers met. The store has to be a new one.
+fn meet<R: Threads + Wait + Sync>(
+    rt: &R,
+    bench: &mut Bench,
+    words: &str,
+    out: &mut String,
+) -> Result<(), Miss> {
+    for _ in 0..TRIES {
+        let gate = MeetGate::new(TURNS);
+        renew(bench)?;
+        bench.run(rt, words, &gate)?;
+        if gate.met() {
+            out.push_str("met ")?;
+            return append_end(bench, out);
+        }
+    }
+    out.push_str("no worker met another one")?;
+    Ok(())
+}

@@ -1,0 +1,112 @@
+//! Lines that say which calls fail, and that change the store.
+
+use crate::bench::{Bench, Faults, store_with_other};
+use crate::words::{Miss, first_word, number, size};
+use ept_base::{PutError, Store};
+use ept_mem::Crash;
+
+/// Carries out a line that lets a call fail, or that changes the store.
+pub(crate) fn change(bench: &mut Bench, call: &str, rest: &str) -> Result<(), Miss> {
+    let (name, text) = first_word(rest);
+    match call {
+        "fail" => fail(bench, name, text),
+        "forget" => {
+            bench.faults.forgets = true;
+            Ok(())
+        }
+        "sink" => {
+            bench.faults.most = size(name)?;
+            Ok(())
+        }
+        "store" => renew(bench),
+        "keep" => keep(bench),
+        "put" => put(bench, name, text),
+        "damage" => damage(bench, name),
+        "fuse" => fuse(bench, number(name)?),
+        "crash" => crash(bench, crash_of(name)?),
+        _ => Err(Miss::Form),
+    }
+}
+
+// `fail DEVICE CALL`: the call of this number of a device fails, in each run from now on; `fail store CALL` begins with
+// a new store. `fail nothing`: none fails.
+fn fail(bench: &mut Bench, device: &str, call: &str) -> Result<(), Miss> {
+    if device == "nothing" {
+        bench.faults = Faults::NONE;
+        return Ok(());
+    }
+    let call = Some(number(call)?);
+    match device {
+        "open" => bench.faults.open = call,
+        "read" => bench.faults.read = call,
+        "make" => bench.faults.make = call,
+        "spill" => bench.faults.spill = call,
+        "write" => bench.faults.write = call,
+        "store" => {
+            bench.replace_store(store_with_other(bench.alloc, call)?);
+        }
+        _ => return Err(Miss::Form),
+    }
+    Ok(())
+}
+
+/// `store`: begins with a new store.
+pub(crate) fn renew(bench: &mut Bench) -> Result<(), Miss> {
+    let fresh = store_with_other(bench.alloc, None)?;
+    bench.replace_store(fresh);
+    Ok(())
+}
+
+// `keep`: keeps the store to compare with, and begins with a new one.
+fn keep(bench: &mut Bench) -> Result<(), Miss> {
+    let fresh = store_with_other(bench.alloc, None)?;
+    bench.kept = bench.replace_store(fresh);
+    Ok(())
+}
+
+// `put NAME HEX`: puts a file into the store.
+fn put(bench: &mut Bench, name: &str, digits: &str) -> Result<(), Miss> {
+    let bytes = hex::decode(bench.alloc, digits)?;
+    bench.store.put(name, &bytes).map_err(of_put)
+}
+
+// `damage NAME`: cuts the last byte of a file of the store.
+fn damage(bench: &mut Bench, name: &str) -> Result<(), Miss> {
+    let mut bytes = Vec::new(bench.alloc);
+    bytes.extend_from_slice(bench.store.file(name).ok_or(Miss::Form)?)?;
+    bytes.pop().ok_or(Miss::Form)?;
+    bench.store.put(name, &bytes).map_err(of_put)
+}
+
+fn of_put(error: PutError) -> Miss {
+    match error {
+        PutError::Memory => Miss::Memory,
+        PutError::Failed => Miss::Form,
+    }
+}
+
+/// `fuse CALLS`: the store passes so many calls, and fails each one after them.
+pub(crate) fn fuse(bench: &mut Bench, calls: u64) -> Result<(), Miss> {
+    let fresh = store_with_other(bench.alloc, None)?;
+    let store = bench.replace_store(fresh);
+    bench.store = store.with_fuse(calls);
+    Ok(())
+}
+
+/// `crash HOW`: what is left of the store, and of what was put since the last flush the old, the new, nothing or junk.
+pub(crate) fn crash(bench: &mut Bench, how: Crash) -> Result<(), Miss> {
+    let fresh = store_with_other(bench.alloc, None)?;
+    let store = bench.replace_store(fresh);
+    bench.store = store.crash(how);
+    Ok(())
+}
+
+fn crash_of(word: &str) -> Result<Crash, Miss> {
+    match word {
+        "old" => Ok(Crash::Old),
+        "new" => Ok(Crash::New),
+        "absent" => Ok(Crash::Absent),
+        "junk" => Ok(Crash::Junk),
+        _ => Err(Miss::Form),
+    }
+}
