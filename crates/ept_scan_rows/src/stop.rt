@@ -1,0 +1,44 @@
+//! Why a line has no answer.
+
+use ept_point::Memory as NoMemory;
+use hex::FromHexError;
+use std::alloc::{AllocError, AllocFailed};
+
+/// Why a line has no answer.
+#[derive(Clone, Copy)]
+pub(crate) enum Stop {
+    /// The line is no call that this program knows.
+    BadLine,
+    /// Memory ran out.
+    Memory,
+}
+
+/// The answer to a line is appended to a text, unless there is none.
+pub(crate) type Answered = Result<(), Stop>;
+
+impl From<AllocError> for Stop {
+    fn from(_error: AllocError) -> Stop {
+        Stop::Memory
+    }
+}
+
+impl<T: Drop> From<AllocFailed<T>> for Stop {
+    fn from(_error: AllocFailed<T>) -> Stop {
+        Stop::Memory
+    }
+}
+
+impl From<NoMemory> for Stop {
+    fn from(_error: NoMemory) -> Stop {
+        Stop::Memory
+    }
+}
+
+impl From<FromHexError> for Stop {
+    fn from(error: FromHexError) -> Stop {
+        match error {
+            FromHexError::OutOfMemory => Stop::Memory,
+            _ => Stop::BadLine,
+        }
+    }
+}
