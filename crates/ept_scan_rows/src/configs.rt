@@ -1,9 +1,13 @@
 //! Configurations.
 
+ghost use Rattle.ept_space.specs.CubeOfBounds.{HasPlace};
+
 use crate::bytes::bytes_of;
+use crate::numbers::ordered_bounds;
 use crate::row::Row;
 use crate::stop::{Answered, Stop};
 use ept_config::{Config, ConfigError, Kept, is_path, is_srs_text, read_config};
+use ept_space::Bounds;
 use std::alloc::Global;
 use std::str;
 
@@ -40,10 +44,20 @@ pub(crate) fn settings(row: Row<'_>, out: &mut String) -> Answered {
     }
 }
 
-/// `kept TEXT`: what is kept of a configuration with bounds, of which a copy is shown.
+/// `kept BOUNDS | TEXT`: what is kept of a configuration with these bounds, of which a copy is shown.
 pub(crate) fn kept(row: Row<'_>, out: &mut String) -> Answered {
-    let kept = kept_of(row.alloc, row.rest)?;
-    show_copy(row.alloc, &kept, out)
+    let bounds = ordered_bounds(row.part(0)?)?;
+    match read_config(row.alloc, row.part(1)?.as_bytes()) {
+        Ok(config) => show_kept(row.alloc, &config, bounds, out),
+        Err(_) => Err(Stop::BadLine),
+    }
+}
+
+fn show_kept(alloc: Global, config: &Config, bounds: Bounds, out: &mut String) -> Answered
+    requires { HasPlace bounds }
+{
+    let kept = config.kept(alloc, &bounds)?;
+    show_copy(alloc, &kept, out)
 }
 
 fn show_copy(alloc: Global, kept: &Kept, out: &mut String) -> Answered {

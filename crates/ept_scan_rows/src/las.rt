@@ -1,10 +1,9 @@
 //! LAS files as words, by the format's own table of the header and nothing of the crate that reads it.
 
 use crate::bytes::{append_word, put};
-use crate::numbers::{count, place, whole};
+use crate::numbers::{count, place};
 use crate::row::Row;
 use crate::stop::{Answered, Stop};
-use std::alloc::Global;
 
 /// What a header states.
 #[derive(Clone, Copy)]
@@ -55,20 +54,16 @@ fn head_of(words: &str) -> Result<Head, Stop> {
 // States a field of the header.
 fn state(head: &mut Head, name: &str, value: u64) -> Answered {
     match name {
-        "minor" => head.minor = narrow(value)?,
-        "format" => head.format = narrow(value)?,
-        "size" => head.size = narrow(value)?,
-        "start" => head.start = narrow(value)?,
-        "length" => head.length = narrow(value)?,
+        "minor" => head.minor = u8::try_from(value)?,
+        "format" => head.format = u8::try_from(value)?,
+        "size" => head.size = u16::try_from(value)?,
+        "start" => head.start = u32::try_from(value)?,
+        "length" => head.length = u16::try_from(value)?,
         "points" => head.points = value,
         "long" => {}
         _ => return Err(Stop::BadLine),
     }
     Ok(())
-}
-
-fn narrow<T: TryFrom<u64>>(value: u64) -> Result<T, Stop> {
-    T::try_from(value).ok().ok_or(Stop::BadLine)
 }
 
 fn set_head(file: &mut [u8], head: Head) {

@@ -3,11 +3,24 @@
 #![tactic(auto)]
 
 mod bytes;
+mod checkpoints;
 mod configs;
+mod crashes;
+mod differences;
+mod files;
 mod hierarchies;
+mod las;
 mod numbers;
+mod phases;
+mod plans;
+mod points;
+mod publishing;
+mod readings;
 mod row;
+mod saves;
+mod scans;
 mod stop;
+mod texts;
 
 use crate::row::Row;
 use crate::stop::{Answered, Stop};
@@ -53,6 +66,29 @@ fn answer(row: Row<'_>, call: &str, out: &mut String) -> Answered {
         "hierarchy" => hierarchies::hierarchy(row, out),
         "hierarchy-file" => hierarchies::hierarchy_file(row, out),
         "hierarchy-again" => hierarchies::hierarchy_again(row, out),
+        "scan" => scans::scan_all(row, out),
+        "scan-from" => scans::scan_from(row, out),
+        "extent" => scans::extent(row, out),
+        "read" => readings::read(row, out),
+        "read-packed" => readings::read_packed(row, out),
+        "checkpoint" => checkpoints::checkpoint(row, out),
+        "body" => checkpoints::body(row, out),
+        "body-parts" => checkpoints::body_parts(row, out),
+        "metadata" => texts::metadata(row, out),
+        "manifest" => texts::manifest(row, out),
+        "build" => texts::build(row, out),
+        "build-file" => texts::build_file(row, out),
+        "build-bytes" => texts::build_bytes(row, out),
+        "differs" => differences::differs(row, out),
+        "plan" => plans::plan(row, out),
+        "open" => saves::open_store(row, out),
+        "load" => saves::load(row, out),
+        "save" => saves::save(row, out),
+        "done" => saves::done(row, out),
+        "crash" => crashes::crash(row, out),
+        "phase-load" => phases::load(row, out),
+        "phase-save" => phases::save(row, out),
+        "publish" => publishing::publish_nodes(row, out),
         _ => Err(Stop::BadLine),
     }
 }

@@ -1,16 +1,19 @@
 //! Numbers as words.
 
+ghost use Rattle.std.specs.Prelude.{IfOk};
+ghost use Rattle.ept_space.specs.CubeOfBounds.{HasPlace};
+
 use crate::stop::Stop;
 use ept_space::Bounds;
 
 /// A whole number that is not negative.
 pub(crate) fn whole(word: &str) -> Result<usize, Stop> {
-    word.parse().ok().ok_or(Stop::BadLine)
+    Ok(word.parse()?)
 }
 
 /// A number of so many points, calls or other things.
 pub(crate) fn count(word: &str) -> Result<u64, Stop> {
-    word.parse().ok().ok_or(Stop::BadLine)
+    Ok(word.parse()?)
 }
 
 /// A place `X,Y,Z`.
@@ -27,7 +30,10 @@ pub(crate) fn place(words: &str) -> Result<[i32; 3], Stop> {
 }
 
 fn coordinate(word: Option<&str>) -> Result<i32, Stop> {
-    word.and_then(|word| word.parse().ok()).ok_or(Stop::BadLine)
+    match word {
+        Some(word) => Ok(word.parse()?),
+        None => Err(Stop::BadLine),
+    }
 }
 
 /// Bounds `X,Y,Z..X,Y,Z`, the least place first.
@@ -37,4 +43,18 @@ pub(crate) fn bounds(words: &str) -> Result<Bounds, Stop> {
         min: place(least)?,
         max: place(greatest)?,
     })
+}
+
+/// The same, where the least place is nowhere above the greatest.
+pub(crate) fn ordered_bounds(words: &str) -> Result<Bounds, Stop>
+    ensures { IfOk result HasPlace }
+{
+    let bounds = bounds(words)?;
+    let [a, b, c] = bounds.min;
+    let [d, e, f] = bounds.max;
+    if a <= d && b <= e && c <= f {
+        Ok(bounds)
+    } else {
+        Err(Stop::BadLine)
+    }
 }

@@ -11,7 +11,6 @@ ghost use Rattle.ept_phase.specs.Loaded.{OfCurrent};
 ghost use Rattle.ept_save.specs.Opening.{lines_of};
 
 use crate::files::{compare_files, room_of, store_of};
-use crate::numbers::narrow;
 use crate::row::Row;
 use crate::stop::{Answered, Stop};
 use ept_base::SpillFile;
@@ -30,11 +29,11 @@ use std::alloc::Global;
 /// memory at most, where the calls of these numbers of each spill file fail.
 pub(crate) fn load(row: Row<'_>, out: &mut String) -> Answered {
     let (most, cache) = row.part(0)?.split_once(' ').ok_or(Stop::BadLine)?;
-    let (most, cache) = (narrow(most)?, narrow(cache)?);
+    let sizes = [most.parse()?, cache.parse()?];
     let mut room = room_of(row, row.part(1)?)?;
     let mut store = store_of(row, row.part(2)?)?;
     match open(row.alloc, &mut store) {
-        Ok(saved) => show_loaded(row.alloc, &mut store, &saved, &mut room, [most, cache], out),
+        Ok(saved) => show_loaded(row.alloc, &mut store, &saved, &mut room, sizes, out),
         Err(_) => Err(Stop::BadLine),
     }
 }
@@ -84,12 +83,18 @@ pub(crate) fn save(row: Row<'_>, out: &mut String) -> Answered {
 }
 
 fn save_over(row: Row<'_>, store: &mut MemStore, out: &mut String) -> Answered {
-    let cache = narrow(row.part(0)?)?;
+    let cache = row.part(0)?.parse()?;
     let mut room = room_of(row, row.part(1)?)?;
     let mut later = store_of(row, row.part(3)?)?;
     match save_next(row.alloc, store, &mut later, &mut room, cache) {
-        Some((Ok(is_saved), residents)) => Ok(write!(out, "saved {is_saved}, {residents} in memory")?),
-        Some((Err(refusal), residents)) => Ok(write!(out, "refused {refusal:?}, {residents} in memory")?),
+        Some((Ok(is_saved), residents)) => Ok(write!(
+            out,
+            "saved {is_saved}, {residents} in memory"
+        )?),
+        Some((Err(refusal), residents)) => Ok(write!(
+            out,
+            "refused {refusal:?}, {residents} in memory"
+        )?),
         None => Err(Stop::BadLine),
     }
 }

@@ -44,7 +44,11 @@ fn show(
 
 fn show_plan(plan: &Plan, out: &mut String) -> Answered {
     let inputs = plan.kept.inputs.as_slice().len();
-    write!(out, "{} of {} points of {inputs} inputs are inserted, within ", plan.inserted, plan.points)?;
+    write!(
+        out,
+        "{} of {} points of {inputs} inputs are inserted, within ",
+        plan.inserted, plan.points
+    )?;
     show_bounds(&plan.kept.bounds, out)?;
     out.push(':')?;
     show_counts(plan.counts.as_slice(), out)

@@ -9,7 +9,7 @@ use crate::row::Row;
 use crate::stop::{Answered, Stop};
 use ept_config::{Config, Kept, SourceCount, read_config, total_of};
 use ept_mem::MemShelf;
-use ept_point::Point;
+use ept_point::{Point, pack};
 use ept_scan::{ReadError, reader, scan};
 use std::alloc::Global;
 
@@ -20,28 +20,48 @@ struct Wish {
     drawn: u64,
     allowed: u64,
     sizes: [usize; 2],
+    shown: Shown,
 }
 
 /// `read CONFIG | FILES | NOW | FAILS | DRAWN ALLOWED SIZE SIZE`: the inputs are scanned as they are in FILES and read
 /// as they are NOW, behind so many records; of each source the calls of these numbers fail then. It tells what comes
 /// of two batches of these sizes, how many records were drawn in the end, and the points.
 pub(crate) fn read(row: Row<'_>, out: &mut String) -> Answered {
+    read_and_show(row, Shown::Places, out)
+}
+
+/// `read-packed ..`: the same, where the points are shown as tiles have them.
+pub(crate) fn read_packed(row: Row<'_>, out: &mut String) -> Answered {
+    read_and_show(row, Shown::Packed, out)
+}
+
+/// How points are shown.
+#[derive(Clone, Copy)]
+enum Shown {
+    /// As `X,Y,Z#INPUT.NUMBER`.
+    Places,
+    /// As the bytes of a tile, in hexadecimal digits.
+    Packed,
+}
+
+fn read_and_show(row: Row<'_>, shown: Shown, out: &mut String) -> Answered {
     let mut before = shelf_of(row, row.part(1)?, "-")?;
     let mut now = shelf_of(row, row.part(2)?, row.part(3)?)?;
-    let wish = wish_of(row.part(4)?)?;
+    let wish = wish_of(row.part(4)?, shown)?;
     match read_config(row.alloc, row.part(0)?.as_bytes()) {
         Ok(config) => scan_and_read(row.alloc, &config, &mut before, &mut now, wish, out),
         Err(_) => Err(Stop::BadLine),
     }
 }
 
-fn wish_of(words: &str) -> Result<Wish, Stop> {
+fn wish_of(words: &str, shown: Shown) -> Result<Wish, Stop> {
     let mut words = words.split(' ');
     let mut next = || words.next().ok_or(Stop::BadLine);
     Ok(Wish {
         drawn: count(next()?)?,
         allowed: count(next()?)?,
         sizes: [whole(next()?)?, whole(next()?)?],
+        shown,
     })
 }
 
@@ -73,7 +93,7 @@ fn read_again(
 {
     let mut points = Vec::new(alloc);
     let drawn = draw(alloc, kept, counts, shelf, wish, &mut points);
-    show(&drawn, &points, out)
+    show(alloc, &drawn, &points, wish.shown, out)
 }
 
 // What comes of two batches, and how many records were drawn.
@@ -109,13 +129,19 @@ fn draw(
     })
 }
 
-fn show(drawn: &Result<Drawn, ReadError>, points: &[Point], out: &mut String) -> Answered {
+fn show(
+    alloc: Global,
+    drawn: &Result<Drawn, ReadError>,
+    points: &[Point],
+    shown: Shown,
+    out: &mut String,
+) -> Answered {
     match drawn {
         Ok(drawn) => {
             show_batch(drawn.first, out)?;
             show_batch(drawn.second, out)?;
             write!(out, "{} drawn", drawn.records)?;
-            show_points(points, out)
+            show_points(alloc, points, shown, out)
         }
         Err(refusal) => Ok(write!(out, "refused {refusal:?}")?),
     }
@@ -128,11 +154,25 @@ fn show_batch(batch: Result<(), ReadError>, out: &mut String) -> Answered {
     }
 }
 
-// Appends points, each as `X,Y,Z#NUMBER`.
-fn show_points(points: &[Point], out: &mut String) -> Answered {
+fn show_points(alloc: Global, points: &[Point], shown: Shown, out: &mut String) -> Answered {
     for point in points {
-        let Point { x, y, z, number, .. } = *point;
-        write!(out, " {x},{y},{z}#{number}")?;
+        out.push(' ')?;
+        match shown {
+            Shown::Places => show_place(point, out)?,
+            Shown::Packed => out.push_str(hex::encode(alloc, pack(point))?.as_str())?,
+        }
     }
     Ok(())
+}
+
+fn show_place(point: &Point, out: &mut String) -> Answered {
+    let Point {
+        x,
+        y,
+        z,
+        origin,
+        number,
+        ..
+    } = *point;
+    Ok(write!(out, "{x},{y},{z}#{origin}.{number}")?)
 }

@@ -8,7 +8,9 @@ use crate::files::store_of;
 use crate::row::Row;
 use crate::stop::Answered;
 use ept_mem::MemStore;
-use ept_save::{SaveError, Saved, begin, close_done, is_done, load_node, load_tile, open, open_done, save_tile};
+use ept_save::{
+    SaveError, Saved, begin, close_done, is_done, load_node, load_tile, open, open_done, save_tile,
+};
 use ept_space::Key;
 use std::alloc::Global;
 
@@ -67,8 +69,14 @@ pub(crate) fn save(row: Row<'_>, out: &mut String) -> Answered {
 }
 
 fn save_root(alloc: Global, store: &mut MemStore, saved: &mut Saved, out: &mut String) -> Answered {
-    let saves = begin(alloc, store, saved)
-        .and_then(|()| save_tile(alloc, store, saved, Key::ROOT, 0, &[]));
+    let saves = begin(alloc, store, saved).and_then(|()| save_tile(
+        alloc,
+        store,
+        saved,
+        Key::ROOT,
+        0,
+        &[],
+    ));
     if let Err(refusal) = saves {
         return refuse(refusal, out);
     }

@@ -1,10 +1,9 @@
 //! First readings of scans.
 
-ghost use Rattle.std.specs.Prelude.{IfOk, IfSome};
 ghost use Rattle.ept_space.specs.CubeOfBounds.{HasPlace};
 
 use crate::files::shelf_of;
-use crate::numbers::{bounds, count, whole};
+use crate::numbers::{bounds, count, ordered_bounds, whole};
 use crate::row::Row;
 use crate::stop::{Answered, Stop};
 use ept_config::{Config, SourceCount, read_config};
@@ -27,7 +26,7 @@ pub(crate) fn scan_all(row: Row<'_>, out: &mut String) -> Answered {
 pub(crate) fn scan_from(row: Row<'_>, out: &mut String) -> Answered {
     let mut shelf = shelf_of(row, row.part(1)?, "-")?;
     let from = whole(row.part(2)?)?;
-    let kept = ordered(row.part(3)?)?;
+    let kept = ordered_bounds(row.part(3)?)?;
     match read_config(row.alloc, row.part(0)?.as_bytes()) {
         Ok(config) => scan_behind(row.alloc, &mut shelf, &config, from, kept, out),
         Err(_) => Err(Stop::BadLine),
@@ -48,20 +47,6 @@ fn scan_behind(
         return Err(Stop::BadLine);
     }
     show(scan(alloc, shelf, config, from as u32, Some(kept)), out)
-}
-
-// Bounds whose least place is nowhere above the greatest.
-fn ordered(words: &str) -> Result<Bounds, Stop>
-    ensures { IfOk result HasPlace }
-{
-    let bounds = bounds(words)?;
-    let [a, b, c] = bounds.min;
-    let [d, e, f] = bounds.max;
-    if a <= d && b <= e && c <= f {
-        Ok(bounds)
-    } else {
-        Err(Stop::BadLine)
-    }
 }
 
 fn show(done: Result<ScanDone, ScanError>, out: &mut String) -> Answered {

@@ -3,6 +3,7 @@
 use ept_point::Memory as NoMemory;
 use hex::FromHexError;
 use std::alloc::{AllocError, AllocFailed};
+use std::num::{ParseIntError, TryFromIntError};
 
 /// Why a line has no answer.
 #[derive(Clone, Copy)]
@@ -40,5 +41,17 @@ impl From<FromHexError> for Stop {
             FromHexError::OutOfMemory => Stop::Memory,
             _ => Stop::BadLine,
         }
+    }
+}
+
+impl From<ParseIntError> for Stop {
+    fn from(_error: ParseIntError) -> Stop {
+        Stop::BadLine
+    }
+}
+
+impl From<TryFromIntError> for Stop {
+    fn from(_error: TryFromIntError) -> Stop {
+        Stop::BadLine
     }
 }

@@ -17,7 +17,11 @@ const FRONT: &[u8] = b"> ";
 /// none.
 pub(crate) fn metadata(row: Row<'_>, out: &mut String) -> Answered {
     let (points, extent) = row.part(0)?.split_once(' ').ok_or(Stop::BadLine)?;
-    let extent = if extent == "-" { None } else { Some(bounds(extent)?) };
+    let extent = if extent == "-" {
+        None
+    } else {
+        Some(bounds(extent)?)
+    };
     let points = count(points)?;
     let mut text = Vec::from_slice(row.alloc, FRONT)?;
     let kept = kept_of(row.alloc, row.part(1)?)?;
