@@ -91,10 +91,7 @@ fn save_over(row: Row<'_>, store: &mut MemStore, out: &mut String) -> Answered {
             out,
             "saved {is_saved}, {residents} in memory"
         )?),
-        Some((Err(refusal), residents)) => Ok(write!(
-            out,
-            "refused {refusal:?}, {residents} in memory"
-        )?),
+        Some((Err(refusal), _)) => Ok(write!(out, "refused {refusal:?}")?),
         None => Err(Stop::BadLine),
     }
 }
