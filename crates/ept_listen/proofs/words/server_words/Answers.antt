@@ -1,7 +1,7 @@
 use Rattle.std.proofs.Common.{◌≡◌, ℕ, List, [], ◌∷◌, ap, sym, ◌∙◌, subst, string_bytes}
-use Rattle.ept_server.specs.Words.{bytes_of, AreRead}
-use Rattle.ept_server.proofs.Lists.{two-items, four-items}
-use Rattle.ept_server.proofs.words.server_words.Goals as goal
+use Rattle.ept_listen.specs.Words.{bytes_of, AreRead}
+use Rattle.ept_listen.proofs.Lists.{two-items, four-items}
+use Rattle.ept_listen.proofs.words.server_words.Goals as goal
 
 pub returns-in-len2 : goal.returns-in-len2
 returns-in-len2 c =

@@ -1,7 +1,7 @@
 use Rattle.std.proofs.Common.{rules, FitsSigned, w64, ◌∙◌}
 use Rattle.std.proofs.lemmas.Int.{to_z-of_z}
-use Rattle.ept_server.proofs.Numbers.{one-number, small-count, if-none}
-use Rattle.ept_server.proofs.words.read_count.Goals as goal
+use Rattle.ept_listen.proofs.Numbers.{one-number, small-count, if-none}
+use Rattle.ept_listen.proofs.words.read_count.Goals as goal
 
 pub returns-in_err-whole-clause-none : goal.returns-in_err-whole-clause-none
 returns-in_err-whole-clause-none c = rw c.from_residual.ensures (λ n some small spelled.

@@ -1,7 +1,7 @@
 -- What the words of the server's command line ask for.
 use Rattle.std.specs.Prelude.{◌≡◌, ◌≢◌, ℕ, ◌^◌, ◌<◌, List, [], ◌∷◌, String, Option, Some, None, decimal, map, string_bytes, codes}
 use Rattle.std.specs.declared.alloc.Global.{Global}
-use Rattle.ept_server.specs.declared.words.Serve.{Serve}
+use Rattle.ept_listen.specs.declared.words.Serve.{Serve}
 
 -- words as lists of bytes
 abbrev pub bytes_of : List (String Global) → List (List ℕ)

@@ -1,7 +1,7 @@
 //! What the words of the command line ask for.
 
 ghost use Rattle.std.specs.Prelude.{◌≡◌, ◌≢◌, ◌↔◌, ◌<◌, ◌^◌, ℕ, [], ◌∷◌, IsTrue, IfSome, IfNone, decimal, pos};
-ghost use Rattle.ept_server.specs.Words.{bytes_of, ArePlace, AreRead};
+ghost use Rattle.ept_listen.specs.Words.{bytes_of, ArePlace, AreRead};
 
 use ept_num::read_whole;
 
