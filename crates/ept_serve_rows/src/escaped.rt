@@ -1,17 +1,17 @@
-//! Bytes as text. `\r`, `\n`, `\0`, `\\` and `\xHH` stand for a byte each, and so does each character of ASCII. A
-//! byte after `\{N}` comes N times. `-` alone is no byte.
+//! Bytes as text. `\r`, `\n`, `\0`, `\\`, `\xHH` and each other character of ASCII are a byte each. A byte after
+//! `\{N}` is repeated N times. `-` alone is no byte.
 
 use crate::row::RowError;
 use std::alloc::{AllocError, Global};
 use std::fmt::Write as _;
 
-/// How often a byte may come at most.
+/// The most times that a byte may be repeated.
 const MOST: u32 = 100_000;
 
-/// How many bytes alike are written one by one at most.
+/// The most equal bytes in a row that are written one by one.
 const ALIKE: usize = 4;
 
-/// Where the reader of a text is: how often the next byte comes, and what is known of it.
+/// The state of the reader of a text: how many times the next byte is repeated, and where in it the reader is.
 #[derive(Clone, Copy)]
 enum Place {
     /// Before a byte.
@@ -26,7 +26,7 @@ enum Place {
     Low(u32, u8),
 }
 
-/// The bytes that a text stands for.
+/// The bytes of a text.
 pub(crate) fn unescape(alloc: Global, text: &str) -> Result<Vec<u8>, RowError> {
     let mut bytes = Vec::new(alloc);
     if text == "-" {
@@ -97,7 +97,7 @@ fn digit(byte: u8) -> Result<u8, RowError> {
     }
 }
 
-/// Writes the text of these bytes, in which a byte that comes more than four times running is counted.
+/// Writes the text of these bytes. A byte that is repeated more than four times is counted.
 pub(crate) fn push_escaped(answer: &mut String, bytes: &[u8]) -> Result<(), AllocError> {
     if bytes.is_empty() {
         return answer.push('-');

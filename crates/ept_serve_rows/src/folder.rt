@@ -1,4 +1,4 @@
-//! The folder that rows ask: the files that the rows before put into it.
+//! The folder that rows use: the files that earlier rows added.
 
 use crate::escaped::unescape;
 use crate::row::{RowError, cut, numbers};
@@ -22,7 +22,7 @@ impl Folder {
         }
     }
 
-    /// `folder`: takes all files away.
+    /// `folder`: removes all files.
     pub(crate) fn empty(&mut self, answer: &mut String) -> Result<(), RowError> {
         self.files.clear();
         self.count(answer)
@@ -44,7 +44,7 @@ impl Folder {
         Ok(())
     }
 
-    /// A store of these files, whose calls of the numbers in a word fail.
+    /// A store of these files, in which the calls that a word lists fail.
     pub(crate) fn store(&self, fails: &str) -> Result<MemStore, RowError> {
         let fails = numbers(self.alloc, fails)?;
         Ok(MemStore::new(self.alloc, self.copied()?, fails))

@@ -7,7 +7,7 @@ use ept_space::Box3;
 use std::alloc::{AllocError, Global};
 use std::fmt::Write as _;
 
-/// `head BYTES`: what `read_request` answers.
+/// `head BYTES`: what `read_request` returns.
 pub(crate) fn head(alloc: Global, text: &str, answer: &mut String) -> Result<(), RowError> {
     let head = unescape(alloc, text)?;
     let (asked, last) = read_request(alloc, &head)?;
@@ -15,7 +15,7 @@ pub(crate) fn head(alloc: Global, text: &str, answer: &mut String) -> Result<(),
     Ok(())
 }
 
-/// Writes what a request asks for, and `last` where the connection ends after the answer.
+/// Writes what a request asks for, and `last` if the connection ends after the answer.
 pub(crate) fn push_asked(answer: &mut String, asked: &Asked, last: bool) -> Result<(), AllocError> {
     match asked {
         Asked::File(name) => push_file(answer, name.as_str())?,
@@ -49,7 +49,7 @@ fn push_box(answer: &mut String, area: &Box3) -> Result<(), AllocError> {
     write!(answer, "{min_x},{min_y},{min_z},{max_x},{max_y},{max_z}")
 }
 
-/// `box TEXT`: what `read_box` answers.
+/// `box TEXT`: what `read_box` returns.
 pub(crate) fn area(text: &str, answer: &mut String) -> Result<(), RowError> {
     match read_box(plain(text).as_bytes()) {
         Some(area) => push_box(answer, &area)?,
@@ -58,7 +58,7 @@ pub(crate) fn area(text: &str, answer: &mut String) -> Result<(), RowError> {
     Ok(())
 }
 
-/// `depths TEXT`: what `read_depths` answers.
+/// `depths TEXT`: what `read_depths` returns.
 pub(crate) fn depths(text: &str, answer: &mut String) -> Result<(), RowError> {
     match read_depths(plain(text).as_bytes()) {
         Some((first, last)) => write!(answer, "{first},{last}")?,
@@ -67,8 +67,8 @@ pub(crate) fn depths(text: &str, answer: &mut String) -> Result<(), RowError> {
     Ok(())
 }
 
-/// `answer json LENGTH END`, `answer binary LENGTH END`, `answer query END` or `answer refuse STATUS END`, of which
-/// END is `last` or `open`: the head that `response_head` writes.
+/// `answer json LENGTH END`, `answer binary LENGTH END`, `answer query END` or `answer refuse STATUS END`, with `last` or
+/// `open` for END: the head that `response_head` writes.
 pub(crate) fn answer_head(text: &str, answer: &mut String) -> Result<(), RowError> {
     let kind = kind_of(text)?;
     let mut into = [0; 256];
@@ -115,7 +115,7 @@ fn is_last(word: &str) -> Result<bool, RowError> {
     }
 }
 
-// The head of an answer; None where no answer has the status.
+// The head of an answer, or None if no answer has the status.
 fn written<'a>(kind: &HeadKind, into: &'a mut [u8; 256]) -> Option<&'a [u8]> {
     let known = match kind {
         HeadKind::Refusal { status, .. } => matches!(

@@ -1,4 +1,4 @@
-//! Reads rows from stdin, each a call and its arguments, and prints what the call answers.
+//! Reads rows from stdin, each a call with its arguments, and prints what the call returns.
 #![tactic(auto)]
 
 mod connections;
@@ -25,7 +25,7 @@ fn main(rt: HostRuntime) -> io::Result<()> {
     Ok(())
 }
 
-// Prints the answer to a line; one that is empty or a comment stands as it is.
+// Prints the answer to a row. Empty lines and comments are copied.
 fn print_answer<R: Print + Wait + RandomSource + AllocGlobal>(
     rt: &R,
     folder: &mut Folder,
@@ -43,7 +43,7 @@ fn print_answer<R: Print + Wait + RandomSource + AllocGlobal>(
     }
 }
 
-// Writes what the call of a row answers.
+// Writes what the call of a row returns.
 fn answer_row<R: Wait + RandomSource + AllocGlobal>(
     rt: &R,
     folder: &mut Folder,

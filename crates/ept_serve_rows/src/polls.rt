@@ -25,8 +25,8 @@ use std::sync::Wait;
 const MOST: u64 = 1000;
 
 /// `poll SIZE UNITS PENDING STORE LINK BYTES`: how a connection ends that `block_on` polls, and the bytes that it was
-/// sent. A poll does so many units. The calls of the link that PENDING numbers are pending, or with `each` every
-/// second call from the first on; and the calls of the store and of the link fail that the next two words number.
+/// sent. A poll does at most UNITS units. PENDING lists the calls of the link that are pending; `each` is every second
+/// call from the first on. STORE and LINK list the calls that fail.
 pub(crate) fn poll<R: Wait + RandomSource + AllocGlobal>(
     rt: &R,
     folder: &Folder,
@@ -60,7 +60,7 @@ fn poll_to_end<R: Wait + RandomSource + AllocGlobal>(
     }
 }
 
-// The link of a row, whose text has the calls that fail and the bytes.
+// The link of a row. The text lists the calls that fail, and then has the bytes.
 fn link_of(
     alloc: Global,
     size: &str,
@@ -87,8 +87,8 @@ fn pending_of(alloc: Global, word: &str) -> Result<Vec<u64>, RowError> {
     Ok(list)
 }
 
-/// `polls UNITS BYTES`: how many polls there are to the end of a connection whose bytes come in one piece and whose
-/// link never waits, and the end. Each poll that is pending has to ask for the next one.
+/// `polls UNITS BYTES`: the number of polls until a connection ends whose bytes come in one piece and whose link never
+/// waits, and the end. Each pending poll has to ask for the next one.
 pub(crate) fn polls<R: RandomSource + AllocGlobal>(
     rt: &R,
     folder: &Folder,
@@ -123,7 +123,7 @@ fn count_polls<R: RandomSource + AllocGlobal>(
     }
 }
 
-// Polls up to the end, and answers how many polls there were. None where a pending poll has not asked for the next
+// Polls until the connection ends, and returns the number of polls. None if a pending poll has not asked for the next
 // one.
 fn polls_to_end(task: &MockTask, conn: &mut PollConn<MemPollLink, MemStore>) -> Option<(u64, End)>
     requires { IsPollable conn.old.turns conn.old.session }

@@ -10,7 +10,7 @@ use ept_space::{Box3, Key};
 use std::alloc::{AllocError, Global};
 use std::fmt::Write as _;
 
-/// How many bytes the sink takes at a time.
+/// How many bytes the sink takes in one write.
 const SINK: usize = 7;
 
 /// What a query asks for.
@@ -20,8 +20,8 @@ struct Question {
     depths: (u8, u8),
 }
 
-/// `query BOX DEPTHS STORE SINK`: the number of points or the refusal, and the bytes that were written. The calls of
-/// the store and of the sink fail that the last two words number.
+/// `query BOX DEPTHS STORE SINK`: the number of points or the refusal, and the bytes that were written. STORE and SINK
+/// list the calls that fail.
 pub(crate) fn query_row(
     alloc: Global,
     folder: &Folder,
@@ -35,8 +35,7 @@ pub(crate) fn query_row(
     ask(alloc, &mut store, &question, &mut sink, answer)
 }
 
-/// `again BOX DEPTHS STORE`: what a query answers, and then what the same answers again, of the same store and the
-/// same sink.
+/// `again BOX DEPTHS STORE`: the answers of one query that runs twice over the same store and the same sink.
 pub(crate) fn again(
     alloc: Global,
     folder: &Folder,
@@ -51,7 +50,7 @@ pub(crate) fn again(
     ask(alloc, &mut store, &question, &mut sink, answer)
 }
 
-// The question that a text begins with, and what follows it.
+// The question that a text begins with, and the rest of the text.
 fn question_of(text: &str) -> Result<(Question, &str), RowError> {
     let (area, text) = cut(text)?;
     let (depths, text) = text.split_once(' ').unwrap_or((text, "-"));
@@ -76,8 +75,7 @@ fn ask(
     Ok(())
 }
 
-/// `plan BOX DEPTHS`: the key of each tile of the plan, with the number of its points that lie in the box and their
-/// bytes.
+/// `plan BOX DEPTHS`: the key of each tile of the plan, with the number of its points in the box and their bytes.
 pub(crate) fn plan(
     alloc: Global,
     folder: &Folder,

@@ -37,22 +37,22 @@ pub(crate) fn cut(text: &str) -> Result<(&str, &str), RowError> {
     text.split_once(' ').ok_or(RowError::Form)
 }
 
-/// The text of a word, which is `-` where it is empty.
+/// The text of a word: `-` is the empty text.
 pub(crate) fn plain(word: &str) -> &str {
     if word == "-" { "" } else { word }
 }
 
-/// The number that a word is.
+/// The number of a word.
 pub(crate) fn number(word: &str) -> Result<u64, RowError> {
     word.parse::<u64>().map_err(|_| RowError::Form)
 }
 
-/// The number, which has 32 bits, that a word is.
+/// The number of a word, of 32 bits.
 pub(crate) fn small(word: &str) -> Result<u32, RowError> {
     word.parse::<u32>().map_err(|_| RowError::Form)
 }
 
-/// The numbers that a word is, with commas between them; `-` where there are none.
+/// The numbers of a word, separated by commas; `-` is none.
 pub(crate) fn numbers(alloc: Global, word: &str) -> Result<Vec<u64>, RowError> {
     let mut list = Vec::new(alloc);
     if word != "-" {

@@ -6,10 +6,10 @@ use crate::row::{RowError, cut, number};
 use ept_conn::{Conn, ConnError};
 use std::alloc::Global;
 
-/// The most turns that a piece brings here.
+/// The most turns that are taken after a piece.
 const MOST: u32 = 100;
 
-/// The bytes of a client in pieces: they are cut at each `|` of the text, and a piece has at most so many.
+/// The bytes of a client in pieces of at most `size` bytes, which end at each `|` of the text too.
 pub(crate) fn pieces_of(
     alloc: Global,
     size: &str,
@@ -26,8 +26,8 @@ pub(crate) fn pieces_of(
     Ok(pieces)
 }
 
-/// `turns SIZE BYTES`: the turns that a connection gives, which is fed piece by piece and asked after each for all
-/// that are there; and whether it takes more bytes then.
+/// `turns SIZE BYTES`: the turns of a connection that is fed piece by piece and asked for all its turns after each
+/// piece; and whether it takes more bytes after that.
 pub(crate) fn turns(alloc: Global, text: &str, answer: &mut String) -> Result<(), RowError> {
     let (size, text) = cut(text)?;
     let pieces = pieces_of(alloc, size, text)?;
@@ -43,7 +43,7 @@ pub(crate) fn turns(alloc: Global, text: &str, answer: &mut String) -> Result<()
     Ok(())
 }
 
-// Feeds a piece, and answers whether it is refused since the last turn was given.
+// Feeds a piece, and returns whether it is refused because the last turn was taken.
 fn is_closed(conn: &mut Conn, piece: &[u8]) -> Result<bool, RowError> {
     match conn.feed(piece) {
         Ok(()) => Ok(false),
@@ -52,7 +52,7 @@ fn is_closed(conn: &mut Conn, piece: &[u8]) -> Result<bool, RowError> {
     }
 }
 
-// Writes the turns that are there.
+// Takes and writes all turns that are ready.
 fn push_turns(conn: &mut Conn, answer: &mut String) -> Result<(), RowError> {
     for _ in 0..MOST {
         match conn.next()? {

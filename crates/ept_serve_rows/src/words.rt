@@ -5,7 +5,7 @@ use ept_listen::server_words;
 use std::alloc::{AllocError, Global};
 use std::fmt::Write as _;
 
-/// `words WORD ..`: how many connections the words of the server's command line ask for.
+/// `words WORD ..`: how many connections the server's command line asks for.
 pub(crate) fn words(alloc: Global, text: &str, answer: &mut String) -> Result<(), RowError> {
     let words = words_of(alloc, text)?;
     match server_words(&words) {
