@@ -2,7 +2,5 @@
 #![tactic(auto)]
 
 mod meeting;
-#[cfg(test)]
-mod tests;
 
 pub use meeting::MeetGate;

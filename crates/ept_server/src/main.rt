@@ -1,13 +1,7 @@
 //! `ept_server` serves a finished Entwine Point Tile folder over HTTP/1.1 (RFC 9112).
 #![tactic(auto)]
 
-mod serving;
-#[cfg(test)]
-mod tests;
-mod words;
-
-use crate::serving::serve_connections;
-use crate::words::{Serve, server_words};
+use ept_listen::{Serve, serve_connections, server_words};
 use std::env;
 use std::io::{self, ErrorKind};
 use std::net::TcpListener;

@@ -4,6 +4,6 @@
 #[cfg(test)]
 mod load;
 #[cfg(test)]
-mod tests;
+mod slots;
 #[cfg(test)]
 mod trade;

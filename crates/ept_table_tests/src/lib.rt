@@ -4,4 +4,4 @@
 #[cfg(test)]
 mod session;
 #[cfg(test)]
-mod tests;
+mod sessions;

@@ -13,7 +13,7 @@ use Rattle.ept_work.specs.Visiting.{IsVisit, IsLanding, HasRoom}
 use Rattle.ept_work_tests.specs.declared.hands.Doing.{Doing}
 use Rattle.ept_work_tests.specs.declared.hands.Doing.TheVariants.{Rest, Up, Down, Ended}
 use Rattle.ept_work_tests.specs.declared.hands.Hand.{Hand}
-use Rattle.ept_work_tests.specs.declared.turns.Pair.{Pair}
+use Rattle.ept_work_tests.specs.declared.hands.Pair.{Pair}
 
 module _ {F S : Type 0} (held : F → Option (List ℕ)) (contents : S → Option (List ℕ)) (told : Told) where
   -- it carries no flight, and holds no slot

@@ -2,13 +2,15 @@
 #![tactic(auto)]
 
 mod hands;
+#[cfg(test)]
 mod plans;
 #[cfg(test)]
-mod tests;
+mod steps;
+#[cfg(test)]
 mod turns;
+#[cfg(test)]
 mod visits;
+#[cfg(test)]
+mod workers;
 
-pub use hands::{Doing, Hand, Past, finish, step, whole_step};
-pub use plans::{Crew, Limits, Plan, Worked, work};
-pub use turns::{Pair, work_in_turns};
-pub use visits::work_by_visits;
+pub use hands::{Doing, Hand, Pair, Past};

@@ -3,19 +3,14 @@
 ghost use Rattle.ept_work_tests.specs.Hands.{IsTable, IsPair};
 ghost use Rattle.ept_work_tests.specs.Tables.{IsNewTable};
 
-use crate::hands::{Doing, Hand, Past, finish, step};
+use crate::hands::{Doing, Hand, Pair, Past};
 use crate::plans::Worked;
+use crate::steps::{finish, step};
 use ept_base::{Source, SpillFile};
 use ept_table::{NodeTable, Scan, Seat};
 use ept_work::Worker;
 use std::alloc::Global;
 use std::sync::Wait;
-
-/// Two workers of one table.
-pub struct Pair<F, S> {
-    pub first: Hand<F, S>,
-    pub second: Hand<F, S>,
-}
 
 // The slot of the node that is held, if one is.
 fn held_slot<F>(doing: &Doing<F>) -> Option<u32> {

@@ -4,8 +4,9 @@ ghost use Rattle.ept_work_tests.specs.Hands.{parts_of, IsTable, IsHand};
 ghost use Rattle.ept_work_tests.specs.Tables.{IsNewTable};
 ghost use Rattle.std.specs.Prelude.{◌≡◌};
 
-use crate::hands::{Doing, Hand, Past, finish, whole_step};
+use crate::hands::{Doing, Hand, Past};
 use crate::plans::Worked;
+use crate::steps::{finish, whole_step};
 use ept_base::{Gate, Source, SpillFile};
 use ept_table::{NodeTable, Scan, Seat};
 use ept_work::Worker;

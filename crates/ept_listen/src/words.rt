@@ -1,0 +1,77 @@
+//! What the words of the command line ask for.
+
+ghost use Rattle.std.specs.Prelude.{◌≡◌, ◌≢◌, ◌↔◌, ◌<◌, ◌^◌, ℕ, [], ◌∷◌, IsTrue, IfSome, IfNone, decimal, pos};
+ghost use Rattle.ept_listen.specs.Words.{bytes_of, ArePlace, AreRead};
+
+use ept_num::read_whole;
+
+/// How many connections may be asked for at most.
+const MOST: i64 = 4_294_967_295;
+
+/// What the words ask for: to serve connections without end, or so many.
+#[derive(Clone, Copy, Debug, PartialEq, Eq)]
+pub struct Serve {
+    pub connections: Option<u32>,
+}
+
+/// What these words, which follow the program's name, ask for: `OUT ADDRESS`, after `--connections N` where
+/// only so many connections are served. None for any other words.
+pub fn server_words(words: &[String]) -> Option<Serve>
+    ensures { AreRead (bytes_of words.now) result }
+{
+    match words {
+        [out, address] => read_place(out, address),
+        [option, count, out, address] => read_limited(option, count, out, address),
+        _ => None,
+    }
+}
+
+// What two words ask for.
+fn read_place(out: &str, address: &str) -> Option<Serve>
+    ensures { AreRead (out.now ∷ address.now ∷ []) result }
+{
+    if !are_place(out, address) {
+        return None;
+    }
+    Some(Serve { connections: None })
+}
+
+// What four words ask for.
+fn read_limited(option: &str, count: &str, out: &str, address: &str) -> Option<Serve>
+    ensures { AreRead (option.now ∷ count.now ∷ out.now ∷ address.now ∷ []) result }
+{
+    if option != "--connections" || !are_place(out, address) {
+        return None;
+    }
+    let connections = read_count(count)?;
+    Some(Serve {
+        connections: Some(connections),
+    })
+}
+
+// Whether these are a folder and an address.
+fn are_place(out: &str, address: &str) -> bool
+    ensures { IsTrue result ↔ ArePlace (out.now ∷ address.now ∷ []) }
+{
+    !out.is_empty() && !address.is_empty()
+}
+
+// The number of connections that a word is.
+fn read_count(word: &str) -> Option<u32>
+    ensures some { IfSome result (λ n. (word.now ≡ decimal n) × (0 < n) × (n < 2 ^ 32)) }
+    ensures none { IfNone result ((n : ℕ) → 0 < n → n < 2 ^ 32 → word.now ≢ decimal n) }
+{
+    let whole = read_whole(word.as_bytes())?;
+    count_of(whole)
+}
+
+// The number, where it is one of connections.
+fn count_of(whole: i64) -> Option<u32>
+    ensures some { IfSome result (λ n. (whole ≡ pos n) × (0 < n) × (n < 2 ^ 32)) }
+    ensures none { IfNone result ((n : ℕ) → whole ≡ pos n → 0 < n → n < 2 ^ 32 → ⊥) }
+{
+    if whole < 1 || whole > MOST {
+        return None;
+    }
+    Some(whole as u32)
+}

@@ -1,6 +1,0 @@
-use Rattle.ept_poll.specs.Polls.{IsPollable}
-use Rattle.ept_poll_tests.proofs.tests.polls_to_end.Given as given
-
--- it may be polled
-abbrev pub invariant-loop-count : given.invariant-loop-count
-invariant-loop-count l = IsPollable l.conn.turns l.conn.session
