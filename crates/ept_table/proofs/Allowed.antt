@@ -19,7 +19,7 @@ use Rattle.ept_table.specs.declared.taken.Taken.TheVariants.{Blank}
 use Rattle.ept_table.specs.At.{At}
 use Rattle.ept_table.specs.View.{View}
 use Rattle.ept_table.specs.Shown.{Holds, AreLocked}
-use Rattle.ept_table.specs.Steps.{holding, given_back, noting, refused_more, wishing, drawing, abandoned, beginning, together, lacks_slot, first_note, MayDraw, IsSpent}
+use Rattle.ept_table.specs.Steps.{holding, given_back, noting, refused_more, wishing, drawing, abandoned, merged, beginning, together, lacks_slot, first_note, GoTogether, MayDraw, IsSpent}
 use Rattle.ept_table.specs.Tells.{IsTooMany, Fits, ShowsLaw, IsLast, IsEnded}
 use Rattle.ept_table.specs.Item.{seen, Filed}
 use Rattle.ept_table.specs.Standing.{seen_hold, known, Stands}
@@ -29,6 +29,7 @@ use Rattle.ept_table.proofs.Glue.{at-from, at-to, at-map, map-at, map-set}
 use Rattle.ept_table.proofs.SlotDrawn.{draw-keeps}
 use Rattle.ept_table.proofs.Refused.{refusal-is-true, refusal-keeps}
 use Rattle.ept_table.proofs.Moves.{take-keeps, wish-keeps, abandon-keeps, lacks-one}
+use Rattle.ept_table.proofs.Merging.{merge-keeps}
 use Rattle.ept_table.proofs.Seating.{split-keeps, join-keeps}
 use Rattle.ept_table.proofs.Telling.{take-fits, lack-is-too-many, state-keeps-law}
 use Rattle.ept_table.proofs.Visiting.{visit-keeps}
@@ -166,7 +167,7 @@ module _ (F S : Type 0) (held : F → Option (List ℕ)) (node_faults keeps : F 
   refusal-after id v u n o k x is noted holds may =
       subst (λ (z : ViewOf). IsRefused rule told.most id z (λ d m. MatchOption d ((m ≡ z.note) × IsTooMany told) (λ s. m ≡ drawing z.note s))) (wished v u n o is noted) (refusal-allowed id (views.noted v (wishing v.note o)) k x holds (may_after v o k x may))
 
-  -- ---- look, abandon
+  -- ---- look, abandon, merge
 
   pub looks-allowed : (id : ℕ) (v : ViewOf) → Looks rule told.most id v (λ d n. (n ≡ v.note) × (told.tells ≡ true → ShowsLaw told (know v)))
   looks-allowed id v = λ drawn items seats locked h at. (
@@ -178,6 +179,13 @@ module _ (F S : Type 0) (held : F → Option (List ℕ)) (node_faults keeps : F 
       let a : At (map know seats) id (know v) = at_known seats id v at in
       let none : (know v).hold ≡ None = ap (λ (o : Option (Held ItemOf)). seen_hold held whole o) free in
       (n, same_items drawn items seats (set seats id (views.noted v n)) (set (map know seats) id (noting (know v) n)) (sym (map-set know seats id (views.noted v n))) h drawn (abandon-keeps told drawn (map see items) (map know seats) id (know v) h.rule a more none), (refl, λ lacks. (let c = lacks-one v.note.flights lacks in lack-is-too-many told drawn (map see items) (map know seats) id (know v) h.rule a c.0 c.1 c.2))))
+
+  pub merges-allowed : (id : ℕ) (v : ViewOf) → views.HoldsNothing v → 0 < v.parts → GoTogether v.note.flights → Looks rule told.most id v (λ d n. n ≡ merged v.note)
+  merges-allowed id v free more together = λ drawn items seats locked h at. (
+      let n : Note = merged v.note in
+      let a : At (map know seats) id (know v) = at_known seats id v at in
+      let none : (know v).hold ≡ None = ap (λ (o : Option (Held ItemOf)). seen_hold held whole o) free in
+      (n, same_items drawn items seats (set seats id (views.noted v n)) (set (map know seats) id (noting (know v) n)) (sym (map-set know seats id (views.noted v n))) h drawn (merge-keeps told drawn (map see items) (map know seats) id (know v) h.rule a more none together), refl))
 
   -- ---- split, join
 

@@ -29,7 +29,8 @@ use Rattle.ept_table.specs.Shown.{IsOver, shown, Shows, Holds, AreLocked}
 use Rattle.ept_table.specs.Steps.{first_seat}
 use Rattle.ept_table.specs.Tells.{IsLanded, IsSampling, HasNothing, IsLast, IsEnded}
 use Rattle.ept_table.proofs.Lists.{same_or_not, at-same, at-head, at-rest, at-next, at-zero, nothing-at}
-use Rattle.ept_table.proofs.Mirrors.{Mirrors, SomeFull, SomeFailure, stays, mirrors-hold, none_of}
+use Rattle.ept_table.proofs.Alike.{permuted-alike}
+use Rattle.ept_table.proofs.Mirrors.{Mirrors, CarriesTo, SomeFull, SomeFailure, stays, mirrors-hold, none_of}
 use Rattle.ept_table.proofs.ReaderBack.{reading-same}
 use Rattle.ept_table.proofs.Telling.{full-is-too-many}
 
@@ -60,8 +61,8 @@ module _ (told : Told) (drawn : ℕ) (items : List Taken) (parts : ℕ) (h : IsL
     given = only (λ u. (u.note.given ≡ 0) ⊎ ((k : ℕ) × (z : View) × At [] k z × (u.note.given ≤ z.note.given))) (inl refl);
     failed = λ e s. absurd (nothing-at s.2);
     noted = λ e (j, u, a, m). only (λ u. IsMember e u.note.failures → SomeFailure [] e) (λ m. absurd m) j u a m;
-    flights = IsPermutation-refl [];
-    carried = λ j u c a m. only (λ u. IsMember c u.note.flights → (k : ℕ) × (z : View) × At [] k z × IsMember c z.note.flights) (λ m. absurd m) j u a m;
+    flights = permuted-alike [] [] (IsPermutation-refl []);
+    carried = λ j u c a m. only (λ u. IsMember c u.note.flights → (k : ℕ) × (z : View) × At [] k z × CarriesTo z c) (λ m. absurd m) j u a m;
     drew = λ held x d r. absurd (nothing-at r.at);
     draws = λ j u held x d a is m. only (λ u. u.hold ≡ Some (held, x) → IsMember d u.note.draws → (k : ℕ) × (z : View) × At [] k z × (z.hold ≡ Some (held, x)) × IsMember d z.note.draws × (z.note.flights ≡ u.note.flights)) (λ is m. absurd m) j u a is m;
   }
@@ -117,7 +118,7 @@ module _ (told : Told) (drawn : ℕ) (items : List Taken) (views : List View) (i
       given = λ j u a. absurd (nothing-at a);
       failed = λ e s. absurd (let n : IsMember e [] = subst (λ (es : List ReadError). IsMember e es) nothing.failures (failure_mine e s) in n);
       noted = λ e s. absurd (nothing-at s.2);
-      flights = subst (λ (w : List Flight). IsPermutation w []) (sym no_flights) (IsPermutation-refl []);
+      flights = permuted-alike (all_flights views) [] (subst (λ (w : List Flight). IsPermutation w []) (sym no_flights) (IsPermutation-refl []));
       carried = λ j u c a. absurd (nothing-at a);
       drew = λ held x d r. absurd (none_of d r.view.note.draws (no_draws r.seat r.view r.at) r.noted);
       draws = λ j u held x d a. absurd (nothing-at a);

@@ -1,11 +1,13 @@
 pub mod Lists
 pub mod Keys
 pub mod Counting
+pub mod Flown
+mod Alike
 pub mod Mirrors
 mod Coming
 pub mod Moves
 pub mod Seating
-pub mod Flown
+mod Merging
 pub mod ReaderBack
 pub mod SlotDrawn
 pub mod TooMany

@@ -1,17 +1,15 @@
 -- Seats that know something else, of which the rule says the same.
-use Rattle.std.proofs.Common.{◌≡◌, ◌∙◌, ℕ, ◌+◌, ◌<◌, ◌≤◌, ◌⊎◌, inl, inr, List, [], ◌∷◌, length, min, take, set, refl, sym, ap, subst, arith, Some, None, sum_by, true}
+use Rattle.std.proofs.Common.{◌≡◌, ◌∙◌, ℕ, ◌+◌, ◌<◌, ◌≤◌, ◌⊎◌, inl, inr, List, [], ◌∷◌, length, min, take, drop, set, refl, sym, ap, subst, arith, Some, None, sum_by, true}
 use Rattle.std.specs.List.Sorted.{IsPermutation}
 use Rattle.std.proofs.lemmas.List.Concat.{length-flat_map}
-use Rattle.std.proofs.lemmas.List.Sorted.{IsPermutation-sym, IsPermutation-refl, sum_by-IsPermutation}
+use Rattle.std.proofs.lemmas.List.Sorted.{IsPermutation-refl, sum_by-IsPermutation}
 use Rattle.ept_space.specs.VoxelKey.{VoxelKey, child}
 use Rattle.ept_sample.specs.Nodes.{node_keys}
 use Rattle.ept_scan.specs.declared.read_error.ReadError.{ReadError}
 use Rattle.ept_sample.specs.Members.{IsMember}
-use Rattle.ept_sample.proofs.IdLaws.{IsMember-IsPermutation}
 use Rattle.ept_core.specs.declared.flight.Flight.{Flight}
 use Rattle.ept_core.specs.State.{flown}
 use Rattle.ept_core.specs.Flying.{EachIsReordered}
-use Rattle.ept_core.proofs.Regrouping.{order-free}
 use Rattle.ept_table.specs.declared.note.Told.{Told}
 use Rattle.ept_table.specs.declared.note.Carried.{Carried}
 use Rattle.ept_table.specs.declared.note.Draw.{Draw}
@@ -21,8 +19,9 @@ use Rattle.ept_table.specs.declared.taken.Taken.TheVariants.{Standing}
 use Rattle.ept_table.specs.At.{At}
 use Rattle.ept_table.specs.Taken.{count_of, slot_at}
 use Rattle.ept_table.specs.View.{View, NotesFull, IsNothing, flights_of, all_flights}
-use Rattle.ept_table.specs.Shown.{IsOver, HasSlot, Drew, IsDrawn, IsDraw, Seats, Base, Tree, shown, Shows, Holds, AreLocked}
-use Rattle.ept_table.proofs.Lists.{same_or_not, at-same, at-below, at-set, at-other, set-at, flat-same}
+use Rattle.ept_table.specs.Shown.{IsOver, HasSlot, IsSoundFlight, IsChild, Drew, IsDrawn, IsDraw, Seats, Base, Tree, Shows, Holds, AreLocked}
+use Rattle.ept_table.proofs.Lists.{same_or_not, at-same, at-below, at-set, at-other, set-at}
+use Rattle.ept_table.proofs.Alike.{FlyAlike, seats-alike, sound-alike, flies-there, law-alike}
 
 -- some seat notes that all slots are drawn
 abbrev pub SomeFull : List View → Type 0
@@ -38,6 +37,13 @@ pub record Goes (told : Told) (before after : ℕ) : Type 0 where
   pub counted : min before told.most ≡ min after told.most
   pub full_over : told.tells ≡ true → IsOver told after → told.most < length (node_keys told.rules (take told.end told.points))
 
+-- the seat carries a flight to the slot and the key of this one
+abbrev pub CarriesTo : View → Carried → Type 0
+CarriesTo v c = (d : Carried) × IsMember d v.note.flights × (d.slot ≡ c.slot) × (d.flight.key ≡ c.flight.key)
+
+pub itself : (v : View) (c : Carried) → IsMember c v.note.flights → CarriesTo v c
+itself v c m = (c, m, refl, refl)
+
 -- of what the new views know the rule says what it said of the old ones
 pub record Mirrors (told : Told) (drawn : ℕ) (old new : List View) : Type 0 where
   pub knows : (i : ℕ) (w : View) → At new i w → 0 < w.parts → w.note.told ≡ told
@@ -48,8 +54,8 @@ pub record Mirrors (told : Told) (drawn : ℕ) (old new : List View) : Type 0 wh
   pub given : (i : ℕ) (w : View) → At new i w → (w.note.given ≡ 0) ⊎ ((j : ℕ) × (v : View) × At old j v × (w.note.given ≤ v.note.given))
   pub failed : (e : ReadError) → SomeFailure old e → SomeFailure new e
   pub noted : (e : ReadError) → SomeFailure new e → SomeFailure old e
-  pub flights : IsPermutation (all_flights old) (all_flights new)
-  pub carried : (i : ℕ) (w : View) (c : Carried) → At new i w → IsMember c w.note.flights → (j : ℕ) × (v : View) × At old j v × IsMember c v.note.flights
+  pub flights : FlyAlike (all_flights old) (all_flights new)
+  pub carried : (i : ℕ) (w : View) (c : Carried) → At new i w → IsMember c w.note.flights → (j : ℕ) × (v : View) × At old j v × CarriesTo v c
   pub drew : (held : ℕ) (x : Taken) (d : Draw) → Drew old held x d → Drew new held x d
   pub draws : (i : ℕ) (w : View) (held : ℕ) (x : Taken) (d : Draw) → At new i w → w.hold ≡ Some (held, x) → IsMember d w.note.draws → (j : ℕ) × (v : View) × At old j v × (v.hold ≡ Some (held, x)) × IsMember d v.note.draws × (v.note.flights ≡ w.note.flights)
 
@@ -70,10 +76,11 @@ slot-goes : (told : Told) (before after : ℕ) (keys : List VoxelKey) (slot : �
 slot-goes told before after keys slot key goes (inl none) = inl (none.0, goes.over none.1)
 slot-goes told before after keys slot key goes (inr is) = inr is
 
-module _ (told : Told) (before after : ℕ) (goes : Goes told before after) (items : List Taken) (old new : List View) (m : Mirrors told after old new) where
-  back : IsPermutation (all_flights new) (all_flights old)
-  back = IsPermutation-sym (all_flights old) (all_flights new) m.flights
+-- what holds of the slot and the key of a flight holds of those of the other
+to_same : (P : ℕ → VoxelKey → Type 0) (d c : Carried) → d.slot ≡ c.slot → d.flight.key ≡ c.flight.key → P d.slot d.flight.key → P c.slot c.flight.key
+to_same P d c slot key p = subst (λ (n : ℕ). P n c.flight.key) slot (subst (λ (k : VoxelKey). P d.slot k) key p)
 
+module _ (told : Told) (before after : ℕ) (goes : Goes told before after) (items : List Taken) (old new : List View) (m : Mirrors told after old new) where
   seats-mirror : Seats told after new
   seats-mirror = record { knows = m.knows; idle = m.idle; spent = m.spent; full_above = m.full; above_full = m.above_full }
 
@@ -88,8 +95,8 @@ module _ (told : Told) (before after : ℕ) (goes : Goes told before after) (ite
     noted = λ i w e a n. let r = m.noted e (i, w, a, n) in h.noted r.0 r.1 e r.2 r.3;
     keyed = h.keyed;
     sound = h.sound;
-    flying = λ f n. h.flying f (IsMember-IsPermutation f (all_flights new) (all_flights old) back n);
-    adds_up = ap (λ (n : ℕ). sum_by count_of items + n) (flown-same (all_flights old) (all_flights new) m.flights) ∙ h.adds_up;
+    flying = sound-alike told (all_flights old) (all_flights new) m.flights h.flying;
+    adds_up = ap (λ (n : ℕ). sum_by count_of items + n) m.flights.as_many ∙ h.adds_up;
   }
 
   drawn-mirror : (keys : List VoxelKey) (k : ℕ) (key : VoxelKey) → IsDrawn keys old k key → IsDrawn keys new k key
@@ -104,18 +111,22 @@ module _ (told : Told) (before after : ℕ) (goes : Goes told before after) (ite
     key_is = d.key_is;
   }
 
-  tree-mirror : (keys : List VoxelKey) → Tree told before keys items old → Tree told after keys items new
-  tree-mirror keys h = record {
+  tree-mirror : (keys : List VoxelKey) → ((f : Flight) → IsMember f (all_flights old) → IsSoundFlight told f) → Tree told before keys items old → Tree told after keys items new
+  tree-mirror keys sound h = record {
     counted = h.counted ∙ goes.counted;
     first = h.first;
     distinct = h.distinct;
     rooted = h.rooted;
     undrawn = h.undrawn;
-    carried = λ i w c a n. let r = m.carried i w c a n in slot-goes told before after keys c.slot c.flight.key goes (h.carried r.0 r.1 c r.2 r.3);
-    lands = λ i w c a n some. let r = m.carried i w c a n in h.lands r.0 r.1 c r.2 r.3 some;
+    carried = λ i w c a n. (
+        let r = m.carried i w c a n in
+        slot-goes told before after keys c.slot c.flight.key goes (to_same (HasSlot told before keys) r.3.0 c r.3.2 r.3.3 (h.carried r.0 r.1 r.3.0 r.2 r.3.1)));
+    lands = λ i w c a n some. (
+        let r = m.carried i w c a n in
+        to_same (λ slot key. (slot ≡ 1) ⊎ IsChild items slot key) r.3.0 c r.3.2 r.3.3 (h.lands r.0 r.1 r.3.0 r.2 r.3.1 (subst (λ (n : ℕ). 0 < n) (sym r.3.2) some)));
     children = λ k c o a low is. slot-goes told before after keys (slot_at (Standing c) o) (child c.node.key o) goes (h.children k c o a low is);
     closed = h.closed;
-    awaited = λ k c o a low is b. let r = h.awaited k c o a low is b in (r.0, IsMember-IsPermutation r.0 (all_flights old) (all_flights new) m.flights r.1, r.2);
+    awaited = λ k c o a low is b. flies-there told (all_flights old) (all_flights new) m.flights sound (child c.node.key o) (h.awaited k c o a low is b);
     born = λ k key is. elim (h.born k key is) [
       | inl top ↦ inl top
       | inr more ↦ elim more [ inl c ↦ inr (inl c) | inr d ↦ inr (inr (drawn-mirror keys k key d)) ]
@@ -129,7 +140,7 @@ module _ (told : Told) (before after : ℕ) (goes : Goes told before after) (ite
   shows-mirror : (reader : Progress) → Shows told reader items old → Shows told reader items new
   shows-mirror reader h = record {
     nodes = h.nodes;
-    law = (order-free told.rules told.points (shown told reader h.nodes old) (shown told reader h.nodes new) (record { left = refl; nodes = refl; flights = (all_flights new, m.flights, each-same (all_flights new)) })).0 h.law;
+    law = law-alike told (all_flights old) (all_flights new) m.flights told.points (drop reader.drawn told.points) h.nodes h.law;
     standing = h.standing;
     in_slot = h.in_slot;
     total = h.total;
@@ -142,7 +153,7 @@ module _ (told : Told) (before after : ℕ) (goes : Goes told before after) (ite
     is_told = h.is_told;
     seats = seats-mirror;
     base = base-mirror h.reader h.keys h.base;
-    tree = tree-mirror h.keys h.tree;
+    tree = tree-mirror h.keys h.base.flying h.tree;
     shows = λ tells. shows-mirror h.reader (h.shows tells);
   }
 
@@ -156,8 +167,8 @@ pub record Alike (told : Told) (drawn : ℕ) (v w : View) : Type 0 where
   pub full : NotesFull w → IsOver told drawn
   pub given : w.note.given ≤ v.note.given
   pub failures : v.note.failures ≡ w.note.failures
-  pub flights : IsPermutation (flights_of v) (flights_of w)
-  pub carried : (c : Carried) → IsMember c w.note.flights → IsMember c v.note.flights
+  pub flights : FlyAlike (flights_of v) (flights_of w)
+  pub carried : (c : Carried) → IsMember c w.note.flights → CarriesTo v c
   pub draws : ((v.note.draws ≡ []) × (w.note.draws ≡ [])) ⊎ ((v.hold ≡ w.hold) × (v.note.draws ≡ w.note.draws) × (v.note.flights ≡ w.note.flights))
 
 pub none_some : {X : Type 0} {x : X} → None ≡ Some x → ⊥
@@ -236,8 +247,8 @@ module _ (told : Told) (before after : ℕ) (goes : Goes told before after) (ite
     given = each (λ k u. (u.note.given ≡ 0) ⊎ ((j : ℕ) × (z : View) × At views j z × (u.note.given ≤ z.note.given))) (inr (i, v, at, like.given)) (λ k u apart a. inr (k, u, a, omega arith));
     failed = λ e s. kept (λ (u : View). IsMember e u.note.failures) (λ n. subst (λ (es : List ReadError). IsMember e es) like.failures n) s;
     noted = λ e s. was (λ (u : View). IsMember e u.note.failures) (λ n. subst (λ (es : List ReadError). IsMember e es) (sym like.failures) n) s;
-    flights = flat-same flights_of w at like.flights;
-    carried = λ j u c a n. each (λ k u. IsMember c u.note.flights → (j : ℕ) × (z : View) × At views j z × IsMember c z.note.flights) (λ n. (i, v, at, like.carried c n)) (λ k u apart a n. (k, u, a, n)) j u a n;
+    flights = seats-alike w at like.flights;
+    carried = λ j u c a n. each (λ k u. IsMember c u.note.flights → (j : ℕ) × (z : View) × At views j z × CarriesTo z c) (λ n. (i, v, at, like.carried c n)) (λ k u apart a n. (k, u, a, itself u c n)) j u a n;
     drew = still_drew;
     draws = had_drawn;
   }

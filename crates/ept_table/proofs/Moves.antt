@@ -1,6 +1,5 @@
 -- Steps that leave what lies in the slots.
 use Rattle.std.proofs.Common.{◌≡◌, ℕ, ◌<◌, ◌==◌, true, inl, inr, List, [], set, refl, subst, arith, None}
-use Rattle.std.specs.List.Sorted.{IsPermutation}
 use Rattle.std.proofs.lemmas.Bool.{eqb-true}
 use Rattle.std.proofs.lemmas.List.Sorted.{IsPermutation-refl}
 use Rattle.ept_sample.specs.Members.{IsMember}
@@ -14,14 +13,15 @@ use Rattle.ept_table.specs.View.{View, flights_of}
 use Rattle.ept_table.specs.Shown.{IsOver, KeyOf, HasSlot, Holds}
 use Rattle.ept_table.specs.Steps.{holding, given_back, noting, wishing, abandoned, lacks_slot, StaysAlike}
 use Rattle.ept_table.proofs.Coming.{alike-keeps}
-use Rattle.ept_table.proofs.Mirrors.{alike-holds}
+use Rattle.ept_table.proofs.Alike.{FlyAlike, permuted-alike}
+use Rattle.ept_table.proofs.Mirrors.{itself, alike-holds}
 
 pub lacks-one : (flights : List Carried) → lacks_slot flights ≡ true → (c : Carried) × IsMember c flights × (c.slot ≡ 0)
 lacks-one flights lacks =
     let c = member-any (λ (c : Carried). c.slot == 0) flights lacks in (c.0, c.1, eqb-true c.0.slot 0 c.2)
 
-same_flights : (v : View) → IsPermutation (flights_of v) (flights_of v)
-same_flights v = IsPermutation-refl (flights_of v)
+pub same-flights : (v : View) → FlyAlike (flights_of v) (flights_of v)
+same-flights v = permuted-alike (flights_of v) (flights_of v) (IsPermutation-refl (flights_of v))
 
 module _ (told : Told) (drawn : ℕ) (items : List Taken) (views : List View) (i : ℕ) (v : View) (h : Holds told drawn items views) (at : At views i v) where
   -- ---- a slot is taken
@@ -34,8 +34,8 @@ module _ (told : Told) (drawn : ℕ) (items : List Taken) (views : List View) (i
     full = h.seats.full_above i v at;
     given = omega arith;
     failures = refl;
-    flights = same_flights v;
-    carried = λ c n. n;
+    flights = same-flights v;
+    carried = itself v;
     draws = inl (h.seats.idle i v at free, h.seats.idle i v at free);
   }) (λ n. n) h
 
@@ -49,8 +49,8 @@ module _ (told : Told) (drawn : ℕ) (items : List Taken) (views : List View) (i
     full = h.seats.full_above i v at;
     given = omega arith;
     failures = refl;
-    flights = same_flights v;
-    carried = λ c n. n;
+    flights = same-flights v;
+    carried = itself v;
     draws = inl (none, none);
   }) (λ n. n) h
 
@@ -68,8 +68,8 @@ module _ (told : Told) (drawn : ℕ) (items : List Taken) (views : List View) (i
     full = h.seats.full_above i v at;
     given = omega arith;
     failures = refl;
-    flights = same_flights v;
-    carried = λ c n. n;
+    flights = same-flights v;
+    carried = itself v;
     draws = inr (refl, refl, refl);
   }) (λ n. n) h
 
@@ -99,7 +99,7 @@ module _ (told : Told) (drawn : ℕ) (items : List Taken) (views : List View) (i
     ];
     given = omega arith;
     failures = refl;
-    flights = same_flights v;
+    flights = same-flights v;
     carried = λ c n. absurd n;
     draws = inl (h.seats.idle i v at free, h.seats.idle i v at free);
   }) (λ n. elim n [ inl more ↦ inl more | inr over ↦ inr (or_left v.note.over (lacks_slot v.note.flights) over) ]) h

@@ -8,7 +8,8 @@ use Rattle.ept_table.specs.At.{At}
 use Rattle.ept_table.specs.View.{View, flights_of}
 use Rattle.ept_table.specs.Shown.{Holds, AreLocked}
 use Rattle.ept_table.specs.Steps.{refused_more, MayDraw}
-use Rattle.ept_table.proofs.Mirrors.{Goes, alike-goes, holder-parts}
+use Rattle.ept_table.proofs.Alike.{permuted-alike}
+use Rattle.ept_table.proofs.Mirrors.{Goes, itself, alike-goes, holder-parts}
 use Rattle.ept_table.proofs.TooMany.{too-many}
 
 module _ (told : Told) (drawn : ℕ) (items : List Taken) (views : List View) (i : ℕ) (v : View) (held : ℕ) (x : Taken) (h : Holds told drawn items views) (locks : AreLocked items views) (at : At views i v) (holds : v.hold ≡ Some (held, x)) (may : MayDraw told v held x v.note.wish) (all_drawn : told.most ≤ drawn) where
@@ -31,7 +32,7 @@ module _ (told : Told) (drawn : ℕ) (items : List Taken) (views : List View) (i
     full = λ f. omega (arith, all_drawn);
     given = omega arith;
     failures = refl;
-    flights = IsPermutation-refl (flights_of v);
-    carried = λ c m. m;
+    flights = permuted-alike (flights_of v) (flights_of v) (IsPermutation-refl (flights_of v));
+    carried = itself v;
     draws = inr (refl, refl, refl);
   }) (inr (inl (omega arith))) h

@@ -19,7 +19,8 @@ use Rattle.ept_table.specs.View.{View, NotesFull, IsNothing, flights_of, all_fli
 use Rattle.ept_table.specs.Shown.{IsOver, Drew, Holds}
 use Rattle.ept_table.specs.Steps.{with_parts, new_seat, joined, IsSpent}
 use Rattle.ept_table.proofs.Lists.{same_or_not, at-same, at-below, at-set, at-other, set-at, at-left, end-at, flat-out, set-set, set-apart}
-use Rattle.ept_table.proofs.Mirrors.{Mirrors, SomeFailure, stays, mirrors-hold, alike-holds, none_of}
+use Rattle.ept_table.proofs.Alike.{permuted-alike}
+use Rattle.ept_table.proofs.Mirrors.{Mirrors, CarriesTo, itself, SomeFailure, stays, mirrors-hold, alike-holds, none_of}
 
 -- ---- a seat is divided
 
@@ -49,8 +50,8 @@ module _ (told : Told) (drawn : ℕ) (items : List Taken) (views : List View) (h
     given = each_more (λ u. (u.note.given ≡ 0) ⊎ ((j : ℕ) × (z : View) × At views j z × (u.note.given ≤ z.note.given))) (inl refl) (λ j u a. inr (j, u, a, omega arith));
     failed = λ e (j, u, a, m). (j, u, at-left (new_seat v n ∷ []) a, m);
     noted = λ e (j, u, a, m). each_more (λ u. IsMember e u.note.failures → SomeFailure views e) (λ m. absurd m) (λ j u a m. (j, u, a, m)) j u a m;
-    flights = subst (λ (w : List Flight). IsPermutation (all_flights views) w) grown (IsPermutation-refl (all_flights views));
-    carried = λ j u c a m. each_more (λ u. IsMember c u.note.flights → (j : ℕ) × (z : View) × At views j z × IsMember c z.note.flights) (λ m. absurd m) (λ j u a m. (j, u, a, m)) j u a m;
+    flights = permuted-alike (all_flights views) (all_flights more) (subst (λ (w : List Flight). IsPermutation (all_flights views) w) grown (IsPermutation-refl (all_flights views)));
+    carried = λ j u c a m. each_more (λ u. IsMember c u.note.flights → (j : ℕ) × (z : View) × At views j z × CarriesTo z c) (λ m. absurd m) (λ j u a m. (j, u, a, itself u c m)) j u a m;
     drew = λ held x d r. record { seat = r.seat; view = r.view; at = at-left (new_seat v n ∷ []) r.at; hold = r.hold; noted = r.noted };
     draws = λ j u held x d a is m. each_more (λ u. u.hold ≡ Some (held, x) → IsMember d u.note.draws → (k : ℕ) × (z : View) × At views k z × (z.hold ≡ Some (held, x)) × IsMember d z.note.draws × (z.note.flights ≡ u.note.flights)) (λ is m. absurd m) (λ j u a is m. (j, u, a, is, m, refl)) j u a is m;
   }
@@ -66,8 +67,8 @@ share_less told drawn items views i v h at parts left some = alike-holds told dr
   full = h.seats.full_above i v at;
   given = omega arith;
   failures = refl;
-  flights = IsPermutation-refl (flights_of v);
-  carried = λ c n. n;
+  flights = permuted-alike (flights_of v) (flights_of v) (IsPermutation-refl (flights_of v));
+  carried = itself v;
   draws = inr (refl, refl, refl);
 }) (λ n. n) h
 
@@ -193,8 +194,8 @@ module _ (told : Told) (drawn : ℕ) (items : List Taken) (views : List View) (h
     given = each (λ u. (u.note.given ≡ 0) ⊎ ((k : ℕ) × (z : View) × At views k z × (u.note.given ≤ z.note.given))) (inr (i, v, at, omega arith)) (inl ended.given) (λ k u a. inr (k, u, a, omega arith));
     failed = λ e s. kept (λ (u : View). IsMember e u.note.failures) (λ m. IsMember-left e v.note.failures w.note.failures m) (λ m. IsMember-right e v.note.failures w.note.failures m) s;
     noted = noted_by;
-    flights = joined_all;
-    carried = λ k u c a m. each (λ u. IsMember c u.note.flights → (n : ℕ) × (z : View) × At views n z × IsMember c z.note.flights) (λ m. (i, v, at, m)) (λ m. absurd (let n : IsMember c [] = subst (λ (fs : List Carried). IsMember c fs) ended.flights m in n)) (λ k u a m. (k, u, a, m)) k u a m;
+    flights = permuted-alike (all_flights views) (all_flights next) joined_all;
+    carried = λ k u c a m. each (λ u. IsMember c u.note.flights → (n : ℕ) × (z : View) × At views n z × CarriesTo z c) (λ m. (i, v, at, itself v c m)) (λ m. absurd (let n : IsMember c [] = subst (λ (fs : List Carried). IsMember c fs) ended.flights m in n)) (λ k u a m. (k, u, a, itself u c m)) k u a m;
     drew = still_drew;
     draws = had_drawn;
   }

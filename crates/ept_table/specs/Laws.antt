@@ -13,7 +13,7 @@ use Rattle.ept_table.specs.declared.taken.Taken.TheVariants.{Standing, Reading}
 use Rattle.ept_table.specs.At.{At}
 use Rattle.ept_table.specs.View.{View, NotesFull}
 use Rattle.ept_table.specs.Shown.{IsTold, Holds, AreLocked}
-use Rattle.ept_table.specs.Steps.{holding, given_back, noting, refused_more, with_parts, new_seat, joined, IsSpent, wishing, drawing, abandoned, read, arrived, carried_to, HasRead, HasArrived, StaysAlike, MayDraw, first_seat, IsPlanted}
+use Rattle.ept_table.specs.Steps.{holding, given_back, noting, refused_more, with_parts, new_seat, joined, IsSpent, wishing, drawing, abandoned, merged, GoTogether, read, arrived, carried_to, HasRead, HasArrived, StaysAlike, MayDraw, first_seat, IsPlanted}
 use Rattle.ept_table.specs.Tells.{IsTooMany, Fits, ShowsLaw, IsLanded, IsLast, IsEnded, IsSampling}
 
 -- ---- steps that leave what lies in the slots
@@ -37,6 +37,11 @@ WishKeeps =
 abbrev pub AbandonKeeps : Type 0
 AbandonKeeps =
     (told : Told) (drawn : ℕ) (items : List Taken) (views : List View) (i : ℕ) (v : View) → Holds told drawn items views → At views i v → 0 < v.parts → v.hold ≡ None → Holds told drawn items (set views i (noting v (abandoned v.note)))
+
+-- a seat that holds no slot merges its last two flights, which go to one slot and one key
+abbrev pub MergeKeeps : Type 0
+MergeKeeps =
+    (told : Told) (drawn : ℕ) (items : List Taken) (views : List View) (i : ℕ) (v : View) → Holds told drawn items views → At views i v → 0 < v.parts → v.hold ≡ None → GoTogether v.note.flights → Holds told drawn items (set views i (noting v (merged v.note)))
 
 -- a seat's share is divided with a new seat
 abbrev pub SplitKeeps : Type 0

@@ -82,6 +82,30 @@ lacks_slot flights = list_any (λ (c : Carried). c.slot == 0) flights
 abbrev pub abandoned : Note → Note
 abandoned n = record n { flights = []; gone = map (λ (c : Carried). c.flight) n.flights ++ n.gone; over = n.over || lacks_slot n.flights }
 
+-- two flights as one: the points of the first and behind them those of the second
+abbrev pub in_one : Carried → Carried → Carried
+in_one c d = record { slot = c.slot; flight = record { actor = c.flight.actor; key = c.flight.key; points = c.flight.points ++ d.flight.points } }
+
+-- the flights, of which the last two are one
+unfoldable pub last_in_one : List Carried → List Carried
+last_in_one [] = []
+last_in_one (c ∷ []) = c ∷ []
+last_in_one (c ∷ (d ∷ [])) = in_one c d ∷ []
+last_in_one (c ∷ (d ∷ (e ∷ flights))) = c ∷ last_in_one (d ∷ (e ∷ flights))
+
+-- the last two flights are one
+abbrev pub merged : Note → Note
+merged n = record n { flights = last_in_one n.flights }
+
+-- the last two flights go to one slot and one key
+pub record GoTogether (flights : List Carried) : Type 0 where
+  pub front : List Carried
+  pub first : Carried
+  pub second : Carried
+  pub last : flights ≡ front ++ first ∷ second ∷ []
+  pub slot : first.slot ≡ second.slot
+  pub key : first.flight.key ≡ second.flight.key
+
 -- what a new seat notes, that knows what this one knows
 abbrev pub beginning : Note → Note
 beginning n = record n { flights = []; gone = []; draws = []; over = false; given = 0; failures = [] }

@@ -17,6 +17,10 @@ module _ {F S J : Type 0} where
   abbrev pub rules_of : NodeTable F S J → Rules
   rules_of table = table.rules
 
+  -- how many nodes may be in memory at a time
+  abbrev pub cache_of : NodeTable F S J → ℕ
+  cache_of table = table.cache
+
   -- the seat is one of this table, in which slots are drawn up to the most that it was told
   abbrev pub IsSeat : Told → NodeTable F S J → SlotSeat (Item F S) Note Said → Type 0
   IsSeat told table seat = IsSeatOf (λ _. told.most) table.slots seat

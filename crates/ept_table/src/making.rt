@@ -49,7 +49,7 @@ struct Laid<F, S> {
 }
 
 impl<F: SpillFile, S: Source, J: Scan> NodeTable<F, S, J> {
-    ghost use Rattle.ept_table.specs.Table.{slots_of, rules_of, IsSeat};
+    ghost use Rattle.ept_table.specs.Table.{slots_of, rules_of, cache_of, IsSeat};
 
     /// A table of the nodes of a forest and a reader, and its first seat. Nothing flies, and no slot is held. So many nodes may
     /// be in memory at a time: each that is not there wants a permit to come.
@@ -73,6 +73,7 @@ impl<F: SpillFile, S: Source, J: Scan> NodeTable<F, S, J> {
         ensures first { IfOk result (λ r. view r.1 ≡ first_view J.told.most (first_note J.told)) }
         ensures slots { IfOk result (λ r. slots_of r.0 ≡ J.told.most + 1) }
         ensures rules { IfOk result (λ r. rules_of r.0 ≡ J.told.rules) }
+        ensures cache { IfOk result (λ r. cache_of r.0 ≡ J.told.cache) }
         ensures forest { IfErr result (λ r. (nodes_of r.forest ≡ nodes_of forest) × (used_of r.forest ≡ used_of forest)) }
         ensures reader { IfErr result (λ r. r.reader ≡ reader) }
     {
@@ -95,6 +96,7 @@ impl<F: SpillFile, S: Source, J: Scan> NodeTable<F, S, J> {
                     slots,
                     spare,
                     most,
+                    cache,
                     rules: *rules,
                 };
                 Ok((table, seat))
@@ -121,6 +123,7 @@ impl<F: SpillFile, S: Source, J: Scan> NodeTable<F, S, J> {
             slots,
             spare,
             most,
+            cache: _cache,
             rules: _rules,
         } = self;
         let ending = slots.close(seat);

@@ -2,7 +2,7 @@
 
 ghost use Rattle.std.specs.Prelude.{◌≡◌, true, false, Some, None, MatchOption};
 ghost use Rattle.ept_table.specs.declared.note.Told.{Told};
-ghost use Rattle.ept_table.specs.Steps.{wishing, drawing, abandoned, beginning, together, lacks_slot, first_note};
+ghost use Rattle.ept_table.specs.Steps.{wishing, drawing, abandoned, merged, beginning, together, lacks_slot, first_note};
 ghost use Rattle.ept_table.specs.Tells.{IsTooMany, Fits, ShowsLaw};
 ghost use Rattle.ept_table.specs.Item.{seen, Filed};
 ghost use Rattle.ept_table.specs.Permits.{weight_of};
@@ -101,6 +101,15 @@ pub struct Abandoning<F, S, J> {
 
 impl<F: SpillFile, S: Source, J: Scan> Look<Item<F, S>, Note> for Abandoning<F, S, J> {
     ghost tells = { λ v _ n. (n ≡ abandoned v.note) × (lacks_slot v.note.flights ≡ true → IsTooMany J.told) };
+}
+
+/// The last two flights of the seat are merged.
+pub struct Merging<F, S> {
+    marker: PhantomData<(F, S)>,
+}
+
+impl<F: SpillFile, S: Source> Look<Item<F, S>, Note> for Merging<F, S> {
+    ghost tells = { λ v _ n. n ≡ merged v.note };
 }
 
 /// A seat is divided.

@@ -5,7 +5,7 @@ ghost use Rattle.ept_table.specs.Tells.{IsTooMany, Fits, ShowsLaw};
 ghost use Rattle.ept_table.specs.declared.done.Done as done_of;
 ghost use Rattle.ept_table.specs.declared.done.Said.TheVariants.{Did};
 ghost use Rattle.ept_table.specs.declared.item.Item as item_of;
-ghost use Rattle.ept_table.specs.Steps.{holding, given_back, noting, refused_more, wishing, drawing, abandoned, beginning, together, lacks_slot, MayDraw};
+ghost use Rattle.ept_table.specs.Steps.{holding, given_back, noting, refused_more, wishing, drawing, abandoned, merged, beginning, together, lacks_slot, GoTogether, MayDraw};
 ghost use Rattle.ept_table.specs.Item.{seen, Filed};
 ghost use Rattle.ept_table.specs.Permits.{weight_of, spare_of};
 ghost use Rattle.ept_table.specs.Standing.{known};
@@ -17,7 +17,7 @@ use crate::done::{Done, Said};
 use crate::item::Item;
 use crate::note::Note;
 use crate::rule::{
-    Abandoning, Dividing, Drawing, Giving, Joining, Looking, Rule, Scan, Taking, Wishing,
+    Abandoning, Dividing, Drawing, Giving, Joining, Looking, Merging, Rule, Scan, Taking, Wishing,
 };
 use ept_base::{Source, SpillFile};
 use ept_node::{Node, NodeState};
@@ -39,6 +39,7 @@ pub struct NodeTable<F: SpillFile, S: Source, J: Scan> {
     // The list that the nodes came in, which is emptied.
     pub(crate) spare: Vec<Node<F>>,
     pub(crate) most: u32,
+    pub(crate) cache: u32,
     pub(crate) rules: Rules,
     ghost empty: { spare.items ≡ [] },
     ghost room: { count_of slots ≤ vec_capacity spare + 1 },
@@ -46,7 +47,7 @@ pub struct NodeTable<F: SpillFile, S: Source, J: Scan> {
 }
 
 impl<F: SpillFile, S: Source, J: Scan> NodeTable<F, S, J> {
-    ghost use Rattle.ept_table.specs.Table.{slots_of, rules_of, IsSeat};
+    ghost use Rattle.ept_table.specs.Table.{slots_of, rules_of, cache_of, IsSeat};
 
     /// The rules of the sampling.
     pub fn rules(&self) -> &Rules
@@ -60,6 +61,13 @@ impl<F: SpillFile, S: Source, J: Scan> NodeTable<F, S, J> {
         ensures { result + 1 ≡ slots_of self.now }
     {
         self.most
+    }
+
+    /// How many nodes may be in memory at a time.
+    pub fn cache(&self) -> u32
+        ensures { result ≡ cache_of self.now }
+    {
+        self.cache
     }
 
     /// Whether a slot is held as it is looked at, for a worker that has other things to do meanwhile. Never where there is no
@@ -212,6 +220,20 @@ impl<F: SpillFile, S: Source, J: Scan> NodeTable<F, S, J> {
         ensures permits { spare_of (view seat.new) ≡ spare_of (view seat.old) }
     {
         self.slots.look::<Abandoning<F, S, J>>(seat);
+    }
+
+    /// Merges the last two flights of a seat, which go to one slot and one key: the points of the first stand before those of
+    /// the second, and its worker has carried both.
+    pub fn merge(&self, seat: &mut Seat<F, S>)
+        requires seat { IsSeat J.told self.now seat.old }
+        requires idle { HoldsNothing (view seat.old) × (0 < (view seat.old).parts) }
+        requires together { GoTogether (view seat.old).note.flights }
+        ensures seat { IsSeat J.told self.now seat.new }
+        ensures known { known F.held S.whole (view seat.new)
+            ≡ noting (known F.held S.whole (view seat.old)) (merged (view seat.old).note) }
+        ensures permits { spare_of (view seat.new) ≡ spare_of (view seat.old) }
+    {
+        self.slots.look::<Merging<F, S>>(seat);
     }
 
     /// A new seat without flights, with half of the share of this one.

@@ -1,4 +1,5 @@
 use Rattle.ept_table.proofs.Moves.{take-keeps, return-keeps, wish-keeps, abandon-keeps}
+use Rattle.ept_table.proofs.Merging.{merge-keeps}
 use Rattle.ept_table.proofs.laws.move_law.Goals as goal
 
 pub returns-clause-take : goal.returns-clause-take
@@ -15,3 +16,7 @@ returns-clause-wish c = λ told drawn items views i v o h at. wish-keeps told dr
 pub returns-clause-abandon : goal.returns-clause-abandon
 returns-clause-abandon c =
     λ told drawn items views i v h at some free. abandon-keeps told drawn items views i v h at some free
+
+pub returns-clause-merge : goal.returns-clause-merge
+returns-clause-merge c =
+    λ told drawn items views i v h at some free together. merge-keeps told drawn items views i v h at some free together
