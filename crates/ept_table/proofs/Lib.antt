@@ -7,7 +7,7 @@ pub mod Mirrors
 mod Coming
 pub mod Moves
 pub mod Seating
-mod Merging
+pub mod Merging
 pub mod ReaderBack
 pub mod SlotDrawn
 pub mod TooMany

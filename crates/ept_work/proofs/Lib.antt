@@ -13,3 +13,4 @@ pub mod Arrivals
 pub mod Forks
 pub mod Results
 pub mod Settled
+pub mod InOne

@@ -22,6 +22,7 @@ ghost use Rattle.ept_work.specs.Crews.{MayWork, HaveWorked};
 ghost use Rattle.ept_work.specs.declared.error.WorkError.TheVariants as errors;
 
 use crate::error::WorkError;
+use crate::rounds::round_of;
 use crate::worker::Worker;
 use ept_base::{Gate, Source, SpillFile};
 use ept_forest::Forest;
@@ -94,7 +95,8 @@ pub fn insert_all<
     ensures no_damage { J.told.tells ≡ true → (kept found at : ℕ)
         → result.2 ≢ Err (errors.SpillDamaged kept found at) }
 {
-    let Ended { seat, result } = work_all(rt, alloc, &table, seat, 0, workers, gate);
+    let round = round_of(table.rules(), table.cache(), workers);
+    let Ended { seat, result } = work_all(rt, alloc, &table, seat, 0, workers, round, gate);
     let (forest, reader) = table.close(seat);
     let result = settled(forest.fault(), result);
     (forest, reader, result)
@@ -114,7 +116,8 @@ fn settled(broken: Option<NodeError>, answer: Result<(), WorkError>) -> Result<(
     }
 }
 
-// Lets so many workers, numbered from the first on, work at a table, the higher half of them in a thread of their own.
+// Lets so many workers, numbered from the first on, work at a table in rounds of so many points, the higher half of them in a
+// thread of their own.
 fn work_all<F, S, J, G, R>(
     rt: &R,
     alloc: Global,
@@ -122,6 +125,7 @@ fn work_all<F, S, J, G, R>(
     mut seat: Seat<F, S>,
     first: u32,
     workers: u32,
+    round: usize,
     gate: &G,
 ) -> Ended<F, S>
 where
@@ -134,7 +138,7 @@ where
     ensures { HaveWorked F.held J.told S.whole table.now seat result }
 {
     if workers == 1 {
-        return work_alone(rt, alloc, table, seat, first, gate);
+        return work_alone(rt, alloc, table, seat, first, round, gate);
     }
     let higher = workers / 2;
     let lower = workers - higher;
@@ -145,11 +149,11 @@ where
         move || -> Ended<F, S>
             requires { MayWork F.held J.told S.whole table.now seat first lower }
             ensures { HaveWorked F.held J.told S.whole table.entry.now seat result }
-        { work_all(rt, alloc, table, seat, first, lower, gate) },
+        { work_all(rt, alloc, table, seat, first, lower, round, gate) },
         move || -> Ended<F, S>
             requires { MayWork F.held J.told S.whole table.now other next higher }
             ensures { HaveWorked F.held J.told S.whole table.entry.now other result }
-        { work_all(rt, alloc, table, other, next, higher, gate) },
+        { work_all(rt, alloc, table, other, next, higher, round, gate) },
     );
     both(table, left, right)
 }
@@ -161,12 +165,14 @@ fn work_alone<F: SpillFile, S: Source, J: Scan, G: Gate, H: Wait>(
     table: &NodeTable<F, S, J>,
     seat: Seat<F, S>,
     number: u32,
+    round: usize,
     gate: &G,
 ) -> Ended<F, S>
     requires { MayWork F.held J.told S.whole table.now seat number 1 }
     ensures { HaveWorked F.held J.told S.whole table.now seat result }
 {
     let mut worker = Worker::new(alloc, seat, number);
+    worker.round = round;
     let result = worker.work(rt, alloc, table, gate);
     Ended {
         seat: worker.into_seat(),

@@ -6,6 +6,7 @@ mod error;
 mod evicting;
 mod inserting;
 mod opening;
+mod rounds;
 mod sending;
 mod taking;
 mod victims;

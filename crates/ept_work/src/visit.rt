@@ -156,6 +156,7 @@ impl<F: SpillFile, S: Source> Worker<F, S> {
         let done = table.give(&mut self.seat, slot, Item::Node(node), done);
         let _landed = self.flights.remove(number as usize);
         self.here = slot;
+        self.newest = self.newest.max(slot);
         self.fresh = take_over(&mut self.flights, fresh_in(done));
         if is_full {
             return Err(WorkError::TooManyNodes);

@@ -20,6 +20,7 @@ ghost use Rattle.ept_work.specs.Rest.{IsIdle, IsAtRest};
 ghost use Rattle.ept_work.specs.Drawing.{DrawsBatch, DrawsNone, IsReadCause, answer_of};
 
 use crate::error::WorkError;
+use crate::rounds::LEAST_ROUND;
 use crate::victims::Victims;
 use ept_base::{Source, SpillFile};
 use ept_core::Flight;
@@ -34,7 +35,7 @@ use std::mem;
 use std::sync::Wait;
 
 // How many records are drawn at a time.
-const BATCH: usize = 1_024;
+pub(crate) const BATCH: usize = 1_024;
 
 // The slot of the root's node.
 pub(crate) const ROOT_SLOT: u32 = 1;
@@ -52,8 +53,13 @@ pub struct Worker<F, S> {
     // The nodes that go to their files next, and whether one had to.
     pub(crate) victims: Victims,
     pub(crate) is_short: bool,
-    // The slot of the node that was visited last, 0 before the first visit.
+    // How many points a round has, where nodes had to.
+    pub(crate) round: usize,
+    // The slot of the node that was visited last, 0 before the first visit; the greatest slot of a node that was visited, and
+    // what that was as the round began.
     pub(crate) here: u32,
+    pub(crate) newest: u32,
+    pub(crate) known: u32,
     ghost carries: { (view seat).note.flights ≡ flights.items },
     ghost emptied: { fresh.items ≡ [] },
 }
@@ -77,7 +83,10 @@ impl<F: SpillFile, S: Source> Worker<F, S> {
             workspace: Workspace::new(alloc),
             victims: Victims::new(alloc),
             is_short: false,
+            round: LEAST_ROUND,
             here: 0,
+            newest: 0,
+            known: 0,
         }
     }
 
@@ -94,7 +103,10 @@ impl<F: SpillFile, S: Source> Worker<F, S> {
             workspace: _workspace,
             victims: _victims,
             is_short: _is_short,
+            round: _round,
             here: _here,
+            newest: _newest,
+            known: _known,
         } = self;
         seat
     }
@@ -120,16 +132,21 @@ impl<F: SpillFile, S: Source> Worker<F, S> {
     }
 
     // Which flight goes on next, of those to nodes that no other worker holds as they are looked at: the newest to the node
-    // that was visited last, or else the newest. Where all these nodes are held, the newest.
+    // that was visited last; where nodes have to leave memory, the newest to one that need not come back for it; or else the
+    // newest. Where all these nodes are held, the newest.
     pub(crate) fn next<J: Scan>(&self, table: &NodeTable<F, S, J>) -> usize
         requires { 0 < vec_len self.now.flights }
         ensures { result < vec_len self.now.flights }
     {
         let here = self.here;
+        let (is_short, known) = (self.is_short, self.known);
         let flights = self.flights.as_slice();
         flights
             .iter()
             .rposition(|carried| carried.slot == here && is_free(table, here))
+            .or_else(|| flights
+                .iter()
+                .rposition(|carried| is_short && is_near(table, carried.slot, known)))
             .or_else(|| flights
                 .iter()
                 .rposition(|carried| is_free(table, carried.slot)))
@@ -198,6 +215,16 @@ impl<F: SpillFile, S: Source> Worker<F, S> {
 // Whether a flight with this slot need not wait for another worker. One without a slot waits for none.
 fn is_free<F: SpillFile, S: Source, J: Scan>(table: &NodeTable<F, S, J>, slot: u32) -> bool {
     slot == 0 || !table.is_held(slot)
+}
+
+// Whether the node of this slot need not come back from its file: it is seen in memory, or it has begun since the slots up to
+// this one were known.
+fn is_near<F: SpillFile, S: Source, J: Scan>(
+    table: &NodeTable<F, S, J>,
+    slot: u32,
+    known: u32,
+) -> bool {
+    table.is_resident(slot) || (known < slot || slot == 0) && is_free(table, slot)
 }
 
 // A reader that was read, and what came of it.

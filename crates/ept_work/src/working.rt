@@ -20,10 +20,6 @@ const CARRIED: usize = 32;
 
 const CARRIED_TO_ROOT: usize = 4;
 
-// Where nodes have to leave memory, so many batches are drawn before the first is brought down: what they have for a node
-// arrives while it is in memory once.
-const AHEAD: usize = 32;
-
 impl<F: SpillFile, S: Source> Worker<F, S> {
     ghost use Rattle.ept_table.specs.Table.{slots_of, rules_of, IsSeat};
     ghost use Rattle.ept_work.specs.Worker.{seat_of, number_of, knows};
@@ -117,9 +113,10 @@ impl<F: SpillFile, S: Source> Worker<F, S> {
         ensures permits { spare_of (view (seat_of self.new)) ≡ spare_of (view (seat_of self.old)) }
     {
         if self.is_empty() {
+            self.begin_round();
             return self.draw(rt, alloc, table);
         }
-        if self.draws_ahead(table) || self.would_wait(table) {
+        if self.draws_ahead() || self.would_wait(table) {
             return self.draw_meanwhile(rt, alloc, table, gate);
         }
         self.visit(rt, alloc, table, gate)?;
@@ -148,16 +145,13 @@ impl<F: SpillFile, S: Source> Worker<F, S> {
         ensures refused { IfErr result (IsStopped J.told (knows F.held S.whole self.new)) }
         ensures permits { spare_of (view (seat_of self.new)) ≡ spare_of (view (seat_of self.old)) }
     {
-        if self.draw(rt, alloc, table)? || self.is_empty() {
+        let is_some = self.draw(rt, alloc, table)?;
+        self.merge_last(table);
+        if is_some || self.is_empty() {
             return Ok(true);
         }
         self.visit(rt, alloc, table, gate)?;
         Ok(true)
-    }
-
-    // Whether a further batch is to come down together with those that were drawn.
-    fn draws_ahead<J: Scan>(&self, table: &NodeTable<F, S, J>) -> bool {
-        self.is_short && self.flights.len() < AHEAD && self.next_slot(table) == Some(ROOT_SLOT)
     }
 
     // Whether other workers hold the nodes of all flights, and few are carried.

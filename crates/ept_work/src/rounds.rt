@@ -1,0 +1,139 @@
+//! Rounds: where nodes have to leave memory, a worker draws many batches and brings their points down together, so that a
+//! node that comes back takes in many points before it goes again.
+
+ghost use Rattle.std.specs.Prelude.{◌≡◌, ◌≤◌, IfOk, IfErr};
+ghost use Rattle.ept_slots.specs.Seating.{view};
+ghost use Rattle.ept_table.specs.Permits.{spare_of};
+ghost use Rattle.ept_table.specs.Steps.{in_one};
+ghost use Rattle.ept_work.specs.Rest.{IsAtRest};
+ghost use Rattle.ept_work.specs.Working.{Keeps};
+
+use crate::worker::{BATCH, ROOT_SLOT, Worker};
+use ept_base::{Source, SpillFile};
+use ept_core::Flight;
+use ept_point::List;
+use ept_space::Rules;
+use ept_table::{Carried, NodeTable, Scan};
+
+/// How many points a round has at least.
+pub(crate) const LEAST_ROUND: usize = 32 * BATCH;
+
+// And at most.
+const GREATEST_ROUND: u64 = 1 << 20;
+
+// How many points are merged into one flight: an arrival makes room for as many in each octant of the node and of what
+// leaves it.
+const MERGED: usize = 16 * BATCH;
+
+// Two flights that are not merged.
+struct Apart {
+    first: Carried,
+    second: Carried,
+}
+
+/// How many points each of so many workers draws in a round: together as many as the nodes have that may be in memory at a
+/// time, where each has a point in half of the cells of a layer, and as many losers as an octant keeps.
+pub(crate) fn round_of(rules: &Rules, cache: u32, workers: u32) -> usize
+    ensures { LEAST_ROUND ≤ result }
+{
+    let cells = 4u64.saturating_pow(u32::from(rules.cube.s));
+    let points = (cells / 2)
+        .saturating_add(rules.threshold)
+        .saturating_mul(u64::from(cache));
+    let share = points / u64::from(workers.max(1));
+    (share.min(GREATEST_ROUND) as usize).max(LEAST_ROUND)
+}
+
+impl<F: SpillFile, S: Source> Worker<F, S> {
+    ghost use Rattle.ept_table.specs.Table.{IsSeat};
+    ghost use Rattle.ept_work.specs.Worker.{seat_of, number_of, knows};
+
+    /// A round begins: nodes with greater slots than any that was visited before have begun in it.
+    pub(crate) fn begin_round(&mut self)
+        ensures seat { seat_of self.new ≡ seat_of self.old }
+        ensures number { number_of self.new ≡ number_of self.old }
+    {
+        self.known = self.newest;
+    }
+
+    /// Whether a further batch is to come down together with those that were drawn.
+    pub(crate) fn draws_ahead(&self) -> bool {
+        let Some(last) = self.flights.last() else {
+            return false;
+        };
+        self.is_short && last.slot == ROOT_SLOT && self.ahead() < self.round
+    }
+
+    // How many points are carried.
+    fn ahead(&self) -> usize {
+        let mut points = 0usize;
+        for carried in self.flights.iter() {
+            points = points.saturating_add(carried.flight.points.as_slice().len());
+        }
+        points
+    }
+
+    /// Merges the newest flight with the one before it, where nodes have to leave memory, both go to one node, and they are few
+    /// points together. Where there is no memory for that they stay two.
+    pub(crate) fn merge_last<J: Scan>(&mut self, table: &NodeTable<F, S, J>)
+        requires seat { IsSeat J.told table.now (seat_of self.old) }
+        requires rest { IsAtRest J.told (knows F.held S.whole self.old) }
+        ensures seat { IsSeat J.told table.now (seat_of self.new) }
+        ensures number { number_of self.new ≡ number_of self.old }
+        ensures rest { IsAtRest J.told (knows F.held S.whole self.new) }
+        ensures keeps { Keeps (knows F.held S.whole self.old) (knows F.held S.whole self.new) }
+        ensures permits { spare_of (view (seat_of self.new)) ≡ spare_of (view (seat_of self.old)) }
+    {
+        if !self.is_short {
+            return;
+        }
+        let Some(second) = self.flights.pop() else {
+            return;
+        };
+        let Some(first) = self.flights.pop() else {
+            self.flights.push_reserved(second);
+            return;
+        };
+        match in_one(first, second) {
+            Ok(one) => {
+                table.merge(&mut self.seat);
+                self.flights.push_reserved(one);
+            }
+            Err(apart) => {
+                let Apart { first, second } = apart;
+                self.flights.push_reserved(first);
+                self.flights.push_reserved(second);
+            }
+        }
+    }
+}
+
+// Two flights as one, where they go to one node and are few points together. Or there was no memory.
+fn in_one(first: Carried, second: Carried) -> Result<Carried, Apart>
+    ensures slot { IfOk result (λ one. first.slot ≡ second.slot) }
+    ensures key { IfOk result (λ one. first.flight.key ≡ second.flight.key) }
+    ensures one { IfOk result (λ one. one ≡ in_one first second) }
+    ensures apart { IfErr result (λ apart. (apart.first ≡ first) × (apart.second ≡ second)) }
+{
+    let more = second.flight.points.as_slice().len();
+    let is_one = first.slot == second.slot && first.flight.key == second.flight.key;
+    if !is_one || MERGED < more || MERGED - more < first.flight.points.as_slice().len() {
+        return Err(Apart { first, second });
+    }
+    let Carried { slot, flight } = first;
+    let Flight { actor, key, points } = flight;
+    let mut points = points.into_vec();
+    let added = points.extend_from_slice(second.flight.points.as_slice());
+    let first = Carried {
+        slot,
+        flight: Flight {
+            actor,
+            key,
+            points: List::of(points),
+        },
+    };
+    match added {
+        Ok(()) => Ok(first),
+        Err(_) => Err(Apart { first, second }),
+    }
+}
