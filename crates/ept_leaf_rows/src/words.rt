@@ -1,12 +1,15 @@
 //! The words of a line, and what is wrong with one.
 
-use std::alloc::AllocError;
+ghost use Rattle.std.specs.Prelude.{◌≤◌, IfOk};
+
+use ept_point::Memory;
+use std::alloc::{AllocError, AllocFailed};
 use std::str::FromStr;
 
 /// Why a line has no answer.
 #[derive(Clone, Copy, Debug, PartialEq, Eq)]
 pub(crate) enum Miss {
-    /// It is not of the form of its call.
+    /// It is not of the form of its call, or asks what the call requires not to be asked.
     Form,
     /// Memory ran out.
     Memory,
@@ -16,6 +19,23 @@ impl From<AllocError> for Miss {
     fn from(_error: AllocError) -> Miss {
         Miss::Memory
     }
+}
+
+impl<T: Drop> From<AllocFailed<T>> for Miss {
+    fn from(_error: AllocFailed<T>) -> Miss {
+        Miss::Memory
+    }
+}
+
+impl From<Memory> for Miss {
+    fn from(_error: Memory) -> Miss {
+        Miss::Memory
+    }
+}
+
+/// `Form`, unless this holds.
+pub(crate) fn demand(holds: bool) -> Result<(), Miss> {
+    if holds { Ok(()) } else { Err(Miss::Form) }
 }
 
 /// What is left of a line, whose words are separated by single blanks.
@@ -42,6 +62,29 @@ impl<'a> Words<'a> {
 
     /// The next word as a number.
     pub(crate) fn number<N: FromStr<Err: Drop>>(&mut self) -> Result<N, Miss> {
-        self.word()?.parse().map_err(|_| Miss::Form)
+        number(self.word()?)
     }
+
+    /// The next word as a number up to this one.
+    pub(crate) fn up_to(&mut self, most: u8) -> Result<u8, Miss>
+        ensures { IfOk result (λ n. n ≤ most) }
+    {
+        let n = self.number::<u8>()?;
+        if n <= most { Ok(n) } else { Err(Miss::Form) }
+    }
+
+    /// All that follows.
+    pub(crate) fn rest(&self) -> &'a str {
+        self.rest
+    }
+}
+
+/// A word as a number.
+pub(crate) fn number<N: FromStr<Err: Drop>>(word: &str) -> Result<N, Miss> {
+    word.parse().map_err(|_| Miss::Form)
+}
+
+/// What stands before a mark in a word, and what stands after it.
+pub(crate) fn parted<'a>(word: &'a str, mark: &str) -> Result<(&'a str, &'a str), Miss> {
+    word.split_once(mark).ok_or(Miss::Form)
 }
