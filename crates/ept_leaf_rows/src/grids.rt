@@ -1,0 +1,188 @@
+//! Calls of `ept_grid`.
+
+ghost use Rattle.std.specs.Prelude.{◌≡◌, ◌<◌};
+
+use crate::notation::{key_of, list_of, point_of, points_of};
+use crate::sampling::rules_of;
+use crate::words::{Miss, Words};
+use crate::writing::{part, write_ids, write_list, write_or_none, write_refusal};
+use ept_grid::{Grid, GridError, Outgoing, Steps};
+use ept_point::Point;
+use ept_sample::ids_ascend;
+use std::alloc::Global;
+use std::fmt::Write;
+use std::marker::Brand;
+use std::sync::ledger::{Blank, Ledger};
+
+/// Answers a call.
+pub(crate) fn answer(
+    alloc: Global,
+    call: &str,
+    words: &mut Words<'_>,
+    out: &mut String,
+) -> Result<(), Miss> {
+    match call {
+        "arrive" => arrive(alloc, words, out),
+        "count" => count(alloc, words, out),
+        "tile" => tile(alloc, words, out),
+        "winner" => winner(alloc, words, out),
+        _ => Err(Miss::Form),
+    }
+}
+
+// The node without points of the cube, the threshold and the key that are the next three words.
+fn grid_of(alloc: Global, words: &mut Words<'_>) -> Result<Grid, Miss> {
+    let rules = rules_of(words)?;
+    let key = key_of(words.word()?)?;
+    if key.depth > rules.cube.depth {
+        return Err(Miss::Form);
+    }
+    Ok(Grid::new(alloc, key, &rules))
+}
+
+// Lets a point arrive.
+fn feed(grid: &mut Grid, point: Point, leaving: &mut Outgoing) -> Result<(), Miss> {
+    grid.reserve(1, leaving)?;
+    if !grid.is_inside(&point) {
+        return Err(Miss::Form);
+    }
+    grid.arrive(point, leaving);
+    Ok(())
+}
+
+// Lets the points of the words arrive one after another, and counts the points of the node after each.
+fn feed_all(
+    grid: &mut Grid,
+    words: &str,
+    leaving: &mut Outgoing,
+    counts: &mut Vec<u64>,
+) -> Result<(), Miss> {
+    for word in words.split_whitespace() {
+        feed(grid, point_of(word)?, leaving)?;
+        counts.push(grid.count())?;
+    }
+    Ok(())
+}
+
+// `grid arrive CUBE THRESHOLD KEY POINT POINT ..`: the points that the node keeps, its open octants, the points that left
+// for each octant, and how many points it had after each arrival. No point is out once they are cleared.
+fn arrive(alloc: Global, words: &mut Words<'_>, out: &mut String) -> Result<(), Miss> {
+    let mut grid = grid_of(alloc, words)?;
+    let mut leaving = Outgoing::new(alloc);
+    let mut counts = Vec::new(alloc);
+    feed_all(&mut grid, words.rest(), &mut leaving, &mut counts)?;
+    write_grid(alloc, &grid, out)?;
+    write_leaving(&leaving, out)?;
+    out.push_str(" | counts ")?;
+    write_list(&counts, out)?;
+    leaving.clear();
+    write_leaving(&leaving, out)
+}
+
+fn write_grid(alloc: Global, grid: &Grid, out: &mut String) -> Result<(), Miss> {
+    let mut kept = Vec::new(alloc);
+    grid.points_into(&mut kept)?;
+    out.push_str("kept ")?;
+    write_ids(kept.as_slice(), out)?;
+    write!(out, " | open {}", grid.open_mask())?;
+    Ok(())
+}
+
+/// The points that leave, by octant; those of the octants for which some do.
+pub(crate) fn write_leaving(leaving: &Outgoing, out: &mut String) -> Result<(), Miss> {
+    part(out)?;
+    out.push_str("out")?;
+    for octant in 0..8 {
+        let points = leaving.points(octant);
+        if !points.is_empty() {
+            write!(out, " {octant}>")?;
+            write_ids(points, out)?;
+        }
+    }
+    Ok(())
+}
+
+// `grid count CUBE THRESHOLD KEY POINT POINT ..`: how many points the node counts, how many it gives out, how many those are
+// with all that have left, and whether those that it keeps are in id order. The ids may stand twice.
+fn count(alloc: Global, words: &mut Words<'_>, out: &mut String) -> Result<(), Miss> {
+    let mut grid = grid_of(alloc, words)?;
+    let mut leaving = Outgoing::new(alloc);
+    let mut counts = Vec::new(alloc);
+    feed_all(&mut grid, words.rest(), &mut leaving, &mut counts)?;
+    let mut kept = Vec::new(alloc);
+    grid.points_into(&mut kept)?;
+    let gone = count_leaving(&leaving);
+    let in_order = are_in_order(kept.as_slice());
+    write!(
+        out,
+        "{} {} {} {in_order}",
+        grid.count() == kept.len() as u64,
+        kept.len().wrapping_add(gone),
+        counts.len(),
+    )?;
+    Ok(())
+}
+
+fn count_leaving(leaving: &Outgoing) -> usize {
+    let mut count = 0usize;
+    for octant in 0..8 {
+        count = count.wrapping_add(leaving.points(octant).len());
+    }
+    count
+}
+
+fn are_in_order(points: &[Point]) -> bool {
+    points
+        .iter()
+        .zip(points.iter().skip(1))
+        .all(|(point, next)| point.number <= next.number)
+}
+
+// `grid tile CUBE THRESHOLD KEY MASK POINT POINT ..`: how many points and which open octants the node of the tile has.
+fn tile(alloc: Global, words: &mut Words<'_>, out: &mut String) -> Result<(), Miss> {
+    let rules = rules_of(words)?;
+    let key = key_of(words.word()?)?;
+    let mask = words.number()?;
+    let points = points_of(alloc, words.rest())?;
+    if key.depth > rules.cube.depth || !ids_ascend(points.as_slice()) {
+        return Err(Miss::Form);
+    }
+    match Grid::from_tile(alloc, key, &rules, mask, points.as_slice()) {
+        Ok(grid) => write!(out, "{} open {}", grid.count(), grid.open_mask())?,
+        Err(GridError::Memory) => return Err(Miss::Memory),
+        Err(refused) => write_refusal(&refused, out)?,
+    }
+    Ok(())
+}
+
+// `grid winner CUBE THRESHOLD KEY CELL POINT POINT ..`: the number of the best point of a cell.
+fn winner(alloc: Global, words: &mut Words<'_>, out: &mut String) -> Result<(), Miss> {
+    let mut grid = grid_of(alloc, words)?;
+    let cell = list_of(alloc, words.word()?)?;
+    let cell = cell.first_chunk::<3>().copied().ok_or(Miss::Form)?;
+    let mut leaving = Outgoing::new(alloc);
+    let mut counts = Vec::new(alloc);
+    feed_all(&mut grid, words.rest(), &mut leaving, &mut counts)?;
+    write_or_none(number_in(&grid, cell), out)
+}
+
+// The number of the winner of a cell, where the cell lies in the node's box and has one.
+fn number_of_winner<L: Ledger>(grid: &Grid, cell: [u32; 3], blank: Blank) -> Option<u32>
+    requires name { blank.name ≡ L.name }
+    requires parts { blank.parts ≡ L.parts }
+    requires some { 0 < blank.parts }
+{
+    let key = grid.key();
+    let cube = grid.rules().cube;
+    cube.known();
+    let shift = u32::from(cube.s);
+    if cell[0] >> shift != key.x || cell[1] >> shift != key.y || cell[2] >> shift != key.z {
+        return None;
+    }
+    let mut steps = Steps::<L>::new(blank);
+    Some(grid.winner(cell, &mut steps)?.number)
+}
+
+fn number_in(grid: &Grid, cell: [u32; 3]) -> Option<u32> {
+    number_of_winner::<Brand>(grid, cell, Blank::new(1))
+}

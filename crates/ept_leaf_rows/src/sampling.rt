@@ -1,0 +1,40 @@
+//! Calls of `ept_sample`.
+
+use crate::notation::{cube_of, points_of};
+use crate::words::{Miss, Words};
+use crate::writing::write_tiles;
+use ept_sample::{are_in_cube, ids_ascend, sample};
+use ept_space::Rules;
+use std::alloc::Global;
+
+/// Answers a call.
+pub(crate) fn answer(
+    alloc: Global,
+    call: &str,
+    words: &mut Words<'_>,
+    out: &mut String,
+) -> Result<(), Miss> {
+    match call {
+        "nodes" => nodes(alloc, words, out),
+        _ => Err(Miss::Form),
+    }
+}
+
+/// A cube and a threshold, which are the next two words.
+pub(crate) fn rules_of(words: &mut Words<'_>) -> Result<Rules, Miss> {
+    Ok(Rules {
+        cube: cube_of(words.word()?)?,
+        threshold: words.number()?,
+    })
+}
+
+// `sample nodes CUBE THRESHOLD POINT POINT ..`: the nodes of the sampling of the points.
+fn nodes(alloc: Global, words: &mut Words<'_>, out: &mut String) -> Result<(), Miss> {
+    let rules = rules_of(words)?;
+    let points = points_of(alloc, words.rest())?;
+    if !ids_ascend(points.as_slice()) || !are_in_cube(points.as_slice(), &rules.cube) {
+        return Err(Miss::Form);
+    }
+    let tiles = sample(alloc, points.as_slice(), &rules)?;
+    write_tiles(&tiles, out)
+}
