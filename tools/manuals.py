@@ -1,8 +1,8 @@
 """Manual pages for the programs and scripts, made of the documents.
 
-A page is a list of sections of README.md and docs/*.md, converted from Markdown to the form of man(7), or the manual of
-a script. So the keys, the ranges and the statuses are written once, in the documents. `pages` returns the text of each
-page by its name. Names of commands are those of the package: `./ept build` becomes `ept_tool build`, and `tools/view`
+A page is a list of sections of README.md and docs/*.md, converted from Markdown to the form of man(7). One section is the
+manual of a script. So the keys, the ranges and the statuses are written once, in the documents. `pages` returns the
+text of each page by its name. Names of commands are those of the package: `./ept build` becomes `ept_tool build`, and `tools/view`
 becomes `ept-view`.
 """
 
