@@ -1,4 +1,4 @@
-# Completion of the commands of ept-tool in bash. The words are those of the documents.
+# Completion of the commands of ept-tool in bash.
 
 _ept_files() { # WORD SUFFIX: folders, and files whose names end in the suffix
   local IFS=$'\n'
@@ -56,8 +56,18 @@ _ept_points() {
   fi
 }
 
+_ept_alias() {
+  local word=${COMP_WORDS[COMP_CWORD]}
+  case ${COMP_WORDS[COMP_CWORD - 1]}:$word in
+    --for:*) COMPREPLY=($(compgen -W "pdal-2 qgis-3.40" -- "$word")) ;;
+    *:-*) COMPREPLY=($(compgen -W "--for" -- "$word")) ;;
+    *) _ept_folders "$word" ;;
+  esac
+}
+
 complete -F _ept_tool ept_tool
 complete -F _ept_server ept_server
 complete -F _ept_configure ept-configure
 complete -F _ept_view ept-view
 complete -F _ept_points ept-points
+complete -F _ept_alias ept-alias

@@ -1,10 +1,12 @@
 """Manual pages for the programs and scripts, made of the documents.
 
-A page is a list of sections of README.md and docs/*.md, converted from Markdown to the form of man(7). So the keys, the
-ranges and the statuses are written once, in the documents. `pages` returns the text of each page by its name. Names of
-commands are those of the package: `./ept build` becomes `ept_tool build`, and `tools/view` becomes `ept-view`.
+A page is a list of sections of README.md and docs/*.md, converted from Markdown to the form of man(7). One section is the
+manual of a script. So the keys, the ranges and the statuses are written once, in the documents. `pages` returns the
+text of each page by its name. Names of commands are those of the package: `./ept build` becomes `ept_tool build`, and `tools/view`
+becomes `ept-view`.
 """
 
+import ast
 import re
 from pathlib import Path
 
@@ -23,13 +25,15 @@ PAGES = {
     "ept-configure.1": ("writes a configuration for ept_tool from the headers of LAS files", [("USAGE", USE, "A configuration from headers")]),
     "ept-view.1": ("writes a page that shows a dataset in a browser", [("USAGE", USE, "Viewing a dataset")]),
     "ept-points.1": ("converts the points of a query to LAS, CSV or a picture", [("USAGE", USE, "Points for other programs")]),
+    "ept-alias.1": ("makes a folder of links to a dataset for a program that misreads it", [("USAGE", "tools/alias", None)]),
 }
 SYNOPSES = {
     "ept-configure.1": "ept-configure [--scale K] [--bounds MARGIN] [--srs SYSTEM] FLIGHT.las..\n"
                        "ept-configure --check CONFIG\nept-configure --add CONFIG NEW.las..",
     "ept-view.1": "ept-view OUT PAGE [FROM]", "ept-points.1": "ept-points OUT las|csv|svg < POINTS > FILE",
+    "ept-alias.1": "ept-alias OUT NEW --for pdal-2|qgis-3.40",
 }
-NAMES = [(r"\./ept (?=[a-z])", "ept_tool "), (r"\btools/(configure|view|points)\b", r"ept-\1"),
+NAMES = [(r"\./ept (?=[a-z])", "ept_tool "), (r"\btools/(configure|view|points|alias)\b", r"ept-\1"),
          (r"\(cd crates/ept_server && rt run -- (.*?)\)", r"ept_server \1"), (r"\bcrates/ept_\w+/out/(?=ept_)", "")]
 
 
@@ -41,7 +45,10 @@ def renamed(text):
 
 
 def section(file, heading):
-    """The lines of a section of a page, with its subsections and without its heading."""
+    """The lines of a section of a page, with its subsections and without its heading; of a script, those of its manual."""
+    if heading is None:
+        manual = ast.get_docstring(ast.parse((TOP / file).read_text())).split("\n\n", 2)[2]
+        return ["```", *manual.splitlines(), "```"]
     lines, is_in, is_code, level = [], False, False, 0
     for line in (TOP / file).read_text().splitlines():
         is_code ^= line.startswith("```")
