@@ -23,7 +23,7 @@ const INPUT_ADVICE: &str = "build into a new folder, or put the old inputs first
 
 /// The first field in which a configuration differs from what its folder keeps, with both values as JSON texts;
 /// of the inputs those of the first that differs, the given one empty if the list ends before it.
-#[derive(Clone, Copy, Debug, PartialEq, Eq)]
+#[derive(Clone, Copy)]
 pub struct Differing<'a> {
     pub field: Field,
     pub kept: &'a [u8],
@@ -46,28 +46,8 @@ pub fn write_difference(
     match (field, given) {
         (Field::Input, []) => write_end(alloc, text, kept, config, out),
         (Field::Input, _) => write_input(alloc, text, kept, given, config, out),
-        _ => write_value(alloc, text, field, kept, given, config, out),
+        _ => write_field(alloc, text, key_of(field).name(), kept, given, config, out),
     }
-}
-
-// Of the values of a field.
-fn write_value(
-    alloc: Global,
-    text: &mut String,
-    field: Field,
-    kept: &[u8],
-    given: &[u8],
-    config: &str,
-    out: &str,
-) -> Result<(), AllocError> {
-    let name = key_of(field).name();
-    let kept = safe(alloc, kept)?;
-    let given = safe(alloc, given)?;
-    let (kept, given) = excerpts(&kept, &given);
-    write!(
-        text,
-        "{out} was built with `{name}` {kept}, and {config} has {given}: {VALUE_ADVICE}"
-    )
 }
 
 // Of a list of inputs that ends before this one.
@@ -79,7 +59,15 @@ fn write_end(
     out: &str,
 ) -> Result<(), AllocError> {
     let path = member(alloc, kept, "path")?;
-    let path = Excerpt::whole(&path);
+    write_missing(text, Excerpt::whole(&path), config, out)
+}
+
+fn write_missing(
+    text: &mut String,
+    path: Excerpt<'_>,
+    config: &str,
+    out: &str,
+) -> Result<(), AllocError> {
     write!(
         text,
         "the inputs of {config} end before {path}, with which {out} was built: {INPUT_ADVICE}"
@@ -100,17 +88,17 @@ fn write_input(
             return write_member(alloc, text, key, kept, given, config, out);
         }
     }
-    write_value(alloc, text, Field::Input, kept, given, config, out)
+    write_field(alloc, text, "input", kept, given, config, out)
 }
 
-// Whether both inputs have another value of this key.
+// Whether two inputs have another value of this key.
 fn differs(alloc: Global, kept: &[u8], given: &[u8], key: &str) -> Result<bool, AllocError> {
     let one = member(alloc, kept, key)?;
     let other = member(alloc, given, key)?;
     Ok(one != other)
 }
 
-// Of a key of an input.
+// Of the path of an input, or of another key of the input of a path.
 fn write_member(
     alloc: Global,
     text: &mut String,
@@ -122,22 +110,62 @@ fn write_member(
 ) -> Result<(), AllocError> {
     let one = member(alloc, kept, key)?;
     let other = member(alloc, given, key)?;
-    let (one, other) = excerpts(&one, &other);
+    let values = excerpts(&one, &other);
     if key == "path" {
-        return write!(
-            text,
-            "{out} was built with {one} where the inputs of {config} have {other}: {INPUT_ADVICE}"
-        );
+        return write_paths(text, values, config, out);
     }
-    write!(text, "{out} was built with `{key}` {one} of ")?;
-    write_path(alloc, text, kept)?;
-    write!(text, ", and {config} has {other}: {VALUE_ADVICE}")
+    write_kept(text, key, values.0, out)?;
+    write_of(alloc, text, kept)?;
+    write_given(text, values.1, config)
 }
 
-// The path of an input, as it is shown.
-fn write_path(alloc: Global, text: &mut String, input: &[u8]) -> Result<(), AllocError> {
-    let path = member(alloc, input, "path")?;
-    write!(text, "{}", Excerpt::whole(&path))
+fn write_paths(
+    text: &mut String,
+    values: (Excerpt<'_>, Excerpt<'_>),
+    config: &str,
+    out: &str,
+) -> Result<(), AllocError> {
+    let (kept, given) = values;
+    write!(
+        text,
+        "{out} was built with {kept} where the inputs of {config} have {given}: {INPUT_ADVICE}"
+    )
+}
+
+fn write_of(alloc: Global, text: &mut String, kept: &[u8]) -> Result<(), AllocError> {
+    let path = member(alloc, kept, "path")?;
+    let path = Excerpt::whole(&path);
+    write!(text, " of {path}")
+}
+
+// Of the values of a key.
+fn write_field(
+    alloc: Global,
+    text: &mut String,
+    key: &str,
+    kept: &[u8],
+    given: &[u8],
+    config: &str,
+    out: &str,
+) -> Result<(), AllocError> {
+    let one = safe(alloc, kept)?;
+    let other = safe(alloc, given)?;
+    let values = excerpts(&one, &other);
+    write_kept(text, key, values.0, out)?;
+    write_given(text, values.1, config)
+}
+
+fn write_kept(
+    text: &mut String,
+    key: &str,
+    kept: Excerpt<'_>,
+    out: &str,
+) -> Result<(), AllocError> {
+    write!(text, "{out} was built with `{key}` {kept}")
+}
+
+fn write_given(text: &mut String, given: Excerpt<'_>, config: &str) -> Result<(), AllocError> {
+    write!(text, ", and {config} has {given}: {VALUE_ADVICE}")
 }
 
 // The JSON text of a key of an input, as it can be shown, or what stands for it if there is none.
@@ -164,6 +192,11 @@ impl<'a> Excerpt<'a> {
     fn whole(text: &'a str) -> Self {
         Excerpt { text, from: 0 }
     }
+
+    // Whether characters are left out at its end.
+    fn is_cut(&self) -> bool {
+        self.text.chars().skip(self.from).nth(SHOWN).is_some()
+    }
 }
 
 impl fmt::Display for Excerpt<'_> {
@@ -171,11 +204,11 @@ impl fmt::Display for Excerpt<'_> {
         if self.from > 0 {
             f.write_str("..")?;
         }
-        for (at, letter) in self.text.chars().skip(self.from).enumerate() {
-            if at == SHOWN {
-                return f.write_str("..");
-            }
+        for letter in self.text.chars().skip(self.from).take(SHOWN) {
             f.write_char(letter)?;
+        }
+        if self.is_cut() {
+            f.write_str("..")?;
         }
         Ok(())
     }

@@ -9,7 +9,7 @@ use ept_config::{Config, ConfigError, MAX_LENGTH};
 use ept_mem::MemShelf;
 use ept_plan::{PlanError, make_plan};
 use ept_run::{Command, Failure, Refusal, command_of, read_configuration, read_front};
-use ept_save::open;
+use ept_save::{Saved, open};
 use serde_json::Value;
 use std::alloc::{AllocError, Global};
 use std::fmt::Write;
@@ -43,15 +43,24 @@ pub fn message<H: Shelf, T: Store>(
 ) -> Result<String, AllocError> {
     let mut text = String::new(alloc);
     let names = names_of(words, found);
-    match failure {
-        Failure::Refused(refusal) if names.config.is_empty() => write_refusal(
-            &mut text, refusal, &names,
-        )?,
-        Failure::Refused(refusal) => write_build(alloc, &mut text, refusal, &names, shelf, store)?,
-        Failure::QueryRefused(error) => write_query(&mut text, *error, names.out)?,
-        Failure::LineNotWritten(line) => write_line(&mut text, line)?,
-    }
+    write_failure(alloc, &mut text, failure, &names, shelf, store)?;
     Ok(text)
+}
+
+fn write_failure<H: Shelf, T: Store>(
+    alloc: Global,
+    text: &mut String,
+    failure: &Failure,
+    names: &Names<'_>,
+    shelf: &mut H,
+    store: &mut T,
+) -> Result<(), AllocError> {
+    match failure {
+        Failure::Refused(refusal) if names.config.is_empty() => write_refusal(text, refusal, names),
+        Failure::Refused(refusal) => write_build(alloc, text, refusal, names, shelf, store),
+        Failure::QueryRefused(error) => write_query(text, *error, names.out),
+        Failure::LineNotWritten(line) => write_line(text, line),
+    }
 }
 
 // The names in these words, and what was found.
@@ -129,8 +138,8 @@ fn write_differs<H: Shelf, T: Store>(
     }
 }
 
-// The first field in which the configuration of this path differs from what the current checkpoint keeps, if one does.
-// No input is opened if a field differs, so a shelf without files serves.
+// The first field in which the configuration of this path differs from what the store keeps, if one does, and if both
+// can be read again.
 fn difference_of<H: Shelf, T: Store>(
     alloc: Global,
     path: &str,
@@ -139,8 +148,14 @@ fn difference_of<H: Shelf, T: Store>(
 ) -> Option<Difference> {
     let config = read_configuration(alloc, shelf, path).ok()?;
     let saved = open(alloc, store).ok()?;
+    difference_from(alloc, &config, &saved)
+}
+
+// The first field in which a configuration differs from what the current checkpoint keeps, if one does. No input is
+// opened if a field differs, so a shelf without files serves.
+fn difference_from(alloc: Global, config: &Config, saved: &Saved) -> Option<Difference> {
     let mut empty = MemShelf::new(alloc, Vec::new(alloc), Vec::new(alloc), Vec::new(alloc));
-    match make_plan(alloc, &config, &mut empty, &saved) {
+    match make_plan(alloc, config, &mut empty, saved) {
         Err(PlanError::Differs(found)) => Some(found),
         _ => None,
     }
