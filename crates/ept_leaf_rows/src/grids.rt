@@ -2,10 +2,10 @@
 
 ghost use Rattle.std.specs.Prelude.{◌≡◌, ◌<◌};
 
-use crate::notation::{key_of, list_of, point_of, points_of};
+use crate::notation::{key_of, point_of, points_of};
 use crate::sampling::rules_of;
-use crate::words::{Miss, Words};
-use crate::writing::{part, write_ids, write_list, write_or_none, write_refusal};
+use crate::words::{Miss, Words, number, parted};
+use crate::writing::{part, write_ids, write_or_none, write_refusal};
 use ept_grid::{Grid, GridError, Outgoing, Steps};
 use ept_point::Point;
 use ept_sample::ids_ascend;
@@ -50,41 +50,42 @@ fn feed(grid: &mut Grid, point: Point, leaving: &mut Outgoing) -> Result<(), Mis
     Ok(())
 }
 
-// Lets the points of the words arrive one after another, and counts the points of the node after each.
-fn feed_all(
-    grid: &mut Grid,
-    words: &str,
-    leaving: &mut Outgoing,
-    counts: &mut Vec<u64>,
-) -> Result<(), Miss> {
-    for word in words.split_whitespace() {
-        feed(grid, point_of(word)?, leaving)?;
-        counts.push(grid.count())?;
-    }
-    Ok(())
-}
-
-// `grid arrive CUBE THRESHOLD KEY POINT POINT ..`: the points that the node keeps, its open octants, the points that left
-// for each octant, and how many points it had after each arrival. No point is out once they are cleared.
+// `grid arrive CUBE THRESHOLD KEY POINT POINT ..`: how many points the node has after each arrival, those that it keeps at the
+// end, its open octants, and the points that left for each octant. No point is out once they are cleared.
 fn arrive(alloc: Global, words: &mut Words<'_>, out: &mut String) -> Result<(), Miss> {
     let mut grid = grid_of(alloc, words)?;
     let mut leaving = Outgoing::new(alloc);
-    let mut counts = Vec::new(alloc);
-    feed_all(&mut grid, words.rest(), &mut leaving, &mut counts)?;
-    write_grid(alloc, &grid, out)?;
-    write_leaving(&leaving, out)?;
-    out.push_str(" | counts ")?;
-    write_list(&counts, out)?;
+    arrive_at(alloc, &mut grid, &mut leaving, words.rest(), out)
+}
+
+fn arrive_at(
+    alloc: Global,
+    grid: &mut Grid,
+    leaving: &mut Outgoing,
+    points: &str,
+    out: &mut String,
+) -> Result<(), Miss> {
+    out.push_str("counts")?;
+    for word in points.split_whitespace() {
+        feed(grid, point_of(word)?, leaving)?;
+        write!(out, " {}", grid.count())?;
+    }
+    write_grid(alloc, grid, out)?;
+    write_leaving(leaving, out)?;
     leaving.clear();
-    write_leaving(&leaving, out)
+    write_leaving(leaving, out)
 }
 
 fn write_grid(alloc: Global, grid: &Grid, out: &mut String) -> Result<(), Miss> {
     let mut kept = Vec::new(alloc);
     grid.points_into(&mut kept)?;
-    out.push_str("kept ")?;
-    write_ids(kept.as_slice(), out)?;
-    write!(out, " | open {}", grid.open_mask())?;
+    write_kept(kept.as_slice(), grid.open_mask(), out)
+}
+
+fn write_kept(kept: &[Point], mask: u8, out: &mut String) -> Result<(), Miss> {
+    out.push_str(" | kept ")?;
+    write_ids(kept, out)?;
+    write!(out, " | open {mask}")?;
     Ok(())
 }
 
@@ -102,24 +103,35 @@ pub(crate) fn write_leaving(leaving: &Outgoing, out: &mut String) -> Result<(), 
     Ok(())
 }
 
-// `grid count CUBE THRESHOLD KEY POINT POINT ..`: how many points the node counts, how many it gives out, how many those are
-// with all that have left, and whether those that it keeps are in id order. The ids may stand twice.
+// `grid count CUBE THRESHOLD KEY POINT POINT ..`: whether the node counts as many points as it gives out, how many these are with
+// those that left, and whether their numbers ascend. The ids may stand twice.
 fn count(alloc: Global, words: &mut Words<'_>, out: &mut String) -> Result<(), Miss> {
     let mut grid = grid_of(alloc, words)?;
     let mut leaving = Outgoing::new(alloc);
-    let mut counts = Vec::new(alloc);
-    feed_all(&mut grid, words.rest(), &mut leaving, &mut counts)?;
+    feed_all(&mut grid, &mut leaving, words.rest())?;
+    write_count(alloc, &grid, &leaving, out)
+}
+
+// Lets the points of the words arrive one after another.
+fn feed_all(grid: &mut Grid, leaving: &mut Outgoing, points: &str) -> Result<(), Miss> {
+    for word in points.split_whitespace() {
+        feed(grid, point_of(word)?, leaving)?;
+    }
+    Ok(())
+}
+
+fn write_count(
+    alloc: Global,
+    grid: &Grid,
+    leaving: &Outgoing,
+    out: &mut String,
+) -> Result<(), Miss> {
     let mut kept = Vec::new(alloc);
     grid.points_into(&mut kept)?;
-    let gone = count_leaving(&leaving);
-    let in_order = are_in_order(kept.as_slice());
-    write!(
-        out,
-        "{} {} {} {in_order}",
-        grid.count() == kept.len() as u64,
-        kept.len().wrapping_add(gone),
-        counts.len(),
-    )?;
+    let is_count = grid.count() == kept.len() as u64;
+    let all = kept.len().wrapping_add(count_leaving(leaving));
+    let ascend = are_in_order(kept.as_slice());
+    write!(out, "{is_count} {all} {ascend}")?;
     Ok(())
 }
 
@@ -158,12 +170,26 @@ fn tile(alloc: Global, words: &mut Words<'_>, out: &mut String) -> Result<(), Mi
 // `grid winner CUBE THRESHOLD KEY CELL POINT POINT ..`: the number of the best point of a cell.
 fn winner(alloc: Global, words: &mut Words<'_>, out: &mut String) -> Result<(), Miss> {
     let mut grid = grid_of(alloc, words)?;
-    let cell = list_of(alloc, words.word()?)?;
-    let cell = cell.first_chunk::<3>().copied().ok_or(Miss::Form)?;
     let mut leaving = Outgoing::new(alloc);
-    let mut counts = Vec::new(alloc);
-    feed_all(&mut grid, words.rest(), &mut leaving, &mut counts)?;
-    write_or_none(number_in(&grid, cell), out)
+    winner_at(&mut grid, &mut leaving, words, out)
+}
+
+fn winner_at(
+    grid: &mut Grid,
+    leaving: &mut Outgoing,
+    words: &mut Words<'_>,
+    out: &mut String,
+) -> Result<(), Miss> {
+    let cell = cell_of(words.word()?)?;
+    feed_all(grid, leaving, words.rest())?;
+    write_or_none(number_in(grid, cell), out)
+}
+
+// `X,Y,Z`: the index of a cell on each axis.
+fn cell_of(word: &str) -> Result<[u32; 3], Miss> {
+    let (x, rest) = parted(word, ",")?;
+    let (y, z) = parted(rest, ",")?;
+    Ok([number(x)?, number(y)?, number(z)?])
 }
 
 // The number of the winner of a cell, where the cell lies in the node's box and has one.

@@ -69,8 +69,12 @@ fn steps(alloc: Global, words: &mut Words<'_>, out: &mut String) -> Result<(), M
     let (first, points) = parted(words.rest(), " /")?;
     let mut words = Words::of(first);
     let mut core = core_of(alloc, &mut words, points)?;
-    for word in words.rest().split_whitespace() {
-        step(&mut core, event_of(word)?, out)?;
+    step_all(&mut core, words.rest(), out)
+}
+
+fn step_all(core: &mut Core, events: &str, out: &mut String) -> Result<(), Miss> {
+    for word in events.split_whitespace() {
+        step(core, event_of(word)?, out)?;
     }
     write_tiles(&core.tiles()?, out)
 }
@@ -96,11 +100,19 @@ fn run(alloc: Global, words: &mut Words<'_>, out: &mut String) -> Result<(), Mis
     let (first, points) = parted(words.rest(), " /")?;
     let mut words = Words::of(first);
     let mut core = core_of(alloc, &mut words, points)?;
+    run_all(&mut core, events_of(alloc, words.rest())?.as_slice(), out)
+}
+
+fn events_of(alloc: Global, words: &str) -> Result<Vec<Event>, Miss> {
     let mut events = Vec::new(alloc);
-    for word in words.rest().split_whitespace() {
+    for word in words.split_whitespace() {
         events.push(event_of(word)?)?;
     }
-    match run_events(&mut core, events.as_slice()) {
+    Ok(events)
+}
+
+fn run_all(core: &mut Core, events: &[Event], out: &mut String) -> Result<(), Miss> {
+    match run_events(core, events) {
         Ok(()) => out.push_str("ok")?,
         Err(refused) => write_refusal(&refused, out)?,
     }

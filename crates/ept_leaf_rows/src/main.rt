@@ -8,6 +8,7 @@ mod machine;
 mod nodes;
 mod notation;
 mod numbers;
+mod octrees;
 mod packing;
 mod sampling;
 mod slots;
@@ -52,6 +53,7 @@ fn answer(alloc: Global, line: &str, out: &mut String) -> Result<(), Miss> {
         "core" => machine::answer(alloc, call, &mut words, out),
         "node" => nodes::answer(alloc, call, &mut words, out),
         "forest" => slots::answer(alloc, call, &mut words, out),
+        "octree" => octrees::answer(alloc, call, &mut words, out),
         _ => Err(Miss::Form),
     }
 }

@@ -42,9 +42,16 @@ fn cube(words: &mut Words<'_>, out: &mut String) -> Result<(), Miss> {
     let s = words.number()?;
     let max_depth = words.number()?;
     match Cube::of(&bounds, s, max_depth) {
-        Some(cube) => write!(out, "{} {} {}", cube.corner[2], cube.e, cube.depth)?,
-        None => out.push_str("none")?,
+        Some(cube) => write_cube(&cube, out),
+        None => Ok(out.push_str("none")?),
     }
+}
+
+fn write_cube(cube: &Cube, out: &mut String) -> Result<(), Miss> {
+    let [_x, _y, corner] = cube.corner;
+    let side = cube.e;
+    let depth = cube.depth;
+    write!(out, "{corner} {side} {depth}")?;
     Ok(())
 }
 

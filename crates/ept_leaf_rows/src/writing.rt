@@ -40,20 +40,6 @@ pub(crate) fn write_bytes(alloc: Global, bytes: &[u8], out: &mut String) -> Resu
     Ok(())
 }
 
-/// Numbers with commas between them, or `-` for none.
-pub(crate) fn write_list(numbers: &[u64], out: &mut String) -> Result<(), Miss> {
-    if numbers.is_empty() {
-        out.push('-')?;
-    }
-    for (at, n) in numbers.iter().enumerate() {
-        if at > 0 {
-            out.push(',')?;
-        }
-        write!(out, "{n}")?;
-    }
-    Ok(())
-}
-
 /// `D-X-Y-Z`.
 pub(crate) fn write_key(key: &Key, out: &mut String) -> Result<(), Miss> {
     let mut into = [0; 40];
