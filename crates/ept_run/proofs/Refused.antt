@@ -241,15 +241,19 @@ module _ (all : Files) (path : List ℕ) where
       fails_as (inr (inr (inl is))) = inr (inr (inl (ap told_as is)))
       fails_as (inr (inr (inr is))) = inr (inr (inr (ap told_as is)))
 
-      accepted_after : (start : Files) → (building.IsAccepted all config start → IsOk answer ⊎ building.Fails answer)
-          → IsAcceptedAt all start path → IsOk (told_as answer) ⊎ Fails (told_as answer)
-      accepted_after start accepts asked =
-          let mine : building.IsAccepted all config start = subst (λ (c : Config). building.IsAccepted all c start) (one_config asked.config config asked.configures configures) asked.accepted in
-          ⊎_elim (λ is. inl (ok_as answer is)) (λ fails. inr (fails_as fails)) (accepts mine)
+      -- what a build answers Ok, or for a fault, the command does
+      passed_on : IsOk answer ⊎ building.Fails answer → IsOk (told_as answer) ⊎ Fails (told_as answer)
+      passed_on came = ⊎_elim (λ is. inl (ok_as answer is)) (λ fails. inr (fails_as fails)) came
         where
           ok_as : (a : Result Summary BuildError) → IsOk a → IsOk (told_as a)
           ok_as (Ok summary) is = is
           ok_as (Err e) is = absurd cc
+
+      accepted_after : (start : Files) → (building.IsAccepted all config start → IsOk answer ⊎ building.Fails answer)
+          → IsAcceptedAt all start path → IsOk (told_as answer) ⊎ Fails (told_as answer)
+      accepted_after start accepts asked =
+          let mine : building.IsAccepted all config start = subst (λ (c : Config). building.IsAccepted all c start) (one_config asked.config config asked.configures configures) asked.accepted in
+          passed_on (accepts mine)
 
 -- ---- after which refusals nothing was put
 
@@ -330,6 +334,12 @@ module _ {F : Type 0} (held : F → Option (List ℕ)) (shelf later : Option Fil
     pub build_accepted : ((all start : Files) → building.BeginsWith held later store may all start → building.IsAccepted all config start → IsOk answer ⊎ building.Fails answer)
         → (all start : Files) → building.BeginsWith held shelf store may all start → IsAcceptedAt all start path → IsOk (told_as answer) ⊎ Fails (told_as answer)
     build_accepted accepts all start b asked = accepted_after all path config (known all start b) answer start (accepts all start (begins all start b)) asked
+
+    -- so is one of a folder that is done already
+    pub build_finished : ((all start : Files) → building.BeginsWith held later store may all start → building.IsDoneAlready config start → IsOk answer ⊎ building.Fails answer)
+        → (all start : Files) → building.BeginsWith held shelf store may all start → IsDoneAt all start path → IsOk (told_as answer) ⊎ Fails (told_as answer)
+    build_finished finishes all start b asked =
+        passed_on all path config (known all start b) answer (finishes all start (begins all start b) (done_as all path config (known all start b) start asked))
 
   -- a configuration that is read is refused for nothing
   pub build_comes : {A : Type 0} (a : Result A Refusal) → Tells (λ all. (r : Refusal) → IsDefinite r → ConfigurationIsRefused all path r → (a ≡ Err r) ⊎ Fails a) shelf

@@ -56,6 +56,8 @@ where
         → (result ≡ Err r) ⊎ Fails result) (H.files shelf.old) }
     ensures accepted { (all start : Files) → BeginsWith M.File.held (H.files shelf.old) (T.files store.old) (T.may_leave store.old) all start
         → IsAcceptedAt all start path.now → IsOk result ⊎ Fails result }
+    ensures done_comes { (all start : Files) → BeginsWith M.File.held (H.files shelf.old) (T.files store.old) (T.may_leave store.old) all start
+        → IsDoneAt all start path.now → IsOk result ⊎ Fails result }
     ensures comes { (all start : Files) → BeginsWith M.File.held (H.files shelf.old) (T.files store.old) (T.may_leave store.old) all start
         → (r : Refusal) → ComesAt all start r path.now → (result ≡ Err r) ⊎ Fails result }
     ensures differs_comes { (all start : Files) → BeginsWith M.File.held (H.files shelf.old) (T.files store.old) (T.may_leave store.old) all start
@@ -110,6 +112,8 @@ where
         → (result ≡ Err r) ⊎ Fails result) (H.files shelf.old) }
     ensures accepted { (all start : Files) → BeginsWith M.File.held (H.files shelf.old) (T.files store.old) (T.may_leave store.old) all start
         → IsAcceptedAt all start path.now → IsOk result ⊎ Fails result }
+    ensures done_comes { (all start : Files) → BeginsWith M.File.held (H.files shelf.old) (T.files store.old) (T.may_leave store.old) all start
+        → IsDoneAt all start path.now → IsOk result ⊎ Fails result }
     ensures comes { (all start : Files) → BeginsWith M.File.held (H.files shelf.old) (T.files store.old) (T.may_leave store.old) all start
         → (r : Refusal) → ComesAt all start r path.now → (result ≡ Err r) ⊎ Fails result }
     ensures differs_comes { (all start : Files) → BeginsWith M.File.held (H.files shelf.old) (T.files store.old) (T.may_leave store.old) all start

@@ -65,6 +65,8 @@ where
         → HasSpilled all start (M.keeps room.old) (M.keeps room.new) config }
     ensures build_comes { (all start : Files) → BeginsWith M.File.held (H.files shelf.old) (T.files store.old) (T.may_leave store.old) all start
         → AsksBuild (bytes_of words.now) (IsAcceptedAt all start) → Yields 0 result }
+    ensures done_comes { (all start : Files) → BeginsWith M.File.held (H.files shelf.old) (T.files store.old) (T.may_leave store.old) all start
+        → AsksBuild (bytes_of words.now) (IsDoneAt all start) → Yields 0 result }
     ensures done_already { (all start : Files) → BeginsWith M.File.held (H.files shelf.old) (T.files store.old) (T.may_leave store.old) all start
         → AsksBuild (bytes_of words.now) (IsDoneAt all start)
         → Moves T.files T.may_leave T.moment T.image_since SameFiles store.old store.new }

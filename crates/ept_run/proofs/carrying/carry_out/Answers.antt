@@ -56,6 +56,11 @@ returns-in-Build-clause-build_comes g c = λ all start begins asks.
     accepted_yields c.finish.result.status (g.O.Sink.written c.args.out.now) (g.O.Sink.written c.finish.new.out) (Rose (g.O.Sink.faults c.args.out.now) (g.O.Sink.faults c.finish.new.out)) c.build_line-line.result
     (c.build_line-line.ensures.accepted all start begins (of_build (map string_bytes c.args.words.now) c.in-Build.config.now c.in-Build.out.now c.in-Build.ensures {P = IsAcceptedAt all start} asks)) (build_ended g c)
 
+pub returns-in-Build-clause-done_comes : goal.returns-in-Build-clause-done_comes
+returns-in-Build-clause-done_comes g c = λ all start begins asks.
+    accepted_yields c.finish.result.status (g.O.Sink.written c.args.out.now) (g.O.Sink.written c.finish.new.out) (Rose (g.O.Sink.faults c.args.out.now) (g.O.Sink.faults c.finish.new.out)) c.build_line-line.result
+    (c.build_line-line.ensures.done_comes all start begins (of_build (map string_bytes c.args.words.now) c.in-Build.config.now c.in-Build.out.now c.in-Build.ensures {P = IsDoneAt all start} asks)) (build_ended g c)
+
 pub returns-in-Build-clause-done_already : goal.returns-in-Build-clause-done_already
 returns-in-Build-clause-done_already g c = λ all start begins asks.
     c.build_line-line.ensures.done_already all start begins (of_build (map string_bytes c.args.words.now) c.in-Build.config.now c.in-Build.out.now c.in-Build.ensures {P = IsDoneAt all start} asks)
@@ -112,6 +117,9 @@ returns-in-Info-clause-info_comes g c =
 pub returns-in-Info-clause-build_comes : goal.returns-in-Info-clause-build_comes
 returns-in-Info-clause-build_comes g c = λ all start begins asks. absurd (build_or_info (map string_bytes c.args.words.now) asks.path asks.out c.in-Info.las.now asks.words_are c.in-Info.ensures)
 
+pub returns-in-Info-clause-done_comes : goal.returns-in-Info-clause-done_comes
+returns-in-Info-clause-done_comes g c = λ all start begins asks. absurd (build_or_info (map string_bytes c.args.words.now) asks.path asks.out c.in-Info.las.now asks.words_are c.in-Info.ensures)
+
 pub returns-in-Info-clause-done_already : goal.returns-in-Info-clause-done_already
 returns-in-Info-clause-done_already g c = λ all start begins asks. stays g.T.Store.files g.T.Store.may_leave g.T.Store.moment g.T.Store.image_since c.args.store.now
 
@@ -131,6 +139,9 @@ returns-in-Usage-clause-kept g c = λ config folder is ok all start begins. absu
 
 pub returns-in-Usage-clause-build_comes : goal.returns-in-Usage-clause-build_comes
 returns-in-Usage-clause-build_comes g c = λ all start begins asks. absurd (c.in-Usage.ensures.not_build asks.path asks.out asks.words_are)
+
+pub returns-in-Usage-clause-done_comes : goal.returns-in-Usage-clause-done_comes
+returns-in-Usage-clause-done_comes g c = λ all start begins asks. absurd (c.in-Usage.ensures.not_build asks.path asks.out asks.words_are)
 
 pub returns-in-Usage-clause-done_already : goal.returns-in-Usage-clause-done_already
 returns-in-Usage-clause-done_already g c = λ all start begins asks. stays g.T.Store.files g.T.Store.may_leave g.T.Store.moment g.T.Store.image_since c.args.store.now
@@ -187,6 +198,9 @@ returns-in-Query-clause-kept g c = λ config folder is ok all start begins. absu
 
 pub returns-in-Query-clause-build_comes : goal.returns-in-Query-clause-build_comes
 returns-in-Query-clause-build_comes g c = λ all start begins asks. absurd (query_or_build (map string_bytes c.args.words.now) c.in-Query.out.now c.in-Query.area c.in-Query.depths.0 c.in-Query.depths.1 c.in-Query.ensures asks.path asks.out asks.words_are)
+
+pub returns-in-Query-clause-done_comes : goal.returns-in-Query-clause-done_comes
+returns-in-Query-clause-done_comes g c = λ all start begins asks. absurd (query_or_build (map string_bytes c.args.words.now) c.in-Query.out.now c.in-Query.area c.in-Query.depths.0 c.in-Query.depths.1 c.in-Query.ensures asks.path asks.out asks.words_are)
 
 pub returns-in-Query-clause-done_already : goal.returns-in-Query-clause-done_already
 returns-in-Query-clause-done_already g c = λ all start begins asks. c.answer_query.ensures.any_moment
@@ -339,6 +353,9 @@ returns-in-Trial-clause-trial g c = λ count workers cache is.
 
 pub returns-in-Trial-clause-build_comes : goal.returns-in-Trial-clause-build_comes
 returns-in-Trial-clause-build_comes g c = λ all start begins asks. absurd (trial_or_build (map string_bytes c.args.words.now) c.in-Trial.points c.in-Trial.workers c.in-Trial.cache c.in-Trial.ensures asks.path asks.out asks.words_are)
+
+pub returns-in-Trial-clause-done_comes : goal.returns-in-Trial-clause-done_comes
+returns-in-Trial-clause-done_comes g c = λ all start begins asks. absurd (trial_or_build (map string_bytes c.args.words.now) c.in-Trial.points c.in-Trial.workers c.in-Trial.cache c.in-Trial.ensures asks.path asks.out asks.words_are)
 
 pub returns-in-Trial-clause-info_comes : goal.returns-in-Trial-clause-info_comes
 returns-in-Trial-clause-info_comes g c =

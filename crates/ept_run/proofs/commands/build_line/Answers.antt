@@ -12,6 +12,10 @@ pub returns-in_err-summary-clause-accepted : goal.returns-in_err-summary-clause-
 returns-in_err-summary-clause-accepted g c = λ all start begins asked.
     carried_accepted c.carry_out_build.result c.from_residual.result c.in_err-summary.field-0.0 c.in_err-summary.was c.from_residual.ensures.1 (c.carry_out_build.ensures.accepted all start begins asked)
 
+pub returns-in_err-summary-clause-done_comes : goal.returns-in_err-summary-clause-done_comes
+returns-in_err-summary-clause-done_comes g c = λ all start begins asked.
+    carried_accepted c.carry_out_build.result c.from_residual.result c.in_err-summary.field-0.0 c.in_err-summary.was c.from_residual.ensures.1 (c.carry_out_build.ensures.done_comes all start begins asked)
+
 pub returns-in_err-summary-clause-comes : goal.returns-in_err-summary-clause-comes
 returns-in_err-summary-clause-comes g c = λ all start begins r asked. carried_one c.carry_out_build.result c.from_residual.result c.in_err-summary.field-0.0 r c.in_err-summary.was c.from_residual.ensures.1 (c.carry_out_build.ensures.comes all start begins r asked)
 

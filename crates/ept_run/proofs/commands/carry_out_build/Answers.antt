@@ -12,7 +12,7 @@ use Rattle.ept_build.specs.Building as building
 use Rattle.ept_run.specs.declared.refusal.Refusal.{Refusal}
 use Rattle.ept_run.specs.Requests.{BuildIsRefused, IsEarly, Fails, TellsDifference}
 use Rattle.ept_run.specs.declared.refusal.Refusal.TheVariants.{BadCheckpoint}
-use Rattle.ept_run.proofs.Refused.{came_to, differed_to, bad_to, build_refused, build_comes, build_accepted, built_at, spilled_at, begun, begun_done, early_as, told_as, stays_sound, never_configured}
+use Rattle.ept_run.proofs.Refused.{came_to, differed_to, bad_to, build_refused, build_comes, build_accepted, build_finished, built_at, spilled_at, begun, begun_done, early_as, told_as, stays_sound, never_configured}
 use Rattle.ept_run.proofs.commands.carry_out_build.Goals as goal
 
 pub returns-in-Ok-clause-built : goal.returns-in-Ok-clause-built
@@ -49,6 +49,11 @@ pub returns-clause-accepted : goal.returns-clause-accepted
 returns-clause-accepted g c =
     λ all start begins asked. subst (λ (a : Result Summary Refusal). IsOk a ⊎ Fails a) (ap told_as c.in-Err.is ∙ ap Err (sym c.from.ensures))
     (build_accepted g.M.File.SpillFile.held (g.H.Shelf.files c.args.shelf.now) (g.H.Shelf.files c.read_configuration.new.shelf) c.read_configuration.ensures.files c.args.path.now c.in_ok-config.config c.in_ok-config.ensures.ok (g.T.Store.files c.args.store.now) (g.T.Store.may_leave c.args.store.now) c.build.result c.build.ensures.accepted all start begins asked)
+
+pub returns-clause-done_comes : goal.returns-clause-done_comes
+returns-clause-done_comes g c =
+    λ all start begins asked. subst (λ (a : Result Summary Refusal). IsOk a ⊎ Fails a) (ap told_as c.in-Err.is ∙ ap Err (sym c.from.ensures))
+    (build_finished g.M.File.SpillFile.held (g.H.Shelf.files c.args.shelf.now) (g.H.Shelf.files c.read_configuration.new.shelf) c.read_configuration.ensures.files c.args.path.now c.in_ok-config.config c.in_ok-config.ensures.ok (g.T.Store.files c.args.store.now) (g.T.Store.may_leave c.args.store.now) c.build.result c.build.ensures.done_comes all start begins asked)
 
 pub returns-clause-sound : goal.returns-clause-sound
 returns-clause-sound g c =
