@@ -6,7 +6,7 @@ use crate::notation::{key_of, point_of, points_of};
 use crate::sampling::rules_of;
 use crate::words::{Miss, Words, number, parted};
 use crate::writing::{part, write_ids, write_or_none, write_refusal};
-use ept_grid::{Grid, GridError, Outgoing, Steps};
+use ept_grid::{Grid, GridError, Lists, Outgoing, Steps};
 use ept_point::Point;
 use ept_sample::ids_ascend;
 use std::alloc::Global;
@@ -159,7 +159,7 @@ fn tile(alloc: Global, words: &mut Words<'_>, out: &mut String) -> Result<(), Mi
     if key.depth > rules.cube.depth || !ids_ascend(points.as_slice()) {
         return Err(Miss::Form);
     }
-    match Grid::from_tile(alloc, key, &rules, mask, points.as_slice()) {
+    match Grid::from_tile(Lists::new(alloc), key, &rules, mask, points.as_slice()) {
         Ok(grid) => write!(out, "{} open {}", grid.count(), grid.open_mask())?,
         Err(GridError::Memory) => return Err(Miss::Memory),
         Err(refused) => write_refusal(&refused, out)?,

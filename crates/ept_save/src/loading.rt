@@ -23,7 +23,7 @@ use crate::saved::Saved;
 use ept_base::Store;
 use ept_ckpt::NodeLine;
 use ept_config::Kept;
-use ept_grid::{Grid, GridError};
+use ept_grid::{Grid, GridError, Lists};
 use ept_meta::{output_once_law, rules_of};
 use ept_point::{Point, TileError, read_tile, tile_once_law};
 use ept_space::{Key, Rules};
@@ -225,7 +225,7 @@ fn node_of_points(
     if points.len() as u64 != line.count {
         return Err(SaveError::TileDamaged { key: line.key });
     }
-    match Grid::from_tile(alloc, line.key, rules, line.mask, points) {
+    match Grid::from_tile(Lists::new(alloc), line.key, rules, line.mask, points) {
         Ok(node) => Ok(node),
         Err(GridError::Memory) => Err(SaveError::Memory),
         Err(_) => Err(SaveError::TileDamaged { key: line.key }),
