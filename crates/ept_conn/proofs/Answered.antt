@@ -29,8 +29,7 @@ all-sent files area part [] each = ([], tt, refl)
 all-sent files area part (node ∷ nodes) each =
     let here = each node (inl refl) in
     let rest = all-sent files area part nodes (λ other m. each other (inr m)) in
-    let own : List Point = points_in area here.points in
-    (
+    let own : List Point = points_in area here.points in (
       own ∷ rest.0,
       (record { points = here.points; has = here.has; inside = refl }, rest.1),
       ap (λ (w : List ℕ). w ++ flat_map part nodes) (here.packed here.points here.has) ∙ ap (λ (w : List ℕ). tile own ++ w) rest.2 ∙ sym (flat_map-append packed own (points_of rest.0)),

@@ -18,7 +18,12 @@ fn make_folder(rt: &HostRuntime) -> Result<(), Fail> {
 }
 
 // Whether a server answers so to a request behind which no more comes.
-fn is_answered(rt: &HostRuntime, address: SocketAddr, request: &[u8], want: &[u8]) -> io::Result<bool> {
+fn is_answered(
+    rt: &HostRuntime,
+    address: SocketAddr,
+    request: &[u8],
+    want: &[u8],
+) -> io::Result<bool> {
     let mut stream = TcpStream::connect(rt, address)?;
     stream.write_all(request)?;
     stream.shutdown(Shutdown::Write)?;

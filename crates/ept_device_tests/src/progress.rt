@@ -19,7 +19,13 @@ fn files_of<'a>(
     folder: &str,
     telling: Telling,
 ) -> Result<SeenFiles<Disk<'a>>, AllocError> {
-    SeenFiles::new(rt.alloc(), Disk { machine: rt, seen }, "test", folder, telling)
+    SeenFiles::new(
+        rt.alloc(),
+        Disk { machine: rt, seen },
+        "test",
+        folder,
+        telling,
+    )
 }
 
 // What is told of a file of each role when it is read, and then when it is put. The reading of the done gate begins
@@ -220,12 +226,22 @@ fn prepare(rt: &HostRuntime) -> Result<(), Fail> {
     fs::write(rt, "survey.json", "{}")?;
     fs::write(rt, "a.las", pattern(rt.alloc(), 2_600_000)?)?;
     fs::write(rt, "out/ept-work/body-a", "EPTW")?;
-    fs::write(rt, "out/ept-work/a/0-0-0-0.bin", pattern(rt.alloc(), 1_200_000)?)?;
+    fs::write(
+        rt,
+        "out/ept-work/a/0-0-0-0.bin",
+        pattern(rt.alloc(), 1_200_000)?,
+    )?;
     Ok(())
 }
 
 // Makes the calls of that build, and compares what each tells last; nothing where nothing is told.
-fn expect_calls<R: Files>(rt: &impl Abort, seen: &Seen, files: &R, into: &mut Vec<u8>, is_told: bool) {
+fn expect_calls<R: Files>(
+    rt: &impl Abort,
+    seen: &Seen,
+    files: &R,
+    into: &mut Vec<u8>,
+    is_told: bool,
+) {
     let alloc = *into.allocator();
     let mut shelf = RealShelf::new(alloc, files);
     let mut store = RealStore::new(alloc, files, "out");

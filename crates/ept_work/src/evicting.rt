@@ -86,7 +86,11 @@ impl<F: SpillFile, S: Source> Worker<F, S> {
         let Some(item) = table.try_take(&mut self.seat, slot) else {
             return Ok(false);
         };
-        let Evicted { node, answer } = put_in_file::<F, J>(alloc, &mut self.workspace, node_in(item));
+        let Evicted { node, answer } = put_in_file::<F, J>(
+            alloc,
+            &mut self.workspace,
+            node_in(item),
+        );
         let _done = table.give(&mut self.seat, slot, Item::Node(node), Done::Nothing);
         Ok(answer?)
     }
