@@ -3,8 +3,6 @@
 
 mod forest;
 mod full;
-#[cfg(test)]
-mod tests;
 
 pub use forest::Forest;
 pub use full::Full;

@@ -2,8 +2,6 @@
 #![tactic(auto)]
 
 mod json_error;
-#[cfg(test)]
-mod tests;
 mod text;
 
 pub use json_error::JsonError;

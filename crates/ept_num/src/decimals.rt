@@ -76,25 +76,3 @@ fn power_of_ten(places: u8) -> u64
 {
     10u64.pow(u32::from(places))
 }
-
-#[cfg(test)]
-mod tests {
-    use super::*;
-
-    #[test]
-    fn writes_exactly_the_places(rt: HostRuntime) {
-        let rows = [
-            (-5, 2, "-0.05"),
-            (100_005, 2, "1000.05"),
-            (7, 0, "7"),
-            (0, 1, "0.0"),
-            (i64::MIN, 9, "-9223372036.854775808"),
-            (i64::MAX, 0, "9223372036854775807"),
-        ];
-        for (n, places, want) in rows {
-            let mut into = [0; 24];
-            let len = decimal_text(n, places, &mut into);
-            assert_eq!(rt; &into[..len], want.as_bytes(), "at {n} and {places}");
-        }
-    }
-}

@@ -13,14 +13,3 @@ pub fn lcg(n: u64) -> u64
 {
     n.wrapping_mul(MULTIPLIER).wrapping_add(INCREMENT)
 }
-
-#[cfg(test)]
-mod tests {
-    use super::*;
-
-    #[test]
-    fn gives_the_published_numbers(rt: HostRuntime) {
-        assert_eq!(rt; lcg(0), 1_442_695_040_888_963_407);
-        assert_eq!(rt; lcg(1), 7_806_831_264_735_756_412);
-    }
-}

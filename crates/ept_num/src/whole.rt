@@ -26,31 +26,3 @@ pub fn read_whole(text: &[u8]) -> Option<i64>
         None
     }
 }
-
-#[cfg(test)]
-mod tests {
-    use super::*;
-
-    #[test]
-    fn reads_one_spelling_of_each_number(rt: HostRuntime) {
-        let rows = [
-            ("0", Some(0)),
-            ("7", Some(7)),
-            ("-12", Some(-12)),
-            ("9223372036854775807", Some(i64::MAX)),
-            ("-9223372036854775808", Some(i64::MIN)),
-            ("9223372036854775808", None),
-            ("-9223372036854775809", None),
-            ("-0", None),
-            ("01", None),
-            ("-01", None),
-            ("+1", None),
-            ("1 ", None),
-            ("-", None),
-            ("", None),
-        ];
-        for (text, want) in rows {
-            assert_eq!(rt; read_whole(text.as_bytes()), want, "at {text}");
-        }
-    }
-}
