@@ -8,9 +8,9 @@ use std::str;
 /// What a file is filled with up to a length.
 const FILLING: u8 = 9;
 
-/// The bytes of these words, one behind the other: `'TEXT` is a text, `HEX` are bytes in hexadecimal digits, `HEX*N`
-/// these so many times, `$NAME` what a line `let` names so. Then `@AT:HEX` writes other bytes at a place, and
-/// `long=N` cuts or fills the bytes to a length.
+/// The bytes of these words, one after the other: `'TEXT` is a text, `HEX` is bytes in hexadecimal digits, `HEX*N`
+/// is these N times, and `$NAME` is what a line `let` gives that name. Then `@AT:HEX` writes other bytes at a place,
+/// and `long=N` cuts or fills the bytes to a length.
 pub(crate) fn bytes_of(row: Row<'_>, words: &str) -> Result<Vec<u8>, Stop> {
     let mut bytes = Vec::new(row.alloc);
     for word in words.split(' ') {

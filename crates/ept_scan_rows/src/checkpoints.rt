@@ -22,7 +22,7 @@ fn refuse(refusal: CkptError, out: &mut String) -> Answered {
     }
 }
 
-/// `body BYTES`: whether what a body says is written as the same bytes again, behind bytes that were there before.
+/// `body BYTES`: whether what a body says is written as the same bytes again, after bytes that were there before.
 pub(crate) fn body(row: Row<'_>, out: &mut String) -> Answered {
     let body = bytes_of(row, row.rest)?;
     match read_ckpt(row.alloc, &body) {
@@ -38,7 +38,7 @@ fn write_again(alloc: Global, checkpoint: &Checkpoint, body: &[u8], out: &mut St
     Ok(out.push_str(if is_same { "same" } else { "other" })?)
 }
 
-/// `body-parts BYTES`: how many of the shorter bodies, each the front of this one, are refused as too short.
+/// `body-parts BYTES`: how many of its shorter prefixes are refused as too short.
 pub(crate) fn body_parts(row: Row<'_>, out: &mut String) -> Answered {
     let body = bytes_of(row, row.rest)?;
     let mut refused = 0u64;

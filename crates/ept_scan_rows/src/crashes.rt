@@ -19,8 +19,8 @@ use ept_save::{
 use ept_space::Key;
 use std::alloc::Global;
 
-/// `crash PASSES | STORE | OLD | NEW`: the next checkpoint is committed over a store that passes so many calls, with
-/// the points NEW in its root, between closing and opening the done gate. It tells what comes of that, and then for
+/// `crash PASSES | STORE | OLD | NEW`: the next checkpoint is committed over a store that passes PASSES calls, with
+/// the points NEW in its root, between closing and opening the done gate. It reports the result, and then for
 /// each kind of crash the generation of the checkpoint that is opened, whether its root has the points OLD or NEW,
 /// and whether the output is done.
 pub(crate) fn crash(row: Row<'_>, out: &mut String) -> Answered {
@@ -91,7 +91,7 @@ fn commit_root(
     commit(alloc, store, saved, &kept, &counts, inserted)
 }
 
-// The line of the root, where it is the only node and has so many points, and where one more commit may follow
+// The line of the root, where it is the only node and has this number of points, and where one more commit may follow
 // that brings no point.
 fn only_root(checkpoint: &Checkpoint, points: u64) -> Option<NodeLine>
     ensures { ForSome result (λ line. (checkpoint.now.nodes ≡ line ∷ [])

@@ -62,7 +62,7 @@ pub(crate) fn show_key(key: &Key, out: &mut String) -> Answered {
     Ok(write!(out, "{}-{}-{}-{}", key.depth, key.x, key.y, key.z)?)
 }
 
-/// `hierarchy-file BYTES`: the entries of a file, behind one entry `0-0-0-0=-1` that was there before.
+/// `hierarchy-file BYTES`: the entries of a file, after an entry `0-0-0-0=-1` that was there before.
 pub(crate) fn hierarchy_file(row: Row<'_>, out: &mut String) -> Answered {
     let bytes = bytes_of(row, row.rest)?;
     let mut entries = Vec::new(row.alloc);

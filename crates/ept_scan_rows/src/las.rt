@@ -28,7 +28,7 @@ const PLAIN: Head = Head {
 
 /// The file of these words. `X,Y,Z` is a record there, with all else zero; `minor=N`, `format=N`, `size=N`,
 /// `start=N`, `length=N` and `points=N` change what the header states; each other word stands for bytes that follow.
-/// The header states as many points as there are places, where no word tells another number behind them.
+/// Each place counts as a point in the header, unless a later `points=N` sets another number.
 pub(crate) fn las_of(row: Row<'_>, words: &str) -> Result<Vec<u8>, Stop> {
     let head = head_of(words)?;
     let mut file = vec![in row.alloc; 0u8; head.start as usize]?;

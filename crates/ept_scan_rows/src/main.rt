@@ -45,7 +45,7 @@ fn main(rt: HostRuntime) -> io::Result<()> {
     Ok(())
 }
 
-// Copies a comment, an empty line and a line that gives a name, and answers each other one.
+// Copies a comment, an empty line and a line that gives a name, and answers each other line.
 fn answer_line(row: Row<'_>, out: &mut String) -> Answered {
     let line = row.rest;
     let (call, rest) = line.split_once(' ').unwrap_or((line, ""));

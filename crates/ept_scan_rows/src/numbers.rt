@@ -11,7 +11,7 @@ pub(crate) fn whole(word: &str) -> Result<usize, Stop> {
     Ok(word.parse()?)
 }
 
-/// A number of so many points, calls or other things.
+/// A number of points or calls.
 pub(crate) fn count(word: &str) -> Result<u64, Stop> {
     Ok(word.parse()?)
 }

@@ -25,7 +25,7 @@ use ept_save::{Saved, open};
 use ept_space::{Key, Rules};
 use std::alloc::Global;
 
-/// `phase-load MOST CACHE | FAILS | STORE`: how many nodes of at most so many are loaded, with so many of them in
+/// `phase-load MOST CACHE | FAILS | STORE`: how many nodes are loaded, if there may be MOST nodes and CACHE of them in
 /// memory at most, where the calls of these numbers of each spill file fail.
 pub(crate) fn load(row: Row<'_>, out: &mut String) -> Answered {
     let (most, cache) = row.part(0)?.split_once(' ').ok_or(Stop::BadLine)?;
@@ -73,8 +73,8 @@ fn rules_for(saved: &Saved) -> Rules
 }
 
 /// `phase-save CACHE | FAILS | STORE | LATER | FILES`: loads the octree of the current checkpoint of the store LATER, and
-/// makes it the next checkpoint of the store STORE, with so many nodes in memory at most, where the calls of these
-/// numbers of each spill file fail. It tells what comes of that, how many nodes are in memory then, and whether the
+/// makes it the next checkpoint of the store STORE, with CACHE nodes in memory at most, where the calls of these
+/// numbers of each spill file fail. It reports the result, how many nodes are in memory then, and whether the
 /// store has these files.
 pub(crate) fn save(row: Row<'_>, out: &mut String) -> Answered {
     let mut store = store_of(row, row.part(2)?)?;

@@ -37,7 +37,7 @@ const BELOW: Key = Key {
 /// `publish CACHE | FAILS | SPILL FAILS | EXTENT | ROOT | BELOW | BUILD FILE | FILES`: publishes an octree of the one
 /// input of a build file, whose points have this extent, with so many nodes in memory at most, where the calls of these
 /// numbers of the store fail, and those of each spill file. A node is `MASK BYTES`, with its tile; below the root is
-/// 1-0-0-0, or `-`. It tells what comes of that, and whether the store, which had the file `other` before, has these
+/// 1-0-0-0, or `-`. It reports the result, and whether the store, which had the file `other` before, has these
 /// files.
 pub(crate) fn publish_nodes(row: Row<'_>, out: &mut String) -> Answered {
     let mut store = failing_store_of(row, "other 'kept", row.part(1)?)?;
@@ -62,7 +62,6 @@ fn node_of(row: Row<'_>, words: &str) -> Result<Node, Stop> {
     Ok((mask.parse()?, points_of(row, words)?))
 }
 
-// A spill file that does not keep a node leaves the octree as it can, and is told when it is published.
 fn publish_kept(
     row: Row<'_>,
     store: &mut MemStore,

@@ -24,7 +24,7 @@ struct Wish {
 }
 
 /// `read CONFIG | FILES | NOW | FAILS | DRAWN ALLOWED SIZE SIZE`: the inputs are scanned as they are in FILES and read
-/// as they are NOW, behind so many records; of each source the calls of these numbers fail then. It tells what comes
+/// as they are NOW, after DRAWN records; of each source the calls of these numbers fail then. It reports what comes
 /// of two batches of these sizes, how many records were drawn in the end, and the points.
 pub(crate) fn read(row: Row<'_>, out: &mut String) -> Answered {
     read_and_show(row, Shown::Places, out)

@@ -3,7 +3,7 @@
 use crate::stop::Stop;
 use std::alloc::Global;
 
-/// What stands behind the first word of a line, and all lines, of which those with the first word `let` give names
+/// What follows the first word of a line, and all lines, of which those with the first word `let` give names
 /// to words.
 #[derive(Clone, Copy)]
 pub(crate) struct Row<'a> {

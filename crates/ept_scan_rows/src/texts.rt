@@ -13,7 +13,7 @@ use std::alloc::Global;
 /// What stands in a buffer before a text is appended.
 const FRONT: &[u8] = b"> ";
 
-/// `metadata POINTS EXTENT | CONFIG`: the metadata of an output of so many points, with the extent `-` where there is
+/// `metadata POINTS EXTENT | CONFIG`: the metadata of an output of POINTS points, with the extent `-` if there is
 /// none.
 pub(crate) fn metadata(row: Row<'_>, out: &mut String) -> Answered {
     let (points, extent) = row.part(0)?.split_once(' ').ok_or(Stop::BadLine)?;
