@@ -94,7 +94,12 @@ fn the_second_call_of_an_opened_source_fails(rt: HostRuntime) -> Result<(), Fail
 #[test]
 fn a_shelf_tells_which_paths_it_was_asked_for(rt: HostRuntime) -> Result<(), Fail> {
     let alloc = rt.alloc();
-    let mut shelf = MemShelf::new(alloc, named(alloc, &[("a", b"one")])?, vec![in alloc; 1]?, Vec::new(alloc));
+    let mut shelf = MemShelf::new(
+        alloc,
+        named(alloc, &[("a", b"one")])?,
+        vec![in alloc; 1]?,
+        Vec::new(alloc),
+    );
     for path in ["b", "a", "a"] {
         if let Ok(source) = shelf.open(path) {
             shelf.retire(source);

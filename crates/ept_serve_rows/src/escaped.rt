@@ -82,7 +82,9 @@ fn count(byte: u8, times: u32) -> Result<Place, RowError> {
     match byte {
         b'}' => Ok(Place::Before(times)),
         b'0'..=b'9' => Ok(Place::Count(
-            times.saturating_mul(10).saturating_add(u32::from(byte - b'0')),
+            times
+                .saturating_mul(10)
+                .saturating_add(u32::from(byte - b'0')),
         )),
         _ => Err(RowError::Form),
     }

@@ -32,12 +32,7 @@ fn push_file(answer: &mut String, name: &str) -> Result<(), AllocError> {
     write!(answer, "file {name}")
 }
 
-fn push_query(
-    answer: &mut String,
-    area: &Box3,
-    first: u8,
-    last: u8,
-) -> Result<(), AllocError> {
+fn push_query(answer: &mut String, area: &Box3, first: u8, last: u8) -> Result<(), AllocError> {
     answer.push_str("query ")?;
     push_box(answer, area)?;
     write!(answer, " {first},{last}")

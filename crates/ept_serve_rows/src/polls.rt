@@ -61,12 +61,7 @@ fn poll_to_end<R: Wait + RandomSource + AllocGlobal>(
 }
 
 // The link of a row. The text lists the calls that fail, and then has the bytes.
-fn link_of(
-    alloc: Global,
-    size: &str,
-    pending: &str,
-    text: &str,
-) -> Result<MemPollLink, RowError>
+fn link_of(alloc: Global, size: &str, pending: &str, text: &str) -> Result<MemPollLink, RowError>
     ensures { IfOk result (λ link. IsUnused (link_wire link)) }
 {
     let (fails, bytes) = cut(text)?;
@@ -98,7 +93,12 @@ pub(crate) fn polls<R: RandomSource + AllocGlobal>(
     let (units, text) = cut(text)?;
     let units = small(units)?;
     let pieces = pieces_of(rt.alloc(), "100000", text)?;
-    let link = MemPollLink::new(rt.alloc(), pieces, Vec::new(rt.alloc()), Vec::new(rt.alloc()));
+    let link = MemPollLink::new(
+        rt.alloc(),
+        pieces,
+        Vec::new(rt.alloc()),
+        Vec::new(rt.alloc()),
+    );
     let mut conn = PollConn::new(rt.alloc(), link, folder.store("-")?, units.max(1));
     count_polls(rt, &mut conn, answer)
 }

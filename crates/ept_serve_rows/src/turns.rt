@@ -10,11 +10,7 @@ use std::alloc::Global;
 const MOST: u32 = 100;
 
 /// The bytes of a client in pieces of at most `size` bytes, which end at each `|` of the text too.
-pub(crate) fn pieces_of(
-    alloc: Global,
-    size: &str,
-    text: &str,
-) -> Result<Vec<Vec<u8>>, RowError> {
+pub(crate) fn pieces_of(alloc: Global, size: &str, text: &str) -> Result<Vec<Vec<u8>>, RowError> {
     let size = number(size)?.max(1) as usize;
     let mut pieces = Vec::new(alloc);
     for part in text.split('|') {
