@@ -1,11 +1,12 @@
 //! A disk that tells which files were flushed, with a clock and a standard error that the tests set and see.
 
-use std::alloc::{Allocator, Global};
+use std::alloc::{AllocError, Allocator, Global};
 use std::cell::{Cell, RefCell};
 use std::fmt::{Display, Write as _};
 use std::fs::{File, Metadata, OpenFile, OpenOptions};
 use std::io::{self, ErrorKind, Read, Seek, SeekFrom, Write};
 use std::rt::Files;
+use std::sync::Arc;
 use std::time::{Clock, Duration};
 
 /// What was flushed of a disk, and what was said; how many flushes there are to one that fails, where it is
@@ -23,8 +24,8 @@ pub(crate) struct Seen {
 }
 
 impl Seen {
-    pub(crate) fn new(alloc: Global) -> Self {
-        Seen {
+    pub(crate) fn new(alloc: Global) -> Result<Arc<Self>, AllocError> {
+        let seen = Seen {
             flushed: RefCell::new(String::new(alloc)),
             said: RefCell::new(String::new(alloc)),
             to_fault: Cell::new(0),
@@ -32,7 +33,8 @@ impl Seen {
             is_one: Cell::new(false),
             now: Cell::new(0),
             step: Cell::new(0),
-        }
+        };
+        Ok(Arc::new(alloc, seen)?)
     }
 
     /// Whether this was flushed since it was asked for last.
@@ -88,21 +90,30 @@ fn append<D: Display>(text: &RefCell<String>, value: &D) -> io::Result<()> {
 }
 
 /// The machine's files, and what is seen of them, with a clock and a standard error of its own.
-#[derive(Clone, Copy, Drop)]
-pub(crate) struct Disk<'a> {
-    pub(crate) machine: &'a HostRuntime,
-    pub(crate) seen: &'a Seen,
+#[derive(Drop)]
+pub(crate) struct Disk {
+    machine: HostRuntime,
+    seen: Arc<Seen>,
+}
+
+impl Disk {
+    pub(crate) fn new(machine: &HostRuntime, seen: &Arc<Seen>) -> Result<Self, AllocError> {
+        Ok(Disk {
+            machine: machine.clone()?,
+            seen: seen.clone()?,
+        })
+    }
 }
 
 /// A file of such a disk.
 #[derive(Drop)]
-pub(crate) struct DiskFile<'a> {
+pub(crate) struct DiskFile {
     file: File,
     path: String,
-    seen: &'a Seen,
+    seen: Arc<Seen>,
 }
 
-impl Clock for Disk<'_> {
+impl Clock for Disk {
     fn monotonic(&self) -> io::Result<Duration> {
         let now = self.seen.now.get().saturating_add(self.seen.step.get());
         self.seen.now.set(now);
@@ -114,7 +125,7 @@ impl Clock for Disk<'_> {
     }
 }
 
-impl Eprint for Disk<'_> {
+impl Eprint for Disk {
     fn eprint<D: Display + Drop>(&self, value: D) -> io::Result<()> {
         if self.seen.is_mute.get() {
             return Err(io::Error::from(ErrorKind::BrokenPipe));
@@ -128,18 +139,18 @@ impl Eprint for Disk<'_> {
     }
 }
 
-impl<'a> Files for Disk<'a> {
-    type File = DiskFile<'a>;
+impl Files for Disk {
+    type File = DiskFile;
 
     type Dir = <HostRuntime as Files>::Dir;
 
-    fn open_file(&self, how: &OpenOptions, path: &str) -> io::Result<DiskFile<'a>> {
+    fn open_file(&self, how: &OpenOptions, path: &str) -> io::Result<DiskFile> {
         let path = if self.seen.is_one.get() { "one" } else { path };
         let file = self.machine.open_file(how, path)?;
         Ok(DiskFile {
             file,
             path: String::from_str(self.machine.alloc(), path)?,
-            seen: self.seen,
+            seen: self.seen.clone()?,
         })
     }
 
@@ -180,7 +191,7 @@ impl<'a> Files for Disk<'a> {
     }
 }
 
-impl DiskFile<'_> {
+impl DiskFile {
     // Writes down that this file is flushed, unless it is to fail.
     fn count_flush(&self) -> io::Result<()> {
         let left = self.seen.to_fault.get();
@@ -193,7 +204,7 @@ impl DiskFile<'_> {
     }
 }
 
-impl OpenFile for DiskFile<'_> {
+impl OpenFile for DiskFile {
     fn metadata(&self) -> io::Result<Metadata> {
         self.file.metadata()
     }
@@ -213,13 +224,13 @@ impl OpenFile for DiskFile<'_> {
     }
 }
 
-impl Read for DiskFile<'_> {
+impl Read for DiskFile {
     fn read(&mut self, buf: &mut [u8]) -> io::Result<usize> {
         self.file.read(buf)
     }
 }
 
-impl Write for DiskFile<'_> {
+impl Write for DiskFile {
     fn write(&mut self, buf: &[u8]) -> io::Result<usize> {
         self.file.write(buf)
     }
@@ -229,7 +240,7 @@ impl Write for DiskFile<'_> {
     }
 }
 
-impl Seek for DiskFile<'_> {
+impl Seek for DiskFile {
     fn seek(&mut self, to: SeekFrom) -> io::Result<u64> {
         self.file.seek(to)
     }

@@ -10,22 +10,18 @@ use std::fs;
 use std::io::{self, ErrorKind, Read, Write};
 use std::process::Abort;
 use std::rt::Files;
+use std::sync::Arc;
 use std::test::Fail;
 
 // The machine's files, as a build into this folder sees them.
-fn files_of<'a>(
-    rt: &'a HostRuntime,
-    seen: &'a Seen,
+fn files_of(
+    machine: &HostRuntime,
+    seen: &Arc<Seen>,
     folder: &str,
     telling: Telling,
-) -> Result<SeenFiles<Disk<'a>>, AllocError> {
-    SeenFiles::new(
-        rt.alloc(),
-        Disk { machine: rt, seen },
-        "test",
-        folder,
-        telling,
-    )
+) -> Result<SeenFiles<Disk>, AllocError> {
+    let disk = Disk::new(machine, seen)?;
+    SeenFiles::new(machine.alloc(), disk, "test", folder, telling)
 }
 
 // What is told of a file of each role when it is read, and then when it is put. The reading of the done gate begins
@@ -80,7 +76,7 @@ fn expect_role(
     path: &str,
     [of_read, of_put]: [&str; 2],
 ) -> Result<(), Fail> {
-    let seen = Seen::new(machine.alloc());
+    let seen = Seen::new(machine.alloc())?;
     seen.step.set(10_000);
     seen.is_one.set(true);
     let files = files_of(machine, &seen, folder, Telling::Lines)?;
@@ -258,7 +254,7 @@ fn expect_build(
     telling: Telling,
     is_mute: bool,
 ) -> Result<(), AllocError> {
-    let seen = Seen::new(machine.alloc());
+    let seen = Seen::new(machine.alloc())?;
     seen.is_mute.set(is_mute);
     seen.step.set(10_000);
     let mut into = Vec::new(machine.alloc());
@@ -295,7 +291,7 @@ fn expect_told(
     want: &str,
 ) -> Result<(), Fail> {
     let mut into = vec![in machine.alloc(); 0u8; 1_000_000]?;
-    let seen = Seen::new(machine.alloc());
+    let seen = Seen::new(machine.alloc())?;
     let files = files_of(machine, &seen, "out", telling)?;
     assert!(rt; read_in_time(&seen, &files, &mut into).is_ok());
     write_line(&files, Pieces::new(machine.alloc(), 9))?;
@@ -321,7 +317,7 @@ fn read_in_time<R: Files>(seen: &Seen, files: &R, into: &mut [u8]) -> io::Result
 }
 
 // Writes the line that ends a build.
-fn write_line(files: &SeenFiles<Disk<'_>>, out: Pieces) -> Result<(), Fail> {
+fn write_line(files: &SeenFiles<Disk>, out: Pieces) -> Result<(), Fail> {
     let mut sink = RealSink::new(files.ending(out)?);
     sink.write(b"points")?;
     sink.write(b"\n")?;

@@ -3,13 +3,14 @@
 use crate::folder::{enter, gives, pattern};
 use ept_base::{Failed, GetError, Shelf, Source, read_full};
 use ept_real::{RealShelf, RealSource};
+use std::alloc::{AllocError, Global};
 use std::fs;
 use std::process::Abort;
 use std::rt::Files;
 use std::test::Fail;
 
-// A source at its start gives these bytes by reads into the front of this buffer that is so long, is at its end then,
-// and is rewound; and it fills a buffer.
+// A source at its start gives these bytes by reads into this buffer, is at its end then, and is rewound; and it
+// fills the buffer `front`.
 fn expect_all<R: Files>(
     rt: &impl Abort,
     source: &mut RealSource<'_, R>,
@@ -25,17 +26,30 @@ fn expect_all<R: Files>(
     assert!(rt; source.rewind() == Ok(()));
 }
 
+// As `expect_all`, by reads of `size` bytes.
+fn expect_by<R: Files>(
+    rt: &impl Abort,
+    alloc: Global,
+    source: &mut RealSource<'_, R>,
+    bytes: &[u8],
+    front: &mut [u8],
+    size: usize,
+) -> Result<(), AllocError> {
+    let mut into = vec![in alloc; 0u8; size]?;
+    expect_all(rt, source, bytes, &mut into, front);
+    Ok(())
+}
+
 #[test]
 fn a_source_gives_its_file(rt: HostRuntime) -> Result<(), Fail> {
     enter(&rt, "source")?;
     let long = pattern(rt.alloc(), 200_003)?;
     fs::write(&rt, "long", long.as_slice())?;
-    let mut into = vec![in rt.alloc(); 0u8; 150_001]?;
     let mut front = vec![in rt.alloc(); 0u8; 70_001]?;
     let mut shelf = RealShelf::new(rt.alloc(), &rt);
     let mut source = shelf.open("long")?;
     for size in [333, 65_535, 65_536, 150_001] {
-        expect_all(&rt, &mut source, &long, &mut into[..size], &mut front);
+        expect_by(&rt, rt.alloc(), &mut source, &long, &mut front, size)?;
     }
     assert!(rt; (source.faults(), source.given()) == (0, 1_080_016));
     shelf.retire(source);

@@ -90,7 +90,7 @@ fn take_here(
 ) -> Result<(), AllocError> {
     let alloc = machine.alloc();
     let mut into = Vec::from_slice(alloc, b"before")?;
-    let seen = Seen::new(alloc);
+    let seen = Seen::new(alloc)?;
     let mut store = RealStore::new(alloc, machine, folder);
     take(rt, &seen, &mut store, &mut into, steps);
     Ok(())
@@ -108,12 +108,9 @@ fn take_on_disk(
 ) -> Result<(), AllocError> {
     let alloc = machine.alloc();
     let mut into = Vec::from_slice(alloc, b"before")?;
-    let seen = Seen::new(alloc);
+    let seen = Seen::new(alloc)?;
     seen.to_fault.set(to_fault);
-    let disk = Disk {
-        machine,
-        seen: &seen,
-    };
+    let disk = Disk::new(machine, &seen)?;
     let mut store = RealStore::new(alloc, &disk, folder);
     take(rt, &seen, &mut store, &mut into, steps);
     assert!(rt; seen.was_flushed(want));
@@ -274,7 +271,7 @@ static WENT: [Step; 4] = [
 fn a_file_that_went_can_not_be_flushed(rt: HostRuntime) -> Result<(), Fail> {
     enter(&rt, "went")?;
     let mut into = Vec::new(rt.alloc());
-    let seen = Seen::new(rt.alloc());
+    let seen = Seen::new(rt.alloc())?;
     let mut store = RealStore::new(rt.alloc(), &rt, "out");
     take_one(&rt, &seen, &mut store, &mut into, &Step::Put("a/one", b"x"));
     fs::remove_dir_all(&rt, "out/a")?;
