@@ -214,7 +214,7 @@ module _ (status : ℕ) (said_old said_new : Option (List ℕ)) (failed : Type 0
         ⊎ ((cut : IsCut words files Begins status new failed said_old said_new) × IsUnwritten failure cut.ends.line)
     is_refused (Ok line) failure carries (inl ok) not_ok = absurd (not_ok ok.0)
     is_refused (Ok line) failure carries (inr device) not_ok =
-        inr (record { status_is = device.0; risen = device.2; ends = record { line = line.items; is_answer = carries.is_answer; done = carries.done; said = device.3 } }, line, device.1, refl)
+        inr (record { status_is = device.0; risen = device.2; ends = record { line = line.items; is_answer = carries.is_answer; done = carries.done; said = device.3 } }, (line, device.1, refl))
     is_refused (Err r) failure carries reports not_ok = inl (
       record {
         cause = reports.0.told;
@@ -240,6 +240,13 @@ module _ (status : ℕ) (said_old said_new : Option (List ℕ)) (failed : Type 0
       → Tells (λ all. (header : Header) → Fact all header → IsOk answer ⊎ Fails answer) files → Tells (λ all. (header : Header) → Fact all header → Yields 0 status) files
   info_yields answer None Fact ends accepted = tt
   info_yields answer (Some all) Fact ends accepted = λ header fact. accepted_yields answer (accepted header fact) ends
+
+-- ---- how it ends, whatever its failure is
+
+pub first_parts : {A : Type 0} {B : A → Type 0} {C : Type 0} {D : C → Type 0} {E : Type 0} → ((a : A) × B a) ⊎ ((c : C) × D c) ⊎ E → A ⊎ C ⊎ E
+first_parts (inl both) = inl both.0
+first_parts (inr (inl both)) = inr (inl both.0)
+first_parts (inr (inr last)) = inr (inr last)
 
 -- ---- words that are no command ask nothing of the files
 

@@ -58,10 +58,10 @@ fn tell<O: Sink>(alloc: Global, out: &mut O, refusal: Refusal) -> Ended
     ensures { IsReported refusal result.status result.failure (O.written out.old) (O.written out.new)
         (Rose (O.faults out.old) (O.faults out.new)) }
 {
-    match refusal_line(alloc, refusal) {
+    match refusal_line(alloc, &refusal) {
         Ok(line) => {
             write_line(out, &line);
-            Ended::refused(refusal)
+            Ended::refused(&refusal)
         }
         Err(_) => refuse_memory(out),
     }
@@ -76,7 +76,7 @@ pub(crate) fn refuse_usage<O: Sink>(out: &mut O) -> Ended
         (Rose (O.faults out.old) (O.faults out.new)) }
 {
     write_line(out, USAGE_LINE);
-    Ended::refused(Refusal::Usage)
+    Ended::refused(&Refusal::Usage)
 }
 
 // Writes the line of out of memory. It takes no memory.
@@ -88,7 +88,7 @@ fn refuse_memory<O: Sink>(out: &mut O) -> Ended
         (Rose (O.faults out.old) (O.faults out.new)) }
 {
     write_line(out, MEMORY_LINE);
-    Ended::refused(Refusal::Memory)
+    Ended::refused(&Refusal::Memory)
 }
 
 // Writes a line, as far as the sink takes it.

@@ -41,13 +41,13 @@ impl Ended {
     }
 
     /// A run that is refused.
-    pub(crate) fn refused(refusal: Refusal) -> Self
-        ensures status { result.status ≡ status_of refusal }
-        ensures failure { result.failure ≡ Some (Refused refusal) }
+    pub(crate) fn refused(refusal: &Refusal) -> Self
+        ensures status { result.status ≡ status_of refusal.now }
+        ensures failure { result.failure ≡ Some (Refused refusal.now) }
     {
         Ended {
             status: refusal.status(),
-            failure: Some(Failure::Refused(refusal)),
+            failure: Some(Failure::Refused(*refusal)),
         }
     }
 }

@@ -84,11 +84,11 @@ pub(crate) fn outcome_line(alloc: Global, trial: Trial) -> Result<Vec<u8>, Alloc
 }
 
 /// The line of a refusal: its status, its cause, and what this names.
-pub(crate) fn refusal_line(alloc: Global, refusal: Refusal) -> Result<Vec<u8>, AllocError>
-    ensures { IfOk result (λ line. line.items ≡ line_of refusal) }
+pub(crate) fn refusal_line(alloc: Global, refusal: &Refusal) -> Result<Vec<u8>, AllocError>
+    ensures { IfOk result (λ line. line.items ≡ line_of refusal.now) }
 {
     let mut line = Vec::new(alloc);
-    append_refusal(&mut line, refusal)?;
+    append_refusal(&mut line, *refusal)?;
     line.extend_from_slice(b"\n")?;
     Ok(line)
 }

@@ -37,15 +37,15 @@ fn ended_by(answer: Result<u64, QueryError>) -> Ended
     match answer {
         Ok(_) => Ended::done(),
         Err(error) => Ended {
-            status: status_of(error),
+            status: status_of(&error),
             failure: Some(Failure::QueryRefused(error)),
         },
     }
 }
 
 // The status of a query that is refused.
-fn status_of(error: QueryError) -> u8
-    ensures { result ≡ query_status (Err error) }
+fn status_of(error: &QueryError) -> u8
+    ensures { result ≡ query_status (Err error.now) }
 {
     match error {
         QueryError::NotComplete => NOT_COMPLETE,

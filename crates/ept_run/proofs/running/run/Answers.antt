@@ -1,0 +1,8 @@
+use Rattle.ept_run.proofs.Runs.{first_parts}
+use Rattle.ept_run.proofs.running.run.Goals as goal
+
+pub returns-clause-refused : goal.returns-clause-refused
+returns-clause-refused g c = λ not_ok. first_parts (c.carry_out.ensures.refused not_ok)
+
+pub returns-clause-query : goal.returns-clause-query
+returns-clause-query g c = λ folder area first last is. (c.carry_out.ensures.query folder area first last is).0
