@@ -1,6 +1,5 @@
 -- What is sent of the tiles of a query of a folder that is complete for some points.
-use Rattle.std.proofs.Common.{◌≡◌, ◌∙◌, ◌≤◌, ℕ, List, [], ◌∷◌, ◌++◌, map, Some, refl, sym, ap, inl, inr, ⊎_elim}
-use Rattle.std.specs.Prelude.{Contains}
+use Rattle.std.proofs.Common.{◌≡◌, ◌∙◌, ◌≤◌, ℕ, List, [], ◌∷◌, ◌++◌, Some, refl, sym, ap, inl, inr}
 use Rattle.std.specs.List.{AllZip, flat_map}
 use Rattle.std.proofs.lemmas.List.Concat.{flat_map-append}
 use Rattle.ept_base.specs.Files.{Files}
@@ -14,13 +13,13 @@ use Rattle.ept_hier.specs.Hierarchy.{Node}
 use Rattle.ept_http.specs.QueryWords.{IsOrdered}
 use Rattle.ept_save.specs.Complete.{IsComplete}
 use Rattle.ept_query.specs.Parts.{Plan, IsPart, points_in, points_of}
-use Rattle.ept_query.specs.Rows.{Row, asked_rows, answer}
+use Rattle.ept_query.specs.Rows.{answer}
 use Rattle.ept_query.specs.CompleteLaws.{PlansAnswer}
 use Rattle.ept_conn.specs.Answers.{Served}
 use Rattle.ept_conn.specs.Served.{HasPart, IsOpenTo, IsServed}
 
 -- the parts of some nodes, and what is sent of them
-AreSent : Files → Box3 → (Node → List ℕ) → List Node → Type 0
+abbrev AreSent : Files → Box3 → (Node → List ℕ) → List Node → Type 0
 AreSent files area part nodes =
     (parts : List (List Point)) × AllZip (IsPart files area) nodes parts × (flat_map part nodes ≡ tile (points_of parts))
 
