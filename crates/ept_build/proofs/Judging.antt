@@ -1,6 +1,7 @@
 -- What the inputs of a configuration have is found in one way; and what an answer says of each cause.
 use Rattle.std.proofs.Common.{◌≡◌, ◌≢◌, ◌∙◌, ◌⊎◌, inl, inr, ℕ, ◌<◌, ◌≤◌, List, [], ◌∷◌, length, refl, sym, ap, subst, arith, Option, Some, None}
-use Rattle.std.specs.Prelude.{ℤ, Any, Result, Ok, Err, IsOk, IfOk, IfErr}
+use Rattle.std.specs.Prelude.{ℤ, Any, Vec, Result, Ok, Err, IsOk, IfOk, IfErr}
+use Rattle.std.specs.declared.alloc.Global.{Global}
 use Rattle.std.proofs.lemmas.Int.{ints}
 use Rattle.ept_base.specs.Files.{Files, Tells}
 use Rattle.ept_base.specs.declared.errors.PutError.{PutError}
@@ -21,6 +22,7 @@ use Rattle.ept_scan.specs.declared.scan_error.ScanError.TheVariants as scan
 use Rattle.ept_scan.specs.Scans.{AreBounds}
 use Rattle.ept_scan.proofs.OneScan.{scan_once}
 use Rattle.ept_meta.specs.Output.{rules_of}
+use Rattle.ept_meta.specs.declared.fields.Field.{Field}
 use Rattle.ept_ckpt.specs.declared.letter.Letter.{Letter}
 use Rattle.ept_save.specs.Current.{Current, HasCurrent}
 use Rattle.ept_save.specs.declared.error.SaveError.{SaveError}
@@ -221,6 +223,10 @@ plan-is-ok p e (inr (inr is)) = cc
 pub put-not-bad : (e : PutError) (letter : Letter) → of_put e ≡ BadCheckpoint letter → ⊥
 put-not-bad put.Failed letter is = cc
 put-not-bad put.Memory letter is = cc
+
+pub put-no-difference : (e : PutError) (field : Field) (kept given : Vec ℕ Global) → of_put e ≡ Differs field kept given → ⊥
+put-no-difference put.Failed field kept given is = cc
+put-no-difference put.Memory field kept given is = cc
 
 -- what is left of the build has too many nodes, or fails
 pub built-many : (r : Result Summary BuildError) (all : Files) (config : Config) (current : Current) (start : Files) (files : Option Files) (now : Files) → files ≡ Some now → IfErr r IsPhaseFault → IfErr r (IsRefusedAt all config current) → IfOk r (λ s. s.nodes ≤ config.max_nodes) → IfOk r (λ s. Tells (IsBuilt all config start s) files) → ((other : Current) → HasCurrent other start → other ≡ current) → (kept : Kept) (points : List Point) → HasPoints all config current kept points → config.max_nodes < node_count kept points → (r ≡ Err TooManyNodes) ⊎ Fails r

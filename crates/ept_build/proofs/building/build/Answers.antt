@@ -26,7 +26,7 @@ use Rattle.ept_build.specs.Errors.{of_plan, of_save, of_put}
 use Rattle.ept_build.specs.Building.{Starts, HasPoints, IsBuilt, IsUnderWay, AsksInOrder, IsRefusedAt, IsRefused, IsEarly}
 use Rattle.ept_build.proofs.Causes.{tells-some}
 use Rattle.ept_plan.specs.declared.error.PlanError.TheVariants as plan
-use Rattle.ept_build.proofs.Judging.{plan-refused, plan-accepted, plan-only, plan-differs, plan-is-ok, built-many, put-not-bad, put-no-spill, phase-not-early, opened-not-bad, err-one, stores-fails, room-fails, built-accepted, store-refused, room-refused, room-not-many, put-store, put-no-source, put-failed, save-not-many, plan-not-many, store-not-many, put-not-many}
+use Rattle.ept_build.proofs.Judging.{plan-refused, plan-accepted, plan-only, plan-differs, plan-is-ok, built-many, put-not-bad, put-no-difference, put-no-spill, phase-not-early, opened-not-bad, err-one, stores-fails, room-fails, built-accepted, store-refused, room-refused, room-not-many, put-store, put-no-source, put-failed, save-not-many, plan-not-many, store-not-many, put-not-many}
 use Rattle.ept_build.proofs.Damage.{damaged-same, nothing-left, opening-fails, saved-damaged, plan-no-tile, put-no-tile, store-no-tile, room-no-tile}
 use Rattle.ept_build.proofs.Asking.{opens-front, asked-none, asked-scan, asked-read}
 use Rattle.ept_build.proofs.Ground.{has-counts}
@@ -70,7 +70,7 @@ returns-in_err-plan-clause-done_comes g c = λ all start begins done.
     let is : c.from_residual-in_err-plan.result ≡ Err (of_plan e) = search rules in
     let scan = done-scan c.sound_law.ensures.one c.sound_law.ensures.published all start c.args.config.now c.in_ok-saved.saved.current cur begins.sound done in
     let comes = tells-some _ (g.H.Shelf.files c.args.shelf.now) all begins.shelf_told c.in_err-plan.ensures.accepted in
-    plan-accepted c.from_residual-in_err-plan.result e is (comes scan.1 scan.2 scan.0 scan.3)
+    plan-accepted c.from_residual-in_err-plan.result e is (comes scan.1.0 scan.1.1 scan.0 scan.1.2)
 
 pub returns-in_err-is_finished-clause-sound : goal.returns-in_err-is_finished-clause-sound
 returns-in_err-is_finished-clause-sound g c = λ all start begins.
@@ -260,6 +260,12 @@ returns-in_err-sync-clause-bad g c = λ letter told.
     let p = err_from_is_err_and c.from_residual-in_err-sync.result c.from_residual-in_err-sync.ensures.1 in
     let is : c.from_residual-in_err-sync.result ≡ Err (of_put c.in_err-sync.field-0.0) = p.1 ∙ ap (λ (w : BuildError). Err w) p.2 in
     absurd (put-not-bad c.in_err-sync.field-0.0 letter (err-one (sym is ∙ told)))
+
+pub returns-in_err-sync-clause-differs : goal.returns-in_err-sync-clause-differs
+returns-in_err-sync-clause-differs g c = λ field kept given told.
+    let p = err_from_is_err_and c.from_residual-in_err-sync.result c.from_residual-in_err-sync.ensures.1 in
+    let is : c.from_residual-in_err-sync.result ≡ Err (of_put c.in_err-sync.field-0.0) = p.1 ∙ ap (λ (w : BuildError). Err w) p.2 in
+    absurd (put-no-difference c.in_err-sync.field-0.0 field kept given (err-one (sym is ∙ told)))
 
 pub returns-then-branch-clause-refusal_comes : goal.returns-then-branch-clause-refusal_comes
 returns-then-branch-clause-refusal_comes g c = λ all start begins current e has definite refused.
