@@ -1,6 +1,6 @@
 """A second implementation of connections: what `ept_server` sends for the bytes that came, over any folder.
 
-It follows docs/FORMATS.md ("Requests and answers"). What is the head of a request is the grammar of RFC 9112 as the
+It follows docs/FORMATS.md ("Requests and responses"). What is the head of a request is the grammar of RFC 9112 as the
 crate `httparse` takes it at its defaults: empty lines before the first, lines that end in CR LF or in LF alone, a target
 of visible bytes and bytes past ASCII that is UTF-8 as a whole, and no space before the colon of a field.
 """
