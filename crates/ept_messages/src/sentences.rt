@@ -91,7 +91,7 @@ pub(crate) fn write_refusal(
         ),
         Refusal::SpillDamaged => write!(
             text,
-            "a spill file of {out} gave back other bytes than were kept: {SPILL_ADVICE}"
+            "a spill file of {out} returned other bytes than were written: {SPILL_ADVICE}"
         ),
         Refusal::Memory => text.push_str(OUT_OF_MEMORY),
     }
