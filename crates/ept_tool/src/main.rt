@@ -74,69 +74,71 @@ fn telling_of(disk: &HostRuntime, words: &[String]) -> Telling {
 }
 
 // Runs the words over these files, and says on standard error why they failed, if they did.
-fn run_over<R: Threads + Wait + Sync>(
+fn run_over<'a, R: Threads + Wait + Sync>(
     rt: &R,
-    disk: &HostRuntime,
-    words: &[String],
-    files: &SeenFiles<HostRuntime>,
+    disk: &'a HostRuntime,
+    words: &'a [String],
+    files: &'a SeenFiles<HostRuntime>,
 ) -> ExitCode {
     let Ok(ending) = files.ending(writer(disk)) else {
         return refuse_words(disk, words, Refusal::Memory);
     };
     let mut out = RealSink::new(ending);
     let mut shelf = RealShelf::new(disk.alloc(), files);
-    let ended = start(rt, disk, files, words, &mut shelf, &mut out);
+    let ended = start(rt, disk, words, files, &mut shelf, &mut out);
     files.end();
     report(disk, words, &ended, shelf.refused());
     ExitCode::from(ended.status)
 }
 
-// Runs the words over these files, and over the folder that they name. A command that names none has a store
-// in memory.
-fn start<'a, O: Sink, R: Threads + Wait + Sync>(
+// Runs the words over the folder that they name. Words that name none have a store in memory.
+fn start<'a, H: Shelf, O: Sink, R: Threads + Wait + Sync>(
     rt: &R,
     disk: &'a HostRuntime,
-    files: &'a SeenFiles<HostRuntime>,
     words: &'a [String],
-    shelf: &mut RealShelf<'a, SeenFiles<HostRuntime>>,
+    files: &'a SeenFiles<HostRuntime>,
+    shelf: &mut H,
     out: &mut O,
-) -> Ended {
+) -> Ended
+where
+    H::Source: Send,
+{
     let alloc = disk.alloc();
-    match command_of(words) {
-        Command::Build { out: folder, .. } => {
-            start_build(rt, disk, files, words, folder, shelf, out)
-        }
-        Command::Query { out: folder, .. } => {
-            let mut store = RealStore::new(alloc, files, folder);
-            start_in_memory(rt, alloc, words, shelf, &mut store, out)
-        }
-        _ => {
-            let mut store = MemStore::new(alloc, Vec::new(alloc), Vec::new(alloc));
-            start_in_memory(rt, alloc, words, shelf, &mut store, out)
-        }
+    let folder = folder_of(words);
+    if folder.is_empty() {
+        let mut store = MemStore::new(alloc, Vec::new(alloc), Vec::new(alloc));
+        return start_in(rt, disk, words, shelf, &mut store, out);
     }
+    let mut store = RealStore::new(alloc, files, folder);
+    start_in(rt, disk, words, shelf, &mut store, out)
 }
 
-// Runs the words of a build into this folder. Its spill files lie in a folder of that one, and count as no progress.
-fn start_build<'a, O: Sink, R: Threads + Wait + Sync>(
+// Runs the words over this store. The spill files of a build lie in a folder of its folder, and count as no progress;
+// other words make none.
+fn start_in<H: Shelf, T: Store, O: Sink, R: Threads + Wait + Sync>(
     rt: &R,
-    disk: &'a HostRuntime,
-    files: &'a SeenFiles<HostRuntime>,
+    disk: &HostRuntime,
     words: &[String],
-    folder: &'a str,
-    shelf: &mut RealShelf<'a, SeenFiles<HostRuntime>>,
+    shelf: &mut H,
+    store: &mut T,
     out: &mut O,
-) -> Ended {
+) -> Ended
+where
+    H::Source: Send,
+{
     let alloc = disk.alloc();
-    let mut store = RealStore::new(alloc, files, folder);
+    let Command::Build { out: folder, .. } = command_of(words) else {
+        let mut room = MemRoom::new(alloc, Vec::new(alloc), Vec::new(alloc));
+        return run_with(rt, alloc, words, shelf, store, &mut room, out);
+    };
     match format!(in alloc; "{folder}/ept-spill") {
-        Ok(spill) => start_spilling(rt, disk, words, spill.as_str(), shelf, &mut store, out),
+        Ok(spill) => start_build(rt, disk, words, spill.as_str(), shelf, store, out),
         Err(_) => refuse(alloc, out, Refusal::Memory),
     }
 }
 
 // Runs the words of a build over this store, with its spill files in this folder.
-fn start_spilling<H: Shelf, T: Store, O: Sink, R: Threads + Wait + Sync>(
+fn start_build<H: Shelf, T: Store, O: Sink, R: Threads + Wait + Sync>(
     rt: &R,
     disk: &HostRuntime,
     words: &[String],
@@ -156,22 +158,6 @@ where
         let _ = disk.remove_dir_all(alloc, spill);
     }
     ended
-}
-
-// Runs words that make no spill file over this store.
-fn start_in_memory<H: Shelf, T: Store, O: Sink, R: Threads + Wait + Sync>(
-    rt: &R,
-    alloc: Global,
-    words: &[String],
-    shelf: &mut H,
-    store: &mut T,
-    out: &mut O,
-) -> Ended
-where
-    H::Source: Send,
-{
-    let mut room = MemRoom::new(alloc, Vec::new(alloc), Vec::new(alloc));
-    run_with(rt, alloc, words, shelf, store, &mut room, out)
 }
 
 // Runs the words over these devices. Each command comes through this one call.
