@@ -23,7 +23,7 @@ const GREATEST_ROUND: u64 = 1 << 20;
 
 // How many points are merged into one flight: an arrival makes room for as many in each octant of the node and of what
 // leaves it.
-const MERGED: usize = 16 * BATCH;
+const MERGED: usize = 4 * BATCH;
 
 // Two flights that are not merged.
 struct Apart {
