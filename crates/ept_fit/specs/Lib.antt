@@ -1,0 +1,4 @@
+pub mod Fit
+pub mod Walk
+pub mod FitLaws
+pub mod WalkLaws
