@@ -9,8 +9,8 @@ pub fn fit_law()
     ensures fit { SampledIsFit }
 {}
 
-/// A walk comes to a node before it comes to those below it, and goes through all of these before it goes on. The ids of its
-/// points are distinct exactly if those of the nodes are.
+/// In a walk a node comes before all nodes below it, and these come together. The ids of its points are distinct exactly if
+/// those of the nodes are.
 pub fn walk_law()
     ensures above { AboveComesFirst }
     ensures together { SubtreesAreTogether }
