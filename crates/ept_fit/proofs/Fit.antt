@@ -1,5 +1,5 @@
 -- Nodes that are fit are the sampling of their points.
-use Rattle.std.proofs.Common.{◌≡◌, ◌∙◌, ℕ, zero, suc, ◌≤◌, ◌<◌, Bool, true, false, ◌⊎◌, inl, inr, List, [], ◌∷◌, ◌++◌, map, refl, sym, ap, subst, arith, length}
+use Rattle.std.proofs.Common.{◌≡◌, ◌∙◌, ℕ, ◌≤◌, ◌<◌, true, false, ◌⊎◌, inl, inr, List, [], refl, sym, subst, arith, length}
 use Rattle.std.specs.List.{All}
 use Rattle.std.specs.List.Sorted.{IsPermutation}
 use Rattle.std.proofs.lemmas.List.{append-nil}
@@ -14,7 +14,6 @@ use Rattle.ept_space.proofs.Within.{is_below-within}
 use Rattle.ept_space.proofs.PlaceKeys.{key_at-box, octant_at-below, InCube-box, is_within-child_at}
 use Rattle.ept_sample.specs.declared.tiles.Tile.{Tile}
 use Rattle.ept_sample.specs.Place.{place}
-use Rattle.ept_sample.specs.Ids.{HasDistinctIds}
 use Rattle.ept_sample.specs.Arrivals.{loses, losers, octant}
 use Rattle.ept_sample.specs.Nodes.{sampled}
 use Rattle.ept_sample.specs.SamplingLaws.{CanBeSampled}
@@ -25,7 +24,7 @@ use Rattle.ept_sample.proofs.KeyOrder.{key_before, IsRising-AllPairs}
 use Rattle.ept_sample.proofs.SamplingLaws.{depth-side}
 use Rattle.ept_sample.proofs.Choices.{not_both}
 use Rattle.ept_core.specs.declared.node.Node.{Node}
-use Rattle.ept_core.specs.State.{State, Entry, blank, node_at, has_node, has_open, keys_of, held, IsHeld, tile_of}
+use Rattle.ept_core.specs.State.{State, Entry, blank, node_at, has_open, keys_of, held, IsHeld}
 use Rattle.ept_core.specs.Law.{HoldsMore, HasPoint, KeepsLaw}
 use Rattle.ept_core.proofs.NodeMap.{key-has_node}
 use Rattle.ept_core.proofs.CoreLaws.{landed-sampled}
@@ -121,17 +120,17 @@ module _ (rules : Rules) (nodes : List Tile) (fit : AreFit rules nodes) where
   no_open_loser : (key : VoxelKey) (p : Point) → IsMember p (node_at s.nodes key).points → loses rules key.depth (node_at s.nodes key).points p ≡ true → has_open (node_at s.nodes key) (octant rules key.depth p) ≡ false
   no_open_loser key p =
       at-each nodes rising (λ k n. IsMember p n.points → loses rules k.depth n.points p ≡ true → has_open n (octant rules k.depth p) ≡ false)
-        (λ node m q lost. standing-open keys node (octant rules node.key.depth p) (small node.key.depth p)
-          ∙ all-member (λ (r : Point). loses rules node.key.depth node.points r ≡ true → has_child keys node.key (octant rules node.key.depth r) ≡ false) p node.points (all-member (HasNoOpenLoser rules keys) node nodes fit.winners m) q lost)
-        (λ k q lost. absurd q)
-        key
+      (λ node m q lost. standing-open keys node (octant rules node.key.depth p) (small node.key.depth p)
+      ∙ all-member (λ (r : Point). loses rules node.key.depth node.points r ≡ true → has_child keys node.key (octant rules node.key.depth r) ≡ false) p node.points (all-member (HasNoOpenLoser rules keys) node nodes fit.winners m) q lost)
+      (λ k q lost. absurd q)
+      key
 
   child_there : (key : VoxelKey) (o : ℕ) → o < 8 → has_open (node_at s.nodes key) o ≡ true → is_among keys (child key o) ≡ true
   child_there key o low =
       at-each nodes rising (λ k n. has_open n o ≡ true → is_among keys (child k o) ≡ true)
-        (λ node m e. sym (standing-open keys node o low) ∙ e)
-        (λ k e. absurd (not_both (has_open blank o) e (blank-open o)))
-        key
+      (λ node m e. sym (standing-open keys node o low) ∙ e)
+      (λ k e. absurd (not_both (has_open blank o) e (blank-open o)))
+      key
 
   bottom : (key : VoxelKey) (o : ℕ) → o < 8 → has_open (node_at s.nodes key) o ≡ true → key.depth < rules.cube.depth
   bottom key o low e =
@@ -152,16 +151,16 @@ module _ (rules : Rules) (nodes : List Tile) (fit : AreFit rules nodes) where
   open_holds_more : (key : VoxelKey) (o : ℕ) → o < 8 → has_open (node_at s.nodes key) o ≡ true → HoldsMore rules s (child key o)
   open_holds_more key o low =
       at-each nodes rising (λ k n. has_open n o ≡ true → HoldsMore rules s (child k o))
-        (λ node m e. holds_more node m o low e)
-        (λ k e. absurd (not_both (has_open blank o) e (blank-open o)))
-        key
+      (λ node m e. holds_more node m o low e)
+      (λ k e. absurd (not_both (has_open blank o) e (blank-open o)))
+      key
 
   closed_has_few : (key : VoxelKey) (o : ℕ) → o < 8 → key.depth < rules.cube.depth → has_open (node_at s.nodes key) o ≡ false → length (losers rules key.depth (node_at s.nodes key).points o) ≤ rules.threshold
   closed_has_few key o low =
       at-each nodes rising (λ k n. k.depth < rules.cube.depth → has_open n o ≡ false → length (losers rules k.depth n.points o) ≤ rules.threshold)
-        (λ node m above e. all-member (HasFewLosers rules keys) node nodes fit.few_losers m above o low (sym (standing-open keys node o low) ∙ e))
-        (λ k above e. none-lose rules k.depth o)
-        key
+      (λ node m above e. all-member (HasFewLosers rules keys) node nodes fit.few_losers m above o low (sym (standing-open keys node o low) ∙ e))
+      (λ k above e. none-lose rules k.depth o)
+      key
 
   -- ---- the state keeps the law
 
@@ -179,10 +178,13 @@ module _ (rules : Rules) (nodes : List Tile) (fit : AreFit rules nodes) where
   pub fit-keeps : KeepsLaw rules (points_in nodes) (state_of nodes)
   fit-keeps = record {
     points_law = can-sample;
-    same_points = (points, record {
-      suffix = sym (append-nil points);
-      held_once = subst (λ (w : List Point). IsPermutation points w) (sym nothing_flies) (IsPermutation-refl points);
-    });
+    same_points = (
+      points,
+      record {
+        suffix = sym (append-nil points);
+        held_once = subst (λ (w : List Point). IsPermutation points w) (sym nothing_flies) (IsPermutation-refl points);
+      },
+    );
     placed = record { in_box = held_in_box; shallow = held_shallow };
     passed = record { through_open = through_open; lost_above = lost_above };
     settled = record { open_without_losers = no_open_loser; open_holds_more = open_holds_more; closed_has_few = closed_has_few };

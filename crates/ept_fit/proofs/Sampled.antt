@@ -1,12 +1,11 @@
 -- The nodes of a sampling are fit.
-use Rattle.std.proofs.Common.{◌≡◌, ◌∙◌, ℕ, zero, suc, ◌≤◌, ◌<◌, Bool, true, false, ◌⊎◌, inl, inr, List, [], ◌∷◌, ◌++◌, map, refl, sym, ap, subst, arith, length}
-use Rattle.std.specs.List.{All, flat_map}
-use Rattle.std.specs.List.Sorted.{IsPermutation}
+use Rattle.std.proofs.Common.{◌≡◌, ◌∙◌, ℕ, ◌≤◌, ◌<◌, Bool, true, false, ◌⊎◌, inl, inr, List, [], ◌∷◌, map, refl, sym, ap, subst, arith, length}
+use Rattle.std.specs.List.{All}
 use Rattle.std.proofs.lemmas.List.{append-nil}
 use Rattle.ept_point.specs.declared.point.Point.{Point}
 use Rattle.ept_point.specs.Order.{IsAscending}
 use Rattle.ept_space.specs.declared.cube.Rules.{Rules}
-use Rattle.ept_space.specs.VoxelKey.{VoxelKey, root, child, parent, is_within, is_below}
+use Rattle.ept_space.specs.VoxelKey.{VoxelKey, root, child, parent, is_below}
 use Rattle.ept_space.specs.OctreeCube.{InBox}
 use Rattle.ept_space.proofs.PlaceKeys.{octant_at-below}
 use Rattle.ept_sample.specs.declared.tiles.Tile.{Tile}
@@ -17,16 +16,16 @@ use Rattle.ept_sample.specs.Sampling.{sampling, is_node}
 use Rattle.ept_sample.specs.Nodes.{node_keys, tile_at, sampled}
 use Rattle.ept_sample.specs.SamplingLaws.{CanBeSampled}
 use Rattle.ept_sample.specs.Members.{IsMember}
-use Rattle.ept_sample.proofs.Members.{all-member, All-members, member-map, IsMember-map}
+use Rattle.ept_sample.proofs.Members.{All-members, member-map, IsMember-map}
 use Rattle.ept_sample.proofs.Ascending.{IsRising}
 use Rattle.ept_sample.proofs.KeyOrder.{key_before, AllPairs-IsRising}
 use Rattle.ept_sample.proofs.IdLaws.{HasDistinctIds-IsPermutation}
 use Rattle.ept_sample.proofs.SamplingLaws.{is_node-root, is_node-parent, node-depth, node-IsKey}
 use Rattle.ept_sample.proofs.NodeLaws.{IsMember-node_keys, node_keys-IsMember, IsRising-node_keys, IsPermutation-sampled}
 use Rattle.ept_sample.proofs.MorePoints.{length-among}
-use Rattle.ept_sample.proofs.Choices.{either, is_false, not_both}
+use Rattle.ept_sample.proofs.Choices.{is_false, not_both}
 use Rattle.ept_core.specs.declared.node.Node.{Node}
-use Rattle.ept_core.specs.State.{State, Entry, node_at, has_open, keys_of, IsHeld}
+use Rattle.ept_core.specs.State.{State, Entry, node_at, has_open, IsHeld}
 use Rattle.ept_core.specs.Law.{HasPoint, KeepsLaw}
 use Rattle.ept_core.specs.Steps.{resumed_node, resumed}
 use Rattle.ept_core.proofs.Resumed.{resumed-keeps}
