@@ -4,3 +4,4 @@ mod Fit
 mod Sampled
 pub mod Paths
 pub mod Walks
+mod Ordered

@@ -7,7 +7,7 @@ use Rattle.std.proofs.lemmas.List.{append-nil, take-append-le}
 use Rattle.std.proofs.lemmas.Bool.{false≢true}
 use Rattle.std.proofs.lemmas.Bool.Decides.{nat_tests}
 use Rattle.ept_space.specs.VoxelKey.{VoxelKey, IsKey, child, parent, octant_of, is_within, is_below}
-use Rattle.ept_space.proofs.Family.{depth-parent, child-parent, root-only, IsKey-parent}
+use Rattle.ept_space.proofs.Family.{depth-child, depth-parent, parent-child, octant_of-child, child-parent, root-only, IsKey-parent}
 use Rattle.ept_space.proofs.Within.{depth-within, is_within-self, is_within-level, is_below-from, is_below-within, is_below-deeper, is_within-above, is_below-parent}
 use Rattle.ept_sample.proofs.SamplingLaws.{below_or_at}
 use Rattle.ept_fit.specs.Walk.{last_steps, path}
@@ -132,6 +132,29 @@ below-less top key below =
     let deeper = is_below-deeper top key below in
     let longer : length (path top) < length (path top ++ r.0) = subst (λ (w : List ℕ). length (path top) < length w) r.1 (omega (arith, of_top, of_key, deeper)) in
     subst (λ (w : List ℕ). is_less (path top) w ≡ true) (sym r.1) (front_less (path top) r.0 longer)
+
+lesser_first : (a b : ℕ) (rest : Ordering) → a < b → is_lt (ordering_then (nat_cmp a b) rest) ≡ true
+lesser_first a b rest less = grind (arith, nat_tests)
+
+branch_less : (xs ys zs : List ℕ) (a b : ℕ) → a < b → is_less (xs ++ a ∷ ys) (xs ++ b ∷ zs) ≡ true
+branch_less [] ys zs a b less = lesser_first a b (slice_cmp nat_cmp ys zs) less
+branch_less (x ∷ xs) ys zs a b less =
+    same_first x (slice_cmp nat_cmp (xs ++ a ∷ ys) (xs ++ b ∷ zs)) (branch_less xs ys zs a b less)
+
+-- the path of a key within a child
+path-child : (key lower : VoxelKey) (o : ℕ) → o < 8 → is_within (child key o) lower ≡ true → (rest : List ℕ) × (path lower ≡ path key ++ o ∷ rest)
+path-child key lower o small w =
+    let r = path-within (child key o) lower w in
+    let deeper = depth-child key o in
+    let at : path (child key o) ≡ path key ++ (o ∷ []) = path-parent (child key o) (omega (arith, deeper)) ∙ (ap (λ (k : VoxelKey). path k ++ (octant_of (child key o) ∷ [])) (parent-child key o) ∙ ap (λ (n : ℕ). path key ++ (n ∷ [])) (octant_of-child key o small)) in
+    (r.0, r.1 ∙ (ap (λ (w : List ℕ). w ++ r.0) at ∙ append_assoc (path key) (o ∷ []) r.0))
+
+-- of keys in two octants, the one in the lesser has the lesser path
+pub octants-less : (key one other : VoxelKey) (a b : ℕ) → a < b → b < 8 → is_within (child key a) one ≡ true → is_within (child key b) other ≡ true → is_less (path one) (path other) ≡ true
+octants-less key one other a b less small v w =
+    let r = path-child key one a (omega (arith, less, small)) v in
+    let s = path-child key other b small w in
+    subst (λ (p : List ℕ). is_less p (path other) ≡ true) (sym r.1) (subst (λ (p : List ℕ). is_less (path key ++ a ∷ r.0) p ≡ true) (sym s.1) (branch_less (path key) r.0 s.0 a b less))
 
 level_first : (p q : ℕ) (a b : Ordering) → is_lt (ordering_then (nat_cmp q p) a) ≡ false → is_lt (ordering_then (nat_cmp p q) b) ≡ false → (p ≡ q) × (is_lt a ≡ false) × (is_lt b ≡ false)
 level_first p q a b e f = (grind (arith, nat_tests), grind (arith, nat_tests), grind (arith, nat_tests))
