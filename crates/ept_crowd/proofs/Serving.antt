@@ -1,12 +1,11 @@
 -- What holds of each connection of a crowd after any list of calls.
-use Rattle.std.proofs.Common.{◌≡◌, ◌∙◌, ◌<◌, ◌≤◌, ◌+◌, ℕ, List, [], ◌∷◌, ◌++◌, Option, Some, None, refl, sym, ap, subst, arith}
+use Rattle.std.proofs.Common.{◌≡◌, ◌∙◌, ◌<◌, ◌+◌, ℕ, List, [], ◌∷◌, ◌++◌, Option, Some, None, refl, sym, ap, subst, arith}
 use Rattle.std.specs.Prelude.{Result, Ok, Err}
 use Rattle.std.specs.List.{AllByRecursion}
 use Rattle.std.proofs.lemmas.List.{map-append}
 use Rattle.futures.specs.declared.task.Poll.{Poll}
 use Rattle.futures.specs.declared.task.Poll.TheVariants.{Ready, Pending}
 use Rattle.futures.specs.declared.task.context.Context.{Context}
-use Rattle.ept_base.specs.Causes.{Rose}
 use Rattle.ept_base.specs.declared.store.Store.{Ghosts as StoreOf}
 use Rattle.ept_conn.specs.declared.end.End.{End}
 use Rattle.ept_conn.specs.declared.end.Want.TheVariants as want
@@ -24,9 +23,9 @@ use Rattle.ept_crowd.specs.declared.member.Live.{Live}
 use Rattle.ept_crowd.specs.declared.member.Finished.{Finished}
 use Rattle.ept_crowd.specs.Members.{numbers, with_conn, ended_as}
 use Rattle.ept_crowd.specs.Shown.{Shown, nothing}
-use Rattle.ept_crowd.specs.Calls.{with_one, HasAdded, HasTaken}
-use Rattle.ept_crowd.specs.Turns.{Goes, IsTurn, HasTurned, HaveTurned, HasTurnedAll}
-use Rattle.ept_crowd.specs.Laws.{Call, Add, Turn, TurnAll, TakeEnded, HasDone, HaveDone, HasBeenServed, HasBeenServedTo, AreMade, AscendBelow}
+use Rattle.ept_crowd.specs.Calls.{HasAdded, HasTaken}
+use Rattle.ept_crowd.specs.Turns.{Goes, IsTurn, HasTurned, HaveTurned}
+use Rattle.ept_crowd.specs.Laws.{Call, Add, Turn, TurnAll, TakeEnded, HaveDone, HasBeenServed, HasBeenServedTo, AreMade, AscendBelow}
 
 -- ---- lists
 

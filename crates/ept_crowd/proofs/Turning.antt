@@ -17,7 +17,7 @@ use Rattle.ept_crowd.specs.declared.answers.Turned.TheVariants as turned
 use Rattle.ept_crowd.specs.declared.member.Live.{Live}
 use Rattle.ept_crowd.specs.Members.{numbers, with_conn, still}
 use Rattle.ept_crowd.specs.Shown.{Shown}
-use Rattle.ept_crowd.specs.Turns.{Goes, IsTurn, IsTurnOf, HasTurned, HaveTurned, pending_in, HasTurnedAll}
+use Rattle.ept_crowd.specs.Turns.{Goes, IsTurn, HasTurned, HaveTurned, pending_in, HasTurnedAll}
 
 module _ {L T : Type 0} (link : LinkOf L) (store : StoreOf T) where
   not-gone : (front : List (Live L T)) (member : Live L T) (back : List (Live L T)) (poll : Poll End) (old new : Shown L T) → ¬ Goes front member back poll old new turned.Gone

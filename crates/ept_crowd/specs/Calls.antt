@@ -1,10 +1,9 @@
 -- What adding a connection and taking one that has ended do.
-use Rattle.std.specs.Prelude.{◌≡◌, ℕ, ◌+◌, ◌-◌, ◌^◌, ◌<◌, List, [], ◌∷◌, ◌++◌, length, Option, Some, None, Result, Ok, Err}
+use Rattle.std.specs.Prelude.{◌≡◌, ℕ, ◌+◌, ◌-◌, ◌^◌, ◌<◌, [], ◌∷◌, ◌++◌, length, Option, Some, None, Result, Ok, Err}
 use Rattle.ept_conn.specs.declared.end.End.{End}
 use Rattle.ept_poll.specs.declared.conn.PollConn.{PollConn}
 use Rattle.ept_crowd.specs.declared.answers.AddError.{AddError}
 use Rattle.ept_crowd.specs.declared.answers.AddError.TheVariants.{Full, Spent, Memory}
-use Rattle.ept_crowd.specs.declared.member.Live.{Live}
 use Rattle.ept_crowd.specs.declared.member.Finished.{Finished}
 use Rattle.ept_crowd.specs.Shown.{Shown}
 

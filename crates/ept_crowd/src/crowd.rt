@@ -209,12 +209,7 @@ fn poll_at<L: PollLink + Drop, T: Store + Drop>(
 }
 
 // Moves the connection at this place behind those that have ended, with its end.
-fn end_at<L, T>(
-    live: &mut Vec<Live<L, T>>,
-    ended: &mut Vec<Finished<L, T>>,
-    place: usize,
-    end: End,
-)
+fn end_at<L, T>(live: &mut Vec<Live<L, T>>, ended: &mut Vec<Finished<L, T>>, place: usize, end: End)
     requires there { place < length live.old.items }
     requires room { length ended.old.items < vec_capacity ended.old }
     ensures left { live.new.items ≡ remove live.old.items place }

@@ -1,5 +1,4 @@
-use Rattle.std.proofs.Common.{ap, sym, subst, ◌∙◌, ◌∷◌, ◌++◌}
-use Rattle.ept_poll.specs.declared.conn.PollConn.{PollConn}
+use Rattle.std.proofs.Common.{ap, subst, ◌∙◌, ◌∷◌, ◌++◌}
 use Rattle.ept_poll.specs.Polls.{HasPolled}
 use Rattle.ept_crowd.specs.declared.member.Live.{Live}
 use Rattle.ept_crowd.specs.Members.{IsReady, with_conn}

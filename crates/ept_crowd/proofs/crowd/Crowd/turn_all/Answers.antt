@@ -1,6 +1,6 @@
-use Rattle.std.proofs.Common.{◌≡◌, ◌<◌, ◌≤◌, length, refl, rules, arith}
+use Rattle.std.proofs.Common.{◌<◌, ◌≤◌, length, rules, arith}
 use Rattle.ept_crowd.specs.Shown.{shown}
-use Rattle.ept_crowd.proofs.Turning.{HasGone, gone-none, gone-more, place-within, all-turned}
+use Rattle.ept_crowd.proofs.Turning.{gone-none, gone-more, place-within, all-turned}
 use Rattle.ept_crowd.proofs.crowd.Crowd.turn_all.Goals as goal
 
 pub loop-init : goal.loop-init
