@@ -50,7 +50,7 @@ fn two_connections_over_the_loopback_are_answered(rt: HostRuntime) -> Result<(),
     let address = listener.local_addr()?;
     let (served, (first, second)) = thread::join(
         &rt,
-        || serve_connections(&rt, &rt, &listener, "out/tests/served", Some(2)),
+        || serve_connections(&rt, &rt, listener, "out/tests/served", Some(2)),
         || {
             (
                 is_answered(&rt, address, FIRST, FIRST_ANSWER),
