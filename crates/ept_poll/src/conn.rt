@@ -65,7 +65,7 @@ impl<L: PollLink + Drop, T: Store + Drop> PollConn<L, T> {
 }
 
 impl<L: PollLink + Drop, T: Store + Drop> Future for PollConn<L, T> {
-    ghost use Rattle.ept_poll.specs.Polls.{seen, IsPollable, Told, Stands, Since, Polls, IsFront, IsEndOver, IsReadAnswered, IsWell};
+    ghost use Rattle.ept_poll.specs.Polls.{IsPollable, HasPolled};
 
     type Output = End;
 
