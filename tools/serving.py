@@ -67,14 +67,15 @@ def wait_for(port, process, seconds=10):
     sys.exit(f"{process.args[0]} does not listen")
 
 
-def start(out, descriptors=None):
-    """Starts the server, where it is said with so many descriptors at most, and waits until it listens."""
+def start(out, descriptors=None, single=False):
+    """Starts the server, with so many descriptors at most and on a single thread if asked to, and waits until it listens."""
     def limit():
         if descriptors:
             resource.setrlimit(resource.RLIMIT_NOFILE, (descriptors, descriptors))
 
     port = free_port()
-    server = subprocess.Popen([str(PROGRAM), str(out), f"127.0.0.1:{port}"], preexec_fn=limit)
+    words = [str(PROGRAM), *(["--single"] if single else []), str(out), f"127.0.0.1:{port}"]
+    server = subprocess.Popen(words, preexec_fn=limit)
     wait_for(port, server)
     return server, port
 

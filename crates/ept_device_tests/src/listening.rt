@@ -1,6 +1,6 @@
 //! Connections over the loopback.
 
-use ept_listen::serve_connections;
+use ept_listen::{serve_connections, serve_single};
 use std::io::{self, Read, Write};
 use std::net::{Shutdown, SocketAddr, TcpListener, TcpStream};
 use std::test::Fail;
@@ -32,6 +32,22 @@ fn is_answered(
     Ok(answer.as_slice() == want)
 }
 
+// Whether a server answers so to two requests whose pieces are sent in turn over two connections.
+fn are_answered_in_turn(rt: &HostRuntime, address: SocketAddr) -> io::Result<bool> {
+    let mut one = TcpStream::connect(rt, address)?;
+    let mut two = TcpStream::connect(rt, address)?;
+    for (first, second) in FIRST.chunks(20).zip(SECOND.chunks(20)) {
+        one.write_all(first)?;
+        two.write_all(second)?;
+    }
+    one.shutdown(Shutdown::Write)?;
+    two.shutdown(Shutdown::Write)?;
+    let mut answers = (Vec::new(rt.alloc()), Vec::new(rt.alloc()));
+    one.read_to_end(&mut answers.0)?;
+    two.read_to_end(&mut answers.1)?;
+    Ok(answers.0.as_slice() == FIRST_ANSWER && answers.1.as_slice() == SECOND_ANSWER)
+}
+
 const FIRST: &[u8] =
     b"GET /ept.json HTTP/1.1\r\nHost: a\r\n\r\nGET /no HTTP/1.1\r\nHost: a\r\n\r\n";
 
@@ -50,7 +66,7 @@ fn two_connections_over_the_loopback_are_answered(rt: HostRuntime) -> Result<(),
     let address = listener.local_addr()?;
     let (served, (first, second)) = thread::join(
         &rt,
-        || serve_connections(&rt, &rt, &listener, "out/tests/served", Some(2)),
+        || serve_connections(&rt, &rt, listener, "out/tests/served", Some(2)),
         || {
             (
                 is_answered(&rt, address, FIRST, FIRST_ANSWER),
@@ -61,5 +77,20 @@ fn two_connections_over_the_loopback_are_answered(rt: HostRuntime) -> Result<(),
     served?;
     assert!(rt; first?);
     assert!(rt; second?);
+    Ok(())
+}
+
+#[test]
+fn one_thread_answers_two_connections_in_turn(rt: HostRuntime) -> Result<(), Fail> {
+    make_folder(&rt)?;
+    let listener = TcpListener::bind(&rt, "127.0.0.1:0")?;
+    let address = listener.local_addr()?;
+    let (served, answered) = thread::join(
+        &rt,
+        || serve_single(&rt, &rt, listener, "out/tests/served", Some(2)),
+        || are_answered_in_turn(&rt, address),
+    );
+    served?;
+    assert!(rt; answered?);
     Ok(())
 }

@@ -1,5 +1,5 @@
 -- What the words of the server's command line ask for.
-use Rattle.std.specs.Prelude.{◌≡◌, ◌≢◌, ℕ, ◌^◌, ◌<◌, List, [], ◌∷◌, String, Option, Some, None, decimal, map, string_bytes, codes}
+use Rattle.std.specs.Prelude.{◌≡◌, ◌≢◌, ℕ, ◌^◌, ◌<◌, List, [], ◌∷◌, Bool, true, false, String, Option, Some, None, decimal, map, string_bytes, codes}
 use Rattle.std.specs.declared.alloc.Global.{Global}
 use Rattle.ept_listen.specs.declared.words.Serve.{Serve}
 
@@ -23,15 +23,36 @@ pub record AreLimited (words : List (List ℕ)) (count : ℕ) : Type 0 where
   pub fits : count < 2 ^ 32
   pub place_is : ArePlace place
 
--- what the words ask for: to serve connections without end, or so many
+-- what words without `--single` ask for: to serve connections without end, or so many
 abbrev pub AskForCount : List (List ℕ) → Option ℕ → Type 0
 AskForCount words None = ArePlace words
 AskForCount words (Some count) = AreLimited words count
 
+-- the same after `--single`
+pub record AreSingle (words : List (List ℕ)) (count : Option ℕ) : Type 0 where
+  pub others : List (List ℕ)
+  pub words_are : words ≡ codes "--single" ∷ others
+  pub others_ask : AskForCount others count
+
+abbrev pub AskForIn : List (List ℕ) → Bool → Option ℕ → Type 0
+AskForIn words false count = AskForCount words count
+AskForIn words true count = AreSingle words count
+
+-- what the words ask for: how many connections, and whether one thread serves them all
 abbrev pub AskFor : List (List ℕ) → Serve → Type 0
-AskFor words serve = AskForCount words serve.connections
+AskFor words serve = AskForIn words serve.single serve.connections
 
 -- what words are read as: what they ask for, and none exactly where they ask for nothing
 abbrev pub AreRead : List (List ℕ) → Option Serve → Type 0
 AreRead words None = (serve : Serve) → ¬ AskFor words serve
 AreRead words (Some serve) = AskFor words serve
+
+-- what words without `--single` are read as
+abbrev pub AreReadPlain : List (List ℕ) → Option Serve → Type 0
+AreReadPlain words None = (count : Option ℕ) → ¬ AskForCount words count
+AreReadPlain words (Some serve) = (serve.single ≡ false) × AskForCount words serve.connections
+
+-- what words after `--single` are read as
+abbrev pub AreReadSingle : List (List ℕ) → Option Serve → Type 0
+AreReadSingle words None = (count : Option ℕ) → ¬ AreSingle words count
+AreReadSingle words (Some serve) = (serve.single ≡ true) × AreSingle words serve.connections

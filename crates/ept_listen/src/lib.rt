@@ -1,8 +1,13 @@
-//! The words of the server's command line, and the connections that a listener accepts.
+//! The words of the server's command line, and the connections that a listener accepts: each in a thread of its own, or
+//! all on one thread.
 #![tactic(auto)]
 
+mod accepting;
 mod serving;
+mod single;
+mod timed;
 mod words;
 
 pub use serving::serve_connections;
+pub use single::serve_single;
 pub use words::{Serve, server_words};

@@ -1,31 +1,29 @@
 //! The connections that a listener accepts, each served in a thread of its own.
 
+use crate::accepting::{PAUSE, is_passing};
+use crate::timed::TimedStream;
 use ept_conn::serve_link;
 use ept_real::{RealLink, RealStore};
-use std::io::{self, Error, Read};
+use std::io::{self, Read};
 use std::net::{Shutdown, TcpListener, TcpStream};
 use std::sync::Wait;
+use std::sync::atomic::AtomicU32;
+use std::sync::atomic::Ordering::SeqCst;
 use std::thread::{self, Threads};
-use std::time::Duration;
+use std::time::{Duration, Instant};
 
-/// How long a peer may send nothing, or take nothing, before its connection is given up, in seconds.
-const IDLE_SECONDS: u64 = 60;
+/// How many connections are served at once at most. The others wait to be accepted.
+const MOST: u32 = 1024;
 
-/// How many pieces are read behind the last answer at most.
-const REST: usize = 64;
+/// How many bytes are read after the last response at most.
+const REST: usize = 524_288;
 
-/// How long the peer may take for each of them, in seconds.
+/// How long it may take to send them, and how long each piece may take, in seconds.
 const REST_SECONDS: u64 = 5;
 
-/// How long the system has to find room for a connection before it is asked again, in milliseconds.
-const PAUSE: u64 = 50;
-
-/// The system's errors behind which another connection can be accepted: the peer has gone (EPROTO,
-/// ECONNABORTED), or there is no room for one more connection (ENFILE, EMFILE, ENOBUFS).
-const PASSING: [i32; 5] = [71, 103, 23, 24, 105];
-
 /// Serves the connections that are accepted, each in a thread of its own and with a store of its own over
-/// the folder `out`: without end, or so many. It returns once all of them have ended.
+/// the folder `out`, at most 1,024 at once: without end, or so many. It returns once all of them have ended. Then and
+/// after an error it no longer listens.
 ///
 /// # Errors
 ///
@@ -34,39 +32,58 @@ const PASSING: [i32; 5] = [71, 103, 23, 24, 105];
 pub fn serve_connections<R: Threads + Wait>(
     rt: &R,
     host: &HostRuntime,
-    listener: &TcpListener,
+    listener: TcpListener,
     out: &str,
     connections: Option<u32>,
 ) -> io::Result<()> {
     let most = connections.map_or(usize::MAX, |count| count as usize);
+    let served = AtomicU32::new(0);
+    let served = &served;
     thread::scope(thread::scope_env(), rt, |scope| {
         for _ in 0..most {
-            let stream = accept(host, listener)?;
-            let serve = move || serve_stream(host, &stream, out);
+            let stream = accept(host, &listener, served)?;
+            let serve = move || {
+                serve_stream(host, &stream, out);
+                served.fetch_sub(1, SeqCst);
+            };
             if let Err(refused) = scope.spawn(serve) {
                 (refused.value)();
             }
         }
+        drop(listener);
         Ok(())
     })
 }
 
-// The next connection.
-fn accept(host: &HostRuntime, listener: &TcpListener) -> io::Result<TcpStream> {
+// The next connection, once there is room for it. It counts as served.
+fn accept(host: &HostRuntime, listener: &TcpListener, served: &AtomicU32) -> io::Result<TcpStream> {
+    wait_for_room(host, served);
+    let stream = accept_next(host, listener)?;
+    served.fetch_add(1, SeqCst);
+    Ok(stream)
+}
+
+fn wait_for_room(host: &HostRuntime, served: &AtomicU32) {
+    for _ in 0..u64::MAX {
+        if served.load(SeqCst) < MOST {
+            return;
+        }
+        pause(host);
+    }
+}
+
+fn accept_next(host: &HostRuntime, listener: &TcpListener) -> io::Result<TcpStream> {
     for accepted in listener.incoming().take(usize::MAX) {
         match accepted {
-            Err(error) if is_passing(&error) => thread::sleep(host, Duration::from_millis(PAUSE)),
+            Err(error) if is_passing(&error) => pause(host),
             accepted => return accepted,
         }
     }
     listener.accept().map(|(stream, _)| stream)
 }
 
-// Whether another connection can be accepted behind this error.
-fn is_passing(error: &Error) -> bool {
-    error
-        .raw_os_error()
-        .is_some_and(|code| PASSING.contains(&code))
+fn pause(host: &HostRuntime) {
+    thread::sleep(host, Duration::from_millis(PAUSE));
 }
 
 // Serves one connection.
@@ -74,24 +91,26 @@ fn serve_stream(host: &HostRuntime, stream: &TcpStream, out: &str) {
     let alloc = host.alloc();
     // Without it small answers may wait for the peer.
     let _ = stream.set_nodelay(true);
-    let idle = Some(Duration::from_secs(IDLE_SECONDS));
-    let _ = stream.set_read_timeout(idle);
-    let _ = stream.set_write_timeout(idle);
     let mut store = RealStore::new(alloc, host, out);
-    let mut link = RealLink::new(stream);
+    let mut link = RealLink::new(TimedStream::new(host, stream));
     serve_link(alloc, &mut link, &mut store);
-    let _ = finish(stream);
+    let _ = finish(host, stream);
 }
 
-// Ends the sending side, and reads what the peer still sends, so much at most: a connection that is closed
-// over bytes that were not read may lose its last answer.
-fn finish(stream: &TcpStream) -> io::Result<()> {
+// Ends the sending side, and reads what the peer still sends, so much and for so long at most: a connection that is
+// closed over bytes that were not read may lose its last answer.
+fn finish(host: &HostRuntime, stream: &TcpStream) -> io::Result<()> {
     stream.shutdown(Shutdown::Write)?;
-    stream.set_read_timeout(Some(Duration::from_secs(REST_SECONDS)))?;
-    let mut rest = [0; 8192];
+    let time = Duration::from_secs(REST_SECONDS);
+    stream.set_read_timeout(Some(time))?;
+    let began = Instant::now(host)?;
+    let mut piece = [0; 8192];
     let mut reader = stream;
+    let mut rest = REST;
     for _ in 0..REST {
-        if reader.read(&mut rest)? == 0 {
+        let count = reader.read(&mut piece)?;
+        rest = rest.saturating_sub(count);
+        if count == 0 || rest == 0 || began.elapsed(host)? >= time {
             break;
         }
     }

@@ -1,44 +1,67 @@
 //! What the words of the command line ask for.
 
-ghost use Rattle.std.specs.Prelude.{◌≡◌, ◌≢◌, ◌↔◌, ◌<◌, ◌^◌, ℕ, [], ◌∷◌, IsTrue, IfSome, IfNone, decimal, pos};
-ghost use Rattle.ept_listen.specs.Words.{bytes_of, ArePlace, AreRead};
+ghost use Rattle.std.specs.Prelude.{◌≡◌, ◌≢◌, ◌↔◌, ◌<◌, ◌^◌, ℕ, List, [], ◌∷◌, IsTrue, IfSome, IfNone, decimal, pos};
+ghost use Rattle.ept_listen.specs.Words.{bytes_of, ArePlace, AreRead, AreReadPlain, AreReadSingle};
 
 use ept_num::read_whole;
 
 /// How many connections may be asked for at most.
 const MOST: i64 = 4_294_967_295;
 
-/// What the words ask for: to serve connections without end, or so many.
+/// What the words ask for: to serve connections without end, or so many, and whether one thread serves them all.
 #[derive(Clone, Copy, Debug, PartialEq, Eq)]
 pub struct Serve {
     pub connections: Option<u32>,
+    pub single: bool,
 }
 
 /// What these words, which follow the program's name, ask for: `OUT ADDRESS`, after `--connections N` where
-/// only so many connections are served. None for any other words.
+/// only so many connections are served, and after `--single` where one thread serves them all. None for any
+/// other words.
 pub fn server_words(words: &[String]) -> Option<Serve>
     ensures { AreRead (bytes_of words.now) result }
 {
     match words {
         [out, address] => read_place(out, address),
+        [single, out, address] => read_single(single, read_place(out, address)),
         [option, count, out, address] => read_limited(option, count, out, address),
+        [single, option, count, out, address] => {
+            read_single(single, read_limited(option, count, out, address))
+        }
         _ => None,
     }
 }
 
+// What words ask for whose first is to be `--single`; the others were read as this.
+fn read_single(single: &str, others: Option<Serve>) -> Option<Serve>
+    ensures { (words : List (List ℕ)) → AreReadPlain words others → AreReadSingle (single.now ∷ words) result }
+{
+    let serve = others?;
+    if single != "--single" {
+        return None;
+    }
+    Some(Serve {
+        connections: serve.connections,
+        single: true,
+    })
+}
+
 // What two words ask for.
 fn read_place(out: &str, address: &str) -> Option<Serve>
-    ensures { AreRead (out.now ∷ address.now ∷ []) result }
+    ensures { AreReadPlain (out.now ∷ address.now ∷ []) result }
 {
     if !are_place(out, address) {
         return None;
     }
-    Some(Serve { connections: None })
+    Some(Serve {
+        connections: None,
+        single: false,
+    })
 }
 
 // What four words ask for.
 fn read_limited(option: &str, count: &str, out: &str, address: &str) -> Option<Serve>
-    ensures { AreRead (option.now ∷ count.now ∷ out.now ∷ address.now ∷ []) result }
+    ensures { AreReadPlain (option.now ∷ count.now ∷ out.now ∷ address.now ∷ []) result }
 {
     if option != "--connections" || !are_place(out, address) {
         return None;
@@ -46,6 +69,7 @@ fn read_limited(option: &str, count: &str, out: &str, address: &str) -> Option<S
     let connections = read_count(count)?;
     Some(Serve {
         connections: Some(connections),
+        single: false,
     })
 }
 

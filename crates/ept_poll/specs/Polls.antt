@@ -2,11 +2,13 @@
 use Rattle.std.specs.Prelude.{◌≡◌, ◌≢◌, ◌⊎◌, ℕ, ◌<◌, ◌≤◌, ⊤, List, [], ◌∷◌, ◌++◌, length, take, true, Some, None}
 use Rattle.std.specs.List.{AllByRecursion}
 use Rattle.futures.specs.declared.task.Poll.{Poll}
+use Rattle.futures.specs.declared.task.Poll.TheVariants.{Ready}
 use Rattle.futures.specs.declared.task.context.Context.{Context}
-use Rattle.futures.specs.Poll.{OnPending}
+use Rattle.futures.specs.Poll.{IfReady, OnPending}
 use Rattle.ept_base.specs.Causes.{Rose}
-use Rattle.ept_base.specs.Files.{Files, Tells}
+use Rattle.ept_base.specs.Files.{Files, SameFiles, Tells}
 use Rattle.ept_base.specs.Links.{Wire}
+use Rattle.ept_base.specs.Moves.{Moves}
 use Rattle.ept_base.specs.declared.store.Store.{Ghosts as StoreOf}
 use Rattle.ept_query.specs.declared.query_error.QueryFile.{QueryFile}
 use Rattle.ept_conn.specs.declared.end.Fault.TheVariants as fault
@@ -137,3 +139,18 @@ pub record Polls (turns : ℕ) (old : Seen) (answer : Poll End) (new : Seen) (re
   pub units : AreUnits old calls last
   pub rest : IsAs last new
   pub pending : OnPending answer (IsReading old new reads ⊎ (IsWriting old new writes ⊎ HasYielded turns calls cx))
+
+-- what one poll of a connection does
+pub record HasPolled {L T : Type 0} (link : LinkOf L) (store : StoreOf T) (old new : PollConn L T) (answer : Poll End) (cx : Context) : Type 0 where
+  pub polls : Polls old.turns (seen link store old) answer (seen link store new) (Rose (link.read_waits old.link) (link.read_waits new.link)) (Rose (link.write_waits old.link) (link.write_waits new.link)) cx
+  pub stands : Since (seen link store old) (λ first. Stands first (seen link store new))
+  pub sends : Since (seen link store old) (λ first. Told (seen link store new) (IsFront (Rose first (store.faults new.store))))
+  pub reads : Since (seen link store old) (λ first. Told (seen link store new) IsReadAnswered)
+  pub ends : IfReady answer (λ ends. Since (seen link store old) (λ first. Told (seen link store new) (IsEndOver (Rose first (store.faults new.store)) ends)))
+  pub over : IfReady answer (λ ends. want_of new.session ≡ want.End ends)
+  pub links : answer ≡ Ready end.LinkFault → Rose (link.faults old.link) (link.faults new.link)
+  pub stores : answer ≡ Ready end.StoreFault → (old.session.fault ≡ Some fault.Store) ⊎ Rose (store.faults old.store) (store.faults new.store)
+  pub damaged : (found : QueryFile) → answer ≡ Ready (end.Damaged found) → Since (seen link store old) (λ _. Tells (IsDamaged found) (store.files new.store))
+  pub complete : IfReady answer (λ ends. Since (seen link store old) (λ first. Told (seen link store new) (λ _ _. (¬ Rose (link.faults old.link) (link.faults new.link)) → (¬ Rose first (store.faults new.store)) → IsWell ends)))
+  pub turns : new.turns ≡ old.turns
+  pub any_moment : Moves store.files store.may_leave store.moment store.image_since SameFiles old.store new.store

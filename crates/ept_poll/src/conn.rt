@@ -1,21 +1,19 @@
 //! A connection that is polled.
 
-ghost use Rattle.std.specs.Prelude.{◌≡◌, ◌⊎◌, ◌<◌, ◌≤◌, ℕ, Option, Some, None};
+ghost use Rattle.std.specs.Prelude.{◌≡◌, ◌<◌, ◌≤◌, ℕ, Option, None};
 ghost use Rattle.futures.specs.Poll.{IfReady, OnPending};
 ghost use Rattle.futures.specs.Task.{Covers, IsArmed, Keeps};
 ghost use Rattle.ept_base.specs.Causes.{Rose};
 ghost use Rattle.ept_base.specs.Files.{Files, SameFiles, Tells};
 ghost use Rattle.ept_base.specs.Moves.{Moves};
-ghost use Rattle.ept_query.specs.declared.query_error.QueryFile.{QueryFile};
 ghost use Rattle.ept_conn.specs.State.{started, want_of};
-ghost use Rattle.ept_conn.specs.Works.{IsDamaged};
 ghost use Rattle.ept_poll.specs.Links.{Waits};
 ghost use Rattle.ept_poll.specs.Units.{IsAs};
 ghost use Rattle.ept_poll.specs.Steps.{beside, IsSomeUnit, IsUnitOrEnd, IsWaitFor};
 
 use crate::link::PollLink;
 use ept_base::{Failed, Store};
-use ept_conn::{End, Fault, Session, Want};
+use ept_conn::{End, Session, Want};
 use futures::Future;
 use futures::task::{Context, Poll};
 use std::alloc::Global;
@@ -67,7 +65,7 @@ impl<L: PollLink + Drop, T: Store + Drop> PollConn<L, T> {
 }
 
 impl<L: PollLink + Drop, T: Store + Drop> Future for PollConn<L, T> {
-    ghost use Rattle.ept_poll.specs.Polls.{seen, IsPollable, Told, Stands, Since, Polls, IsFront, IsEndOver, IsReadAnswered, IsWell};
+    ghost use Rattle.ept_poll.specs.Polls.{IsPollable, HasPolled};
 
     type Output = End;
 
@@ -80,25 +78,7 @@ impl<L: PollLink + Drop, T: Store + Drop> Future for PollConn<L, T> {
         ensures again { OnPending result (IsPollable self.new.turns self.new.session) }
         ensures registered { OnPending result (Covers cx.new (λ _. ⊥)) }
         ensures kept { Keeps cx.old cx.new }
-        ensures polls { Polls self.old.turns (seen L.PollLink T.Store self.old) result (seen L.PollLink T.Store self.new)
-            (Rose (L.read_waits self.old.link) (L.read_waits self.new.link))
-            (Rose (L.write_waits self.old.link) (L.write_waits self.new.link)) cx.new }
-        ensures stands { Since (seen L.PollLink T.Store self.old) (λ first. Stands first (seen L.PollLink T.Store self.new)) }
-        ensures sends { Since (seen L.PollLink T.Store self.old)
-            (λ first. Told (seen L.PollLink T.Store self.new) (IsFront (Rose first (T.faults self.new.store)))) }
-        ensures reads { Since (seen L.PollLink T.Store self.old) (λ first. Told (seen L.PollLink T.Store self.new) IsReadAnswered) }
-        ensures ends { IfReady result (λ ends. Since (seen L.PollLink T.Store self.old)
-            (λ first. Told (seen L.PollLink T.Store self.new) (IsEndOver (Rose first (T.faults self.new.store)) ends))) }
-        ensures links { result ≡ Poll.Ready End.LinkFault → Rose (L.faults self.old.link) (L.faults self.new.link) }
-        ensures stores { result ≡ Poll.Ready End.StoreFault
-            → (self.old.session.fault ≡ Some Fault.Store) ⊎ Rose (T.faults self.old.store) (T.faults self.new.store) }
-        ensures damaged { (found : QueryFile) → result ≡ Poll.Ready (End.Damaged found)
-            → Since (seen L.PollLink T.Store self.old) (λ _. Tells (IsDamaged found) (T.files self.new.store)) }
-        ensures complete { IfReady result (λ ends. Since (seen L.PollLink T.Store self.old)
-            (λ first. Told (seen L.PollLink T.Store self.new)
-            (λ _ _. (¬ Rose (L.faults self.old.link) (L.faults self.new.link)) → (¬ Rose first (T.faults self.new.store)) → IsWell ends))) }
-        ensures turns { self.new.turns ≡ self.old.turns }
-        ensures any_moment { Moves T.files T.may_leave T.moment T.image_since SameFiles self.old.store self.new.store }
+        ensures polled { HasPolled L.PollLink T.Store self.old self.new result cx.new }
     {
         for _ in 0..self.turns {
             match unit(&mut self.session, &mut self.link, &mut self.store, cx) {

@@ -2,6 +2,7 @@
 #![tactic(auto)]
 
 mod connections;
+mod crowds;
 mod escaped;
 mod folder;
 mod heads;
@@ -66,6 +67,8 @@ fn answer_row<R: Wait + RandomSource + AllocGlobal>(
         "serve" => connections::serve(alloc, folder, text, answer),
         "poll" => polls::poll(rt, folder, text, answer),
         "polls" => polls::polls(rt, folder, text, answer),
+        "crowd" => crowds::crowd(rt, folder, text, answer),
+        "turn" => crowds::one_turn(rt, folder, text, answer),
         "words" => words::words(alloc, text, answer),
         _ => Err(RowError::Form),
     }

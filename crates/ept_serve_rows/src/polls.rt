@@ -38,7 +38,8 @@ pub(crate) fn poll<R: Wait + RandomSource + AllocGlobal>(
     let (pending, text) = cut(text)?;
     let (store, text) = cut(text)?;
     let units = small(units)?;
-    let link = link_of(rt.alloc(), size, pending, text)?;
+    let (fails, bytes) = cut(text)?;
+    let link = link_of(rt.alloc(), size, pending, fails, bytes)?;
     let mut conn = PollConn::new(rt.alloc(), link, folder.store(store)?, units.max(1));
     poll_to_end(rt, &mut conn, answer)?;
     answer.push(' ')?;
@@ -60,11 +61,16 @@ fn poll_to_end<R: Wait + RandomSource + AllocGlobal>(
     }
 }
 
-// The link of a row. The text lists the calls that fail, and then has the bytes.
-fn link_of(alloc: Global, size: &str, pending: &str, text: &str) -> Result<MemPollLink, RowError>
+/// A link over which these bytes come in pieces. The words list its calls that wait and those that fail.
+pub(crate) fn link_of(
+    alloc: Global,
+    size: &str,
+    pending: &str,
+    fails: &str,
+    bytes: &str,
+) -> Result<MemPollLink, RowError>
     ensures { IfOk result (λ link. IsUnused (link_wire link)) }
 {
-    let (fails, bytes) = cut(text)?;
     let pieces = pieces_of(alloc, size, bytes)?;
     let pending = pending_of(alloc, pending)?;
     let fails = numbers(alloc, fails)?;

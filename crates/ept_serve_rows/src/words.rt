@@ -1,15 +1,15 @@
 //! The words of the server's command line.
 
 use crate::row::{RowError, plain};
-use ept_listen::server_words;
+use ept_listen::{Serve, server_words};
 use std::alloc::{AllocError, Global};
 use std::fmt::Write as _;
 
-/// `words WORD ..`: how many connections the server's command line asks for.
+/// `words WORD ..`: how many connections the server's command line asks for, and whether on one thread.
 pub(crate) fn words(alloc: Global, text: &str, answer: &mut String) -> Result<(), RowError> {
     let words = words_of(alloc, text)?;
     match server_words(&words) {
-        Some(serve) => push_count(answer, serve.connections)?,
+        Some(serve) => push_serve(answer, serve)?,
         None => answer.push_str("none")?,
     }
     Ok(())
@@ -21,6 +21,13 @@ fn words_of(alloc: Global, text: &str) -> Result<Vec<String>, AllocError> {
         words.push(String::from_str(alloc, plain(word))?)?;
     }
     Ok(words)
+}
+
+fn push_serve(answer: &mut String, serve: Serve) -> Result<(), AllocError> {
+    if serve.single {
+        answer.push_str("single ")?;
+    }
+    push_count(answer, serve.connections)
 }
 
 fn push_count(answer: &mut String, connections: Option<u32>) -> Result<(), AllocError> {

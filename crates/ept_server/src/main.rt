@@ -1,13 +1,17 @@
 //! `ept_server` serves a finished Entwine Point Tile folder over HTTP/1.1 (RFC 9112).
 #![tactic(auto)]
 
-use ept_listen::{Serve, serve_connections, server_words};
+use ept_listen::{Serve, serve_connections, serve_single, server_words};
+use std::alloc::{AllocError, AllocGlobal};
 use std::env;
+use std::fs;
 use std::io::{self, ErrorKind};
-use std::net::TcpListener;
+use std::net::{Net, TcpListener};
 use std::process::ExitCode;
+use std::random::RandomSource;
 use std::sync::Wait;
 use std::thread::Threads;
+use std::time::Clock;
 
 /// All connections were served.
 const OK: u8 = 0;
@@ -23,9 +27,13 @@ fn main(rt: HostRuntime) -> ExitCode {
         Ok(words) => run(&rt, &rt, &words),
         Err(error) => status_of(&error, USAGE),
     };
+    // A line that can't be written changes no status.
     if status == USAGE {
-        // A line that can't be written changes no status.
         let _ = println!(rt; "error 2 usage");
+        let _ = eprintln!(rt; "ept_server: usage: ept_server [--single] [--connections N] OUT ADDRESS");
+    }
+    if status == MEMORY {
+        let _ = eprintln!(rt; "ept_server: out of memory");
     }
     ExitCode::from(status)
 }
@@ -36,31 +44,63 @@ fn given_words(rt: &HostRuntime) -> io::Result<Vec<String>> {
 }
 
 // Serves as the words say, and answers the status.
-fn run<R: Threads + Wait>(rt: &R, host: &HostRuntime, words: &[String]) -> u8 {
+fn run<R>(rt: &R, host: &HostRuntime, words: &[String]) -> u8
+where
+    R: Threads + Wait + Clock + Net + RandomSource + AllocGlobal,
+{
     match (server_words(words), words) {
         (Some(serve), [.., out, address]) => listen(rt, host, out, address, serve),
         _ => USAGE,
     }
 }
 
-fn listen<R: Threads + Wait>(
+fn listen<R>(rt: &R, host: &HostRuntime, out: &str, address: &str, serve: Serve) -> u8
+where
+    R: Threads + Wait + Clock + Net + RandomSource + AllocGlobal,
+{
+    if !is_finished(host, out) {
+        let _ = eprintln!(host; "ept_server: {out} holds no finished dataset: the response to every request will be 404 until it does");
+    }
+    match TcpListener::bind(host, address) {
+        Ok(listener) => match serve_on(rt, host, listener, out, serve) {
+            Ok(()) => OK,
+            Err(error) => fault(host, "can't accept connections on", address, &error),
+        },
+        Err(error) => fault(host, "can't listen on", address, &error),
+    }
+}
+
+fn serve_on<R>(
     rt: &R,
     host: &HostRuntime,
+    listener: TcpListener,
     out: &str,
-    address: &str,
     serve: Serve,
-) -> u8 {
-    let served = TcpListener::bind(host, address).and_then(|listener| serve_connections(
-        rt,
-        host,
-        &listener,
-        out,
-        serve.connections,
-    ));
-    match served {
-        Ok(()) => OK,
-        Err(error) => status_of(&error, FAULT),
+) -> io::Result<()>
+where
+    R: Threads + Wait + Clock + Net + RandomSource + AllocGlobal,
+{
+    if serve.single {
+        serve_single(rt, host, listener, out, serve.connections)
+    } else {
+        serve_connections(rt, host, listener, out, serve.connections)
     }
+}
+
+// Whether the folder's gate is open.
+fn is_finished(host: &HostRuntime, out: &str) -> bool {
+    gate_of(host, out).is_ok_and(|gate| fs::read(host, gate.as_str()).is_ok_and(|byte| byte.as_slice() == b"\x01"))
+}
+
+fn gate_of(host: &HostRuntime, out: &str) -> Result<String, AllocError> {
+    let folder = if out.is_empty() { "." } else { out };
+    format!(in host.alloc(); "{folder}/ept-work/done")
+}
+
+// Says what failed, and answers the status.
+fn fault(host: &HostRuntime, what: &str, address: &str, error: &io::Error) -> u8 {
+    let _ = eprintln!(host; "ept_server: {what} {address}: {error}");
+    status_of(error, FAULT)
 }
 
 // The status of an error: want of memory, or else this.

@@ -68,34 +68,38 @@ wait-is : (g : given.Over) (c : goal.In-Pending g) → IsWaitFor c.unit.new.sess
 wait-is g c =
     pending-at c.unit.result (IsWaitFor c.unit.new.session (Rose (g.L.PollLink.read_waits c.loop.self.link) (g.L.PollLink.read_waits c.unit.new.link)) (Rose (g.L.PollLink.write_waits c.loop.self.link) (g.L.PollLink.write_waits c.unit.new.link))) c.in-Pending.is c.unit.ensures.why
 
-pub returns-in-Pending-clause-polls : goal.returns-in-Pending-clause-polls
+pub returns-in-Pending-clause-polled : goal.returns-in-Pending-clause-polled
 unfolding waited
-returns-in-Pending-clause-polls g c =
+returns-in-Pending-clause-polled g c =
     let was = c.loop.invariant in
     let done = waited g c in
     let link = g.L.PollLink in
     let few : length was.units.0 ≤ c.args.self.now.turns = (let len = was.units.1 in let less = c.loop-test.true in omega (arith, len, less)) in record {
-      calls = done.calls;
-      few = few;
-      last = done.last;
-      units = done.units;
-      rest = done.rest;
-      pending = waiting-on (seen link g.T.Store c.args.self.now) _ _ (link.read_waits c.args.self.now.link) (link.read_waits c.loop.self.link) (link.read_waits c.unit.new.link) (link.write_waits c.args.self.now.link) (link.write_waits c.loop.self.link) (link.write_waits c.unit.new.link) done was.later_reads was.later_writes (wait-is g c);
+      polls = record {
+        calls = done.calls;
+        few = few;
+        last = done.last;
+        units = done.units;
+        rest = done.rest;
+        pending = waiting-on (seen link g.T.Store c.args.self.now) _ _ (link.read_waits c.args.self.now.link) (link.read_waits c.loop.self.link) (link.read_waits c.unit.new.link) (link.write_waits c.args.self.now.link) (link.write_waits c.loop.self.link) (link.write_waits c.unit.new.link) done was.later_reads was.later_writes (wait-is g c);
+      };
+      stands = stands-on _ _ done;
+      sends = sends-on _ _ done;
+      reads = reads-on _ _ done;
+      ends = tt;
+      over = tt;
+      links = λ same. absurd cc;
+      stores = λ same. absurd cc;
+      damaged = λ found same. absurd cc;
+      complete = tt;
+      turns = was.turns;
+      any_moment = moved-twice g.T.Store.files g.T.Store.may_leave g.T.Store.moment g.T.Store.image_since c.args.self.now.store c.loop.self.store c.unit.new.store was.moved c.unit.ensures.any_moment;
     }
 
 pub returns-in-Pending-clause-again : goal.returns-in-Pending-clause-again
 returns-in-Pending-clause-again g c =
     let p = pollable-on c.args.self.now.turns _ _ (waited g c) c.requires (waiting-goes c.unit.new.session _ _ (wait-is g c)) in
     record { some = subst (λ (n : ℕ). 0 < n) (sym c.loop.invariant.turns) p.some; clear = p.clear }
-
-pub returns-in-Pending-clause-stands : goal.returns-in-Pending-clause-stands
-returns-in-Pending-clause-stands g c = stands-on _ _ (waited g c)
-
-pub returns-in-Pending-clause-sends : goal.returns-in-Pending-clause-sends
-returns-in-Pending-clause-sends g c = sends-on _ _ (waited g c)
-
-pub returns-in-Pending-clause-reads : goal.returns-in-Pending-clause-reads
-returns-in-Pending-clause-reads g c = reads-on _ _ (waited g c)
 
 -- ---- the session is at its end
 
@@ -112,40 +116,27 @@ ended g c =
       rest = (over g c).0;
     }
 
-pub returns-in-Ready-Some-clause-polls : goal.returns-in-Ready-Some-clause-polls
+pub returns-in-Ready-Some-clause-polled : goal.returns-in-Ready-Some-clause-polled
 unfolding ended
-returns-in-Ready-Some-clause-polls g c =
+returns-in-Ready-Some-clause-polled g c =
     let was = c.loop.invariant in
     let done = ended g c in
-    let few : length was.units.0 ≤ c.args.self.now.turns = (let len = was.units.1 in let less = c.loop-test.true in omega (arith, len, less)) in
-    record { calls = done.calls; few = few; last = done.last; units = done.units; rest = done.rest; pending = tt }
-
-pub returns-in-Ready-Some-clause-stands : goal.returns-in-Ready-Some-clause-stands
-returns-in-Ready-Some-clause-stands g c = stands-on _ _ (ended g c)
-
-pub returns-in-Ready-Some-clause-sends : goal.returns-in-Ready-Some-clause-sends
-returns-in-Ready-Some-clause-sends g c = sends-on _ _ (ended g c)
-
-pub returns-in-Ready-Some-clause-reads : goal.returns-in-Ready-Some-clause-reads
-returns-in-Ready-Some-clause-reads g c = reads-on _ _ (ended g c)
-
-pub returns-in-Ready-Some-clause-ends : goal.returns-in-Ready-Some-clause-ends
-returns-in-Ready-Some-clause-ends g c = ends-on _ _ c.in-Ready-Some.end (ended g c) (over g c).1
-
-pub returns-in-Ready-Some-clause-links : goal.returns-in-Ready-Some-clause-links
-returns-in-Ready-Some-clause-links g c =
-    links-on _ _ c.in-Ready-Some.end (ended g c) c.requires.clear (over g c).1
-
-pub returns-in-Ready-Some-clause-stores : goal.returns-in-Ready-Some-clause-stores
-returns-in-Ready-Some-clause-stores g c = stores-on _ _ c.in-Ready-Some.end (ended g c) (over g c).1
-
-pub returns-in-Ready-Some-clause-damaged : goal.returns-in-Ready-Some-clause-damaged
-returns-in-Ready-Some-clause-damaged g c = λ found.
-    damaged-over _ _ c.in-Ready-Some.end found (ended g c) (over g c).1
-
-pub returns-in-Ready-Some-clause-complete : goal.returns-in-Ready-Some-clause-complete
-returns-in-Ready-Some-clause-complete g c =
-    complete-on _ _ c.in-Ready-Some.end (ended g c) c.requires.clear (over g c).1
+    let is = (over g c).1 in
+    let ends = c.in-Ready-Some.end in
+    let few : length was.units.0 ≤ c.args.self.now.turns = (let len = was.units.1 in let less = c.loop-test.true in omega (arith, len, less)) in record {
+      polls = record { calls = done.calls; few = few; last = done.last; units = done.units; rest = done.rest; pending = tt };
+      stands = stands-on _ _ done;
+      sends = sends-on _ _ done;
+      reads = reads-on _ _ done;
+      ends = ends-on _ _ ends done is;
+      over = is;
+      links = links-on _ _ ends done c.requires.clear is;
+      stores = stores-on _ _ ends done is;
+      damaged = λ found. damaged-over _ _ ends found done is;
+      complete = complete-on _ _ ends done c.requires.clear is;
+      turns = was.turns;
+      any_moment = moved-twice g.T.Store.files g.T.Store.may_leave g.T.Store.moment g.T.Store.image_since c.args.self.now.store c.loop.self.store c.unit.new.store was.moved c.unit.ensures.any_moment;
+    }
 
 -- ---- it is at its end behind the last unit
 
@@ -155,36 +146,27 @@ turned g c = all-done c.loop.counter _ _ c.loop.invariant.units
 at-end : (g : given.Over) (c : goal.In-End g) → want_of c.loop.self.session ≡ want.End c.in-End.end
 at-end g c = sym c.want.ensures ∙ c.in-End.is
 
-pub returns-in-End-clause-polls : goal.returns-in-End-clause-polls
-returns-in-End-clause-polls g c =
+pub returns-in-End-clause-polled : goal.returns-in-End-clause-polled
+returns-in-End-clause-polled g c =
     let was = c.loop.invariant in
     let now = seen g.L.PollLink g.T.Store c.loop.self in
-    let few : length was.units.0 ≤ c.args.self.now.turns = (let len = was.units.1 in let less = was.within in omega (arith, len, less)) in
-    record { calls = was.units.0; few = few; last = now; units = was.units.2; rest = as-once now; pending = tt }
-
-pub returns-in-End-clause-stands : goal.returns-in-End-clause-stands
-returns-in-End-clause-stands g c = stands-on _ _ (turned g c)
-
-pub returns-in-End-clause-sends : goal.returns-in-End-clause-sends
-returns-in-End-clause-sends g c = sends-on _ _ (turned g c)
-
-pub returns-in-End-clause-reads : goal.returns-in-End-clause-reads
-returns-in-End-clause-reads g c = reads-on _ _ (turned g c)
-
-pub returns-in-End-clause-ends : goal.returns-in-End-clause-ends
-returns-in-End-clause-ends g c = ends-on _ _ c.in-End.end (turned g c) (at-end g c)
-
-pub returns-in-End-clause-links : goal.returns-in-End-clause-links
-returns-in-End-clause-links g c = links-on _ _ c.in-End.end (turned g c) c.requires.clear (at-end g c)
-
-pub returns-in-End-clause-stores : goal.returns-in-End-clause-stores
-returns-in-End-clause-stores g c = stores-on _ _ c.in-End.end (turned g c) (at-end g c)
-
-pub returns-in-End-clause-damaged : goal.returns-in-End-clause-damaged
-returns-in-End-clause-damaged g c = λ found. damaged-over _ _ c.in-End.end found (turned g c) (at-end g c)
-
-pub returns-in-End-clause-complete : goal.returns-in-End-clause-complete
-returns-in-End-clause-complete g c = complete-on _ _ c.in-End.end (turned g c) c.requires.clear (at-end g c)
+    let done = turned g c in
+    let is = at-end g c in
+    let ends = c.in-End.end in
+    let few : length was.units.0 ≤ c.args.self.now.turns = (let len = was.units.1 in let less = was.within in omega (arith, len, less)) in record {
+      polls = record { calls = was.units.0; few = few; last = now; units = was.units.2; rest = as-once now; pending = tt };
+      stands = stands-on _ _ done;
+      sends = sends-on _ _ done;
+      reads = reads-on _ _ done;
+      ends = ends-on _ _ ends done is;
+      over = is;
+      links = links-on _ _ ends done c.requires.clear is;
+      stores = stores-on _ _ ends done is;
+      damaged = λ found. damaged-over _ _ ends found done is;
+      complete = complete-on _ _ ends done c.requires.clear is;
+      turns = was.turns;
+      any_moment = was.moved;
+    }
 
 -- ---- it is to be polled again
 
@@ -202,22 +184,25 @@ returns-in_default g c =
       again = on-pending r _ is (record { some = subst (λ (n : ℕ). 0 < n) (sym was.turns) some; clear = again.clear });
       registered = on-pending r _ is (c.yield_now.ensures.armed, λ s none. absurd none);
       kept = λ fact holds. c.yield_now.ensures.kept fact (was.kept fact holds);
-      polls = record {
-        calls = was.units.0;
-        few = omega (arith, all);
-        last = new;
-        units = was.units.2;
-        rest = as-once new;
-        pending = on-pending r _ is (inr (inr (record { all = all; woken = c.yield_now.ensures.woken })));
+      polled = record {
+        polls = record {
+          calls = was.units.0;
+          few = omega (arith, all);
+          last = new;
+          units = was.units.2;
+          rest = as-once new;
+          pending = on-pending r _ is (inr (inr (record { all = all; woken = c.yield_now.ensures.woken })));
+        };
+        stands = stands-on old new done;
+        sends = sends-on old new done;
+        reads = reads-on old new done;
+        ends = if-pending r _ is;
+        over = if-pending r _ is;
+        links = λ same. absurd (not-ready r end.LinkFault is same);
+        stores = λ same. absurd (not-ready r end.StoreFault is same);
+        damaged = λ found same. absurd (not-ready r (end.Damaged found) is same);
+        complete = if-pending r _ is;
+        turns = was.turns;
+        any_moment = was.moved;
       };
-      stands = stands-on old new done;
-      sends = sends-on old new done;
-      reads = reads-on old new done;
-      ends = if-pending r _ is;
-      links = λ same. absurd (not-ready r end.LinkFault is same);
-      stores = λ same. absurd (not-ready r end.StoreFault is same);
-      damaged = λ found same. absurd (not-ready r (end.Damaged found) is same);
-      complete = if-pending r _ is;
-      turns = was.turns;
-      any_moment = was.moved;
     }
