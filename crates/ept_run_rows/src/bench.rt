@@ -56,6 +56,7 @@ pub(crate) struct Bench {
     pub(crate) files: Vec<(String, Vec<u8>)>,
     pub(crate) store: MemStore,
     pub(crate) kept: MemStore,
+    pub(crate) before: MemStore,
     pub(crate) names: Vec<String>,
     pub(crate) faults: Faults,
     pub(crate) left: Left,
@@ -69,6 +70,7 @@ impl Bench {
             files: Vec::new(alloc),
             store: empty_store(alloc),
             kept: empty_store(alloc),
+            before: empty_store(alloc),
             names: Vec::new(alloc),
             faults: Faults::NONE,
             left: Left {

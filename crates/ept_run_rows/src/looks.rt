@@ -124,6 +124,21 @@ pub(crate) fn is_same(bench: &Bench) -> bool {
     bench.names.iter().all(|name| bench.store.file(name.as_str()) == bench.kept.file(name.as_str()))
 }
 
+/// Whether each of the files, except those of `ept-work`, is the same in both stores, or in neither.
+pub(crate) fn is_same_output(bench: &Bench) -> bool {
+    bench
+        .names
+        .iter()
+        .filter(|name| !name.as_str().starts_with("ept-work/"))
+        .all(|name| bench.store.file(name.as_str()) == bench.kept.file(name.as_str()))
+}
+
+/// Whether each of the files is as it was in the spoiled store.
+pub(crate) fn is_as_before(bench: &Bench) -> bool {
+    bench.names.iter().all(|name| bench.store.file(name.as_str())
+        == bench.before.file(name.as_str()))
+}
+
 /// How many points the current checkpoint of a store has, and which generation it is; no points and no generation
 /// where there is none.
 pub(crate) fn current(alloc: Global, store: &mut MemStore) -> Result<(u64, u64), Miss> {

@@ -63,7 +63,7 @@ fn answer<R: Threads + Wait + Sync>(
             done(out)
         }
         "run" | "query" | "meet" => runs::answer(rt, bench, call, rest, out),
-        "stops" | "spills" => stops::answer(rt, bench, call, rest, out),
+        "stops" | "fails" | "spoils" => stops::answer(rt, bench, call, rest, out),
         "say" | "starve" | "differ" | "differ-hex" => sentences::answer(bench, call, rest, out),
         _ => looks::answer(bench, call, rest, out),
     }

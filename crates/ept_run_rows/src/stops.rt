@@ -1,10 +1,10 @@
-//! Lines that stop a build at each call of a device in turn, and run it again.
+//! Lines that stop a build at each call of a device in turn, or spoil a file that it left, and run it again.
 
-use crate::bench::Bench;
-use crate::looks::{current, is_same};
+use crate::bench::{Bench, store_with_other};
+use crate::looks::{current, is_as_before, is_same, is_same_output};
 use crate::runs::append_end;
-use crate::stores::{crash, fuse, renew};
-use crate::words::{Miss, first_word, number};
+use crate::stores::{crash, fail_at, fuse, renew, spoil};
+use crate::words::{Miss, first_word, range};
 use ept_mem::Crash;
 use std::fmt::Write;
 use std::sync::Wait;
@@ -12,6 +12,9 @@ use std::thread::Threads;
 
 // The words of the build.
 const BUILD: &str = "build|a.json|out";
+
+// The words of a build of more inputs.
+const MORE: &str = "build|b.json|out";
 
 /// Writes whether builds that were stopped go on.
 pub(crate) fn answer<R: Threads + Wait + Sync>(
@@ -21,12 +24,17 @@ pub(crate) fn answer<R: Threads + Wait + Sync>(
     rest: &str,
     out: &mut String,
 ) -> Result<(), Miss> {
-    let (first, rest) = first_word(rest);
-    let (last, line) = first_word(rest);
-    let calls = (number(first)?, number(last)?);
+    let (first, others) = first_word(rest);
     match call {
-        "stops" => stops(rt, bench, calls, line, out),
-        "spills" => spills(rt, bench, calls, line, out),
+        "stops" => {
+            let (calls, line) = range(rest)?;
+            stops(rt, bench, calls, line, out)
+        }
+        "fails" => {
+            let (calls, line) = range(others)?;
+            fails(rt, bench, first, calls, line, out)
+        }
+        "spoils" => spoils(rt, bench, first, others, out),
         _ => Err(Miss::Form),
     }
 }
@@ -98,19 +106,22 @@ fn append_checkpoints(seen: &mut Vec<Checkpoint>, out: &mut String) -> Result<()
     Ok(())
 }
 
-// `spills FIRST LAST LINE`: lets the calls FIRST, .. of each spill file fail in a build, one in each build, up to the
-// first build that is done all the same, or to LAST. Each build that is refused says that it is a spill file, and ends
-// with this line when it is run again with sound ones.
-fn spills<R: Threads + Wait + Sync>(
+// `fails DEVICE FIRST LAST LINE`: lets the calls FIRST, .. of a device fail in a build, one in each build, up to the first
+// build that is done all the same, or to LAST. Each build that is refused ends with status 7 and says which device it is.
+// Then comes a crash that leaves what was put. The build that is run again over that, with sound devices, ends with this
+// line, and the files are those that are kept.
+fn fails<R: Threads + Wait + Sync>(
     rt: &R,
     bench: &mut Bench,
+    device: &str,
     (first, last): (u64, u64),
     line: &str,
     out: &mut String,
 ) -> Result<(), Miss> {
     for call in first..last {
-        let is_done = is_done(rt, bench, call)?;
-        let is_told = is_done || written(bench) == "error 7 spill";
+        let is_done = is_done(rt, bench, device, call)?;
+        let is_told = is_done || is_said(bench, device, line);
+        crash(bench, Crash::New)?;
         if !is_told || !goes_on(rt, bench, line)? {
             write!(out, "call {call}: ")?;
             return append_end(bench, out);
@@ -124,12 +135,66 @@ fn spills<R: Threads + Wait + Sync>(
     Ok(())
 }
 
-// Builds into a new store with spill files whose call of this number fails. The spill files are sound again after it.
-fn is_done<R: Threads + Wait + Sync>(rt: &R, bench: &mut Bench, call: u64) -> Result<bool, Miss> {
+// Builds into a new store over devices of which one's call of this number fails. They are sound again after it.
+fn is_done<R: Threads + Wait + Sync>(
+    rt: &R,
+    bench: &mut Bench,
+    device: &str,
+    call: u64,
+) -> Result<bool, Miss> {
     renew(bench)?;
-    bench.faults.spill = Some(call);
+    let sound = bench.faults;
+    fail_at(bench, device, call)?;
     let ended = bench.carry_out(rt, BUILD);
-    bench.faults.spill = None;
+    bench.faults = sound;
     ended?;
     Ok(bench.left.status == 0)
+}
+
+// Whether the last run says that this device failed; of a sink, that it wrote no more than the beginning of this line.
+fn is_said(bench: &Bench, device: &str, line: &str) -> bool {
+    let written = written(bench);
+    let is_right = match device {
+        "open" | "read" => written == "error 7 source",
+        "store" => written == "error 7 store",
+        "write" => line.starts_with(written),
+        _ => written == "error 7 spill",
+    };
+    bench.left.status == 7 && is_right
+}
+
+// `spoils HOW NAME`: builds into a new store, spoils a file of it, and builds more inputs. Writes how that ended, and
+// whether the files are right: the output is the one that is kept where it is done, and else each file is as it was.
+fn spoils<R: Threads + Wait + Sync>(
+    rt: &R,
+    bench: &mut Bench,
+    how: &str,
+    name: &str,
+    out: &mut String,
+) -> Result<(), Miss> {
+    build_and_spoil(rt, bench, how, name)?;
+    let fresh = store_with_other(bench.alloc, None)?;
+    bench.before = bench.replace_store(fresh);
+    build_and_spoil(rt, bench, how, name)?;
+    bench.carry_out(rt, MORE)?;
+    append_end(bench, out)?;
+    let is_right = if bench.left.status == 0 {
+        is_same_output(bench)
+    } else {
+        is_as_before(bench)
+    };
+    out.push_str(if is_right { " right" } else { " other" })?;
+    Ok(())
+}
+
+// Builds into a new store, and spoils a file of it.
+fn build_and_spoil<R: Threads + Wait + Sync>(
+    rt: &R,
+    bench: &mut Bench,
+    how: &str,
+    name: &str,
+) -> Result<(), Miss> {
+    renew(bench)?;
+    bench.carry_out(rt, BUILD)?;
+    spoil(bench, how, name)
 }

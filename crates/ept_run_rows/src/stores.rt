@@ -35,7 +35,12 @@ fn fail(bench: &mut Bench, device: &str, call: &str) -> Result<(), Miss> {
         bench.faults = Faults::NONE;
         return Ok(());
     }
-    let call = Some(number(call)?);
+    fail_at(bench, device, number(call)?)
+}
+
+/// Lets the call of this number of a device fail, in each run from now on. A store begins as a new one.
+pub(crate) fn fail_at(bench: &mut Bench, device: &str, call: u64) -> Result<(), Miss> {
+    let call = Some(call);
     match device {
         "open" => bench.faults.open = call,
         "read" => bench.faults.read = call,
@@ -72,9 +77,24 @@ fn put(bench: &mut Bench, name: &str, digits: &str) -> Result<(), Miss> {
 
 // `damage NAME`: cuts the last byte of a file of the store.
 fn damage(bench: &mut Bench, name: &str) -> Result<(), Miss> {
+    spoil(bench, "cut", name)
+}
+
+/// Spoils a file of the store: `remove` takes it away, `cut` its last byte, and `raise` raises its first byte by one.
+pub(crate) fn spoil(bench: &mut Bench, how: &str, name: &str) -> Result<(), Miss> {
     let mut bytes = Vec::new(bench.alloc);
     bytes.extend_from_slice(bench.store.file(name).ok_or(Miss::Form)?)?;
-    bytes.pop().ok_or(Miss::Form)?;
+    match how {
+        "remove" => return bench.store.remove(name).map_err(of_put),
+        "cut" => {
+            bytes.pop().ok_or(Miss::Form)?;
+        }
+        "raise" => {
+            let first = bytes.first_mut().ok_or(Miss::Form)?;
+            *first = first.wrapping_add(1);
+        }
+        _ => return Err(Miss::Form),
+    }
     bench.store.put(name, &bytes).map_err(of_put)
 }
 

@@ -48,8 +48,9 @@ pub(crate) fn size(word: &str) -> Result<usize, Miss> {
     word.parse::<usize>().map_err(|_| Miss::Form)
 }
 
-/// Two words as a range of numbers.
-pub(crate) fn range(text: &str) -> Result<(u64, u64), Miss> {
-    let (first, last) = first_word(text);
-    Ok((number(first)?, number(last)?))
+/// The range of numbers that a text begins with, and the rest of it.
+pub(crate) fn range(text: &str) -> Result<((u64, u64), &str), Miss> {
+    let (first, rest) = first_word(text);
+    let (last, rest) = first_word(rest);
+    Ok(((number(first)?, number(last)?), rest))
 }
