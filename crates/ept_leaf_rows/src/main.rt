@@ -1,6 +1,7 @@
 //! Rows of calls of the lower crates: each line of the input makes one, and the program prints what it answers.
 #![tactic(auto)]
 
+mod filters;
 mod grids;
 mod las;
 mod lying;
@@ -46,6 +47,7 @@ fn answer(alloc: Global, line: &str, out: &mut String) -> Result<(), Miss> {
     match subject {
         "num" | "json" | "clock" => numbers::answer(alloc, call, &mut words, out),
         "point" => packing::answer(alloc, call, &mut words, out),
+        "filter" => filters::answer(alloc, call, &mut words, out),
         "space" => space::answer(alloc, call, &mut words, out),
         "las" => las::answer(alloc, call, &mut words, out),
         "sample" => sampling::answer(alloc, call, &mut words, out),

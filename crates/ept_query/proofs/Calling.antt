@@ -8,6 +8,7 @@ use Rattle.ept_space.specs.VoxelKey.{VoxelKey, IsBefore, key_cmp}
 use Rattle.ept_space.proofs.KeyOrder.{key_cmp_total, key_cmp-less, key_cmp-equal}
 use Rattle.ept_sample.proofs.Members.{IsMember-contains}
 use Rattle.ept_save.specs.Done.{IsDone}
+use Rattle.ept_filter.specs.declared.sift.Sift.{Sift}
 use Rattle.ept_query.specs.declared.search.Search.{Search}
 use Rattle.ept_query.specs.declared.query_error.QueryFile.{QueryFile}
 use Rattle.ept_query.specs.declared.query_error.QueryFile.TheVariants.{BuildJson, Hierarchy, Tile}
@@ -18,7 +19,7 @@ use Rattle.ept_query.specs.Damage.{IsFirstHierarchy, IsFirstTile, IsFirstDamaged
 use Rattle.ept_query.specs.Parts.{Plan}
 use Rattle.ept_query.specs.Planning.{IsPlanFor}
 use Rattle.ept_query.specs.Refusals.{RefusesPlan, RefusesQuery, CallsOfPlan, CallsOfQuery, AnswersOrFails, RefusesAsCalled}
-use Rattle.ept_query.specs.Answers.{Answers}
+use Rattle.ept_query.specs.Answers.{Selects}
 use Rattle.ept_query.specs.Complete.{IsDevices}
 use Rattle.ept_query.proofs.Told.{told}
 use Rattle.ept_query.proofs.Querying.{plan-query, there-tile}
@@ -88,20 +89,20 @@ module _ (area : Box3) (first last : ℕ) (files : Files) where
   plan-uncalled plan is SinkFault called = called
   plan-uncalled plan is Memory called = called
 
-  query-uncalled : (old new : Option (List ℕ)) (count : ℕ) → Answers area first last old new count files → (error : QueryError) → CallsOfQuery area first last error files → ⊥
-  query-uncalled old new count is NotComplete called = called is.is_plan.done
-  query-uncalled old new count is StoreFault called = called
-  query-uncalled old new count is (Damaged BuildJson) called = plan-uncalled is.plan is.is_plan (Damaged BuildJson) called
-  query-uncalled old new count is (Damaged (Hierarchy key)) called = plan-uncalled is.plan is.is_plan (Damaged (Hierarchy key)) called
-  query-uncalled old new count is (Damaged (Tile key)) called = (
+  query-uncalled : (sift : Option Sift) (old new : Option (List ℕ)) (count : ℕ) → Selects sift area first last old new count files → (error : QueryError) → CallsOfQuery area first last error files → ⊥
+  query-uncalled sift old new count is NotComplete called = called is.is_plan.done
+  query-uncalled sift old new count is StoreFault called = called
+  query-uncalled sift old new count is (Damaged BuildJson) called = plan-uncalled is.plan is.is_plan (Damaged BuildJson) called
+  query-uncalled sift old new count is (Damaged (Hierarchy key)) called = plan-uncalled is.plan is.is_plan (Damaged (Hierarchy key)) called
+  query-uncalled sift old new count is (Damaged (Tile key)) called = (
       let kept = is.is_plan.build.0 in
       let built = is.is_plan.build.1 in
       let x = called.1.1 kept built in
       let m = IsMember-contains (key, x.count) is.plan.tiles (((is.is_plan.tiles kept built).each key x.count).1 x.planned) in
       let there = there-tile files is.plan.area is.plan.tiles is.writes.parts (key, x.count) is.writes.read m in
       x.damaged there.0 there.1)
-  query-uncalled old new count is SinkFault called = called
-  query-uncalled old new count is Memory called = called
+  query-uncalled sift old new count is SinkFault called = called
+  query-uncalled sift old new count is Memory called = called
 
 -- ---- what a refusal says
 
@@ -128,6 +129,6 @@ pub plan-comes : (area : Box3) (first last : ℕ) (files : Option Files) (r : Re
 plan-comes area first last files (Ok plan) made refused = λ all is error called. absurd (plan-uncalled area first last all plan (told (IsPlanFor area first last plan) files all is made) error called)
 plan-comes area first last files (Err found) made refused = λ all is error called. refusal-as Plan area first last files all is found error (plan-query area first last files found refused) (of-plan area first last all error called)
 
-pub query-comes : (area : Box3) (first last : ℕ) (files : Option Files) (old new : Option (List ℕ)) (r : Result ℕ QueryError) → IfOk r (λ count. Tells (Answers area first last old new count) files) → IfErr r (RefusesQuery area first last files) → RefusesAsCalled (CallsOfQuery area first last) files r
-query-comes area first last files old new (Ok count) answered refused = λ all is error called. absurd (query-uncalled area first last all old new count (told (Answers area first last old new count) files all is answered) error called)
-query-comes area first last files old new (Err found) answered refused = λ all is error called. refusal-as ℕ area first last files all is found error refused called
+pub query-comes : (sift : Option Sift) (area : Box3) (first last : ℕ) (files : Option Files) (old new : Option (List ℕ)) (r : Result ℕ QueryError) → IfOk r (λ count. Tells (Selects sift area first last old new count) files) → IfErr r (RefusesQuery area first last files) → RefusesAsCalled (CallsOfQuery area first last) files r
+query-comes sift area first last files old new (Ok count) answered refused = λ all is error called. absurd (query-uncalled area first last all sift old new count (told (Selects sift area first last old new count) files all is answered) error called)
+query-comes sift area first last files old new (Err found) answered refused = λ all is error called. refusal-as ℕ area first last files all is found error refused called

@@ -16,6 +16,7 @@ use Rattle.ept_sample.proofs.Ascending.{IsRising}
 use Rattle.ept_sample.proofs.KeyOrder.{key_before, IsRising-AllPairs}
 use Rattle.ept_sample.proofs.Members.{IsMember-contains, contains-IsMember, IsMember-right, IsMember-map, member-map}
 use Rattle.ept_save.specs.Done.{IsDone}
+use Rattle.ept_filter.specs.declared.sift.Sift.{Sift}
 use Rattle.ept_query.specs.declared.query_error.QueryFile.TheVariants.{BuildJson, Hierarchy, Tile}
 use Rattle.ept_query.specs.declared.query_error.QueryError.{QueryError}
 use Rattle.ept_query.specs.declared.query_error.QueryError.TheVariants.{NotComplete, StoreFault, Damaged, SinkFault, Memory}
@@ -26,7 +27,7 @@ use Rattle.ept_query.specs.Parts.{Plan, IsPart}
 use Rattle.ept_query.specs.Planning.{IsPlanFor, GetsFiles, GetsAll}
 use Rattle.ept_query.specs.Refusals.{RefusesPlan, RefusesQuery}
 use Rattle.ept_query.specs.Writing.{WritesAll, WritesFront, WritesBefore, LeavesTiles}
-use Rattle.ept_query.specs.Answers.{Answers, Stops, StopsAt, LeavesQuery}
+use Rattle.ept_query.specs.Answers.{Selects, Stops, StopsAt, LeavesSelection}
 use Rattle.ept_query.proofs.Counting.{fewer}
 use Rattle.ept_query.proofs.Told.{tells-from, told, told-back}
 use Rattle.ept_query.proofs.Written.{part-back, none-back}
@@ -39,14 +40,14 @@ parts-back area [] (p ∷ parts) old new same each = absurd each
 parts-back area (n ∷ nodes) [] old new same each = absurd each
 parts-back area (n ∷ nodes) (p ∷ parts) old new same each = (part-back area n p old new same each.0, parts-back area nodes parts old new same each.1)
 
-all-back : (plan : Plan) (before now : Option (List ℕ)) (count : ℕ) (old new : Files) → SameFiles old new → WritesAll plan before now count new → WritesAll plan before now count old
-all-back plan before now count old new same w = record { parts = w.parts; read = parts-back plan.area plan.tiles w.parts old new same w.read; written = w.written; counted = w.counted }
+all-back : (sift : Option Sift) (plan : Plan) (before now : Option (List ℕ)) (count : ℕ) (old new : Files) → SameFiles old new → WritesAll sift plan before now count new → WritesAll sift plan before now count old
+all-back sift plan before now count old new same w = record { parts = w.parts; read = parts-back plan.area plan.tiles w.parts old new same w.read; written = w.written; counted = w.counted }
 
-front-back : (plan : Plan) (before now : Option (List ℕ)) (old new : Files) → SameFiles old new → WritesFront plan before now new → WritesFront plan before now old
-front-back plan before now old new same w = record { front = w.front; back = w.back; split = w.split; parts = w.parts; read = parts-back plan.area w.front w.parts old new same w.read; written = w.written }
+front-back : (sift : Option Sift) (plan : Plan) (before now : Option (List ℕ)) (old new : Files) → SameFiles old new → WritesFront sift plan before now new → WritesFront sift plan before now old
+front-back sift plan before now old new same w = record { front = w.front; back = w.back; split = w.split; parts = w.parts; read = parts-back plan.area w.front w.parts old new same w.read; written = w.written }
 
-before-back : (plan : Plan) (key : VoxelKey) (before now : Option (List ℕ)) (old new : Files) → SameFiles old new → WritesBefore plan key before now new → WritesBefore plan key before now old
-before-back plan key before now old new same w = record { front = w.front; count = w.count; back = w.back; split = w.split; damaged = none-back (key, w.count) old new same w.damaged; parts = w.parts; read = parts-back plan.area w.front w.parts old new same w.read; written = w.written }
+before-back : (sift : Option Sift) (plan : Plan) (key : VoxelKey) (before now : Option (List ℕ)) (old new : Files) → SameFiles old new → WritesBefore sift plan key before now new → WritesBefore sift plan key before now old
+before-back sift plan key before now old new same w = record { front = w.front; count = w.count; back = w.back; split = w.split; damaged = none-back (key, w.count) old new same w.damaged; parts = w.parts; read = parts-back plan.area w.front w.parts old new same w.read; written = w.written }
 
 -- ---- where there is no plan
 
@@ -59,14 +60,14 @@ plan-query area first last files (Damaged BuildJson) refused = refused
 plan-query area first last files (Damaged (Hierarchy key)) refused = refused
 plan-query area first last files (Damaged (Tile key)) refused = absurd refused
 
-pub plan-leaves : (area : Box3) (first last : ℕ) (files : Option Files) (old : Option (List ℕ)) (error : QueryError) → RefusesPlan area first last files error → LeavesQuery area first last files old old error
-plan-leaves area first last files old NotComplete refused = refl
-plan-leaves area first last files old StoreFault refused = inl refl
-plan-leaves area first last files old SinkFault refused = absurd refused
-plan-leaves area first last files old Memory refused = inl refl
-plan-leaves area first last files old (Damaged BuildJson) refused = refl
-plan-leaves area first last files old (Damaged (Hierarchy key)) refused = refl
-plan-leaves area first last files old (Damaged (Tile key)) refused = absurd refused
+pub plan-leaves : (sift : Option Sift) (area : Box3) (first last : ℕ) (files : Option Files) (old : Option (List ℕ)) (error : QueryError) → RefusesPlan area first last files error → LeavesSelection sift area first last files old old error
+plan-leaves sift area first last files old NotComplete refused = refl
+plan-leaves sift area first last files old StoreFault refused = inl refl
+plan-leaves sift area first last files old SinkFault refused = absurd refused
+plan-leaves sift area first last files old Memory refused = inl refl
+plan-leaves sift area first last files old (Damaged BuildJson) refused = refl
+plan-leaves sift area first last files old (Damaged (Hierarchy key)) refused = refl
+plan-leaves sift area first last files old (Damaged (Tile key)) refused = absurd refused
 
 pub gets-none : (area : Box3) (first last : ℕ) (files : Option Files) (old new : ℕ) → Tells (GetsFiles area first last old new) files → Tells (GetsAll area first last old new) files
 gets-none area first last files old new few = tells-from (GetsAll area first last old new) files (λ all is needed planned each others. (
@@ -95,8 +96,8 @@ stands-first [] back node other rise (inr m) less =
 stands-first (x ∷ front) back node other rise (inl is) less = inl is
 stands-first (x ∷ front) back node other rise (inr m) less = inr (stands-first front back node other rise.1 m less)
 
-first-tile : (area : Box3) (first last : ℕ) (plan : Plan) (key : VoxelKey) (old new : Option (List ℕ)) (files : Files) (is : IsPlanFor area first last plan files) → WritesBefore plan key old new files → (kept : Kept) → IsBuiltWith files kept → IsFirstTile (search_of kept area first last) files key
-first-tile area first last plan key old new files is w kept built = record {
+first-tile : (sift : Option Sift) (area : Box3) (first last : ℕ) (plan : Plan) (key : VoxelKey) (old new : Option (List ℕ)) (files : Files) (is : IsPlanFor area first last plan files) → WritesBefore sift plan key old new files → (kept : Kept) → IsBuiltWith files kept → IsFirstTile (search_of kept area first last) files key
+first-tile sift area first last plan key old new files is w kept built = record {
   each = is.each kept built;
   count = w.count;
   planned = ((is.tiles kept built).each key w.count).0 (contains-IsMember (key, w.count) plan.tiles (subst (λ (ns : List Node). IsMember (key, w.count) ns) (sym w.split) (IsMember-right (key, w.count) w.front ((key, w.count) ∷ w.back) (inl refl))));
@@ -108,38 +109,38 @@ first-tile area first last plan key old new files is w kept built = record {
 
 -- ---- where the tiles end
 
-module _ (area : Box3) (first last : ℕ) (plan : Plan) (area_is : plan.area ≡ area) (before now : Option Files) (is_plan : Tells (IsPlanFor area first last plan) before) (steps : StepsBy SameFiles before now) where
-  pub tiles-answer : (old new : Option (List ℕ)) (count : ℕ) → Tells (WritesAll plan old new count) now → Tells (Answers area first last old new count) before
-  tiles-answer old new count written = tells-from (Answers area first last old new count) before (λ all is. record {
+module _ (sift : Option Sift) (area : Box3) (first last : ℕ) (plan : Plan) (area_is : plan.area ≡ area) (before now : Option Files) (is_plan : Tells (IsPlanFor area first last plan) before) (steps : StepsBy SameFiles before now) where
+  pub tiles-answer : (old new : Option (List ℕ)) (count : ℕ) → Tells (WritesAll sift plan old new count) now → Tells (Selects sift area first last old new count) before
+  tiles-answer old new count written = tells-from (Selects sift area first last old new count) before (λ all is. record {
     plan = plan;
     is_plan = told (IsPlanFor area first last plan) before all is is_plan;
     area_is = area_is;
-    writes = told-back (WritesAll plan old new count) (all-back plan old new count) before now all is steps written;
+    writes = told-back (WritesAll sift plan old new count) (all-back sift plan old new count) before now all is steps written;
   })
 
-  stops-query : (old new : Option (List ℕ)) → Tells (WritesFront plan old new) now → Tells (Stops area first last old new) before
-  stops-query old new written = tells-from (Stops area first last old new) before (λ all is. record {
+  stops-query : (old new : Option (List ℕ)) → Tells (WritesFront sift plan old new) now → Tells (Stops sift area first last old new) before
+  stops-query old new written = tells-from (Stops sift area first last old new) before (λ all is. record {
     plan = plan;
     is_plan = told (IsPlanFor area first last plan) before all is is_plan;
     area_is = area_is;
-    writes = told-back (WritesFront plan old new) (front-back plan old new) before now all is steps written;
+    writes = told-back (WritesFront sift plan old new) (front-back sift plan old new) before now all is steps written;
   })
 
-  pub tiles-leave : (old new : Option (List ℕ)) (error : QueryError) → LeavesTiles plan now old new error → LeavesQuery area first last before old new error
+  pub tiles-leave : (old new : Option (List ℕ)) (error : QueryError) → LeavesTiles sift plan now old new error → LeavesSelection sift area first last before old new error
   tiles-leave old new NotComplete left = absurd left
   tiles-leave old new StoreFault left = inr (stops-query old new left)
   tiles-leave old new SinkFault left = stops-query old new left
   tiles-leave old new Memory left = inr (stops-query old new left)
   tiles-leave old new (Damaged BuildJson) left = absurd left
   tiles-leave old new (Damaged (Hierarchy key)) left = absurd left
-  tiles-leave old new (Damaged (Tile key)) left = tells-from (StopsAt area first last key old new) before (λ all is. record {
+  tiles-leave old new (Damaged (Tile key)) left = tells-from (StopsAt sift area first last key old new) before (λ all is. record {
     plan = plan;
     is_plan = told (IsPlanFor area first last plan) before all is is_plan;
     area_is = area_is;
-    writes = told-back (WritesBefore plan key old new) (before-back plan key old new) before now all is steps left;
+    writes = told-back (WritesBefore sift plan key old new) (before-back sift plan key old new) before now all is steps left;
   })
 
-  pub tiles-refuse : (old new : Option (List ℕ)) (error : QueryError) → LeavesTiles plan now old new error → RefusesQuery area first last before error
+  pub tiles-refuse : (old new : Option (List ℕ)) (error : QueryError) → LeavesTiles sift plan now old new error → RefusesQuery area first last before error
   tiles-refuse old new NotComplete left = absurd left
   tiles-refuse old new StoreFault left = tt
   tiles-refuse old new SinkFault left = tt
@@ -148,14 +149,14 @@ module _ (area : Box3) (first last : ℕ) (plan : Plan) (area_is : plan.area ≡
   tiles-refuse old new (Damaged (Hierarchy key)) left = absurd left
   tiles-refuse old new (Damaged (Tile key)) left = tells-from (λ all. IsDone all × IsFirstDamaged area first last (Tile key) all) before (λ all is. (
       let p = told (IsPlanFor area first last plan) before all is is_plan in
-      let w = told-back (WritesBefore plan key old new) (before-back plan key old new) before now all is steps left in
-      (p.done, (p.build, λ kept built. first-tile area first last plan key old new all p w kept built))))
+      let w = told-back (WritesBefore sift plan key old new) (before-back sift plan key old new) before now all is steps left in
+      (p.done, (p.build, λ kept built. first-tile sift area first last plan key old new all p w kept built))))
 
-  pub tiles-left : (old new : Option (List ℕ)) (r : Result ℕ QueryError) → IfErr r (LeavesTiles plan now old new) → IfErr r (LeavesQuery area first last before old new)
+  pub tiles-left : (old new : Option (List ℕ)) (r : Result ℕ QueryError) → IfErr r (LeavesTiles sift plan now old new) → IfErr r (LeavesSelection sift area first last before old new)
   tiles-left old new (Ok count) left = tt
   tiles-left old new (Err error) left = tiles-leave old new error left
 
-  pub tiles-refused : (old new : Option (List ℕ)) (r : Result ℕ QueryError) → IfErr r (LeavesTiles plan now old new) → IfErr r (RefusesQuery area first last before)
+  pub tiles-refused : (old new : Option (List ℕ)) (r : Result ℕ QueryError) → IfErr r (LeavesTiles sift plan now old new) → IfErr r (RefusesQuery area first last before)
   tiles-refused old new (Ok count) left = tt
   tiles-refused old new (Err error) left = tiles-refuse old new error left
 

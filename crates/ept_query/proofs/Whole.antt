@@ -1,5 +1,5 @@
 -- What a query gives of a folder with the whole output of some points.
-use Rattle.std.proofs.Common.{◌≡◌, ◌∙◌, ◌+◌, ◌^◌, ◌<◌, ◌≤◌, ℕ, suc, List, [], ◌∷◌, ◌++◌, length, map, filter, refl, sym, ap, subst, inl, inr, ◌⊎◌, ⊎_elim, arith, Option, Some, Result, Ok, Err, Bool, true, false, cond, length-append}
+use Rattle.std.proofs.Common.{◌≡◌, ◌∙◌, ◌+◌, ◌^◌, ◌<◌, ◌≤◌, ℕ, suc, List, [], ◌∷◌, ◌++◌, length, map, filter, refl, sym, ap, subst, inl, inr, ◌⊎◌, ⊎_elim, arith, Option, Some, None, Result, Ok, Err, Bool, true, false, cond, length-append}
 use Rattle.std.specs.Prelude.{IfOk, IfErr}
 use Rattle.std.specs.List.{AllZip, flat_map}
 use Rattle.std.specs.Io.KnownBytes.{Appends}
@@ -25,21 +25,25 @@ use Rattle.ept_meta.specs.OutputLaws.{PointsCanBeSampled}
 use Rattle.ept_query.specs.declared.query_error.QueryFile.TheVariants as file
 use Rattle.ept_query.specs.declared.query_error.QueryError.{QueryError}
 use Rattle.ept_query.specs.declared.query_error.QueryError.TheVariants.{NotComplete, StoreFault, Damaged, SinkFault, Memory}
+use Rattle.ept_filter.specs.declared.sift.Sift.{Sift}
+use Rattle.ept_filter.specs.Sifting.{passes}
 use Rattle.ept_save.specs.Complete.{IsComplete}
 use Rattle.ept_query.specs.Causes.{IsStores}
-use Rattle.ept_query.specs.Rows.{Row, rows_of, is_asked, asked_rows, answer}
+use Rattle.ept_query.specs.Rows.{Row, rows_of, is_asked, asked_rows, asked_points}
 use Rattle.ept_query.specs.Search.{search_of}
 use Rattle.ept_query.specs.Plan.{IsPlanned, IsPlan}
 use Rattle.ept_query.specs.Parts.{Plan, IsPart, points_of}
 use Rattle.ept_query.specs.Planning.{IsPlanFor}
 use Rattle.ept_query.specs.Refusals.{RefusesPlan, RefusesQuery, CallsOfQuery}
-use Rattle.ept_query.specs.Answers.{Answers, Stops, LeavesQuery}
-use Rattle.ept_query.specs.Complete.{IsWholePlan, IsDevices, AnswersWhole}
+use Rattle.ept_query.specs.Kept.{kept_bytes, kept_count}
+use Rattle.ept_query.specs.Answers.{Selects, Stops, LeavesSelection}
+use Rattle.ept_query.specs.Complete.{IsWholePlan, IsDevices, AnswersWhole, SelectsWhole}
 use Rattle.ept_query.proofs.Told.{told}
 use Rattle.ept_query.proofs.Querying.{plan-query}
 use Rattle.ept_query.proofs.Calling.{refusal-called}
 use Rattle.ept_query.proofs.Laid.{IsLaid, size-at, each-laid, planned-laid, laid-planned, tile-laid}
 use Rattle.ept_query.proofs.Asked.{parts-whole, parts-front}
+use Rattle.ept_query.proofs.Written.{kept-append}
 use Rattle.ept_query.proofs.Completing.{few-points, output-laid}
 
 -- ---- fronts of bytes
@@ -61,6 +65,10 @@ length-filter_le test (x ∷ xs) = by_test (test x) (length-filter_le test xs)
     by_test : (b : Bool) → length (filter test xs) ≤ length xs → length (cond b (x ∷ filter test xs) (filter test xs)) ≤ suc (length xs)
     by_test true rest = omega (arith, rest)
     by_test false rest = omega (arith, rest)
+
+count-le : (sift : Option Sift) (ps : List Point) → kept_count sift ps ≤ length ps
+count-le None ps = omega arith
+count-le (Some sift) ps = length-filter_le (passes sift) ps
 
 length-rows : (tiles : List Tile) → length (rows_of tiles) ≡ length (flat_map (λ (t : Tile). t.points) tiles)
 length-rows [] = refl
@@ -125,32 +133,56 @@ module _ (read-back : FilesAreReadBack) (can-sample : PointsCanBeSampled) (kept 
       let most = few-points points (length kept.inputs) kept.layout.inputs_most whole.points_are.ascend (λ p m. all-member (λ (q : Point). q.origin < length kept.inputs) p points whole.points_are.origins m) in
       omega (arith, some, rows, same, most)
 
-  front-of : (old new : Option (List ℕ)) → Stops area first last old new all → AppendsPrefix old new (answer kept points area first last)
-  front-of old new s =
-      let read : AllZip (IsPart all area) s.writes.front s.writes.parts = subst (λ (b : Box3). AllZip (IsPart all b) s.writes.front s.writes.parts) s.area_is s.writes.read in
-      let front = parts-front kept points all area first last laid s.plan.tiles (s.is_plan.tiles kept laid.built) s.writes.front s.writes.back s.writes.parts s.writes.split read in
-      let bytes : answer kept points area first last ≡ tile (points_of s.writes.parts) ++ tile front.0 = ap (λ (w : List Point). tile w) front.1 ∙ flat_map-append packed (points_of s.writes.parts) front.0 in
-      subst (λ (w : List ℕ). AppendsPrefix old new w) (sym bytes) (prefix-more old new (tile (points_of s.writes.parts)) (tile front.0) s.writes.written)
+  -- what is kept of the points that are asked for
+  asked : List Point
+  asked = asked_points kept points area first last
 
-  none-or-front : (files : Option Files) → files ≡ Some all → (old new : Option (List ℕ)) → (new ≡ old) ⊎ Tells (Stops area first last old new) files → AppendsPrefix old new (answer kept points area first last)
-  none-or-front files is old new (inl same) = subst (λ (w : Option (List ℕ)). AppendsPrefix old w (answer kept points area first last)) (sym same) (prefix-none old (answer kept points area first last))
-  none-or-front files is old new (inr stops) = front-of old new (told (Stops area first last old new) files all is stops)
+  module _ (sift : Option Sift) where
+    front-of : (old new : Option (List ℕ)) → Stops sift area first last old new all → AppendsPrefix old new (kept_bytes sift asked)
+    unfolding asked
+    front-of old new s =
+        let read : AllZip (IsPart all area) s.writes.front s.writes.parts = subst (λ (b : Box3). AllZip (IsPart all b) s.writes.front s.writes.parts) s.area_is s.writes.read in
+        let front = parts-front kept points all area first last laid s.plan.tiles (s.is_plan.tiles kept laid.built) s.writes.front s.writes.back s.writes.parts s.writes.split read in
+        let bytes : kept_bytes sift (asked_points kept points area first last) ≡ kept_bytes sift (points_of s.writes.parts) ++ kept_bytes sift front.0 = ap (kept_bytes sift) front.1 ∙ kept-append sift (points_of s.writes.parts) front.0 in
+        subst (λ (w : List ℕ). AppendsPrefix old new w) (sym bytes) (prefix-more old new (kept_bytes sift (points_of s.writes.parts)) (kept_bytes sift front.0) s.writes.written)
 
-  left-front : (files : Option Files) → files ≡ Some all → (old new : Option (List ℕ)) (error : QueryError) → IsDevices error → LeavesQuery area first last files old new error → AppendsPrefix old new (answer kept points area first last)
-  left-front files is old new NotComplete device left = absurd device
-  left-front files is old new StoreFault device left = none-or-front files is old new left
-  left-front files is old new (Damaged found) device left = absurd device
-  left-front files is old new SinkFault device left = none-or-front files is old new (inr left)
-  left-front files is old new Memory device left = none-or-front files is old new left
+    none-or-front : (files : Option Files) → files ≡ Some all → (old new : Option (List ℕ)) → (new ≡ old) ⊎ Tells (Stops sift area first last old new) files → AppendsPrefix old new (kept_bytes sift asked)
+    none-or-front files is old new (inl same) = subst (λ (w : Option (List ℕ)). AppendsPrefix old w (kept_bytes sift asked)) (sym same) (prefix-none old (kept_bytes sift asked))
+    none-or-front files is old new (inr stops) = front-of old new (told (Stops sift area first last old new) files all is stops)
 
-  pub answers-whole : (files : Option Files) → files ≡ Some all → (old new : Option (List ℕ)) (r : Result ℕ QueryError) → IfOk r (λ count. Tells (Answers area first last old new count) files) → IfErr r (RefusesQuery area first last files) → IfErr r (LeavesQuery area first last files old new) → AnswersWhole kept points area first last old new r
+    left-front : (files : Option Files) → files ≡ Some all → (old new : Option (List ℕ)) (error : QueryError) → IsDevices error → LeavesSelection sift area first last files old new error → AppendsPrefix old new (kept_bytes sift asked)
+    left-front files is old new NotComplete device left = absurd device
+    left-front files is old new StoreFault device left = none-or-front files is old new left
+    left-front files is old new (Damaged found) device left = absurd device
+    left-front files is old new SinkFault device left = none-or-front files is old new (inr left)
+    left-front files is old new Memory device left = none-or-front files is old new left
+
+    fewer-kept : kept_count sift asked ≤ length asked
+    fewer-kept = count-le sift asked
+
+    all-kept : (files : Option Files) → files ≡ Some all → (old new : Option (List ℕ)) (count : ℕ) → Tells (Selects sift area first last old new count) files → Appends old new (kept_bytes sift asked) × (count ≡ kept_count sift asked)
+    unfolding asked
+    all-kept files is old new count answered =
+        let a = told (Selects sift area first last old new count) files all is answered in
+        let read : AllZip (IsPart all area) a.plan.tiles a.writes.parts = subst (λ (b : Box3). AllZip (IsPart all b) a.plan.tiles a.writes.parts) a.area_is a.writes.read in
+        let rows = parts-whole kept points all area first last laid a.plan.tiles (a.is_plan.tiles kept laid.built) a.writes.parts read in
+        let size : kept_count sift (points_of a.writes.parts) ≡ kept_count sift (asked_points kept points area first last) = ap (kept_count sift) rows in
+        let counted = a.writes.counted in
+        let fewer = count-le sift (asked_points kept points area first last) in
+        let rows_are = length-map (asked_rows kept points area first last) (λ (row : Row). row.1) in
+        let most = few in
+        (subst (λ (w : List Point). Appends old new (kept_bytes sift w)) rows a.writes.written, omega (arith, size, counted, fewer, rows_are, most))
+
+  pub answers-whole : (files : Option Files) → files ≡ Some all → (old new : Option (List ℕ)) (r : Result ℕ QueryError) → IfOk r (λ count. Tells (Selects None area first last old new count) files) → IfErr r (RefusesQuery area first last files) → IfErr r (LeavesSelection None area first last files old new) → AnswersWhole kept points area first last old new r
+  unfolding asked
   answers-whole files is old new (Ok count) answered refused left =
-      let a = told (Answers area first last old new count) files all is answered in
-      let read : AllZip (IsPart all area) a.plan.tiles a.writes.parts = subst (λ (b : Box3). AllZip (IsPart all b) a.plan.tiles a.writes.parts) a.area_is a.writes.read in
-      let rows = parts-whole kept points all area first last laid a.plan.tiles (a.is_plan.tiles kept laid.built) a.writes.parts read in
-      let size : length (points_of a.writes.parts) ≡ length (asked_rows kept points area first last) = ap (λ (w : List Point). length w) rows ∙ length-map (asked_rows kept points area first last) (λ (row : Row). row.1) in
-      let counted = a.writes.counted in
-      let most = few in
-      (subst (λ (w : List Point). Appends old new (tile w)) rows a.writes.written, omega (arith, size, counted, most))
+      let kept_all = all-kept None files is old new count answered in
+      (kept_all.0, kept_all.1 ∙ length-map (asked_rows kept points area first last) (λ (row : Row). row.1))
   answers-whole files is old new (Err error) answered refused left =
-      let device = by-device files is error refused in (left-front files is old new error device left, device)
+      let device = by-device files is error refused in (left-front None files is old new error device left, device)
+
+  pub selects-whole : (sift : Sift) (files : Option Files) → files ≡ Some all → (old new : Option (List ℕ)) (r : Result ℕ QueryError) → IfOk r (λ count. Tells (Selects (Some sift) area first last old new count) files) → IfErr r (RefusesQuery area first last files) → IfErr r (LeavesSelection (Some sift) area first last files old new) → SelectsWhole sift kept points area first last old new r
+  unfolding asked
+  selects-whole sift files is old new (Ok count) answered refused left = all-kept (Some sift) files is old new count answered
+  selects-whole sift files is old new (Err error) answered refused left =
+      let device = by-device files is error refused in (left-front (Some sift) files is old new error device left, device)

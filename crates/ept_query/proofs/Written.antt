@@ -1,15 +1,18 @@
 -- What was written so far of the tiles of a plan.
-use Rattle.std.proofs.Common.{◌≡◌, ◌∙◌, ◌+◌, ◌-◌, ◌^◌, ◌<◌, ◌≤◌, ℕ, suc, min, List, [], ◌∷◌, ◌++◌, length, take, drop, refl, sym, ap, subst, arith, Option, Some, length-append}
-use Rattle.std.specs.List.{AllZip}
+use Rattle.std.proofs.Common.{◌≡◌, ◌∙◌, ◌+◌, ◌-◌, ◌^◌, ◌<◌, ◌≤◌, ℕ, suc, min, List, [], ◌∷◌, ◌++◌, length, take, drop, refl, sym, ap, subst, arith, Option, Some, None, filter, length-append}
+use Rattle.std.specs.List.{AllZip, flat_map}
 use Rattle.std.specs.Io.KnownBytes.{Appends}
 use Rattle.std.proofs.Math.Seq.{take-length, take-append-add, drop-cons}
 use Rattle.std.proofs.lemmas.List.{take_more, take_all, take-append-drop, append-nil}
 use Rattle.std.proofs.lemmas.List.Concat.{flat_map-append}
+use Rattle.std.proofs.lemmas.List.Elements.{filter-append}
 use Rattle.ept_base.specs.Devices.{AppendsPrefix}
 use Rattle.ept_base.specs.Files.{Files, SameFiles, StepsBy, Tells}
 use Rattle.ept_base.proofs.Runs.{appends_none, appends_both}
 use Rattle.ept_point.specs.declared.point.Point.{Point}
 use Rattle.ept_point.specs.Packed.{packed, tile}
+use Rattle.ept_filter.specs.declared.sift.Sift.{Sift}
+use Rattle.ept_filter.specs.Sifting.{passes, cut}
 use Rattle.ept_space.specs.declared.box3.Box3.{Box3}
 use Rattle.ept_space.specs.VoxelKey.{VoxelKey, root}
 use Rattle.ept_hier.specs.Hierarchy.{Node}
@@ -19,15 +22,16 @@ use Rattle.ept_query.specs.declared.query_error.QueryError.{QueryError}
 use Rattle.ept_query.specs.declared.query_error.QueryError.TheVariants.{NotComplete, StoreFault, Damaged, SinkFault, Memory}
 use Rattle.ept_query.specs.Damage.{HasTile, HasNoTile}
 use Rattle.ept_query.specs.Parts.{Plan, IsPart, IsPartOf, points_in, points_of, node_at}
+use Rattle.ept_query.specs.Kept.{kept_bytes, kept_count}
 use Rattle.ept_query.specs.Writing.{WritesTile, WritesSome, LeavesTile, WritesAll, WritesFront, WritesBefore, LeavesTiles}
 use Rattle.ept_query.proofs.Told.{tells-from, told, told-back}
 
--- these tiles were read, and their parts appended, which have so many points
-pub record AreWritten (files : Files) (area : Box3) (nodes : List Node) (old new : Option (List ℕ)) (count : ℕ) : Type 0 where
+-- these tiles were read, and what is kept of their parts appended, and of so many points
+pub record AreWritten (sift : Option Sift) (files : Files) (area : Box3) (nodes : List Node) (old new : Option (List ℕ)) (count : ℕ) : Type 0 where
   pub parts : List (List Point)
   pub read : AllZip (IsPart files area) nodes parts
-  pub written : Appends old new (tile (points_of parts))
-  pub counted : count ≡ min (length (points_of parts)) (2 ^ 64 - 1)
+  pub written : Appends old new (kept_bytes sift (points_of parts))
+  pub counted : count ≡ min (kept_count sift (points_of parts)) (2 ^ 64 - 1)
 
 zip-push : {A B : Type 0} (R : A → B → Type 0) (xs : List A) (ys : List B) (x : A) (y : B) → AllZip R xs ys → R x y → AllZip R (xs ++ x ∷ []) (ys ++ y ∷ [])
 zip-push R [] [] x y each one = (one, tt)
@@ -38,26 +42,46 @@ zip-push R (a ∷ xs) (b ∷ ys) x y each one = (each.0, zip-push R xs ys x y ea
 points-more : (parts : List (List Point)) (part : List Point) → points_of (parts ++ part ∷ []) ≡ points_of parts ++ part
 points-more parts part = flat_map-append (λ (p : List Point). p) parts (part ∷ []) ∙ ap (λ (w : List Point). points_of parts ++ w) (append-nil part)
 
-tile-append : (one two : List Point) → tile (one ++ two) ≡ tile one ++ tile two
-tile-append one two = flat_map-append packed one two
+pub kept-append : (sift : Option Sift) (one two : List Point) → kept_bytes sift (one ++ two) ≡ kept_bytes sift one ++ kept_bytes sift two
+kept-append None one two = flat_map-append packed one two
+kept-append (Some sift) one two =
+    ap (flat_map (cut sift)) (filter-append (passes sift) one two) ∙ flat_map-append (cut sift) (filter (passes sift) one) (filter (passes sift) two)
 
-pub written-none : (files : Files) (area : Box3) (old : Option (List ℕ)) → AreWritten files area [] old old 0
-written-none files area old = record { parts = []; read = tt; written = appends_none old; counted = refl }
+count-append : (sift : Option Sift) (one two : List Point) → kept_count sift (one ++ two) ≡ kept_count sift one + kept_count sift two
+count-append None one two = length-append one two
+count-append (Some sift) one two =
+    ap (λ (w : List Point). length w) (filter-append (passes sift) one two) ∙ length-append (filter (passes sift) one) (filter (passes sift) two)
 
-pub written-more : (files : Files) (area : Box3) (nodes : List Node) (node : Node) (old mid new : Option (List ℕ)) (count n total : ℕ) → AreWritten files area nodes old mid count → WritesTile area node mid new n files → total ≡ min (count + n) (2 ^ 64 - 1) → AreWritten files area (nodes ++ node ∷ []) old new total
-written-more files area nodes node old mid new count n total was one sum = record {
+none-bytes : (sift : Option Sift) → kept_bytes sift [] ≡ []
+none-bytes None = refl
+none-bytes (Some sift) = refl
+
+none-count : (sift : Option Sift) → kept_count sift [] ≡ 0
+none-count None = refl
+none-count (Some sift) = refl
+
+pub written-none : (sift : Option Sift) (files : Files) (area : Box3) (old : Option (List ℕ)) → AreWritten sift files area [] old old 0
+written-none sift files area old = record {
+  parts = [];
+  read = tt;
+  written = subst (λ (w : List ℕ). Appends old old w) (sym (none-bytes sift)) (appends_none old);
+  counted = omega (arith, none-count sift);
+}
+
+pub written-more : (sift : Option Sift) (files : Files) (area : Box3) (nodes : List Node) (node : Node) (old mid new : Option (List ℕ)) (count n total : ℕ) → AreWritten sift files area nodes old mid count → WritesTile sift area node mid new n files → total ≡ min (count + n) (2 ^ 64 - 1) → AreWritten sift files area (nodes ++ node ∷ []) old new total
+written-more sift files area nodes node old mid new count n total was one sum = record {
   parts = was.parts ++ one.part ∷ [];
   read = zip-push (IsPart files area) nodes was.parts node one.part was.read one.is_part;
-  written = subst (λ (w : List ℕ). Appends old new w) (sym bytes) (appends_both old mid new (tile (points_of was.parts)) (tile one.part) was.written one.written);
+  written = subst (λ (w : List ℕ). Appends old new w) (sym bytes) (appends_both old mid new (kept_bytes sift (points_of was.parts)) (kept_bytes sift one.part) was.written one.written);
   counted = (
       let a = was.counted in
       let b = one.counted in
-      let c : length (points_of (was.parts ++ one.part ∷ [])) ≡ length (points_of was.parts) + length one.part = ap (λ (w : List Point). length w) (points-more was.parts one.part) ∙ length-append (points_of was.parts) one.part in
+      let c : kept_count sift (points_of (was.parts ++ one.part ∷ [])) ≡ kept_count sift (points_of was.parts) + kept_count sift one.part = ap (kept_count sift) (points-more was.parts one.part) ∙ count-append sift (points_of was.parts) one.part in
       omega (arith, a, b, c, sum));
 }
   where
-    bytes : tile (points_of (was.parts ++ one.part ∷ [])) ≡ tile (points_of was.parts) ++ tile one.part
-    bytes = ap (λ (w : List Point). tile w) (points-more was.parts one.part) ∙ tile-append (points_of was.parts) one.part
+    bytes : kept_bytes sift (points_of (was.parts ++ one.part ∷ [])) ≡ kept_bytes sift (points_of was.parts) ++ kept_bytes sift one.part
+    bytes = ap (kept_bytes sift) (points-more was.parts one.part) ∙ kept-append sift (points_of was.parts) one.part
 
 -- ---- one tile
 
@@ -68,11 +92,19 @@ has-tile area node bytes count files is all same = record {
   form = record { packed = refl; ascend = is.ascend; counted = is.counted };
 }
 
-pub writes-some : (area : Box3) (node : Node) (bytes from : List ℕ) (count : ℕ) (files : Option Files) (old new : Option (List ℕ)) → IsPartOf area node bytes count files → from ≡ bytes → AppendsPrefix old new from → Tells (WritesSome area node old new) files
-writes-some area node bytes from count files old new is same appended = tells-from (WritesSome area node old new) files (λ all at. record {
+pub writes-some : (sift : Option Sift) (area : Box3) (node : Node) (bytes kept from : List ℕ) (count : ℕ) (files : Option Files) (old new : Option (List ℕ)) → IsPartOf area node bytes count files → ((points : List Point) → bytes ≡ tile points → kept ≡ kept_bytes sift points) → from ≡ kept → AppendsPrefix old new from → Tells (WritesSome sift area node old new) files
+writes-some sift area node bytes kept from count files old new is trimmed same appended = tells-from (WritesSome sift area node old new) files (λ all at. record {
   part = points_in area is.points;
   is_part = record { points = is.points; has = has-tile area node bytes count files is all at; inside = refl };
-  written = subst (λ (w : List ℕ). AppendsPrefix old new w) (same ∙ is.bytes_are) appended;
+  written = subst (λ (w : List ℕ). AppendsPrefix old new w) (same ∙ trimmed (points_in area is.points) is.bytes_are) appended;
+})
+
+pub writes-all : (sift : Option Sift) (area : Box3) (node : Node) (bytes kept from : List ℕ) (count number : ℕ) (files : Option Files) (old new : Option (List ℕ)) → IsPartOf area node bytes count files → ((points : List Point) → bytes ≡ tile points → kept ≡ kept_bytes sift points) → ((points : List Point) → bytes ≡ tile points → count ≡ length points → number ≡ kept_count sift points) → from ≡ kept → Appends old new from → Tells (WritesTile sift area node old new number) files
+writes-all sift area node bytes kept from count number files old new is trimmed numbered same appended = tells-from (WritesTile sift area node old new number) files (λ all at. record {
+  part = points_in area is.points;
+  is_part = record { points = is.points; has = has-tile area node bytes count files is all at; inside = refl };
+  written = subst (λ (w : List ℕ). Appends old new w) (same ∙ trimmed (points_in area is.points) is.bytes_are) appended;
+  counted = numbered (points_in area is.points) is.bytes_are is.number_is;
 })
 
 -- ---- where the tiles end
@@ -100,25 +132,25 @@ has-tile-back node points old new same has = record { bytes = has.bytes; there =
 pub part-back : (area : Box3) (node : Node) (part : List Point) (old new : Files) → SameFiles old new → IsPart new area node part → IsPart old area node part
 part-back area node part old new same is = record { points = is.points; has = has-tile-back node is.points old new same is.has; inside = is.inside }
 
-some-back : (area : Box3) (node : Node) (before now : Option (List ℕ)) (old new : Files) → SameFiles old new → WritesSome area node before now new → WritesSome area node before now old
-some-back area node before now old new same some = record { part = some.part; is_part = part-back area node some.part old new same some.is_part; written = some.written }
+some-back : (sift : Option Sift) (area : Box3) (node : Node) (before now : Option (List ℕ)) (old new : Files) → SameFiles old new → WritesSome sift area node before now new → WritesSome sift area node before now old
+some-back sift area node before now old new same some = record { part = some.part; is_part = part-back area node some.part old new same some.is_part; written = some.written }
 
-tile-back : (area : Box3) (node : Node) (before now : Option (List ℕ)) (count : ℕ) (old new : Files) → SameFiles old new → WritesTile area node before now count new → WritesTile area node before now count old
-tile-back area node before now count old new same one = record { part = one.part; is_part = part-back area node one.part old new same one.is_part; written = one.written; counted = one.counted }
+tile-back : (sift : Option Sift) (area : Box3) (node : Node) (before now : Option (List ℕ)) (count : ℕ) (old new : Files) → SameFiles old new → WritesTile sift area node before now count new → WritesTile sift area node before now count old
+tile-back sift area node before now count old new same one = record { part = one.part; is_part = part-back area node one.part old new same one.is_part; written = one.written; counted = one.counted }
 
 pub none-back : (node : Node) (old new : Files) → SameFiles old new → HasNoTile new node.0 node.1 → HasNoTile old node.0 node.1
 none-back node old new same none = λ points has. none points (has-tile-back node points new old (λ name. sym (same name)) has)
 
-module _ (plan : Plan) (number : ℕ) (within : number < length plan.tiles) (before now : Option Files) (steps : StepsBy SameFiles before now) (old mid : Option (List ℕ)) (total : ℕ) (was : (all : Files) → before ≡ Some all → AreWritten all plan.area (take number plan.tiles) old mid total) where
+module _ (sift : Option Sift) (plan : Plan) (number : ℕ) (within : number < length plan.tiles) (before now : Option Files) (steps : StepsBy SameFiles before now) (old mid : Option (List ℕ)) (total : ℕ) (was : (all : Files) → before ≡ Some all → AreWritten sift all plan.area (take number plan.tiles) old mid total) where
   -- one more tile was written
-  pub tiles-more : (new : Option (List ℕ)) (count sum : ℕ) → Tells (WritesTile plan.area (node_at plan number) mid new count) now → sum ≡ min (total + count) (2 ^ 64 - 1) → (all : Files) → before ≡ Some all → AreWritten all plan.area (take (number + 1) plan.tiles) old new sum
+  pub tiles-more : (new : Option (List ℕ)) (count sum : ℕ) → Tells (WritesTile sift plan.area (node_at plan number) mid new count) now → sum ≡ min (total + count) (2 ^ 64 - 1) → (all : Files) → before ≡ Some all → AreWritten sift all plan.area (take (number + 1) plan.tiles) old new sum
   tiles-more new count sum one sums all is =
-      subst (λ (w : List Node). AreWritten all plan.area w old new sum) (sym (node-next plan number within))
-      (written-more all plan.area (take number plan.tiles) (node_at plan number) old mid new total count sum (was all is)
-      (told-back (WritesTile plan.area (node_at plan number) mid new count) (tile-back plan.area (node_at plan number) mid new count) before now all is steps one) sums)
+      subst (λ (w : List Node). AreWritten sift all plan.area w old new sum) (sym (node-next plan number within))
+      (written-more sift all plan.area (take number plan.tiles) (node_at plan number) old mid new total count sum (was all is)
+      (told-back (WritesTile sift plan.area (node_at plan number) mid new count) (tile-back sift plan.area (node_at plan number) mid new count) before now all is steps one) sums)
 
-  stops : (new : Option (List ℕ)) → new ≡ mid → Tells (WritesFront plan old new) before
-  stops new same = tells-from (WritesFront plan old new) before (λ all is. (
+  stops : (new : Option (List ℕ)) → new ≡ mid → Tells (WritesFront sift plan old new) before
+  stops new same = tells-from (WritesFront sift plan old new) before (λ all is. (
       let w = was all is in
       record {
         front = take number plan.tiles;
@@ -126,25 +158,25 @@ module _ (plan : Plan) (number : ℕ) (within : number < length plan.tiles) (bef
         split = sym (take-append-drop number plan.tiles);
         parts = w.parts;
         read = w.read;
-        written = prefix-all old new (tile (points_of w.parts)) (subst (λ (o : Option (List ℕ)). Appends old o (tile (points_of w.parts))) (sym same) w.written);
+        written = prefix-all old new (kept_bytes sift (points_of w.parts)) (subst (λ (o : Option (List ℕ)). Appends old o (kept_bytes sift (points_of w.parts))) (sym same) w.written);
       }))
 
-  stops-within : (new : Option (List ℕ)) → Tells (WritesSome plan.area (node_at plan number) mid new) now → Tells (WritesFront plan old new) before
-  stops-within new some = tells-from (WritesFront plan old new) before (λ all is. (
+  stops-within : (new : Option (List ℕ)) → Tells (WritesSome sift plan.area (node_at plan number) mid new) now → Tells (WritesFront sift plan old new) before
+  stops-within new some = tells-from (WritesFront sift plan old new) before (λ all is. (
       let w = was all is in
-      let one = told-back (WritesSome plan.area (node_at plan number) mid new) (some-back plan.area (node_at plan number) mid new) before now all is steps some in
-      let bytes : tile (points_of (w.parts ++ one.part ∷ [])) ≡ tile (points_of w.parts) ++ tile one.part = ap (λ (p : List Point). tile p) (points-more w.parts one.part) ∙ tile-append (points_of w.parts) one.part in
+      let one = told-back (WritesSome sift plan.area (node_at plan number) mid new) (some-back sift plan.area (node_at plan number) mid new) before now all is steps some in
+      let bytes : kept_bytes sift (points_of (w.parts ++ one.part ∷ [])) ≡ kept_bytes sift (points_of w.parts) ++ kept_bytes sift one.part = ap (kept_bytes sift) (points-more w.parts one.part) ∙ kept-append sift (points_of w.parts) one.part in
       record {
         front = take (number + 1) plan.tiles;
         back = drop (number + 1) plan.tiles;
         split = sym (take-append-drop (number + 1) plan.tiles);
         parts = w.parts ++ one.part ∷ [];
         read = subst (λ (ns : List Node). AllZip (IsPart all plan.area) ns (w.parts ++ one.part ∷ [])) (sym (node-next plan number within)) (zip-push (IsPart all plan.area) (take number plan.tiles) w.parts (node_at plan number) one.part w.read one.is_part);
-        written = subst (λ (b : List ℕ). AppendsPrefix old new b) (sym bytes) (prefix-both old mid new (tile (points_of w.parts)) (tile one.part) w.written one.written);
+        written = subst (λ (b : List ℕ). AppendsPrefix old new b) (sym bytes) (prefix-both old mid new (kept_bytes sift (points_of w.parts)) (kept_bytes sift one.part) w.written one.written);
       }))
 
-  stops-before : (new : Option (List ℕ)) (key : VoxelKey) → (node_at plan number).0 ≡ key → new ≡ mid → Tells (λ all. HasNoTile all (node_at plan number).0 (node_at plan number).1) now → Tells (WritesBefore plan key old new) before
-  stops-before new key here same none = tells-from (WritesBefore plan key old new) before (λ all is. (
+  stops-before : (new : Option (List ℕ)) (key : VoxelKey) → (node_at plan number).0 ≡ key → new ≡ mid → Tells (λ all. HasNoTile all (node_at plan number).0 (node_at plan number).1) now → Tells (WritesBefore sift plan key old new) before
+  stops-before new key here same none = tells-from (WritesBefore sift plan key old new) before (λ all is. (
       let w = was all is in
       let node = node_at plan number in
       let damaged = told-back (λ (f : Files). HasNoTile f node.0 node.1) (none-back node) before now all is steps none in
@@ -156,11 +188,11 @@ module _ (plan : Plan) (number : ℕ) (within : number < length plan.tiles) (bef
         damaged = subst (λ (k : VoxelKey). HasNoTile all k node.1) here damaged;
         parts = w.parts;
         read = w.read;
-        written = subst (λ (o : Option (List ℕ)). Appends old o (tile (points_of w.parts))) (sym same) w.written;
+        written = subst (λ (o : Option (List ℕ)). Appends old o (kept_bytes sift (points_of w.parts))) (sym same) w.written;
       }))
 
   -- the next tile was refused
-  pub leaves-tiles : (new : Option (List ℕ)) (error : QueryError) → LeavesTile plan.area (node_at plan number) now mid new error → LeavesTiles plan before old new error
+  pub leaves-tiles : (new : Option (List ℕ)) (error : QueryError) → LeavesTile sift plan.area (node_at plan number) now mid new error → LeavesTiles sift plan before old new error
   leaves-tiles new NotComplete left = absurd left
   leaves-tiles new StoreFault left = stops new left
   leaves-tiles new SinkFault left = stops-within new left
@@ -170,8 +202,8 @@ module _ (plan : Plan) (number : ℕ) (within : number < length plan.tiles) (bef
   leaves-tiles new (Damaged (Tile key)) left = (let is = left.0 in let here : (node_at plan number).0 ≡ key = cc in stops-before new key here left.1 left.2)
 
 -- at the end all tiles are written
-pub tiles-all : (plan : Plan) (number total : ℕ) (files : Option Files) (old new : Option (List ℕ)) → length plan.tiles ≤ number → ((all : Files) → files ≡ Some all → AreWritten all plan.area (take number plan.tiles) old new total) → Tells (WritesAll plan old new total) files
-tiles-all plan number total files old new end was = tells-from (WritesAll plan old new total) files (λ all is. (
+pub tiles-all : (sift : Option Sift) (plan : Plan) (number total : ℕ) (files : Option Files) (old new : Option (List ℕ)) → length plan.tiles ≤ number → ((all : Files) → files ≡ Some all → AreWritten sift all plan.area (take number plan.tiles) old new total) → Tells (WritesAll sift plan old new total) files
+tiles-all sift plan number total files old new end was = tells-from (WritesAll sift plan old new total) files (λ all is. (
     let w = was all is in
     let whole : take number plan.tiles ≡ plan.tiles = take_all number plan.tiles end in
     record {

@@ -9,10 +9,11 @@ use Rattle.ept_sample.specs.Sampling.{sampling, is_node}
 use Rattle.ept_config.specs.declared.kept.Kept.{Kept}
 use Rattle.ept_hier.specs.Hierarchy.{Node, keys_of}
 use Rattle.ept_meta.specs.Output.{rules_of}
+use Rattle.ept_filter.specs.declared.sift.Sift.{Sift}
 use Rattle.ept_query.specs.declared.query_error.QueryError.{QueryError}
 use Rattle.ept_query.specs.declared.query_error.QueryError.TheVariants.{NotComplete, StoreFault, Damaged, SinkFault, Memory}
 use Rattle.ept_query.specs.Search.{search_of, MeetsArea, HasDepth}
-use Rattle.ept_query.specs.Rows.{asked_rows, answer}
+use Rattle.ept_query.specs.Rows.{asked_rows, answer, passing_points, selection}
 
 -- The tiles of a plan are the nodes of the sampling whose depths are asked for and whose boxes meet the area, with the
 -- numbers of their points.
@@ -34,3 +35,10 @@ AnswersWhole kept points area first last old new (Ok count) =
     Appends old new (answer kept points area first last) × (count ≡ length (asked_rows kept points area first last))
 AnswersWhole kept points area first last old new (Err error) =
     AppendsPrefix old new (answer kept points area first last) × IsDevices error
+
+-- the same of a selection
+abbrev pub SelectsWhole : Sift → Kept → List Point → Box3 → ℕ → ℕ → Option (List ℕ) → Option (List ℕ) → Result ℕ QueryError → Type 0
+SelectsWhole sift kept points area first last old new (Ok count) =
+    Appends old new (selection sift kept points area first last) × (count ≡ length (passing_points sift kept points area first last))
+SelectsWhole sift kept points area first last old new (Err error) =
+    AppendsPrefix old new (selection sift kept points area first last) × IsDevices error

@@ -6,6 +6,7 @@ pub mod Causes
 pub mod Damage
 pub mod Walk
 pub mod Parts
+pub mod Kept
 pub mod Writing
 pub mod Refusals
 pub mod Planning

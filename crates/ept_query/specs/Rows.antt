@@ -12,6 +12,8 @@ use Rattle.ept_sample.specs.Nodes.{sampled}
 use Rattle.ept_sample.specs.Place.{place}
 use Rattle.ept_config.specs.declared.kept.Kept.{Kept}
 use Rattle.ept_meta.specs.Output.{rules_of}
+use Rattle.ept_filter.specs.declared.sift.Sift.{Sift}
+use Rattle.ept_filter.specs.Sifting.{passes, cut}
 
 -- a point of a node
 abbrev pub Row : Type 0
@@ -45,6 +47,18 @@ abbrev pub asked_rows : Kept → List Point → Box3 → ℕ → ℕ → List Ro
 asked_rows kept points area first last =
     filter (is_asked area first last) (rows_of (sampled (rules_of kept) points))
 
--- the answer to a query: their packed points, one after another
+-- their points
+abbrev pub asked_points : Kept → List Point → Box3 → ℕ → ℕ → List Point
+asked_points kept points area first last = map (λ (row : Row). row.1) (asked_rows kept points area first last)
+
+-- the answer to a query: the packed points, one after another
 abbrev pub answer : Kept → List Point → Box3 → ℕ → ℕ → List ℕ
-answer kept points area first last = tile (map (λ (row : Row). row.1) (asked_rows kept points area first last))
+answer kept points area first last = tile (asked_points kept points area first last)
+
+-- those that pass a selection, in the same order
+abbrev pub passing_points : Sift → Kept → List Point → Box3 → ℕ → ℕ → List Point
+passing_points sift kept points area first last = filter (passes sift) (asked_points kept points area first last)
+
+-- the selection: the dimensions that are asked for of each, one after another
+abbrev pub selection : Sift → Kept → List Point → Box3 → ℕ → ℕ → List ℕ
+selection sift kept points area first last = flat_map (cut sift) (passing_points sift kept points area first last)

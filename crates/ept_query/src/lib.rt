@@ -13,10 +13,11 @@ mod reading;
 mod search;
 mod start;
 mod tile;
+mod trimming;
 mod walk;
 mod writing;
 
-pub use asking::query;
+pub use asking::{query, select};
 pub use laws::complete_law;
 pub use plan::QueryPlan;
 pub use planning::query_plan;

@@ -1,3 +1,4 @@
+use Rattle.std.proofs.Common.{None}
 use Rattle.ept_query.proofs.Calling.{query-comes}
 use Rattle.ept_query.proofs.Whole.{answers-whole}
 use Rattle.ept_query.proofs.asking.query.Goals as goal
@@ -8,4 +9,4 @@ returns-clause-complete g c = λ kept points all is whole.
 
 pub returns-clause-comes : goal.returns-clause-comes
 returns-clause-comes g c =
-    query-comes c.args.area.now c.args.depths.0 c.args.depths.1 (g.T.Store.files c.args.store.now) (g.O.Sink.written c.args.out.now) (g.O.Sink.written c.answer.new.out) c.answer.result c.answer.ensures.answer c.answer.ensures.refused
+    query-comes None c.args.area.now c.args.depths.0 c.args.depths.1 (g.T.Store.files c.args.store.now) (g.O.Sink.written c.args.out.now) (g.O.Sink.written c.answer.new.out) c.answer.result c.answer.ensures.answer c.answer.ensures.refused

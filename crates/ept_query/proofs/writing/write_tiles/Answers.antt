@@ -7,7 +7,7 @@ use Rattle.ept_query.proofs.writing.write_tiles.Goals as goal
 pub returns-in_err-count-clause-leaves : goal.returns-in_err-count-clause-leaves
 returns-in_err-count-clause-leaves g c =
     let p = err_from_is_err_and c.from_residual.result c.from_residual.ensures.1 in
-    rw (p.1, p.2) (leaves-tiles c.args.plan.now c.loop-number.number (let end = c.len-number-end.ensures in let test = c.loop-number-test.true in omega (arith, end, test)) (g.T.Store.files c.args.store.now) (g.T.Store.files c.loop-number.store) c.loop-number.invariant.moves.reads (g.O.Sink.written c.args.out.now) (g.O.Sink.written c.loop-number.out) c.loop-number.total c.loop-number.invariant.written (g.O.Sink.written c.write_tile.new.out) c.in_err-count.field-0.0 c.in_err-count.ensures.leaves)
+    rw (p.1, p.2) (leaves-tiles c.args.sift.now c.args.plan.now c.loop-number.number (let end = c.len-number-end.ensures in let test = c.loop-number-test.true in omega (arith, end, test)) (g.T.Store.files c.args.store.now) (g.T.Store.files c.loop-number.store) c.loop-number.invariant.moves.reads (g.O.Sink.written c.args.out.now) (g.O.Sink.written c.loop-number.out) c.loop-number.total c.loop-number.invariant.written (g.O.Sink.written c.write_tile.new.out) c.in_err-count.field-0.0 c.in_err-count.ensures.leaves)
 
 pub returns-in_err-count-clause-any_moment : goal.returns-in_err-count-clause-any_moment
 returns-in_err-count-clause-any_moment g c =
@@ -20,9 +20,9 @@ loop-number-preserved g c = record {
   sink_later = (let a = c.loop-number.invariant.sink_later in let b = c.write_tile.ensures.sinks.later in omega (arith, a, b));
   gets = (let a = c.loop-number.invariant.gets in let b = c.write_tile.ensures.gets in omega (arith, a, b));
   within = (let end = c.len-number-end.ensures in let test = c.loop-number-test.true in omega (arith, end, test));
-  written = tiles-more c.args.plan.now c.loop-number.number (let end = c.len-number-end.ensures in let test = c.loop-number-test.true in omega (arith, end, test)) (g.T.Store.files c.args.store.now) (g.T.Store.files c.loop-number.store) c.loop-number.invariant.moves.reads (g.O.Sink.written c.args.out.now) (g.O.Sink.written c.loop-number.out) c.loop-number.total c.loop-number.invariant.written (g.O.Sink.written c.write_tile.new.out) c.in_ok-count.count c.saturating_add-total.result c.in_ok-count.ensures.written c.saturating_add-total.ensures;
+  written = tiles-more c.args.sift.now c.args.plan.now c.loop-number.number (let end = c.len-number-end.ensures in let test = c.loop-number-test.true in omega (arith, end, test)) (g.T.Store.files c.args.store.now) (g.T.Store.files c.loop-number.store) c.loop-number.invariant.moves.reads (g.O.Sink.written c.args.out.now) (g.O.Sink.written c.loop-number.out) c.loop-number.total c.loop-number.invariant.written (g.O.Sink.written c.write_tile.new.out) c.in_ok-count.count c.saturating_add-total.result c.in_ok-count.ensures.written c.saturating_add-total.ensures;
 }
 
 pub returns-clause-written : goal.returns-clause-written
 returns-clause-written g c =
-    tiles-all c.args.plan.now c.loop-number.number c.loop-number.total (g.T.Store.files c.args.store.now) (g.O.Sink.written c.args.out.now) (g.O.Sink.written c.loop-number.out) (let end = c.len-number-end.ensures in let test = c.loop-number-test.false in omega (arith, end, test)) c.loop-number.invariant.written
+    tiles-all c.args.sift.now c.args.plan.now c.loop-number.number c.loop-number.total (g.T.Store.files c.args.store.now) (g.O.Sink.written c.args.out.now) (g.O.Sink.written c.loop-number.out) (let end = c.len-number-end.ensures in let test = c.loop-number-test.false in omega (arith, end, test)) c.loop-number.invariant.written

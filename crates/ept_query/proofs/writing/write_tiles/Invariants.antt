@@ -13,5 +13,5 @@ invariant-loop-number g l =
       sink_later : g.O.Sink.faults l.initial.out ≤ g.O.Sink.faults l.out;
       gets : g.T.Store.gets l.store ≤ g.T.Store.gets l.initial.store + l.number;
       within : l.number ≤ length l.plan.tiles;
-      written : (all : Files) → files l.initial.store ≡ Some all → AreWritten all l.plan.area (take l.number l.plan.tiles) (g.O.Sink.written l.initial.out) (g.O.Sink.written l.out) l.total;
+      written : (all : Files) → files l.initial.store ≡ Some all → AreWritten l.sift all l.plan.area (take l.number l.plan.tiles) (g.O.Sink.written l.initial.out) (g.O.Sink.written l.out) l.total;
     }

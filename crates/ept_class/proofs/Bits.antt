@@ -1,0 +1,131 @@
+-- Lists of bytes, of which each bit is a member.
+use Rattle.std.proofs.Common.{◌≡◌, ℕ, zero, suc, bit_and, ◌+◌, ◌*◌, ◌/◌, ◌%◌, ◌^◌, ◌<◌, ◌||◌, Bool, true, false, eqb, bit_or, List, [], ◌∷◌, length, get_or, slice_set, refl, sym, ap, ◌∙◌, arith, w8}
+use Rattle.std.specs.Bool.{Decides}
+use Rattle.std.specs.Int.{bit_at}
+use Rattle.std.specs.List.{AllByRecursion, list_any}
+use Rattle.std.proofs.lemmas.Bool.Decides.{nat_tests, Decides-eqb, not_from_Decides}
+use Rattle.std.proofs.lemmas.Bool.{eq-eqb}
+use Rattle.std.proofs.lemmas.Grind.{same_number_lists}
+use Rattle.std.proofs.lemmas.List.{get_or-set_same, get_or-set_other, length-set}
+use Rattle.std.proofs.lemmas.Nat.{or_of_8}
+use Rattle.std.proofs.lemmas.Nat.Bits.{shr_and_one, bit_at-zero, bit_at-lt, bit_at_set_same, bit_at_set_other, same_from_bits_below}
+use denote.Struct.Record.{values_one}
+use Rattle.ept_class.specs.contracts.class_set.ClassSet.{struct, the_propositions}
+use Rattle.ept_class.specs.declared.class_set.ClassSet.{ClassSet}
+use Rattle.ept_class.specs.Bytes.{AreSetBytes}
+use Rattle.ept_class.specs.ClassSet.{has_class}
+use Rattle.ept_class.specs.Laws.{MembersMakeTheSet, ClassesHaveASet}
+
+-- the bit of a class is set
+abbrev pub is_set : List ℕ → ℕ → Bool
+is_set bytes class = eqb (bit_at (get_or bytes (class / 8) 0) (class % 8)) 1
+
+-- ---- no member
+
+abbrev pub no_bytes : List ℕ
+no_bytes = 0 ∷ 0 ∷ 0 ∷ 0 ∷ 0 ∷ 0 ∷ 0 ∷ 0 ∷ 0 ∷ 0 ∷ 0 ∷ 0 ∷ 0 ∷ 0 ∷ 0 ∷ 0 ∷ 0 ∷ 0 ∷ 0 ∷ 0 ∷ 0 ∷ 0 ∷ 0 ∷ 0 ∷ 0 ∷ 0 ∷ 0 ∷ 0 ∷ 0 ∷ 0 ∷ 0 ∷ 0 ∷ []
+
+reads_zero : (bytes : List ℕ) (k : ℕ) → AllByRecursion (λ b. b ≡ 0) bytes → get_or bytes k 0 ≡ 0
+reads_zero [] k none = refl
+reads_zero (b ∷ bytes) zero none = none.0
+reads_zero (b ∷ bytes) (suc k) none = reads_zero bytes k none.1
+
+no_bytes_read : (k : ℕ) → get_or no_bytes k 0 ≡ 0
+no_bytes_read k = reads_zero no_bytes k (refl, (refl, (refl, (refl, (refl, (refl, (refl, (refl, (refl, (refl, (refl, (refl, (refl, (refl, (refl, (refl, (refl, (refl, (refl, (refl, (refl, (refl, (refl, (refl, (refl, (refl, (refl, (refl, (refl, (refl, (refl, (refl, tt))))))))))))))))))))))))))))))))
+
+pub none-set : (class : ℕ) → is_set no_bytes class ≡ false
+none-set class = rw (no_bytes_read (class / 8), bit_at-zero (class % 8)) refl
+
+pub no_bytes-set_bytes : AreSetBytes no_bytes
+no_bytes-set_bytes = record { len = refl; widths = λ k. omega (arith, no_bytes_read k) }
+
+-- ---- a member
+
+pub read-member : (bytes : List ℕ) (at class : ℕ) → at ≡ class / 8 → eqb (bit_and (get_or bytes at 0 / 2 ^ (class % 8)) 1) 1 ≡ is_set bytes class
+read-member bytes at class e = rw (e, shr_and_one (get_or bytes (class / 8) 0) (class % 8)) refl
+
+-- the byte of a class with its bit
+abbrev pub with_bit : ℕ → ℕ → ℕ
+with_bit byte class = bit_or byte (1 * 2 ^ (class % 8) % 256)
+
+-- the bytes with the bit of a class
+abbrev pub with_class : List ℕ → ℕ → List ℕ
+with_class bytes class = slice_set bytes (class / 8) (with_bit (get_or bytes (class / 8) 0) class)
+
+with_bit-same : (byte class other : ℕ) → other % 8 ≡ class % 8 → bit_at (with_bit byte class) (other % 8) ≡ 1
+with_bit-same byte class other e = rw e (bit_at_set_same w8 byte (class % 8) (omega arith))
+
+with_bit-other : (byte class other : ℕ) → (other % 8 ≡ class % 8 → ⊥) → bit_at (with_bit byte class) (other % 8) ≡ bit_at byte (other % 8)
+with_bit-other byte class other differ = bit_at_set_other w8 byte (class % 8) (omega arith) (other % 8) differ
+
+pub inserted : (bytes : List ℕ) (class other : ℕ) → class / 8 < length bytes → is_set (with_class bytes class) other ≡ (eqb other class || is_set bytes other)
+inserted bytes class other inside = by_byte (eqb (other / 8) (class / 8)) (Decides-eqb (other / 8) (class / 8)) refl
+  where
+    by_bit : (same : Bool) → Decides same (other % 8 ≡ class % 8) → other / 8 ≡ class / 8 → eqb (bit_at (with_bit (get_or bytes (class / 8) 0) class) (other % 8)) 1 ≡ (eqb other class || is_set bytes other)
+    by_bit true d at =
+        let same : eqb other class ≡ true = eq-eqb other class (omega (arith, d.0 refl)) in
+        rw (with_bit-same (get_or bytes (class / 8) 0) class other (d.0 refl), same) refl
+    by_bit false d at =
+        let differ = not_from_Decides false d refl in
+        let other_class : eqb other class ≡ false = grind (arith, nat_tests) in
+        rw (with_bit-other (get_or bytes (class / 8) 0) class other differ, other_class, at) refl
+
+    by_byte : (same : Bool) → Decides same (other / 8 ≡ class / 8) → same ≡ same → is_set (with_class bytes class) other ≡ (eqb other class || is_set bytes other)
+    by_byte true d e =
+        let at = d.0 refl in
+        let read : get_or (with_class bytes class) (other / 8) 0 ≡ with_bit (get_or bytes (class / 8) 0) class = rw at (get_or-set_same bytes (class / 8) _ 0 inside) in
+        rw read (by_bit (eqb (other % 8) (class % 8)) (Decides-eqb (other % 8) (class % 8)) at)
+    by_byte false d e =
+        let differ = not_from_Decides false d refl in
+        let read : get_or (with_class bytes class) (other / 8) 0 ≡ get_or bytes (other / 8) 0 = get_or-set_other bytes (class / 8) (other / 8) _ 0 differ in
+        let other_class : eqb other class ≡ false = grind (arith, nat_tests) in
+        rw (read, other_class) refl
+
+with_bit-lt : (byte class : ℕ) → byte < 2 ^ 8 → with_bit byte class < 2 ^ 8
+with_bit-lt byte class small = or_of_8 byte (1 * 2 ^ (class % 8) % 256) small (omega arith)
+
+pub with_class-set_bytes : (bytes : List ℕ) (class : ℕ) → class < 256 → AreSetBytes bytes → AreSetBytes (with_class bytes class)
+with_class-set_bytes bytes class small are = record { len = length-set bytes (class / 8) _ ∙ are.len; widths = λ k. by (eqb k (class / 8)) (Decides-eqb k (class / 8)) }
+  where
+    by : {k : ℕ} (same : Bool) → Decides same (k ≡ class / 8) → get_or (with_class bytes class) k 0 < 2 ^ 8
+    by {k} true d =
+        let read : get_or (with_class bytes class) k 0 ≡ with_bit (get_or bytes (class / 8) 0) class = rw (d.0 refl) (get_or-set_same bytes (class / 8) _ 0 (omega (arith, are.len))) in
+        rw read (with_bit-lt _ class (are.widths (class / 8)))
+    by {k} false d =
+        let read : get_or (with_class bytes class) k 0 ≡ get_or bytes k 0 = get_or-set_other bytes (class / 8) k _ 0 (not_from_Decides false d refl) in
+        rw read (are.widths k)
+
+-- ---- the laws
+
+one-bit : (m n : ℕ) → m < 2 → n < 2 → eqb m 1 ≡ eqb n 1 → m ≡ n
+one-bit m n hm hn e = grind (arith, nat_tests)
+
+same-bits : (a b : List ℕ) → ((class : ℕ) → is_set a class ≡ is_set b class) → (k i : ℕ) → i < 8 → bit_at (get_or a k 0) i ≡ bit_at (get_or b k 0) i
+same-bits a b same k i small =
+    let byte : (8 * k + i) / 8 ≡ k = omega arith in
+    let bit : (8 * k + i) % 8 ≡ i = omega arith in
+    let here : eqb (bit_at (get_or a k 0) i) 1 ≡ eqb (bit_at (get_or b k 0) i) 1 = rw (byte, bit) at (same (8 * k + i)) in
+    one-bit _ _ (bit_at-lt _ i) (bit_at-lt _ i) here
+
+same-bytes : (a b : List ℕ) → AreSetBytes a → AreSetBytes b → ((class : ℕ) → is_set a class ≡ is_set b class) → a ≡ b
+same-bytes a b are_a are_b same =
+    same_number_lists a b (are_a.len ∙ sym are_b.len) (λ k inside. same_from_bits_below 8 (get_or a k 0) (get_or b k 0) (are_a.widths k) (are_b.widths k) (same-bits a b same k))
+
+pub members_make_the_set : MembersMakeTheSet
+unfolding has_class
+members_make_the_set a b same =
+    let bytes : a.bytes ≡ b.bytes = same-bytes a.bytes b.bytes a.set_bytes b.set_bytes same in
+    values_one struct the_propositions a b (λ i. (bytes i, tt))
+
+bytes_with : (classes : List ℕ) → AllByRecursion (λ class. class < 256) classes → (bytes : List ℕ) × AreSetBytes bytes × ((class : ℕ) → is_set bytes class ≡ list_any (λ member. eqb class member) classes)
+bytes_with [] small = (no_bytes, no_bytes-set_bytes, none-set)
+bytes_with (member ∷ classes) small =
+    let later = bytes_with classes small.1 in
+    let inside : member / 8 < length later.0 = omega (arith, small.0, later.1.len) in
+    (with_class later.0 member, with_class-set_bytes later.0 member small.0 later.1, λ class. inserted later.0 member class inside ∙ ap (λ (b : Bool). eqb class member || b) (later.2 class))
+
+pub classes_have_a_set : ClassesHaveASet
+unfolding has_class
+classes_have_a_set classes small =
+    let found = bytes_with classes small in
+    (record { bytes = found.0; set_bytes = found.1 }, found.2)

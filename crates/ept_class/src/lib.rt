@@ -1,0 +1,8 @@
+//! Sets of the classes of points (LAS 1.4 R15, "classification").
+#![tactic(auto)]
+
+mod class_set;
+mod laws;
+
+pub use class_set::ClassSet;
+pub use laws::class_set_law;

@@ -1,0 +1,7 @@
+mod Commas
+mod RowNames
+mod Distinct
+mod DimLists
+mod ClassLists
+mod Parts
+mod Sifted
