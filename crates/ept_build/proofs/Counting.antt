@@ -13,7 +13,7 @@ use Rattle.ept_phase.specs.Phase.{HasNext, GoesOn}
 use Rattle.ept_plan.specs.declared.plan.Plan.{Plan}
 use Rattle.ept_plan.specs.Plans.{IsOf, inputs_by, inserted_by}
 use Rattle.ept_build.specs.Phases.{HasAll}
-use Rattle.ept_build.specs.Reached.{generation_by, IsAfter, HasReached, IsThrough, HasThisOrNext}
+use Rattle.ept_build.specs.Reached.{generation_by, IsAfter, HasReached, IsThrough, HasThisOrNext, KeepsAs}
 use Rattle.ept_build.proofs.Phased.{of-inputs}
 
 -- the next generation is one more
@@ -21,34 +21,41 @@ pub next-one : (current : Current) → next_generation current ≡ generation_by
 next-one None = refl
 next-one (Some (letter, c)) = refl
 
+-- the checkpoint of a plan keeps what the plan keeps
+pub keeps-of : (plan : Plan) (current : Current) → IsOf plan current → KeepsAs plan.kept current
+keeps-of plan None is = absurd is
+keeps-of plan (Some (letter, c)) is = is.0
+
 -- ---- so many phases
 
-pub after-none : (from : Current) (step all : ℕ) → inserted_by from ≤ all → IsAfter from step all 0 from
-after-none from step all most = record {
+pub after-none : (from : Current) (kept : Kept) (step all : ℕ) → inserted_by from ≤ all → IsAfter from kept step all 0 from
+after-none from kept step all most = record {
   generation = omega arith;
   inserted = omega (arith, zero-mul step, most);
   unchanged = λ none. refl;
+  keeps = λ some. absurd (omega (arith, some));
 }
 
-module _ (from now : Current) (step all phases : ℕ) (after : IsAfter from step all phases now) where
+module _ (from now : Current) (kept : Kept) (step all phases : ℕ) (after : IsAfter from kept step all phases now) where
   -- and one more
-  pub after-next : (next : Current) (count : ℕ) → generation_by next ≡ generation_by now + 1 → inserted_by next ≡ inserted_by now + count → count ≡ min step (all - inserted_by now) → IsAfter from step all (phases + 1) next
-  after-next next count generation inserted is = record {
+  pub after-next : (next : Current) (count : ℕ) → generation_by next ≡ generation_by now + 1 → inserted_by next ≡ inserted_by now + count → count ≡ min step (all - inserted_by now) → KeepsAs kept next → IsAfter from kept step all (phases + 1) next
+  after-next next count generation inserted is keeps = record {
     generation = omega (arith, after.generation, generation);
     inserted = omega (arith, after.inserted, inserted, is, add-mul phases 1 step, one-mul step);
     unchanged = λ none. absurd (omega (arith, none));
+    keeps = λ some. keeps;
   }
 
-  pub reached-now : (files : Files) → HasCurrent now files → HasReached from step all files
+  pub reached-now : (files : Files) → HasCurrent now files → HasReached from kept step all files
   reached-now files has = record { now = now; has_now = has; phases = phases; after = after }
 
-  pub reached-then : (inserted count : ℕ) → inserted_by now ≡ inserted → count ≡ min step (all - inserted) → (files : Files) → HasThisOrNext now (inserted + count) files → HasReached from step all files
+  pub reached-then : (inserted count : ℕ) → inserted_by now ≡ inserted → count ≡ min step (all - inserted) → (files : Files) → HasThisOrNext now kept (inserted + count) files → HasReached from kept step all files
   reached-then inserted count by is files (inl has) = reached-now files has
   reached-then inserted count by is files (inr next) = record {
     now = next.0;
     has_now = next.1;
     phases = phases + 1;
-    after = after-next next.0 count next.2 (omega (arith, next.3, by)) (omega (arith, is, by));
+    after = after-next next.0 count next.2 (omega (arith, next.3, by)) (omega (arith, is, by)) next.4;
   }
 
 -- ---- no fewer would do
@@ -60,7 +67,7 @@ NoFewer left inputs step phases = (others : ℕ) → left ≤ others * step → 
 pub no-fewer-none : (left inputs step : ℕ) → NoFewer left inputs step 0
 no-fewer-none left inputs step others enough one = omega arith
 
-module _ (plan : Plan) (from now : Current) (step phases : ℕ) (after : IsAfter from step plan.points phases now) (most : inserted_by from ≤ plan.points) (least : inputs_by from ≤ length plan.kept.inputs) (begun : (phases ≡ 0) ⊎ IsOf plan now) (fewest : NoFewer (plan.points - inserted_by from) (length plan.kept.inputs - inputs_by from) step phases) where
+module _ (plan : Plan) (from now : Current) (step phases : ℕ) (after : IsAfter from plan.kept step plan.points phases now) (most : inserted_by from ≤ plan.points) (least : inputs_by from ≤ length plan.kept.inputs) (begun : (phases ≡ 0) ⊎ IsOf plan now) (fewest : NoFewer (plan.points - inserted_by from) (length plan.kept.inputs - inputs_by from) step phases) where
   all_inputs : (others : ℕ) → others ≡ phases → (0 < length plan.kept.inputs - inputs_by from → 0 < others) → inputs_by now ≡ length plan.kept.inputs
   all_inputs others same one = by begun
     where
@@ -82,7 +89,7 @@ module _ (plan : Plan) (from now : Current) (step phases : ℕ) (after : IsAfter
   ]
 
   -- and once all is done, as many were needed
-  pub through : HasAll plan now → IsThrough from step plan.points (length plan.kept.inputs) now
+  pub through : HasAll plan now → IsThrough from plan.kept step plan.points (length plan.kept.inputs) now
   through all = record {
     phases = phases;
     after = after;
@@ -97,10 +104,10 @@ module _ (plan : Plan) (from now : Current) (step phases : ℕ) (after : IsAfter
   }
 
 -- where nothing is left, none is needed
-pub nothing-needed : (from : Current) (step all inputs : ℕ) → inserted_by from ≡ all → inputs_by from ≡ inputs → IsThrough from step all inputs from
-nothing-needed from step all inputs inserted same = record {
+pub nothing-needed : (from : Current) (kept : Kept) (step all inputs : ℕ) → inserted_by from ≡ all → inputs_by from ≡ inputs → IsThrough from kept step all inputs from
+nothing-needed from kept step all inputs inserted same = record {
   phases = 0;
-  after = after-none from step all (omega (arith, inserted));
+  after = after-none from kept step all (omega (arith, inserted));
   needed = record {
     enough = omega (arith, inserted);
     one = λ new. absurd (omega (arith, new, same));
@@ -110,12 +117,12 @@ nothing-needed from step all inputs inserted same = record {
 
 -- ---- a phase makes the next checkpoint
 
-pub goes-either : (view : View) (kept : Kept) (counts : List SourceCount) (inserted : ℕ) (nodes : List Branch) (old new : Files) → HasCurrent view.current old → GoesOn view kept counts inserted nodes old new → HasThisOrNext view.current inserted new
+pub goes-either : (view : View) (kept : Kept) (counts : List SourceCount) (inserted : ℕ) (nodes : List Branch) (old new : Files) → HasCurrent view.current old → GoesOn view kept counts inserted nodes old new → HasThisOrNext view.current kept inserted new
 goes-either view kept counts inserted nodes old new has goes = by goes.either
   where
-    by : Keeps view.current old new ⊎ HasNext view kept counts inserted nodes new → HasThisOrNext view.current inserted new
+    by : Keeps view.current old new ⊎ HasNext view kept counts inserted nodes new → HasThisOrNext view.current kept inserted new
     by (inl keeps) = inl (keeps.same has)
-    by (inr next) = inr (Some (next_letter view.current, next.next), next.is_current, next.is_next.generation ∙ next-one view.current, next.is_next.inserted_is)
+    by (inr next) = inr (Some (next_letter view.current, next.next), next.is_current, next.is_next.generation ∙ next-one view.current, next.is_next.inserted_is, next.is_next.kept_is)
 
 -- ---- the points of the next phase
 

@@ -58,11 +58,12 @@ module _ (same_sound : SameIsSound) (complete : DoneIsComplete) (all start now :
       record {
         current = Some (letter, c);
         has_current = has;
+        goes_on = is.goes_on;
         kept = c.kept;
         points = points;
         has_points = record { done = found; scan = at_inputs; kept_is = kept_is };
         complete = it.3;
-        through = record { now = Some (letter, c); has_now = has_now; through = nothing-needed (Some (letter, c)) config.checkpoint (length points) (length config.inputs) it.2 (ap (λ (w : List Input). length w) kept_is.inputs_is) };
+        through = record { now = Some (letter, c); has_now = has_now; through = nothing-needed (Some (letter, c)) c.kept config.checkpoint (length points) (length config.inputs) it.2 (ap (λ (w : List Input). length w) kept_is.inputs_is) };
         points_are = sym inserted ∙ it.2;
         nodes_are = counted ∙ (lines ∙ ap (λ (w : List Point). length (sampled (rules_of c.kept) w)) whole);
       }
@@ -78,6 +79,7 @@ built-from all config start now same summary None is = tt
 built-from all config start now same summary (Some end) is = record {
   current = is.current;
   has_current = has_same is.current now start (λ name. sym (same name)) is.has_current;
+  goes_on = is.goes_on;
   kept = is.kept;
   points = is.points;
   has_points = is.has_points;
@@ -110,6 +112,7 @@ stopped-from all config start now same None is = tt
 stopped-from all config start now same (Some end) is = record {
   current = is.current;
   has_current = has_same is.current now start (λ name. sym (same name)) is.has_current;
+  goes_on = is.goes_on;
   kept = is.kept;
   points = is.points;
   has_points = is.has_points;

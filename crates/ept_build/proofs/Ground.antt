@@ -39,7 +39,7 @@ use Rattle.ept_phase.specs.Loaded.{OfCurrent}
 use Rattle.ept_phase.specs.SavedLaws.{LoadedIsSampled}
 use Rattle.ept_plan.specs.declared.plan.Plan.{Plan}
 use Rattle.ept_plan.specs.Plans as plans
-use Rattle.ept_plan.specs.Plans.{IsPlan, ScansAll, HasFirst, limits_by, inserted_by}
+use Rattle.ept_plan.specs.Plans.{IsPlan, GoesOn, ScansAll, HasFirst, limits_by, inserted_by}
 use Rattle.ept_sample.specs.SamplingLaws.{MorePointsHaveMoreNodes}
 use Rattle.ept_save.specs.Opening.{lines_of}
 use Rattle.ept_build.specs.Building.{HasPoints, HasCounts, HasTooManyNodes}
@@ -87,6 +87,7 @@ told-tiles (Some (letter, c)) nodes files start told of = told_some (λ (all : F
 
 -- The points of all inputs and their output, and what is known of the octree that was loaded.
 pub record IsGround (shelf start : Files) (config : Config) (current : Current) (plan : Plan) (extent : Option Bounds) : Type 0 where
+  pub goes_on : GoesOn config current
   pub points : List Point
   pub out : List File
   pub are : AreOfShelf shelf plan points out
@@ -221,6 +222,7 @@ module _ (one_output : OutputIsOne) (can_be : PointsCanBeSampled) (grow : NamesG
   -- all of this
   pub ground : IsGround shelf start config current plan extent
   ground = record {
+    goes_on = is.goes_on;
     points = points;
     out = out;
     are = are;

@@ -1,27 +1,15 @@
--- What the inputs of a configuration have is found in one way; and what an answer says of each cause.
-use Rattle.std.proofs.Common.{◌≡◌, ◌≢◌, ◌∙◌, ◌⊎◌, inl, inr, ℕ, ◌<◌, ◌≤◌, List, [], ◌∷◌, length, refl, sym, ap, subst, arith, Option, Some, None}
-use Rattle.std.specs.Prelude.{ℤ, Any, Vec, Result, Ok, Err, IsOk, IfOk, IfErr}
+-- What an answer says of each cause.
+use Rattle.std.proofs.Common.{◌≡◌, ◌≢◌, ◌∙◌, ◌⊎◌, inl, inr, ℕ, ◌<◌, ◌≤◌, List, refl, sym, ap, subst, arith, Option, Some}
+use Rattle.std.specs.Prelude.{Vec, Result, Ok, Err, IsOk, IfOk, IfErr}
 use Rattle.std.specs.declared.alloc.Global.{Global}
-use Rattle.std.proofs.lemmas.Int.{ints}
 use Rattle.ept_base.specs.Files.{Files, Tells}
 use Rattle.ept_base.specs.declared.errors.PutError.{PutError}
 use Rattle.ept_base.specs.declared.errors.PutError.TheVariants as put
 use Rattle.ept_point.specs.declared.point.Point.{Point}
-use Rattle.ept_space.specs.declared.bounds.Bounds.{Bounds}
-use Rattle.ept_space.specs.declared.cube.Rules.{Rules}
-use Rattle.ept_space.specs.Place.{coordinate}
-use Rattle.ept_space.specs.ClosedBox.{IsBetween}
-use Rattle.ept_space.specs.CubeOfBounds.{cube_of}
-use Rattle.ept_sample.specs.Nodes.{sampled}
 use Rattle.ept_config.specs.declared.config.Config.{Config}
 use Rattle.ept_config.specs.declared.kept.Kept.{Kept}
-use Rattle.ept_config.specs.Ranges.{BoundsInRange}
-use Rattle.ept_config.specs.Extents.{IsSpanOf, IsExtentOf}
 use Rattle.ept_scan.specs.declared.scan_error.ScanError.{ScanError}
 use Rattle.ept_scan.specs.declared.scan_error.ScanError.TheVariants as scan
-use Rattle.ept_scan.specs.Scans.{AreBounds}
-use Rattle.ept_scan.proofs.OneScan.{scan_once}
-use Rattle.ept_meta.specs.Output.{rules_of}
 use Rattle.ept_meta.specs.declared.fields.Field.{Field}
 use Rattle.ept_ckpt.specs.declared.letter.Letter.{Letter}
 use Rattle.ept_save.specs.Current.{Current, HasCurrent}
@@ -38,62 +26,7 @@ use Rattle.ept_build.specs.declared.error.BuildError.TheVariants.{StoreFault, Ba
 use Rattle.ept_build.specs.Errors.{of_plan, of_scan, of_save, of_put}
 use Rattle.ept_build.specs.Building.{HasPoints, IsBuilt, IsRefusedAt, IsEarly, TellsDifference, Fails, node_count}
 use Rattle.ept_build.specs.Phases.{IsPhaseFault, IsRoomFault, IsStoreFault, IsEndFault}
-
--- ---- one way to be found
-
-module _ (axis : Point → ℤ) (points : List Point) (a b c d : ℤ) (first : IsSpanOf axis points a b) (second : IsSpanOf axis points c d) where
-  -- a value that one of the points has lies in the other span
-  met : (e f v : ℤ) → IsSpanOf axis points e f → Any (λ p. axis p ≡ v) points → IsBetween e f v
-  met e f v span some = subst (IsBetween e f) some.4 (subst (λ p. IsBetween e f (axis p)) some.3 (span.within some.0 some.1 some.2))
-
-  least_once : a ≡ c
-  least_once = omega (arith, ints, (met c d a second first.least_is).0, (met a b c first second.least_is).0)
-
-  greatest_once : b ≡ d
-  greatest_once = omega (arith, ints, (met c d b second first.greatest_is).1, (met a b d first second.greatest_is).1)
-
-three_alike : (xs ys : List ℤ) → length xs ≡ 3 → length ys ≡ 3 → coordinate xs 0 ≡ coordinate ys 0 → coordinate xs 1 ≡ coordinate ys 1 → coordinate xs 2 ≡ coordinate ys 2 → xs ≡ ys
-three_alike (a ∷ b ∷ c ∷ []) (d ∷ e ∷ f ∷ []) three also x y z = cc
-three_alike [] ys three also x y z = absurd (omega (arith, three))
-three_alike (a ∷ []) ys three also x y z = absurd (omega (arith, three))
-three_alike (a ∷ b ∷ []) ys three also x y z = absurd (omega (arith, three))
-three_alike (a ∷ b ∷ c ∷ d ∷ xs) ys three also x y z = absurd (omega (arith, three))
-three_alike (a ∷ b ∷ c ∷ []) [] three also x y z = absurd (omega (arith, also))
-three_alike (a ∷ b ∷ c ∷ []) (d ∷ []) three also x y z = absurd (omega (arith, also))
-three_alike (a ∷ b ∷ c ∷ []) (d ∷ e ∷ []) three also x y z = absurd (omega (arith, also))
-three_alike (a ∷ b ∷ c ∷ []) (d ∷ e ∷ f ∷ g ∷ ys) three also x y z = absurd (omega (arith, also))
-
--- points have one extent
-extent_once : (points : List Point) (a b : Bounds) → BoundsInRange a → BoundsInRange b → IsExtentOf points a → IsExtentOf points b → a ≡ b
-extent_once points a b in_a in_b of_a of_b =
-    let min : a.min ≡ b.min = three_alike a.min b.min in_a.min_is.three in_b.min_is.three (least_once (λ p. p.x) points _ _ _ _ of_a.x of_b.x) (least_once (λ p. p.y) points _ _ _ _ of_a.y of_b.y) (least_once (λ p. p.z) points _ _ _ _ of_a.z of_b.z) in
-    let max : a.max ≡ b.max = three_alike a.max b.max in_a.max_is.three in_b.max_is.three (greatest_once (λ p. p.x) points _ _ _ _ of_a.x of_b.x) (greatest_once (λ p. p.y) points _ _ _ _ of_a.y of_b.y) (greatest_once (λ p. p.z) points _ _ _ _ of_a.z of_b.z) in
-    λ i. record { min = min i; max = max i }
-
-bounds_once : (limits : Option Bounds) (points : List Point) (a b : Bounds) → BoundsInRange a → BoundsInRange b → AreBounds limits points a → AreBounds limits points b → a ≡ b
-bounds_once None points a b in_a in_b of_a of_b = extent_once points a b in_a in_b of_a of_b
-bounds_once (Some limits) points a b in_a in_b of_a of_b = of_a ∙ sym of_b
-
-rules_alike : (a b : Kept) → a.bounds ≡ b.bounds → a.s ≡ b.s → a.max_depth ≡ b.max_depth → a.threshold ≡ b.threshold → rules_of a ≡ rules_of b
-rules_alike a b bounds s depth threshold =
-    let cube : cube_of a.bounds a.s a.max_depth ≡ cube_of b.bounds b.s b.max_depth = ap (λ (w : Bounds). cube_of w a.s a.max_depth) bounds ∙ (ap (λ (k : ℕ). cube_of b.bounds k a.max_depth) s ∙ ap (λ (k : ℕ). cube_of b.bounds b.s k) depth) in
-    λ i. record { cube = cube i; threshold = threshold i }
-
-module _ (all : Files) (config : Config) (current : Current) (kept kept' : Kept) (points points' : List Point) (has : HasPoints all config current kept points) (has' : HasPoints all config current kept' points') where
-  pub points-once : points ≡ points'
-  points-once = scan_once all config.scale (limits_by config.bounds current) config.inputs 0 points points' has.done has'.done has.scan has'.scan
-
-  pub rules-once : rules_of kept ≡ rules_of kept'
-  rules-once =
-      let is = has.kept_is in
-      let is' = has'.kept_is in
-      let of_a : AreBounds (limits_by config.bounds current) points kept.bounds = subst (λ (b : Bounds). AreBounds (limits_by config.bounds current) points b) (sym is.bounds_is) has.scan.bounds_are in
-      let of_b : AreBounds (limits_by config.bounds current) points kept'.bounds = subst (λ (w : List Point). AreBounds (limits_by config.bounds current) w kept'.bounds) (sym points-once) (subst (λ (b : Bounds). AreBounds (limits_by config.bounds current) points' b) (sym is'.bounds_is) has'.scan.bounds_are) in
-      let bounds : kept.bounds ≡ kept'.bounds = bounds_once (limits_by config.bounds current) points kept.bounds kept'.bounds kept.has_bounds kept'.has_bounds of_a of_b in
-      rules_alike kept kept' bounds (is.s_is ∙ sym is'.s_is) (is.max_depth_is ∙ sym is'.max_depth_is) (is.threshold_is ∙ sym is'.threshold_is)
-
-  pub count-once : node_count kept points ≡ node_count kept' points'
-  count-once = ap (λ (w : List Point). length (sampled (rules_of kept) w)) points-once ∙ ap (λ (r : Rules). length (sampled r points')) rules-once
+use Rattle.ept_build.proofs.Found.{count-once}
 
 -- ---- what the layers below say
 

@@ -10,6 +10,7 @@ mod Asking
 mod Ending
 mod Ground
 mod Refusals
+pub mod Found
 mod Judging
 mod Roomy
 mod Running

@@ -105,9 +105,9 @@ module _ {D : Type 0} (files : D → Option Files) (may_leave : D → Files → 
   pub all-current : AllAre files may_leave moment image_since (HasCurrent view.current) old
   all-current = all-images files may_leave moment image_since (HasCurrent view.current) old reads (λ image may. (in-images view (files old) (may_leave old) stands).current image may)
 
-  pub either-moves : (kept : Kept) (counts : List SourceCount) (inserted : ℕ) (nodes : List Branch) (new : D) → Moves files may_leave moment image_since (GoesOn view kept counts inserted nodes) old new → Moves files may_leave moment image_since (λ (a b : Files). HasThisOrNext view.current inserted b) old new
+  pub either-moves : (kept : Kept) (counts : List SourceCount) (inserted : ℕ) (nodes : List Branch) (new : D) → Moves files may_leave moment image_since (GoesOn view kept counts inserted nodes) old new → Moves files may_leave moment image_since (λ (a b : Files). HasThisOrNext view.current kept inserted b) old new
   either-moves kept counts inserted nodes new goes =
-      moves-after files may_leave moment image_since (HasCurrent view.current) (GoesOn view kept counts inserted nodes) old new (HasThisOrNext view.current inserted) (goes-either view kept counts inserted nodes) all-current goes
+      moves-after files may_leave moment image_since (HasCurrent view.current) (GoesOn view kept counts inserted nodes) old new (HasThisOrNext view.current kept inserted) (goes-either view kept counts inserted nodes) all-current goes
 
   -- nothing has moved
   pub none-moves : (More : Files → Type 0) → ((files : Files) → HasCurrent view.current files → More files) → Moves files may_leave moment image_since (λ (a b : Files). More b) old old

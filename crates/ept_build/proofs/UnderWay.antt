@@ -34,12 +34,18 @@ early-moves same_sound published guarding all config start files may_leave momen
 
 module _ (all start : Files) (config : Config) (current : Current) (plan : Plan) (extent : Option Bounds) (ground : IsGround all start config current plan extent) (has : HasCurrent current start) where
   -- one that was reached
-  pub under-way-reached : (files : Files) → IsSound all files → HasReached current config.checkpoint plan.points files → IsUnderWay all config start files
+  pub under-way-reached : (files : Files) → IsSound all files → HasReached current plan.kept config.checkpoint plan.points files → IsUnderWay all config start files
   under-way-reached files sound reached = record {
     sound = sound;
     current = current;
     has_current = has;
-    either = inr (plan.kept, ground.points, ground.has_points, subst (λ (n : ℕ). HasReached current config.checkpoint n files) (sym ground.number) reached);
+    either = inr (record {
+      goes_on = ground.goes_on;
+      kept = plan.kept;
+      points = ground.points;
+      has_points = ground.has_points;
+      reached = subst (λ (n : ℕ). HasReached current plan.kept config.checkpoint n files) (sym ground.number) reached;
+    });
   }
 
   module _ {D : Type 0} (files : D → Option Files) (may_leave : D → Files → Type 0) (moment : D → ℕ) (image_since : D → ℕ → Files → Type 0) (old new : D) where
@@ -49,30 +55,31 @@ module _ (all start : Files) (config : Config) (current : Current) (plan : Plan)
     pub first-moves : MovesTo (IsSoundAt all current) → MovesTo (IsUnderWay all config start)
     first-moves = moves-wider files may_leave moment image_since (IsSoundAt all current) (IsUnderWay all config start) (under-way-at all config start current has) old new
 
-    pub grow-moves : MovesTo (IsSoundUndone all) → MovesTo (HasReached current config.checkpoint plan.points) → MovesTo (IsUnderWay all config start)
+    pub grow-moves : MovesTo (IsSoundUndone all) → MovesTo (HasReached current plan.kept config.checkpoint plan.points) → MovesTo (IsUnderWay all config start)
     grow-moves sound reached =
-        moves-wider files may_leave moment image_since (λ (b : Files). IsSoundUndone all b × HasReached current config.checkpoint plan.points b) (IsUnderWay all config start) (λ b both. under-way-reached b both.0.sound both.1) old new
-        (moves-two files may_leave moment image_since (IsSoundUndone all) (HasReached current config.checkpoint plan.points) old new sound reached)
+        moves-wider files may_leave moment image_since (λ (b : Files). IsSoundUndone all b × HasReached current plan.kept config.checkpoint plan.points b) (IsUnderWay all config start) (λ b both. under-way-reached b both.0.sound both.1) old new
+        (moves-two files may_leave moment image_since (IsSoundUndone all) (HasReached current plan.kept config.checkpoint plan.points) old new sound reached)
 
-    pub end-moves : (inputs : ℕ) (now : Current) → IsThrough current config.checkpoint plan.points inputs now → MovesTo (IsSoundAt all now) → MovesTo (IsUnderWay all config start)
+    pub end-moves : (inputs : ℕ) (now : Current) → IsThrough current plan.kept config.checkpoint plan.points inputs now → MovesTo (IsSoundAt all now) → MovesTo (IsUnderWay all config start)
     end-moves inputs now through =
         moves-wider files may_leave moment image_since (IsSoundAt all now) (IsUnderWay all config start) (λ b at. under-way-reached b at.sound (record { now = now; has_now = at.has; phases = through.phases; after = through.after })) old new
 
   -- ---- the end
 
   -- complete files, as many phases later as were needed
-  pub complete-end : (now : Current) → IsThrough current config.checkpoint plan.points (length config.inputs) now → (nodes : ℕ) → nodes ≡ node_count plan.kept ground.points → (old new : Option Files) → StepsBy (λ (a b : Files). IsSoundAt all now b) old new → Tells (IsComplete plan.kept ground.points) new → Tells (IsBuilt all config start (record { points = plan.points; nodes = nodes })) new
+  pub complete-end : (now : Current) → IsThrough current plan.kept config.checkpoint plan.points (length config.inputs) now → (nodes : ℕ) → nodes ≡ node_count plan.kept ground.points → (old new : Option Files) → StepsBy (λ (a b : Files). IsSoundAt all now b) old new → Tells (IsComplete plan.kept ground.points) new → Tells (IsBuilt all config start (record { points = plan.points; nodes = nodes })) new
   complete-end now through nodes counted None None moved complete = tt
   complete-end now through nodes counted None (Some b) moved complete = absurd moved
   complete-end now through nodes counted (Some a) None moved complete = absurd moved
   complete-end now through nodes counted (Some a) (Some b) at complete = record {
     current = current;
     has_current = has;
+    goes_on = ground.goes_on;
     kept = plan.kept;
     points = ground.points;
     has_points = ground.has_points;
     complete = complete;
-    through = record { now = now; has_now = at.has; through = subst (λ (n : ℕ). IsThrough current config.checkpoint n (length config.inputs) now) (sym ground.number) through };
+    through = record { now = now; has_now = at.has; through = subst (λ (n : ℕ). IsThrough current plan.kept config.checkpoint n (length config.inputs) now) (sym ground.number) through };
     points_are = sym ground.number;
     nodes_are = counted;
   }
@@ -84,6 +91,7 @@ module _ (all start : Files) (config : Config) (current : Current) (plan : Plan)
       tells_some (IsStopped all config start) files stands.all stands.told (record {
         current = current;
         has_current = has;
+        goes_on = ground.goes_on;
         kept = plan.kept;
         points = ground.points;
         has_points = ground.has_points;
@@ -91,7 +99,7 @@ module _ (all start : Files) (config : Config) (current : Current) (plan : Plan)
           now = view.current;
           has_now = stands.has_current;
           phases = many.phases;
-          after = subst (λ (n : ℕ). IsAfter current config.checkpoint n many.phases view.current) (sym ground.number) many.after;
+          after = subst (λ (n : ℕ). IsAfter current plan.kept config.checkpoint n many.phases view.current) (sym ground.number) many.after;
         };
         few = many.few;
         many = many.many;

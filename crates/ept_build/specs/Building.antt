@@ -64,24 +64,33 @@ pub record Starts {F : Type 0} (held : F → Option (List ℕ)) (all : Files) (c
 
 -- ---- what it leaves
 
--- The files are complete for the points of the inputs, after as many phases as were needed, and their numbers are told.
+-- The configuration continues from the current checkpoint. The files are complete for the points of its inputs, after the phases that were needed, and the summary has their numbers.
 pub record IsBuilt (all : Files) (config : Config) (start : Files) (summary : Summary) (files : Files) : Type 0 where
   pub current : Current
   pub has_current : HasCurrent current start
+  pub goes_on : GoesOn config current
   pub kept : Kept
   pub points : List Point
   pub has_points : HasPoints all config current kept points
   pub complete : IsComplete kept points files
-  pub through : HasGoneThrough current config.checkpoint (length points) (length config.inputs) files
+  pub through : HasGoneThrough current kept config.checkpoint (length points) (length config.inputs) files
   pub points_are : summary.points ≡ length points
   pub nodes_are : summary.nodes ≡ node_count kept points
+
+-- The configuration continues from the checkpoint that was current when the build began, and its inputs have points. The current one of the files is some phases later, and keeps what is kept of the configuration.
+pub record HasContinued (all : Files) (config : Config) (current : Current) (files : Files) : Type 0 where
+  pub goes_on : GoesOn config current
+  pub kept : Kept
+  pub points : List Point
+  pub has_points : HasPoints all config current kept points
+  pub reached : HasReached current kept config.checkpoint (length points) files
 
 -- The files are sound, and their current checkpoint is the one that the build began with, or one some phases later.
 pub record IsUnderWay (all : Files) (config : Config) (start files : Files) : Type 0 where
   pub sound : IsSound all files
   pub current : Current
   pub has_current : HasCurrent current start
-  pub either : HasCurrent current files ⊎ ((kept : Kept) × (points : List Point) × HasPoints all config current kept points × HasReached current config.checkpoint (length points) files)
+  pub either : HasCurrent current files ⊎ HasContinued all config current files
 
 -- the done gate is open, and the current checkpoint has all inputs of the configuration, with what is kept of it
 pub record IsDoneAlready (config : Config) (start : Files) : Type 0 where
@@ -137,14 +146,15 @@ pub record HasTooManyAlready (all : Files) (config : Config) (start : Files) : T
   pub has_points : HasPoints all config current kept points
   pub many : config.max_nodes < node_count kept (take (inserted_by current) points)
 
--- The current checkpoint is one some phases later, whose points have few enough nodes; with those of the next phase they have too many.
+-- The configuration continues from the current checkpoint. The one of the files is some phases later, and its points have few enough nodes; with those of the next phase they have too many.
 pub record IsStopped (all : Files) (config : Config) (start files : Files) : Type 0 where
   pub current : Current
   pub has_current : HasCurrent current start
+  pub goes_on : GoesOn config current
   pub kept : Kept
   pub points : List Point
   pub has_points : HasPoints all config current kept points
-  pub reached : HasReached current config.checkpoint (length points) files
+  pub reached : HasReached current kept config.checkpoint (length points) files
   pub few : node_count kept (take (inserted_by reached.now) points) ≤ config.max_nodes
   pub many : config.max_nodes < node_count kept (take (inserted_by reached.now + config.checkpoint) points)
 

@@ -150,7 +150,7 @@ HasDamage current key files = HasLine current key × Tells (λ all. HasCurrent c
 -- Some phases later, at this checkpoint, the sampling of the points that are inserted has few enough nodes, and with those of the next phase more than there may be.
 pub record AreMany (plan : Plan) (from : Current) (step most : ℕ) (points : List Point) (now : Current) : Type 0 where
   pub phases : ℕ
-  pub after : IsAfter from step plan.points phases now
+  pub after : IsAfter from plan.kept step plan.points phases now
   pub few : length (sampled (rules_of plan.kept) (take (inserted_by now) points)) ≤ most
   pub many : most < length (sampled (rules_of plan.kept) (take (inserted_by now + step) points))
 

@@ -80,10 +80,10 @@ where
     ensures cache { IfOk result (λ end. cache_of end.octree ≡ cache_of at.octree) }
     ensures all { IfOk result (λ end. IsOf plan.now end.saved.current) }
     ensures through { IfOk result (λ end.
-        IsThrough at.saved.current step plan.now.points (length plan.now.kept.inputs) end.saved.current) }
+        IsThrough at.saved.current plan.now.kept step plan.now.points (length plan.now.kept.inputs) end.saved.current) }
     ensures reached { IsTelling F.held → StandsFor at.saved (T.files store.old) (T.may_leave store.old)
         → Moves T.files T.may_leave T.moment T.image_since
-        (λ (a b : Files). HasReached at.saved.current step plan.now.points b) store.old store.new }
+        (λ (a b : Files). HasReached at.saved.current plan.now.kept step plan.now.points b) store.old store.new }
 
     // Of devices and spill files that tell: the octree is then that of all points, and each image is sound meanwhile.
     ensures sampled { IsTelling F.held → IfOk result (λ end. Tells (λ all. (points : List Point)
@@ -189,10 +189,10 @@ where
     ensures cache { IfOk result (λ r. cache_of r.0.octree ≡ cache_of at.octree) }
     ensures all { IfOk result (λ r. IsOf plan.now r.0.saved.current) }
     ensures through { IfOk result (λ r.
-        IsThrough at.saved.current step plan.now.points (length plan.now.kept.inputs) r.0.saved.current) }
+        IsThrough at.saved.current plan.now.kept step plan.now.points (length plan.now.kept.inputs) r.0.saved.current) }
     ensures reached { IsTelling F.held → StandsFor at.saved (T.files store.old) (T.may_leave store.old)
         → Moves T.files T.may_leave T.moment T.image_since
-        (λ (a b : Files). HasReached at.saved.current step plan.now.points b) store.old store.new }
+        (λ (a b : Files). HasReached at.saved.current plan.now.kept step plan.now.points b) store.old store.new }
     ensures sampled { IfOk result (λ r. (points : List Point) → CanBeSampled (rules_of plan.now.kept) points
         → length points ≡ plan.now.points → HasInserted F.held S.whole plan.now points at.inserted reader at.octree
         → AreSampled (rules_of plan.now.kept) points (nodes_of F.held r.0.octree)) }
@@ -274,7 +274,7 @@ where
     ensures generation { IfOk result (λ r. generation_by r.0.saved.current ≡ generation_by at.saved.current + 1) }
     ensures either { IsTelling F.held → StandsFor at.saved (T.files store.old) (T.may_leave store.old)
         → Moves T.files T.may_leave T.moment T.image_since
-        (λ (a b : Files). HasThisOrNext at.saved.current (at.inserted + count) b) store.old store.new }
+        (λ (a b : Files). HasThisOrNext at.saved.current plan.now.kept (at.inserted + count) b) store.old store.new }
     ensures stands { IfOk result (λ r. StandsFor at.saved (T.files store.old) (T.may_leave store.old)
         → StandsFor r.0.saved (T.files store.new) (T.may_leave store.new)) }
     ensures settled { IfOk result (λ r. IsSettled (T.files store.new) (T.may_leave store.new)) }

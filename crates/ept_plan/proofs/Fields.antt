@@ -61,6 +61,11 @@ fields-same a b scale offset bounds s threshold depth step srs inputs = λ i. re
   has_bounds = is_prop→PathP (λ j. BoundsInRange (bounds j)) (λ j. hlevel props) a.has_bounds b.has_bounds i;
 }
 
+-- with the same bounds the same is kept of a configuration
+pub kept-once : (config : Config) (bounds : Bounds) (a b : Kept) → IsKeptOf config bounds a → IsKeptOf config bounds b → a ≡ b
+kept-once config bounds a b of_a of_b =
+    fields-same a b (of_a.scale_is ∙ sym of_b.scale_is) (of_a.offset_is ∙ sym of_b.offset_is) (of_a.bounds_is ∙ sym of_b.bounds_is) (of_a.s_is ∙ sym of_b.s_is) (of_a.threshold_is ∙ sym of_b.threshold_is) (of_a.max_depth_is ∙ sym of_b.max_depth_is) (of_a.step_is ∙ sym of_b.step_is) (of_a.srs_is ∙ sym of_b.srs_is) (of_a.inputs_is ∙ sym of_b.inputs_is)
+
 module _ (config : Config) (kept given : Kept) (is : IsGiven config kept given) (on : GoesOnFrom kept given) where
   -- the scale and the bounds are those that are kept, and the kept inputs are the first ones
   pub scale-kept : kept.scale ≡ config.scale

@@ -254,7 +254,7 @@ returns-in-Ok-finish-clause-built g c = λ all start shelf_told starts.
     let grown = tells-some _ (g.H.Shelf.files c.args.shelf.now) all shelf_told (c.in-Ok.ensures.sampled starts.spills) it.points it.are.scan it.are.can sampled in
     let complete = c.in-Ok-finish.ensures.complete starts.spills all it.points it.out it.are it.number it.has_extent grown way_on in
     let nodes_are = nodes-number (rules_of c.args.plan.now.kept) it.points (nodes_of g.F.SpillFile.held c.in-Ok.end.octree) grown in
-    complete-end all start c.args.config.now c.take_up.new.at.saved.current c.args.plan.now c.whole_extent-extent.result it has c.in-Ok.end.saved.current (subst (λ (w : List Input). IsThrough c.take_up.new.at.saved.current c.args.config.now.checkpoint c.args.plan.now.points (length w) c.in-Ok.end.saved.current) c.requires.plan.kept_is.inputs_is c.in-Ok.ensures.through) c.len.result (omega (arith, c.len.ensures.number, ap (λ (w : List Branch). length w) c.finish.ensures.same, nodes_are))
+    complete-end all start c.args.config.now c.take_up.new.at.saved.current c.args.plan.now c.whole_extent-extent.result it has c.in-Ok.end.saved.current (subst (λ (w : List Input). IsThrough c.take_up.new.at.saved.current c.args.plan.now.kept c.args.config.now.checkpoint c.args.plan.now.points (length w) c.in-Ok.end.saved.current) c.requires.plan.kept_is.inputs_is c.in-Ok.ensures.through) c.len.result (omega (arith, c.len.ensures.number, ap (λ (w : List Branch). length w) c.finish.ensures.same, nodes_are))
     (g.T.Store.files c.grow.new.store) (g.T.Store.files c.finish.new.store) (c.in-Ok-finish.ensures.sound starts.spills all it.points it.out it.are it.number it.has_extent grown way_on).reads complete
 
 pub returns-in-Ok-finish-clause-damaged_comes : goal.returns-in-Ok-finish-clause-damaged_comes

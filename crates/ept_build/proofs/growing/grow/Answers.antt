@@ -111,8 +111,8 @@ returns-in-Err-clause-sound g c = λ telling.
 
 pub returns-in-Err-clause-reached : goal.returns-in-Err-clause-reached
 returns-in-Err-clause-reached g c = λ telling stands.
-    none-moves g.T.Store.files g.T.Store.may_leave g.T.Store.moment g.T.Store.image_since c.args.at.saved c.args.store.now (g.met.T.Store.reads_an_image c.args.store.now) stands (HasReached c.args.at.saved.current c.args.step c.args.plan.now.points)
-    (reached-now c.args.at.saved.current c.args.at.saved.current c.args.step c.args.plan.now.points 0 (after-none c.args.at.saved.current c.args.step c.args.plan.now.points (omega (arith, c.requires.tree.by_checkpoint, c.requires.inserted))))
+    none-moves g.T.Store.files g.T.Store.may_leave g.T.Store.moment g.T.Store.image_since c.args.at.saved c.args.store.now (g.met.T.Store.reads_an_image c.args.store.now) stands (HasReached c.args.at.saved.current c.args.plan.now.kept c.args.step c.args.plan.now.points)
+    (reached-now c.args.at.saved.current c.args.at.saved.current c.args.plan.now.kept c.args.step c.args.plan.now.points 0 (after-none c.args.at.saved.current c.args.plan.now.kept c.args.step c.args.plan.now.points (omega (arith, c.requires.tree.by_checkpoint, c.requires.inserted))))
 
 pub returns-in-Err-clause-no_change : goal.returns-in-Err-clause-no_change
 returns-in-Err-clause-no_change g c = λ telling source number is.

@@ -27,7 +27,7 @@ use Rattle.ept_build.proofs.growing.phase.Goals as goal
 
 pub returns-in-Err-clause-either : goal.returns-in-Err-clause-either
 returns-in-Err-clause-either g c = λ telling stands.
-    none-moves g.T.Store.files g.T.Store.may_leave g.T.Store.moment g.T.Store.image_since c.args.at.saved c.args.store.now (g.met.T.Store.reads_an_image c.args.store.now) stands (HasThisOrNext c.args.at.saved.current (c.args.at.inserted + c.args.count)) (λ files has. inl has)
+    none-moves g.T.Store.files g.T.Store.may_leave g.T.Store.moment g.T.Store.image_since c.args.at.saved c.args.store.now (g.met.T.Store.reads_an_image c.args.store.now) stands (HasThisOrNext c.args.at.saved.current c.args.plan.now.kept (c.args.at.inserted + c.args.count)) (λ files has. inl has)
 
 pub returns-in-Err-clause-too_many : goal.returns-in-Err-clause-too_many
 returns-in-Err-clause-too_many g c = λ is points can has.

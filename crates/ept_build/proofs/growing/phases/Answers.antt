@@ -13,7 +13,7 @@ use Rattle.ept_build.specs.Phases.{IsTreeOf, IsSoundUndone, AreMany}
 use Rattle.ept_build.proofs.Causes.{if-refused}
 use Rattle.ept_build.proofs.Fronts.{all-front}
 use Rattle.ept_build.specs.Reached.{HasReached, HasThisOrNext}
-use Rattle.ept_build.proofs.Counting.{after-none, after-next, reached-now, reached-then, no-fewer-none, no-fewer-next, through, take-most}
+use Rattle.ept_build.proofs.Counting.{keeps-of, after-none, after-next, reached-now, reached-then, no-fewer-none, no-fewer-next, through, take-most}
 use Rattle.ept_build.proofs.Numbers.{nodes-number}
 use Rattle.ept_build.proofs.PhaseSound.{none-moves}
 use Rattle.ept_build.proofs.Moved.{moves-none, moves-then, moves-wider, all-images}
@@ -34,14 +34,14 @@ loop-alloc-init g c = record {
       moves-none g.T.Store.files g.T.Store.may_leave g.T.Store.moment g.T.Store.image_since (IsSoundUndone shelf) c.args.store.now
       (all-images g.T.Store.files g.T.Store.may_leave g.T.Store.moment g.T.Store.image_since (IsSoundUndone shelf) c.args.store.now (g.met.T.Store.reads_an_image c.args.store.now) way.sound);
   phases = 0;
-  after = after-none c.args.at.saved.current c.args.step c.args.plan.now.points (omega (arith, c.requires.tree.by_checkpoint, c.requires.reader.to_come));
+  after = after-none c.args.at.saved.current c.args.plan.now.kept c.args.step c.args.plan.now.points (omega (arith, c.requires.tree.by_checkpoint, c.requires.reader.to_come));
   begun = inl refl;
   fewest = no-fewer-none _ _ c.args.step;
   stands = λ stands. stands;
   settled = λ settled. settled;
   reached = λ telling stands.
-      none-moves g.T.Store.files g.T.Store.may_leave g.T.Store.moment g.T.Store.image_since c.args.at.saved c.args.store.now (g.met.T.Store.reads_an_image c.args.store.now) stands (HasReached c.args.at.saved.current c.args.step c.args.plan.now.points)
-      (reached-now c.args.at.saved.current c.args.at.saved.current c.args.step c.args.plan.now.points 0 (after-none c.args.at.saved.current c.args.step c.args.plan.now.points (omega (arith, c.requires.tree.by_checkpoint, c.requires.reader.to_come))));
+      none-moves g.T.Store.files g.T.Store.may_leave g.T.Store.moment g.T.Store.image_since c.args.at.saved c.args.store.now (g.met.T.Store.reads_an_image c.args.store.now) stands (HasReached c.args.at.saved.current c.args.plan.now.kept c.args.step c.args.plan.now.points)
+      (reached-now c.args.at.saved.current c.args.at.saved.current c.args.plan.now.kept c.args.step c.args.plan.now.points 0 (after-none c.args.at.saved.current c.args.plan.now.kept c.args.step c.args.plan.now.points (omega (arith, c.requires.tree.by_checkpoint, c.requires.reader.to_come))));
 }
 
 pub overflow_sub-plan : goal.overflow_sub-plan
@@ -84,8 +84,8 @@ loop-alloc-preserved g c =
           (c.in_ok-at.ensures.sound shelf points output are (i.invariant.has points are.can has) (i.invariant.way shelf points output are has way));
       phases = i.invariant.phases + 1;
       after =
-          after-next c.args.at.saved.current i.at.saved.current c.args.step c.args.plan.now.points i.invariant.phases i.invariant.after c.in_ok-at.field-0-0.saved.current c.min-count.result c.in_ok-at.ensures.generation
-          (omega (arith, c.in_ok-at.ensures.tree.by_checkpoint, c.in_ok-at.ensures.inserted, i.invariant.tree.by_checkpoint)) (omega (arith, c.min-count.ensures, i.invariant.tree.by_checkpoint));
+          after-next c.args.at.saved.current i.at.saved.current c.args.plan.now.kept c.args.step c.args.plan.now.points i.invariant.phases i.invariant.after c.in_ok-at.field-0-0.saved.current c.min-count.result c.in_ok-at.ensures.generation
+          (omega (arith, c.in_ok-at.ensures.tree.by_checkpoint, c.in_ok-at.ensures.inserted, i.invariant.tree.by_checkpoint)) (omega (arith, c.min-count.ensures, i.invariant.tree.by_checkpoint)) (keeps-of c.args.plan.now c.in_ok-at.field-0-0.saved.current c.in_ok-at.ensures.checkpoint);
       begun = inr c.in_ok-at.ensures.checkpoint;
       fewest =
           no-fewer-next c.args.plan.now c.args.at.saved.current i.at.saved.current c.args.step i.invariant.phases i.invariant.after (omega (arith, c.requires.tree.by_checkpoint, c.requires.reader.to_come)) c.requires.tree.inputs_least i.invariant.begun i.invariant.fewest
@@ -93,9 +93,9 @@ loop-alloc-preserved g c =
       stands = λ stands. c.in_ok-at.ensures.stands (i.invariant.stands stands);
       settled = λ settled. c.in_ok-at.ensures.settled;
       reached = λ telling stands.
-          moves-then g.T.Store.files g.T.Store.may_leave g.T.Store.moment g.T.Store.image_since (HasReached c.args.at.saved.current c.args.step c.args.plan.now.points) c.args.store.now i.store c.phase.new.store (i.invariant.reached telling stands)
-          (moves-wider g.T.Store.files g.T.Store.may_leave g.T.Store.moment g.T.Store.image_since (HasThisOrNext i.at.saved.current (i.at.inserted + c.min-count.result)) (HasReached c.args.at.saved.current c.args.step c.args.plan.now.points)
-          (reached-then c.args.at.saved.current i.at.saved.current c.args.step c.args.plan.now.points i.invariant.phases i.invariant.after i.at.inserted c.min-count.result i.invariant.tree.by_checkpoint c.min-count.ensures) i.store c.phase.new.store (c.in_ok-at.ensures.either telling (i.invariant.stands stands)));
+          moves-then g.T.Store.files g.T.Store.may_leave g.T.Store.moment g.T.Store.image_since (HasReached c.args.at.saved.current c.args.plan.now.kept c.args.step c.args.plan.now.points) c.args.store.now i.store c.phase.new.store (i.invariant.reached telling stands)
+          (moves-wider g.T.Store.files g.T.Store.may_leave g.T.Store.moment g.T.Store.image_since (HasThisOrNext i.at.saved.current c.args.plan.now.kept (i.at.inserted + c.min-count.result)) (HasReached c.args.at.saved.current c.args.plan.now.kept c.args.step c.args.plan.now.points)
+          (reached-then c.args.at.saved.current i.at.saved.current c.args.plan.now.kept c.args.step c.args.plan.now.points i.invariant.phases i.invariant.after i.at.inserted c.min-count.result i.invariant.tree.by_checkpoint c.min-count.ensures) i.store c.phase.new.store (c.in_ok-at.ensures.either telling (i.invariant.stands stands)));
     }
 
 pub returns-in_err-at-clause-sound : goal.returns-in_err-at-clause-sound
@@ -107,9 +107,9 @@ returns-in_err-at-clause-sound g c = λ shelf points output are has way.
 pub returns-in_err-at-clause-reached : goal.returns-in_err-at-clause-reached
 returns-in_err-at-clause-reached g c = λ telling stands.
     let i = c.loop-alloc in
-    moves-then g.T.Store.files g.T.Store.may_leave g.T.Store.moment g.T.Store.image_since (HasReached c.args.at.saved.current c.args.step c.args.plan.now.points) c.args.store.now i.store c.phase.new.store (i.invariant.reached telling stands)
-    (moves-wider g.T.Store.files g.T.Store.may_leave g.T.Store.moment g.T.Store.image_since (HasThisOrNext i.at.saved.current (i.at.inserted + c.min-count.result)) (HasReached c.args.at.saved.current c.args.step c.args.plan.now.points)
-    (reached-then c.args.at.saved.current i.at.saved.current c.args.step c.args.plan.now.points i.invariant.phases i.invariant.after i.at.inserted c.min-count.result i.invariant.tree.by_checkpoint c.min-count.ensures) i.store c.phase.new.store (c.in_err-at.ensures.either telling (i.invariant.stands stands)))
+    moves-then g.T.Store.files g.T.Store.may_leave g.T.Store.moment g.T.Store.image_since (HasReached c.args.at.saved.current c.args.plan.now.kept c.args.step c.args.plan.now.points) c.args.store.now i.store c.phase.new.store (i.invariant.reached telling stands)
+    (moves-wider g.T.Store.files g.T.Store.may_leave g.T.Store.moment g.T.Store.image_since (HasThisOrNext i.at.saved.current c.args.plan.now.kept (i.at.inserted + c.min-count.result)) (HasReached c.args.at.saved.current c.args.plan.now.kept c.args.step c.args.plan.now.points)
+    (reached-then c.args.at.saved.current i.at.saved.current c.args.plan.now.kept c.args.step c.args.plan.now.points i.invariant.phases i.invariant.after i.at.inserted c.min-count.result i.invariant.tree.by_checkpoint c.min-count.ensures) i.store c.phase.new.store (c.in_err-at.ensures.either telling (i.invariant.stands stands)))
 
 pub returns-clause-tree : goal.returns-clause-tree
 returns-clause-tree g c =

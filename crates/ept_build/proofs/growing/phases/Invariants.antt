@@ -27,13 +27,13 @@ invariant-loop-alloc g l = record {
   moves : (shelf : Files) (points : List Point) (output : List File) → AreOfShelf shelf l.plan points output → HasInserted g.F.SpillFile.held g.S.Source.whole l.plan points l.initial.at.inserted l.initial.reader l.initial.at.octree
       → IsOnWay shelf output l.initial.at.saved (g.T.Store.files l.initial.store) (g.T.Store.may_leave l.initial.store) → Moves g.T.Store.files g.T.Store.may_leave g.T.Store.moment g.T.Store.image_since (λ (a b : Files). IsSoundUndone shelf b) l.initial.store l.store;
   phases : ℕ;
-  after : IsAfter l.initial.at.saved.current l.step l.plan.points phases l.at.saved.current;
+  after : IsAfter l.initial.at.saved.current l.plan.kept l.step l.plan.points phases l.at.saved.current;
   begun : (phases ≡ 0) ⊎ IsOf l.plan l.at.saved.current;
   fewest : NoFewer (l.plan.points - inserted_by l.initial.at.saved.current) (length l.plan.kept.inputs - inputs_by l.initial.at.saved.current) l.step phases;
   stands : StandsFor l.initial.at.saved (g.T.Store.files l.initial.store) (g.T.Store.may_leave l.initial.store) → StandsFor l.at.saved (g.T.Store.files l.store) (g.T.Store.may_leave l.store);
   settled : IsSettled (g.T.Store.files l.initial.store) (g.T.Store.may_leave l.initial.store) → IsSettled (g.T.Store.files l.store) (g.T.Store.may_leave l.store);
   reached : IsTelling g.F.SpillFile.held → StandsFor l.initial.at.saved (g.T.Store.files l.initial.store) (g.T.Store.may_leave l.initial.store)
-      → Moves g.T.Store.files g.T.Store.may_leave g.T.Store.moment g.T.Store.image_since (λ (a b : Files). HasReached l.initial.at.saved.current l.step l.plan.points b) l.initial.store l.store;
+      → Moves g.T.Store.files g.T.Store.may_leave g.T.Store.moment g.T.Store.image_since (λ (a b : Files). HasReached l.initial.at.saved.current l.plan.kept l.step l.plan.points b) l.initial.store l.store;
 }
 
 abbrev pub decreases-loop-alloc : goal.decreases-loop-alloc
