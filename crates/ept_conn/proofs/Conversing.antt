@@ -1,5 +1,5 @@
 -- What a session and its link have done together.
-use Rattle.std.proofs.Common.{◌≡◌, ◌∙◌, ◌-◌, ◌<◌, ◌≤◌, ◌⊎◌, inl, inr, ℕ, List, [], ◌∷◌, ◌++◌, length, take, drop, Bool, true, false, ◌||◌, Option, Some, None, refl, sym, ap, subst, arith, append_assoc, append-nil, length-append, length-take-le, length-drop}
+use Rattle.std.proofs.Common.{◌≡◌, ◌≢◌, ◌∙◌, ◌-◌, ◌<◌, ◌≤◌, ◌⊎◌, inl, inr, ℕ, List, [], ◌∷◌, ◌++◌, length, take, drop, Bool, true, false, ◌||◌, Option, Some, None, refl, sym, ap, subst, arith, append_assoc, append-nil, length-append, length-take-le, length-drop}
 use Rattle.std.specs.List.{AllByRecursion}
 use Rattle.std.proofs.lemmas.List.{take-append-le, take-append-drop}
 use Rattle.std.proofs.Math.Path.{fun_ext}
@@ -15,11 +15,13 @@ use Rattle.ept_conn.specs.declared.hand.Hand.TheVariants.{Empty}
 use Rattle.ept_conn.specs.declared.end.Fault.{Fault}
 use Rattle.ept_conn.specs.declared.end.Fault.TheVariants as fault
 use Rattle.ept_conn.specs.declared.end.End.{End}
+use Rattle.ept_conn.specs.declared.end.End.TheVariants as end
 use Rattle.ept_conn.specs.declared.end.Want.TheVariants as want
 use Rattle.ept_conn.specs.Answers.{Served, AreAnswers}
 use Rattle.ept_conn.specs.Served.{IsServed}
 use Rattle.ept_conn.specs.State.{State, started, wants, want_of, feeds}
 use Rattle.ept_conn.specs.Works.{HasPlanOf, IsDamagedIn, IsDamaged}
+use Rattle.ept_conn.specs.Ends.{EndsWell}
 use Rattle.ept_conn.specs.SessionCalls.{HasWorked}
 use Rattle.ept_conn.specs.Serving.{IsAnsweredAt, Passes, IsServedOver}
 use Rattle.ept_conn.specs.Conversation.{Converses, HasFailed, HasCauseFor, rank}
@@ -217,6 +219,17 @@ served-over served reason start now state ends c is = record {
   passes = c.passes;
   ended = ends-has served reason (now.left ≡ []) c.bytes c.text state ends c.closed c.has is;
 }
+
+-- a connection that was served over a wire that tells ends well
+pub ends-well : (served : Served) (reason link store : Type 0) (old new : Option Wire) (ends : End) → old ≢ None → StepsBy (IsServedOver served reason ends) old new
+    → (ends ≡ end.LinkFault → link) → (ends ≡ end.StoreFault → store) → EndsWell ends link store
+ends-well served reason link store old new end.Closed wired over links stores = tt
+ends-well served reason link store old new end.LinkFault wired over links stores = links refl
+ends-well served reason link store old new end.StoreFault wired over links stores = stores refl
+ends-well served reason link store None new (end.Damaged file) wired over links stores = wired refl
+ends-well served reason link store (Some wire) None (end.Damaged file) wired over links stores = over
+ends-well served reason link store (Some wire) (Some later) (end.Damaged file) wired over links stores = over.ended
+ends-well served reason link store old new end.Memory wired over links stores = tt
 
 -- ---- which ends are fixed
 

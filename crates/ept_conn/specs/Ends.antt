@@ -1,5 +1,5 @@
 -- What has been sent where a connection ends, for the bytes that came.
-use Rattle.std.specs.Prelude.{◌≡◌, ◌⊎◌, ℕ, ◌≤◌, List, [], ◌∷◌, ◌++◌, Bool, true, length, take, Some}
+use Rattle.std.specs.Prelude.{◌≡◌, ◌⊎◌, ℕ, ◌≤◌, List, [], ◌∷◌, ◌++◌, Bool, true, length, take, Some, ⊤}
 use Rattle.std.specs.List.{list_any}
 use Rattle.ept_space.specs.declared.box3.Box3.{Box3}
 use Rattle.ept_hier.specs.Hierarchy.{Node}
@@ -74,3 +74,11 @@ IsEnd served reason closed bytes text end.LinkFault = IsBroken served reason byt
 IsEnd served reason closed bytes text end.StoreFault = reason × IsCutOff served bytes (AreLastWords served fault.Store) text
 IsEnd served reason closed bytes text (end.Damaged file) = ⊥
 IsEnd served reason closed bytes text end.Memory = IsCutOff served bytes (AreLastWords served fault.Memory) text
+
+-- The end of the input, or of the last turn, or for want of memory; a fault of the link or of the store only where that device failed.
+abbrev pub EndsWell : End → Type 0 → Type 0 → Type 0
+EndsWell end.Closed link store = ⊤
+EndsWell end.LinkFault link store = link
+EndsWell end.StoreFault link store = store
+EndsWell (end.Damaged file) link store = ⊥
+EndsWell end.Memory link store = ⊤

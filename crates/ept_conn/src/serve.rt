@@ -1,6 +1,6 @@
 //! A connection over a link, served to its end.
 
-ghost use Rattle.std.specs.Prelude.{◌≡◌, ◌≢◌, ◌⊎◌, ◌<◌, ◌≤◌, ℕ, [], Some, IfSome, IfNone, length, drop};
+ghost use Rattle.std.specs.Prelude.{◌≡◌, ◌≢◌, ◌⊎◌, ◌<◌, ◌≤◌, ℕ, [], None, Some, IfSome, IfNone, length, drop};
 ghost use Rattle.ept_base.specs.Causes.{Rose};
 ghost use Rattle.ept_base.specs.Files.{Files, SameFiles, StepsBy, Tells};
 ghost use Rattle.ept_base.specs.Moves.{Moves};
@@ -10,6 +10,7 @@ ghost use Rattle.ept_conn.specs.State.{want_of};
 ghost use Rattle.ept_query.specs.declared.query_error.QueryFile.{QueryFile};
 ghost use Rattle.ept_conn.specs.declared.hand.Hand.TheVariants.{Empty};
 ghost use Rattle.ept_conn.specs.Works.{HasPlanOf, IsDamagedIn, IsDamaged};
+ghost use Rattle.ept_conn.specs.Ends.{EndsWell};
 ghost use Rattle.ept_conn.specs.Serving.{IsServedOver};
 ghost use Rattle.ept_conn.specs.Conversation.{GoesOn, HasFailed, HasCauseFor, rank};
 
@@ -29,6 +30,10 @@ pub fn serve_link<L: Link, T: Store>(alloc: Global, link: &mut L, store: &mut T)
     ensures links { result ≡ End.LinkFault → Rose (L.faults link.old) (L.faults link.new) }
     ensures stores { result ≡ End.StoreFault → Rose (T.faults store.old) (T.faults store.new) }
     ensures damaged { (file : QueryFile) → result ≡ End.Damaged file → Tells (IsDamaged file) (T.files store.old) }
+
+    // Where no device fails, the connection ends with its input or its last turn, or memory runs out.
+    ensures well { (files : Files) (served : Served) → T.files store.old ≡ Some files → IsServed files served → L.wire link.old ≢ None
+        → EndsWell result (Rose (L.faults link.old) (L.faults link.new)) (Rose (T.faults store.old) (T.faults store.new)) }
     ensures any_moment { Moves T.files T.may_leave T.moment T.image_since SameFiles store.old store.new }
 {
     let mut session = Session::new(alloc);

@@ -8,8 +8,8 @@ use Rattle.ept_run.specs.declared.refusal.Refusal.{Refusal}
 use Rattle.ept_run.specs.declared.refusal.Refusal.TheVariants.{Usage, SourceFault, StoreFault, SpillFault, Memory}
 use Rattle.ept_run.specs.Words.{IsBuild, IsInfo}
 use Rattle.ept_run.specs.Lines.{summary_text, header_text}
-use Rattle.ept_run.specs.Requests.{HasBuilt, HasTold, HasHeader, ConfigurationIsRefused, BuildIsRefused, InfoIsRefused, IsOfHeader, IsDefinite, IsEarly, Fails}
-use Rattle.ept_run.specs.Answers.{AsksBuild, AsksInfo, IsAnswer, IsDone, IsFaulty, IsRefused}
+use Rattle.ept_run.specs.Requests.{HasBuilt, HasTold, HasHeader, ConfigurationIsRefused, BuildIsRefused, InfoIsRefused, IsOfStore, IsOfHeader, IsDefinite, IsEarly, Fails}
+use Rattle.ept_run.specs.Answers.{AsksBuild, AsksInfo, SaysOfStore, IsAnswer, IsDone, IsFaulty, IsRefused}
 use Rattle.ept_run.proofs.Runs.{Carries}
 
 pub one_build : (words : List (List ℕ)) (a b c d : List ℕ) → IsBuild words a b → IsBuild words c d → c ≡ a
@@ -56,16 +56,17 @@ module _ (words : List (List ℕ)) (path out : List ℕ) (is : IsBuild words pat
     build_came all comes r definite (inr (inl asks)) = comes r definite (of_build {P = λ p. ConfigurationIsRefused all p r} asks)
     build_came all comes r definite (inr (inr asks)) = absurd (build_or_info words path out asks.path is asks.words_are)
 
-    pub build_carries : (files : Option Files) (Begins : Files → Files → Type 0) (new : Option Files) (shelf store room same : Type 0)
+    pub build_carries : (files old : Option Files) (settled : Type 0) (Begins : Files → Files → Type 0) (new : Option Files) (shelf store room same : Type 0)
         → IfOk answer (λ line. (points : ℕ) × (nodes : ℕ) × (line.items ≡ summary_text points nodes))
         → IfOk answer (λ line. Tells (λ all. HasBuilt all Begins path line.items new) files)
         → IfErr answer (λ r. r ≢ Usage)
         → IfErr answer (λ r. Tells (λ all. BuildIsRefused all Begins path r) files)
+        → IfErr answer (IsOfStore files old new settled path)
         → (answer ≡ Err SourceFault → shelf) → (answer ≡ Err StoreFault → store) → (answer ≡ Err SpillFault → room)
         → IfErr answer (λ r. IsEarly r → same)
         → Tells (λ all. (r : Refusal) → IsDefinite r → ConfigurationIsRefused all path r → (answer ≡ Err r) ⊎ Fails answer) files
-        → Carries words files Begins new shelf store room same answer
-    build_carries files Begins new shelf store room same said built named refused sources stores spills early comes = record {
+        → Carries words files Begins (SaysOfStore words files old new settled) new shelf store room same answer
+    build_carries files old settled Begins new shelf store room same said built named refused stored sources stores spills early comes = record {
       is_answer = ok_weaker (λ line. (points : ℕ) × (nodes : ℕ) × (line.items ≡ summary_text points nodes)) (λ line. IsAnswer words line.items) answer
           (λ line text. inl (record { path = path; out = out; words_are = is; holds = text })) said;
       done = ok_weaker (λ line. Tells (λ all. HasBuilt all Begins path line.items new) files) (λ line. Tells (λ all. IsDone words all Begins line.items new) files) answer
@@ -74,6 +75,9 @@ module _ (words : List (List ℕ)) (path out : List ℕ) (is : IsBuild words pat
       refused = err_weaker (λ r. Tells (λ all. BuildIsRefused all Begins path r) files) (λ r. Tells (λ all. IsRefused words all Begins r) files) answer
           (λ r why. told_as (λ all. BuildIsRefused all Begins path r) (λ all. IsRefused words all Begins r) files (λ all h. inr (inl (record { path = path; out = out; words_are = is; holds = h }))) why) refused;
       lacks = told_always (λ all. IsRefused words all Begins Memory) files (λ all. inr (inl (record { path = path; out = out; words_are = is; holds = tt })));
+      of_store = err_weaker (IsOfStore files old new settled path) (SaysOfStore words files old new settled) answer
+          (λ r says other folder also. subst (λ (p : List ℕ). IsOfStore files old new settled p r) (sym (one_build words path out other folder is also)) says) stored;
+      lacks_store = λ other folder also. tt;
       sources = sources;
       stores = stores;
       spills = spills;
@@ -101,15 +105,15 @@ module _ (words : List (List ℕ)) (path : List ℕ) (is : IsInfo words path) wh
     no_spill : (a : Result (Vec ℕ Global) Refusal) → IfErr a IsOfHeader → a ≡ Err SpillFault → ⊥
     no_spill a of fault = subst (λ (b : Result (Vec ℕ Global) Refusal). IfErr b IsOfHeader) fault of
 
-    pub info_carries : (files : Option Files) (Begins : Files → Files → Type 0) (new : Option Files) (shelf store room same : Type 0) → same
+    pub info_carries : (files old : Option Files) (settled : Type 0) (Begins : Files → Files → Type 0) (new : Option Files) (shelf store room same : Type 0) → same
         → IfOk answer (λ line. (header : Header) × (line.items ≡ header_text header))
         → IfOk answer (λ line. Tells (λ all. HasTold all path line.items) files)
         → IfErr answer IsOfHeader
         → IfErr answer (λ r. Tells (λ all. InfoIsRefused all path r) files)
         → (answer ≡ Err SourceFault → shelf)
         → Tells (λ all. (r : Refusal) → IsDefinite r → InfoIsRefused all path r → (answer ≡ Err r) ⊎ Fails answer) files
-        → Carries words files Begins new shelf store room same answer
-    info_carries files Begins new shelf store room same unchanged said told of refused sources comes = record {
+        → Carries words files Begins (SaysOfStore words files old new settled) new shelf store room same answer
+    info_carries files old settled Begins new shelf store room same unchanged said told of refused sources comes = record {
       is_answer = ok_weaker (λ line. (header : Header) × (line.items ≡ header_text header)) (λ line. IsAnswer words line.items) answer
           (λ line text. inr (inl (record { path = path; words_are = is; holds = text }))) said;
       done = ok_weaker (λ line. Tells (λ all. HasTold all path line.items) files) (λ line. Tells (λ all. IsDone words all Begins line.items new) files) answer
@@ -118,6 +122,8 @@ module _ (words : List (List ℕ)) (path : List ℕ) (is : IsInfo words path) wh
       refused = err_weaker (λ r. Tells (λ all. InfoIsRefused all path r) files) (λ r. Tells (λ all. IsRefused words all Begins r) files) answer
           (λ r why. told_as (λ all. InfoIsRefused all path r) (λ all. IsRefused words all Begins r) files (λ all h. inr (inr (inl (record { path = path; words_are = is; holds = h })))) why) refused;
       lacks = told_always (λ all. IsRefused words all Begins Memory) files (λ all. inr (inr (inl (record { path = path; words_are = is; holds = tt }))));
+      of_store = err_weaker IsOfHeader (SaysOfStore words files old new settled) answer (λ r o other folder also. absurd (build_or_info words other folder path also is)) of;
+      lacks_store = λ other folder also. tt;
       sources = sources;
       stores = λ fault. absurd (no_store answer of fault);
       spills = λ fault. absurd (no_spill answer of fault);
@@ -127,7 +133,6 @@ module _ (words : List (List ℕ)) (path : List ℕ) (is : IsInfo words path) wh
     }
 
     pub info_accepted : (files : Option Files) → Tells (λ all. (header : Header) → HasHeader all path header → IsOk answer ⊎ Fails answer) files
-        → Tells (λ all. (header : Header) → AsksInfo words (λ p. HasHeader all p header) → IsOk answer ⊎ Fails answer) files
-    info_accepted files accepted =
-        told_as (λ all. (header : Header) → HasHeader all path header → IsOk answer ⊎ Fails answer) (λ all. (header : Header) → AsksInfo words (λ p. HasHeader all p header) → IsOk answer ⊎ Fails answer) files
-        (λ all accept header asks. accept header (of_info {P = λ p. HasHeader all p header} asks)) accepted
+        → (all : Files) (header : Header) → files ≡ Some all → AsksInfo words (λ p. HasHeader all p header) → IsOk answer ⊎ Fails answer
+    info_accepted files accepted all header told asks =
+        subst (λ (o : Option Files). Tells (λ all. (header : Header) → HasHeader all path header → IsOk answer ⊎ Fails answer) o) told accepted header (of_info {P = λ p. HasHeader all p header} asks)

@@ -1,4 +1,5 @@
 mod Asked
+mod Coming
 mod Fronts
 mod Numbers
 mod Queried

@@ -1,8 +1,11 @@
 -- A build is refused for what its configuration, or its inputs, are refused for.
 use Rattle.std.proofs.Common.{◌≡◌, ◌⊎◌, inl, inr, ⊎_elim, ℕ, List, Option, Some, None, Ok, Err, refl, sym, ◌∙◌, ap, subst, arith}
-use Rattle.std.specs.Prelude.{Result, IsOk, IsErrAnd, IfOk, IfErr}
+use Rattle.std.specs.Prelude.{Result, IsOk, IsErrAnd, IfOk, IfErr, Vec}
+use Rattle.std.specs.declared.alloc.Global.{Global}
 use Rattle.ept_base.specs.Files.{Files, SameFiles, StepsBy, Tells}
 use Rattle.ept_base.specs.Moves.{Moves}
+use Rattle.ept_space.specs.VoxelKey.{VoxelKey}
+use Rattle.ept_meta.specs.declared.fields.Field.{Field}
 use Rattle.ept_ckpt.specs.declared.letter.Letter.{Letter}
 use Rattle.ept_save.specs.Opening.{IsBad}
 use Rattle.ept_save.specs.Current.{Current, HasCurrent}
@@ -18,13 +21,14 @@ use Rattle.ept_build.specs.declared.error.BuildError.TheVariants as build
 use Rattle.ept_build.specs.declared.summary.Summary.{Summary}
 use Rattle.ept_build.specs.Building as building
 use Rattle.ept_build.specs.Errors.{of_scan}
+use Rattle.ept_build.specs.Phases.{HasDamage}
 use Rattle.ept_scan.specs.declared.scan_error.ScanError.{ScanError}
 use Rattle.ept_scan.specs.declared.scan_error.ScanError.TheVariants as scan
 use Rattle.ept_plan.specs.Plans as plans
 use Rattle.ept_run.specs.declared.refusal.Refusal.{Refusal}
 use Rattle.ept_run.specs.declared.refusal.Refusal.TheVariants.{Usage, BadConfiguration, BadLas, OutOfBounds, NoBounds, SourceChanged, TooManyPoints, TooManyNodes, Differs, BadCheckpoint, TileDamaged, SourceFault, StoreFault, SpillFault, SpillDamaged, Memory}
 use Rattle.ept_run.specs.Errors.{of_build}
-use Rattle.ept_run.specs.Requests.{HasConfiguration, HasBadConfiguration, IsAcceptedAt, IsDoneAt, IsBuiltAt, Comes, ComesAt, DiffersAt, IsConfigured, HasSpilled, TellsDifference, ConfigurationIsRefused, BuildIsRefused, IsDefinite, IsEarly, Fails}
+use Rattle.ept_run.specs.Requests.{HasConfiguration, HasBadConfiguration, IsAcceptedAt, IsDoneAt, IsBuiltAt, Comes, ComesAt, DiffersAt, ComesToDamageAt, HasDifference, IsOfStore, IsConfigured, HasSpilled, TellsDifference, TellsDamage, ConfigurationIsRefused, BuildIsRefused, IsOfConfiguration, IsDefinite, IsEarly, Fails}
 use Rattle.ept_config.proofs.FactsTell.{config_same}
 
 -- a fact of a told thing gives another
@@ -273,6 +277,26 @@ early_as (build.SourceChanged source number) early = early
 early_as build.TooManyNodes early = early
 early_as build.Memory early = early
 
+-- ---- what a refused configuration says of the store
+
+pub unstored : (shelf old new : Option Files) (settled : Type 0) (path : List ℕ) (r : Refusal) → IsOfConfiguration r → IsOfStore shelf old new settled path r
+unstored shelf old new settled path Usage of = tt
+unstored shelf old new settled path (BadConfiguration e) of = tt
+unstored shelf old new settled path (BadLas source fault) of = tt
+unstored shelf old new settled path (OutOfBounds source number) of = tt
+unstored shelf old new settled path NoBounds of = tt
+unstored shelf old new settled path (SourceChanged source number) of = tt
+unstored shelf old new settled path (TooManyPoints source) of = tt
+unstored shelf old new settled path TooManyNodes of = tt
+unstored shelf old new settled path (Differs field) of = absurd of
+unstored shelf old new settled path (BadCheckpoint letter) of = absurd of
+unstored shelf old new settled path (TileDamaged key) of = absurd of
+unstored shelf old new settled path SourceFault of = tt
+unstored shelf old new settled path StoreFault of = tt
+unstored shelf old new settled path SpillFault of = tt
+unstored shelf old new settled path SpillDamaged of = tt
+unstored shelf old new settled path Memory of = tt
+
 -- ---- the same of a shelf that may tell
 
 module _ {F : Type 0} (held : F → Option (List ℕ)) (shelf later : Option Files) (same : later ≡ shelf) (path : List ℕ) (config : Config) (configures : Tells (λ all. HasConfiguration all path config) shelf) (store : Option Files) (may : Files → Type 0) where
@@ -383,19 +407,49 @@ module _ {F : Type 0} (held : F → Option (List ℕ)) (shelf later : Option Fil
         by SpillDamaged why = absurd why
         by Memory why = absurd why
 
-    pub differed_to : ((all start : Files) → building.BeginsWith held later store may all start → (current : Current) → HasCurrent current start → ¬ plans.GoesOn config current → building.TellsDifference answer ⊎ building.Fails answer)
-        → (all start : Files) → building.BeginsWith held shelf store may all start → DiffersAt all start path → TellsDifference (told_as answer) ⊎ Fails (told_as answer)
-    differed_to differs all start b asked =
-        let mine : ¬ plans.GoesOn config asked.current = subst (λ (c : Config). ¬ plans.GoesOn c asked.current) (one_config all path asked.config config asked.configures (known all start b)) asked.differs in
-        ⊎_elim (λ (told : building.TellsDifference answer). inl (told.0, ap told_as told.3)) (λ fails. inr (fails_as all path config (known all start b) answer fails)) (differs all start (begins all start b) asked.current asked.has_current mine)
+    -- what is asked of the configuration that the shelf has is asked of this one
+    configured : (all : Files) → shelf ≡ Some all → HasConfiguration all path config
+    configured all told = subst (λ (o : Option Files). Tells (λ all. HasConfiguration all path config) o) told configures
+
+    pub differed_to : ((start : Files) (current : Current) → store ≡ Some start → HasCurrent current start → ¬ plans.GoesOn config current → building.TellsDifference answer ⊎ building.Fails answer)
+        → (all start : Files) → shelf ≡ Some all → store ≡ Some start → DiffersAt all start path → TellsDifference (told_as answer) ⊎ Fails (told_as answer)
+    differed_to differs all start told stored asked =
+        let mine : ¬ plans.GoesOn config asked.current = subst (λ (c : Config). ¬ plans.GoesOn c asked.current) (one_config all path asked.config config asked.configures (configured all told)) asked.differs in
+        ⊎_elim (λ (is : building.TellsDifference answer). inl (is.0, ap told_as is.3)) (λ fails. inr (fails_as all path config (configured all told) answer fails)) (differs start asked.current stored asked.has_current mine)
+
+    pub damaged_to : ((all start : Files) (current : Current) → later ≡ Some all → store ≡ Some start → HasCurrent current start → building.ComesToDamage all config start current → building.TellsDamage answer ⊎ building.Fails answer)
+        → (all start : Files) → shelf ≡ Some all → store ≡ Some start → ComesToDamageAt all start path → TellsDamage (told_as answer) ⊎ Fails (told_as answer)
+    damaged_to damaged all start told stored asked =
+        let mine : building.ComesToDamage all config start asked.current = subst (λ (c : Config). building.ComesToDamage all c start asked.current) (one_config all path asked.config config asked.configures (configured all told)) asked.comes in
+        ⊎_elim (λ (is : building.TellsDamage answer). inl (is.0, ap told_as is.1)) (λ fails. inr (fails_as all path config (configured all told) answer fails)) (damaged all start asked.current (same ∙ told) stored asked.has_current mine)
+
+    -- what its refusal says of the store
+    pub stored_as : (new : Option Files) (settled : Type 0) (e : BuildError) → answer ≡ Err e
+        → ((field : Field) (kept given : Vec ℕ Global) → answer ≡ Err (build.Differs field kept given) → (start : Files) (current : Current) → store ≡ Some start → HasCurrent current start → plans.DiffersBy config current (record { field = field; kept = kept; given = given }))
+        → ((letter : Letter) → answer ≡ Err (build.BadCheckpoint letter) → Tells (λ start. IsBad start letter) store)
+        → ((key : VoxelKey) → answer ≡ Err (build.TileDamaged key) → (start : Files) → store ≡ Some start → settled → (current : Current) × HasDamage current key new)
+        → IsOfStore shelf store new settled path (of_build e)
+    stored_as new settled (build.Differs field kept given) is differs bad damaged =
+        tells_as (λ all. HasConfiguration all path config) (λ all. HasDifference all store path field) shelf
+        (λ all has. record { config = config; configures = has; differs = λ start current stored current_is. (kept, given, differs field kept given is start current stored current_is) }) configures
+    stored_as new settled (build.BadCheckpoint letter) is differs bad damaged = bad letter is
+    stored_as new settled (build.TileDamaged key) is differs bad damaged = damaged key is
+    stored_as new settled build.StoreFault is differs bad damaged = tt
+    stored_as new settled build.SpillFault is differs bad damaged = tt
+    stored_as new settled (build.SpillDamaged kept found at) is differs bad damaged = tt
+    stored_as new settled build.SourceFault is differs bad damaged = tt
+    stored_as new settled (build.BadLas source fault) is differs bad damaged = tt
+    stored_as new settled (build.OutOfBounds source number) is differs bad damaged = tt
+    stored_as new settled (build.TooManyPoints source) is differs bad damaged = tt
+    stored_as new settled build.NoBounds is differs bad damaged = tt
+    stored_as new settled (build.SourceChanged source number) is differs bad damaged = tt
+    stored_as new settled build.TooManyNodes is differs bad damaged = tt
+    stored_as new settled build.Memory is differs bad damaged = tt
 
     pub bad_to : ((letter : Letter) → (start : Files) → store ≡ Some start → IsBad start letter → (answer ≡ Err (build.BadCheckpoint letter)) ⊎ building.Fails answer)
         → (all start : Files) (letter : Letter) → shelf ≡ Some all → store ≡ Some start → IsBad start letter → IsConfigured all path → (told_as answer ≡ Err (BadCheckpoint letter)) ⊎ Fails (told_as answer)
     bad_to bad all start letter told stored is asked =
-        ⊎_elim (λ is. inl (ap told_as is)) (λ fails. inr (fails_as all path config asked_config answer fails)) (bad letter start stored is)
-      where
-        asked_config : HasConfiguration all path config
-        asked_config = subst (λ (o : Option Files). Tells (λ all. HasConfiguration all path config) o) told configures
+        ⊎_elim (λ is. inl (ap told_as is)) (λ fails. inr (fails_as all path config (configured all told) answer fails)) (bad letter start stored is)
 
 -- ---- of a configuration that is refused
 
@@ -428,8 +482,11 @@ module _ (files : Option Files) (path : List ℕ) {A : Type 0} (answer : Result 
   pub never_comes : {F : Type 0} (held : F → Option (List ℕ)) (store : Option Files) (may : Files → Type 0) (all start : Files) → building.BeginsWith held files store may all start → (r : Refusal) → ComesAt all start r path → (answer ≡ Err r) ⊎ Fails answer
   never_comes held store may all start b r asked = inr (only_fails all asked.config b.shelf_told asked.configures)
 
-  pub never_differs : {F : Type 0} (held : F → Option (List ℕ)) (store : Option Files) (may : Files → Type 0) (all start : Files) → building.BeginsWith held files store may all start → DiffersAt all start path → TellsDifference answer ⊎ Fails answer
-  never_differs held store may all start b asked = inr (only_fails all asked.config b.shelf_told asked.configures)
+  pub never_differs : (store : Option Files) (all start : Files) → files ≡ Some all → store ≡ Some start → DiffersAt all start path → TellsDifference answer ⊎ Fails answer
+  never_differs store all start told stored asked = inr (only_fails all asked.config told asked.configures)
+
+  pub never_damaged : (store : Option Files) (all start : Files) → files ≡ Some all → store ≡ Some start → ComesToDamageAt all start path → TellsDamage answer ⊎ Fails answer
+  never_damaged store all start told stored asked = inr (only_fails all asked.config told asked.configures)
 
   pub never_bad : (store : Option Files) (all start : Files) (letter : Letter) → files ≡ Some all → store ≡ Some start → IsBad start letter → IsConfigured all path → (answer ≡ Err (BadCheckpoint letter)) ⊎ Fails answer
   never_bad store all start letter told stored bad asked = inr (only_fails all asked.0 told asked.1)
@@ -441,6 +498,13 @@ carried_difference {A} a b e is_a is_b (inr (inl fault)) = inr (inl (is_err b e 
 carried_difference {A} a b e is_a is_b (inr (inr (inl fault))) = inr (inr (inl (is_err b e is_b ∙ ap Err (err_same {A = A} e StoreFault (sym is_a ∙ fault)))))
 carried_difference {A} a b e is_a is_b (inr (inr (inr (inl fault)))) = inr (inr (inr (inl (is_err b e is_b ∙ ap Err (err_same {A = A} e SpillFault (sym is_a ∙ fault))))))
 carried_difference {A} a b e is_a is_b (inr (inr (inr (inr lack)))) = inr (inr (inr (inr (is_err b e is_b ∙ ap Err (err_same {A = A} e Memory (sym is_a ∙ lack))))))
+
+pub carried_damage : {A B : Type 0} (a : Result A Refusal) (b : Result B Refusal) (e : Refusal) → a ≡ Err e → IsErrAnd b (λ x. x ≡ e) → TellsDamage a ⊎ Fails a → TellsDamage b ⊎ Fails b
+carried_damage {A} a b e is_a is_b (inl told) = inl (told.0, is_err b e is_b ∙ ap Err (err_same {A = A} e (TileDamaged told.0) (sym is_a ∙ told.1)))
+carried_damage {A} a b e is_a is_b (inr (inl fault)) = inr (inl (is_err b e is_b ∙ ap Err (err_same {A = A} e SourceFault (sym is_a ∙ fault))))
+carried_damage {A} a b e is_a is_b (inr (inr (inl fault))) = inr (inr (inl (is_err b e is_b ∙ ap Err (err_same {A = A} e StoreFault (sym is_a ∙ fault)))))
+carried_damage {A} a b e is_a is_b (inr (inr (inr (inl fault)))) = inr (inr (inr (inl (is_err b e is_b ∙ ap Err (err_same {A = A} e SpillFault (sym is_a ∙ fault))))))
+carried_damage {A} a b e is_a is_b (inr (inr (inr (inr lack)))) = inr (inr (inr (inr (is_err b e is_b ∙ ap Err (err_same {A = A} e Memory (sym is_a ∙ lack))))))
 
 pub carried_one : {A B : Type 0} (a : Result A Refusal) (b : Result B Refusal) (e r : Refusal) → a ≡ Err e → IsErrAnd b (λ x. x ≡ e) → (a ≡ Err r) ⊎ Fails a → (b ≡ Err r) ⊎ Fails b
 carried_one a b e r is_a is_b came = carried a b e r is_a (is_err b e is_b) came
@@ -459,6 +523,10 @@ ok_comes a x r is (inr fails) = ok_fails a x is fails
 pub ok_differs : {A : Type 0} (a : Result A Refusal) (x : A) → a ≡ Ok x → TellsDifference a ⊎ Fails a → ⊥
 ok_differs a x is (inl told) = differ x (Differs told.0) (sym is ∙ told.1)
 ok_differs a x is (inr fails) = ok_fails a x is fails
+
+pub ok_damaged : {A : Type 0} (a : Result A Refusal) (x : A) → a ≡ Ok x → TellsDamage a ⊎ Fails a → ⊥
+ok_damaged a x is (inl told) = differ x (TileDamaged told.0) (sym is ∙ told.1)
+ok_damaged a x is (inr fails) = ok_fails a x is fails
 
 -- ---- a store that is left as it is
 

@@ -5,15 +5,14 @@ use Rattle.std.specs.Io.KnownBytes.{Appends}
 use Rattle.std.specs.declared.alloc.Global.{Global}
 use Rattle.ept_base.specs.Files.{Files, Tells}
 use Rattle.ept_config.specs.declared.config_error.ConfigError.{ConfigError}
-use Rattle.ept_las.specs.declared.header.Header.{Header}
 use Rattle.ept_run.specs.Words.{IsUsage}
 use Rattle.ept_run.specs.declared.ended.Failure.{Failure}
 use Rattle.ept_run.specs.declared.ended.Failure.TheVariants.{Refused, LineNotWritten}
 use Rattle.ept_run.specs.declared.refusal.Refusal.{Refusal}
 use Rattle.ept_run.specs.declared.refusal.Refusal.TheVariants.{Usage, BadConfiguration, BadLas, OutOfBounds, NoBounds, SourceChanged, TooManyPoints, TooManyNodes, Differs, BadCheckpoint, TileDamaged, SourceFault, StoreFault, SpillFault, SpillDamaged, Memory}
 use Rattle.ept_run.specs.Lines.{status_of, line_of}
-use Rattle.ept_run.specs.Requests.{IsDefinite, IsEarly, TellsDifference, Fails}
-use Rattle.ept_run.specs.Answers.{Yields, YieldsRefusal, YieldsDifference, IsAnswer, IsDone, Ends, IsFaulty, IsRefused, HasRisen, Says, IsTold, EndsWith, EndsFor, Refuses, IsCut, IsUnwritten}
+use Rattle.ept_run.specs.Requests.{IsDefinite, IsEarly, TellsDifference, TellsDamage, Fails}
+use Rattle.ept_run.specs.Answers.{Yields, YieldsRefusal, YieldsDifference, YieldsDamage, IsAnswer, IsDone, Ends, IsFaulty, IsRefused, HasRisen, Says, IsTold, EndsWith, EndsFor, Refuses, IsCut, IsUnwritten}
 
 -- ---- statuses
 
@@ -114,13 +113,15 @@ some_or_none x o some none = cc
 
 -- ---- what a command does
 
--- What is known of a command whose answer is a line or a refusal: shelf, store and room say that the count of that device rose, same that nothing was put, and Begins of the shelf's files and the store's that a build begins with them.
-pub record Carries (words : List (List ℕ)) (files : Option Files) (Begins : Files → Files → Type 0) (new : Option Files) (shelf store room same : Type 0) (answer : Result (Vec ℕ Global) Refusal) : Type 0 where
+-- What is known of a command whose answer is a line or a refusal: shelf, store and room say that the count of that device rose, same that nothing was put, Begins of the shelf's files and the store's that a build begins with them, and OfStore of a refusal what it says of the store.
+pub record Carries (words : List (List ℕ)) (files : Option Files) (Begins : Files → Files → Type 0) (OfStore : Refusal → Type 0) (new : Option Files) (shelf store room same : Type 0) (answer : Result (Vec ℕ Global) Refusal) : Type 0 where
   pub is_answer : IfOk answer (λ line. IsAnswer words line.items)
   pub done : IfOk answer (λ line. Tells (λ all. IsDone words all Begins line.items new) files)
   pub named : IfErr answer (λ r. r ≢ Usage)
   pub refused : IfErr answer (λ r. Tells (λ all. IsRefused words all Begins r) files)
   pub lacks : Tells (λ all. IsRefused words all Begins Memory) files
+  pub of_store : IfErr answer OfStore
+  pub lacks_store : OfStore Memory
   pub sources : answer ≡ Err SourceFault → shelf
   pub stores : answer ≡ Err StoreFault → store
   pub spills : answer ≡ Err SpillFault → room
@@ -182,6 +183,10 @@ module _ (status : ℕ) (said_old said_new : Option (List ℕ)) (failed : Type 0
   differs_yields answer (inr fails) ends = inr (fails_yields answer fails ends)
   differs_yields answer (inl told) ends = ⊎_elim (λ said. inl (told.0, said.0, said.1)) (λ other. inr other) (comes_yields answer (Differs told.0) (inl told.1) ends)
 
+  pub damage_yields : (answer : Result (Vec ℕ Global) Refusal) → TellsDamage answer ⊎ Fails answer → EndsWith answer status said_old said_new failed → YieldsDamage status said_old said_new failed
+  damage_yields answer (inr fails) ends = inr (fails_yields answer fails ends)
+  damage_yields answer (inl told) ends = ⊎_elim (λ said. inl (told.0, said.0, said.1)) (λ other. inr other) (comes_yields answer (TileDamaged told.0) (inl told.1) ends)
+
   ok_yields : (answer : Result (Vec ℕ Global) Refusal) → IsOk answer → EndsWith answer status said_old said_new failed → Yields 0 status
   ok_yields (Ok line) is (inl ok) = inl ok.0
   ok_yields (Ok line) is (inr device) = inr (inl device.0)
@@ -191,14 +196,14 @@ module _ (status : ℕ) (said_old said_new : Option (List ℕ)) (failed : Type 0
   accepted_yields answer (inl is) ends = ok_yields answer is ends
   accepted_yields answer (inr fails) ends = inr (fails_yields answer fails ends)
 
-  module _ (words : List (List ℕ)) (files : Option Files) (Begins : Files → Files → Type 0) (new : Option Files) (shelf store room same : Type 0) where
-    pub is_done : (answer : Result (Vec ℕ Global) Refusal) → Carries words files Begins new shelf store room same answer → EndsWith answer status said_old said_new failed → status ≡ 0
+  module _ (words : List (List ℕ)) (files : Option Files) (Begins : Files → Files → Type 0) (OfStore : Refusal → Type 0) (new : Option Files) (shelf store room same : Type 0) where
+    pub is_done : (answer : Result (Vec ℕ Global) Refusal) → Carries words files Begins OfStore new shelf store room same answer → EndsWith answer status said_old said_new failed → status ≡ 0
         → Ends words files Begins new (Appends said_old said_new)
     is_done (Ok line) carries (inl ok) is = record { line = line.items; is_answer = carries.is_answer; done = carries.done; said = ok.1 }
     is_done (Ok line) carries (inr device) is = absurd (omega (arith, device.0, is))
     is_done (Err r) carries ends is = absurd (never_done ends.told (ends.status_is ∙ is))
 
-    pub has_risen : (answer : Result (Vec ℕ Global) Refusal) → Carries words files Begins new shelf store room same answer → EndsWith answer status said_old said_new failed → status ≡ 7 → shelf ⊎ store ⊎ room ⊎ failed
+    pub has_risen : (answer : Result (Vec ℕ Global) Refusal) → Carries words files Begins OfStore new shelf store room same answer → EndsWith answer status said_old said_new failed → status ≡ 7 → shelf ⊎ store ⊎ room ⊎ failed
     has_risen (Ok line) carries (inl ok) is = absurd (omega (arith, ok.0, is))
     has_risen (Ok line) carries (inr device) is = inr (inr (inr device.1))
     has_risen (Err r) carries ends is =
@@ -209,8 +214,8 @@ module _ (status : ℕ) (said_old said_new : Option (List ℕ)) (failed : Type 0
         one_rose (inr (inl store)) = inr (inl (carries.stores (ap Err store)))
         one_rose (inr (inr spill)) = inr (inr (inl (carries.spills (ap Err spill))))
 
-    pub is_refused : (answer : Result (Vec ℕ Global) Refusal) (failure : Option Failure) → Carries words files Begins new shelf store room same answer → EndsFor answer status failure said_old said_new failed → status ≢ 0
-        → ((refuses : Refuses words files Begins status shelf store room failed said_old said_new same) × (failure ≡ Some (Refused refuses.cause)))
+    pub is_refused : (answer : Result (Vec ℕ Global) Refusal) (failure : Option Failure) → Carries words files Begins OfStore new shelf store room same answer → EndsFor answer status failure said_old said_new failed → status ≢ 0
+        → ((refuses : Refuses words files Begins OfStore status shelf store room failed said_old said_new same) × (failure ≡ Some (Refused refuses.cause)))
         ⊎ ((cut : IsCut words files Begins status new failed said_old said_new) × IsUnwritten failure cut.ends.line)
     is_refused (Ok line) failure carries (inl ok) not_ok = absurd (not_ok ok.0)
     is_refused (Ok line) failure carries (inr device) not_ok =
@@ -221,6 +226,7 @@ module _ (status : ℕ) (said_old said_new : Option (List ℕ)) (failed : Type 0
         status_is = reports.0.status_is;
         has_cause = ⊎_elim (λ is. subst (λ (x : Refusal). Tells (λ all. IsRefused words all Begins x) files) (sym is) carries.refused)
             (λ is. subst (λ (x : Refusal). Tells (λ all. IsRefused words all Begins x) files) (sym is) carries.lacks) reports.0.told_is;
+        of_store = ⊎_elim (λ is. subst OfStore (sym is) carries.of_store) (λ is. subst OfStore (sym is) carries.lacks_store) reports.0.told_is;
         risen = ⊎_elim (λ is. subst (λ (x : Refusal). HasRisen x shelf store room) (sym is) (risen_of r shelf store room (λ e. carries.sources (ap Err e)) (λ e. carries.stores (ap Err e)) (λ e. carries.spills (ap Err e))))
             (λ is. subst (λ (x : Refusal). HasRisen x shelf store room) (sym is) tt) reports.0.told_is;
         says = reports.0.says;
@@ -235,11 +241,6 @@ module _ (status : ℕ) (said_old said_new : Option (List ℕ)) (failed : Type 0
       → Tells (λ all. (r : Refusal) → IsDefinite r → Why all r → YieldsRefusal r status said_old said_new failed) files
   refusal_yields answer None Why ends comes = tt
   refusal_yields answer (Some all) Why ends comes = λ r definite why. comes_yields answer r (comes r definite why) ends
-
-  pub info_yields : (answer : Result (Vec ℕ Global) Refusal) (files : Option Files) (Fact : Files → Header → Type 0) → EndsWith answer status said_old said_new failed
-      → Tells (λ all. (header : Header) → Fact all header → IsOk answer ⊎ Fails answer) files → Tells (λ all. (header : Header) → Fact all header → Yields 0 status) files
-  info_yields answer None Fact ends accepted = tt
-  info_yields answer (Some all) Fact ends accepted = λ header fact. accepted_yields answer (accepted header fact) ends
 
 -- ---- how it ends, whatever its failure is
 

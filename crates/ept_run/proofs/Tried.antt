@@ -8,8 +8,9 @@ use Rattle.ept_space.specs.declared.box3.Box3.{Box3}
 use Rattle.ept_run.specs.declared.refusal.Refusal.{Refusal}
 use Rattle.ept_run.specs.declared.refusal.Refusal.TheVariants.{Usage, SourceFault, StoreFault, SpillFault, Memory}
 use Rattle.ept_run.specs.Words.{IsBuild, IsInfo, IsQuery, IsTrial, IsUsage}
+use Rattle.ept_run.specs.Lines.{status_of}
 use Rattle.ept_run.specs.Requests.{HasTrial, IsDefinite, IsEarly, Fails}
-use Rattle.ept_run.specs.Answers.{AsksInfo, AsksTrial, IsAnswer, IsDone, IsFaulty, IsRefused, IsTold, EndsTrial, EndsWith}
+use Rattle.ept_run.specs.Answers.{AsksInfo, AsksTrial, SaysOfStore, IsAnswer, IsDone, IsFaulty, IsRefused, IsTold, EndsTrial, EndsWith, Yields}
 use Rattle.ept_run.proofs.Asked.{told_always, ok_weaker, err_weaker}
 use Rattle.ept_run.proofs.Runs.{Carries}
 
@@ -76,8 +77,8 @@ module _ (words : List (List ℕ)) (count workers cache : ℕ) (is : IsTrial wor
   asked holds = record { count = count; workers = workers; cache = cache; words_are = is; holds = holds }
 
   module _ (answer : Result (Vec ℕ Global) Refusal) (told : IfOk answer (λ line. HasTrial count line.items)) (lacks : IfErr answer (λ r. r ≡ Memory)) where
-    pub trial_carries : (files : Option Files) (Begins : Files → Files → Type 0) (new : Option Files) (shelf store room same : Type 0) → same → Carries words files Begins new shelf store room same answer
-    trial_carries files Begins new shelf store room same unchanged = record {
+    pub trial_carries : (files old : Option Files) (settled : Type 0) (Begins : Files → Files → Type 0) (new : Option Files) (shelf store room same : Type 0) → same → Carries words files Begins (SaysOfStore words files old new settled) new shelf store room same answer
+    trial_carries files old settled Begins new shelf store room same unchanged = record {
       is_answer = ok_weaker (λ line. HasTrial count line.items) (λ line. IsAnswer words line.items) answer
           (λ line has. inr (inr (asked {Fact = λ n. HasTrial n line.items} has))) told;
       done = ok_weaker (λ line. HasTrial count line.items) (λ line. Tells (λ all. IsDone words all Begins line.items new) files) answer
@@ -86,6 +87,8 @@ module _ (words : List (List ℕ)) (count workers cache : ℕ) (is : IsTrial wor
       refused = err_weaker (λ r. r ≡ Memory) (λ r. Tells (λ all. IsRefused words all Begins r) files) answer
           (λ r is. told_always (λ all. IsRefused words all Begins r) files (λ all. inr (inr (inr (asked {Fact = λ _. r ≡ Memory} is))))) lacks;
       lacks = told_always (λ all. IsRefused words all Begins Memory) files (λ all. inr (inr (inr (asked {Fact = λ _. Memory ≡ Memory} refl))));
+      of_store = err_weaker (λ r. r ≡ Memory) (SaysOfStore words files old new settled) answer (λ r lack path out other. absurd (trial_or_build path out other)) lacks;
+      lacks_store = λ path out other. tt;
       sources = λ fault. absurd ((only_memory SourceFault (refused_as answer SourceFault lacks fault)).1 refl);
       stores = λ fault. absurd ((only_memory StoreFault (refused_as answer StoreFault lacks fault)).2 refl);
       spills = λ fault. absurd ((only_memory SpillFault (refused_as answer SpillFault lacks fault)).3 refl);
@@ -99,6 +102,13 @@ pub trial_ends : (count status : ℕ) (old new : Option (List ℕ)) (failed : Ty
     → IfOk answer (λ line. HasTrial count line.items) → IfErr answer (λ r. r ≡ Memory) → EndsWith answer status old new failed → EndsTrial count status old new failed
 trial_ends count status old new failed (Ok line) told lacks said = inl (line.items, told, said)
 trial_ends count status old new failed (Err r) told lacks said = inr (subst (λ (x : Refusal). IsTold x status old new failed) lacks said)
+
+-- it ends with its line, or for want of memory, or where the sink failed
+pub trial_yields : (count status : ℕ) (old new : Option (List ℕ)) (failed : Type 0) → EndsTrial count status old new failed → Yields 0 status
+trial_yields count status old new failed (inl (line, has, inl said)) = inl said.0
+trial_yields count status old new failed (inl (line, has, inr device)) = inr (inl device.0)
+trial_yields count status old new failed (inr told) =
+    inr (inr (⊎_elim (λ is. sym told.status_is ∙ ap status_of is) (λ is. sym told.status_is ∙ ap status_of is) told.told_is))
 
 -- ---- words that are read as numbers out of their range
 

@@ -5,16 +5,20 @@ use Rattle.std.specs.declared.alloc.Global.{Global}
 use Rattle.ept_base.specs.Devices.{AppendsPrefix}
 use Rattle.ept_base.specs.Files.{Files, Tells}
 use Rattle.ept_las.specs.declared.header.Header.{Header}
+use Rattle.ept_point.specs.declared.point.Point.{Point}
 use Rattle.ept_space.specs.declared.box3.Box3.{Box3}
+use Rattle.ept_space.specs.VoxelKey.{VoxelKey}
+use Rattle.ept_config.specs.declared.kept.Kept.{Kept}
 use Rattle.ept_scan.specs.Asking.{AsksFor}
 use Rattle.ept_meta.specs.declared.fields.Field.{Field}
+use Rattle.ept_save.specs.Complete.{IsComplete}
 use Rattle.ept_run.specs.declared.ended.Failure.{Failure}
 use Rattle.ept_run.specs.declared.ended.Failure.TheVariants.{Refused, LineNotWritten}
 use Rattle.ept_run.specs.declared.refusal.Refusal.{Refusal}
 use Rattle.ept_run.specs.declared.refusal.Refusal.TheVariants.{Usage, BadConfiguration, BadLas, OutOfBounds, NoBounds, SourceChanged, TooManyPoints, TooManyNodes, Differs, BadCheckpoint, TileDamaged, SourceFault, StoreFault, SpillFault, SpillDamaged, Memory}
 use Rattle.ept_run.specs.Words.{IsBuild, IsInfo, IsQuery, IsTrial, IsUsage}
 use Rattle.ept_run.specs.Lines.{summary_text, header_text, status_of, line_of}
-use Rattle.ept_run.specs.Requests.{HasBuilt, HasTold, HasTrial, AsksForBuild, ConfigurationIsRefused, BuildIsRefused, InfoIsRefused, IsEarly}
+use Rattle.ept_run.specs.Requests.{HasBuilt, HasTold, HasTrial, HasHeader, IsAcceptedAt, IsDoneAt, AsksForBuild, ConfigurationIsRefused, BuildIsRefused, InfoIsRefused, IsOfStore, IsEarly}
 
 -- this status, if no device failed and memory sufficed
 abbrev pub Yields : ℕ → ℕ → Type 0
@@ -163,12 +167,17 @@ abbrev pub EndsFor : Result (Vec ℕ Global) Refusal → ℕ → Option Failure 
 EndsFor (Ok line) status failure old new failed = IsSaidFor line status failure old new failed
 EndsFor (Err r) status failure old new failed = IsReported r status failure old new failed
 
--- A run is refused for a cause, with its status and its line: the device that it names has failed (shelf, store, room and out say that the count of that one rose), and nothing was put where the cause is an early one (same).
-pub record Refuses (words : List (List ℕ)) (files : Option Files) (Begins : Files → Files → Type 0) (status : ℕ) (shelf store room out : Type 0)
+-- What a refusal says of the store that a build began with (old) and left (new), if the words ask for a build.
+abbrev pub SaysOfStore : List (List ℕ) → Option Files → Option Files → Option Files → Type 0 → Refusal → Type 0
+SaysOfStore words shelf old new settled r = (path out : List ℕ) → IsBuild words path out → IsOfStore shelf old new settled path r
+
+-- A run is refused for a cause, with its status and its line: the device that it names has failed (shelf, store, room and out say that the count of that one rose), the cause is one that the store gives (OfStore), and nothing was put where the cause is an early one (same).
+pub record Refuses (words : List (List ℕ)) (files : Option Files) (Begins : Files → Files → Type 0) (OfStore : Refusal → Type 0) (status : ℕ) (shelf store room out : Type 0)
     (old new : Option (List ℕ)) (same : Type 0) : Type 0 where
   pub cause : Refusal
   pub status_is : status_of cause ≡ status
   pub has_cause : Tells (λ all. IsRefused words all Begins cause) files
+  pub of_store : OfStore cause
   pub risen : HasRisen cause shelf store room
   pub says : Says (line_of cause) old new out
   pub early : IsEarly cause → same
@@ -189,3 +198,21 @@ YieldsRefusal r status old new failed =
 abbrev pub YieldsDifference : ℕ → Option (List ℕ) → Option (List ℕ) → Type 0 → Type 0
 YieldsDifference status old new failed =
     ((field : Field) × (status ≡ 6) × Says (line_of (Differs field)) old new failed) ⊎ (status ≡ 7) ⊎ (status ≡ 9)
+
+-- the tile of some key is told as damaged, if no device failed and memory sufficed
+abbrev pub YieldsDamage : ℕ → Option (List ℕ) → Option (List ℕ) → Type 0 → Type 0
+YieldsDamage status old new failed =
+    ((key : VoxelKey) × (status ≡ 8) × Says (line_of (TileDamaged key)) old new failed) ⊎ (status ≡ 7) ⊎ (status ≡ 9)
+
+-- ---- what can be done
+
+-- The devices tell, and what the words ask for can be done: a build that begins with sound files, and whose inputs are accepted or of which nothing is left to be done; a query of complete files; the header of a file that has one; a trial.
+pub data CanBeDone (words : List (List ℕ)) (shelf store : Option Files) (Begins : Files → Files → Type 0) : Type 0 where
+  a_build : (all start : Files) → Begins all start → AsksBuild words (λ path. IsAcceptedAt all start path ⊎ IsDoneAt all start path) → CanBeDone words shelf store Begins
+  a_query : (start : Files) (kept : Kept) (points : List Point) → store ≡ Some start → IsComplete kept points start → AsksQuery words → CanBeDone words shelf store Begins
+  a_header : (all : Files) (header : Header) → shelf ≡ Some all → AsksInfo words (λ path. HasHeader all path header) → CanBeDone words shelf store Begins
+  a_trial : AsksTrial words (λ _. ⊤) → CanBeDone words shelf store Begins
+
+-- status 0, or 9 where memory ran out, or 7 where a device failed
+abbrev pub EndsWell : ℕ → Type 0 → Type 0
+EndsWell status failed = (status ≡ 0) ⊎ (status ≡ 9) ⊎ ((status ≡ 7) × failed)

@@ -3,6 +3,7 @@ use Rattle.std.specs.Prelude.{◌≡◌, ◌≢◌, ◌⊎◌, ℕ, List, [], �
 use Rattle.std.specs.declared.alloc.Global.{Global}
 use Rattle.ept_base.specs.Files.{Files, Tells}
 use Rattle.ept_point.specs.declared.point.Point.{Point}
+use Rattle.ept_space.specs.VoxelKey.{VoxelKey}
 use Rattle.ept_config.specs.declared.config.Config.{Config}
 use Rattle.ept_config.specs.declared.config_error.ConfigError.{ConfigError}
 use Rattle.ept_config.specs.declared.kept.Kept.{Kept}
@@ -16,11 +17,13 @@ use Rattle.ept_scan.specs.LasFile.{head_of}
 use Rattle.ept_scan.specs.declared.scan_error.ScanError.TheVariants as scan
 use Rattle.ept_meta.specs.declared.fields.Field.{Field}
 use Rattle.ept_save.specs.Current.{Current, HasCurrent}
-use Rattle.ept_plan.specs.Plans.{GoesOn}
+use Rattle.ept_save.specs.Opening.{IsBad}
+use Rattle.ept_plan.specs.Plans.{GoesOn, DiffersBy}
 use Rattle.ept_build.specs.declared.error.BuildError.{BuildError}
 use Rattle.ept_build.specs.declared.error.BuildError.TheVariants as build
 use Rattle.ept_build.specs.declared.summary.Summary.{Summary}
 use Rattle.ept_build.specs.Building as building
+use Rattle.ept_build.specs.Phases.{HasDamage}
 use Rattle.ept_trial.specs.declared.trial.Trial.{Trial}
 use Rattle.ept_trial.specs.Trials.{IsTrialOf}
 use Rattle.ept_run.specs.declared.refusal.Refusal.{Refusal}
@@ -104,13 +107,47 @@ pub record ComesAt (files start : Files) (r : Refusal) (path : List ℕ) : Type 
   pub has_current : HasCurrent current start
   pub because : Comes files config start current r
 
--- it is a configuration that does not go on from what the current checkpoint keeps
+-- it is a configuration that does not go on from what the current checkpoint of these files keeps
 pub record DiffersAt (files start : Files) (path : List ℕ) : Type 0 where
   pub config : Config
   pub configures : HasConfiguration files path config
   pub current : Current
   pub has_current : HasCurrent current start
   pub differs : ¬ GoesOn config current
+
+-- it is a configuration, and its build over a store with these files comes to the octree of the current checkpoint, of which a tile is damaged
+pub record ComesToDamageAt (files start : Files) (path : List ℕ) : Type 0 where
+  pub config : Config
+  pub configures : HasConfiguration files path config
+  pub current : Current
+  pub has_current : HasCurrent current start
+  pub comes : building.ComesToDamage files config start current
+
+-- it is a configuration, and this is the first field in which it differs from what a current checkpoint of the store keeps, if the store tells
+pub record HasDifference (files : Files) (store : Option Files) (path : List ℕ) (field : Field) : Type 0 where
+  pub config : Config
+  pub configures : HasConfiguration files path config
+  pub differs : (start : Files) (current : Current) → store ≡ Some start → HasCurrent current start
+      → (kept : Vec ℕ Global) × (given : Vec ℕ Global) × DiffersBy config current (record { field = field; kept = kept; given = given })
+
+-- What the refusal of a build says of the store, whether its files are sound or not. The store told the files `old` when the build began, was settled then if that is said, and tells `new` when it ends.
+abbrev pub IsOfStore : Option Files → Option Files → Option Files → Type 0 → List ℕ → Refusal → Type 0
+IsOfStore shelf old new settled path (Differs field) = Tells (λ files. HasDifference files old path field) shelf
+IsOfStore shelf old new settled path (BadCheckpoint letter) = Tells (λ start. IsBad start letter) old
+IsOfStore shelf old new settled path (TileDamaged key) = (start : Files) → old ≡ Some start → settled → (current : Current) × HasDamage current key new
+IsOfStore shelf old new settled path Usage = ⊤
+IsOfStore shelf old new settled path (BadConfiguration error) = ⊤
+IsOfStore shelf old new settled path (BadLas source fault) = ⊤
+IsOfStore shelf old new settled path (OutOfBounds source number) = ⊤
+IsOfStore shelf old new settled path NoBounds = ⊤
+IsOfStore shelf old new settled path (SourceChanged source number) = ⊤
+IsOfStore shelf old new settled path (TooManyPoints source) = ⊤
+IsOfStore shelf old new settled path TooManyNodes = ⊤
+IsOfStore shelf old new settled path SourceFault = ⊤
+IsOfStore shelf old new settled path StoreFault = ⊤
+IsOfStore shelf old new settled path SpillFault = ⊤
+IsOfStore shelf old new settled path SpillDamaged = ⊤
+IsOfStore shelf old new settled path Memory = ⊤
 
 -- What a build of the configuration of this path asks the shelf for: this path, and then, where it is a configuration, what its build asks for over a store with these files.
 abbrev pub AsksForBuild : Option Files → Files → List ℕ → Option (List (List ℕ)) → Option (List (List ℕ)) → Type 0
@@ -237,6 +274,10 @@ Fails answer = (answer ≡ Err SourceFault) ⊎ (answer ≡ Err StoreFault) ⊎ 
 -- the answer is a field that differs
 abbrev pub TellsDifference : {A : Type 0} → Result A Refusal → Type 0
 TellsDifference answer = (field : Field) × (answer ≡ Err (Differs field))
+
+-- the answer is a damaged tile
+abbrev pub TellsDamage : {A : Type 0} → Result A Refusal → Type 0
+TellsDamage answer = (key : VoxelKey) × (answer ≡ Err (TileDamaged key))
 
 -- a cause after which nothing was put: what is given is read, compared and scanned before
 abbrev pub IsEarly : Refusal → Type 0

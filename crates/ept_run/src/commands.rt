@@ -12,7 +12,7 @@ ghost use Rattle.ept_save.specs.Opening.{IsBad};
 ghost use Rattle.ept_save.specs.Sound.{IsSound};
 ghost use Rattle.ept_build.specs.Building.{BeginsWith};
 ghost use Rattle.ept_run.specs.Lines.{summary_text, header_text};
-ghost use Rattle.ept_run.specs.Requests.{IsBuiltAt, HasBuilt, AsksForBuild, IsAcceptedAt, IsDoneAt, ComesAt, DiffersAt, IsConfigured, HasSpilled, TellsDifference, ConfigurationIsRefused, BuildIsRefused, HasTold, HasHeader, InfoIsRefused, IsOfBuild, IsOfHeader, IsDefinite, IsEarly, Fails, HasTrial};
+ghost use Rattle.ept_run.specs.Requests.{IsBuiltAt, HasBuilt, AsksForBuild, IsAcceptedAt, IsDoneAt, ComesAt, DiffersAt, ComesToDamageAt, IsConfigured, IsOfStore, HasSpilled, TellsDifference, TellsDamage, ConfigurationIsRefused, BuildIsRefused, HasTold, HasHeader, InfoIsRefused, IsOfBuild, IsOfHeader, IsDefinite, IsEarly, Fails, HasTrial};
 
 use crate::files::{read_configuration, read_file_header};
 use crate::lines::{header_line, outcome_line, summary_line};
@@ -60,8 +60,12 @@ where
         → IsDoneAt all start path.now → IsOk result ⊎ Fails result }
     ensures comes { (all start : Files) → BeginsWith M.File.held (H.files shelf.old) (T.files store.old) (T.may_leave store.old) all start
         → (r : Refusal) → ComesAt all start r path.now → (result ≡ Err r) ⊎ Fails result }
-    ensures differs_comes { (all start : Files) → BeginsWith M.File.held (H.files shelf.old) (T.files store.old) (T.may_leave store.old) all start
+    ensures of_store { IfErr result
+        (IsOfStore (H.files shelf.old) (T.files store.old) (T.files store.new) (IsSettled (T.files store.old) (T.may_leave store.old)) path.now) }
+    ensures differs_comes { (all start : Files) → H.files shelf.old ≡ Some all → T.files store.old ≡ Some start
         → DiffersAt all start path.now → TellsDifference result ⊎ Fails result }
+    ensures damaged_comes { (all start : Files) → H.files shelf.old ≡ Some all → T.files store.old ≡ Some start
+        → ComesToDamageAt all start path.now → TellsDamage result ⊎ Fails result }
     ensures bad_comes { (all start : Files) (letter : Letter) → H.files shelf.old ≡ Some all
         → T.files store.old ≡ Some start → IsBad start letter → IsConfigured all path.now
         → (result ≡ Err (Refusal.BadCheckpoint letter)) ⊎ Fails result }
@@ -116,8 +120,12 @@ where
         → IsDoneAt all start path.now → IsOk result ⊎ Fails result }
     ensures comes { (all start : Files) → BeginsWith M.File.held (H.files shelf.old) (T.files store.old) (T.may_leave store.old) all start
         → (r : Refusal) → ComesAt all start r path.now → (result ≡ Err r) ⊎ Fails result }
-    ensures differs_comes { (all start : Files) → BeginsWith M.File.held (H.files shelf.old) (T.files store.old) (T.may_leave store.old) all start
+    ensures of_store { IfErr result
+        (IsOfStore (H.files shelf.old) (T.files store.old) (T.files store.new) (IsSettled (T.files store.old) (T.may_leave store.old)) path.now) }
+    ensures differs_comes { (all start : Files) → H.files shelf.old ≡ Some all → T.files store.old ≡ Some start
         → DiffersAt all start path.now → TellsDifference result ⊎ Fails result }
+    ensures damaged_comes { (all start : Files) → H.files shelf.old ≡ Some all → T.files store.old ≡ Some start
+        → ComesToDamageAt all start path.now → TellsDamage result ⊎ Fails result }
     ensures bad_comes { (all start : Files) (letter : Letter) → H.files shelf.old ≡ Some all
         → T.files store.old ≡ Some start → IsBad start letter → IsConfigured all path.now
         → (result ≡ Err (Refusal.BadCheckpoint letter)) ⊎ Fails result }

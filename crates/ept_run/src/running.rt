@@ -5,7 +5,6 @@ ghost use Rattle.std.specs.Io.KnownBytes.{Appends};
 ghost use Rattle.ept_base.specs.Causes.{Rose};
 ghost use Rattle.ept_base.specs.Files.{Files, SameFiles, Tells};
 ghost use Rattle.ept_base.specs.Moves.{Moves, IsSettled};
-ghost use Rattle.ept_las.specs.declared.header.Header as found;
 ghost use Rattle.ept_space.specs.declared.box3.Box3 as space;
 ghost use Rattle.ept_ckpt.specs.declared.letter.Letter.{Letter};
 ghost use Rattle.ept_save.specs.Opening.{IsBad};
@@ -14,8 +13,8 @@ ghost use Rattle.ept_build.specs.Building.{BeginsWith};
 ghost use Rattle.ept_run.specs.declared.refusal.Refusal as cause;
 ghost use Rattle.ept_run.specs.declared.refusal.Refusal.TheVariants.{BadCheckpoint};
 ghost use Rattle.ept_run.specs.Words.{bytes_of, IsBuild, IsInfo, IsQuery, IsTrial, IsUsage};
-ghost use Rattle.ept_run.specs.Requests.{IsAcceptedAt, IsDoneAt, ComesAt, DiffersAt, IsConfigured, HasSpilled, HasHeader, IsDefinite};
-ghost use Rattle.ept_run.specs.Answers.{Yields, YieldsRefusal, YieldsDifference, IsAskedFor, AsksBuild, AsksInfo, AsksQuery, Ends, IsFaulty, Refuses, IsCut, EndsTrial};
+ghost use Rattle.ept_run.specs.Requests.{IsDoneAt, ComesAt, DiffersAt, ComesToDamageAt, IsConfigured, HasSpilled, IsDefinite};
+ghost use Rattle.ept_run.specs.Answers.{YieldsRefusal, YieldsDifference, YieldsDamage, CanBeDone, EndsWell, SaysOfStore, IsAskedFor, AsksBuild, AsksInfo, AsksQuery, Ends, IsFaulty, Refuses, IsCut, EndsTrial};
 ghost use Rattle.ept_run.specs.Queries.{EndsQuery};
 
 use crate::carrying::carry_out;
@@ -63,16 +62,16 @@ where
     ensures kept { (config folder : List ℕ) → IsBuild (bytes_of words.now) config folder → result ≡ 0
         → (all start : Files) → BeginsWith M.File.held (H.files shelf.old) (T.files store.old) (T.may_leave store.old) all start
         → HasSpilled all start (M.keeps room.old) (M.keeps room.new) config }
-    ensures build_comes { (all start : Files) → BeginsWith M.File.held (H.files shelf.old) (T.files store.old) (T.may_leave store.old) all start
-        → AsksBuild (bytes_of words.now) (IsAcceptedAt all start) → Yields 0 result }
-    ensures done_comes { (all start : Files) → BeginsWith M.File.held (H.files shelf.old) (T.files store.old) (T.may_leave store.old) all start
-        → AsksBuild (bytes_of words.now) (IsDoneAt all start) → Yields 0 result }
     ensures done_already { (all start : Files) → BeginsWith M.File.held (H.files shelf.old) (T.files store.old) (T.may_leave store.old) all start
         → AsksBuild (bytes_of words.now) (IsDoneAt all start)
         → Moves T.files T.may_leave T.moment T.image_since SameFiles store.old store.new }
-    ensures info_comes { Tells (λ all. (header : found.Header)
-        → AsksInfo (bytes_of words.now) (λ path. HasHeader all path header) → Yields 0 result)
-        (H.files shelf.old) }
+
+    // Where no device fails, what can be done is done, or memory runs out.
+    ensures comes { CanBeDone (bytes_of words.now) (H.files shelf.old) (T.files store.old)
+        (BeginsWith M.File.held (H.files shelf.old) (T.files store.old) (T.may_leave store.old))
+        → EndsWell result
+        (Rose (H.faults shelf.old) (H.faults shelf.new) ⊎ Rose (T.faults store.old) (T.faults store.new)
+        ⊎ Rose (M.faults room.old) (M.faults room.new) ⊎ Rose (O.faults out.old) (O.faults out.new)) }
 
     // Whatever a build answers and whenever it stops, each image that is left is sound.
     ensures sound { (config folder : List ℕ) → IsBuild (bytes_of words.now) config folder
@@ -93,7 +92,9 @@ where
     // Each other refusal has its cause and its line, but where the line of a command that is carried out is cut.
     ensures refused { result ≢ 0
         → Refuses (bytes_of words.now) (H.files shelf.old)
-        (BeginsWith M.File.held (H.files shelf.old) (T.files store.old) (T.may_leave store.old)) result
+        (BeginsWith M.File.held (H.files shelf.old) (T.files store.old) (T.may_leave store.old))
+        (SaysOfStore (bytes_of words.now) (H.files shelf.old) (T.files store.old) (T.files store.new)
+        (IsSettled (T.files store.old) (T.may_leave store.old))) result
         (Rose (H.faults shelf.old) (H.faults shelf.new)) (Rose (T.faults store.old) (T.faults store.new))
         (Rose (M.faults room.old) (M.faults room.new)) (Rose (O.faults out.old) (O.faults out.new))
         (O.written out.old) (O.written out.new)
@@ -109,9 +110,12 @@ where
     ensures build_refusal_comes { (all start : Files) → BeginsWith M.File.held (H.files shelf.old) (T.files store.old) (T.may_leave store.old) all start
         → (r : cause.Refusal) → AsksBuild (bytes_of words.now) (ComesAt all start r)
         → YieldsRefusal r result (O.written out.old) (O.written out.new) (Rose (O.faults out.old) (O.faults out.new)) }
-    ensures differs_comes { (all start : Files) → BeginsWith M.File.held (H.files shelf.old) (T.files store.old) (T.may_leave store.old) all start
+    ensures differs_comes { (all start : Files) → H.files shelf.old ≡ Some all → T.files store.old ≡ Some start
         → AsksBuild (bytes_of words.now) (DiffersAt all start)
         → YieldsDifference result (O.written out.old) (O.written out.new) (Rose (O.faults out.old) (O.faults out.new)) }
+    ensures damaged_comes { (all start : Files) → H.files shelf.old ≡ Some all → T.files store.old ≡ Some start
+        → AsksBuild (bytes_of words.now) (ComesToDamageAt all start)
+        → YieldsDamage result (O.written out.old) (O.written out.new) (Rose (O.faults out.old) (O.faults out.new)) }
     ensures bad_comes { (all start : Files) (letter : Letter) → H.files shelf.old ≡ Some all → T.files store.old ≡ Some start
         → IsBad start letter → AsksBuild (bytes_of words.now) (IsConfigured all)
         → YieldsRefusal (BadCheckpoint letter) result (O.written out.old) (O.written out.new)

@@ -8,7 +8,7 @@ use Rattle.ept_conn.specs.Works.{HasPlanOf}
 use Rattle.ept_conn.specs.Serving.{IsServedOver}
 use Rattle.ept_conn.specs.Conversation.{Converses, GoesOn}
 use Rattle.ept_conn.proofs.Histories.{link-end, store-end, damaged-end}
-use Rattle.ept_conn.proofs.Conversing.{CauseSince, steps-same, same-files, start-converses, served-over, no-cause, cause-on, moved-none, moved-twice, fresh-undamaged, damaged-on}
+use Rattle.ept_conn.proofs.Conversing.{CauseSince, steps-same, same-files, start-converses, served-over, no-cause, cause-on, moved-none, moved-twice, fresh-undamaged, damaged-on, ends-well}
 use Rattle.ept_conn.proofs.serve.serve_link.Goals as goal
 
 pub loop-end-init : goal.loop-end-init
@@ -64,6 +64,11 @@ pub returns-in-Some-clause-stores : goal.returns-in-Some-clause-stores
 returns-in-Some-clause-stores g c = λ same.
     let since = cause-on fault.Store c.loop-end.session c.step.new.session (g.T.Store.faults c.args.store.now) (g.T.Store.faults c.loop-end.store) (g.T.Store.faults c.step.new.store) c.loop-end.invariant.stores c.step.ensures.stores in
     since.rose (store-end c.step.new.session c.in-Some.end same c.in-Some.ensures.end)
+
+pub returns-in-Some-clause-well : goal.returns-in-Some-clause-well
+returns-in-Some-clause-well g c = λ files served told is wired.
+    ends-well served (Rose (g.T.Store.faults c.args.store.now) (g.T.Store.faults c.step.new.store)) (Rose (g.L.Link.faults c.args.link.now) (g.L.Link.faults c.step.new.link)) (Rose (g.T.Store.faults c.args.store.now) (g.T.Store.faults c.step.new.store)) (g.L.Link.wire c.args.link.now) (g.L.Link.wire c.step.new.link) c.in-Some.end wired
+    (returns-in-Some-clause-served g c files told served is) (returns-in-Some-clause-links g c) (returns-in-Some-clause-stores g c)
 
 pub returns-in-Some-clause-damaged : goal.returns-in-Some-clause-damaged
 returns-in-Some-clause-damaged g c = λ found same.

@@ -1,7 +1,7 @@
 use Rattle.std.proofs.Common.{rules, ◌≡◌, ◌⊎◌, inl, inr, Option, Err, Ok, sym, subst, ap, ◌∙◌}
 use Rattle.std.specs.Prelude.{Result, IsOk, IfErr}
 use Rattle.ept_base.specs.Files.{Files, SameFiles, Tells}
-use Rattle.ept_base.specs.Moves.{Moves}
+use Rattle.ept_base.specs.Moves.{Moves, IsSettled}
 use Rattle.ept_base.proofs.Moving.{moves_weaker}
 use Rattle.ept_save.specs.Current.{Current, HasCurrent}
 use Rattle.ept_save.specs.Sound.{IsSound}
@@ -10,9 +10,9 @@ use Rattle.ept_build.specs.declared.summary.Summary.{Summary}
 use Rattle.ept_build.specs.Building.{BeginsWith}
 use Rattle.ept_build.specs.Building as building
 use Rattle.ept_run.specs.declared.refusal.Refusal.{Refusal}
-use Rattle.ept_run.specs.Requests.{BuildIsRefused, IsEarly, Fails, TellsDifference}
+use Rattle.ept_run.specs.Requests.{BuildIsRefused, IsOfStore, IsEarly, Fails, TellsDifference, TellsDamage}
 use Rattle.ept_run.specs.declared.refusal.Refusal.TheVariants.{BadCheckpoint}
-use Rattle.ept_run.proofs.Refused.{came_to, differed_to, bad_to, build_refused, build_comes, build_accepted, build_finished, built_at, spilled_at, begun, begun_done, early_as, told_as, stays_sound, never_configured}
+use Rattle.ept_run.proofs.Refused.{came_to, differed_to, damaged_to, stored_as, bad_to, build_refused, build_comes, build_accepted, build_finished, built_at, spilled_at, begun, begun_done, early_as, told_as, stays_sound, never_configured}
 use Rattle.ept_run.proofs.commands.carry_out_build.Goals as goal
 
 pub returns-in-Ok-clause-built : goal.returns-in-Ok-clause-built
@@ -55,6 +55,11 @@ returns-clause-done_comes g c =
     λ all start begins asked. subst (λ (a : Result Summary Refusal). IsOk a ⊎ Fails a) (ap told_as c.in-Err.is ∙ ap Err (sym c.from.ensures))
     (build_finished g.M.File.SpillFile.held (g.H.Shelf.files c.args.shelf.now) (g.H.Shelf.files c.read_configuration.new.shelf) c.read_configuration.ensures.files c.args.path.now c.in_ok-config.config c.in_ok-config.ensures.ok (g.T.Store.files c.args.store.now) (g.T.Store.may_leave c.args.store.now) c.build.result c.build.ensures.done_comes all start begins asked)
 
+pub returns-clause-of_store : goal.returns-clause-of_store
+returns-clause-of_store g c =
+    subst (λ (r : Refusal). IsOfStore (g.H.Shelf.files c.args.shelf.now) (g.T.Store.files c.args.store.now) (g.T.Store.files c.build.new.store) (IsSettled (g.T.Store.files c.args.store.now) (g.T.Store.may_leave c.args.store.now)) c.args.path.now r) (sym c.from.ensures)
+    (stored_as g.M.File.SpillFile.held (g.H.Shelf.files c.args.shelf.now) (g.H.Shelf.files c.read_configuration.new.shelf) c.read_configuration.ensures.files c.args.path.now c.in_ok-config.config c.in_ok-config.ensures.ok (g.T.Store.files c.args.store.now) (g.T.Store.may_leave c.args.store.now) c.build.result (g.T.Store.files c.build.new.store) (IsSettled (g.T.Store.files c.args.store.now) (g.T.Store.may_leave c.args.store.now)) c.in-Err.error c.in-Err.is c.build.ensures.differs c.build.ensures.bad c.build.ensures.damaged)
+
 pub returns-clause-sound : goal.returns-clause-sound
 returns-clause-sound g c =
     begun g.M.File.SpillFile.held (g.H.Shelf.files c.args.shelf.now) (g.H.Shelf.files c.read_configuration.new.shelf) c.read_configuration.ensures.files c.args.path.now c.in_ok-config.config c.in_ok-config.ensures.ok (g.T.Store.files c.args.store.now) (g.T.Store.may_leave c.args.store.now) {M = (λ (all : Files). Moves g.T.Store.files g.T.Store.may_leave g.T.Store.moment g.T.Store.image_since (λ (a b : Files). IsSound all b) c.args.store.now c.build.new.store)} (λ all start begins. moves_weaker g.T.Store.files g.T.Store.may_leave g.T.Store.moment g.T.Store.image_since (λ (a b : Files). building.IsUnderWay all c.in_ok-config.config start b) (λ (a b : Files). IsSound all b) (λ a b at. at.sound) c.args.store.now c.build.new.store (c.build.ensures.sound all start begins))
@@ -76,8 +81,12 @@ returns-in-Ok-clause-comes g c = λ all start begins r asked. subst (λ (a : Res
     (came_to g.M.File.SpillFile.held (g.H.Shelf.files c.args.shelf.now) (g.H.Shelf.files c.read_configuration.new.shelf) c.read_configuration.ensures.files c.args.path.now c.in_ok-config.config c.in_ok-config.ensures.ok (g.T.Store.files c.args.store.now) (g.T.Store.may_leave c.args.store.now) c.build.result c.build.ensures.refusal_comes c.build.ensures.too_many_comes all start begins r asked)
 
 pub returns-in-Ok-clause-differs_comes : goal.returns-in-Ok-clause-differs_comes
-returns-in-Ok-clause-differs_comes g c = λ all start begins asked. subst (λ (a : Result Summary Refusal). TellsDifference a ⊎ Fails a) (ap told_as c.in-Ok.is)
-    (differed_to g.M.File.SpillFile.held (g.H.Shelf.files c.args.shelf.now) (g.H.Shelf.files c.read_configuration.new.shelf) c.read_configuration.ensures.files c.args.path.now c.in_ok-config.config c.in_ok-config.ensures.ok (g.T.Store.files c.args.store.now) (g.T.Store.may_leave c.args.store.now) c.build.result (λ one begin first current has no. c.build.ensures.differs_comes begin current first.told has no) all start begins asked)
+returns-in-Ok-clause-differs_comes g c = λ all start told stored asked. subst (λ (a : Result Summary Refusal). TellsDifference a ⊎ Fails a) (ap told_as c.in-Ok.is)
+    (differed_to g.M.File.SpillFile.held (g.H.Shelf.files c.args.shelf.now) (g.H.Shelf.files c.read_configuration.new.shelf) c.read_configuration.ensures.files c.args.path.now c.in_ok-config.config c.in_ok-config.ensures.ok (g.T.Store.files c.args.store.now) (g.T.Store.may_leave c.args.store.now) c.build.result c.build.ensures.differs_comes all start told stored asked)
+
+pub returns-in-Ok-clause-damaged_comes : goal.returns-in-Ok-clause-damaged_comes
+returns-in-Ok-clause-damaged_comes g c = λ all start told stored asked. subst (λ (a : Result Summary Refusal). TellsDamage a ⊎ Fails a) (ap told_as c.in-Ok.is)
+    (damaged_to g.M.File.SpillFile.held (g.H.Shelf.files c.args.shelf.now) (g.H.Shelf.files c.read_configuration.new.shelf) c.read_configuration.ensures.files c.args.path.now c.in_ok-config.config c.in_ok-config.ensures.ok (g.T.Store.files c.args.store.now) (g.T.Store.may_leave c.args.store.now) c.build.result c.build.ensures.damaged_comes all start told stored asked)
 
 pub returns-in-Ok-clause-bad_comes : goal.returns-in-Ok-clause-bad_comes
 returns-in-Ok-clause-bad_comes g c = λ all start letter told stored bad asked. subst (λ (a : Result Summary Refusal). (a ≡ Err (BadCheckpoint letter)) ⊎ Fails a) (ap told_as c.in-Ok.is)
@@ -88,8 +97,12 @@ returns-clause-comes g c = λ all start begins r asked. subst (λ (a : Result Su
     (came_to g.M.File.SpillFile.held (g.H.Shelf.files c.args.shelf.now) (g.H.Shelf.files c.read_configuration.new.shelf) c.read_configuration.ensures.files c.args.path.now c.in_ok-config.config c.in_ok-config.ensures.ok (g.T.Store.files c.args.store.now) (g.T.Store.may_leave c.args.store.now) c.build.result c.build.ensures.refusal_comes c.build.ensures.too_many_comes all start begins r asked)
 
 pub returns-clause-differs_comes : goal.returns-clause-differs_comes
-returns-clause-differs_comes g c = λ all start begins asked. subst (λ (a : Result Summary Refusal). TellsDifference a ⊎ Fails a) (ap told_as c.in-Err.is ∙ ap Err (sym c.from.ensures))
-    (differed_to g.M.File.SpillFile.held (g.H.Shelf.files c.args.shelf.now) (g.H.Shelf.files c.read_configuration.new.shelf) c.read_configuration.ensures.files c.args.path.now c.in_ok-config.config c.in_ok-config.ensures.ok (g.T.Store.files c.args.store.now) (g.T.Store.may_leave c.args.store.now) c.build.result (λ one begin first current has no. c.build.ensures.differs_comes begin current first.told has no) all start begins asked)
+returns-clause-differs_comes g c = λ all start told stored asked. subst (λ (a : Result Summary Refusal). TellsDifference a ⊎ Fails a) (ap told_as c.in-Err.is ∙ ap Err (sym c.from.ensures))
+    (differed_to g.M.File.SpillFile.held (g.H.Shelf.files c.args.shelf.now) (g.H.Shelf.files c.read_configuration.new.shelf) c.read_configuration.ensures.files c.args.path.now c.in_ok-config.config c.in_ok-config.ensures.ok (g.T.Store.files c.args.store.now) (g.T.Store.may_leave c.args.store.now) c.build.result c.build.ensures.differs_comes all start told stored asked)
+
+pub returns-clause-damaged_comes : goal.returns-clause-damaged_comes
+returns-clause-damaged_comes g c = λ all start told stored asked. subst (λ (a : Result Summary Refusal). TellsDamage a ⊎ Fails a) (ap told_as c.in-Err.is ∙ ap Err (sym c.from.ensures))
+    (damaged_to g.M.File.SpillFile.held (g.H.Shelf.files c.args.shelf.now) (g.H.Shelf.files c.read_configuration.new.shelf) c.read_configuration.ensures.files c.args.path.now c.in_ok-config.config c.in_ok-config.ensures.ok (g.T.Store.files c.args.store.now) (g.T.Store.may_leave c.args.store.now) c.build.result c.build.ensures.damaged_comes all start told stored asked)
 
 pub returns-clause-bad_comes : goal.returns-clause-bad_comes
 returns-clause-bad_comes g c = λ all start letter told stored bad asked. subst (λ (a : Result Summary Refusal). (a ≡ Err (BadCheckpoint letter)) ⊎ Fails a) (ap told_as c.in-Err.is ∙ ap Err (sym c.from.ensures))
