@@ -1,4 +1,4 @@
-use Rattle.std.proofs.Common.{map, string_bytes, refl, sym, inl, inr, ⊎_elim, subst, ℕ, List, arith}
+use Rattle.std.proofs.Common.{◌⊎◌, map, string_bytes, refl, sym, inl, inr, ⊎_elim, subst, ℕ, List, arith}
 use Rattle.ept_base.specs.Causes.{Rose}
 use Rattle.ept_run.specs.declared.ended.Failure.TheVariants.{Refused}
 use Rattle.ept_run.specs.declared.refusal.Refusal.{Refusal}
