@@ -11,7 +11,6 @@ use Rattle.std.proofs.lemmas.Nat.{or_of_8}
 use Rattle.std.proofs.lemmas.Nat.Bits.{shr_and_one, bit_at-zero, bit_at-lt, bit_at_set_same, bit_at_set_other, same_from_bits_below}
 use denote.Struct.Record.{values_one}
 use Rattle.ept_class.specs.contracts.class_set.ClassSet.{struct, the_propositions}
-use Rattle.ept_class.specs.declared.class_set.ClassSet.{ClassSet}
 use Rattle.ept_class.specs.Bytes.{AreSetBytes}
 use Rattle.ept_class.specs.ClassSet.{has_class}
 use Rattle.ept_class.specs.Laws.{MembersMakeTheSet, ClassesHaveASet}

@@ -127,7 +127,7 @@ all-are_dims = record {
 
 -- ---- a row is among those that were read, or not
 
-any-at : (row : ℕ) (xs : List ℕ) → list_any (λ y. eqb y row) xs ≡ true → (i : ℕ) × (i < length xs) × (get_or xs i 0 ≡ row)
+pub any-at : (row : ℕ) (xs : List ℕ) → list_any (λ y. eqb y row) xs ≡ true → (i : ℕ) × (i < length xs) × (get_or xs i 0 ≡ row)
 any-at row [] e = absurd (false≢true e)
 any-at row (x ∷ xs) e = by (eqb x row) refl e (any-at row xs)
   where
@@ -135,7 +135,7 @@ any-at row (x ∷ xs) e = by (eqb x row) refl e (any-at row xs)
     by true is e later = (0, omega arith, eqb-true x row is)
     by false is e later = let found = later e in (suc found.0, omega (arith, found.1), found.2)
 
-none-at : (row : ℕ) (xs : List ℕ) → list_any (λ y. eqb y row) xs ≡ false → (i : ℕ) → i < length xs → get_or xs i 0 ≡ row → ⊥
+pub none-at : (row : ℕ) (xs : List ℕ) → list_any (λ y. eqb y row) xs ≡ false → (i : ℕ) → i < length xs → get_or xs i 0 ≡ row → ⊥
 none-at row [] e i inside is = absurd (omega arith)
 none-at row (x ∷ xs) e i inside is = by (eqb x row) refl e i inside is (none-at row xs)
   where

@@ -1,5 +1,5 @@
 -- The names of the dimensions differ.
-use Rattle.std.proofs.Common.{◌≡◌, ℕ, zero, suc, ◌<◌, List, [], ◌∷◌, length, get_or, map, Bool, true, false, ◌||◌, ◌&&◌, not, refl, sym, ap, arith}
+use Rattle.std.proofs.Common.{◌∙◌, ◌≡◌, ◌≢◌, ℕ, zero, suc, ◌<◌, List, [], ◌∷◌, length, get_or, map, Bool, true, false, ◌||◌, ◌&&◌, not, refl, sym, ap, arith}
 use Rattle.std.specs.Str.{bytes_eq}
 use Rattle.std.proofs.lemmas.Bool.{false≢true}
 use Rattle.std.proofs.lemmas.Slice.Eq.{bytes_eq-Decides}
@@ -52,3 +52,12 @@ names_differ = refl
 
 pub one-name : (i k : ℕ) → i < count_of_dims → k < count_of_dims → name_of i ≡ name_of k → i ≡ k
 one-name i k hi hk e = same-place (map (λ (d : Dimension). d.name) dimensions) names_differ i k hi hk e
+
+-- no name is a dash
+named-dash : is_among (45 ∷ []) (map (λ (d : Dimension). d.name) dimensions) ≡ false
+unfolding is_among
+named-dash = refl
+
+pub no-dash : (dim : ℕ) → dim < count_of_dims → name_of dim ≢ 45 ∷ []
+no-dash dim inside e =
+    false≢true (sym named-dash ∙ among-at (45 ∷ []) (map (λ (d : Dimension). d.name) dimensions) dim inside (sym e))

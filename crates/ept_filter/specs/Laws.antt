@@ -1,9 +1,10 @@
 -- What holds of every selection. Each statement stands on the contract of a function of `laws`.
-use Rattle.std.specs.Prelude.{◌≡◌, List, filter, map}
+use Rattle.std.specs.Prelude.{◌≡◌, ℕ, ◌⊎◌, List, filter, map}
 use Rattle.std.specs.List.{flat_map}
 use Rattle.ept_point.specs.declared.point.Point.{Point}
 use Rattle.ept_point.specs.Packed.{tile, packed}
 use Rattle.ept_filter.specs.declared.sift.Sift.{Sift}
+use Rattle.ept_filter.specs.SiftText.{IsSiftText}
 use Rattle.ept_filter.specs.Sifting.{passes, cut, selected, sifted}
 
 -- of a tile the packed points that pass are those of its points that do
@@ -15,3 +16,13 @@ SelectsPoints =
 abbrev pub SiftsPoints : Type 0
 SiftsPoints =
     (sift : Sift) (points : List Point) → sifted sift (tile points) ≡ flat_map (cut sift) (filter (passes sift) points)
+
+-- three texts ask for one selection at most
+abbrev pub TextsHaveOneSift : Type 0
+TextsHaveOneSift =
+    (classes time dims : List ℕ) (a b : Sift) → IsSiftText classes time dims a → IsSiftText classes time dims b → a ≡ b
+
+-- of any three texts it is decided whether they ask for one
+abbrev pub TextsAskOrNot : Type 0
+TextsAskOrNot =
+    (classes time dims : List ℕ) → ((sift : Sift) × IsSiftText classes time dims sift) ⊎ ((sift : Sift) → ¬ IsSiftText classes time dims sift)

@@ -1,7 +1,8 @@
 //! What holds of every selection. Each law is the contract of a function that does nothing.
 
-ghost use Rattle.ept_filter.specs.Laws.{SelectsPoints, SiftsPoints};
+ghost use Rattle.ept_filter.specs.Laws.{SelectsPoints, SiftsPoints, TextsHaveOneSift, TextsAskOrNot};
 
+use ept_class::class_set_law;
 use ept_point::{layout_law, packed_length_law};
 
 /// Of a tile the points that pass are selected, and the dimensions that are asked for are kept of them.
@@ -11,4 +12,12 @@ pub fn sift_law()
 {
     layout_law();
     packed_length_law();
+}
+
+/// Three texts ask for one selection at most, and it is decided whether they ask for one.
+pub fn sift_text_law()
+    ensures once { TextsHaveOneSift }
+    ensures decided { TextsAskOrNot }
+{
+    class_set_law();
 }

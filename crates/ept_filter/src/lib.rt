@@ -15,7 +15,7 @@ mod time;
 mod words;
 
 pub use dims::Dims;
-pub use laws::sift_law;
+pub use laws::{sift_law, sift_text_law};
 pub use reading::read_sift;
 pub use sift::Sift;
 pub use sift_error::SiftError;

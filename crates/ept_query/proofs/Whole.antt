@@ -4,13 +4,11 @@ use Rattle.std.specs.Prelude.{IfOk, IfErr}
 use Rattle.std.specs.List.{AllZip, flat_map}
 use Rattle.std.specs.Io.KnownBytes.{Appends}
 use Rattle.std.proofs.lemmas.List.{length-map, take-append-le}
-use Rattle.std.proofs.lemmas.List.Concat.{flat_map-append}
 use Rattle.std.proofs.lemmas.List.Sorted.{length_permutation}
 use Rattle.ept_base.specs.Devices.{AppendsPrefix}
 use Rattle.ept_base.specs.Files.{Files, Tells}
 use Rattle.ept_base.proofs.Runs.{appends_none}
 use Rattle.ept_point.specs.declared.point.Point.{Point}
-use Rattle.ept_point.specs.Packed.{packed, tile}
 use Rattle.ept_space.specs.declared.box3.Box3.{Box3}
 use Rattle.ept_sample.specs.declared.tiles.Tile.{Tile}
 use Rattle.ept_sample.specs.Sampling.{sampling}
