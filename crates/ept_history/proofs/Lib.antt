@@ -1,0 +1,5 @@
+mod Leaving
+mod Scanning
+mod Bounding
+mod Safe
+mod OneBuild
