@@ -43,10 +43,10 @@ tile-of-one files key count one two has other =
 
 -- ---- nodes in key order
 
-node_before : Node → Node → Bool
+abbrev pub node_before : Node → Node → Bool
 node_before a b = key_before a.0 b.0
 
-keys-rise : (nodes : List Node) → IsRising node_before nodes → IsRising key_before (keys_of nodes)
+pub keys-rise : (nodes : List Node) → IsRising node_before nodes → IsRising key_before (keys_of nodes)
 unfolding node_before
 keys-rise [] up = tt
 keys-rise (n ∷ nodes) up = (

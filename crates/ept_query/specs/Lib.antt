@@ -10,5 +10,6 @@ pub mod Writing
 pub mod Refusals
 pub mod Planning
 pub mod Answers
+pub mod AllNodes
 pub mod Complete
 pub mod CompleteLaws

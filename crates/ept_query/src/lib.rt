@@ -1,6 +1,7 @@
 //! Queries over a finished dataset: exactly the points of a box, in the nodes of some depths.
 #![tactic(auto)]
 
+mod all_nodes;
 mod asking;
 mod form;
 mod hierarchy;
@@ -16,9 +17,10 @@ mod tile;
 mod walk;
 mod writing;
 
+pub use all_nodes::{AllNodes, EVERYWHERE, all_nodes};
 pub use asking::query;
-pub use laws::complete_law;
+pub use laws::{complete_law, nodes_law};
 pub use plan::QueryPlan;
 pub use planning::query_plan;
 pub use query_error::{QueryError, QueryFile};
-pub use tile::query_tile;
+pub use tile::{query_tile, tile_points};
