@@ -1,4 +1,4 @@
--- What it means for nodes to be fit. Each statement stands on the contract of a function of `laws`.
+-- What it means for nodes to be fit. Each statement is a clause of a function of `laws`.
 use Rattle.std.specs.Prelude.{◌≡◌, List}
 use Rattle.ept_point.specs.declared.point.Point.{Point}
 use Rattle.ept_space.specs.declared.cube.Rules.{Rules}

@@ -1,23 +1,38 @@
--- What holds of each walk. Each statement stands on the contract of a function of `laws`.
+-- What holds of each walk. Each statement is a clause of a function of `laws`.
 use Rattle.std.specs.Prelude.{◌≡◌, ◌<◌, ◌↔◌, ℕ, true, List, length, slice_index_or}
 use Rattle.std.specs.List.{All}
-use Rattle.ept_space.specs.VoxelKey.{IsKey, is_within, is_below}
+use Rattle.std.specs.List.Sorted.{IsPermutation}
+use Rattle.ept_space.specs.VoxelKey.{VoxelKey, IsKey, child, is_within, is_below}
 use Rattle.ept_sample.specs.declared.tiles.Tile.{Tile}
 use Rattle.ept_sample.specs.Ids.{HasDistinctIds}
 use Rattle.ept_fit.specs.Fit.{keys_in, points_in}
-use Rattle.ept_fit.specs.Walk.{IsWalk}
+use Rattle.ept_fit.specs.Walk.{InPreorder, IsWalk}
 
--- of two nodes, one above the other comes first
+-- a node above another comes first
 abbrev pub AboveComesFirst : Type 0
 AboveComesFirst =
-    (nodes walk : List Tile) (i j : ℕ) (d : Tile) → IsWalk nodes walk → i < length walk → j < length walk → is_below (slice_index_or walk i d).key (slice_index_or walk j d).key ≡ true → i < j
+    (walk : List Tile) (i j : ℕ) (d : Tile) → InPreorder walk → i < length walk → is_below (slice_index_or walk i d).key (slice_index_or walk j d).key ≡ true → i < j
+
+-- of two nodes in different octants of a key, the one in the lesser octant comes first
+abbrev pub OctantsAscend : Type 0
+OctantsAscend =
+    (walk : List Tile) (key : VoxelKey) (a b i j : ℕ) (d : Tile) → InPreorder walk → a < b → b < 8 → i < length walk → is_within (child key a) (slice_index_or walk i d).key ≡ true → is_within (child key b) (slice_index_or walk j d).key ≡ true → i < j
+
+-- the node has a key
+abbrev pub HasKey : Tile → Type 0
+HasKey node = IsKey node.key
 
 -- what comes between a node and one within it lies within it too
 abbrev pub SubtreesAreTogether : Type 0
 SubtreesAreTogether =
-    (nodes walk : List Tile) (i j k : ℕ) (d : Tile) → IsWalk nodes walk → All IsKey (keys_in walk) → i < j → j < k → k < length walk → is_within (slice_index_or walk i d).key (slice_index_or walk k d).key ≡ true → is_within (slice_index_or walk i d).key (slice_index_or walk j d).key ≡ true
+    (walk : List Tile) (i j k : ℕ) (d : Tile) → InPreorder walk → All HasKey walk → i < j → j < k → k < length walk → is_within (slice_index_or walk i d).key (slice_index_or walk k d).key ≡ true → is_within (slice_index_or walk i d).key (slice_index_or walk j d).key ≡ true
 
--- no id stands twice in the nodes exactly where none does in the walk
+-- nodes in preorder are a walk of nodes whose keys are in any other order
+abbrev pub WalkHasNodes : Type 0
+WalkHasNodes =
+    (keys : List VoxelKey) (walk : List Tile) → IsPermutation keys (keys_in walk) → InPreorder walk → (nodes : List Tile) × (keys_in nodes ≡ keys) × IsWalk nodes walk
+
+-- no id is in the nodes twice exactly if none is in the walk twice
 abbrev pub WalkIsOnce : Type 0
 WalkIsOnce =
     (nodes walk : List Tile) → IsWalk nodes walk → HasDistinctIds (points_in nodes) ↔ HasDistinctIds (points_in walk)
