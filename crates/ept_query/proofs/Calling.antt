@@ -53,7 +53,7 @@ module _ (area : Box3) (first last : ℕ) (files : Files) where
   damaged-once (Tile one) (Hierarchy two) a b = (let x = a.1 a.0.0 a.0.1 in let y = b.1 a.0.0 a.0.1 in let there = x.each two y.needed in absurd (y.damaged there.0 there.1))
   damaged-once (Tile one) (Tile two) a b = ap (λ (k : VoxelKey). Tile k) (first-once (search_of a.0.0 area first last) files one two (a.1 a.0.0 a.0.1) (b.1 a.0.0 a.0.1))
 
-  called-once : (one two : QueryError) → CallsOfQuery area first last one files → CallsOfQuery area first last two files → one ≡ two
+  pub called-once : (one two : QueryError) → CallsOfQuery area first last one files → CallsOfQuery area first last two files → one ≡ two
   called-once NotComplete NotComplete a b = refl
   called-once NotComplete StoreFault a b = absurd b
   called-once NotComplete (Damaged file) a b = absurd (a b.0)

@@ -17,4 +17,4 @@ mod Completing
 mod Whole
 mod Meeting
 mod CompletePlans
-mod AllNodes
+mod Listed

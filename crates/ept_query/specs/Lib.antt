@@ -10,6 +10,6 @@ pub mod Writing
 pub mod Refusals
 pub mod Planning
 pub mod Answers
-pub mod AllNodes
+pub mod Listed
 pub mod Complete
 pub mod CompleteLaws

@@ -1,11 +1,11 @@
 //! Queries over a finished dataset: exactly the points of a box, in the nodes of some depths.
 #![tactic(auto)]
 
-mod all_nodes;
 mod asking;
 mod form;
 mod hierarchy;
 mod laws;
+mod listing;
 mod notes;
 mod plan;
 mod planning;
@@ -17,9 +17,10 @@ mod tile;
 mod walk;
 mod writing;
 
-pub use all_nodes::{AllNodes, EVERYWHERE, all_nodes};
 pub use asking::query;
+pub use form::is_within;
 pub use laws::{complete_law, nodes_law};
+pub use listing::{AllNodes, EVERYWHERE, all_nodes};
 pub use plan::QueryPlan;
 pub use planning::query_plan;
 pub use query_error::{QueryError, QueryFile};

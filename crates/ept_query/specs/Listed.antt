@@ -1,10 +1,11 @@
 -- All nodes of a folder, as its build file and its hierarchy files tell them. The folder may hold anything.
 use Rattle.std.specs.Prelude.{◌≡◌, ◌≤◌, List, Contains}
-use Rattle.std.specs.List.{AllZip}
+use Rattle.std.specs.List.{All, AllZip}
 use Rattle.ept_base.specs.Files.{Files}
 use Rattle.ept_point.specs.declared.point.Point.{Point}
 use Rattle.ept_space.specs.declared.cube.Rules.{Rules}
 use Rattle.ept_space.specs.VoxelKey.{VoxelKey, IsKey, root}
+use Rattle.ept_space.specs.OctreeCube.{IsCube}
 use Rattle.ept_sample.specs.declared.tiles.Tile.{Tile}
 use Rattle.ept_sample.specs.Nodes.{sampled}
 use Rattle.ept_config.specs.declared.kept.Kept.{Kept}
@@ -12,10 +13,12 @@ use Rattle.ept_hier.specs.Hierarchy.{Node, keys_of}
 use Rattle.ept_meta.specs.Output.{rules_of}
 use Rattle.ept_save.specs.Complete.{IsComplete}
 use Rattle.ept_query.specs.declared.search.Search.{Search}
-use Rattle.ept_query.specs.declared.all_nodes.TheConstants.{EVERYWHERE}
+use Rattle.ept_query.specs.declared.listing.TheConstants.{EVERYWHERE}
 use Rattle.ept_query.specs.Search.{search_of, MeetsArea}
+use Rattle.ept_query.specs.declared.query_error.QueryError.{QueryError}
 use Rattle.ept_query.specs.Plan.{IsBuiltWith}
 use Rattle.ept_query.specs.Planning.{IsPlanFor}
+use Rattle.ept_query.specs.Refusals.{CallsOfPlan}
 use Rattle.ept_query.specs.Damage.{HasTile}
 
 -- the nodes of all depths are looked for, wherever they lie
@@ -47,6 +50,21 @@ NodesAreOfOne =
 -- the root is one of them
 abbrev pub RootIsThere : Type 0
 RootIsThere = (files : Files) (rules : Rules) (nodes : List Node) → HasNodes rules nodes files → Contains (keys_of nodes) root
+
+-- their keys are those of an octree
+abbrev pub NodesAreInOctree : Type 0
+NodesAreInOctree =
+    (files : Files) (rules : Rules) (nodes : List Node) → HasNodes rules nodes files → IsCube rules.cube × All (λ (key : VoxelKey). IsKey key × (key.depth ≤ rules.cube.depth)) (keys_of nodes)
+
+-- where they are listed no refusal of the listing is called for
+abbrev pub PlanIsUncalled : Type 0
+PlanIsUncalled =
+    (files : Files) (nodes : List Node) → IsPlanFor EVERYWHERE 0 32 (record { area = EVERYWHERE; tiles = nodes }) files → (error : QueryError) → ¬ CallsOfPlan EVERYWHERE 0 32 error files
+
+-- and else one
+abbrev pub PlanIsCalledOnce : Type 0
+PlanIsCalledOnce =
+    (files : Files) (one other : QueryError) → CallsOfPlan EVERYWHERE 0 32 one files → CallsOfPlan EVERYWHERE 0 32 other files → one ≡ other
 
 -- those of a folder that is complete for some points are the nodes of the sampling, whose tiles are there
 abbrev pub CompleteHasNodes : Type 0

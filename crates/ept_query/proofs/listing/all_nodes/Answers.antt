@@ -1,5 +1,5 @@
-use Rattle.ept_query.proofs.AllNodes.{nodes-comes}
-use Rattle.ept_query.proofs.all_nodes.all_nodes.Goals as goal
+use Rattle.ept_query.proofs.Listed.{nodes-comes}
+use Rattle.ept_query.proofs.listing.all_nodes.Goals as goal
 
 pub returns-clause-comes : goal.returns-clause-comes
 returns-clause-comes g c =

@@ -1,8 +1,8 @@
 use Rattle.std.proofs.lemmas.Result.{err_from_is_err_and}
-use Rattle.ept_query.specs.declared.all_nodes.TheConstants.{EVERYWHERE}
+use Rattle.ept_query.specs.declared.listing.TheConstants.{EVERYWHERE}
 use Rattle.ept_query.proofs.Refusing.{walk-plan, found-plan, gets-plan}
-use Rattle.ept_query.proofs.AllNodes.{found-nodes}
-use Rattle.ept_query.proofs.all_nodes.nodes_of.Goals as goal
+use Rattle.ept_query.proofs.Listed.{found-nodes}
+use Rattle.ept_query.proofs.listing.nodes_of.Goals as goal
 
 pub returns-in_err-nodes-clause-refused : goal.returns-in_err-nodes-clause-refused
 returns-in_err-nodes-clause-refused g c =

@@ -1,14 +1,17 @@
 -- All nodes of a folder: they are of one list, the root is there, and those of a complete folder are the sampling's.
-use Rattle.std.proofs.Common.{◌≡◌, ◌≢◌, ◌∙◌, ◌+◌, ◌-◌, ◌*◌, ◌^◌, ◌<◌, ◌≤◌, ℕ, zero, suc, ℤ, pos, negsuc, ◌+ℤ◌, List, [], ◌∷◌, length, get_or, map, refl, sym, ap, subst, inl, inr, ◌⊎◌, ⊎_elim, arith, Option, Some, None, Result, Ok, Err, true}
+use Rattle.std.proofs.Common.{◌≡◌, ◌≢◌, ◌∙◌, ◌+◌, ◌-◌, ◌*◌, ◌^◌, ◌<◌, ◌≤◌, ℕ, zero, suc, ℤ, pos, negsuc, ◌+ℤ◌, List, [], ◌∷◌, length, get_or, map, refl, sym, ap, subst, inl, inr, ◌⊎◌, ⊎_elim, arith, Option, Some, None, Result, Ok, Err, Bool, true, false}
 use Rattle.std.specs.Prelude.{IfOk, IfErr, IsSome, FitsSigned, if◌then◌else◌}
 use Rattle.std.specs.Int.Signed.{lt_z}
 use Rattle.std.specs.List.{All, AllZip, Any, Contains}
 use Rattle.std.specs.Int.{w32}
+use Rattle.std.proofs.lemmas.Bool.Decides.{nat_tests}
 use Rattle.std.proofs.lemmas.Int.{ints}
 use Rattle.std.proofs.lemmas.Nat.{pow_pos}
 use Rattle.std.proofs.lemmas.List.Elements.{All-contains}
 use Rattle.std.proofs.lemmas.List.Sorted.{IsPermutation-sym, Contains-permutation}
+use Rattle.std.specs.Option.{option_and_then}
 use Rattle.serde_json.specs.Data.{Data, null}
+use Rattle.serde_json.specs.Find.{as_i64, as_number}
 use Rattle.ept_base.specs.Files.{Files, Tells}
 use Rattle.ept_point.specs.declared.point.Point.{Point}
 use Rattle.ept_space.specs.declared.cube.Rules.{Rules}
@@ -16,6 +19,7 @@ use Rattle.ept_space.specs.Place.{Place, coordinate}
 use Rattle.ept_space.specs.VoxelKey.{VoxelKey, IsKey, root, key_cmp, AreAscending}
 use Rattle.ept_space.specs.OctreeCube.{OctreeCube, IsCube, IsFrom, InBox, box_side}
 use Rattle.ept_space.specs.ClosedBox.{IsBetween}
+use Rattle.ept_space.proofs.Extents.{IsCube-cube_of}
 use Rattle.ept_space.proofs.Intervals.{near-code}
 use Rattle.ept_sample.specs.declared.tiles.Tile.{Tile}
 use Rattle.ept_sample.specs.Members.{IsMember}
@@ -32,26 +36,25 @@ use Rattle.ept_hier.specs.Reading.{IsReading, IsEntryOf, Member, number_in}
 use Rattle.ept_hier.specs.ReadingLaws.{FilesAreReadBack}
 use Rattle.ept_meta.specs.Output.{rules_of}
 use Rattle.ept_meta.specs.OutputLaws.{PointsCanBeSampled}
-use Rattle.ept_meta.proofs.InBounds.{cube-of-kept}
 use Rattle.ept_save.specs.Complete.{IsComplete}
 use Rattle.ept_query.specs.declared.search.Search.{Search}
-use Rattle.ept_query.specs.declared.all_nodes.AllNodes.{AllNodes}
-use Rattle.ept_query.specs.declared.all_nodes.TheConstants.{EVERYWHERE}
+use Rattle.ept_query.specs.declared.listing.AllNodes.{AllNodes}
+use Rattle.ept_query.specs.declared.listing.TheConstants.{EVERYWHERE}
 use Rattle.ept_query.specs.declared.query_error.QueryError.{QueryError}
 use Rattle.ept_query.specs.Search.{search_of, rules_in, MeetsArea}
-use Rattle.ept_query.specs.Hierarchies.{HasHierarchy, IsOwn}
+use Rattle.ept_query.specs.Hierarchies.{HasHierarchy, IsEntryIn, IsOwn}
 use Rattle.ept_query.specs.Plan.{IsBuiltWith, IsNeeded, at_root, EachIsThere, IsPlanned, IsPlan}
 use Rattle.ept_query.specs.Damage.{HasTile}
 use Rattle.ept_query.specs.Parts.{Plan}
 use Rattle.ept_query.specs.Planning.{IsSearchFor, IsPlanFor}
 use Rattle.ept_query.specs.Refusals.{RefusesPlan, CallsOfPlan, RefusesAsCalled}
 use Rattle.ept_query.specs.Complete.{IsWholePlan}
-use Rattle.ept_query.specs.AllNodes.{search_all, HasNodes, HasTilesOf, EverywhereIsMet, NodesAreOfOne, RootIsThere, CompleteHasNodes}
-use Rattle.ept_query.proofs.Readings.{some-is, then-is, zip-at, zip-length}
+use Rattle.ept_query.specs.Listed.{search_all, HasNodes, HasTilesOf, EverywhereIsMet, NodesAreOfOne, RootIsThere, NodesAreInOctree, PlanIsUncalled, PlanIsCalledOnce, CompleteHasNodes}
+use Rattle.ept_query.proofs.Readings.{some-is, then-is, zip-at, zip-length, each-key}
 use Rattle.ept_query.proofs.Told.{tells-from, told}
 use Rattle.ept_query.proofs.Walking.{planned-once}
 use Rattle.ept_query.proofs.Querying.{plan-query}
-use Rattle.ept_query.proofs.Calling.{plan-uncalled, of-plan, refusal-as}
+use Rattle.ept_query.proofs.Calling.{plan-uncalled, called-once, of-plan, refusal-as}
 use Rattle.ept_query.proofs.Completing.{output-laid}
 use Rattle.ept_query.proofs.CompletePlans.{node_before, keys-rise, plans-whole, has-tiles}
 
@@ -68,7 +71,7 @@ pub everywhere-met : EverywhereIsMet
 unfolding InBox
 everywhere-met kept key is shallow =
     let cube = (search_all kept).cube in
-    let c = cube-of-kept kept in
+    let c = IsCube-cube_of kept.bounds kept.s kept.max_depth kept.layout.span_least kept.layout.span_most kept.has_bounds.min_is.x kept.has_bounds.min_is.y kept.has_bounds.min_is.z in
     let whole = c.cells_whole in
     let deep : key.depth ≤ cube.e = omega (arith, whole, shallow) in
     let on-x = axis-met (coordinate cube.corner 0) key.x key.depth cube.e c.corner_x is.x_in deep c.side_high in
@@ -111,13 +114,17 @@ nodes-once files rules rules' nodes nodes' a b =
 count-of : (value : Data) (z : ℤ) → number_in value ≡ Some z → z ≢ negsuc 0 → (n : ℕ) × (z ≡ pos n)
 unfolding number_in
 count-of value z is other =
-    let found = then-is _ _ z is in
+    let found = then-is (λ (x : ℤ). if lt_z x (negsuc 0) then None else Some x) (option_and_then as_i64 (as_number value)) z is in
     by_number found.0 found.2
   where
     by_number : (x : ℤ) → (if lt_z x (negsuc 0) then None else Some x) ≡ Some z → (n : ℕ) × (z ≡ pos n)
     by_number (pos n) at = (n, sym (some-is at))
     by_number (negsuc zero) at = absurd (other (sym (some-is at)))
-    by_number (negsuc (suc m)) at = absurd (cc)
+    by_number (negsuc (suc m)) at = absurd (less (lt_z (negsuc (suc m)) (negsuc 0)) (grind (arith, nat_tests)) at)
+      where
+        less : (b : Bool) → b ≡ true → (if b then None else Some (negsuc (suc m))) ≡ Some z → ⊥
+        less true e at = let wrong : None ≡ Some z = at in cc
+        less false e at = cc
 
 own-count : (bytes : List ℕ) (entries : List Entry) (key : VoxelKey) → IsReading bytes entries → Any (IsOwn key) entries → (n : ℕ) × Contains entries (key, pos n)
 own-count bytes entries key reading own =
@@ -142,7 +149,33 @@ root-there files rules nodes has =
     let m = IsMember-contains (root, own.0) nodes (((has.plan.tiles kept built).each root own.0).1 planned) in
     contains-IsMember root (keys_of nodes) (IsMember-map (λ (x : Node). x.0) (root, own.0) nodes m)
 
+-- ---- an octree
+
+pub nodes-octree : NodesAreInOctree
+nodes-octree files rules nodes has =
+    let kept = has.plan.build.0 in
+    let built = has.plan.build.1 in
+    let cube = IsCube-cube_of kept.bounds kept.s kept.max_depth kept.layout.span_least kept.layout.span_most kept.has_bounds.min_is.x kept.has_bounds.min_is.y kept.has_bounds.min_is.z in
+    let same : rules_of kept ≡ rules = sym (has.rules_are kept built) in
+    subst (λ (r : Rules). IsCube r.cube × All (λ (key : VoxelKey). IsKey key × (key.depth ≤ r.cube.depth)) (keys_of nodes)) same (
+      cube,
+      All-members (λ (key : VoxelKey). IsKey key × (key.depth ≤ (rules_of kept).cube.depth)) (keys_of nodes) (λ key m. (
+          let n = member-map (λ (x : Node). x.0) key nodes m in
+          let planned = ((has.plan.tiles kept built).each n.0.0 n.0.1).0 (contains-IsMember n.0 nodes n.1) in
+          let e : Entry = (n.0.0, pos n.0.1) in
+          subst (λ (k : VoxelKey). IsKey k × (k.depth ≤ (rules_of kept).cube.depth)) n.2 (
+            All-contains (λ (x : Entry). IsKey x.0) planned.entries e (each-key planned.file.bytes planned.entries planned.file.reading) planned.counted,
+            (All-contains (λ (x : Entry). IsEntryIn (search_all kept) planned.top x) planned.entries e planned.file.form.each planned.counted).shallow,
+          ))),
+    )
+
 -- ---- what the folder tells
+
+pub plan-not-called : PlanIsUncalled
+plan-not-called files nodes is error = plan-uncalled EVERYWHERE 0 32 files (record { area = EVERYWHERE; tiles = nodes }) is error
+
+pub plan-called-once : PlanIsCalledOnce
+plan-called-once files one other a b = called-once EVERYWHERE 0 32 files one other (of-plan EVERYWHERE 0 32 files one a) (of-plan EVERYWHERE 0 32 files other b)
 
 pub found-nodes : (search : Search) (files : Option Files) (nodes : List Node) → Tells (IsSearchFor EVERYWHERE 0 32 search) files → Tells (IsPlanFor EVERYWHERE 0 32 (record { area = EVERYWHERE; tiles = nodes })) files → Tells (HasNodes (rules_in search) nodes) files
 found-nodes search files nodes found planned = tells-from (HasNodes (rules_in search) nodes) files (λ all is. (
@@ -169,14 +202,13 @@ complete-nodes read-back can-sample kept points files whole rules nodes has =
     let planned = plans-whole read-back can-sample kept points files whole EVERYWHERE 0 32 (record { area = EVERYWHERE; tiles = nodes }) has.plan in
     let rules' = rules_of kept in
     let same : keys_of nodes ≡ node_keys rules' points = node_keys-is rules' points (keys_of nodes) laid.can.cube laid.can.inside (IsRising-AllPairs (keys_of nodes) planned.ascend)
-      (λ k m. (let n = member-map (λ (x : Node). x.0) k nodes m in subst (λ (q : VoxelKey). is_node rules' points q ≡ true) n.2 ((planned.each n.0.0 n.0.1).0 (contains-IsMember n.0 nodes n.1)).0))
-      (λ k is. (
-          let a-key = node-IsKey rules' points k laid.can.cube laid.can.inside is in
-          let deep = a-key.shallow in
-          let here = (planned.each k (length (sampling rules' points k))).1 (is, refl, (omega arith, omega (arith, deep)), everywhere-met kept k a-key (node-depth rules' points k is)) in
-          IsMember-map (λ (x : Node). x.0) (k, length (sampling rules' points k)) nodes (IsMember-contains (k, length (sampling rules' points k)) nodes here))) in
-    (
+    (λ k m. (let n = member-map (λ (x : Node). x.0) k nodes m in subst (λ (q : VoxelKey). is_node rules' points q ≡ true) n.2 ((planned.each n.0.0 n.0.1).0 (contains-IsMember n.0 nodes n.1)).0))
+    (λ k is. (
+    let a-key = node-IsKey rules' points k laid.can.cube laid.can.inside is in
+    let deep = a-key.shallow in
+    let here = (planned.each k (length (sampling rules' points k))).1 (is, refl, (omega arith, omega (arith, deep)), everywhere-met kept k a-key (node-depth rules' points k is)) in
+    IsMember-map (λ (x : Node). x.0) (k, length (sampling rules' points k)) nodes (IsMember-contains (k, length (sampling rules' points k)) nodes here))) in (
       has.rules_are kept laid.built,
       subst (λ (keys : List VoxelKey). HasTilesOf files nodes (map (tile_at rules' points) keys)) same
-      (tiled rules' points files nodes (λ n m. has-tiles read-back can-sample kept points files whole EVERYWHERE 0 32 (record { area = EVERYWHERE; tiles = nodes }) has.plan n (contains-IsMember n nodes m))),
+          (tiled rules' points files nodes (λ n m. has-tiles read-back can-sample kept points files whole EVERYWHERE 0 32 (record { area = EVERYWHERE; tiles = nodes }) has.plan n (contains-IsMember n nodes m))),
     )

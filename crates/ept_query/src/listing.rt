@@ -6,7 +6,7 @@ ghost use Rattle.ept_base.specs.Files.{SameFiles, Tells};
 ghost use Rattle.ept_base.specs.Moves.{Moves};
 ghost use Rattle.ept_space.specs.VoxelKey.{AreAscending};
 ghost use Rattle.ept_hier.specs.Hierarchy.{Node, keys_of};
-ghost use Rattle.ept_query.specs.AllNodes.{HasNodes};
+ghost use Rattle.ept_query.specs.Listed.{HasNodes};
 ghost use Rattle.ept_query.specs.Planning.{GetsFiles};
 ghost use Rattle.ept_query.specs.Refusals.{RefusesPlan, CallsOfPlan, RefusesAsCalled};
 
