@@ -8,24 +8,28 @@ use Rattle.ept_sample.specs.Ids.{HasDistinctIds}
 use Rattle.ept_fit.specs.Fit.{keys_in, points_in}
 use Rattle.ept_fit.specs.Walk.{InPreorder, IsWalk}
 
+-- the key of the node at a place, or that of d if there is none
+abbrev pub nth_key : List Tile → Tile → ℕ → VoxelKey
+nth_key walk d i = (slice_index_or walk i d).key
+
 -- a node above another comes first
 abbrev pub AboveComesFirst : Type 0
 AboveComesFirst =
-    (walk : List Tile) (i j : ℕ) (d : Tile) → InPreorder walk → i < length walk → is_below (slice_index_or walk i d).key (slice_index_or walk j d).key ≡ true → i < j
+    (walk : List Tile) (i j : ℕ) (d : Tile) → InPreorder walk → i < length walk → is_below (nth_key walk d i) (nth_key walk d j) ≡ true → i < j
 
 -- of two nodes in different octants of a key, the one in the lesser octant comes first
 abbrev pub OctantsAscend : Type 0
 OctantsAscend =
-    (walk : List Tile) (key : VoxelKey) (a b i j : ℕ) (d : Tile) → InPreorder walk → a < b → b < 8 → i < length walk → is_within (child key a) (slice_index_or walk i d).key ≡ true → is_within (child key b) (slice_index_or walk j d).key ≡ true → i < j
+    (walk : List Tile) (key : VoxelKey) (a b i j : ℕ) (d : Tile) → InPreorder walk → a < b → b < 8 → i < length walk → is_within (child key a) (nth_key walk d i) ≡ true → is_within (child key b) (nth_key walk d j) ≡ true → i < j
 
--- the node has a key
+-- the key of the node is well-formed
 abbrev pub HasKey : Tile → Type 0
 HasKey node = IsKey node.key
 
 -- what comes between a node and one within it lies within it too
 abbrev pub SubtreesAreTogether : Type 0
 SubtreesAreTogether =
-    (walk : List Tile) (i j k : ℕ) (d : Tile) → InPreorder walk → All HasKey walk → i < j → j < k → k < length walk → is_within (slice_index_or walk i d).key (slice_index_or walk k d).key ≡ true → is_within (slice_index_or walk i d).key (slice_index_or walk j d).key ≡ true
+    (walk : List Tile) (i j k : ℕ) (d : Tile) → InPreorder walk → All HasKey walk → i < j → j < k → k < length walk → is_within (nth_key walk d i) (nth_key walk d k) ≡ true → is_within (nth_key walk d i) (nth_key walk d j) ≡ true
 
 -- nodes in preorder are a walk of nodes whose keys are in any other order
 abbrev pub WalkHasNodes : Type 0
