@@ -54,7 +54,7 @@ module _ (area : Box3) (first last : ℕ) (files : Files) where
   damaged-once (Tile one) (Hierarchy two) a b = (let x = a.1 a.0.0 a.0.1 in let y = b.1 a.0.0 a.0.1 in let there = x.each two y.needed in absurd (y.damaged there.0 there.1))
   damaged-once (Tile one) (Tile two) a b = ap (λ (k : VoxelKey). Tile k) (first-once (search_of a.0.0 area first last) files one two (a.1 a.0.0 a.0.1) (b.1 a.0.0 a.0.1))
 
-  called-once : (one two : QueryError) → CallsOfQuery area first last one files → CallsOfQuery area first last two files → one ≡ two
+  pub called-once : (one two : QueryError) → CallsOfQuery area first last one files → CallsOfQuery area first last two files → one ≡ two
   called-once NotComplete NotComplete a b = refl
   called-once NotComplete StoreFault a b = absurd b
   called-once NotComplete (Damaged file) a b = absurd (a b.0)
@@ -69,7 +69,7 @@ module _ (area : Box3) (first last : ℕ) (files : Files) where
   called-once (Damaged file) SinkFault a b = absurd b
   called-once (Damaged file) Memory a b = absurd b
 
-  of-plan : (error : QueryError) → CallsOfPlan area first last error files → CallsOfQuery area first last error files
+  pub of-plan : (error : QueryError) → CallsOfPlan area first last error files → CallsOfQuery area first last error files
   of-plan NotComplete called = called
   of-plan StoreFault called = absurd called
   of-plan (Damaged BuildJson) called = called
@@ -79,7 +79,7 @@ module _ (area : Box3) (first last : ℕ) (files : Files) where
   of-plan Memory called = absurd called
 
   -- where there is a plan, nothing is called for but a tile
-  plan-uncalled : (plan : Plan) → IsPlanFor area first last plan files → (error : QueryError) → CallsOfPlan area first last error files → ⊥
+  pub plan-uncalled : (plan : Plan) → IsPlanFor area first last plan files → (error : QueryError) → CallsOfPlan area first last error files → ⊥
   plan-uncalled plan is NotComplete called = called is.done
   plan-uncalled plan is StoreFault called = called
   plan-uncalled plan is (Damaged BuildJson) called = called.1 is.build.0 is.build.1
@@ -121,7 +121,7 @@ refusal-called area first last files all is (Damaged file) refused = inl (told (
 refusal-called area first last files all is SinkFault refused = inr tt
 refusal-called area first last files all is Memory refused = inr tt
 
-refusal-as : (T : Type 0) (area : Box3) (first last : ℕ) (files : Option Files) (all : Files) → files ≡ Some all → (found error : QueryError) → RefusesQuery area first last files found → CallsOfQuery area first last error all → AnswersOrFails {T = T} (Err found) error
+pub refusal-as : (T : Type 0) (area : Box3) (first last : ℕ) (files : Option Files) (all : Files) → files ≡ Some all → (found error : QueryError) → RefusesQuery area first last files found → CallsOfQuery area first last error all → AnswersOrFails {T = T} (Err found) error
 refusal-as T area first last files all is found error refused called =
     ⊎_elim (λ (c : CallsOfQuery area first last found all). inl (ap (λ (e : QueryError). let r : Result T QueryError = Err e in r) (called-once area first last all found error c called))) (λ (d : IsDevices found). device-answers T found error d) (refusal-called area first last files all is found refused)
 

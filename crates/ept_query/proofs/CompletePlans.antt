@@ -43,11 +43,10 @@ tile-of-one files key count one two has other =
 
 -- ---- nodes in key order
 
-node_before : Node → Node → Bool
+abbrev pub node_before : Node → Node → Bool
 node_before a b = key_before a.0 b.0
 
-keys-rise : (nodes : List Node) → IsRising node_before nodes → IsRising key_before (keys_of nodes)
-unfolding node_before
+pub keys-rise : (nodes : List Node) → IsRising node_before nodes → IsRising key_before (keys_of nodes)
 keys-rise [] up = tt
 keys-rise (n ∷ nodes) up = (
   λ k m. (let found = member-map (λ (x : Node). x.0) k nodes m in subst (λ (w : VoxelKey). key_before n.0 w ≡ true) found.2 (up.0 found.0 found.1)),
@@ -56,7 +55,6 @@ keys-rise (n ∷ nodes) up = (
 
 module _ (kept : Kept) (points : List Point) where
   counted-rise : (keys : List VoxelKey) → IsRising key_before keys → IsRising node_before (map counted (map (tile_at (rules_of kept) points) keys))
-  unfolding node_before
   counted-rise [] up = tt
   counted-rise (k ∷ keys) up = (
     λ n m. (

@@ -17,3 +17,4 @@ mod Completing
 mod Whole
 mod Meeting
 mod CompletePlans
+mod Listed

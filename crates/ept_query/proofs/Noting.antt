@@ -1,12 +1,13 @@
 -- What is noted of entries, one after another.
-use Rattle.std.proofs.Common.{◌≡◌, ◌∙◌, ◌+◌, ◌<◌, ℕ, ℤ, List, [], ◌∷◌, ◌++◌, length, get_or, take, refl, sym, ap, subst, inl, inr, ◌⊎◌, ⊎_elim, Option, Some, Ordering, Less, Equal, Greater, Bool, true, false, cond}
+use Rattle.std.proofs.Common.{◌≡◌, ◌∙◌, ◌+◌, ◌<◌, ◌≤◌, ℕ, ℤ, List, [], ◌∷◌, ◌++◌, length, get_or, take, refl, sym, ap, subst, inl, inr, ◌⊎◌, ⊎_elim, Option, Some, None, Ordering, Less, Equal, Greater, Bool, true, false, cond}
 use Rattle.std.specs.Prelude.{pos, negsuc, IsSome}
 use Rattle.std.specs.List.{Contains}
 use Rattle.std.specs.Ordering.{match_ordering, is_eq}
 use Rattle.std.specs.BTreeMap.{is_at}
 use Rattle.std.specs.BTreeSet.{insert_key}
+use Rattle.std.proofs.lemmas.Bool.{false≢true}
 use Rattle.std.proofs.lemmas.List.{take_more}
-use Rattle.std.proofs.lemmas.List.Elements.{Contains-append_cases, Contains-append_left, Contains-append_right}
+use Rattle.std.proofs.lemmas.List.Elements.{Contains-append_cases, Contains-append_left, Contains-append_right, All-contains}
 use Rattle.ept_space.specs.VoxelKey.{VoxelKey, key_cmp}
 use Rattle.ept_space.proofs.KeyOrder.{key_cmp-equal, key_cmp-same}
 use Rattle.ept_sample.specs.Members.{IsMember}
@@ -14,7 +15,8 @@ use Rattle.ept_sample.proofs.Members.{IsMember-contains, contains-IsMember}
 use Rattle.ept_hier.specs.Hierarchy.{Entry}
 use Rattle.ept_query.specs.declared.search.Search.{Search}
 use Rattle.ept_query.specs.Search.{MeetsArea, HasDepth}
-use Rattle.ept_query.specs.Walk.{NotesLinks, NotesTiles}
+use Rattle.ept_query.specs.Hierarchies.{AreOf, IsEntryIn}
+use Rattle.ept_query.specs.Walk.{NotesLinks, NotesTiles, AreShallow}
 use Rattle.ept_query.proofs.Readings.{some-is}
 
 -- ---- a key in a set
@@ -162,3 +164,14 @@ pub tiles-more : (search : Search) (entries : List Entry) (i : ℕ) (entry : Ent
 tiles-more search entries i entry old mid new within at one two =
     let whole : take (i + 1) entries ≡ take i entries ++ entry ∷ [] = take_more entries i entry within ∙ ap (λ (e : Entry). take i entries ++ e ∷ []) (sym at) in
     subst (λ (w : List Entry). NotesTiles search w old new) (sym whole) (tiles-both search (take i entries) (entry ∷ []) old mid new one two)
+
+-- no key with a count is deeper than the octree
+pub tiles-shallow : (search : Search) (top : VoxelKey) (entries : List Entry) (old new : VoxelKey → Option ℕ) → AreOf search top entries → NotesTiles search entries old new → AreShallow search old → AreShallow search new
+tiles-shallow search top entries old new form noted shallow = λ key has. by_count key (new key) refl has
+  where
+    by_count : (key : VoxelKey) (o : Option ℕ) → new key ≡ o → IsSome o → key.depth ≤ search.cube.depth
+    by_count key None is has = absurd (false≢true has)
+    by_count key (Some count) is has =
+        ⊎_elim (λ (was : old key ≡ Some count). shallow key (subst IsSome (sym was) refl))
+        (λ (entry : Contains entries (key, pos count) × HasDepth search key × MeetsArea search key). (All-contains (λ (e : Entry). IsEntryIn search top e) entries (key, pos count) form.each entry.0).shallow)
+        (noted.only key count is)

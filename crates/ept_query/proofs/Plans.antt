@@ -1,7 +1,7 @@
 -- What the walk answers.
 use Rattle.std.proofs.Common.{◌≡◌, ◌∙◌, ◌+◌, ◌<◌, ◌≤◌, ℕ, List, [], ◌∷◌, length, refl, sym, ap, subst, Option, Some, Result, Ok, Err, arith}
-use Rattle.std.specs.Prelude.{IfOk}
-use Rattle.std.specs.List.{Contains}
+use Rattle.std.specs.Prelude.{IfOk, IsSome}
+use Rattle.std.specs.List.{All, Contains}
 use Rattle.std.specs.List.Sorted.{IsStrictlySortedBy}
 use Rattle.std.specs.Ordering.{is_eq, eq_by_cmp}
 use Rattle.std.specs.BTreeMap.{BTreeMap, get, is_at}
@@ -12,6 +12,7 @@ use Rattle.std.proofs.lemmas.Map.Views.{Contains-from_lookup, lookup-from_Contai
 use Rattle.ept_base.specs.Files.{Files, SameFiles, StepsBy, Tells}
 use Rattle.ept_space.specs.VoxelKey.{VoxelKey, key_cmp, AreAscending}
 use Rattle.ept_space.proofs.KeyOrder.{key_cmp_total}
+use Rattle.ept_sample.proofs.Members.{All-members, contains-IsMember}
 use Rattle.ept_hier.specs.Hierarchy.{Entry, Node, keys_of}
 use Rattle.ept_meta.specs.Output.{hierarchy_name}
 use Rattle.ept_query.specs.declared.search.Search.{Search}
@@ -21,7 +22,7 @@ use Rattle.ept_query.specs.declared.query_error.QueryError.TheVariants.{NotCompl
 use Rattle.ept_query.specs.Hierarchies.{HasHierarchy, HasNoHierarchy}
 use Rattle.ept_query.specs.Plan.{IsNeeded, IsPlan, HasNeeded}
 use Rattle.ept_query.specs.Damage.{IsFirstHierarchy, RefusesReading, RefusesWalk}
-use Rattle.ept_query.specs.Walk.{NotesFile}
+use Rattle.ept_query.specs.Walk.{NotesFile, AreShallow}
 use Rattle.ept_query.proofs.Counting.{fewer, same-from}
 use Rattle.ept_query.proofs.Told.{tells-from, told-back}
 use Rattle.ept_query.proofs.Walking.{IsWalk, counts-planned}
@@ -65,7 +66,7 @@ gets-fewer search files old new each = tells-from (λ all. (keys : List VoxelKey
 
 -- ---- the plan
 
-entry-has : (tiles : List Node) (key : VoxelKey) (count : ℕ) → AreAscending (keys_of tiles) → Contains tiles (key, count) → lookup (is_at (key_cmp key)) tiles ≡ Some count
+pub entry-has : (tiles : List Node) (key : VoxelKey) (count : ℕ) → AreAscending (keys_of tiles) → Contains tiles (key, count) → lookup (is_at (key_cmp key)) tiles ≡ Some count
 entry-has tiles key count ascend has =
     lookup-from_Contains (eq_by_cmp_equiv key_cmp_total) key count tiles (IsDistinct-from_apart (eq_by_cmp key_cmp) (keys_of tiles) (λ i j d less within. ap is_eq (ascend i j d less within))) has
 
@@ -80,6 +81,12 @@ plan-listed search files taken pending tiles listed walk none same ascend = reco
     (λ plan. has-entry listed key count (ap (λ (es : List Node). lookup (is_at (key_cmp key)) es) same ∙ counts-planned search files taken pending (get key_cmp tiles) walk none key count plan)),
   );
 }
+
+pub listed-shallow : (search : Search) (tiles : BTreeMap VoxelKey ℕ) (listed : List Node) → listed ≡ tiles.entries → AreAscending (keys_of listed) → AreShallow search (get key_cmp tiles) → All (λ (n : Node). n.0.depth ≤ search.cube.depth) listed
+listed-shallow search tiles listed same ascend shallow =
+    All-members (λ (n : Node). n.0.depth ≤ search.cube.depth) listed (λ n m.
+    let found : get key_cmp tiles n.0 ≡ Some n.1 = ap (λ (es : List Node). lookup (is_at (key_cmp n.0)) es) (sym same) ∙ entry-has listed n.0 n.1 ascend (contains-IsMember n listed m) in
+    shallow n.0 (subst IsSome (sym found) refl))
 
 pub ok-both : {T E : Type 0} (P Q R : T → Type 0) (r : Result T E) → ((v : T) → P v → Q v → R v) → IfOk r P → IfOk r Q → IfOk r R
 ok-both P Q R (Ok v) both one two = both v one two

@@ -72,7 +72,7 @@ pub some-is : {X : Type 0} {a b : X} → Some a ≡ Some b → a ≡ b
 some-is h = cc
 
 -- what is read of a value, and then of the rest
-then-is : {X Y : Type 0} (f : X → Option Y) (o : Option X) (y : Y) → option_and_then f o ≡ Some y → (x : X) × (o ≡ Some x) × (f x ≡ Some y)
+pub then-is : {X Y : Type 0} (f : X → Option Y) (o : Option X) (y : Y) → option_and_then f o ≡ Some y → (x : X) × (o ≡ Some x) × (f x ≡ Some y)
 then-is f None y is = absurd (cc)
 then-is f (Some x) y is = (x, refl, is)
 

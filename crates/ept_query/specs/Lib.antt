@@ -11,5 +11,6 @@ pub mod Writing
 pub mod Refusals
 pub mod Planning
 pub mod Answers
+pub mod Listed
 pub mod Complete
 pub mod CompleteLaws

@@ -1,6 +1,7 @@
 -- What a query looks for in an octree.
 use Rattle.std.specs.Prelude.{ℕ, ◌≤◌}
 use Rattle.ept_space.specs.declared.box3.Box3.{Box3}
+use Rattle.ept_space.specs.declared.cube.Rules.{Rules}
 use Rattle.ept_space.specs.Place.{Place}
 use Rattle.ept_space.specs.VoxelKey.{VoxelKey}
 use Rattle.ept_space.specs.OctreeCube.{InBox}
@@ -13,11 +14,16 @@ use Rattle.ept_query.specs.declared.search.Search.{Search}
 abbrev pub search_of : Kept → Box3 → ℕ → ℕ → Search
 search_of kept area first last = record {
   cube = cube_of kept.bounds kept.s kept.max_depth;
+  threshold = kept.threshold;
   step = kept.step;
   area = area;
   first = first;
   last = last;
 }
+
+-- the rules of that octree
+abbrev pub rules_in : Search → Rules
+rules_in search = record { cube = search.cube; threshold = search.threshold }
 
 -- the box of a key has a place in the area
 abbrev pub MeetsArea : Search → VoxelKey → Type 0

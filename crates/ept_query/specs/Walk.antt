@@ -1,5 +1,5 @@
 -- What is noted of the entries of a hierarchy file, on the walk from file to file.
-use Rattle.std.specs.Prelude.{◌≡◌, ◌⊎◌, ℕ, pos, negsuc, List, Contains, Option, Some, IsSome}
+use Rattle.std.specs.Prelude.{◌≡◌, ◌≤◌, ◌⊎◌, ℕ, pos, negsuc, List, Contains, Option, Some, IsSome}
 use Rattle.ept_base.specs.Files.{Files}
 use Rattle.ept_space.specs.VoxelKey.{VoxelKey}
 use Rattle.ept_hier.specs.Hierarchy.{Entry}
@@ -18,6 +18,10 @@ pub record NotesTiles (search : Search) (entries : List Entry) (old new : VoxelK
   pub kept : (key : VoxelKey) → IsSome (old key) → IsSome (new key)
   pub noted : (key : VoxelKey) (count : ℕ) → Contains entries (key, pos count) → HasDepth search key → MeetsArea search key → IsSome (new key)
   pub only : (key : VoxelKey) (count : ℕ) → new key ≡ Some count → (old key ≡ Some count) ⊎ (Contains entries (key, pos count) × HasDepth search key × MeetsArea search key)
+
+-- no key with a count is deeper than the octree is
+abbrev pub AreShallow : Search → (VoxelKey → Option ℕ) → Type 0
+AreShallow search counts = (key : VoxelKey) → IsSome (counts key) → key.depth ≤ search.cube.depth
 
 -- the hierarchy file of a key is there, and its links and counts are noted
 pub record NotesFile (search : Search) (top : VoxelKey) (pending next : List VoxelKey) (counts found : VoxelKey → Option ℕ) (files : Files) : Type 0 where

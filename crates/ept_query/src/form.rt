@@ -56,9 +56,9 @@ fn is_link(step: u8, top: &Key, key: &Key) -> bool
     step > 0 && u16::from(key.depth) == u16::from(top.depth) + u16::from(step)
 }
 
-// Whether a key is `top` or below it.
+/// Whether a key is `top` or below it.
 #[tactic(auto, unfolding(ept_space::specs::VoxelKey::is_within, ept_space::specs::VoxelKey::ancestor))]
-fn is_within(top: &Key, key: &Key) -> bool
+pub fn is_within(top: &Key, key: &Key) -> bool
     ensures { result ≡ is_within top.now key.now }
 {
     top.known();

@@ -1,6 +1,7 @@
 //! What holds of every folder that is complete. Each law is the contract of a function that does nothing.
 
 ghost use Rattle.ept_query.specs.CompleteLaws.{CompleteHasPlan, CompleteHasTiles, PlansAreWhole, PlansAnswer, TileIsOfOne};
+ghost use Rattle.ept_query.specs.Listed.{EverywhereIsMet, NodesAreOfOne, RootIsThere, NodesAreInOctree, PlanIsUncalled, PlanIsCalledOnce, CompleteHasNodes};
 
 use ept_hier::reading_law;
 use ept_meta::output_once_law;
@@ -15,6 +16,22 @@ pub fn complete_law()
     ensures nodes { PlansAreWhole }
     ensures answered { PlansAnswer }
     ensures once { TileIsOfOne }
+{
+    reading_law();
+    output_once_law();
+}
+
+/// A folder has one list of all nodes, of which the root is one, and no node lies outside what is looked for; their keys are
+/// those of an octree. Where they are listed no refusal is called for, and else one. The nodes of a folder that is complete for
+/// some points are those of the sampling, and the tile of each is there.
+pub fn nodes_law()
+    ensures met { EverywhereIsMet }
+    ensures once { NodesAreOfOne }
+    ensures root { RootIsThere }
+    ensures in_octree { NodesAreInOctree }
+    ensures uncalled { PlanIsUncalled }
+    ensures called_once { PlanIsCalledOnce }
+    ensures complete { CompleteHasNodes }
 {
     reading_law();
     output_once_law();

@@ -1,16 +1,17 @@
 //! What a query looks for.
 
 ghost use Rattle.std.specs.Prelude.{◌≡◌, ◌≤◌, ◌↔◌, IsTrue};
-ghost use Rattle.ept_query.specs.Search.{search_of, MeetsArea, HasDepth};
+ghost use Rattle.ept_query.specs.Search.{search_of, rules_in, MeetsArea, HasDepth};
 
 use ept_config::Kept;
-use ept_space::{Box3, Cube, Key, meets, node_box};
+use ept_space::{Box3, Cube, Key, Rules, meets, node_box};
 
 /// What a query looks for: the points of an area, in the nodes from one depth to another of an octree, of
-/// whose depths `step` stand in one hierarchy file.
+/// whose depths `step` stand in one hierarchy file. The cube and the threshold are the rules of the octree.
 #[derive(Clone, Copy)]
 pub(crate) struct Search {
     pub(crate) cube: Cube,
+    pub(crate) threshold: u64,
     pub(crate) step: u8,
     pub(crate) area: Box3,
     pub(crate) first: u8,
@@ -24,10 +25,21 @@ impl Search {
     {
         Search {
             cube: Cube::over(&kept.bounds, kept.s, kept.max_depth),
+            threshold: kept.threshold,
             step: kept.step,
             area: *area,
             first: depths.0,
             last: depths.1,
+        }
+    }
+
+    /// The rules of the octree.
+    pub(crate) fn rules(&self) -> Rules
+        ensures { result ≡ rules_in self.now }
+    {
+        Rules {
+            cube: self.cube,
+            threshold: self.threshold,
         }
     }
 

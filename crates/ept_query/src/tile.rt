@@ -47,15 +47,19 @@ pub fn query_tile<T: Store>(
     ensures cause { HasCauseOf QueryError.StoreFault (T.faults store.old) (T.faults store.new) result }
 {
     let (key, count) = plan.node(number);
-    let points = points_at(alloc, store, &key, count)?;
+    let points = tile_points(alloc, store, &key, count)?;
     let mut found = Vec::new(alloc);
     let number = append_inside(&plan.area, &points, &mut found)?;
     *into = found;
     Ok(number)
 }
 
-// The points of the tile of a key, which are as many as counted.
-fn points_at<T: Store>(
+/// The points of the tile of a key, in id order, which are as many as counted. No more than one file is got.
+///
+/// # Errors
+///
+/// `Damaged` with the tile where it is absent, not of its form, or of another number of points.
+pub fn tile_points<T: Store>(
     alloc: Global,
     store: &mut T,
     key: &Key,

@@ -7,12 +7,12 @@ ghost use Rattle.ept_base.specs.Causes.{HasCauseOf};
 ghost use Rattle.ept_base.specs.Files.{SameFiles, Tells};
 ghost use Rattle.ept_base.specs.Moves.{Moves};
 ghost use Rattle.ept_space.specs.VoxelKey.{VoxelKey, IsKey, root, key_cmp, AreAscending};
-ghost use Rattle.ept_hier.specs.Hierarchy.{keys_of};
+ghost use Rattle.ept_hier.specs.Hierarchy.{Node, keys_of};
 ghost use Rattle.ept_query.specs.Damage.{RefusesWalk, RefusesReading};
 ghost use Rattle.ept_query.specs.Hierarchies.{HasNoHierarchy};
 ghost use Rattle.ept_query.specs.Plan.{EachIsThere, IsPlan, HasNeeded};
 ghost use Rattle.ept_query.specs.Search.{MeetsArea};
-ghost use Rattle.ept_query.specs.Walk.{NotesFile};
+ghost use Rattle.ept_query.specs.Walk.{AreShallow, NotesFile};
 
 use crate::hierarchy::entries_at;
 use crate::notes::{note_links, note_tiles};
@@ -33,6 +33,8 @@ pub(crate) fn tiles_of<T: Store>(
 ) -> Result<Vec<(Key, u64)>, QueryError>
     ensures plan { IfOk result (λ tiles. Tells
         (λ all. EachIsThere search.now all × IsPlan search.now all tiles.items) (T.files store.old)) }
+    ensures shallow { IfOk result (λ tiles. All (λ (n : Node). n.0.depth ≤ search.now.cube.depth) tiles.items) }
+    ensures ascend { IfOk result (λ tiles. AreAscending (keys_of tiles.items)) }
     ensures refused { IfErr result (RefusesWalk search.now (T.files store.old)) }
     ensures gets { Tells (λ all. (keys : List VoxelKey) → HasNeeded search.now all keys
         → T.gets store.new ≤ T.gets store.old + length keys) (T.files store.old) }
@@ -58,6 +60,7 @@ fn note_file<T: Store>(
 ) -> Result<(), QueryError>
     ensures noted { OnOk result (Tells (NotesFile search.now top.now pending.old.keys pending.new.keys
         (get key_cmp tiles.old) (get key_cmp tiles.new)) (T.files store.old)) }
+    ensures shallow { OnOk result (AreShallow search.now (get key_cmp tiles.old) → AreShallow search.now (get key_cmp tiles.new)) }
     ensures behind { OnOk result (All (λ (k : VoxelKey). key_cmp top.now k ≡ Less) pending.old.keys
         → All (λ (k : VoxelKey). key_cmp top.now k ≡ Less) pending.new.keys) }
     ensures are_keys { OnOk result (All IsKey pending.old.keys → All IsKey pending.new.keys) }

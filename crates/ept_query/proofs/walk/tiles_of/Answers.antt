@@ -1,4 +1,4 @@
-use Rattle.std.proofs.Common.{◌≡◌, List, [], ◌∷◌, ◌++◌, length-append, sym, ap, subst, arith, Option}
+use Rattle.std.proofs.Common.{◌≡◌, ◌≤◌, List, [], ◌∷◌, ◌++◌, length-append, sym, ap, subst, arith, Option}
 use Rattle.std.specs.List.{All}
 use Rattle.std.specs.BTreeMap.{get, is_at}
 use Rattle.std.specs.Map.{lookup}
@@ -14,12 +14,13 @@ use Rattle.ept_query.specs.Walk.{NotesFile}
 use Rattle.ept_query.proofs.Counting.{left-falls}
 use Rattle.ept_query.proofs.Told.{tells-from, told-back, same-none, same-twice}
 use Rattle.ept_query.proofs.Walking.{walk-begun, walk-more, walk-first, taken-ascend, taken-needed, each-there}
-use Rattle.ept_query.proofs.Plans.{noted-back, walk-refuses, gets-fewer, plan-listed, ok-both, nothing-left}
+use Rattle.ept_query.proofs.Plans.{noted-back, walk-refuses, gets-fewer, plan-listed, listed-shallow, ok-both, nothing-left}
 use Rattle.ept_query.proofs.walk.tiles_of.Goals as goal
 
 pub loop-top-init : goal.loop-top-init
 loop-top-init g c = record {
   are_keys = c.in_ok-pending.ensures.are_keys;
+  shallow = λ key has. absurd (false≢true (subst IsSome (ap (λ (es : List Node). lookup (is_at (key_cmp key)) es) c.new-tiles.ensures.empty) has));
   moves = same-none g.T.Store.files g.T.Store.may_leave g.T.Store.moment g.T.Store.image_since c.args.store.now;
   later = omega arith;
   walk = λ all is. ([], walk-begun c.args.search.now all c.in_ok-pending.pending.keys (get key_cmp c.new-tiles.result) c.in_ok-pending.ensures.start c.in_ok-pending.ensures.only (λ key. ap (λ (es : List Node). lookup (is_at (key_cmp key)) es) c.new-tiles.ensures.empty), omega arith);
@@ -36,6 +37,7 @@ loop-top-smaller g c =
 pub loop-top-preserved : goal.loop-top-preserved
 loop-top-preserved g c = record {
   are_keys = c.in_ok-note_file.ensures.are_keys (All-rest IsKey c.in-Some.top c.pop_first.new.self.keys c.loop-top.pending.keys c.in-Some.ensures.removal c.loop-top.invariant.are_keys);
+  shallow = c.in_ok-note_file.ensures.shallow c.loop-top.invariant.shallow;
   moves = same-twice g.T.Store.files g.T.Store.may_leave g.T.Store.moment g.T.Store.image_since c.args.store.now c.loop-top.store c.note_file.new.store c.loop-top.invariant.moves c.note_file.ensures.any_moment;
   later = (let a = c.loop-top.invariant.later in let b = c.note_file.ensures.cause.later in omega (arith, a, b));
   walk = λ all is. (
@@ -84,3 +86,9 @@ returns-clause-plan g c =
 pub returns-clause-gets : goal.returns-clause-gets
 returns-clause-gets g c =
     gets-fewer c.args.search.now (g.T.Store.files c.args.store.now) (g.T.Store.gets c.args.store.now) (g.T.Store.gets c.loop-top.store) (λ all is. (let w = c.loop-top.invariant.walk all is in (w.0, w.1.ascend, w.1.needed, w.2)))
+
+pub returns-clause-shallow : goal.returns-clause-shallow
+returns-clause-shallow g c =
+    ok-both (λ v. v.items ≡ c.loop-top.tiles.entries) (λ v. AreAscending (keys_of v.items)) (λ v. All (λ (n : Node). n.0.depth ≤ c.args.search.now.cube.depth) v.items) c.listed.result
+    (λ v same ascend. listed-shallow c.args.search.now c.loop-top.tiles v.items same ascend c.loop-top.invariant.shallow)
+    c.listed.ensures.same c.listed.ensures.ascend

@@ -1,0 +1,72 @@
+-- All nodes of a folder, as its build file and its hierarchy files tell them. The folder may hold anything.
+use Rattle.std.specs.Prelude.{◌≡◌, ◌≤◌, List, Contains}
+use Rattle.std.specs.List.{All, AllZip}
+use Rattle.ept_base.specs.Files.{Files}
+use Rattle.ept_point.specs.declared.point.Point.{Point}
+use Rattle.ept_space.specs.declared.cube.Rules.{Rules}
+use Rattle.ept_space.specs.VoxelKey.{VoxelKey, IsKey, root}
+use Rattle.ept_space.specs.OctreeCube.{IsCube}
+use Rattle.ept_sample.specs.declared.tiles.Tile.{Tile}
+use Rattle.ept_sample.specs.Nodes.{sampled}
+use Rattle.ept_config.specs.declared.kept.Kept.{Kept}
+use Rattle.ept_hier.specs.Hierarchy.{Node, keys_of}
+use Rattle.ept_meta.specs.Output.{rules_of}
+use Rattle.ept_save.specs.Complete.{IsComplete}
+use Rattle.ept_query.specs.declared.search.Search.{Search}
+use Rattle.ept_query.specs.declared.listing.TheConstants.{EVERYWHERE}
+use Rattle.ept_query.specs.Search.{search_of, MeetsArea}
+use Rattle.ept_query.specs.declared.query_error.QueryError.{QueryError}
+use Rattle.ept_query.specs.Plan.{IsBuiltWith}
+use Rattle.ept_query.specs.Planning.{IsPlanFor}
+use Rattle.ept_query.specs.Refusals.{CallsOfPlan}
+use Rattle.ept_query.specs.Damage.{HasTile}
+
+-- the nodes of all depths are looked for, wherever they lie
+abbrev pub search_all : Kept → Search
+search_all kept = search_of kept EVERYWHERE 0 32
+
+-- the done gate is open, each file of the hierarchy is of its form, these are the nodes with their counts that the
+-- files tell, and the rules are those that the build file tells
+pub record HasNodes (rules : Rules) (nodes : List Node) (files : Files) : Type 0 where
+  pub plan : IsPlanFor EVERYWHERE 0 32 (record { area = EVERYWHERE; tiles = nodes }) files
+  pub rules_are : (kept : Kept) → IsBuiltWith files kept → rules ≡ rules_of kept
+
+-- the tile of each node is there, with these points, as many as it counts
+abbrev pub HasTilesOf : Files → List Node → List Tile → Type 0
+HasTilesOf files nodes tiles = AllZip (λ (n : Node) (t : Tile). (t.key ≡ n.0) × HasTile files n.0 n.1 t.points) nodes tiles
+
+-- ---- what holds of all folders. Each statement stands on the contract of a function of `laws`
+
+-- no node lies outside what is looked for
+abbrev pub EverywhereIsMet : Type 0
+EverywhereIsMet =
+    (kept : Kept) (key : VoxelKey) → IsKey key → key.depth ≤ (search_all kept).cube.depth → MeetsArea (search_all kept) key
+
+-- a folder has one list of nodes
+abbrev pub NodesAreOfOne : Type 0
+NodesAreOfOne =
+    (files : Files) (rules rules' : Rules) (nodes nodes' : List Node) → HasNodes rules nodes files → HasNodes rules' nodes' files → (rules ≡ rules') × (nodes ≡ nodes')
+
+-- the root is one of them
+abbrev pub RootIsThere : Type 0
+RootIsThere = (files : Files) (rules : Rules) (nodes : List Node) → HasNodes rules nodes files → Contains (keys_of nodes) root
+
+-- their keys are those of an octree
+abbrev pub NodesAreInOctree : Type 0
+NodesAreInOctree =
+    (files : Files) (rules : Rules) (nodes : List Node) → HasNodes rules nodes files → IsCube rules.cube × All (λ (key : VoxelKey). IsKey key × (key.depth ≤ rules.cube.depth)) (keys_of nodes)
+
+-- where they are listed no refusal of the listing is called for
+abbrev pub PlanIsUncalled : Type 0
+PlanIsUncalled =
+    (files : Files) (nodes : List Node) → IsPlanFor EVERYWHERE 0 32 (record { area = EVERYWHERE; tiles = nodes }) files → (error : QueryError) → ¬ CallsOfPlan EVERYWHERE 0 32 error files
+
+-- and else one
+abbrev pub PlanIsCalledOnce : Type 0
+PlanIsCalledOnce =
+    (files : Files) (one other : QueryError) → CallsOfPlan EVERYWHERE 0 32 one files → CallsOfPlan EVERYWHERE 0 32 other files → one ≡ other
+
+-- those of a folder that is complete for some points are the nodes of the sampling, whose tiles are there
+abbrev pub CompleteHasNodes : Type 0
+CompleteHasNodes =
+    (kept : Kept) (points : List Point) (files : Files) → IsComplete kept points files → (rules : Rules) (nodes : List Node) → HasNodes rules nodes files → (rules ≡ rules_of kept) × HasTilesOf files nodes (sampled (rules_of kept) points)
