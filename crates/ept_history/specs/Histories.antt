@@ -1,12 +1,13 @@
 -- Lists of builds of one folder: each begins with the files that the one before it left.
-use Rattle.std.specs.Prelude.{◌≡◌, ◌⊎◌, ℕ, List, [], ◌∷◌, Option, Some, None, ⊤, All, AllPairs, IsSome, slice_get}
+use Rattle.std.specs.Prelude.{◌≡◌, ◌⊎◌, ℕ, List, [], ◌∷◌, ◌++◌, Option, Some, None, ⊤, All, AllPairs, IsSome, slice_get}
 use Rattle.ept_base.specs.Files.{Files}
 use Rattle.ept_config.specs.declared.config.Config.{Config}
 use Rattle.ept_config.specs.declared.input.Input.{Input}
 use Rattle.ept_meta.specs.Output.{IsOutsideWork}
 use Rattle.ept_save.specs.Sound.{IsSound}
 use Rattle.ept_save.specs.SoundLaws.{no_files}
-use Rattle.ept_build.specs.Building.{IsUnderWay}
+use Rattle.ept_build.specs.declared.summary.Summary.{Summary}
+use Rattle.ept_build.specs.Building.{IsBuilt, IsUnderWay}
 
 -- One build: the files on the shelf, the configuration, and the files that it left. It left them at its end, or after a crash at any moment.
 pub record Step : Type 0 where
@@ -52,6 +53,13 @@ ScansStay steps = AllPairs FindsScansOf steps
 -- Either the configuration states its bounds, or none of the builds before it did.
 abbrev pub StatesBoundsOrNone : List Step → Config → Type 0
 StatesBoundsOrNone before config = IsSome config.bounds ⊎ All (λ (step : Step). step.config.bounds ≡ None) before
+
+-- A build succeeded on what a history left, with the scans as they were.
+pub record IsBuiltAfter (steps : List Step) (last : Step) (summary : Summary) : Type 0 where
+  pub history : IsHistory steps
+  pub scans : ScansStay (steps ++ last ∷ [])
+  pub bounds : StatesBoundsOrNone steps last.config
+  pub built : IsBuilt last.shelf last.config (left_by steps) summary last.left
 
 -- outside a build's own folders two folders have the same files
 abbrev pub HaveSameOutput : Files → Files → Type 0

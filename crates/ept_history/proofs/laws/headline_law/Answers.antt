@@ -5,7 +5,9 @@ use Rattle.ept_space.specs.declared.bounds.Bounds.{Bounds}
 use Rattle.ept_scan.specs.Laws.{ScanInOneWay, ScanIsKept, ScanLiesWithin, ScanFront}
 use Rattle.ept_save.specs.Current.{Current, HasCurrent}
 use Rattle.ept_save.specs.SoundLaws.{EmptyIsSound, CurrentIsOne, InputsAreEnough}
-use Rattle.ept_history.specs.Histories.{Step, IsHistory, left_by, ScansStay}
+use Rattle.ept_build.specs.declared.summary.Summary.{Summary}
+use Rattle.ept_build.specs.Building.{HasPoints}
+use Rattle.ept_history.specs.Histories.{Step, IsHistory, left_by, ScansStay, IsBuiltAfter}
 use Rattle.ept_history.proofs.Bounding.{KeepsExtent, extent-there, next-extent}
 use Rattle.ept_history.proofs.Safe.{IsSafe, safe-first, safe-last, safe-next, holds-next}
 use Rattle.ept_history.proofs.OneBuild.{as-one-build, one-build}
@@ -32,12 +34,24 @@ given-or-none : (o : Option Bounds) → IsSome o ⊎ (o ≡ None)
 given-or-none None = inr refl
 given-or-none (Some bounds) = inl refl
 
+-- the points of a build that succeeds are those of one build
+module _ (once : ScanInOneWay) (kept : ScanIsKept) (placed : ScanLiesWithin) (front : ScanFront) (empty : EmptyIsSound) (one : CurrentIsOne) (enough : InputsAreEnough) where
+  as-one : (steps : List Step) (last : Step) (summary : Summary) → (after : IsBuiltAfter steps last summary) → HasPoints last.shelf last.config None after.built.kept after.built.points
+  as-one steps last summary after =
+      let built = after.built in
+      let extent = λ (none : All (λ (step : Step). step.config.bounds ≡ None) steps). extent-left once kept placed front empty one enough steps last after.history after.scans none built.current built.has_current in
+      let limits : IsSome last.config.bounds ⊎ ((last.config.bounds ≡ None) × KeepsExtent last.shelf built.current) = elim after.bounds [
+        | inl some ↦ inl some
+        | inr none ↦ elim (given-or-none last.config.bounds) [ inl some ↦ inl some | inr unstated ↦ inr (unstated, extent none) ]
+      ] in
+      as-one-build once kept placed front last.shelf last.config built.current built.goes_on built.kept built.points built.has_points limits
+
+pub returns-clause-complete : goal.returns-clause-complete
+returns-clause-complete c = λ steps last summary after.
+    let points = as-one c.scan_once_law.ensures c.kept_law.ensures c.placed_law.ensures c.joined_law.ensures.front c.sound_law.ensures.empty c.sound_law.ensures.one c.sound_steps_law.ensures.shelf steps last summary after in
+    (after.built.kept, after.built.points, points, after.built.complete)
+
 pub returns-clause-one : goal.returns-clause-one
-returns-clause-one c = λ steps last summary are stay stated built alone told once.
-    let by_limits = as-one-build c.scan_once_law.ensures c.kept_law.ensures c.placed_law.ensures c.joined_law.ensures.front last.shelf last.config built.current built.goes_on built.kept built.points built.has_points in
-    let extent = λ (none : All (λ (step : Step). step.config.bounds ≡ None) steps). extent-left c.scan_once_law.ensures c.kept_law.ensures c.placed_law.ensures c.joined_law.ensures.front c.sound_law.ensures.empty c.sound_law.ensures.one c.sound_steps_law.ensures.shelf steps last are stay none built.current built.has_current in
-    let limits : IsSome last.config.bounds ⊎ ((last.config.bounds ≡ None) × KeepsExtent last.shelf built.current) = elim stated [
-      | inl some ↦ inl some
-      | inr none ↦ elim (given-or-none last.config.bounds) [ inl some ↦ inl some | inr unstated ↦ inr (unstated, extent none) ]
-    ] in
-    one-build c.output_once_law.ensures.one last.shelf last.config (left_by steps) last.left alone summary told built (by_limits limits) once
+returns-clause-one c = λ steps last summary after alone same once.
+    let points = as-one c.scan_once_law.ensures c.kept_law.ensures c.placed_law.ensures c.joined_law.ensures.front c.sound_law.ensures.empty c.sound_law.ensures.one c.sound_steps_law.ensures.shelf steps last summary after in
+    one-build c.output_once_law.ensures.one last.shelf last.config (left_by steps) last.left alone summary same after.built points once
