@@ -27,7 +27,7 @@ _ept_tool() {
 _ept_server() {
   local word=${COMP_WORDS[COMP_CWORD]}
   case $word in
-    -*) COMPREPLY=($(compgen -W "--connections" -- "$word")) ;;
+    -*) COMPREPLY=($(compgen -W "--single --connections" -- "$word")) ;;
     *) _ept_folders "$word" ;;
   esac
 }

@@ -89,7 +89,17 @@ where
 
 // Whether the folder's gate is open.
 fn is_finished(host: &HostRuntime, out: &str) -> bool {
-    gate_of(host, out).is_ok_and(|gate| fs::read(host, gate.as_str()).is_ok_and(|byte| byte.as_slice() == b"\x01"))
+    match gate_of(host, out) {
+        Ok(gate) => is_open(host, gate.as_str()),
+        Err(_) => false,
+    }
+}
+
+fn is_open(host: &HostRuntime, gate: &str) -> bool {
+    match fs::read(host, gate) {
+        Ok(bytes) => bytes.as_slice() == [1].as_slice(),
+        Err(_) => false,
+    }
 }
 
 fn gate_of(host: &HostRuntime, out: &str) -> Result<String, AllocError> {
