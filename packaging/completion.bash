@@ -59,7 +59,7 @@ _ept_points() {
 _ept_alias() {
   local word=${COMP_WORDS[COMP_CWORD]}
   case ${COMP_WORDS[COMP_CWORD - 1]}:$word in
-    --for:*) COMPREPLY=($(compgen -W "pdal-2 qgis-3.40" -- "$word")) ;;
+    --for:*) COMPREPLY=($(compgen -W "pdal-2 qgis" -- "$word")) ;;
     *:-*) COMPREPLY=($(compgen -W "--for" -- "$word")) ;;
     *) _ept_folders "$word" ;;
   esac

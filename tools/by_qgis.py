@@ -1,13 +1,18 @@
-"""What QGIS's own reader of point clouds finds of the survey, beside the points of the scans.
+"""What QGIS's own reader of point clouds finds of a dataset, next to the points of the scans.
 
-The scans are read here from their bytes, and nothing of this project's code takes part. Where QGIS's Python library is
-not there it is installed from the system's packages (as root, by apt-get).
+The scans are decoded here from their bytes, without code of the programs. If QGIS's Python library is missing, it is
+installed from the system's packages (as root, by apt-get).
+
+  python3 tools/by_qgis.py EPT CONFIG NAME..      prints as JSON what the QGIS of this system finds, by these names
+
+So tools/interop asks the QGIS of another system. EPT is the path of an `ept.json`, CONFIG has `scale` and `offset`.
 """
 
 import json
 import os
 import struct
 import subprocess
+import sys
 from collections import Counter
 from pathlib import Path
 
@@ -49,12 +54,17 @@ def points_of(path, origin, exponent, shift):
         yield (*stored, *fields, origin, number)
 
 
+def points_of_all(config):
+    """All points of the inputs of a configuration, as it places them."""
+    for origin, given in enumerate(config["input"]):
+        given = given if isinstance(given, dict) else {"path": given}
+        exponent = config["scale"] - given.get("scale", config["scale"])
+        yield from points_of(TOP / given["path"], origin, exponent, given.get("shift", [0, 0, 0]))
+
+
 def points_of_survey():
     """All points of the survey, as its configuration places them."""
-    for origin, given in enumerate(CONFIG["input"]):
-        given = given if isinstance(given, dict) else {"path": given}
-        exponent = CONFIG["scale"] - given.get("scale", CONFIG["scale"])
-        yield from points_of(TOP / given["path"], origin, exponent, given.get("shift", [0, 0, 0]))
+    return points_of_all(CONFIG)
 
 
 def reader():
@@ -72,28 +82,30 @@ def reader():
                 subprocess.run(["apt-get", *words], stdout=subprocess.DEVNULL, check=False)
 
 
-def found_by(core, where):
-    """What the reader finds at a path or an address: facts of the layer, and all points with their places in stored units."""
+def found_by(core, where, config=CONFIG, names=NAMES):
+    """What the reader finds at a path or an address: facts of the layer, and all points with their places in stored units
+    and these attributes."""
     layer = core.QgsPointCloudLayer(str(where), "survey", "ept")
     if not layer.isValid():
         return {"valid": False}, Counter()
     facts = {"valid": True, "points": layer.pointCount(), "reference system": layer.crs().authid()}
     everywhere = core.QgsGeometry.fromRect(layer.extent().buffered(1))
     points = layer.dataProvider().identify(0, everywhere, core.QgsDoubleRange(), 2**31 - 1)
-    unit, places = 10 ** CONFIG["scale"], CONFIG["offset"]
+    unit, places = 10 ** config["scale"], config["offset"]
     found = Counter()
     for point in points:
         stored = [round((point[axis] - start) * unit) for axis, start in zip("XYZ", places)]
-        found[(*stored, *(point.get(name) for name in NAMES[3:]))] += 1
+        found[(*stored, *(point.get(name) for name in names[3:]))] += 1
     return facts, found
 
 
-def differences(facts, found, wanted):
+def differences(facts, found, wanted, config=CONFIG):
     """What the reader did not find as the scans have it, one line each."""
+    system = config.get("srs")
     expected = {
         "valid": True,
         "points": sum(wanted.values()),
-        "reference system": CONFIG["srs"]["authority"] + ":" + CONFIG["srs"]["horizontal"],
+        "reference system": system["authority"] + ":" + system["horizontal"] if system else "",
     }
     for name, value in expected.items():
         if facts.get(name) != value:
@@ -103,3 +115,21 @@ def differences(facts, found, wanted):
             yield f"{kind}: " + " ".join(f"{name}={value}" for name, value in zip(NAMES, point))
         if points:
             yield f"{kind}: {sum(points.values())} in all"
+
+
+def main():
+    """Prints what this system's QGIS finds."""
+    where, config, *names = sys.argv[1:]
+    core = reader()
+    if core is None:
+        return "QGIS's Python library is missing"
+    application = core.QgsApplication([], False)
+    application.initQgis()
+    facts, found = found_by(core, where, json.loads(Path(config).read_text()), names)
+    application.exitQgis()
+    print(json.dumps({"version": core.Qgis.QGIS_VERSION, "facts": facts, "points": list(found.items())}))
+    return 0
+
+
+if __name__ == "__main__":
+    sys.exit(main())

@@ -31,7 +31,7 @@ SYNOPSES = {
     "ept-configure.1": "ept-configure [--scale K] [--bounds MARGIN] [--srs SYSTEM] FLIGHT.las..\n"
                        "ept-configure --check CONFIG\nept-configure --add CONFIG NEW.las..",
     "ept-view.1": "ept-view OUT PAGE [FROM]", "ept-points.1": "ept-points OUT las|csv|svg < POINTS > FILE",
-    "ept-alias.1": "ept-alias OUT NEW --for pdal-2|qgis-3.40",
+    "ept-alias.1": "ept-alias OUT NEW --for pdal-2|qgis",
 }
 NAMES = [(r"\./ept (?=[a-z])", "ept_tool "), (r"\btools/(configure|view|points|alias)\b", r"ept-\1"),
          (r"\(cd crates/ept_server && rt run -- (.*?)\)", r"ept_server \1"), (r"\bcrates/ept_\w+/out/(?=ept_)", "")]
