@@ -61,6 +61,7 @@ fn answer_row<R: Wait + RandomSource + AllocGlobal>(
         "folder" => folder.empty(answer),
         "file" => folder.add(text, answer),
         "query" => queries::query_row(alloc, folder, text, answer),
+        "select" => queries::select_row(alloc, folder, text, answer),
         "again" => queries::again(alloc, folder, text, answer),
         "plan" => queries::plan(alloc, folder, text, answer),
         "turns" => turns::turns(alloc, text, answer),

@@ -3,9 +3,10 @@
 use crate::escaped::push_escaped;
 use crate::folder::Folder;
 use crate::row::{RowError, cut, numbers};
+use ept_filter::{Sift, read_sift};
 use ept_http::{read_box, read_depths};
 use ept_mem::{MemSink, MemStore};
-use ept_query::{QueryError, QueryFile, QueryPlan, query, query_plan, query_tile};
+use ept_query::{QueryError, QueryFile, QueryPlan, query, query_plan, query_tile, select};
 use ept_space::{Box3, Key};
 use std::alloc::{AllocError, Global};
 use std::fmt::Write as _;
@@ -33,6 +34,33 @@ pub(crate) fn query_row(
     let mut store = folder.store(store)?;
     let mut sink = MemSink::new(alloc, SINK, numbers(alloc, sink)?);
     ask(alloc, &mut store, &question, &mut sink, answer)
+}
+
+/// `select BOX DEPTHS CLASSES TIME DIMS STORE SINK`: the number of points that pass or the refusal, and the bytes that were
+/// written.
+pub(crate) fn select_row(
+    alloc: Global,
+    folder: &Folder,
+    text: &str,
+    answer: &mut String,
+) -> Result<(), RowError> {
+    let (question, text) = question_of(text)?;
+    let (sift, text) = sift_of(text)?;
+    let (store, sink) = cut(text)?;
+    let mut store = folder.store(store)?;
+    let mut sink = MemSink::new(alloc, SINK, numbers(alloc, sink)?);
+    let Question { area, depths } = question;
+    let found = select(alloc, &mut store, &area, depths, &sift, &mut sink);
+    push_found(found, &sink, answer)
+}
+
+// The selection that a text begins with, and the rest of the text.
+fn sift_of(text: &str) -> Result<(Sift, &str), RowError> {
+    let (classes, text) = cut(text)?;
+    let (time, text) = cut(text)?;
+    let (dims, text) = cut(text)?;
+    let sift = read_sift(classes.as_bytes(), time.as_bytes(), dims.as_bytes());
+    Ok((sift.ok_or(RowError::Form)?, text))
 }
 
 /// `again BOX DEPTHS STORE`: the answers of one query that runs twice over the same store and the same sink.
@@ -66,7 +94,17 @@ fn ask(
     sink: &mut MemSink,
     answer: &mut String,
 ) -> Result<(), RowError> {
-    match query(alloc, store, &question.area, question.depths, sink) {
+    let found = query(alloc, store, &question.area, question.depths, sink);
+    push_found(found, sink, answer)
+}
+
+// Writes how many points were found, or the refusal, and the bytes that were written.
+fn push_found(
+    found: Result<u64, QueryError>,
+    sink: &MemSink,
+    answer: &mut String,
+) -> Result<(), RowError> {
+    match found {
         Ok(count) => write!(answer, "{count}")?,
         Err(error) => push_refusal(answer, &error)?,
     }
