@@ -22,7 +22,7 @@ const USAGE: &str = "usage:
 /// What is said if there is no memory, also for a sentence.
 pub const OUT_OF_MEMORY: &str = "out of memory";
 
-// What to do if a spill file fails or is damaged.
+// What to do if a spill file is damaged.
 const SPILL_ADVICE: &str = "run the same build again, or with a greater `cacheSize`";
 
 /// The files and the key that a sentence may name. What is not known, or not named, is empty.
@@ -87,7 +87,7 @@ pub(crate) fn write_refusal(
         }
         Refusal::SpillFault => write!(
             text,
-            "a spill file for {out} could not be created, written or read: {SPILL_ADVICE}"
+            "a spill file in {out}/ept-spill could not be created, written or read: its disk may be full, it may not be writable, or memory may have run out"
         ),
         Refusal::SpillDamaged => write!(
             text,
