@@ -87,7 +87,7 @@ pub(crate) fn write_refusal(
         }
         Refusal::SpillFault => write!(
             text,
-            "a spill file in {out}/ept-spill could not be created, written or read: its disk may be full, it may not be writable, or memory may have run out"
+            "a spill file in {out}/ept-spill failed: its disk may be full, it may not be writable, or memory may have run out"
         ),
         Refusal::SpillDamaged => write!(
             text,
