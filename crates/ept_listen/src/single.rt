@@ -199,9 +199,7 @@ impl<'a, R: Clock> Serving<'a, R> {
     fn join(&mut self, link: Link<'a, R>) {
         let alloc = self.host.alloc();
         let store = RealStore::new(alloc, self.host, self.out);
-        let _ = self
-            .crowd
-            .add(PollConn::new(alloc, link, store, TURNS));
+        let _ = self.crowd.add(PollConn::new(alloc, link, store, TURNS));
     }
 
     // Accepting failed: it is tried again after a pause, or the listener is closed.

@@ -62,7 +62,9 @@ impl<'a> TimedStream<'a> {
     // No head is waited for.
     fn forget_head(&mut self) -> io::Result<()> {
         match self.head.take() {
-            Some(_) => self.stream.set_read_timeout(Some(Duration::from_secs(IDLE))),
+            Some(_) => self
+                .stream
+                .set_read_timeout(Some(Duration::from_secs(IDLE))),
             None => Ok(()),
         }
     }

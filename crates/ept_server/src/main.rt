@@ -3,8 +3,6 @@
 
 use ept_listen::{Serve, serve_connections, serve_single, server_words};
 use std::alloc::{AllocError, AllocGlobal};
-use std::env;
-use std::fs;
 use std::io::{self, ErrorKind};
 use std::net::{Net, TcpListener};
 use std::process::ExitCode;
@@ -12,6 +10,7 @@ use std::random::RandomSource;
 use std::sync::Wait;
 use std::thread::Threads;
 use std::time::Clock;
+use std::{env, fs};
 
 /// All connections were served.
 const OK: u8 = 0;
@@ -30,7 +29,9 @@ fn main(rt: HostRuntime) -> ExitCode {
     // A line that can't be written changes no status.
     if status == USAGE {
         let _ = println!(rt; "error 2 usage");
-        let _ = eprintln!(rt; "ept_server: usage: ept_server [--single] [--connections N] OUT ADDRESS");
+        let _ = eprintln!(rt;
+            "ept_server: usage: ept_server [--single] [--connections N] OUT ADDRESS"
+        );
     }
     if status == MEMORY {
         let _ = eprintln!(rt; "ept_server: out of memory");
@@ -59,7 +60,9 @@ where
     R: Threads + Wait + Clock + Net + RandomSource + AllocGlobal,
 {
     if !is_finished(host, out) {
-        let _ = eprintln!(host; "ept_server: {out} holds no finished dataset: the response to every request will be 404 until it does");
+        let _ = eprintln!(host;
+            "ept_server: {out} holds no finished dataset: the response to every request will be 404 until it does"
+        );
     }
     match TcpListener::bind(host, address) {
         Ok(listener) => match serve_on(rt, host, listener, out, serve) {
