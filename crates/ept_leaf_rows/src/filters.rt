@@ -56,11 +56,7 @@ fn asked(words: &mut Words<'_>) -> Result<Option<Sift>, Miss> {
     let classes = words.word()?;
     let time = words.word()?;
     let dims = words.word()?;
-    Ok(read_sift(
-        classes.as_bytes(),
-        time.as_bytes(),
-        dims.as_bytes(),
-    ))
+    Ok(read_sift(classes.as_bytes(), time.as_bytes(), dims.as_bytes()))
 }
 
 // The classes, the time and the rows of the dimensions.
