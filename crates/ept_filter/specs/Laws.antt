@@ -1,4 +1,4 @@
--- What holds of every selection. Each statement stands on the contract of a function of `laws`.
+-- What holds of every selection. Each statement is the contract of a function of `laws`.
 use Rattle.std.specs.Prelude.{◌≡◌, ℕ, ◌⊎◌, List, filter, map}
 use Rattle.std.specs.List.{flat_map}
 use Rattle.ept_point.specs.declared.point.Point.{Point}

@@ -49,7 +49,7 @@ passes_packed sift packed =
 unfoldable pub cut_packed : Sift → List ℕ → List ℕ
 cut_packed sift packed = flat_map (part packed) (asked_rows sift.dims)
 
--- so many packed points, one after another
+-- `count` packed points, one after another
 abbrev pub packed_points : ℕ → List ℕ → List (List ℕ)
 packed_points zero bytes = []
 packed_points (suc count) bytes = take packed_width bytes ∷ packed_points count (drop packed_width bytes)

@@ -4,7 +4,7 @@ ghost use Rattle.ept_filter.specs.Dims.{AreDims};
 
 use crate::rows::DIMENSIONS;
 
-/// Dimensions in the order in which they are asked for, at least one and none twice, each by its row in the
+/// The dimensions that are asked for, in that order: at least one, and none twice. Each is its row in the
 /// table of dimensions, from 0. The entries from `len` on are 0.
 #[derive(Clone, Copy, Debug, PartialEq, Eq)]
 pub struct Dims {

@@ -5,7 +5,7 @@ ghost use Rattle.ept_filter.specs.Laws.{SelectsPoints, SiftsPoints, TextsHaveOne
 use ept_class::class_set_law;
 use ept_point::{layout_law, packed_length_law};
 
-/// Of a tile the points that pass are selected, and the dimensions that are asked for are kept of them.
+/// The points of a tile that pass are selected, and the dimensions that are asked for are kept of them.
 pub fn sift_law()
     ensures selects { SelectsPoints }
     ensures sifts { SiftsPoints }

@@ -8,7 +8,7 @@ use ept_point::PACKED_LENGTH;
 /// How many bounds the dimensions have: the start of each, and the end of the last.
 const BOUNDS: usize = DIMENSIONS + 1;
 
-/// Where the bytes of each dimension begin, and where those of the last end.
+/// The start of the bytes of each dimension, and the end of the last.
 #[derive(Drop)]
 pub(crate) struct Layout {
     starts: [usize; BOUNDS],

@@ -43,7 +43,7 @@ fn read_dims(text: &[u8]) -> Option<Dims>
     read_dim_list(text)
 }
 
-// The dimensions whose names stand in a text, with commas between them.
+// The dimensions that a text names, with commas between them.
 fn read_dim_list(text: &[u8]) -> Option<Dims>
     ensures some { IfSome result (λ dims. IsDimList text.now (asked_rows dims)) }
     ensures none { IfNone result ((dims : List ℕ) → ¬ IsDimList text.now dims) }
