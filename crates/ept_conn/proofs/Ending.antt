@@ -19,6 +19,7 @@ use Rattle.ept_conn.specs.State.{State, IsFit}
 use Rattle.ept_conn.specs.Works.{IsPlanned, IsLastOf, IsLastWord, Stops}
 use Rattle.ept_conn.specs.Ends.{has_last, EndsItself, IsCutOff, IsQueryFront, AreLastWords, IsStatus, IsBroken}
 use Rattle.ept_conn.specs.History.{turns_in, begun_of, rest_of, Goes}
+use Rattle.ept_conn.proofs.Wanted.{wants-answer}
 use Rattle.ept_conn.proofs.TurnLemmas.{some-due, idle-due}
 use Rattle.ept_conn.proofs.Sending.{answers-append, answers-none, answers-one, sent-before}
 use Rattle.ept_conn.proofs.Wanting.{IsAtRest, has-none-idle}
@@ -67,7 +68,7 @@ stopped-by served bytes sent old new cause (Tiles turn plan done) is out g words
       others = turn ∷ some.0;
       due = some.1;
       words = begun_of served (Tiles turn plan done);
-      fits = inr (record { area = plan.area; first = planned.first; second = planned.second; nodes = plan.tiles; done = done; asked = planned.is_query; plan = planned.plan_is; within = omega (arith, fit); text_is = refl });
+      fits = inr (record { area = plan.area; first = planned.first; second = planned.second; nodes = plan.tiles; done = done; wants = planned.wants; plan = planned.plan_is; within = omega (arith, fit); text_is = refl });
       text_is = ap (λ (w : List ℕ). sent ++ w) words ∙ append-nil sent ∙ all;
     }
 
@@ -95,7 +96,7 @@ hand-answers served (Tiles turn plan done) planned =
     let whole : chunks served plan.area plan.tiles ≡ chunks served plan.area (take done plan.tiles) ++ chunks served plan.area (drop done plan.tiles) =
     ap (flat_map f) (sym (take-append-drop done plan.tiles)) ∙ flat_map-append f (take done plan.tiles) (drop done plan.tiles) in
     answers-one served turn
-    ∙ ap (λ (a : Asked). answer_to served a turn.last) planned.is_query
+    ∙ wants-answer served turn.asked plan.area planned.first planned.second turn.last planned.wants
     ∙ ap (λ (p : Option (List Node)). query_answer served plan.area turn.last p) planned.plan_is
     ∙ ap (λ (w : List ℕ). h ++ (w ++ last_chunk)) whole
     ∙ joined h (chunks served plan.area (take done plan.tiles)) (chunks served plan.area (drop done plan.tiles)) last_chunk
@@ -138,7 +139,7 @@ query-split served turn others words front =
     let whole : chunks served front.area front.nodes ≡ a ++ b =
     ap (flat_map f) (sym (take-append-drop front.done front.nodes)) ∙ flat_map-append f (take front.done front.nodes) (drop front.done front.nodes) in
     let one : answer served turn ≡ h ++ ((a ++ b) ++ last_chunk) =
-    ap (λ (x : Asked). answer_to served x turn.last) front.asked
+    wants-answer served turn.asked front.area front.first front.second turn.last front.wants
     ∙ ap (λ (p : Option (List Node)). query_answer served front.area turn.last p) front.plan
     ∙ ap (λ (w : List ℕ). h ++ (w ++ last_chunk)) whole in
     let rest = answers served others in (

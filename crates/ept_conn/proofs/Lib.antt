@@ -1,5 +1,6 @@
 mod HeadEnds
 pub mod TurnLemmas
+mod Wanted
 pub mod Sending
 pub mod Wanting
 mod Plans

@@ -21,9 +21,11 @@ use Rattle.ept_conn.specs.HeadEnd.{Front, Whole, Long, Short, front}
 use Rattle.ept_conn.specs.Turns.{AreDue, IsFirst, IsNext}
 use Rattle.ept_conn.specs.Answers.{Served, chunk, chunks, last_chunk, answer_to, answer, answers, query_answer}
 use Rattle.ept_conn.specs.State.{State, IsFit, started, feeds}
+use Rattle.ept_conn.specs.Wanted.{wanted}
 use Rattle.ept_conn.specs.Works.{IsTurnsPlan, IsPlanned, hand_to, out_to, hand_at, end_at, Begins, Gets, WorksOn, Works}
 use Rattle.ept_conn.specs.Ends.{has_last}
 use Rattle.ept_conn.specs.History.{turns_in, begun_of, Goes}
+use Rattle.ept_conn.proofs.Wanted.{wants-answer}
 use Rattle.ept_conn.proofs.TurnLemmas.{next-due, next-asked}
 
 -- ---- answers and chunks
@@ -222,7 +224,7 @@ tile-goes served bytes sent before turn plan done new false over within planned 
     let whole : chunks served plan.area plan.tiles ≡ front ++ k =
     sym (ap (chunks served plan.area) (take_all (done + 1) plan.tiles (not-more done plan over))) ∙ chunks-more served plan.area plan.tiles done within in
     let answer-is : answer served turn ≡ head_text (head.Query turn.last) ++ (chunks served plan.area plan.tiles ++ last_chunk) =
-    ap (λ (a : Asked). answer_to served a turn.last) planned.is_query ∙ ap (λ (p : Option (List Node)). query_answer served plan.area turn.last p) planned.plan_is in
+    wants-answer served turn.asked plan.area planned.first planned.second turn.last planned.wants ∙ ap (λ (p : Option (List Node)). query_answer served plan.area turn.last p) planned.plan_is in
     let written : sent ++ new.out ≡ answers served before ++ answer served turn =
     ap (λ (w : List ℕ). sent ++ w) text ∙ ap (λ (w : List ℕ). w ++ (k ++ last_chunk)) all
     ∙ shifted-over (answers served before) (head_text (head.Query turn.last)) front k last_chunk
@@ -241,7 +243,7 @@ begun-goes served bytes sent before turn area first second (Some (n ∷ ns)) new
     let plan : Plan = record { area = area; tiles = n ∷ ns } in
     let there = more-at turn plan 0 (grind arith) in
     let text : new.out ≡ head_text (head.Query turn.last) ++ [] = begins.1 ∙ ap (λ (w : List ℕ). head_text (head.Query turn.last) ++ w) there.1 in
-    stays served bytes sent before turn new (Tiles turn plan 0) stands (begins.0 ∙ there.0) refl (omega arith) (record { first = first; second = second; is_query = is; plan_is = plan_is }) (ap (λ (w : List ℕ). sent ++ w) text ∙ ap (λ (w : List ℕ). w ++ (head_text (head.Query turn.last) ++ [])) all)
+    stays served bytes sent before turn new (Tiles turn plan 0) stands (begins.0 ∙ there.0) refl (omega arith) (record { first = first; second = second; wants = ap wanted is; plan_is = plan_is }) (ap (λ (w : List ℕ). sent ++ w) text ∙ ap (λ (w : List ℕ). w ++ (head_text (head.Query turn.last) ++ [])) all)
 
 got-goes : (served : Served) (bytes sent : List ℕ) (before : List Turn) (turn : Turn) (a : Asked) (new : State) → turn.asked ≡ a → Stands bytes new.held before turn → sent ≡ answers served before → Gets served turn a new → Goes served bytes sent new
 got-goes served bytes sent before turn (asked.File name) new is stands all gets =

@@ -3,7 +3,6 @@ use Rattle.std.specs.Prelude.{◌≡◌, ◌⊎◌, ℕ, ◌≤◌, List, [], �
 use Rattle.std.specs.List.{list_any}
 use Rattle.ept_space.specs.declared.box3.Box3.{Box3}
 use Rattle.ept_hier.specs.Hierarchy.{Node}
-use Rattle.ept_http.specs.declared.asked.Asked.TheVariants.{Query}
 use Rattle.ept_http.specs.declared.answer.HeadKind.TheVariants as head
 use Rattle.ept_http.specs.AnswerHead.{head_text}
 use Rattle.ept_conn.specs.declared.turn.Turn.{Turn}
@@ -13,6 +12,7 @@ use Rattle.ept_conn.specs.declared.end.End.{End}
 use Rattle.ept_conn.specs.declared.end.End.TheVariants as end
 use Rattle.ept_conn.specs.Held.{fresh, fed}
 use Rattle.ept_conn.specs.Turns.{AreDue}
+use Rattle.ept_conn.specs.Wanted.{Wants}
 use Rattle.ept_conn.specs.Answers.{Served, refusal, chunks, answers, AreAnswers}
 use Rattle.ept_conn.specs.Works.{IsLastWord}
 
@@ -40,7 +40,7 @@ pub record IsQueryFront (served : Served) (turn : Turn) (text : List ℕ) : Type
   pub second : ℕ
   pub nodes : List Node
   pub done : ℕ
-  pub asked : turn.asked ≡ Query area first second
+  pub wants : Wants turn.asked area first second
   pub plan : served.plan area first second ≡ Some nodes
   pub within : done ≤ length nodes
   pub text_is : text ≡ head_text (head.Query turn.last) ++ chunks served area (take done nodes)

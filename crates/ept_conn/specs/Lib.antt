@@ -3,6 +3,7 @@ pub mod Held
 pub mod Turns
 pub mod Judged
 pub mod Calls
+pub mod Wanted
 pub mod Answers
 pub mod Served
 pub mod State

@@ -19,6 +19,7 @@ use Rattle.ept_conn.specs.declared.hand.Hand.TheVariants.{Empty, Decided, Tiles}
 use Rattle.ept_conn.specs.declared.end.Fault.{Fault}
 use Rattle.ept_conn.specs.declared.end.Fault.TheVariants as fault
 use Rattle.ept_conn.specs.Turns.{IsNext}
+use Rattle.ept_conn.specs.Wanted.{Wants}
 use Rattle.ept_conn.specs.Answers.{Served, refusal, is_json, file_answer, chunk, last_chunk}
 use Rattle.ept_conn.specs.State.{State}
 
@@ -68,7 +69,7 @@ Gets served turn (asked.Refuse status) new = (new.hand ≡ Empty) × (new.out �
 pub record IsTurnsPlan (served : Served) (turn : Turn) (plan : Plan) : Type 0 where
   pub first : ℕ
   pub second : ℕ
-  pub is_query : turn.asked ≡ asked.Query plan.area first second
+  pub wants : Wants turn.asked plan.area first second
   pub plan_is : served.plan plan.area first second ≡ Some plan.tiles
 
 abbrev pub IsPlanned : Served → Hand → Type 0
@@ -80,7 +81,7 @@ IsPlanned served (Tiles turn plan done) = IsTurnsPlan served turn plan
 pub record IsPlanOfTurn (files : Files) (turn : Turn) (plan : Plan) : Type 0 where
   pub first : ℕ
   pub second : ℕ
-  pub is_query : turn.asked ≡ asked.Query plan.area first second
+  pub wants : Wants turn.asked plan.area first second
   pub is_plan : IsPlanFor plan.area first second plan files
 
 abbrev pub HasPlanOf : Files → Hand → Type 0

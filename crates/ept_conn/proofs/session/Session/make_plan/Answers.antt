@@ -3,6 +3,7 @@ use Rattle.ept_hier.specs.Hierarchy.{Node}
 use Rattle.ept_http.specs.declared.answer.HeadKind.TheVariants as head
 use Rattle.ept_http.specs.AnswerHead.{head_text}
 use Rattle.ept_query.specs.Parts.{Plan}
+use Rattle.ept_conn.specs.Wanted.{wanted}
 use Rattle.ept_conn.specs.Works.{Begins, hand_at, end_at}
 use Rattle.ept_http.specs.declared.asked.Asked.TheVariants as asked
 use Rattle.ept_query.specs.Planning.{IsPlanFor}
@@ -28,7 +29,7 @@ returns-in-Ok-Some-clause-plans g c = λ files told.
     tiles-plan files c.args.turn plan 0 c.begin.new.self.hand c.begin.ensures.either (record {
       first = c.args.depths.0;
       second = c.args.depths.1;
-      is_query = c.requires.asked ∙ ap (λ a. asked.Query a c.args.depths.0 c.args.depths.1) (sym area);
+      wants = ap wanted (c.requires.asked ∙ ap (λ a. asked.Query a c.args.depths.0 c.args.depths.1) (sym area));
       is_plan = subst (λ a. IsPlanFor a c.args.depths.0 c.args.depths.1 plan files) (sym area) found;
     })
 
