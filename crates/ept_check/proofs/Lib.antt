@@ -1,0 +1,5 @@
+mod Tiled
+mod Paths
+mod Apart
+mod Fits
+mod Once
