@@ -91,7 +91,7 @@ module _ (once : TileIsOfOne) (rules : Rules) (files : Files) (nodes : List Node
       winners = All-members (fit.HasNoOpenLoser rules (keys_in tiles)) tiles (λ t m. subst (λ (ks : List VoxelKey). fit.HasNoOpenLoser rules ks t) same-keys (fact t m OpenLoser));
       few_losers = All-members (fit.HasFewLosers rules (keys_in tiles)) tiles (λ t m. subst (λ (ks : List VoxelKey). fit.HasFewLosers rules ks t) same-keys (fact t m TooMany));
       passed = All-members (fit.LosesAbove rules tiles) tiles (λ t m. All-members (λ (top : Tile). is_below top.key t.key ≡ true → All (λ (p : Point). loses rules top.key.depth top.points p ≡ true) t.points) tiles (λ top n. fact t m Above top.key top.points (tile-node files nodes tiles has top n)));
-      many = All-members (fit.HasFullChildren rules tiles) tiles (λ t m o small open. subst (λ (k : ℕ). rules.threshold < k) (counted-within files nodes tiles (child t.key o) has) (fact t m Few o small (subst (λ (ks : List VoxelKey). has_child ks t.key o ≡ true) (sym same-keys) open)));
+      many = All-members (fit.HasFullChildren rules tiles) tiles (λ t m o small is-open. subst (λ (k : ℕ). rules.threshold < k) (counted-within files nodes tiles (child t.key o) has) (fact t m Few o small (subst (λ (ks : List VoxelKey). has_child ks t.key o ≡ true) (sym same-keys) is-open)));
       filled = All-members fit.IsFilled tiles (λ t m. fact t m Empty);
       in_order = All-members fit.IsInOrder tiles (λ t m. (tile-node files nodes tiles has t m).tile.form.ascend);
       once = apart-distinct tiles (IsRising-AllPairs (keys_in tiles) (subst AreAscending same-keys ascend)) (λ t m. HasDistinctIds-IsAscending t.points (tile-node files nodes tiles has t m).tile.form.ascend) apart;
@@ -139,7 +139,7 @@ module _ (once : TileIsOfOne) (rules : Rules) (files : Files) (nodes : List Node
     holds t m OpenLoser = subst (λ (ks : List VoxelKey). fit.HasNoOpenLoser rules ks t) keys-same (all-member (fit.HasNoOpenLoser rules (keys_in tiles)) t tiles is.winners m)
     holds t m TooMany = subst (λ (ks : List VoxelKey). fit.HasFewLosers rules ks t) keys-same (all-member (fit.HasFewLosers rules (keys_in tiles)) t tiles is.few_losers m)
     holds t m Above = above t m
-    holds t m Few = λ o small open. subst (λ (k : ℕ). rules.threshold < k) (sym (counted-within files nodes tiles (child t.key o) has)) (all-member (fit.HasFullChildren rules tiles) t tiles is.many m o small (subst (λ (ks : List VoxelKey). has_child ks t.key o ≡ true) (sym keys-same) open))
+    holds t m Few = λ o small is-open. subst (λ (k : ℕ). rules.threshold < k) (sym (counted-within files nodes tiles (child t.key o) has)) (all-member (fit.HasFullChildren rules tiles) t tiles is.many m o small (subst (λ (ks : List VoxelKey). has_child ks t.key o ≡ true) (sym keys-same) is-open))
     holds t m Empty = all-member fit.IsFilled t tiles is.filled m
     holds t m Twice = before t m
 

@@ -3,3 +3,7 @@ mod Paths
 mod Apart
 mod Fits
 mod Once
+mod Sets
+mod Sums
+mod Beating
+mod Masks

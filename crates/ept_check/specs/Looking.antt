@@ -1,8 +1,7 @@
 -- What is told of a node by the nodes above it and the ids so far.
-use Rattle.std.specs.Prelude.{◌≡◌, ◌<◌, ◌||◌, List, Option, Some, None, Result, Ok, Err}
+use Rattle.std.specs.Prelude.{◌≡◌, ◌<◌, ◌||◌, List, Option, Some, None}
 use Rattle.ept_point.specs.declared.point.Point.{Point}
 use Rattle.ept_point.specs.declared.id.PointId.{PointId}
-use Rattle.ept_point.specs.declared.memory.Memory.{Memory}
 use Rattle.ept_space.specs.VoxelKey.{VoxelKey}
 use Rattle.ept_grid.specs.Node.{Node as GridNode}
 use Rattle.ept_grid.specs.declared.error.GridError.{GridError}
@@ -37,9 +36,9 @@ pub record HasTaken (key : VoxelKey) (points : List Point) (old new : Seen) : Ty
   pub ids : (q : PointId) → has_id new.ids q ≡ (has_id old.ids q || is_of points q)
 
 -- what is told of points that are not those of a node
-abbrev pub fault_of : GridError → Result (Option Fault) Memory
-fault_of (grid.Outside at) = Ok (Some Outside)
-fault_of (grid.OpenLoser at) = Ok (Some OpenLoser)
-fault_of (grid.TooMany octant) = Ok (Some TooMany)
-fault_of grid.Deep = Ok None
-fault_of grid.Memory = Err tt
+abbrev pub fault_of : GridError → Option Fault
+fault_of (grid.Outside at) = Some Outside
+fault_of (grid.OpenLoser at) = Some OpenLoser
+fault_of (grid.TooMany octant) = Some TooMany
+fault_of grid.Deep = None
+fault_of grid.Memory = None

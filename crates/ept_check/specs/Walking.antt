@@ -1,5 +1,5 @@
 -- What the checker keeps on its way from node to node, and what it tells by it.
-use Rattle.std.specs.Prelude.{◌≡◌, ◌-◌, ◌^◌, ◌⊎◌, ◌==◌, ◌&&◌, ◌||◌, ℕ, zero, suc, Bool, true, false, min, List, [], ◌∷◌}
+use Rattle.std.specs.Prelude.{◌≡◌, ◌<◌, ◌≤◌, ◌-◌, ◌^◌, ◌⊎◌, ◌==◌, ◌&&◌, ◌||◌, ℕ, zero, suc, Bool, true, false, min, List, [], ◌∷◌, length, slice_index_or}
 use Rattle.std.specs.List.{All, AllPairs, list_any}
 use Rattle.std.specs.Option.{unwrap_or}
 use Rattle.std.specs.BTreeMap.{BTreeMap, get}
@@ -30,6 +30,7 @@ total_at totals key = unwrap_or (get key_cmp totals key) 0
 -- the set has the keys of the nodes, and the map what is counted at each key and below it, up to the last number of 64 bits
 pub record IsOctree (octree : Octree) : Type 0 where
   pub cube : IsCube octree.rules.cube
+  pub threshold_fits : octree.rules.threshold < 2 ^ 64 - 1
   pub in_octree : AreInOctree octree.rules octree.nodes.items
   pub keys_are : (key : VoxelKey) → contains key_cmp octree.keys key ≡ is_among (keys_of octree.nodes.items) key
   pub totals_are : (top : VoxelKey) → total_at octree.totals top ≡ min (counted_within octree.nodes.items top) (2 ^ 64 - 1)
@@ -76,8 +77,12 @@ LoseTo above key points =
 abbrev pub AreOfRules : Rules → List GridNode → Type 0
 AreOfRules rules above = All (λ (g : GridNode). g.rules ≡ rules) above
 
--- a node came to those above: of these that are above it, all stay
+-- each stands no deeper in the list than in the octree
+abbrev pub IsStack : List GridNode → Type 0
+IsStack above = (i : ℕ) (d : GridNode) → i < length above → i ≤ (slice_index_or above i d).key.depth
+
+-- a node came to those above: of these, all that are above it stay
 pub record HasCome (node : GridNode) (old new : List GridNode) : Type 0 where
   pub there : IsMember node new
-  pub stay : (g : GridNode) → IsMember g old → is_within g.key node.key ≡ true → IsMember g new
+  pub stay : (g : GridNode) → IsMember g old → is_below g.key node.key ≡ true → IsMember g new
   pub only : (g : GridNode) → IsMember g new → IsMember g old ⊎ (g ≡ node)

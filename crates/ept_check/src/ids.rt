@@ -28,7 +28,12 @@ impl Ids {
     pub(crate) fn has_none_of(&self, points: &[Point]) -> bool
         ensures { IsTrue result ↔ HaveNewIds self.now points.now }
     {
-        points.iter().all(|point| !self.has(point.id()))
+        for point in points {
+            if self.has(point.id()) {
+                return false;
+            }
+        }
+        true
     }
 
     /// The points' ids too.

@@ -13,9 +13,11 @@ use std::alloc::Global;
 use std::collections::BTreeSet;
 
 /// The key one depth above; of the root the root.
+#[tactic(auto, unfolding(ept_space::specs::VoxelKey::parent))]
 pub(crate) fn parent(key: &Key) -> Key
     ensures { result ≡ parent key.now }
 {
+    key.known();
     Key {
         depth: key.depth.saturating_sub(1),
         x: key.x / 2,
@@ -25,6 +27,7 @@ pub(crate) fn parent(key: &Key) -> Key
 }
 
 /// The octant that a key is of its parent.
+#[tactic(auto, unfolding(ept_space::specs::VoxelKey::octant_of))]
 pub(crate) fn octant_of(key: &Key) -> u8
     ensures octant { result ≡ octant_of key.now }
     ensures one_of_eight { result < 8 }
@@ -33,6 +36,7 @@ pub(crate) fn octant_of(key: &Key) -> u8
 }
 
 /// Whether a key is below `top`.
+#[tactic(auto, unfolding(ept_space::specs::VoxelKey::is_below))]
 pub(crate) fn is_below(top: &Key, key: &Key) -> bool
     ensures { result ≡ is_below top.now key.now }
 {

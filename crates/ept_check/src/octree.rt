@@ -35,7 +35,8 @@ impl Octree {
     /// The octants of a node whose children are nodes.
     pub(crate) fn mask_of(&self, key: &Key) -> u8
         requires { IsOctree self.now }
-        ensures { (o : ℕ) → o < 8 → opened result o ≡ has_child (keys_of self.now.nodes.items) key.now o }
+        ensures open { (o : ℕ) → o < 8 → opened result o ≡ has_child (keys_of self.now.nodes.items) key.now o }
+        ensures deepest { key.now.depth ≡ self.now.rules.cube.depth → result ≡ 0 }
     {
         let mut mask = 0;
         for octant in 0..OCTANTS {

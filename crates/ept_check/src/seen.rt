@@ -8,7 +8,7 @@ ghost use Rattle.ept_hier.specs.Hierarchy.{keys_of};
 ghost use Rattle.ept_fit.specs.Fit.{HasParent, LiesInBox};
 ghost use Rattle.ept_check.specs.declared.fault.Fault.{Fault};
 ghost use Rattle.ept_check.specs.Facts.{tile_of, number_of, IsFirstLack};
-ghost use Rattle.ept_check.specs.Walking.{IsOctree, AreOfRules, HasCome, has_id, is_of};
+ghost use Rattle.ept_check.specs.Walking.{IsOctree, AreOfRules, IsStack, HasCome, has_id, is_of};
 ghost use Rattle.ept_check.specs.Looking.{Finds, AreFound, IsFirstLate, HasTaken, fault_of};
 
 use crate::above::lose_to;
@@ -17,11 +17,10 @@ use crate::ids::Ids;
 use crate::octree::Octree;
 use ept_grid::{Grid, GridError, Lists};
 use ept_point::{Memory, Point};
-use ept_query::is_within;
 use ept_space::Key;
 use std::alloc::Global;
 
-/// The nodes above the next one, and perhaps others, and the ids of the points of all nodes so far.
+/// The nodes above the next one, perhaps with others, and the ids of the points of all nodes so far.
 #[derive(Drop)]
 pub(crate) struct Seen {
     pub(crate) above: Vec<Grid>,
@@ -54,11 +53,13 @@ impl Seen {
         requires parent { HasParent (keys_of octree.now.nodes.items) key.now }
         requires ascend { IsAscending points.now }
         requires of_rules { AreOfRules octree.now.rules self.old.above.items }
+        requires stack { IsStack self.old.above.items }
         ensures found { IfOk result (λ found. MatchOption found
             (AreFound octree.now self.old key.now points.now)
             (IsFirstLack (Finds octree.now self.old key.now points.now))) }
         ensures taken { IfOk result (λ found. found ≡ None → HasTaken key.now points.now self.old self.new) }
         ensures of_rules { IfOk result (λ found. found ≡ None → AreOfRules octree.now.rules self.new.above.items) }
+        ensures stack { IfOk result (λ found. found ≡ None → IsStack self.new.above.items) }
     {
         let mask = octree.mask_of(key);
         let grid = match Grid::from_tile(Lists::new(alloc), *key, &octree.rules, mask, points) {
@@ -96,14 +97,16 @@ impl Seen {
         None
     }
 
-    // One more node; of those above only they stay that are above it.
+    // One more node. Of the others at most as many stay as there are above it: those are the first, since a node above stands no
+    // deeper in the list than in the octree.
     fn take(&mut self, grid: Grid, points: &[Point]) -> Result<(), Memory>
+        requires { IsStack self.old.above.items }
+        ensures stack { OnOk result (IsStack self.new.above.items) }
         ensures above { OnOk result (HasCome grid self.old.above.items self.new.above.items) }
         ensures ids { OnOk result ((q : PointId) → has_id self.new.ids q ≡ (has_id self.old.ids q || is_of points.now q)) }
     {
         self.ids.insert_all(points)?;
-        let key = grid.key();
-        self.above.retain(|top| is_within(&top.key(), &key));
+        self.above.truncate(usize::from(grid.key().depth));
         self.above.push(grid)?;
         Ok(())
     }
@@ -112,7 +115,7 @@ impl Seen {
 // What is wrong with points that are not those of a node, unless memory ran out.
 fn fault_of(error: GridError) -> Result<Option<Fault>, Memory>
     requires { error ≢ GridError.Deep }
-    ensures { result ≡ fault_of error }
+    ensures { IfOk result (λ found. (found ≡ fault_of error) × (error ≢ GridError.Memory)) }
 {
     match error {
         GridError::Outside { .. } => Ok(Some(Fault::Outside)),

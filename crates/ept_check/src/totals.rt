@@ -1,6 +1,6 @@
 //! How many points there are at each key and below it, by the counts of the hierarchy.
 
-ghost use Rattle.std.specs.Prelude.{◌≡◌, ◌+◌, ◌-◌, ◌^◌, ◌&&◌, min, if◌then◌else◌, OnOk, IfOk};
+ghost use Rattle.std.specs.Prelude.{◌≡◌, ◌+◌, ◌-◌, ◌^◌, ◌≤◌, min, if◌then◌else◌, OnOk, IfOk};
 ghost use Rattle.ept_space.specs.VoxelKey.{VoxelKey, same_key, is_within};
 ghost use Rattle.ept_check.specs.Nodes.{counted_within};
 ghost use Rattle.ept_check.specs.Walking.{total_at};
@@ -24,6 +24,7 @@ pub(crate) fn totals_of(alloc: Global, nodes: &[(Key, u64)]) -> Result<BTreeMap<
 
 // Adds to the number of a key and of each key above it.
 fn add_up(totals: &mut BTreeMap<Key, u64>, key: &Key, count: u64) -> Result<(), Memory>
+    requires { (top : VoxelKey) → total_at totals.old top ≤ 2 ^ 64 - 1 }
     ensures { OnOk result ((top : VoxelKey) → total_at totals.new top
         ≡ min (total_at totals.old top + (if is_within top key.now then count else 0)) (2 ^ 64 - 1)) }
 {
@@ -38,6 +39,7 @@ fn add_up(totals: &mut BTreeMap<Key, u64>, key: &Key, count: u64) -> Result<(), 
 
 // Adds to the number of a key.
 fn add(totals: &mut BTreeMap<Key, u64>, key: &Key, count: u64) -> Result<(), Memory>
+    requires { (top : VoxelKey) → total_at totals.old top ≤ 2 ^ 64 - 1 }
     ensures { OnOk result ((top : VoxelKey) → total_at totals.new top
         ≡ min (total_at totals.old top + (if same_key top key.now then count else 0)) (2 ^ 64 - 1)) }
 {
