@@ -7,3 +7,5 @@ mod Sets
 mod Sums
 mod Beating
 mod Masks
+mod Padded
+mod Looks

@@ -1,11 +1,11 @@
 //! What is kept of the nodes so far, and what is wrong with the next one.
 
-ghost use Rattle.std.specs.Prelude.{◌≡◌, ◌≢◌, ◌<◌, ◌||◌, Some, None, IfOk, OnOk, IfSome, IfNone, MatchOption, All, [], false};
+ghost use Rattle.std.specs.Prelude.{◌≡◌, ◌≢◌, ◌<◌, ◌↔◌, ◌||◌, IsTrue, Some, None, IfOk, OnOk, IfSome, IfNone, MatchOption, All, [], false};
 ghost use Rattle.ept_point.specs.declared.id.PointId.{PointId};
 ghost use Rattle.ept_point.specs.Order.{IsAscending};
 ghost use Rattle.ept_sample.specs.Members.{IsMember};
 ghost use Rattle.ept_hier.specs.Hierarchy.{keys_of};
-ghost use Rattle.ept_fit.specs.Fit.{HasParent, LiesInBox};
+ghost use Rattle.ept_fit.specs.Fit.{HasParent, LiesInBox, IsFilled};
 ghost use Rattle.ept_check.specs.declared.fault.Fault.{Fault};
 ghost use Rattle.ept_check.specs.Facts.{tile_of, number_of, IsFirstLack};
 ghost use Rattle.ept_check.specs.Walking.{IsOctree, AreOfRules, IsStack, HasCome, has_id, is_of};
@@ -66,8 +66,9 @@ impl Seen {
             Ok(grid) => grid,
             Err(error) => return fault_of(error),
         };
-        if let Some(fault) = self.late_fault(octree, key, points) {
-            return Ok(Some(fault));
+        match self.late_fault(octree, key, points) {
+            Some(fault) => return Ok(Some(fault)),
+            None => {}
         }
         self.take(grid, points)?;
         Ok(None)
@@ -88,7 +89,7 @@ impl Seen {
         if !octree.has_full_children(key) {
             return Some(Fault::Few);
         }
-        if key.depth > 0 && points.is_empty() {
+        if !is_filled(key, points) {
             return Some(Fault::Empty);
         }
         if !self.ids.has_none_of(points) {
@@ -110,6 +111,13 @@ impl Seen {
         self.above.push(grid)?;
         Ok(())
     }
+}
+
+// Whether a node is the root or has a point.
+fn is_filled(key: &Key, points: &[Point]) -> bool
+    ensures { IsTrue result ↔ IsFilled (tile_of key.now points.now) }
+{
+    key.depth == 0 || !points.is_empty()
 }
 
 // What is wrong with points that are not those of a node, unless memory ran out.
