@@ -9,3 +9,5 @@ mod Beating
 mod Masks
 mod Padded
 mod Looks
+mod Told
+mod Walks

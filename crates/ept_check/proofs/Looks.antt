@@ -1,6 +1,6 @@
 -- What is found of a node by those above it and the ids so far.
-use Rattle.std.proofs.Common.{◌≡◌, ◌≢◌, ◌∙◌, ◌+◌, ◌<◌, ◌≤◌, ℕ, zero, suc, Bool, true, false, cond, ◌&&◌, ◌||◌, not, inl, inr, ◌⊎◌, List, [], ◌∷◌, ◌++◌, length, get_or, take, refl, sym, ap, subst, arith, Option, Some, None, Result, Ok, Err}
-use Rattle.std.specs.Prelude.{nat_lt, MatchOption, IfOk}
+use Rattle.std.proofs.Common.{◌≡◌, ◌≢◌, ◌∙◌, ◌+◌, ◌<◌, ◌≤◌, ℕ, zero, suc, Bool, true, false, cond, ◌==◌, ◌&&◌, ◌||◌, not, inl, inr, ◌⊎◌, List, [], ◌∷◌, ◌++◌, length, get_or, take, refl, sym, ap, subst, arith, Option, Some, None, Result, Ok, Err}
+use Rattle.std.specs.Prelude.{nat_lt, MatchOption, IfOk, IsTrue, ◌↔◌}
 use Rattle.std.specs.List.{All, position, position_or_len}
 use Rattle.std.proofs.lemmas.Bool.{false≢true, cases_lt}
 use Rattle.std.proofs.lemmas.Bool.Decides.{nat_tests}
@@ -140,6 +140,43 @@ module _ (above before : Type 0) (rules : Rules) (nodes : List Node) (key : Voxe
   late-all new Few low = full
   late-all new Empty low = filled
   late-all new Twice low = new
+
+module _ (above before : Type 0) (rules : Rules) (nodes : List Node) (key : VoxelKey) (points : List Point) (lose : above) (full : HasFullChildren rules nodes key) where
+  pub before-empty : (f : Fault) → 5 < number_of f → number_of f < 8 → Fact above before rules nodes key points f
+  before-empty Orphan low high = absurd (omega (arith, low))
+  before-empty Outside low high = absurd (omega (arith, low))
+  before-empty OpenLoser low high = absurd (omega (arith, low))
+  before-empty TooMany low high = absurd (omega (arith, low))
+  before-empty Above low high = lose
+  before-empty Few low high = full
+  before-empty Empty low high = absurd (omega (arith, high))
+  before-empty Twice low high = absurd (omega (arith, high))
+
+some-length : (n : ℕ) → (suc n == 0) ≡ true → ⊥
+some-length n e = (let none : suc n ≡ 0 = grind (arith, nat_tests) in omega (arith, none))
+
+-- a node that is not the root is filled where it has a point
+pub filled-there : (key : VoxelKey) (points : List Point) (empty : Bool) → ¬ (key.depth ≡ 0) → empty ≡ (length points == 0) → IsTrue (not empty) ↔ IsFilled (tile_of key points)
+filled-there key [] empty deep is = (
+  (λ e. absurd (by_test empty is e)),
+  (λ filled. by_filled filled),
+)
+  where
+    by_test : (b : Bool) → b ≡ true → not b ≡ true → ⊥
+    by_test true one other = cc
+    by_test false one other = cc
+
+    by_filled : IsFilled (tile_of key []) → not empty ≡ true
+    by_filled (inl same) = absurd (deep (ap (λ (k : VoxelKey). k.depth) same))
+    by_filled (inr some) = absurd some.1
+filled-there key (p ∷ points) empty deep is = (
+  (λ e. inr (p, inl refl)),
+  (λ filled. by_test empty (λ e. some-length (length points) (sym is ∙ e))),
+)
+  where
+    by_test : (b : Bool) → ¬ (b ≡ true) → not b ≡ true
+    by_test true none = absurd (none refl)
+    by_test false none = refl
 
 -- what is found where the points are none of a node
 pub err-found : (r : Result (Option Fault) Memory) (error : GridError) (P : Option Fault → Type 0) → IfOk r (λ found. (found ≡ fault_of error) × (error ≢ grid.Memory)) → (error ≢ grid.Memory → P (fault_of error)) → IfOk r P

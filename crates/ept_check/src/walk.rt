@@ -4,6 +4,8 @@ ghost use Rattle.std.specs.Prelude.{◌≡◌, ◌+◌, ◌≤◌, length, IsPer
 ghost use Rattle.ept_base.specs.Causes.{HasCauseOf};
 ghost use Rattle.ept_base.specs.Files.{SameFiles};
 ghost use Rattle.ept_base.specs.Moves.{Moves};
+ghost use Rattle.ept_space.specs.VoxelKey.{AreAscending};
+ghost use Rattle.ept_hier.specs.Hierarchy.{keys_of};
 ghost use Rattle.ept_check.specs.Folder.{HaveParents};
 ghost use Rattle.ept_check.specs.Walking.{IsOctree, AreInPreorder};
 ghost use Rattle.ept_check.specs.Verdicts.{AnswersWalk};
@@ -14,7 +16,7 @@ use crate::seen::Seen;
 use crate::verdict::Verdict;
 use ept_base::Store;
 use ept_point::Memory;
-use ept_query::tile_points;
+use ept_query::{complete_law, tile_points};
 use ept_space::Key;
 use std::alloc::Global;
 
@@ -27,6 +29,7 @@ pub(crate) fn walk<T: Store>(
     order: &[(Key, u64)],
 ) -> Result<Verdict, CheckError>
     requires sound { IsOctree octree.now }
+    requires ascend { AreAscending (keys_of octree.now.nodes.items) }
     requires parents { HaveParents octree.now.nodes.items }
     requires each { IsPermutation octree.now.nodes.items order.now }
     requires order { AreInPreorder order.now }
@@ -35,12 +38,15 @@ pub(crate) fn walk<T: Store>(
     ensures any_moment { Moves T.files T.may_leave T.moment T.image_since SameFiles store.old store.new }
     ensures cause { HasCauseOf CheckError.StoreFault (T.faults store.old) (T.faults store.new) result }
 {
+    complete_law();
     let mut seen = Seen::new(alloc);
     let mut total: u64 = 0;
     for node in order {
         let points = tile_points(alloc, store, &node.0, node.1)?;
-        if let Some(why) = seen.look(alloc, octree, &node.0, &points)? {
-            return Ok(Verdict::Unfit { key: node.0, why });
+        let found = seen.look(alloc, octree, &node.0, &points)?;
+        match found {
+            Some(why) => return Ok(Verdict::Unfit { key: node.0, why }),
+            None => {}
         }
         total = total.checked_add(node.1).ok_or(Memory)?;
     }

@@ -8,7 +8,7 @@ use Rattle.ept_grid.specs.Node.{Node as GridNode}
 use Rattle.ept_hier.specs.Hierarchy.{keys_of}
 use Rattle.ept_fit.specs.Fit.{IsInOctree}
 use Rattle.ept_check.specs.Walking.{LoseTo, HaveNewIds}
-use Rattle.ept_check.proofs.Looks.{above-boxes, before-twice, late-all}
+use Rattle.ept_check.proofs.Looks.{above-boxes, before-empty, before-twice, late-all}
 use Rattle.ept_check.proofs.seen.Seen.late_fault.Goals as goal
 
 pub lose_to-requires : goal.lose_to-requires
@@ -40,3 +40,16 @@ returns-clause-none c =
     let above = c.args.self.now.above.items in
     let lose : LoseTo above key points = subst (λ (w : List GridNode). LoseTo w key points) c.deref.ensures.value (c.if-not-lose_to.ensures.0 refl) in
     late-all (LoseTo above key points) (HaveNewIds c.args.self.now.ids points) octree.rules octree.nodes.items key points lose (c.if-not-has_full_children.ensures.0 refl) (c.if-not-is_filled.ensures.0 refl) (c.if-not-has_none_of.ensures.0 refl)
+
+pub returns-then-not-is_filled-clause-some : goal.returns-then-not-is_filled-clause-some
+returns-then-not-is_filled-clause-some c =
+    let octree = c.args.octree.now in
+    let key = c.args.key.now in
+    let points = c.args.points.now in
+    let above = c.args.self.now.above.items in
+    let lose : LoseTo above key points = subst (λ (w : List GridNode). LoseTo w key points) c.deref.ensures.value (c.if-not-lose_to.ensures.0 refl) in
+    record {
+      late = omega arith;
+      lacks = λ has. false≢true (c.if-not-is_filled.ensures.1 has);
+      before = before-empty (LoseTo above key points) (HaveNewIds c.args.self.now.ids points) octree.rules octree.nodes.items key points lose (c.if-not-has_full_children.ensures.0 refl);
+    }

@@ -1,0 +1,47 @@
+use Rattle.std.proofs.Common.{◌≡◌, ◌+◌, ◌≤◌, ◌∙◌, ℕ, List, take, length, Option, Some, None, Ok, sym, ap, subst, arith}
+use Rattle.std.specs.List.{All}
+use Rattle.std.proofs.lemmas.Result.{err_from_is_err_and}
+use Rattle.ept_base.specs.Files.{Files}
+use Rattle.ept_space.specs.VoxelKey.{VoxelKey, IsKey}
+use Rattle.ept_sample.specs.Members.{IsMember}
+use Rattle.ept_sample.proofs.Members.{all-member}
+use Rattle.ept_hier.specs.Hierarchy.{Node, keys_of}
+use Rattle.ept_query.specs.Damage.{HasTile}
+use Rattle.ept_fit.specs.Fit.{HasParent, IsInOctree}
+use Rattle.ept_check.specs.Nodes.{HasNode}
+use Rattle.ept_check.specs.Folder.{IsFirstFault}
+use Rattle.ept_check.specs.Verdicts.{AreFaultless}
+use Rattle.ept_check.proofs.Sets.{whole, item-in}
+use Rattle.ept_check.proofs.Told.{tells-from, told-back, tile-back, same-none, same-twice}
+use Rattle.ept_check.proofs.Walks.{IsSeen, seen-none, seen-more, damage-first, fault-first, all-clean, count-more, count-whole, listed, none-all, some-of, walk-refused}
+use Rattle.ept_check.proofs.walk.walk.Goals as goal
+
+pub returns-in_err-points-clause-answers : goal.returns-in_err-points-clause-answers
+returns-in_err-points-clause-answers g c =
+    let octree = c.args.octree.now in
+    let n = c.node-item.result in
+    let p = err_from_is_err_and c.from_residual-in_err-points.result c.from_residual-in_err-points.ensures.1 in
+    rw (p.1, p.2) (walk-refused octree.rules octree.nodes.items (g.T.Store.files c.args.store.now) (g.T.Store.files c.loop-node.store) n.0 n.1 c.in_err-points.field-0.0
+    (λ all is none. (
+    let keys : (key : VoxelKey) → IsMember key (keys_of octree.nodes.items) → IsKey key = λ key m. (all-member (IsInOctree octree.rules) key (keys_of octree.nodes.items) c.requires.sound.in_octree m).0 in
+    damage-first c.complete_law.ensures.once octree.rules all octree.nodes.items c.args.order.now c.requires.ascend keys c.requires.each c.requires.order c.loop-node.node-index n c.loop-node-test.true c.node-item.is c.loop-node.seen (c.loop-node.invariant.seen all is c.complete_law.ensures.once c.requires.ascend keys c.requires.each c.requires.order) c.requires.parents none))
+    c.loop-node.invariant.moves.reads c.in_err-points.ensures.refused)
+
+pub returns-in_err-points-clause-any_moment : goal.returns-in_err-points-clause-any_moment
+returns-in_err-points-clause-any_moment g c =
+    same-twice g.T.Store.files g.T.Store.may_leave g.T.Store.moment g.T.Store.image_since c.args.store.now c.loop-node.store c.tile_points.new.store c.loop-node.invariant.moves c.tile_points.ensures.any_moment
+
+pub look-requires-clause-listed : goal.look-requires-clause-listed
+look-requires-clause-listed g c =
+    listed c.args.octree.now.nodes.items c.args.order.now c.node-item.result c.requires.each (item-in c.args.order.now c.loop-node.node-index c.node-item.result c.loop-node-test.true c.node-item.is)
+
+pub look-requires-clause-parent : goal.look-requires-clause-parent
+look-requires-clause-parent g c =
+    all-member (HasParent (keys_of c.args.octree.now.nodes.items)) c.node-item.result.0 (keys_of c.args.octree.now.nodes.items) c.requires.parents
+    (listed c.args.octree.now.nodes.items c.args.order.now c.node-item.result c.requires.each (item-in c.args.order.now c.loop-node.node-index c.node-item.result c.loop-node-test.true c.node-item.is))
+
+pub loop-node-preserved : goal.loop-node-preserved
+loop-node-preserved g c = ?
+
+pub returns-clause-answers : goal.returns-clause-answers
+returns-clause-answers g c = ?
