@@ -1,5 +1,5 @@
 -- The answer that the files call for is one, and comes.
-use Rattle.std.proofs.Common.{◌≡◌, ◌≢◌, ◌∙◌, ◌<◌, ◌≤◌, ℕ, Bool, true, false, inl, inr, ◌⊎◌, ⊎_elim, List, length, map, refl, sym, ap, subst, arith, Option, Some, Result, Ok, Err, Ordering, Less, Equal, Greater}
+use Rattle.std.proofs.Common.{◌≡◌, ◌≢◌, ◌∙◌, ◌<◌, ◌≤◌, ℕ, Bool, true, false, inl, inr, ◌⊎◌, ⊎_elim, List, length, map, refl, sym, ap, subst, arith, Option, Some, None, Result, Ok, Err, Ordering, Less, Equal, Greater}
 use Rattle.std.specs.List.{All, flat_map}
 use Rattle.std.specs.List.Sorted.{IsPermutation}
 use Rattle.std.specs.Ordering.{ordering_reverse}
@@ -9,7 +9,7 @@ use Rattle.std.proofs.lemmas.List.Sorted.{length_permutation}
 use Rattle.ept_base.specs.Files.{Files, Tells}
 use Rattle.ept_point.specs.declared.point.Point.{Point}
 use Rattle.ept_space.specs.declared.cube.Rules.{Rules}
-use Rattle.ept_space.specs.VoxelKey.{VoxelKey, IsKey, IsBefore, key_cmp, same_key, AreAscending}
+use Rattle.ept_space.specs.VoxelKey.{VoxelKey, IsKey, IsBefore, root, key_cmp, same_key, AreAscending}
 use Rattle.ept_space.proofs.KeyOrder.{key_cmp_total, key_cmp-less, key_cmp-equal}
 use Rattle.ept_space.proofs.Within.{same_key-true, same_key-same}
 use Rattle.ept_sample.specs.declared.tiles.Tile.{Tile}
@@ -18,7 +18,7 @@ use Rattle.ept_sample.specs.Nodes.{node_keys, tile_at, sampled}
 use Rattle.ept_sample.specs.SamplingLaws.{CanBeSampled, EachPointIsInOneNode}
 use Rattle.ept_sample.proofs.Choices.{either}
 use Rattle.ept_sample.proofs.IdLaws.{HasDistinctIds-IsAscending}
-use Rattle.ept_sample.proofs.Members.{all-member, IsMember-map}
+use Rattle.ept_sample.proofs.Members.{all-member, IsMember-map, IsMember-contains}
 use Rattle.ept_config.specs.declared.kept.Kept.{Kept}
 use Rattle.ept_hier.specs.Hierarchy.{Node, keys_of}
 use Rattle.ept_meta.specs.Output.{rules_of}
@@ -32,9 +32,9 @@ use Rattle.ept_query.specs.declared.query_error.QueryError.TheVariants as query
 use Rattle.ept_query.specs.CompleteLaws.{CompleteHasPlan, TileIsOfOne}
 use Rattle.ept_query.specs.Damage.{HasTile}
 use Rattle.ept_query.specs.Refusals.{CallsOfPlan}
-use Rattle.ept_query.specs.Listed.{HasNodes, HasTilesOf, NodesAreOfOne, NodesAreInOctree, PlanIsUncalled, PlanIsCalledOnce, CompleteHasNodes}
-use Rattle.ept_fit.specs.Fit.{points_in, AreFit, HasParent}
-use Rattle.ept_fit.specs.FitLaws.{SampledIsFit}
+use Rattle.ept_query.specs.Listed.{HasNodes, HasTilesOf, NodesAreOfOne, RootIsThere, NodesAreInOctree, PlanIsUncalled, PlanIsCalledOnce, CompleteHasNodes}
+use Rattle.ept_fit.specs.Fit.{keys_in, points_in, AreFit, HasParent}
+use Rattle.ept_fit.specs.FitLaws.{FitIsSampled, SampledIsFit}
 use Rattle.ept_check.specs.declared.fault.Fault.{Fault}
 use Rattle.ept_check.specs.declared.fault.Fault.TheVariants.{Orphan, Outside, OpenLoser, TooMany, Above, Few, Empty, Twice}
 use Rattle.ept_check.specs.declared.verdict.Verdict.{Verdict}
@@ -46,10 +46,11 @@ use Rattle.ept_check.specs.Facts.{number_of, Holds, IsFirstLack}
 use Rattle.ept_check.specs.Folder.{IsFit, HaveParents, IsFirstOrphan, IsFaultless, IsFirstFault, IsFirstDamage, IsUnfit}
 use Rattle.ept_check.specs.Answers.{Answer, IsOfNodes, CallsFor, IsCalledFor, ComesOrFails, ComesAsCalled}
 use Rattle.ept_check.specs.Causes.{of_query}
-use Rattle.ept_check.specs.Verdicts.{AreFaultless}
-use Rattle.ept_check.proofs.Tiled.{count-once, node-once, counted-all}
+use Rattle.ept_check.specs.Verdicts.{AreFaultless, AnswersFolder}
+use Rattle.ept_check.proofs.Tiled.{tiled-keys, count-once, node-once, counted-all}
+use Rattle.ept_fit.proofs.Keys.{member-among}
 use Rattle.ept_check.proofs.Paths.{one-first}
-use Rattle.ept_check.proofs.Fits.{fit-faultless}
+use Rattle.ept_check.proofs.Fits.{faultless-fit, fit-faultless}
 
 told : (P : Files → Type 0) (files : Option Files) (all : Files) → files ≡ Some all → Tells P files → P all
 told P files all is tells = subst (λ (o : Option Files). Tells P o) is tells
@@ -258,3 +259,60 @@ module _ (once : TileIsOfOne) (law : SampledIsFit) (one-list : NodesAreOfOne) (o
   answer-comes files (Err StoreFault) told' = λ all is answer called. inr (inl refl)
   answer-comes files (Err (Damaged file)) told' = λ all is answer called. inl (called-once all (Err (Damaged file)) answer (told (CallsFor (Err (Damaged file))) files all is told') called)
   answer-comes files (Err Memory) told' = λ all is answer called. inr (inr refl)
+
+-- ---- what is told of the nodes is called for
+
+module _ (once : TileIsOfOne) (sampled-law : FitIsSampled) (octree : NodesAreInOctree) (there : RootIsThere) where
+  fit-of : (files : Files) (points count : ℕ) → IsOfNodes (λ rules nodes. AreFaultless rules files nodes points count) files → CallsFor (Ok (Fit points count)) files
+  fit-of files points count x =
+      let kept = x.2.plan.build.0 in
+      let ascend = (x.2.plan.tiles kept x.2.plan.build.1).ascend in
+      let o = octree files x.0 x.1 x.2 in
+      (x.0, x.1, x.2, faultless-fit once x.0 files x.1 o.0 ascend o.1 (member-among (keys_of x.1) root (IsMember-contains root (keys_of x.1) (there files x.0 x.1 x.2))) points count x.3 sampled-law)
+
+  pub folder-called : (files : Option Files) (r : Answer) → AnswersFolder files r → IsCalledFor files r
+  folder-called None (Ok (Fit points count)) told' = tt
+  folder-called (Some all) (Ok (Fit points count)) told' = fit-of all points count told'
+  folder-called files (Ok (Unfit key why)) told' = told'
+  folder-called files (Err NotComplete) told' = told'
+  folder-called files (Err StoreFault) told' = tt
+  folder-called files (Err (Damaged file)) told' = told'
+  folder-called files (Err Memory) told' = tt
+
+-- ---- a complete folder
+
+module _ (once : TileIsOfOne) (law : SampledIsFit) (sampled-law : FitIsSampled) (can : PointsCanBeSampled) (one-node : EachPointIsInOneNode) (complete : CompleteHasNodes) (kept : Kept) (points : List Point) (files : Files) (whole : IsComplete kept points files) where
+  pub fit-complete : (rules : Rules) (nodes : List Node) → HasNodes rules nodes files → IsFit rules files nodes (length points) (length (node_keys (rules_of kept) points))
+  unfolding sampled
+  fit-complete rules nodes has =
+      let known = complete kept points files whole rules nodes has in
+      let may = can kept points whole.points_are.inside (HasDistinctIds-IsAscending points whole.points_are.ascend) in
+      let fits = law (rules_of kept) points may in
+      let is = sampled-law (rules_of kept) (sampled (rules_of kept) points) fits in
+      let keys = tiled-keys files nodes (sampled (rules_of kept) points) known.1 in
+      let of-nodes : length (keys_of nodes) ≡ length nodes = length-map nodes (λ (n : Node). n.0) in
+      let of-tiles : length (keys_in (sampled (rules_of kept) points)) ≡ length (sampled (rules_of kept) points) = length-map (sampled (rules_of kept) points) (λ (t : Tile). t.key) in
+      let of-keys : length (sampled (rules_of kept) points) ≡ length (node_keys (rules_of kept) points) = length-map (node_keys (rules_of kept) points) (tile_at (rules_of kept) points) in
+      subst (λ (r : Rules). IsFit r files nodes (length points) (length (node_keys (rules_of kept) points))) (sym known.0) (record {
+        tiles = sampled (rules_of kept) points;
+        there = known.1;
+        can = is.0;
+        sampling = is.1;
+        points_are = sym (length_permutation points (points_in (sampled (rules_of kept) points)) (one-node (rules_of kept) points may));
+        count_is = sym of-keys ∙ (sym of-tiles ∙ (ap (λ (ks : List VoxelKey). length ks) keys ∙ of-nodes));
+      })
+
+  module _ (one-list : NodesAreOfOne) (octree : NodesAreInOctree) (uncalled : PlanIsUncalled) (plan-once : PlanIsCalledOnce) (has-plan : CompleteHasPlan) where
+    one-answer : (r : Answer) → CallsFor r files → r ≡ Ok (Fit (length points) (length (node_keys (rules_of kept) points)))
+    one-answer r called = by_side (either-of files r called)
+      where
+        by_side : IsEither files r → r ≡ Ok (Fit (length points) (length (node_keys (rules_of kept) points)))
+        by_side (inl x) = (let plan = has-plan kept points files whole EVERYWHERE 0 32 in absurd (uncalled files plan.0 plan.1 x.0 x.2))
+        by_side (inr x) = called-once once law one-list octree uncalled plan-once files r (Ok (Fit (length points) (length (node_keys (rules_of kept) points)))) called (x.0, x.1, x.2, fit-complete x.0 x.1 x.2)
+
+    pub complete-answer : (before : Option Files) (r : Answer) → before ≡ Some files → IsCalledFor before r → ComesOrFails (Ok (Fit (length points) (length (node_keys (rules_of kept) points)))) r
+    complete-answer before (Ok verdict) is told' = inl (one-answer (Ok verdict) (told (CallsFor (Ok verdict)) before files is told'))
+    complete-answer before (Err NotComplete) is told' = inl (one-answer (Err NotComplete) (told (CallsFor (Err NotComplete)) before files is told'))
+    complete-answer before (Err StoreFault) is told' = inr (inl refl)
+    complete-answer before (Err (Damaged file)) is told' = inl (one-answer (Err (Damaged file)) (told (CallsFor (Err (Damaged file))) before files is told'))
+    complete-answer before (Err Memory) is told' = inr (inr refl)

@@ -58,7 +58,7 @@ lack-as A A' B B' rules nodes key points to-above from-above to-before from-befo
 -- ---- what is kept on the way
 
 module _ (once : TileIsOfOne) (rules : Rules) (files : Files) (nodes order : List Node) (ascend : AreAscending (keys_of nodes)) (are_keys : (key : VoxelKey) → IsMember key (keys_of nodes) → IsKey key) (each : IsPermutation nodes order) (sorted : AreInPreorder order) where
-  in-nodes : (n : Node) → IsMember n order → IsMember n nodes
+  pub in-nodes : (n : Node) → IsMember n order → IsMember n nodes
   in-nodes n m = IsMember-contains n nodes (Contains-permutation order nodes n (IsPermutation-sym nodes order each) (contains-IsMember n order m))
 
   in-order : (n : Node) → IsMember n nodes → IsMember n order
@@ -324,11 +324,11 @@ abbrev pub Sees : Rules → Files → List Node → List Node → ℕ → Seen �
 Sees rules files nodes order i seen =
     (once : TileIsOfOne) (ascend : AreAscending (keys_of nodes)) (are_keys : (key : VoxelKey) → IsMember key (keys_of nodes) → IsKey key) (each : IsPermutation nodes order) (sorted : AreInPreorder order) → IsSeen once rules files nodes order ascend are_keys each sorted i seen
 
-pub none-all : {A : Type 0} {B : Fault → Type 0} (o : Option Fault) → o ≡ None → MatchOption o A B → A
-none-all {A} {B} o is found = subst (λ (x : Option Fault). MatchOption x A B) is found
+pub none-all : (A : Type 0) (B : Fault → Type 0) (o : Option Fault) → o ≡ None → MatchOption o A B → A
+none-all A B o is found = subst (λ (x : Option Fault). MatchOption x A B) is found
 
-pub some-of : {A : Type 0} {B : Fault → Type 0} (o : Option Fault) (why : Fault) → o ≡ Some why → MatchOption o A B → B why
-some-of {A} {B} o why is found = subst (λ (x : Option Fault). MatchOption x A B) is found
+pub some-of : (A : Type 0) (B : Fault → Type 0) (o : Option Fault) (why : Fault) → o ≡ Some why → MatchOption o A B → B why
+some-of A B o why is found = subst (λ (x : Option Fault). MatchOption x A B) is found
 
 pub walk-refused : (rules : Rules) (nodes : List Node) (before now : Option Files) (key : VoxelKey) (count : ℕ) (error : QueryError) → ((all : Files) → before ≡ Some all → HasNoTile all key count → IsFirstDamage rules all nodes key) → StepsBy SameFiles before now → RefusesReading (file.Tile key) (λ all. HasNoTile all key count) now error → AnswersWalk rules nodes before (Err (of_query error))
 walk-refused rules nodes before now key count query.NotComplete first steps refused = absurd refused

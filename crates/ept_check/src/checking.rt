@@ -27,7 +27,9 @@ use crate::verdict::Verdict;
 use crate::walk::walk;
 use ept_base::Store;
 use ept_fit::fit_law;
+use ept_meta::output_once_law;
 use ept_query::{AllNodes, EVERYWHERE, all_nodes, complete_law, nodes_law};
+use ept_sample::point_law;
 use std::alloc::Global;
 
 /// Whether a finished folder is the sampling of its own points: reads the build file and the hierarchy, then the tiles in
@@ -54,6 +56,8 @@ pub fn check<T: Store>(alloc: Global, store: &mut T) -> Result<Verdict, CheckErr
     complete_law();
     nodes_law();
     fit_law();
+    output_once_law();
+    point_law();
     judge(alloc, store)
 }
 

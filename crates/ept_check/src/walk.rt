@@ -15,7 +15,6 @@ use crate::octree::Octree;
 use crate::seen::Seen;
 use crate::verdict::Verdict;
 use ept_base::Store;
-use ept_point::Memory;
 use ept_query::{complete_law, tile_points};
 use ept_space::Key;
 use std::alloc::Global;
@@ -48,7 +47,10 @@ pub(crate) fn walk<T: Store>(
             Some(why) => return Ok(Verdict::Unfit { key: node.0, why }),
             None => {}
         }
-        total = total.checked_add(node.1).ok_or(Memory)?;
+        let Some(sum) = total.checked_add(node.1) else {
+            return Err(CheckError::Memory);
+        };
+        total = sum;
     }
     Ok(Verdict::Fit {
         points: total,
