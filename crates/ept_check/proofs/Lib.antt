@@ -11,3 +11,4 @@ mod Padded
 mod Looks
 mod Told
 mod Walks
+mod Backs

@@ -13,6 +13,7 @@ use Rattle.std.proofs.lemmas.List.Folds.{list_any-append}
 use Rattle.ept_point.specs.declared.point.Point.{Point}
 use Rattle.ept_point.specs.declared.id.PointId.{PointId}
 use Rattle.ept_point.specs.Order.{id}
+use Rattle.ept_space.specs.declared.cube.Rules.{Rules}
 use Rattle.ept_space.specs.VoxelKey.{VoxelKey, IsKey, IsBefore, AreAscending, same_key, key_cmp, child, parent}
 use Rattle.ept_space.proofs.Family.{depth-child}
 use Rattle.ept_space.proofs.Ascending.{ascend-at}
@@ -200,3 +201,9 @@ id-more points i p q mid new first within at was put =
     assoc : (a b c : Bool) → ((a || b) || c) ≡ (a || (b || c))
     assoc true b c = refl
     assoc false b c = refl
+
+pub octree-keys : (rules : Rules) (nodes : List Node) → All IsKey (keys_of nodes) → All (λ (n : Node). n.0.depth ≤ rules.cube.depth) nodes → All (IsInOctree rules) (keys_of nodes)
+octree-keys rules nodes keys low =
+    All-members (IsInOctree rules) (keys_of nodes) (λ key m. (
+    let n = member-map (λ (x : Node). x.0) key nodes m in
+    (all-member IsKey key (keys_of nodes) keys m, subst (λ (k : VoxelKey). k.depth ≤ rules.cube.depth) n.2 (all-member (λ (x : Node). x.0.depth ≤ rules.cube.depth) n.0 nodes low n.1))))

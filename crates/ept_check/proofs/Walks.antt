@@ -45,7 +45,7 @@ use Rattle.ept_check.proofs.Tiled.{count-once, node-once}
 
 -- ---- the facts, told in two ways
 
-lack-as : (A A' B B' : Type 0) (rules : Rules) (nodes : List Node) (key : VoxelKey) (points : List Point) → (A → A') → (A' → A) → (B → B') → (B' → B) → (f : Fault) → Fact A B rules nodes key points f → Fact A' B' rules nodes key points f
+pub lack-as : (A A' B B' : Type 0) (rules : Rules) (nodes : List Node) (key : VoxelKey) (points : List Point) → (A → A') → (A' → A) → (B → B') → (B' → B) → (f : Fault) → Fact A B rules nodes key points f → Fact A' B' rules nodes key points f
 lack-as A A' B B' rules nodes key points to-above from-above to-before from-before Orphan h = h
 lack-as A A' B B' rules nodes key points to-above from-above to-before from-before Outside h = h
 lack-as A A' B B' rules nodes key points to-above from-above to-before from-before OpenLoser h = h

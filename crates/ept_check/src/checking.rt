@@ -68,6 +68,7 @@ fn judge<T: Store>(alloc: Global, store: &mut T) -> Result<Verdict, CheckError>
     ensures any_moment { Moves T.files T.may_leave T.moment T.image_since SameFiles store.old store.new }
     ensures cause { HasCauseOf CheckError.StoreFault (T.faults store.old) (T.faults store.new) result }
 {
+    nodes_law();
     let all = all_nodes(alloc, store)?;
     judge_nodes(alloc, store, all)
 }
@@ -79,6 +80,7 @@ fn judge_nodes<T: Store>(
     all: AllNodes,
 ) -> Result<Verdict, CheckError>
     requires shallow { All (λ (n : Node). n.0.depth ≤ all.rules.cube.depth) all.nodes.items }
+    requires threshold { all.rules.threshold ≤ 2147483648 }
     requires ascend { AreAscending (keys_of all.nodes.items) }
     ensures answers { AnswersNodes all.rules all.nodes.items (T.files store.old) result }
     ensures gets { T.gets store.new ≤ T.gets store.old + length all.nodes.items }

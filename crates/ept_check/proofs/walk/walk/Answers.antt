@@ -101,5 +101,17 @@ returns-clause-answers g c =
       parents = c.requires.parents;
       each = all-clean once octree.rules all nodes c.args.order.now c.requires.ascend keys c.requires.each c.requires.order c.loop-node.node-index c.loop-node.seen (c.loop-node.invariant.seen all is once c.requires.ascend keys c.requires.each c.requires.order) all-of;
       points_are = count-whole nodes c.args.order.now c.loop-node.node-index c.loop-node.total c.requires.each all-of c.loop-node.invariant.total;
-      count_is = c.len.ensures;
+      count_is = (let len = c.len.ensures in let size = c.args.octree.now.nodes.ok in omega (arith, len, size.0));
     }))
+
+pub returns-in_err-found-clause-any_moment : goal.returns-in_err-found-clause-any_moment
+returns-in_err-found-clause-any_moment g c =
+    same-twice g.T.Store.files g.T.Store.may_leave g.T.Store.moment g.T.Store.image_since c.args.store.now c.loop-node.store c.tile_points.new.store c.loop-node.invariant.moves c.tile_points.ensures.any_moment
+
+pub returns-in-Some-clause-any_moment : goal.returns-in-Some-clause-any_moment
+returns-in-Some-clause-any_moment g c =
+    same-twice g.T.Store.files g.T.Store.may_leave g.T.Store.moment g.T.Store.image_since c.args.store.now c.loop-node.store c.tile_points.new.store c.loop-node.invariant.moves c.tile_points.ensures.any_moment
+
+pub returns-in_default-clause-any_moment : goal.returns-in_default-clause-any_moment
+returns-in_default-clause-any_moment g c =
+    same-twice g.T.Store.files g.T.Store.may_leave g.T.Store.moment g.T.Store.image_since c.args.store.now c.loop-node.store c.tile_points.new.store c.loop-node.invariant.moves c.tile_points.ensures.any_moment
