@@ -157,8 +157,8 @@ module _ (once : TileIsOfOne) (law : SampledIsFit) (rules : Rules) (files : File
   unfit-damage a b why (inl orphan) damage = orphan.1.orphan (all-member (HasParent (keys_of nodes)) a (keys_of nodes) damage.parents orphan.1.listed)
   unfit-damage a b why (inr fault) damage =
       let same = by-paths a b (in_octree a (fault-key a why fault)) (in_octree b (damage-key b damage))
-        (λ less. fault-against a why fault (damage.before a (fault-key a why fault) less))
-        (λ less. (let f = fault.before b (damage-key b damage) less in damage-there b f.points damage f.has)) in
+      (λ less. fault-against a why fault (damage.before a (fault-key a why fault) less))
+      (λ less. (let f = fault.before b (damage-key b damage) less in damage-there b f.points damage f.has)) in
       damage-there b fault.points damage (subst (λ (k : VoxelKey). HasNode files nodes k fault.points) same fault.has)
 
   damage-once : (a b : VoxelKey) → IsFirstDamage rules files nodes a → IsFirstDamage rules files nodes b → a ≡ b
@@ -173,8 +173,8 @@ module _ (once : TileIsOfOne) (law : SampledIsFit) (rules : Rules) (files : File
   unfit-once a b v w (inr one) (inl other) = absurd (other.1.orphan (all-member (HasParent (keys_of nodes)) b (keys_of nodes) one.parents other.1.listed))
   unfit-once a b v w (inr one) (inr other) =
       let same = by-paths a b (in_octree a (fault-key a v one)) (in_octree b (fault-key b w other))
-        (λ less. fault-against a v one (other.before a (fault-key a v one) less))
-        (λ less. fault-against b w other (one.before b (fault-key b w other) less)) in
+      (λ less. fault-against a v one (other.before a (fault-key a v one) less))
+      (λ less. fault-against b w other (one.before b (fault-key b w other) less)) in
       let has : HasNode files nodes b one.points = subst (λ (k : VoxelKey). HasNode files nodes k one.points) same one.has in
       let points = node-once once files nodes ascend b one.points other.points has other.has in
       let lack : IsFirstLack (Holds rules files nodes b other.points) v = subst (λ (ps : List Point). IsFirstLack (Holds rules files nodes b ps) v) points (subst (λ (k : VoxelKey). IsFirstLack (Holds rules files nodes k one.points) v) same one.lack) in

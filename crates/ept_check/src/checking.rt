@@ -74,11 +74,7 @@ fn judge<T: Store>(alloc: Global, store: &mut T) -> Result<Verdict, CheckError>
 }
 
 // What is told of the nodes of a folder: the first of them without a parent, else what the walk tells.
-fn judge_nodes<T: Store>(
-    alloc: Global,
-    store: &mut T,
-    all: AllNodes,
-) -> Result<Verdict, CheckError>
+fn judge_nodes<T: Store>(alloc: Global, store: &mut T, all: AllNodes) -> Result<Verdict, CheckError>
     requires shallow { All (λ (n : Node). n.0.depth ≤ all.rules.cube.depth) all.nodes.items }
     requires threshold { all.rules.threshold ≤ 2147483648 }
     requires ascend { AreAscending (keys_of all.nodes.items) }

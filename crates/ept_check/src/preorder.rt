@@ -19,9 +19,11 @@ pub(crate) fn preorder(alloc: Global, nodes: &[(Key, u64)]) -> Result<Vec<(Key, 
     ensures order { IfOk result (λ order. AreInPreorder order.items) }
 {
     let mut order = nodes.to_vec(alloc)?;
-    order.sort_by_key(|node| -> [u8; 32]
-        ensures { result ≡ padded 32 (path node.now.0) }
-    { steps_to(&node.0) })?;
+    order.sort_by_key(
+        |node| -> [u8; 32]
+            ensures { result ≡ padded 32 (path node.now.0) }
+        { steps_to(&node.0) },
+    )?;
     Ok(order)
 }
 

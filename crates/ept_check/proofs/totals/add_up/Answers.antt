@@ -28,6 +28,6 @@ loop-at-preserved c =
     let both = subst (λ (k : VoxelKey). (is_within k key ≡ true) × ((top : VoxelKey) → total_at c.add-in-loop-at.new.totals top ≡ min (total_at c.args.totals.now top + (if is_from k key top then c.args.count else 0)) most)) (sym c.parent-at.ensures) (
       is_within-trans (parent at) at key (is_within-parent at deep) c.loop-at.invariant.within,
       λ top. from-parent at key top deep c.loop-at.invariant.within c.args.count (total_at c.args.totals.now top) (total_at c.loop-at.totals top) (total_at c.add-in-loop-at.new.totals top) (c.loop-at.invariant.totals top)
-        (c.in_ok-add-2.ensures top ∙ ap (λ (k : VoxelKey). min (total_at c.loop-at.totals top + (if same_key top k then c.args.count else 0)) most) c.parent-at.ensures),
+          (c.in_ok-add-2.ensures top ∙ ap (λ (k : VoxelKey). min (total_at c.loop-at.totals top + (if same_key top k then c.args.count else 0)) most) c.parent-at.ensures),
     ) in
     record { within = both.0; totals = both.1 }
