@@ -49,11 +49,11 @@ use Rattle.ept_query.specs.Parts.{Plan}
 use Rattle.ept_query.specs.Planning.{IsSearchFor, IsPlanFor}
 use Rattle.ept_query.specs.Refusals.{RefusesPlan, CallsOfPlan, RefusesAsCalled}
 use Rattle.ept_query.specs.Complete.{IsWholePlan}
-use Rattle.ept_query.specs.Listed.{search_all, HasNodes, HasTilesOf, EverywhereIsMet, NodesAreOfOne, RootIsThere, NodesAreInOctree, PlanIsUncalled, PlanIsCalledOnce, CompleteHasNodes}
+use Rattle.ept_query.specs.Listed.{search_all, HasNodes, HasTilesOf, EverywhereIsMet, NodesAreOfOne, RootIsThere, NodesAreInOctree, PlanIsUncalled, PlanIsCalledOnce, NodesAreGot, CompleteHasNodes}
 use Rattle.ept_query.proofs.Readings.{some-is, then-is, zip-at, zip-length, each-key}
 use Rattle.ept_query.proofs.Told.{tells-from, told}
 use Rattle.ept_query.proofs.Walking.{planned-once}
-use Rattle.ept_query.proofs.Querying.{plan-query}
+use Rattle.ept_query.proofs.Querying.{plan-query, gets-tiles}
 use Rattle.ept_query.proofs.Calling.{plan-uncalled, called-once, of-plan, refusal-as}
 use Rattle.ept_query.proofs.Completing.{output-laid}
 use Rattle.ept_query.proofs.CompletePlans.{node_before, keys-rise, plans-whole, has-tiles}
@@ -212,3 +212,9 @@ complete-nodes read-back can-sample kept points files whole rules nodes has =
       subst (λ (keys : List VoxelKey). HasTilesOf files nodes (map (tile_at rules' points) keys)) same
           (tiled rules' points files nodes (λ n m. has-tiles read-back can-sample kept points files whole EVERYWHERE 0 32 (record { area = EVERYWHERE; tiles = nodes }) has.plan n (contains-IsMember n nodes m))),
     )
+
+-- ---- how many files
+
+pub nodes-got : NodesAreGot
+nodes-got files rules nodes old mid new has few more =
+    gets-tiles EVERYWHERE 0 32 (record { area = EVERYWHERE; tiles = nodes }) refl (Some files) (Some files) has.plan (λ name. refl) old mid new few more

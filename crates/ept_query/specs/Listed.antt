@@ -1,5 +1,5 @@
 -- All nodes of a folder, as its build file and its hierarchy files tell them. The folder may hold anything.
-use Rattle.std.specs.Prelude.{◌≡◌, ◌≤◌, List, Contains}
+use Rattle.std.specs.Prelude.{◌≡◌, ◌≤◌, ◌+◌, ℕ, List, length, Contains}
 use Rattle.std.specs.List.{All, AllZip}
 use Rattle.ept_base.specs.Files.{Files}
 use Rattle.ept_point.specs.declared.point.Point.{Point}
@@ -17,7 +17,7 @@ use Rattle.ept_query.specs.declared.listing.TheConstants.{EVERYWHERE}
 use Rattle.ept_query.specs.Search.{search_of, MeetsArea}
 use Rattle.ept_query.specs.declared.query_error.QueryError.{QueryError}
 use Rattle.ept_query.specs.Plan.{IsBuiltWith}
-use Rattle.ept_query.specs.Planning.{IsPlanFor}
+use Rattle.ept_query.specs.Planning.{IsPlanFor, GetsFiles, GetsAll}
 use Rattle.ept_query.specs.Refusals.{CallsOfPlan}
 use Rattle.ept_query.specs.Damage.{HasTile}
 
@@ -65,6 +65,11 @@ PlanIsUncalled =
 abbrev pub PlanIsCalledOnce : Type 0
 PlanIsCalledOnce =
     (files : Files) (one other : QueryError) → CallsOfPlan EVERYWHERE 0 32 one files → CallsOfPlan EVERYWHERE 0 32 other files → one ≡ other
+
+-- a listing and one call of `get` for each node are as many calls as a query for everything takes
+abbrev pub NodesAreGot : Type 0
+NodesAreGot =
+    (files : Files) (rules : Rules) (nodes : List Node) (old mid new : ℕ) → HasNodes rules nodes files → GetsFiles EVERYWHERE 0 32 old mid files → new ≤ mid + length nodes → GetsAll EVERYWHERE 0 32 old new files
 
 -- those of a folder that is complete for some points are the nodes of the sampling, whose tiles are there
 abbrev pub CompleteHasNodes : Type 0

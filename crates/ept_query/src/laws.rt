@@ -1,7 +1,7 @@
 //! What holds of every folder that is complete. Each law is the contract of a function that does nothing.
 
 ghost use Rattle.ept_query.specs.CompleteLaws.{CompleteHasPlan, CompleteHasTiles, PlansAreWhole, PlansAnswer, TileIsOfOne};
-ghost use Rattle.ept_query.specs.Listed.{EverywhereIsMet, NodesAreOfOne, RootIsThere, NodesAreInOctree, PlanIsUncalled, PlanIsCalledOnce, CompleteHasNodes};
+ghost use Rattle.ept_query.specs.Listed.{EverywhereIsMet, NodesAreOfOne, RootIsThere, NodesAreInOctree, PlanIsUncalled, PlanIsCalledOnce, NodesAreGot, CompleteHasNodes};
 
 use ept_hier::reading_law;
 use ept_meta::output_once_law;
@@ -31,6 +31,7 @@ pub fn nodes_law()
     ensures in_octree { NodesAreInOctree }
     ensures uncalled { PlanIsUncalled }
     ensures called_once { PlanIsCalledOnce }
+    ensures got { NodesAreGot }
     ensures complete { CompleteHasNodes }
 {
     reading_law();

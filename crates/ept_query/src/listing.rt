@@ -42,6 +42,7 @@ pub struct AllNodes {
 pub fn all_nodes<T: Store>(alloc: Global, store: &mut T) -> Result<AllNodes, QueryError>
     ensures nodes { IfOk result (λ all. Tells (HasNodes all.rules all.nodes.items) (T.files store.old)) }
     ensures shallow { IfOk result (λ all. All (λ (n : Node). n.0.depth ≤ all.rules.cube.depth) all.nodes.items) }
+    ensures threshold { IfOk result (λ all. all.rules.threshold ≤ 2147483648) }
     ensures ascend { IfOk result (λ all. AreAscending (keys_of all.nodes.items)) }
     ensures refused { IfErr result (RefusesPlan EVERYWHERE 0 32 (T.files store.old)) }
     ensures comes { RefusesAsCalled (CallsOfPlan EVERYWHERE 0 32) (T.files store.old) result }
@@ -56,6 +57,7 @@ pub fn all_nodes<T: Store>(alloc: Global, store: &mut T) -> Result<AllNodes, Que
 fn nodes_of<T: Store>(alloc: Global, store: &mut T) -> Result<AllNodes, QueryError>
     ensures nodes { IfOk result (λ all. Tells (HasNodes all.rules all.nodes.items) (T.files store.old)) }
     ensures shallow { IfOk result (λ all. All (λ (n : Node). n.0.depth ≤ all.rules.cube.depth) all.nodes.items) }
+    ensures threshold { IfOk result (λ all. all.rules.threshold ≤ 2147483648) }
     ensures ascend { IfOk result (λ all. AreAscending (keys_of all.nodes.items)) }
     ensures refused { IfErr result (RefusesPlan EVERYWHERE 0 32 (T.files store.old)) }
     ensures gets { Tells (GetsFiles EVERYWHERE 0 32 (T.gets store.old) (T.gets store.new)) (T.files store.old) }

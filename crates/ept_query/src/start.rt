@@ -33,6 +33,7 @@ pub(crate) fn search_at<T: Store>(
     ensures found { IfOk result (λ search. Tells
         (IsSearchFor area.now depths.0 depths.1 search) (T.files store.old)) }
     ensures area { IfOk result (λ search. search.area ≡ area.now) }
+    ensures threshold { IfOk result (λ search. search.threshold ≤ 2147483648) }
     ensures refused { IfErr result (RefusesStart (T.files store.old)) }
     ensures any_moment { Moves T.files T.may_leave T.moment T.image_since SameFiles store.old store.new }
     ensures gets { T.gets store.new ≤ T.gets store.old + 2 }

@@ -1,4 +1,4 @@
-use Rattle.ept_query.proofs.Listed.{everywhere-met, nodes-once, root-there, nodes-octree, plan-not-called, plan-called-once, complete-nodes}
+use Rattle.ept_query.proofs.Listed.{everywhere-met, nodes-once, root-there, nodes-octree, plan-not-called, plan-called-once, nodes-got, complete-nodes}
 use Rattle.ept_query.proofs.laws.nodes_law.Goals as goal
 
 pub returns-clause-met : goal.returns-clause-met
@@ -21,3 +21,6 @@ returns-clause-uncalled c = plan-not-called
 
 pub returns-clause-called_once : goal.returns-clause-called_once
 returns-clause-called_once c = plan-called-once
+
+pub returns-clause-got : goal.returns-clause-got
+returns-clause-got c = nodes-got

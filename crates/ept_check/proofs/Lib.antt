@@ -1,0 +1,14 @@
+mod Tiled
+mod Paths
+mod Apart
+mod Fits
+mod Once
+mod Sets
+mod Sums
+mod Beating
+mod Masks
+mod Padded
+mod Looks
+mod Told
+mod Walks
+mod Backs
