@@ -87,7 +87,9 @@ fn turn_round(task: &MockTask, order: &[u64], crowd: &mut MemCrowd) {
     for _ in 0..MOST {
         let mut is_over = true;
         for number in order {
-            if turn(task, crowd, *number as u32) != Some(Turned::Gone) {
+            // No connection has a number past 32 bits.
+            let number = u32::try_from(*number).unwrap_or(u32::MAX);
+            if turn(task, crowd, number) != Some(Turned::Gone) {
                 is_over = false;
             }
         }
