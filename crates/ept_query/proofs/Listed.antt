@@ -217,4 +217,4 @@ complete-nodes read-back can-sample kept points files whole rules nodes has =
 
 pub nodes-got : NodesAreGot
 nodes-got files rules nodes old mid new has few more =
-    gets-tiles EVERYWHERE 0 32 (record { area = EVERYWHERE; tiles = nodes }) refl (Some files) (Some files) has.plan (λ name. refl) old mid new few more
+    gets-tiles None EVERYWHERE 0 32 (record { area = EVERYWHERE; tiles = nodes }) refl (Some files) (Some files) has.plan (λ name. refl) old mid new few more
