@@ -9,4 +9,4 @@ mod new_inputs;
 mod plan;
 
 pub use error::PlanError;
-pub use plan::{Plan, make_plan};
+pub use plan::{Plan, first_plan, make_plan};

@@ -79,8 +79,16 @@ pub fn make_plan<H: Shelf>(
     }
 }
 
-// The plan of a first build.
-fn first_plan<H: Shelf>(alloc: Global, config: &Config, shelf: &mut H) -> Result<Plan, PlanError>
+/// The plan of a first build, in a folder without a checkpoint: scans all inputs.
+///
+/// # Errors
+///
+/// The refusals of [`scan`](ept_scan::scan). `Differs` never comes.
+pub fn first_plan<H: Shelf>(
+    alloc: Global,
+    config: &Config,
+    shelf: &mut H,
+) -> Result<Plan, PlanError>
     ensures found { IfOk result (IsFound (H.files shelf.old) config.now None) }
     ensures refused { IfErr result (WhyNot (H.files shelf.old) config.now None) }
     ensures asked { OpensThese (new_paths config.now None) result (H.asked shelf.old) (H.asked shelf.new) }

@@ -1,0 +1,4 @@
+pub mod AtRoot
+pub mod Below
+mod Joined
+mod Merged
