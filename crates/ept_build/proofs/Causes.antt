@@ -1,10 +1,16 @@
 -- Which refusal of a layer below was told.
-use Rattle.std.proofs.Common.{◌≡◌, ◌∙◌, inl, inr, ℕ, sym, ap, subst, Option, Some, None}
+use Rattle.std.proofs.Common.{◌≡◌, ◌∙◌, inl, inr, ℕ, ◌<◌, List, get_or, sym, ap, subst, arith, Option, Some, None}
+use Rattle.std.specs.List.{Any}
+use Rattle.std.proofs.lemmas.List.Sums.{get_or-le-sum_by}
 use Rattle.std.specs.Prelude.{Result, Err, IfErr}
 use Rattle.ept_base.specs.Files.{Tells}
 use Rattle.ept_space.specs.VoxelKey.{VoxelKey}
 use Rattle.ept_scan.specs.declared.read_error.ReadError.{ReadError}
 use Rattle.ept_scan.specs.declared.read_error.ReadError.TheVariants as read
+use Rattle.ept_node.specs.declared.error.NodeError.TheVariants as node
+use Rattle.ept_node.specs.declared.node.Node.{Node}
+use Rattle.ept_node.specs.Shown.{file_of, fault_of}
+use Rattle.ept_forest.specs.Slots.{faults_of}
 use Rattle.ept_insert.specs.declared.error.InsertError.{InsertError}
 use Rattle.ept_insert.specs.declared.error.InsertError.TheVariants as insert
 use Rattle.ept_save.specs.declared.error.SaveError.{SaveError}
@@ -82,6 +88,15 @@ phase-damaged phase.TooManyNodes key is = absurd (cc)
 phase-damaged phase.SpillFault key is = absurd (cc)
 phase-damaged (phase.SpillDamaged a b d) key is = absurd (cc)
 
+pub phase-many : (e : PhaseError) → of_phase e ≡ TooManyNodes → e ≡ phase.TooManyNodes
+phase-many (phase.Save save.StoreFault) is = absurd (cc)
+phase-many (phase.Save (save.BadCheckpoint letter)) is = absurd (cc)
+phase-many (phase.Save (save.TileDamaged other)) is = absurd (cc)
+phase-many (phase.Save save.Memory) is = absurd (cc)
+phase-many phase.TooManyNodes is = cc
+phase-many phase.SpillFault is = absurd (cc)
+phase-many (phase.SpillDamaged a b d) is = absurd (cc)
+
 pub phase-spill : (e : PhaseError) → of_phase e ≡ SpillFault → e ≡ phase.SpillFault
 phase-spill (phase.Save save.StoreFault) is = absurd (cc)
 phase-spill (phase.Save (save.BadCheckpoint letter)) is = absurd (cc)
@@ -149,3 +164,10 @@ tells-some {X} P o x is told = subst (λ (w : Option X). Tells P w) is told
 -- what holds of a refusal holds where it is answered
 pub if-refused : {T E : Type 0} (P : E → Type 0) (r : Result T E) (e : E) → r ≡ Err e → P e → IfErr r P
 if-refused P r e is holds = subst (λ (w : Result _ _). IfErr w P) (sym is) holds
+
+-- of a node that is broken by it, a spill file has failed
+pub broken-fault : {F : Type 0} (faults : F → ℕ) (nodes : List (Node F)) → Any (λ (n : Node F). (fault_of n ≡ Some node.SpillFault) × (0 < faults (file_of n))) nodes → 0 < faults_of faults nodes
+broken-fault {F} faults nodes there =
+    let one : 0 < faults (file_of there.1) = there.4.1 in
+    let same : faults (file_of (get_or nodes there.0 there.1)) ≡ faults (file_of there.1) = ap (λ (n : Node F). faults (file_of n)) there.3 in
+    omega (arith, one, same, get_or-le-sum_by (λ (n : Node F). faults (file_of n)) nodes there.0 there.1 there.2)

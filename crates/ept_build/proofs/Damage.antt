@@ -1,16 +1,22 @@
 -- Which tiles of the current checkpoint are damaged, from call to call.
-use Rattle.std.proofs.Common.{◌≡◌, ◌≢◌, ◌∙◌, ◌⊎◌, inl, inr, ℕ, ◌<◌, length, refl, sym, ap, subst, arith, Option, Some, None}
-use Rattle.std.specs.Prelude.{Result, Err}
+use Rattle.std.proofs.Common.{◌≡◌, ◌≢◌, ◌∙◌, ◌⊎◌, inl, inr, ℕ, zero, suc, ◌<◌, ◌≤◌, List, [], ◌∷◌, ◌++◌, take, length, refl, sym, ap, subst, arith, Option, Some, None}
+use Rattle.std.specs.Prelude.{Result, Err, IsSome, IsSomeAnd}
 use Rattle.ept_base.specs.Files.{Files, SameFiles, StepsBy, Tells}
 use Rattle.ept_space.specs.VoxelKey.{VoxelKey}
+use Rattle.ept_sample.specs.Members.{IsMember}
+use Rattle.ept_ckpt.specs.declared.node_line.NodeLine.{NodeLine}
+use Rattle.ept_ckpt.specs.Lookup.{line_of_key}
+use Rattle.ept_meta.specs.Output.{rules_of}
 use Rattle.ept_save.specs.Current.{Current, HasCurrent, Keeps, tile_of_line}
 use Rattle.ept_config.specs.declared.config.Config.{Config}
 use Rattle.ept_save.specs.Done.{IsDone}
-use Rattle.ept_save.specs.Loading.{HasLine, IsDamaged}
+use Rattle.ept_save.specs.Loading.{HasLine, IsDamaged, IsDamagedLine}
+use Rattle.ept_save.specs.Opening.{lines_of}
 use Rattle.ept_save.specs.Errors.{IsStores}
 use Rattle.ept_save.specs.View.{View, StandsFor}
 use Rattle.ept_save.specs.declared.error.SaveError.{SaveError}
 use Rattle.ept_save.specs.declared.error.SaveError.TheVariants as save
+use Rattle.ept_phase.specs.Loaded.{AreIntact, HasSlot, IsFirstDamaged}
 use Rattle.ept_phase.proofs.Undamaged.{damaged-before}
 use Rattle.ept_plan.specs.Plans.{inputs_by}
 use Rattle.ept_build.specs.declared.error.BuildError.{BuildError}
@@ -29,6 +35,47 @@ use Rattle.ept_build.specs.Phases.{HasDamage, IsPhaseFault, IsRoomFault, IsStore
 -- a tile is damaged as before
 pub damaged-same : (current : Current) (key : VoxelKey) (old new : Files) → SameFiles old new → IsDamaged current key new → IsDamaged current key old
 damaged-same current key old new same = damaged-before current key old new (λ line found. same (tile_of_line line))
+
+-- and is the first that is
+pub first-same : (current : Current) (slots : ℕ) (key : VoxelKey) (old new : Files) → SameFiles old new → IsFirstDamaged current slots key new → IsFirstDamaged current slots key old
+first-same current slots key old new same first = record {
+  slot = first.slot;
+  damaged = damaged-same current key old new same first.damaged;
+  before = λ line m bad. first.before line m (damaged-same current line.key new old (λ name. sym (same name)) bad);
+}
+
+pub first-damage : (current : Current) (slots : ℕ) (key : VoxelKey) (files : Option Files) → Tells (IsFirstDamaged current slots key) files → Tells (IsDamaged current key) files
+first-damage current slots key None told = tt
+first-damage current slots key (Some all) told = told.damaged
+
+-- also where there are more slots
+pub first-more : (current : Current) (slots more : ℕ) (key : VoxelKey) (files : Files) → slots ≤ more → IsFirstDamaged current slots key files → IsFirstDamaged current more key files
+first-more current slots more key files wide first = record {
+  slot = record { front = first.slot.front; line = first.slot.line; rest = first.slot.rest; lines = first.slot.lines; few = omega (arith, first.slot.few, wide); key_is = first.slot.key_is };
+  damaged = first.damaged;
+  before = first.before;
+}
+
+-- a damaged tile is that of a line
+pub damaged-line : (current : Current) (key : VoxelKey) (files : Files) → IsDamaged current key files → HasLine current key
+damaged-line None key files is = absurd is
+damaged-line (Some (letter, c)) key files is = at (line_of_key c.nodes key) is
+  where
+    at : (found : Option NodeLine) → IsSomeAnd found (λ line. IsDamagedLine (rules_of c.kept) line files) → IsSome found
+    at None is = absurd is
+    at (Some line) is = refl
+
+-- the line that has a slot is one of the first
+in_front : (front : List NodeLine) (line : NodeLine) (rest : List NodeLine) (n : ℕ) → length front < n → IsMember line (take n (front ++ line ∷ rest))
+in_front [] line rest zero low = absurd (omega (arith, low))
+in_front [] line rest (suc n) low = inl refl
+in_front (f ∷ fs) line rest zero low = absurd (omega (arith, low))
+in_front (f ∷ fs) line rest (suc n) low = inr (in_front fs line rest n (omega (arith, low)))
+
+-- where no tile of those is damaged, its own is not
+pub slot-intact : (current : Current) (slots : ℕ) (key : VoxelKey) (files : Files) → HasSlot current slots key → AreIntact current (take slots (lines_of current)) files → IsDamaged current key files → ⊥
+slot-intact current slots key files slot intact damaged =
+    intact slot.line (subst (λ (w : List NodeLine). IsMember slot.line (take slots w)) (sym slot.lines) (in_front slot.front slot.line slot.rest slots slot.few)) (subst (λ (k : VoxelKey). IsDamaged current k files) (sym slot.key_is) damaged)
 
 -- where the current checkpoint is kept, it is that of what is left
 pub kept-damage : (view : View) (key : VoxelKey) (old new : Option Files) {may : Files → Type 0} → StandsFor view old may → StepsBy (Keeps view.current) old new → HasLine view.current key → Tells (IsDamaged view.current key) new → HasDamage view.current key new

@@ -24,10 +24,10 @@ use Rattle.ept_forest.specs.Slots as forest
 use Rattle.ept_save.specs.Complete.{IsComplete}
 use Rattle.ept_save.specs.Current.{Current, HasCurrent}
 use Rattle.ept_save.specs.Done.{IsDone}
-use Rattle.ept_save.specs.Loading.{HasLine, IsDamaged}
-use Rattle.ept_save.specs.Opening.{lines_of}
+use Rattle.ept_save.specs.Loading.{IsDamaged}
 use Rattle.ept_save.specs.Sound.{IsSound}
 use Rattle.ept_save.specs.View.{View}
+use Rattle.ept_phase.specs.Loaded.{HasSlot}
 use Rattle.ept_plan.specs.declared.plan.Plan.{Plan}
 use Rattle.ept_plan.specs.Plans.{inputs_by, inserted_by, limits_by, new_paths, GoesOn, ScansAll, DiffersBy, AreRefused}
 use Rattle.ept_build.specs.declared.error.BuildError.{BuildError}
@@ -158,16 +158,15 @@ pub record IsStopped (all : Files) (config : Config) (start files : Files) : Typ
   pub few : node_count kept (take (inserted_by reached.now) points) ≤ config.max_nodes
   pub many : config.max_nodes < node_count kept (take (inserted_by reached.now + config.checkpoint) points)
 
--- The build comes to the octree of the current checkpoint: this goes on, and the inputs are accepted; the done gate is not open, or an input is new; and the checkpoint has few enough nodes. Of these the tile of a key is damaged.
+-- The build comes to the octree of the current checkpoint: this goes on, and the inputs are accepted; the done gate is not open, or an input is new. Of the nodes for which there are slots, the tile of a key is damaged.
 pub record ComesToDamage (all : Files) (config : Config) (start : Files) (current : Current) : Type 0 where
   pub goes_on : GoesOn config current
   pub points : List Point
   pub done : ScanDone
   pub scan : IsScan all config.scale (limits_by config.bounds current) config.inputs 0 points done
   pub left : ¬ IsDone start ⊎ (inputs_by current < length config.inputs)
-  pub few : length (lines_of current) ≤ config.max_nodes
   pub key : VoxelKey
-  pub has_line : HasLine current key
+  pub slot : HasSlot current config.max_nodes key
   pub damaged : IsDamaged current key start
 
 -- the new inputs are refused for this cause

@@ -1,6 +1,6 @@
 //! A build.
 
-ghost use Rattle.std.specs.Prelude.{◌≡◌, ◌⊎◌, ◌≤◌, ◌<◌, ◌+◌, ℕ, take, true, false, Some, Ok, Err, IsOk, IfOk, IfErr, OnOk, Vec, length};
+ghost use Rattle.std.specs.Prelude.{◌≡◌, ◌⊎◌, ◌≤◌, ◌<◌, ◌+◌, ℕ, take, true, false, Some, Ok, Err, IsOk, IfOk, IfErr, OnOk, Vec};
 ghost use Rattle.std.specs.declared.alloc.Global as allocators;
 ghost use Rattle.ept_base.specs.Causes.{HasCauseOf};
 ghost use Rattle.ept_base.specs.Files.{Files, SameFiles, Tells};
@@ -13,9 +13,10 @@ ghost use Rattle.ept_forest.specs.Slots as trees;
 ghost use Rattle.ept_octree.specs.Octree.{most_of, cache_of};
 ghost use Rattle.ept_save.specs.Current.{Current, HasCurrent};
 ghost use Rattle.ept_save.specs.Done.{IsDone};
-ghost use Rattle.ept_save.specs.Loading.{HasLine, IsDamaged};
-ghost use Rattle.ept_save.specs.Opening.{lines_of, IsBad};
+ghost use Rattle.ept_save.specs.Loading.{IsDamaged};
+ghost use Rattle.ept_save.specs.Opening.{IsBad};
 ghost use Rattle.ept_save.specs.View.{StandsFor};
+ghost use Rattle.ept_phase.specs.Loaded.{HasSlot, IsFirstDamaged};
 ghost use Rattle.ept_meta.specs.declared.fields.Field.{Field};
 ghost use Rattle.ept_plan.specs.Plans.{IsPlan, IsDefinite, GoesOn, DiffersBy};
 ghost use Rattle.ept_few.specs.Few.{TilesAreFew};
@@ -115,6 +116,10 @@ where
     ensures damaged { (key : VoxelKey) → result ≡ Err (BuildError.TileDamaged key) → (start : Files) → T.files store.old ≡ Some start
         → IsSettled (T.files store.old) (T.may_leave store.old)
         → (current : Current) × HasDamage current key (T.files store.new) }
+    ensures damaged_first { (start : Files) (current : Current) (key other : VoxelKey) → T.files store.old ≡ Some start
+        → HasCurrent current start → IsDamaged current key start → result ≡ Err (BuildError.TileDamaged other)
+        → IsFirstDamaged current config.now.max_nodes other start
+        × Moves T.files T.may_leave T.moment T.image_since SameFiles store.old store.new }
     ensures damaged_comes { (all start : Files) (current : Current) → H.files shelf.old ≡ Some all → T.files store.old ≡ Some start
         → HasCurrent current start → ComesToDamage all config.now start current → TellsDamage result ⊎ Fails result }
     ensures bad { (letter : Letter) → result ≡ Err (BuildError.BadCheckpoint letter)
@@ -219,8 +224,12 @@ where
     ensures damaged { (key : VoxelKey) → result.1 ≡ Err (BuildError.TileDamaged key)
         → StandsFor at.saved (T.files store.old) (T.may_leave store.old)
         → (current : Current) × HasDamage current key (T.files store.new) }
-    ensures damaged_comes { (start : Files) (key : VoxelKey) → T.files store.old ≡ Some start → HasLine at.saved.current key
-        → IsDamaged at.saved.current key start → length (lines_of at.saved.current) ≤ config.now.max_nodes
+    ensures damaged_first { (start : Files) (key other : VoxelKey) → T.files store.old ≡ Some start
+        → IsDamaged at.saved.current key start → result.1 ≡ Err (BuildError.TileDamaged other)
+        → IsFirstDamaged at.saved.current config.now.max_nodes other start
+        × Moves T.files T.may_leave T.moment T.image_since SameFiles store.old store.new }
+    ensures damaged_comes { (start : Files) (key : VoxelKey) → T.files store.old ≡ Some start
+        → HasSlot at.saved.current config.now.max_nodes key → IsDamaged at.saved.current key start
         → TellsDamage result.1 ⊎ Fails result.1 }
     ensures refused { (all start : Files) → H.files shelf.old ≡ Some all
         → Starts F.held all config.now at.saved plan.now start (T.files store.old) (T.may_leave store.old)

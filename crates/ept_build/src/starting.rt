@@ -1,6 +1,6 @@
 //! The beginning of what is left to be done: the nodes of the current checkpoint, behind a closed done gate.
 
-ghost use Rattle.std.specs.Prelude.{◌≡◌, ◌≢◌, ◌<◌, ◌≤◌, ℕ, List, Err, IfOk, IfErr, OnOk, length};
+ghost use Rattle.std.specs.Prelude.{◌≡◌, ◌≢◌, ◌<◌, ◌≤◌, ℕ, List, Err, IfOk, IfErr, OnOk, take, length};
 ghost use Rattle.ept_base.specs.Causes.{HasCauseOf};
 ghost use Rattle.ept_base.specs.Files.{Files, SameFiles, Tells};
 ghost use Rattle.ept_base.specs.Moves.{IsSettled, Moves, SameImages};
@@ -13,7 +13,7 @@ ghost use Rattle.ept_octree.specs.Octree.{forest_of, nodes_of, most_of, cache_of
 ghost use Rattle.ept_save.specs.Opening.{lines_of};
 ghost use Rattle.ept_save.specs.SoundLaws.{HasNamesOf};
 ghost use Rattle.ept_save.specs.View.{StandsFor};
-ghost use Rattle.ept_phase.specs.Loaded.{HasNoDamage};
+ghost use Rattle.ept_phase.specs.Loaded.{HasNoDamage, AreIntact, IsFirstDamaged};
 ghost use Rattle.ept_plan.specs.Plans.{IsPlan};
 ghost use Rattle.ept_build.specs.Phases.{IsBegun, HasRoom, IsTreeOf, AreLoaded, IsReady, IsOnWay, IsSoundAt, HasDamage, IsPhaseFault, IsRoomFault};
 
@@ -122,6 +122,11 @@ pub(crate) fn take_up<F: SpillFile, T: Store>(
     ensures damaged { (key : VoxelKey) → result ≡ Err (BuildError.TileDamaged key)
         → StandsFor at.old.saved (T.files store.old) (T.may_leave store.old)
         → HasDamage at.old.saved.current key (T.files store.new) }
+    ensures first_damaged { (key : VoxelKey) → result ≡ Err (BuildError.TileDamaged key)
+        → Tells (IsFirstDamaged at.old.saved.current (most_of at.old.octree) key) (T.files store.old)
+        × Moves T.files T.may_leave T.moment T.image_since SameFiles store.old store.new }
+    ensures too_many_intact { result ≡ Err BuildError.TooManyNodes
+        → Tells (AreIntact at.old.saved.current (take (most_of at.old.octree) (lines_of at.old.saved.current))) (T.files store.old) }
     ensures damaged_comes { OnOk result (Tells (HasNoDamage at.old.saved.current) (T.files store.old)) }
     ensures undamaged { (shelf start : Files)
         → IsReady shelf start at.old.saved (T.files store.old) (T.may_leave store.old)

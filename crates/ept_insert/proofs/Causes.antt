@@ -1,7 +1,13 @@
 -- Why records are not inserted.
-use Rattle.std.proofs.Common.{◌≡◌, ◌∙◌, ℕ, ◌<◌, true, Result, Ok, Err, OnOk, refl, sym, ap, subst}
+use Rattle.std.proofs.Common.{◌≡◌, ◌∙◌, ℕ, ◌<◌, true, Some, Result, Ok, Err, OnOk, refl, sym, ap, subst}
+use Rattle.std.specs.List.{Any}
 use Rattle.ept_scan.specs.declared.second_reading.Reader.{Reader}
-use Rattle.ept_scan.specs.Reader.{HasFault}
+use Rattle.ept_scan.specs.declared.read_error.ReadError.TheVariants as read
+use Rattle.ept_scan.specs.Reader.{refusal_of, HasFault}
+use Rattle.ept_node.specs.declared.error.NodeError.{NodeError}
+use Rattle.ept_node.specs.declared.error.NodeError.TheVariants as node
+use Rattle.ept_node.specs.declared.node.Node.{Node}
+use Rattle.ept_node.specs.Shown.{file_of, fault_of}
 use Rattle.ept_forest.specs.declared.forest.Forest.{Forest}
 use Rattle.ept_forest.specs.Slots as forest
 use Rattle.ept_table.specs.declared.note.Told.{Told}
@@ -61,12 +67,23 @@ from_damage work.Memory kept found at e = absurd (cc)
 
 -- workers were refused for this
 module _ {F S : Type 0} (told : Told) (node_faults : F → ℕ) (faults : S → ℕ) (nodes : Forest F) (reader : Reader S) (result : Result (Unit {0}) WorkError) where
-  pub worked_in_vain : (w : WorkError) (e : InsertError) → result ≡ Err w → e ≡ of_work w → (result ≡ Err work.TooManyNodes → IsTooMany told) → (result ≡ Err work.SourceFault → HasFault faults reader) → (told.tells ≡ true → (source number : ℕ) → result ≡ Err (work.SourceChanged source number) → ⊥) → (result ≡ Err work.SpillFault → 0 < forest.faults_of node_faults (forest.nodes_of nodes)) → (told.tells ≡ true → (kept found at : ℕ) → result ≡ Err (work.SpillDamaged kept found at) → ⊥) → IsRefused told node_faults faults nodes reader e
-  worked_in_vain w e is told_as too_many fault no_change spill no_damage = record {
+  abbrev broken_by : NodeError → Type 0
+  broken_by why = Any (λ (n : Node F). fault_of n ≡ Some why) (forest.nodes_of nodes)
+
+  abbrev failed : Type 0
+  failed = Any (λ (n : Node F). (fault_of n ≡ Some node.SpillFault) × (0 < node_faults (file_of n))) (forest.nodes_of nodes)
+
+  pub worked_in_vain : (w : WorkError) (e : InsertError) → result ≡ Err w → e ≡ of_work w → (result ≡ Err work.TooManyNodes → IsTooMany told) → (result ≡ Err work.SourceFault → HasFault faults reader)
+      → ((source number : ℕ) → result ≡ Err (work.SourceChanged source number) → refusal_of reader ≡ Some (read.SourceChanged source number)) → (told.tells ≡ true → (source number : ℕ) → result ≡ Err (work.SourceChanged source number) → ⊥)
+      → (result ≡ Err work.SpillFault → failed) → ((kept found at : ℕ) → result ≡ Err (work.SpillDamaged kept found at) → broken_by (node.SpillDamaged kept found at)) → (told.tells ≡ true → (kept found at : ℕ) → result ≡ Err (work.SpillDamaged kept found at) → ⊥)
+      → IsRefused told node_faults faults nodes reader e
+  worked_in_vain w e is told_as too_many fault changed no_change spill damaged no_damage = record {
     too_many = λ same. too_many (is ∙ ap (λ (v : WorkError). Err v) (from_too_many w (sym told_as ∙ same)));
     fault = λ same. fault (is ∙ ap (λ (v : WorkError). Err v) (from_fault w (sym told_as ∙ same)));
+    changed = λ source number same. changed source number (is ∙ ap (λ (v : WorkError). Err v) (from_change w source number (sym told_as ∙ same)));
     no_change = λ tells source number same. no_change tells source number (is ∙ ap (λ (v : WorkError). Err v) (from_change w source number (sym told_as ∙ same)));
     spill = λ same. spill (is ∙ ap (λ (v : WorkError). Err v) (from_spill w (sym told_as ∙ same)));
+    damaged = λ kept found at same. damaged kept found at (is ∙ ap (λ (v : WorkError). Err v) (from_damage w kept found at (sym told_as ∙ same)));
     no_damage = λ tells kept found at same. no_damage tells kept found at (is ∙ ap (λ (v : WorkError). Err v) (from_damage w kept found at (sym told_as ∙ same)));
   }
 

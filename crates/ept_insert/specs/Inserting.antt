@@ -1,11 +1,15 @@
 -- Records inserted by a table that is told what is known of them.
-use Rattle.std.specs.Prelude.{◌≡◌, ℕ, ◌<◌, true, List, Option, None, length, map, take, min}
+use Rattle.std.specs.Prelude.{◌≡◌, ℕ, ◌<◌, true, List, Option, Some, None, length, map, take, min}
 use Rattle.ept_sample.specs.SamplingLaws.{CanBeSampled}
 use Rattle.ept_scan.specs.declared.second_reading.Reader.{Reader}
+use Rattle.ept_scan.specs.declared.read_error.ReadError.TheVariants as read
 use Rattle.ept_scan.specs.Reader.{drawn_of, refusal_of, HasFault}
+use Rattle.ept_node.specs.declared.error.NodeError.TheVariants as node
+use Rattle.ept_node.specs.declared.node.Node.{Node}
+use Rattle.ept_node.specs.Shown.{file_of, fault_of}
 use Rattle.ept_table.specs.declared.note.Told.{Told}
 use Rattle.ept_table.specs.Shown.{IsTold, FitsReader}
-use Rattle.std.specs.List.{All}
+use Rattle.std.specs.List.{All, Any}
 use Rattle.ept_forest.specs.declared.forest.Forest.{Forest}
 use Rattle.ept_forest.specs.Slots as forest
 use Rattle.ept_table.specs.Item.{seen_reader, IsFiled, IsFiledNode}
@@ -55,6 +59,8 @@ module _ {F S : Type 0} (told : Told) (held : F → Option (List ℕ)) (node_fau
 pub record IsRefused {F S : Type 0} (told : Told) (node_faults : F → ℕ) (faults : S → ℕ) (nodes : Forest F) (reader : Reader S) (error : InsertError) : Type 0 where
   pub too_many : error ≡ TooManyNodes → IsTooMany told
   pub fault : error ≡ SourceFault → HasFault faults reader
+  pub changed : (source number : ℕ) → error ≡ SourceChanged source number → refusal_of reader ≡ Some (read.SourceChanged source number)
   pub no_change : told.tells ≡ true → (source number : ℕ) → error ≡ SourceChanged source number → ⊥
-  pub spill : error ≡ SpillFault → 0 < forest.faults_of node_faults (forest.nodes_of nodes)
+  pub spill : error ≡ SpillFault → Any (λ (n : Node F). (fault_of n ≡ Some node.SpillFault) × (0 < node_faults (file_of n))) (forest.nodes_of nodes)
+  pub damaged : (was found at : ℕ) → error ≡ SpillDamaged was found at → Any (λ (n : Node F). fault_of n ≡ Some (node.SpillDamaged was found at)) (forest.nodes_of nodes)
   pub no_damage : told.tells ≡ true → (was found at : ℕ) → error ≡ SpillDamaged was found at → ⊥

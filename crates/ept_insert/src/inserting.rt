@@ -1,12 +1,16 @@
 //! The next records, brought into the octree.
 
-ghost use Rattle.std.specs.Prelude.{◌≡◌, ◌≤◌, ◌<◌, ◌+◌, ◌++◌, ℕ, List, None, IfOk, IfErr, length, take, drop, map};
+ghost use Rattle.std.specs.Prelude.{◌≡◌, ◌≤◌, ◌<◌, ◌+◌, ◌++◌, ℕ, List, Some, None, IfOk, IfErr, length, take, drop, map};
+ghost use Rattle.std.specs.List.{Any};
 ghost use Rattle.ept_point.specs.declared.point.Point.{Point};
 ghost use Rattle.ept_space.specs.OctreeCube.{InCube};
 ghost use Rattle.ept_sample.specs.Place.{place};
 ghost use Rattle.ept_sample.specs.Nodes.{sampled};
+ghost use Rattle.ept_scan.specs.declared.read_error.ReadError.TheVariants as read;
 ghost use Rattle.ept_scan.specs.Queue.{LiesIn};
 ghost use Rattle.ept_scan.specs.Reader.{drawn_of, left_of, refusal_of, files_of, IsRest, HasFault, IsReader};
+ghost use Rattle.ept_node.specs.declared.error.NodeError.TheVariants as node;
+ghost use Rattle.ept_node.specs.Shown.{file_of, fault_of};
 ghost use Rattle.ept_table.specs.Octree.{AreSampled, KeepsNodes, entry_of};
 ghost use Rattle.ept_forest.specs.Slots as trees;
 ghost use Rattle.ept_octree.specs.Octree.{rules_of, most_of, cache_of, nodes_of, points_of, IsWhole, IsLinked, IsUnbroken, AgreesWithFiles};
@@ -86,7 +90,6 @@ pub fn insert<
         → most_of octree < length (sampled (rules_of octree) (first ++ take count left))) }
     ensures no_change { IfErr result (λ r. (source number : ℕ) → r.error ≡ InsertError.SourceChanged source number
         → (first left : List Point) → StandsBetween F.held S.whole octree reader first left → ⊥) }
-
     ensures no_damage { IfErr result (λ r. (was found at : ℕ) → r.error ≡ InsertError.SpillDamaged was found at
         → (first left : List Point) → StandsBetween F.held S.whole octree reader first left → ⊥) }
 
@@ -99,9 +102,15 @@ pub fn insert<
     ensures inside { IfOk result (λ r. (p : Point) → LiesIn (files_of S.whole r.1) p
         → InCube (rules_of octree).cube (place p)) }
     ensures reader { IfOk result (λ r. IsReader S.whole S.left S.given S.faults r.1) }
+
+    // Whose refusal it is: that of the reader, or of a node that is broken by it, whose file has failed at `SpillFault`.
     ensures fault { IfErr result (λ r. r.error ≡ InsertError.SourceFault → HasFault S.faults r.reader) }
+    ensures changed { IfErr result (λ r. (source number : ℕ) → r.error ≡ InsertError.SourceChanged source number
+        → refusal_of r.reader ≡ Some (read.SourceChanged source number)) }
     ensures spill { IfErr result (λ r. r.error ≡ InsertError.SpillFault
-        → 0 < trees.faults_of F.faults (trees.nodes_of r.forest)) }
+        → Any (λ n. (fault_of n ≡ Some node.SpillFault) × (0 < F.faults (file_of n))) (trees.nodes_of r.forest)) }
+    ensures damaged { IfErr result (λ r. (was found at : ℕ) → r.error ≡ InsertError.SpillDamaged was found at
+        → Any (λ n. fault_of n ≡ Some (node.SpillDamaged was found at)) (trees.nodes_of r.forest)) }
 {
     reader.allow(count);
     insert_told::<F, S, Brand, G, R>(rt, alloc, octree, reader, workers, gate)

@@ -3,7 +3,8 @@ mod Lining
 mod LoadedNodes
 mod Merging
 mod NextTiles
-mod Phasing
+mod OnlyChanged
+pub mod Phasing
 mod Refusing
 mod SameForest
 mod SamePoint

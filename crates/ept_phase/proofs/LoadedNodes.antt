@@ -93,6 +93,19 @@ first_taken lines zero inside told = refl
 first_taken [] (suc i) inside told = absurd (omega (arith, inside))
 first_taken (l ∷ ls) (suc i) inside told = absurd told
 
+-- nodes of which some first lines tell are as many
+told_count : (nodes : List Branch) (lines : List NodeLine) (i : ℕ) → i < length lines → TellNodes nodes (take i lines) → length nodes ≡ i
+told_count [] lines zero inside told = refl
+told_count [] [] (suc i) inside told = absurd (omega (arith, inside))
+told_count [] (l ∷ ls) (suc i) inside told = absurd told
+told_count (b ∷ bs) lines zero inside told = absurd told
+told_count (b ∷ bs) [] (suc i) inside told = absurd (omega (arith, inside))
+told_count (b ∷ bs) (l ∷ ls) (suc i) inside told = let fewer = told_count bs ls i (omega (arith, inside)) told.1 in omega (arith, fewer)
+
+none_or_some : (n : ℕ) → (n ≡ 0) ⊎ (0 < n)
+none_or_some zero = inl refl
+none_or_some (suc n) = inr (omega arith)
+
 -- what lines tell of nodes they tell of nodes that are alike
 pub alike-told : (old new : List Branch) (lines : List NodeLine) → AreAlike old new → TellNodes old lines → TellNodes new lines
 alike-told [] [] lines alike told = told
@@ -137,16 +150,46 @@ module _ (telling : Type 0) (rules : Rules) (c : Checkpoint) (items : List NodeL
   next-room tree (inl first) = inl (first-root items line octree (subst (λ (k : ℕ). get_or items k line ≡ line) first.0 is) (omega (arith, inside)))
   next-room tree (inr behind) = inr behind.1
 
-  -- and only the first is that of the root, which is in memory
-  pub next-here : {F : Type 0} (tree : Octree F) → HasPlace i tree → line.key ≡ root → 0 < residents_of tree
-  next-here tree (inl first) rooted = first.1
-  next-here tree (inr behind) rooted = absurd (root_behind items i behind.0 up inside is)
+  -- only the first is that of the root
+  not_root : 0 < i → line.key ≡ root → ⊥
+  not_root some rooted = root_behind items i some up inside is
     where
       root_behind : (ls : List NodeLine) (k : ℕ) → 0 < k → DoAscend ls → k < length ls → get_or ls k line ≡ line → ⊥
       root_behind [] k some up low at = absurd (omega (arith, low))
       root_behind (l ∷ ls) zero some up low at = absurd (omega (arith, some))
       root_behind (l ∷ ls) (suc k) some up low at =
           none_before l.key (subst (λ (w : VoxelKey). key_cmp l.key w ≡ Less) rooted (before-next (l ∷ ls) (suc k) line l up low at (inl refl)))
+
+  -- which is in memory
+  pub next-here : {F : Type 0} (tree : Octree F) → HasPlace i tree → line.key ≡ root → 0 < residents_of tree
+  next-here tree (inl first) rooted = first.1
+  next-here tree (inr behind) rooted = absurd (not_root behind.0 rooted)
+
+  -- where it has a slot, there is one for each line up to it
+  pub next-slot : (most : ℕ) → 0 < most → (line.key ≢ root → length nodes < most) → i < most
+  next-slot most some room = elim (none_or_some i) [
+    | inl none ↦ omega (arith, none, some)
+    | inr more ↦ elim at.there [
+      | inl all ↦
+          let here : length at.loaded ≡ i = told_count at.loaded items i inside at.told in
+          let less : length nodes < most = room (not_root more) in
+          let same_count : length nodes ≡ length at.loaded = ap length all in
+          omega (arith, here, less, same_count)
+      | inr first ↦
+          let none : i ≡ 0 = first_taken items i inside (subst (λ (w : List Branch). TellNodes w (take i items)) first.0 at.told) in
+          absurd (omega (arith, none, more))
+    ]
+  ]
+
+  -- where it has none, there is one for each line before it, and for no more
+  pub next-last : (most : ℕ) → (line.key ≢ root) × (most ≤ length nodes) → length nodes ≤ most → i ≡ most
+  next-last most full few = elim at.there [
+    | inl all ↦
+        let here : length at.loaded ≡ i = told_count at.loaded items i inside at.told in
+        let same_count : length nodes ≡ length at.loaded = ap length all in
+        omega (arith, here, same_count, full.1, few)
+    | inr first ↦ absurd (full.0 (alone_first first.0))
+  ]
 
   -- it is one too many only where there are more lines than there may be nodes
   pub next-full : (most : ℕ) → (line.key ≢ root) × (most ≤ length nodes) → most < length c.nodes

@@ -1,5 +1,6 @@
 -- Tiles of the current checkpoint that are not damaged, from call to call.
-use Rattle.std.proofs.Common.{◌≡◌, ◌∙◌, ◌⊎◌, inl, inr, ℕ, ◌+◌, ◌<◌, List, [], ◌∷◌, ◌++◌, take, length, get_or, sym, subst, refl, Option, Some, None, ap}
+use Rattle.std.proofs.Common.{◌≡◌, ◌∙◌, ◌⊎◌, inl, inr, ℕ, ◌+◌, ◌<◌, ◌≤◌, List, [], ◌∷◌, ◌++◌, take, drop, length, get_or, sym, subst, refl, arith, Option, Some, None, ap}
+use Rattle.std.proofs.lemmas.List.{take-append-drop, length-take-le}
 use Rattle.std.specs.Prelude.{Result, Ok, Err, IfErr, IsSomeAnd}
 use Rattle.std.specs.Option.{option_map}
 use Rattle.ept_base.specs.Files.{Files, SameFiles, SameBut, StepsBy, Tells}
@@ -16,11 +17,12 @@ use Rattle.ept_save.specs.Errors.{IsStores}
 use Rattle.ept_save.specs.Names.{gate_name}
 use Rattle.ept_save.specs.Current.{Current, IsNamed, Keeps, tile_of_line}
 use Rattle.ept_save.specs.Loading.{current_line, IsDamaged, IsDamagedLine}
+use Rattle.ept_save.specs.Opening.{lines_of}
 use Rattle.ept_save.proofs.LoadedLines.{found_stands}
 use Rattle.ept_save.proofs.NamesDiffer.{gate-tile}
 use Rattle.ept_save.proofs.Standing.{stepped}
-use Rattle.ept_phase.specs.Loaded.{HasNoDamage}
-use Rattle.ept_phase.proofs.Lining.{tells-back, tells-both, some-same, member-at, take-next}
+use Rattle.ept_phase.specs.Loaded.{HasNoDamage, AreIntact, IsFirstDamaged}
+use Rattle.ept_phase.proofs.Lining.{tells-back, tells-both, some-same, member-at, take-next, drop-next, at-current}
 use Rattle.ept_phase.proofs.SavedTo.{found-line, line-is}
 
 -- ---- the tile of a line
@@ -32,7 +34,7 @@ line-stands lines key line found =
     member-at lines at.0 line at.1 at.2
 
 -- and names a tile of the current checkpoint
-line-named : (current : Current) (key : VoxelKey) (line : NodeLine) → current_line current key ≡ Some line → IsNamed current (tile_of_line line)
+pub line-named : (current : Current) (key : VoxelKey) (line : NodeLine) → current_line current key ≡ Some line → IsNamed current (tile_of_line line)
 line-named None key line found = absurd (cc)
 line-named (Some (letter, c)) key line found =
     let at = found_stands (λ (l : NodeLine). same_key l.key key) c.nodes line found in
@@ -51,10 +53,6 @@ damaged-before (Some (letter, c)) key old new same is = at (line_of_key c.nodes 
     ]
 
 -- ---- line by line
-
--- no tile of these lines is damaged
-abbrev pub AreIntact : Current → List NodeLine → Files → Type 0
-AreIntact current lines files = (line : NodeLine) → IsMember line lines → ¬ IsDamaged current line.key files
 
 pub none-intact : (current : Current) (files : Option Files) → Tells (AreIntact current []) files
 none-intact current None = tt
@@ -106,6 +104,32 @@ all-intact current c is files intact key has damaged =
     member : (now : Current) → option_map (λ (at : Letter × Checkpoint). at.1) now ≡ Some c → {line : NodeLine} → current_line now key ≡ Some line → IsMember line c.nodes
     member None is {line} found = absurd (cc)
     member (Some (letter, d)) is {line} found = subst (λ (e : Checkpoint). IsMember line e.nodes) (some-same d c is) (line-stands d.nodes key line found)
+
+-- its lines are those of the checkpoint
+lines_are : (current : Current) (c : Checkpoint) → option_map (λ (at : Letter × Checkpoint). at.1) current ≡ Some c → lines_of current ≡ c.nodes
+lines_are current c is = let at = at-current current c is in ap lines_of at.1 ∙ ap (λ (d : Checkpoint). d.nodes) at.2
+
+-- the next line names a damaged tile, and has a slot
+pub first-damaged : (current : Current) (c : Checkpoint) → option_map (λ (at : Letter × Checkpoint). at.1) current ≡ Some c → (items : List NodeLine) → items ≡ c.nodes → (i : ℕ) (line : NodeLine) → i < length items → get_or items i line ≡ line → (slots : ℕ) → i < slots → (key : VoxelKey) → line.key ≡ key → (files : Files) → IsDamaged current key files → AreIntact current (take i items) files → IsFirstDamaged current slots key files
+first-damaged current c is_current items same i line inside is slots low key key_is files damaged before =
+    let count : length (take i items) ≡ i = length-take-le i items (let most : i ≤ length items = omega (arith, inside) in most) in
+    record {
+      slot = record {
+        front = take i items;
+        line = line;
+        rest = drop (i + 1) items;
+        lines = lines_are current c is_current ∙ (sym same ∙ (sym (take-append-drop i items) ∙ ap (λ (w : List NodeLine). take i items ++ w) (drop-next items i line inside is)));
+        few = omega (arith, count, low);
+        key_is = key_is;
+      };
+      damaged = damaged;
+      before = before;
+    }
+
+-- the lines before one that has no slot
+pub front-intact : (current : Current) (c : Checkpoint) (items : List NodeLine) → items ≡ c.nodes → (i most : ℕ) → i ≡ most → (files : Option Files) → Tells (AreIntact current (take i items)) files → Tells (AreIntact current (take most c.nodes)) files
+front-intact current c items same i most is files intact =
+    subst (λ (w : List NodeLine). Tells (AreIntact current (take most w)) files) same (subst (λ (n : ℕ). Tells (AreIntact current (take n items)) files) is intact)
 
 -- without a checkpoint there is none
 pub none-named : (current : Current) (files : Option Files) → current ≡ None → Tells (HasNoDamage current) files

@@ -1,5 +1,5 @@
 -- Saving the nodes of an octree for the next checkpoint.
-use Rattle.std.specs.Prelude.{◌≡◌, ◌⊎◌, ℕ, ◌<◌, ◌≤◌, ◌^◌, true, List, length, map, Option, Some, All}
+use Rattle.std.specs.Prelude.{◌≡◌, ◌≢◌, ◌⊎◌, ℕ, ◌<◌, ◌≤◌, ◌^◌, true, List, length, map, Option, Some, All}
 use Rattle.ept_base.specs.Files.{Files, Tells}
 use Rattle.ept_point.specs.declared.point.Point.{Point}
 use Rattle.ept_point.specs.Packed.{tile}
@@ -9,10 +9,11 @@ use Rattle.ept_ckpt.specs.declared.node_line.NodeLine.{NodeLine}
 use Rattle.ept_ckpt.specs.Octree.{is_among}
 use Rattle.ept_save.specs.Current.{Current, tile_of_line}
 use Rattle.ept_save.specs.declared.error.SaveError.TheVariants.{TileDamaged}
-use Rattle.ept_save.specs.Lines.{with_line}
+use Rattle.ept_save.specs.Lines.{free_letter, with_line}
 use Rattle.ept_save.specs.Loading.{current_line, OfLine, HasTile}
+use Rattle.ept_save.specs.Names.{gate_name, body_name, work_tile_name}
 use Rattle.ept_save.specs.Opening.{lines_of}
-use Rattle.ept_save.specs.View.{View}
+use Rattle.ept_save.specs.View.{View, next_letter}
 use Rattle.ept_table.specs.Octree.{Branch}
 use Rattle.ept_phase.specs.declared.error.PhaseError.{PhaseError}
 use Rattle.ept_phase.specs.declared.error.PhaseError.TheVariants.{Save}
@@ -25,6 +26,20 @@ IsTold current key mask points = OfLine current key (λ kept line. (line.mask �
 -- the current checkpoint has the node as it is: it tells of it, and the tile that it names has these points
 abbrev pub HasNode : Current → VoxelKey → ℕ → List Point → Files → Type 0
 HasNode current key mask points files = IsTold current key mask points × HasTile current key points files
+
+-- the name is that of a version which the current checkpoint does not name, of the tile of a node that it does not have as it is
+abbrev pub IsOfChanged : Current → List Branch → Files → List ℕ → Type 0
+IsOfChanged current nodes files name =
+    (b : Branch) × IsMember b nodes × (name ≡ work_tile_name (free_letter current b.0) b.0) × (¬ HasNode current b.0 b.1.mask b.1.points files)
+
+-- No other name changes. Which nodes the current checkpoint has is seen in the files of the start.
+abbrev pub PutsChanged : Current → List Branch → Files → Files → Files → Type 0
+PutsChanged current nodes start old new = (name : List ℕ) → ¬ IsOfChanged current nodes start name → new name ≡ old name
+
+-- but for the body and the gate of the next checkpoint
+abbrev pub SavesChanged : Current → List Branch → Files → Files → Files → Type 0
+SavesChanged current nodes start old new =
+    (name : List ℕ) → ¬ IsOfChanged current nodes start name → name ≢ body_name (next_letter current) → name ≢ gate_name (next_letter current) → new name ≡ old name
 
 -- the line of the node stays: it is the current checkpoint's one
 abbrev pub StaysLine : View → View → NodeLine → Type 0

@@ -1,6 +1,6 @@
 //! The octree of the current checkpoint.
 
-ghost use Rattle.std.specs.Prelude.{◌≡◌, ◌≢◌, ◌≤◌, ◌<◌, ◌⊎◌, ◌∷◌, [], ℕ, Some, None, Err, IfErr, OnOk, length};
+ghost use Rattle.std.specs.Prelude.{◌≡◌, ◌≢◌, ◌≤◌, ◌<◌, ◌⊎◌, ◌∷◌, [], ℕ, Some, None, Err, IfErr, OnOk, true, false, take, length};
 ghost use Rattle.std.specs.Option.{option_map};
 ghost use Rattle.std.specs.BTreeMap.{insert_entry};
 ghost use Rattle.ept_base.specs.Causes.{HasCauseOf};
@@ -14,14 +14,14 @@ ghost use Rattle.ept_meta.specs.Output as meta;
 ghost use Rattle.ept_node.specs.Shown.{empty_node, IsTelling};
 ghost use Rattle.ept_save.specs.declared.error.SaveError.TheVariants as save;
 ghost use Rattle.ept_save.specs.Current.{HasCurrent};
-ghost use Rattle.ept_save.specs.Loading.{HasLine, AreOfLine, IsDamaged};
+ghost use Rattle.ept_save.specs.Loading.{HasLine, AreOfLine};
 ghost use Rattle.ept_save.specs.Opening.{lines_of};
 ghost use Rattle.ept_save.specs.Sound.{IsSound};
 ghost use Rattle.ept_save.specs.View as view;
 ghost use Rattle.ept_save.specs.View.{StandsFor};
 ghost use Rattle.ept_octree.specs.Adding.{filled, IsFree, HasRoomFor};
 ghost use Rattle.ept_octree.specs.Octree.{forest_of, rules_of, most_of, cache_of, residents_of, nodes_of, IsWhole, IsLinked, IsUnbroken, AgreesWithFiles, AreAlike};
-ghost use Rattle.ept_phase.specs.Loaded.{OfCurrent, HasNoDamage, IsLoadFault};
+ghost use Rattle.ept_phase.specs.Loaded.{OfCurrent, HasNoDamage, AreIntact, IsFirstDamaged, IsLoadFault};
 ghost use Rattle.ept_phase.specs.Lines.{TellNodes, NameTiles};
 
 use crate::error::PhaseError;
@@ -31,6 +31,7 @@ use ept_ckpt::{Checkpoint, NodeLine};
 use ept_octree::{AddError, Octree};
 use ept_point::Point;
 use ept_save::{SaveError, Saved, load_tile, sound_steps_law};
+use ept_space::Key;
 use std::alloc::Global;
 
 /// Brings the nodes of the current checkpoint into an octree of no points, whose root is in memory, and links them;
@@ -39,9 +40,9 @@ use std::alloc::Global;
 ///
 /// # Errors
 ///
-/// The nodes are taken in key order: `TooManyNodes` where there is one more than the octree may have, `SpillFault`
-/// where the spill file of a node fails, and the refusals of [`load_tile`](ept_save::load_tile). The octree is of no
-/// use then.
+/// The nodes are taken in key order, the slot of each before its tile is read: `TooManyNodes` at the first for which there
+/// is no slot, the refusals of [`load_tile`](ept_save::load_tile), and `SpillFault` where the spill file of a node fails.
+/// The octree is of no use then.
 pub fn load_octree<T: Store, F: SpillFile>(
     alloc: Global,
     store: &mut T,
@@ -68,14 +69,19 @@ pub fn load_octree<T: Store, F: SpillFile>(
         (λ (c : c.Checkpoint). Tells (λ all. NameTiles all (nodes_of F.held octree.new) c.nodes) (T.files store.old))) }
     ensures begun { saved.now.current ≡ None → OnOk result (nodes_of F.held octree.new ≡ nodes_of F.held octree.old) }
 
-    // Why it is refused. A tile is told as damaged only where it is one, and where some is, there is no octree.
-    // No tile of sound files is damaged. No spill file is read.
-    ensures too_many { result ≡ Err PhaseError.TooManyNodes → most_of octree.old < length (lines_of saved.now.current) }
+    // At Ok each line has a slot, and no tile is damaged. A tile is reported as damaged only where, of the lines that
+    // have slots, its line is the first that names a damaged one, and `TooManyNodes` comes only where a line has no slot and
+    // none of those names one. So each of the three comes just there, but for faults and for want of memory. No tile of
+    // sound files is damaged. No spill file is read.
+    ensures few { OnOk result (length (lines_of saved.now.current) ≤ most_of octree.old) }
+    ensures too_many { result ≡ Err PhaseError.TooManyNodes → (most_of octree.old < length (lines_of saved.now.current))
+        × Tells (AreIntact saved.now.current (take (most_of octree.old) (lines_of saved.now.current))) (T.files store.old) }
     ensures spill { result ≡ Err PhaseError.SpillFault
         → 0 < trees.faults_of F.faults (trees.nodes_of (forest_of octree.new)) }
     ensures no_damage { (kept found at : ℕ) → result ≢ Err (PhaseError.SpillDamaged kept found at) }
     ensures damaged { (key : VoxelKey) → result ≡ Err (PhaseError.Save (save.TileDamaged key))
-        → HasLine saved.now.current key × Tells (IsDamaged saved.now.current key) (T.files store.old) }
+        → HasLine saved.now.current key
+        × Tells (IsFirstDamaged saved.now.current (most_of octree.old) key) (T.files store.old) }
     ensures undamaged { OnOk result (Tells (HasNoDamage saved.now.current) (T.files store.old)) }
     ensures only { IfErr result IsLoadFault }
     ensures sound { (shelf all : Files) → T.files store.old ≡ Some all → IsSound shelf all
@@ -124,11 +130,14 @@ fn add_nodes<T: Store, F: SpillFile>(
     ensures told { OnOk result (TellNodes (nodes_of F.held octree.new) checkpoint.now.nodes) }
     ensures tiles { OnOk result (IsTelling F.held → Tells
         (λ all. NameTiles all (nodes_of F.held octree.new) checkpoint.now.nodes) (T.files store.old)) }
-    ensures too_many { result ≡ Err PhaseError.TooManyNodes → most_of octree.old < length checkpoint.now.nodes }
+    ensures few { OnOk result (length checkpoint.now.nodes ≤ most_of octree.old) }
+    ensures too_many { result ≡ Err PhaseError.TooManyNodes → (most_of octree.old < length checkpoint.now.nodes)
+        × Tells (AreIntact saved.now.current (take (most_of octree.old) checkpoint.now.nodes)) (T.files store.old) }
     ensures spill { result ≡ Err PhaseError.SpillFault
         → 0 < trees.faults_of F.faults (trees.nodes_of (forest_of octree.new)) }
     ensures damaged { (key : VoxelKey) → result ≡ Err (PhaseError.Save (save.TileDamaged key))
-        → HasLine saved.now.current key × Tells (IsDamaged saved.now.current key) (T.files store.old) }
+        → HasLine saved.now.current key
+        × Tells (IsFirstDamaged saved.now.current (most_of octree.old) key) (T.files store.old) }
     ensures undamaged { OnOk result (Tells (HasNoDamage saved.now.current) (T.files store.old)) }
     ensures only { IfErr result IsLoadFault }
     ensures sound { (shelf all : Files) → T.files store.old ≡ Some all → IsSound shelf all
@@ -138,13 +147,28 @@ fn add_nodes<T: Store, F: SpillFile>(
     ensures any_moment { Moves T.files T.may_leave T.moment T.image_since SameFiles store.old store.new }
 {
     sound_steps_law();
+    // The root has a slot.
+    octree.len();
     let mut points = Vec::new(alloc);
     for line in checkpoint.nodes.as_slice() {
+        if lacks_slot(octree, &line.key) {
+            return Err(PhaseError::TooManyNodes);
+        }
         points.clear();
         load_tile(alloc, store, saved, line.key, &mut points)?;
         add_node(alloc, octree, line, &points)?;
     }
     Ok(())
+}
+
+// Whether there is no slot for the node of a key, of which there is none yet. That of the root is there from the beginning.
+fn lacks_slot<F: SpillFile>(octree: &Octree<F>, key: &Key) -> bool
+    ensures full { result ≡ true → (key.now ≢ root) × (most_of octree.now ≤ length (nodes_of F.held octree.now)) }
+    ensures room { result ≡ false → key.now ≢ root → length (nodes_of F.held octree.now) < most_of octree.now }
+    ensures few { length (nodes_of F.held octree.now) ≤ most_of octree.now }
+{
+    let count = octree.len();
+    *key != Key::ROOT && count == u64::from(octree.most())
 }
 
 // Adds the node of a line, of which these are the points.

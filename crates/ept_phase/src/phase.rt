@@ -23,7 +23,7 @@ ghost use Rattle.ept_phase.specs.Errors.{IsDevices};
 ghost use Rattle.ept_phase.specs.Lines.{NameTiles};
 ghost use Rattle.ept_phase.specs.Loaded.{OfCurrent, HasNoDamage};
 ghost use Rattle.ept_phase.specs.Phase.{AreGiven, GoesFurther, GoesOn, IsSaved};
-ghost use Rattle.ept_phase.specs.Saving.{HasEachNodeOf, IsSaveFault};
+ghost use Rattle.ept_phase.specs.Saving.{HasEachNodeOf, SavesChanged, IsSaveFault};
 
 use crate::error::PhaseError;
 use crate::laws::lines_law;
@@ -81,6 +81,11 @@ pub fn save_octree<T: Store, F: SpillFile>(
         (GoesOn saved.old kept.now counts.now inserted (nodes_of F.held octree.old)) store.old store.new }
     ensures stands { OnOk result (StandsFor saved.old (T.files store.old) (T.may_leave store.old)
         → StandsFor saved.new (T.files store.new) (T.may_leave store.new)) }
+
+    // Of the tiles only those of nodes are put that the current checkpoint does not have as they are.
+    ensures only_changed { IsTelling F.held → (stands : StandsFor saved.old (T.files store.old) (T.may_leave store.old))
+        → Moves T.files T.may_leave T.moment T.image_since
+        (SavesChanged saved.old.current (nodes_of F.held octree.old) stands.all) store.old store.new }
     ensures settled { OnOk result (IsSettled (T.files store.new) (T.may_leave store.new)) }
 
     // A tile is told as damaged only where the current checkpoint, which is kept, names it, and it is one. Where none

@@ -24,7 +24,7 @@ ghost use Rattle.ept_forest.specs.Slots as trees;
 ghost use Rattle.ept_table.specs.Octree.{AreSampled};
 ghost use Rattle.ept_octree.specs.Octree.{forest_of, rules_of, most_of, cache_of, nodes_of, IsLinked, IsUnbroken, AgreesWithFiles};
 ghost use Rattle.ept_phase.specs.Errors.{IsDevices};
-ghost use Rattle.ept_phase.specs.Saving.{HasNode, IsTold, SavesNode, AreKnown, HasEachNodeOf, IsSaveFault};
+ghost use Rattle.ept_phase.specs.Saving.{HasNode, IsTold, SavesNode, AreKnown, HasEachNodeOf, PutsChanged, IsSaveFault};
 
 use crate::error::PhaseError;
 use ept_base::{SpillFile, Store};
@@ -52,10 +52,12 @@ pub fn save_node<T: Store>(
     ensures node { OnOk result (SavesNode saved.old saved.new key mask points.now (T.files store.new)) }
     ensures unchanged { OnErr result (saved.new ≡ saved.old) }
 
-    // Nothing is put where the current checkpoint has the node as it is. Whatever the moment, no name but a version
-    // of the tile changes, and the current checkpoint stays.
-    ensures no_put { (all : Files) → T.files store.old ≡ Some all → HasNode saved.old.current key mask points.now all
-        → Moves T.files T.may_leave T.moment T.image_since SameFiles store.old store.new }
+    // Nothing is put, or the current checkpoint does not have the node as it is. Whatever the moment, no name but a
+    // version of the tile changes, and the current checkpoint stays.
+    ensures puts { (all : Files) → T.files store.old ≡ Some all
+        → Moves T.files T.may_leave T.moment T.image_since SameFiles store.old store.new
+        ⊎ (¬ HasNode saved.old.current key mask points.now all × Moves T.files T.may_leave T.moment T.image_since
+        (SameBut (work_tile_name (free_letter saved.old.current key) key)) store.old store.new) }
     ensures one_tile { Moves T.files T.may_leave T.moment T.image_since
         (SameBut (work_tile_name (free_letter saved.old.current key) key)) store.old store.new }
     ensures keeps { Moves T.files T.may_leave T.moment T.image_since
@@ -160,6 +162,9 @@ pub(crate) fn save_nodes<T: Store, F: SpillFile>(
         (λ all. NameTiles all (nodes_of F.held octree.old) saved.new.lines) (T.files store.new)) }
     ensures known { OnOk result (AreKnown (nodes_of F.held octree.old)) }
     ensures lines { saved.new ≡ record saved.old { lines = saved.new.lines } }
+    ensures only_changed { IsTelling F.held → (all : Files) → T.files store.old ≡ Some all
+        → Moves T.files T.may_leave T.moment T.image_since
+        (PutsChanged saved.old.current (nodes_of F.held octree.old) all) store.old store.new }
     ensures keeps { Moves T.files T.may_leave T.moment T.image_since
         (Keeps saved.old.current) store.old store.new }
     ensures stands { StandsFor saved.old (T.files store.old) (T.may_leave store.old)

@@ -1,4 +1,4 @@
-mod Putting
+pub mod Putting
 mod Apart
 mod Naming
 mod Refusing

@@ -27,7 +27,7 @@ use Rattle.ept_save.specs.declared.error.SaveError.TheVariants.{StoreFault, Tile
 use Rattle.ept_save.specs.declared.error.SaveError.TheVariants as save
 use Rattle.ept_save.specs.Current.{Current, tile_of_line}
 use Rattle.ept_save.specs.Errors.{IsStores}
-use Rattle.ept_save.specs.Loading.{OfLine, AreOfLine, IsNodeFound, IsWrong, IsDamagedLine, IsDamaged}
+use Rattle.ept_save.specs.Loading.{OfLine, AreOfLine, IsNodeFound, IsWrong, IsDamagedUnder, IsDamagedLine, IsDamaged}
 
 -- ---- the line of a key
 
@@ -82,11 +82,20 @@ not-wrong once rules line points are wrong = elim wrong [
     same : (found : List Point) → ReadsAs (tile points) (Ok found) → points ≡ found
     same found reads = let e = once (tile points) (Ok points) (Ok found) (refl, are.ascend) reads in cc
 
-pub not-damaged-line : ReadInOneWay → (rules : Rules) (line : NodeLine) (points : List Point) (files : Files) → AreOfLine rules line points → files (tile_of_line line) ≡ Some (tile points) → ¬ IsDamagedLine rules line files
-not-damaged-line once rules line points files are has damaged = elim damaged [
+not-damaged-under : ReadInOneWay → (rules : Rules) (name : List ℕ) (line : NodeLine) (points : List Point) (files : Files) → AreOfLine rules line points → files name ≡ Some (tile points) → ¬ IsDamagedUnder rules name line files
+not-damaged-under once rules name line points files are has damaged = elim damaged [
   | inl absent ↦ (let e = sym absent ∙ has in cc)
   | inr wrong ↦ (let e : wrong.0 ≡ tile points = cc in not-wrong once rules line points are (subst (IsWrong rules line) e wrong.2))
 ]
+
+pub not-damaged-line : ReadInOneWay → (rules : Rules) (line : NodeLine) (points : List Point) (files : Files) → AreOfLine rules line points → files (tile_of_line line) ≡ Some (tile points) → ¬ IsDamagedLine rules line files
+not-damaged-line once rules line points files are has = not-damaged-under once rules (tile_of_line line) line points files are has
+
+-- a tile that was loaded was not damaged
+pub line-intact : ReadInOneWay → (rules : Rules) (name : List ℕ) (line : NodeLine) (result : Result Node SaveError) (files : Option Files) → IfOk result (λ node. AreOfLine rules line node.points) → IfOk result (λ node. Tells (λ all. all name ≡ Some (tile node.points)) files) → OnOk result (Tells (λ all. ¬ IsDamagedUnder rules name line all) files)
+line-intact once rules name line (Err e) files are has = tt
+line-intact once rules name line (Ok node) None are has = tt
+line-intact once rules name line (Ok node) (Some all) are has = not-damaged-under once rules name line node.points all are has
 
 module _ (current : Current) (key : VoxelKey) (at : Letter × Checkpoint) (line : NodeLine) (is : current ≡ Some at) (found : line_of_key at.1.nodes key ≡ Some line) where
   -- a node that was loaded has the key that was asked for
@@ -146,8 +155,8 @@ pub behind-old : (old points new now : List Point) (n : ℕ) → length old ≡ 
 behind-old old points new now n is same e =
     take_rest now n ∙ (ap (λ (w : List Point). drop n w) (same ∙ e) ∙ drop_at old points n is)
 
--- the file that a line names was read, and is wrong
-pub damaged-told : (rules : Rules) (line : NodeLine) (files : Option Files) (name : List ℕ) (found : Bool) (bytes read : List ℕ) → name ≡ tile_of_line line → found ≡ true → read ≡ bytes → Tells (λ all. Gets all name found bytes) files → IsWrong rules line read → Tells (IsDamagedLine rules line) files
-damaged-told rules line None name found bytes read named there same gets wrong = tt
-damaged-told rules line (Some all) name found bytes read named there same gets wrong =
-    inr (bytes, subst (λ (w : List ℕ). all w ≡ Some bytes) named (subst (λ (b : Bool). all name ≡ cond b (Some bytes) None) there gets.0), subst (IsWrong rules line) same wrong)
+-- the file of a line was read, and is wrong
+pub damaged-told : (rules : Rules) (line : NodeLine) (files : Option Files) (name : List ℕ) (found : Bool) (bytes read : List ℕ) → found ≡ true → read ≡ bytes → Tells (λ all. Gets all name found bytes) files → IsWrong rules line read → Tells (IsDamagedUnder rules name line) files
+damaged-told rules line None name found bytes read there same gets wrong = tt
+damaged-told rules line (Some all) name found bytes read there same gets wrong =
+    inr (bytes, subst (λ (b : Bool). all name ≡ cond b (Some bytes) None) there gets.0, subst (IsWrong rules line) same wrong)

@@ -18,7 +18,7 @@ use Rattle.ept_save.specs.Current.{Current, HasCurrent, IsNamed, Keeps, Commits,
 use Rattle.ept_save.specs.Done.{IsDone, HasOutputOf, Guards}
 use Rattle.ept_save.specs.Complete.{HasAllOf, HasNoOther}
 use Rattle.ept_save.specs.Sound.{HasPointsOf, IsSavedAs, IsSaved, IsWhole, HasAtMost, IsSoundFor, IsSound}
-use Rattle.ept_save.specs.SoundLaws.{no_files, IsPublished, HasNamesOf}
+use Rattle.ept_save.specs.SoundLaws.{no_files, LeavesBuild, IsPublished, HasNamesOf}
 use Rattle.ept_save.proofs.NamesDiffer.{done-gate, done-body, done-apart}
 use Rattle.ept_save.proofs.WorkNames.{outside-saved, outside-done}
 use Rattle.ept_save.proofs.Keeping.{has_current-same, named-saved, keeps-same}
@@ -108,6 +108,13 @@ module _ (has_names : FilesHaveOutputNames) (each_outside : EachIsOutsideWork) w
 
   pub same-sound : (shelf old new : Files) → SameFiles old new → IsSound shelf old → IsSound shelf new
   same-sound shelf old new same sound = keeping-sound shelf old new sound.current sound.has_current (keeps-same sound.current old new same) sound
+
+  pub beside-sound : (shelf old new : Files) → LeavesBuild old new → IsSound shelf old → IsSound shelf new
+  beside-sound shelf old new leaves sound = record {
+    current = sound.current;
+    has_current = has_current-same sound.current old new (λ letter. leaves (gate_name letter) (inl (inl (letter, refl)))) (λ letter. leaves (body_name letter) (inl (inr (inl (letter, refl))))) sound.has_current;
+    sound = sound-same shelf old new sound.current (λ name named. leaves name (inl (named-saved sound.current name named))) (λ name outside. leaves name (inr (inr outside))) (leaves done_name (inr (inl refl))) sound.sound;
+  }
 
   module _ (one_scan : ScanInOneWay) (one_output : OutputIsOne) where
     -- what was published of the checkpoint's points is what is known of them

@@ -69,10 +69,14 @@ IsWrong rules line bytes =
     ⊎ ((points : List Point) × ReadsAs bytes (Ok points) × (length points ≢ line.count))
     ⊎ ((points : List Point) × ReadsAs bytes (Ok points) × ((fault : GridError) × IsTileFault line.key rules line.mask points fault))
 
+-- the file of this name, which is to be the tile of the line, is absent, or wrong
+abbrev pub IsDamagedUnder : Rules → List ℕ → NodeLine → Files → Type 0
+IsDamagedUnder rules name line files =
+    (files name ≡ None) ⊎ ((bytes : List ℕ) × (files name ≡ Some bytes) × IsWrong rules line bytes)
+
 -- the file that the line names is absent, or wrong
 abbrev pub IsDamagedLine : Rules → NodeLine → Files → Type 0
-IsDamagedLine rules line files =
-    (files (tile_of_line line) ≡ None) ⊎ ((bytes : List ℕ) × (files (tile_of_line line) ≡ Some bytes) × IsWrong rules line bytes)
+IsDamagedLine rules line files = IsDamagedUnder rules (tile_of_line line) line files
 
 -- so it is with the line of the key
 abbrev pub IsDamaged : Current → VoxelKey → Files → Type 0

@@ -21,11 +21,15 @@ abbrev pub HasPointsOf : Files → Checkpoint → List Point → Type 0
 HasPointsOf shelf c points =
     IsScan shelf c.kept.scale (Some c.kept.bounds) c.kept.inputs 0 points (record { counts = c.counts; bounds = c.kept.bounds })
 
--- the line tells of this node, and the tile that it names is the node's; its mask follows from the keys of all lines
-pub record IsSavedAs (files : Files) (node : Tile) (line : NodeLine) : Type 0 where
+-- the line is of this node, and its file by a rule of names is the node's tile; the mask follows from the keys of all lines
+pub record IsSavedUnder (name_of : NodeLine → List ℕ) (files : Files) (node : Tile) (line : NodeLine) : Type 0 where
   pub key : line.key ≡ node.key
   pub count : line.count ≡ length node.points
-  pub has_tile : files (tile_of_line line) ≡ Some (tile node.points)
+  pub has_tile : files (name_of line) ≡ Some (tile node.points)
+
+-- it is so by the names of a checkpoint's tiles
+abbrev pub IsSavedAs : Files → Tile → NodeLine → Type 0
+IsSavedAs files node line = IsSavedUnder tile_of_line files node line
 
 -- the inputs have these points, and the nodes are the sampling of those that are inserted, with their tiles
 pub record IsSaved (shelf files : Files) (c : Checkpoint) (points : List Point) : Type 0 where

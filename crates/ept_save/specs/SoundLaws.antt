@@ -1,11 +1,12 @@
 -- What holds of sound files. Each statement stands on the contract of a function of `laws`.
-use Rattle.std.specs.Prelude.{◌≡◌, ℕ, List, length, Some, None, ⊤, Contains, slice_get}
+use Rattle.std.specs.Prelude.{◌≡◌, ◌⊎◌, ℕ, List, length, Some, None, ⊤, Contains, slice_get}
 use Rattle.ept_base.specs.Files.{Files, SameFiles}
 use Rattle.ept_point.specs.declared.point.Point.{Point}
 use Rattle.ept_config.specs.declared.input.Input.{Input}
 use Rattle.ept_ckpt.specs.declared.letter.Letter.{Letter}
 use Rattle.ept_ckpt.specs.declared.checkpoint.Checkpoint.{Checkpoint}
-use Rattle.ept_meta.specs.Output.{File, IsOutput, names_of}
+use Rattle.ept_meta.specs.Output.{File, IsOutput, IsOutsideWork, names_of}
+use Rattle.ept_save.specs.Names.{done_name, IsSavedName}
 use Rattle.ept_save.specs.Current.{Current, HasCurrent, Keeps, Commits}
 use Rattle.ept_save.specs.Done.{IsDone, Guards}
 use Rattle.ept_save.specs.Opening.{IsBad}
@@ -48,6 +49,18 @@ KeepingKeepsSound =
 -- so soundness depends on what is read alone
 abbrev pub SameIsSound : Type 0
 SameIsSound = (shelf old new : Files) → SameFiles old new → IsSound shelf old → IsSound shelf new
+
+-- soundness speaks of the name: it is a checkpoint's, that of the done gate, or outside a build's own folders
+abbrev pub IsOfBuild : List ℕ → Type 0
+IsOfBuild name = IsSavedName name ⊎ (name ≡ done_name) ⊎ IsOutsideWork name
+
+-- each such name reads as before
+abbrev pub LeavesBuild : Files → Files → Type 0
+LeavesBuild old new = (name : List ℕ) → IsOfBuild name → new name ≡ old name
+
+-- a step that changes no such name
+abbrev pub BesideKeepsSound : Type 0
+BesideKeepsSound = (shelf old new : Files) → LeavesBuild old new → IsSound shelf old → IsSound shelf new
 
 -- two shelves have the same files under the paths of the checkpoint's inputs
 abbrev pub HaveSameInputs : Files → Files → Current → Type 0

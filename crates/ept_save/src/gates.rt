@@ -12,8 +12,8 @@ use crate::error::SaveError;
 use ept_base::Store;
 use std::alloc::Global;
 
-/// Whether the gate of this name is open.
-pub(crate) fn is_open<T: Store>(alloc: Global, store: &mut T, name: &str) -> Result<bool, SaveError>
+/// Whether the gate of this name is open. One file is read, and nothing is put.
+pub fn is_open<T: Store>(alloc: Global, store: &mut T, name: &str) -> Result<bool, SaveError>
     ensures found { IfOk result (λ found. Tells (λ all. IsTrue found ↔ IsOpen all name.now) (T.files store.old)) }
     ensures reads { StepsBy SameFiles (T.files store.old) (T.files store.new) }
     ensures images { SameImages (T.may_leave store.old) (T.may_leave store.new) }
@@ -27,13 +27,8 @@ pub(crate) fn is_open<T: Store>(alloc: Global, store: &mut T, name: &str) -> Res
     Ok(is_there && matches!(bytes.as_slice(), [1]))
 }
 
-/// Closes a gate: the byte 0 is put where it is open, and nothing where it is not; then what is read is
-/// made stable.
-pub(crate) fn close_gate<T: Store>(
-    alloc: Global,
-    store: &mut T,
-    name: &str,
-) -> Result<(), SaveError>
+/// Closes a gate: puts the byte 0 if it is open, and nothing if it is not; then makes what is read stable.
+pub fn close_gate<T: Store>(alloc: Global, store: &mut T, name: &str) -> Result<(), SaveError>
     ensures any_moment { Moves T.files T.may_leave T.moment T.image_since (SameBut name.now) store.old store.new }
     ensures stood_shut { (all : Files) → T.files store.old ≡ Some all → ¬ IsOpen all name.now
         → Moves T.files T.may_leave T.moment T.image_since SameFiles store.old store.new }

@@ -1,7 +1,7 @@
 //! What holds of sound files, and of a store that stands for a [`Saved`]. Each law is the contract of a function that does nothing.
 
 ghost use Rattle.ept_save.specs.View.{StandsFor, IsInEachImage};
-ghost use Rattle.ept_save.specs.SoundLaws.{EmptyIsSound, CurrentIsOne, CurrentIsNotBad, SoundHasNoBad, DoneIsComplete, KeepingKeepsSound, SameIsSound, InputsAreEnough, DoneIsPublished, GuardingKeepsSound, PuttingKeepsSound, CommittingKeepsSound};
+ghost use Rattle.ept_save.specs.SoundLaws.{EmptyIsSound, CurrentIsOne, CurrentIsNotBad, SoundHasNoBad, DoneIsComplete, KeepingKeepsSound, SameIsSound, BesideKeepsSound, InputsAreEnough, DoneIsPublished, GuardingKeepsSound, PuttingKeepsSound, CommittingKeepsSound};
 
 use crate::saved::Saved;
 use ept_base::Store;
@@ -18,14 +18,14 @@ pub fn sound_law()
     ensures published { DoneIsPublished }
 {}
 
-/// Sound files stay sound where what is current is kept, whatever else becomes of the shelf than the inputs of the current
-/// checkpoint, where the done gate is closed or opened with the
-/// output all there, where files of the output change behind a closed done gate, and where the next
-/// checkpoint is committed with its tiles.
+/// Sound files stay sound if what is current is kept. Of the shelf only the inputs of the current checkpoint matter, and
+/// of names only a build's. They also stay sound if the done gate is closed, or opened with the output all there. So they
+/// do if files of the output change while it is closed, and if the next checkpoint is committed with its tiles.
 pub fn sound_steps_law()
     ensures same { SameIsSound }
     ensures shelf { InputsAreEnough }
     ensures keeping { KeepingKeepsSound }
+    ensures beside { BesideKeepsSound }
     ensures guarding { GuardingKeepsSound }
     ensures putting { PuttingKeepsSound }
     ensures committing { CommittingKeepsSound }

@@ -13,7 +13,7 @@ ghost use Rattle.ept_meta.specs.Output.{rules_of};
 ghost use Rattle.ept_save.specs.Errors.{IsStores};
 ghost use Rattle.ept_save.specs.Current.{HasCurrent, tile_of_line};
 ghost use Rattle.ept_save.specs.Sound.{IsSound};
-ghost use Rattle.ept_save.specs.Loading.{HasLine, AreOfLine, AreFound, HasTile, IsNodeFound, AppendsFound, IsWrong, IsDamaged, IsDamagedLine};
+ghost use Rattle.ept_save.specs.Loading.{HasLine, AreOfLine, AreFound, HasTile, IsNodeFound, AppendsFound, IsWrong, IsDamaged, IsDamagedUnder, IsDamagedLine};
 ghost use Rattle.ept_save.specs.View as view;
 ghost use Rattle.ept_save.specs.View.{StandsFor};
 
@@ -136,7 +136,7 @@ fn load<T: Store>(
     mask_known(line);
     tile_once_law();
     output_once_law();
-    load_line(alloc, store, &checkpoint.kept, line, out)
+    load_saved(alloc, store, &checkpoint.kept, line, out)
 }
 
 // Tells a proof that a mask is a byte.
@@ -146,8 +146,8 @@ fn mask_known(line: &NodeLine)
     let _mask = line.mask;
 }
 
-// The node that a line tells of, whose points are appended.
-fn load_line<T: Store>(
+// The node of a line of the current checkpoint, whose points are appended.
+fn load_saved<T: Store>(
     alloc: Global,
     store: &mut T,
     kept: &Kept,
@@ -168,10 +168,72 @@ fn load_line<T: Store>(
     ensures any_moment { Moves T.files T.may_leave T.moment T.image_since SameFiles store.old store.new }
     ensures cause { HasCauseOf SaveError.StoreFault (T.faults store.old) (T.faults store.new) result }
 {
-    let rules = rules_of(kept);
     let name = work_tile_name(alloc, line.letter, &line.key)?;
+    read_line(alloc, store, name.as_str(), kept, line, out)
+}
+
+/// The node of a line, by the rules that are kept, from the file of this name. Its points are appended. One file is
+/// read, and nothing is put.
+///
+/// # Errors
+///
+/// `TileDamaged` with the line's key if that file is missing, is no tile, or has another number of points than the
+/// line. Or its points are those of no node of the key with the line's open octants. `out` is as it was after each
+/// refusal.
+pub fn load_line<T: Store>(
+    alloc: Global,
+    store: &mut T,
+    name: &str,
+    kept: &Kept,
+    line: &NodeLine,
+    out: &mut Vec<Point>,
+) -> Result<Grid, SaveError>
+    requires low { line.now.key.depth ≤ (rules_of kept.now).cube.depth }
+    ensures appended { IfOk result (λ node. out.new.items ≡ out.old.items ++ node.points) }
+    ensures unchanged { OnErr result (out.new.items ≡ out.old.items) }
+    ensures node { IfOk result (λ node. IsNodeOf line.now.key (rules_of kept.now) line.now.mask node.points node) }
+    ensures points { IfOk result (λ node. AreOfLine (rules_of kept.now) line.now node.points) }
+    ensures tile { IfOk result (λ node. Tells (λ all. all name.now ≡ Some (tile node.points)) (T.files store.old)) }
+
+    // A damaged tile is reported exactly if it is one, unless the store fails or memory runs out.
+    ensures refused { result ≡ Err (SaveError.TileDamaged line.now.key)
+        → Tells (IsDamagedUnder (rules_of kept.now) name.now line.now) (T.files store.old) }
+    ensures intact { OnOk result (Tells (λ all. ¬ IsDamagedUnder (rules_of kept.now) name.now line.now all)
+        (T.files store.old)) }
+    ensures only { IfErr result (λ e. (e ≡ SaveError.TileDamaged line.now.key) ⊎ IsStores e) }
+    ensures images { SameImages (T.may_leave store.old) (T.may_leave store.new) }
+    ensures any_moment { Moves T.files T.may_leave T.moment T.image_since SameFiles store.old store.new }
+    ensures cause { HasCauseOf SaveError.StoreFault (T.faults store.old) (T.faults store.new) result }
+{
+    tile_once_law();
+    read_line(alloc, store, name, kept, line, out)
+}
+
+// The node of a line, from the file of this name, as `load_line` says.
+fn read_line<T: Store>(
+    alloc: Global,
+    store: &mut T,
+    name: &str,
+    kept: &Kept,
+    line: &NodeLine,
+    out: &mut Vec<Point>,
+) -> Result<Grid, SaveError>
+    requires low { line.now.key.depth ≤ (rules_of kept.now).cube.depth }
+    ensures appended { IfOk result (λ node. out.new.items ≡ out.old.items ++ node.points) }
+    ensures unchanged { OnErr result (out.new.items ≡ out.old.items) }
+    ensures node { IfOk result (λ node. IsNodeOf line.now.key (rules_of kept.now) line.now.mask node.points node) }
+    ensures points { IfOk result (λ node. AreOfLine (rules_of kept.now) line.now node.points) }
+    ensures tile { IfOk result (λ node. Tells (λ all. all name.now ≡ Some (tile node.points)) (T.files store.old)) }
+    ensures refused { result ≡ Err (SaveError.TileDamaged line.now.key)
+        → Tells (IsDamagedUnder (rules_of kept.now) name.now line.now) (T.files store.old) }
+    ensures only { IfErr result (λ e. (e ≡ SaveError.TileDamaged line.now.key) ⊎ IsStores e) }
+    ensures images { SameImages (T.may_leave store.old) (T.may_leave store.new) }
+    ensures any_moment { Moves T.files T.may_leave T.moment T.image_since SameFiles store.old store.new }
+    ensures cause { HasCauseOf SaveError.StoreFault (T.faults store.old) (T.faults store.new) result }
+{
+    let rules = rules_of(kept);
     let mut bytes = Vec::new(alloc);
-    if !store.get(name.as_str(), &mut bytes)? {
+    if !store.get(name, &mut bytes)? {
         return Err(SaveError::TileDamaged { key: line.key });
     }
     node_of_bytes(alloc, &rules, line, &bytes, out)

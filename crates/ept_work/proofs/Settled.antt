@@ -1,9 +1,7 @@
 -- What workers answer where a node may be broken.
-use Rattle.std.proofs.Common.{◌≡◌, ◌∙◌, ℕ, ◌<◌, true, List, get_or, refl, sym, ap, subst, arith, Option, Some, None, Result, Ok, Err, OnOk, IfErr}
+use Rattle.std.proofs.Common.{◌≡◌, ◌∙◌, ℕ, ◌<◌, true, List, refl, sym, ap, subst, Option, Some, None, Result, Ok, Err, OnOk, IfErr}
 use Rattle.std.specs.Prelude.{IsNone, IfSome}
 use Rattle.std.specs.List.{All, Any}
-use Rattle.std.proofs.lemmas.List.Sums.{get_or-le-sum_by}
-use Rattle.ept_forest.specs.Slots.{faults_of}
 use Rattle.ept_node.specs.declared.node.Node.{Node}
 use Rattle.ept_node.specs.declared.error.NodeError.{NodeError}
 use Rattle.ept_node.specs.declared.error.NodeError.TheVariants as node
@@ -113,13 +111,11 @@ module _ {F : Type 0} (held : F → Option (List ℕ)) (faults keeps : F → ℕ
   it_is : (there : Any (λ (n : Node F). (e : NodeError) × (fault_of n ≡ Some e)) nodes) → IsFiledNode held faults keeps told there.1
   it_is there = subst (λ (n : Node F). IsFiledNode held faults keeps told n) there.3 (filed there.0 there.1 there.2)
 
-  -- its file has failed
-  pub some-fault : Any (λ (n : Node F). fault_of n ≡ Some node.SpillFault) nodes → 0 < faults_of faults nodes
-  some-fault there =
+  -- its own file has failed
+  pub own-fault : Any (λ (n : Node F). fault_of n ≡ Some node.SpillFault) nodes → Any (λ (n : Node F). (fault_of n ≡ Some node.SpillFault) × (0 < faults (file_of n))) nodes
+  own-fault there =
       let is = it_is (there.0, there.1, there.2, there.3, (node.SpillFault, there.4)) in
-      let one : 0 < faults (file_of there.1) = is.agrees.failed there.4 in
-      let same : faults (file_of (get_or nodes there.0 there.1)) ≡ faults (file_of there.1) = ap (λ (n : Node F). faults (file_of n)) there.3 in
-      omega (arith, one, same, get_or-le-sum_by (λ (n : Node F). faults (file_of n)) nodes there.0 there.1 there.2)
+      (there.0, there.1, there.2, there.3, (there.4, is.agrees.failed there.4))
 
   -- and is not damaged where it tells
   pub no-damage : told.tells ≡ true → (kept found at : ℕ) → Any (λ (n : Node F). fault_of n ≡ Some (node.SpillDamaged kept found at)) nodes → ⊥

@@ -2,8 +2,8 @@
 
 ghost use Rattle.std.specs.Prelude.{◌≡◌, ◌≢◌, ◌+◌, ◌*◌, ◌≤◌, ◌<◌, min, ℕ, [], Err, None, Some, OnOk, true, take, length};
 ghost use Rattle.std.specs.List.{All, Any};
-ghost use Rattle.ept_forest.specs.Slots.{nodes_of, used_of, residents_of, faults_of};
-ghost use Rattle.ept_node.specs.Shown.{fault_of};
+ghost use Rattle.ept_forest.specs.Slots.{nodes_of, used_of, residents_of};
+ghost use Rattle.ept_node.specs.Shown.{file_of, fault_of};
 ghost use Rattle.ept_node.specs.declared.error.NodeError.TheVariants as node;
 ghost use Rattle.ept_scan.specs.Reader.{drawn_of, refusal_of, HasFault};
 ghost use Rattle.ept_scan.specs.declared.read_error.ReadError.TheVariants as read;
@@ -89,7 +89,8 @@ pub fn insert_all<
         → refusal_of result.1 ≡ Some (read.SourceChanged source number) }
     ensures no_change { J.told.tells ≡ true → (source number : ℕ)
         → result.2 ≢ Err (errors.SourceChanged source number) }
-    ensures spill_fault { result.2 ≡ Err errors.SpillFault → 0 < faults_of F.faults (nodes_of result.0) }
+    ensures spill_fault { result.2 ≡ Err errors.SpillFault
+        → Any (λ n. (fault_of n ≡ Some node.SpillFault) × (0 < F.faults (file_of n))) (nodes_of result.0) }
     ensures damaged { (kept found at : ℕ) → result.2 ≡ Err (errors.SpillDamaged kept found at)
         → Any (λ n. fault_of n ≡ Some (node.SpillDamaged kept found at)) (nodes_of result.0) }
     ensures no_damage { J.told.tells ≡ true → (kept found at : ℕ)

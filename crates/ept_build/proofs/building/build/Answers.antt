@@ -12,8 +12,8 @@ use Rattle.ept_forest.specs.Slots.{nodes_of, kept_by}
 use Rattle.ept_save.specs.Names.{done_name}
 use Rattle.ept_save.specs.Current.{Current, HasCurrent}
 use Rattle.ept_save.specs.Done.{IsDone}
-use Rattle.ept_save.specs.Loading.{HasLine, IsDamaged}
-use Rattle.ept_save.specs.Opening.{lines_of}
+use Rattle.ept_save.specs.Loading.{IsDamaged}
+use Rattle.ept_phase.specs.Loaded.{HasSlot, IsFirstDamaged}
 use Rattle.ept_save.specs.declared.error.SaveError.TheVariants as save
 use Rattle.ept_build.specs.Phases.{IsPhaseFault}
 use Rattle.ept_save.specs.View.{View, StandsFor}
@@ -27,7 +27,7 @@ use Rattle.ept_build.specs.Building.{Starts, HasPoints, IsBuilt, IsUnderWay, Ask
 use Rattle.ept_build.proofs.Causes.{tells-some}
 use Rattle.ept_plan.specs.declared.error.PlanError.TheVariants as plan
 use Rattle.ept_build.proofs.Judging.{plan-refused, plan-accepted, plan-only, plan-differs, plan-is-ok, built-many, put-not-bad, put-no-difference, put-no-spill, phase-not-early, opened-not-bad, err-one, stores-fails, room-fails, built-accepted, store-refused, room-refused, room-not-many, put-store, put-no-source, put-failed, save-not-many, plan-not-many, store-not-many, put-not-many}
-use Rattle.ept_build.proofs.Damage.{damaged-same, nothing-left, opening-fails, saved-damaged, plan-no-tile, put-no-tile, store-no-tile, room-no-tile}
+use Rattle.ept_build.proofs.Damage.{damaged-same, first-same, nothing-left, opening-fails, saved-damaged, plan-no-tile, put-no-tile, store-no-tile, room-no-tile}
 use Rattle.ept_build.proofs.Asking.{opens-front, asked-none, asked-scan, asked-read}
 use Rattle.ept_build.proofs.Ground.{has-counts}
 use Rattle.ept_build.proofs.Moved.{moves-then, moves-wider}
@@ -368,6 +368,12 @@ returns-in_err-saved-clause-damaged g c = λ key is start told settled.
     let its : c.from_residual.result ≡ Err (of_save e) = search rules in
     absurd (c.in_err-saved.ensures.no_tile key (saved-damaged e key (err-one (sym its ∙ is))))
 
+pub returns-in_err-saved-clause-damaged_first : goal.returns-in_err-saved-clause-damaged_first
+returns-in_err-saved-clause-damaged_first g c = λ start current key other told has damaged is.
+    let e = c.in_err-saved.field-0.0 in
+    let its : c.from_residual.result ≡ Err (of_save e) = search rules in
+    absurd (c.in_err-saved.ensures.no_tile other (saved-damaged e other (err-one (sym its ∙ is))))
+
 pub returns-in_err-saved-clause-damaged_comes : goal.returns-in_err-saved-clause-damaged_comes
 returns-in_err-saved-clause-damaged_comes g c = λ all start current shelf_told told has comes.
     let e = c.in_err-saved.field-0.0 in
@@ -379,6 +385,12 @@ returns-in_err-plan-clause-damaged g c = λ key is start told settled.
     let e = c.in_err-plan.field-0.0 in
     let its : c.from_residual-in_err-plan.result ≡ Err (of_plan e) = search rules in
     absurd (plan-no-tile e key (err-one (sym its ∙ is)))
+
+pub returns-in_err-plan-clause-damaged_first : goal.returns-in_err-plan-clause-damaged_first
+returns-in_err-plan-clause-damaged_first g c = λ start current key other told has damaged is.
+    let e = c.in_err-plan.field-0.0 in
+    let its : c.from_residual-in_err-plan.result ≡ Err (of_plan e) = search rules in
+    absurd (plan-no-tile e other (err-one (sym its ∙ is)))
 
 pub returns-in_err-plan-clause-damaged_comes : goal.returns-in_err-plan-clause-damaged_comes
 returns-in_err-plan-clause-damaged_comes g c = λ all start current shelf_told told has comes.
@@ -397,6 +409,12 @@ returns-in_err-is_finished-clause-damaged g c = λ key is start told settled.
     let its : c.from_residual-in_err-is_finished.result ≡ Err c.in_err-is_finished.field-0.0 = p.1 ∙ ap (λ (w : BuildError). Err w) p.2 in
     absurd (store-no-tile c.in_err-is_finished.field-0.0 key c.in_err-is_finished.ensures.only (err-one (sym its ∙ is)))
 
+pub returns-in_err-is_finished-clause-damaged_first : goal.returns-in_err-is_finished-clause-damaged_first
+returns-in_err-is_finished-clause-damaged_first g c = λ start current key other told has damaged is.
+    let p = err_from_is_err_and c.from_residual-in_err-is_finished.result c.from_residual-in_err-is_finished.ensures.1 in
+    let its : c.from_residual-in_err-is_finished.result ≡ Err c.in_err-is_finished.field-0.0 = p.1 ∙ ap (λ (w : BuildError). Err w) p.2 in
+    absurd (store-no-tile c.in_err-is_finished.field-0.0 other c.in_err-is_finished.ensures.only (err-one (sym its ∙ is)))
+
 pub returns-in_err-is_finished-clause-damaged_comes : goal.returns-in_err-is_finished-clause-damaged_comes
 returns-in_err-is_finished-clause-damaged_comes g c = λ all start current shelf_told told has comes.
     let p = err_from_is_err_and c.from_residual-in_err-is_finished.result c.from_residual-in_err-is_finished.ensures.1 in
@@ -408,6 +426,12 @@ returns-in_err-sync-clause-damaged g c = λ key is start told settled.
     let p = err_from_is_err_and c.from_residual-in_err-sync.result c.from_residual-in_err-sync.ensures.1 in
     let its : c.from_residual-in_err-sync.result ≡ Err (of_put c.in_err-sync.field-0.0) = p.1 ∙ ap (λ (w : BuildError). Err w) p.2 in
     absurd (put-no-tile c.in_err-sync.field-0.0 key (err-one (sym its ∙ is)))
+
+pub returns-in_err-sync-clause-damaged_first : goal.returns-in_err-sync-clause-damaged_first
+returns-in_err-sync-clause-damaged_first g c = λ start current key other told has damaged is.
+    let p = err_from_is_err_and c.from_residual-in_err-sync.result c.from_residual-in_err-sync.ensures.1 in
+    let its : c.from_residual-in_err-sync.result ≡ Err (of_put c.in_err-sync.field-0.0) = p.1 ∙ ap (λ (w : BuildError). Err w) p.2 in
+    absurd (put-no-tile c.in_err-sync.field-0.0 other (err-one (sym its ∙ is)))
 
 pub returns-in_err-sync-clause-damaged_comes : goal.returns-in_err-sync-clause-damaged_comes
 returns-in_err-sync-clause-damaged_comes g c = λ all start current shelf_told told has comes.
@@ -434,9 +458,21 @@ returns-clause-damaged_comes g c = λ all start current shelf_told told has come
     let same : current ≡ c.in_ok-saved.saved.current = c.sound_law.ensures.one start current c.in_ok-saved.saved.current has cur in
     let at_two = stepped SameFiles (g.T.Store.files c.args.store.now) (g.T.Store.files c.is_finished.new.store) start told (same_twice g.T.Store.files g.T.Store.may_leave g.T.Store.moment g.T.Store.image_since c.args.store.now c.open.new.store c.is_finished.new.store c.open.ensures.any_moment c.is_finished.ensures.any_moment).reads in
     let mine : current ≡ c.in_ok-at.at.saved.current = same ∙ ap (λ (v : View). v.current) (sym c.in_ok-at.ensures.saved) in
-    c.built-forest.ensures.damaged_comes at_two.0 comes.key at_two.1 (subst (λ (w : Current). HasLine w comes.key) mine comes.has_line)
+    c.built-forest.ensures.damaged_comes at_two.0 comes.key at_two.1 (subst (λ (w : Current). HasSlot w c.args.config.now.max_nodes comes.key) mine comes.slot)
     (damaged-same c.in_ok-at.at.saved.current comes.key at_two.0 start (λ name. sym (at_two.2 name)) (subst (λ (w : Current). IsDamaged w comes.key start) mine comes.damaged))
-    (subst (λ (w : Current). length (lines_of w) ≤ c.args.config.now.max_nodes) mine comes.few)
+
+pub returns-clause-damaged_first : goal.returns-clause-damaged_first
+returns-clause-damaged_first g c = λ start current key other told has damaged is.
+    let cur = told_some (HasCurrent c.in_ok-saved.saved.current) (g.T.Store.files c.args.store.now) start told c.in_ok-saved.ensures.current in
+    let same : current ≡ c.in_ok-saved.saved.current = c.sound_law.ensures.one start current c.in_ok-saved.saved.current has cur in
+    let two = same_twice g.T.Store.files g.T.Store.may_leave g.T.Store.moment g.T.Store.image_since c.args.store.now c.open.new.store c.is_finished.new.store c.open.ensures.any_moment c.is_finished.ensures.any_moment in
+    let at_two = stepped SameFiles (g.T.Store.files c.args.store.now) (g.T.Store.files c.is_finished.new.store) start told two.reads in
+    let mine : current ≡ c.in_ok-at.at.saved.current = same ∙ ap (λ (v : View). v.current) (sym c.in_ok-at.ensures.saved) in
+    let bad = damaged-same c.in_ok-at.at.saved.current key at_two.0 start (λ name. sym (at_two.2 name)) (subst (λ (w : Current). IsDamaged w key start) mine damaged) in
+    let first = c.built-forest.ensures.damaged_first at_two.0 key other at_two.1 bad is in (
+      subst (λ (w : Current). IsFirstDamaged w c.args.config.now.max_nodes other start) (sym mine) (first-same c.in_ok-at.at.saved.current c.args.config.now.max_nodes other start at_two.0 at_two.2 first.0),
+      same_twice g.T.Store.files g.T.Store.may_leave g.T.Store.moment g.T.Store.image_since c.args.store.now c.is_finished.new.store c.built-forest.new.store two first.1,
+    )
 
 pub returns-in_err-at-clause-sound : goal.returns-in_err-at-clause-sound
 returns-in_err-at-clause-sound g c = λ all start begins.
@@ -498,6 +534,12 @@ returns-in_err-at-clause-damaged g c = λ key is start told settled.
     let p = err_from_is_err_and c.from_residual-in_err-at.result c.from_residual-in_err-at.ensures.1 in
     let its : c.from_residual-in_err-at.result ≡ Err c.in_err-at.field-0.0 = p.1 ∙ ap (λ (w : BuildError). Err w) p.2 in
     absurd (room-no-tile c.in_err-at.field-0.0 key c.in_err-at.ensures.only (err-one (sym its ∙ is)))
+
+pub returns-in_err-at-clause-damaged_first : goal.returns-in_err-at-clause-damaged_first
+returns-in_err-at-clause-damaged_first g c = λ start current key other told has damaged is.
+    let p = err_from_is_err_and c.from_residual-in_err-at.result c.from_residual-in_err-at.ensures.1 in
+    let its : c.from_residual-in_err-at.result ≡ Err c.in_err-at.field-0.0 = p.1 ∙ ap (λ (w : BuildError). Err w) p.2 in
+    absurd (room-no-tile c.in_err-at.field-0.0 other c.in_err-at.ensures.only (err-one (sym its ∙ is)))
 
 pub returns-in_err-at-clause-damaged_comes : goal.returns-in_err-at-clause-damaged_comes
 returns-in_err-at-clause-damaged_comes g c = λ all start current shelf_told told has comes.

@@ -14,7 +14,8 @@ use Rattle.ept_meta.specs.Output.{rules_of}
 use Rattle.ept_save.specs.Current.{HasCurrent}
 use Rattle.ept_save.specs.View.{View}
 use Rattle.ept_save.proofs.Standing.{stepped, told_some}
-use Rattle.ept_phase.specs.Loaded.{HasNoDamage}
+use Rattle.ept_save.specs.Opening.{lines_of}
+use Rattle.ept_phase.specs.Loaded.{HasNoDamage, AreIntact, IsFirstDamaged}
 use Rattle.ept_plan.specs.Plans.{inserted_by}
 use Rattle.ept_build.specs.declared.error.BuildError.{BuildError}
 use Rattle.ept_build.specs.declared.error.BuildError.TheVariants.{TileDamaged, SourceChanged, SpillDamaged, TooManyNodes}
@@ -23,7 +24,7 @@ use Rattle.ept_build.specs.Reached.{IsThrough}
 use Rattle.ept_build.specs.Phases.{IsSoundAt, AreMany}
 use Rattle.ept_build.proofs.Causes.{tells-some}
 use Rattle.ept_build.proofs.Ground.{IsGround, ground as ground-of, extent-found, many-at}
-use Rattle.ept_build.proofs.Damage.{loading-tells, end-no-tile}
+use Rattle.ept_build.proofs.Damage.{loading-tells, end-no-tile, first-more, damaged-line, slot-intact}
 use Rattle.ept_build.proofs.Judging.{err-one, end-refused, end-not-many, end-no-source}
 use Rattle.ept_build.proofs.Moved.{moves-then, moves-wider}
 use Rattle.ept_build.proofs.Numbers.{nodes-number}
@@ -63,9 +64,20 @@ returns-in-Err-clause-damaged g c = λ key is stands.
     (c.args.at.saved.current, c.in-Err.ensures.damaged key (ap (λ (w : BuildError). Err w) (err-one is)) stands)
 
 pub returns-in-Err-clause-damaged_comes : goal.returns-in-Err-clause-damaged_comes
-returns-in-Err-clause-damaged_comes g c = λ start key told has damaged few.
+returns-in-Err-clause-damaged_comes g c = λ start key told slot damaged.
     loading-tells (Err c.in-Err.refused) c.in-Err.refused refl c.in-Err.ensures.only (λ same. c.in-Err.ensures.no_source (ap (λ (w : BuildError). Err w) same)) (λ source number same. c.in-Err.ensures.no_change source number (ap (λ (w : BuildError). Err w) same)) (λ kept found number same. c.in-Err.ensures.no_damage kept found number (ap (λ (w : BuildError). Err w) same))
-    (λ same. let more = c.in-Err.ensures.too_many (ap (λ (w : BuildError). Err w) same) in omega (arith, more, few, c.requires.room.for_lines more))
+    (λ same. (
+    let its = ap (λ (w : BuildError). Err w) same in
+    let current = c.args.at.saved.current in
+    let wide : most_of c.args.at.octree ≡ c.args.config.now.max_nodes = c.requires.room.for_lines (c.in-Err.ensures.too_many its) in
+    let intact = told_some (AreIntact current (take (most_of c.args.at.octree) (lines_of current))) (g.T.Store.files c.args.store.now) start told (c.in-Err.ensures.too_many_intact its) in
+    slot-intact current c.args.config.now.max_nodes key start slot (subst (λ (n : ℕ). AreIntact current (take n (lines_of current)) start) wide intact) damaged))
+
+pub returns-in-Err-clause-damaged_first : goal.returns-in-Err-clause-damaged_first
+returns-in-Err-clause-damaged_first g c = λ start key other told damaged is.
+    let current = c.args.at.saved.current in
+    let first = c.in-Err.ensures.first_damaged other (ap (λ (w : BuildError). Err w) (err-one is)) in
+    (first-more current (most_of c.args.at.octree) c.args.config.now.max_nodes other start c.requires.room.few (told_some (IsFirstDamaged current (most_of c.args.at.octree) other) (g.T.Store.files c.args.store.now) start told first.0), first.1)
 
 pub returns-in-Err-clause-stores : goal.returns-in-Err-clause-stores
 returns-in-Err-clause-stores g c =
@@ -133,8 +145,12 @@ pub returns-in-Err-grow-clause-damaged : goal.returns-in-Err-grow-clause-damaged
 returns-in-Err-grow-clause-damaged g c = λ key is stands. c.in-Err-grow.ensures.damaged key (err-one is) (c.in_default.ensures.stands stands)
 
 pub returns-in-Err-grow-clause-damaged_comes : goal.returns-in-Err-grow-clause-damaged_comes
-returns-in-Err-grow-clause-damaged_comes g c = λ start key told has damaged few.
-    absurd (told_some (HasNoDamage c.args.at.saved.current) (g.T.Store.files c.args.store.now) start told c.in_default.ensures.damaged_comes key has damaged)
+returns-in-Err-grow-clause-damaged_comes g c = λ start key told slot damaged.
+    absurd (told_some (HasNoDamage c.args.at.saved.current) (g.T.Store.files c.args.store.now) start told c.in_default.ensures.damaged_comes key (damaged-line c.args.at.saved.current key start damaged) damaged)
+
+pub returns-in-Err-grow-clause-damaged_first : goal.returns-in-Err-grow-clause-damaged_first
+returns-in-Err-grow-clause-damaged_first g c = λ start key other told damaged is.
+    absurd (told_some (HasNoDamage c.args.at.saved.current) (g.T.Store.files c.args.store.now) start told c.in_default.ensures.damaged_comes key (damaged-line c.args.at.saved.current key start damaged) damaged)
 
 pub returns-in-Err-grow-clause-sources : goal.returns-in-Err-grow-clause-sources
 returns-in-Err-grow-clause-sources g c =
@@ -181,8 +197,12 @@ returns-in-Err-finish-clause-damaged g c = λ key is stands.
     absurd (end-no-tile c.in-Err-finish.refused key c.in-Err-finish.ensures.only (err-one is))
 
 pub returns-in-Err-finish-clause-damaged_comes : goal.returns-in-Err-finish-clause-damaged_comes
-returns-in-Err-finish-clause-damaged_comes g c = λ start key told has damaged few.
-    absurd (told_some (HasNoDamage c.args.at.saved.current) (g.T.Store.files c.args.store.now) start told c.in_default.ensures.damaged_comes key has damaged)
+returns-in-Err-finish-clause-damaged_comes g c = λ start key told slot damaged.
+    absurd (told_some (HasNoDamage c.args.at.saved.current) (g.T.Store.files c.args.store.now) start told c.in_default.ensures.damaged_comes key (damaged-line c.args.at.saved.current key start damaged) damaged)
+
+pub returns-in-Err-finish-clause-damaged_first : goal.returns-in-Err-finish-clause-damaged_first
+returns-in-Err-finish-clause-damaged_first g c = λ start key other told damaged is.
+    absurd (told_some (HasNoDamage c.args.at.saved.current) (g.T.Store.files c.args.store.now) start told c.in_default.ensures.damaged_comes key (damaged-line c.args.at.saved.current key start damaged) damaged)
 
 pub returns-in-Err-finish-clause-refused : goal.returns-in-Err-finish-clause-refused
 returns-in-Err-finish-clause-refused g c = λ all start shelf_told starts.
@@ -258,8 +278,8 @@ returns-in-Ok-finish-clause-built g c = λ all start shelf_told starts.
     (g.T.Store.files c.grow.new.store) (g.T.Store.files c.finish.new.store) (c.in-Ok-finish.ensures.sound starts.spills all it.points it.out it.are it.number it.has_extent grown way_on).reads complete
 
 pub returns-in-Ok-finish-clause-damaged_comes : goal.returns-in-Ok-finish-clause-damaged_comes
-returns-in-Ok-finish-clause-damaged_comes g c = λ start key told has damaged few.
-    absurd (told_some (HasNoDamage c.args.at.saved.current) (g.T.Store.files c.args.store.now) start told c.in_default.ensures.damaged_comes key has damaged)
+returns-in-Ok-finish-clause-damaged_comes g c = λ start key told slot damaged.
+    absurd (told_some (HasNoDamage c.args.at.saved.current) (g.T.Store.files c.args.store.now) start told c.in_default.ensures.damaged_comes key (damaged-line c.args.at.saved.current key start damaged) damaged)
 
 pub returns-in-Ok-finish-clause-sources : goal.returns-in-Ok-finish-clause-sources
 returns-in-Ok-finish-clause-sources g c =

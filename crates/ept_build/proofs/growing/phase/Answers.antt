@@ -14,7 +14,7 @@ use Rattle.ept_save.specs.View.{View}
 use Rattle.ept_meta.specs.Output.{rules_of}
 use Rattle.ept_phase.specs.Phase.{AreGiven, IsSaved}
 use Rattle.ept_scan.specs.Reader.{HasFault, IsRest}
-use Rattle.ept_build.proofs.Causes.{inserted-many, inserted-changed, inserted-fault, inserted-spill, inserted-damage, phase-no-source, phase-damaged, phase-spill, phase-damage, devices-undamaged}
+use Rattle.ept_build.proofs.Causes.{inserted-many, inserted-changed, inserted-fault, inserted-spill, inserted-damage, phase-no-source, phase-damaged, phase-spill, phase-damage, devices-undamaged, broken-fault}
 use Rattle.ept_build.proofs.Fronts.{rest-then, can-front}
 use Rattle.ept_build.proofs.Phased.{stands-between, next-sampled, next-tree, many-then, each-stays, given-fit, saved-of}
 use Rattle.ept_build.proofs.PhaseSound.{phase-moves, phase-images, way-sound, names-of, either-moves, none-moves}
@@ -52,7 +52,7 @@ returns-in-Err-clause-no_damage g c = λ kept found number is points can has.
 
 pub returns-in-Err-clause-spill : goal.returns-in-Err-clause-spill
 returns-in-Err-clause-spill g c = λ is.
-    subst (λ (w : Forest _). 0 < faults_of g.F.SpillFile.faults (nodes_of w)) (sym c.not_inserted.ensures.forest) (c.in-Err.ensures.spill (inserted-spill c.in-Err.refused.error (sym c.not_inserted.ensures.error ∙ is)))
+    subst (λ (w : Forest _). 0 < faults_of g.F.SpillFile.faults (nodes_of w)) (sym c.not_inserted.ensures.forest) (broken-fault g.F.SpillFile.faults (nodes_of c.in-Err.refused.forest) (c.in-Err.ensures.spill (inserted-spill c.in-Err.refused.error (sym c.not_inserted.ensures.error ∙ is))))
 
 -- ---- the octree is saved
 

@@ -1,12 +1,13 @@
 use Rattle.std.proofs.Common.{rules, ◌≡◌, ◌∙◌, sym, ap}
 use Rattle.std.specs.Prelude.{Err}
 use Rattle.ept_base.specs.Files.{Files, SameFiles}
+use Rattle.ept_octree.specs.Octree.{most_of}
 use Rattle.ept_save.proofs.Standing.{stepped, settled_some}
 use Rattle.ept_phase.specs.declared.error.PhaseError.{PhaseError}
 use Rattle.ept_build.specs.Errors.{of_phase}
 use Rattle.ept_build.specs.Phases.{IsSoundAt}
-use Rattle.ept_build.proofs.Causes.{phase-damaged, phase-spill, phase-damage}
-use Rattle.ept_build.proofs.Damage.{same-damage}
+use Rattle.ept_build.proofs.Causes.{phase-damaged, phase-many, phase-spill, phase-damage}
+use Rattle.ept_build.proofs.Damage.{same-damage, first-damage}
 use Rattle.ept_build.proofs.Judging.{err-one}
 use Rattle.ept_build.proofs.Moved.{moves-then}
 use Rattle.ept_build.proofs.Running.{sound-settled, same-moves, same-all, close-all, close-moves, closed-images, settled-on, tree-loaded}
@@ -21,7 +22,25 @@ returns-in_err-load_octree-clause-damaged g c = λ key is stands.
     let e = c.in_err-load_octree.field-0.0 in
     let its : c.from_residual.result ≡ Err (of_phase e) = search rules in
     let damaged = c.in_err-load_octree.ensures.damaged key (ap (λ (w : PhaseError). Err w) (phase-damaged e key (err-one (sym its ∙ is)))) in
-    same-damage c.args.at.now.saved key (g.T.Store.files c.args.store.now) (g.T.Store.files c.load_octree.new.store) (c.load_octree.ensures.stands c.args.at.now.saved stands) c.load_octree.ensures.any_moment.reads damaged.0 damaged.1
+    same-damage c.args.at.now.saved key (g.T.Store.files c.args.store.now) (g.T.Store.files c.load_octree.new.store) (c.load_octree.ensures.stands c.args.at.now.saved stands) c.load_octree.ensures.any_moment.reads damaged.0 (first-damage c.args.at.now.saved.current (most_of c.args.at.now.octree) key (g.T.Store.files c.args.store.now) damaged.1)
+
+pub returns-in_err-load_octree-clause-first_damaged : goal.returns-in_err-load_octree-clause-first_damaged
+returns-in_err-load_octree-clause-first_damaged g c = λ key is.
+    let e = c.in_err-load_octree.field-0.0 in
+    let its : c.from_residual.result ≡ Err (of_phase e) = search rules in
+    ((c.in_err-load_octree.ensures.damaged key (ap (λ (w : PhaseError). Err w) (phase-damaged e key (err-one (sym its ∙ is))))).1, c.load_octree.ensures.any_moment)
+
+pub returns-in_err-load_octree-clause-too_many : goal.returns-in_err-load_octree-clause-too_many
+returns-in_err-load_octree-clause-too_many g c = λ is.
+    let e = c.in_err-load_octree.field-0.0 in
+    let its : c.from_residual.result ≡ Err (of_phase e) = search rules in
+    (c.in_err-load_octree.ensures.too_many (ap (λ (w : PhaseError). Err w) (phase-many e (err-one (sym its ∙ is))))).0
+
+pub returns-in_err-load_octree-clause-too_many_intact : goal.returns-in_err-load_octree-clause-too_many_intact
+returns-in_err-load_octree-clause-too_many_intact g c = λ is.
+    let e = c.in_err-load_octree.field-0.0 in
+    let its : c.from_residual.result ≡ Err (of_phase e) = search rules in
+    (c.in_err-load_octree.ensures.too_many (ap (λ (w : PhaseError). Err w) (phase-many e (err-one (sym its ∙ is))))).1
 
 pub returns-in_err-load_octree-clause-undamaged : goal.returns-in_err-load_octree-clause-undamaged
 returns-in_err-load_octree-clause-undamaged g c = λ all start starts key is.

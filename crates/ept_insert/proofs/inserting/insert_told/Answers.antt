@@ -23,7 +23,7 @@ make-requires-clause-nodes g c =
 pub returns-in-Err-result-clause-refused : goal.returns-in-Err-result-clause-refused
 returns-in-Err-result-clause-refused g c =
     let worked = c.insert_all-forest.ensures in
-    worked_in_vain g.J.Scan.told g.F.SpillFile.faults g.S.Source.faults c.insert_all-forest.result.0 c.insert_all-forest.result.1 c.insert_all-forest.result.2 c.in-Err-result.error c.from.result c.in-Err-result.is c.from.ensures worked.too_many worked.fault worked.no_change worked.spill_fault worked.no_damage
+    worked_in_vain g.J.Scan.told g.F.SpillFile.faults g.S.Source.faults c.insert_all-forest.result.0 c.insert_all-forest.result.1 c.insert_all-forest.result.2 c.in-Err-result.error c.from.result c.in-Err-result.is c.from.ensures worked.too_many worked.fault worked.changed worked.no_change worked.spill_fault worked.damaged worked.no_damage
 
 pub returns-in-Ok-from_forest-clause-inserted : goal.returns-in-Ok-from_forest-clause-inserted
 returns-in-Ok-from_forest-clause-inserted g c = record {

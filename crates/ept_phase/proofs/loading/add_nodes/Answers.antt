@@ -14,7 +14,7 @@ use Rattle.ept_node.specs.Shown.{IsTelling}
 use Rattle.ept_save.specs.declared.error.SaveError.{SaveError}
 use Rattle.ept_save.specs.declared.error.SaveError.TheVariants.{TileDamaged}
 use Rattle.ept_save.specs.Current.{Current}
-use Rattle.ept_save.specs.Loading.{HasLine, HasTile, AreOfLine}
+use Rattle.ept_save.specs.Loading.{HasLine, HasTile, IsDamaged, AreOfLine}
 use Rattle.ept_save.proofs.Standing.{same_twice}
 use Rattle.ept_table.specs.Octree.{Branch}
 use Rattle.ept_octree.specs.Adding.{filled}
@@ -22,11 +22,11 @@ use Rattle.ept_octree.specs.Octree.{rules_of, most_of, nodes_of}
 use Rattle.ept_phase.specs.Lines.{NamesTile}
 use Rattle.ept_phase.specs.declared.error.PhaseError.{PhaseError}
 use Rattle.ept_phase.specs.declared.error.PhaseError.TheVariants.{TooManyNodes}
-use Rattle.ept_phase.specs.Loaded.{HasNoDamage}
-use Rattle.ept_phase.proofs.Lining.{member-at, line-there, line-depth, next-are, next-tile, tells-more}
-use Rattle.ept_phase.proofs.LoadedNodes.{next-free, next-room, next-here, next-full, loaded-more, tells-filled}
+use Rattle.ept_phase.specs.Loaded.{HasNoDamage, AreIntact, IsFirstDamaged}
+use Rattle.ept_phase.proofs.Lining.{member-at, line-there, line-depth, next-are, next-tile, tells-more, tells-both}
+use Rattle.ept_phase.proofs.LoadedNodes.{next-free, next-room, next-here, next-slot, next-last, next-full, loaded-more, tells-filled}
 use Rattle.ept_phase.proofs.Compared.{images-then}
-use Rattle.ept_phase.proofs.Undamaged.{AreIntact, intact-next, loaded-whole, all-intact}
+use Rattle.ept_phase.proofs.Undamaged.{intact-next, loaded-whole, all-intact, one-tile, first-damaged, front-intact}
 use Rattle.ept_phase.proofs.Refusing.{was-save, damaged-told, none-damaged, load-fault, stays-sound}
 use Rattle.ept_phase.proofs.loading.add_nodes.Goals as goal
 
@@ -79,6 +79,9 @@ loop-line-preserved g c =
     let files : Option Files = g.T.Store.files c.args.store.now in
     let mid : Option Files = g.T.Store.files c.loop-line.store in
     let next : Branch = (line.key, filled line.key rules line.mask here) in
+    let one : length (nodes_of g.F.SpillFile.held c.args.octree.now) ≡ 1 = ap length c.requires.new in
+    let some : 0 < most_of c.loop-line.octree = omega (arith, one, c.len.ensures.few, c.loop-line.invariant.most) in
+    let low : c.loop-line.line-index < most_of c.loop-line.octree = next-slot (IsTelling g.F.SpillFile.held) (rules_of c.args.octree.now) c.args.checkpoint.now c.as_slice-line-items.result.now c.as_slice-line-items.ensures c.loop-line.line-index c.line-item.result c.loop-line-test.true (sym c.line-item.is) (nodes_of g.F.SpillFile.held c.loop-line.octree) (g.T.Store.files c.args.store.now) c.loop-line.invariant.far (most_of c.loop-line.octree) some (c.lacks_slot.ensures.room c.if-lacks_slot.false) in
     record {
       moves = same_twice g.T.Store.files g.T.Store.may_leave g.T.Store.moment g.T.Store.image_since c.args.store.now c.loop-line.store c.load_tile.new.store invariant.moves c.load_tile.ensures.any_moment;
       images = images-then g.T.Store.files g.T.Store.may_leave g.T.Store.moment g.T.Store.image_since c.args.store.now c.loop-line.store c.load_tile.new.store invariant.images c.load_tile.ensures.images;
@@ -88,6 +91,7 @@ loop-line-preserved g c =
       cache = c.add_node.ensures.cache ∙ invariant.cache;
       agrees = c.add_node.ensures.agrees;
       unbroken = c.in_ok-add_node.ensures.unbroken;
+      few = omega (arith, low, invariant.most);
       place = inr (let more : 0 < i + 1 = omega arith in more, c.in_ok-add_node.ensures.room);
       far = loaded-more (IsTelling g.F.SpillFile.held) (rules_of c.args.octree.now) at items same i line inside is (nodes_of g.F.SpillFile.held c.loop-line.octree) files invariant.far next.1 (nodes_of g.F.SpillFile.held c.add_node.new.octree) c.in_ok-add_node.ensures.ok c.in_ok-add_node.ensures.told mid invariant.moves.reads (tells-filled rules (meta.rules_of at.kept) line here are)
           (tells-more (HasTile current line.key found.points) (λ all. NamesTile all next line) (λ all has. next-tile current at c.requires.current line there found.points all has ∙ ap (λ (w : List Point). Some (tile w)) (sym points)) mid found.has_tile);
@@ -119,7 +123,14 @@ returns-in_err-load_tile-clause-damaged g c = λ key is.
     let its : e ≡ TileDamaged key = was-save e (TileDamaged key) (search (rules, is)) in
     let there : IsMember line items = member-at items c.loop-line.line-index line c.loop-line-test.true (sym c.line-item.is) in
     let has : HasLine current line.key = line-there current c.args.checkpoint.now c.requires.current line (subst (IsMember line) c.as_slice-line-items.ensures there) in
-    damaged-told c.load_tile.result e c.in_err-load_tile.was current line.key key (g.T.Store.files c.args.store.now) (g.T.Store.files c.loop-line.store) c.loop-line.invariant.moves.reads has c.load_tile.ensures.only c.load_tile.ensures.refused its
+    let told = damaged-told c.load_tile.result e c.in_err-load_tile.was current line.key key (g.T.Store.files c.args.store.now) (g.T.Store.files c.loop-line.store) c.loop-line.invariant.moves.reads has c.load_tile.ensures.only c.load_tile.ensures.refused its in
+    let its_key = one-tile c.load_tile.result line.key key c.load_tile.ensures.only (c.in_err-load_tile.was ∙ ap (λ (w : SaveError). Err w) its) in
+    let one : length (nodes_of g.F.SpillFile.held c.args.octree.now) ≡ 1 = ap length c.requires.new in
+    let some : 0 < most_of c.loop-line.octree = omega (arith, one, c.len.ensures.few, c.loop-line.invariant.most) in
+    let low : c.loop-line.line-index < most_of c.loop-line.octree = next-slot (IsTelling g.F.SpillFile.held) (rules_of c.args.octree.now) c.args.checkpoint.now c.as_slice-line-items.result.now c.as_slice-line-items.ensures c.loop-line.line-index c.line-item.result c.loop-line-test.true (sym c.line-item.is) (nodes_of g.F.SpillFile.held c.loop-line.octree) (g.T.Store.files c.args.store.now) c.loop-line.invariant.far (most_of c.loop-line.octree) some (c.lacks_slot.ensures.room c.if-lacks_slot.false) in
+    let most : ℕ = most_of c.args.octree.now in
+    let low_then : c.loop-line.line-index < most = omega (arith, low, c.loop-line.invariant.most) in
+    (told.0, tells-both (IsDamaged current key) (AreIntact current (take c.loop-line.line-index items)) (IsFirstDamaged current most key) (λ all bad front. first-damaged current c.args.checkpoint.now c.requires.current items c.as_slice-line-items.ensures c.loop-line.line-index line c.loop-line-test.true (sym c.line-item.is) most low_then key its_key.1 all bad front) (g.T.Store.files c.args.store.now) told.1 c.loop-line.invariant.intact)
 
 pub returns-in_err-load_tile-clause-only : goal.returns-in_err-load_tile-clause-only
 returns-in_err-load_tile-clause-only g c =
@@ -149,5 +160,16 @@ pub returns-in_err-add_node-clause-too_many : goal.returns-in_err-add_node-claus
 returns-in_err-add_node-clause-too_many g c = λ is.
     let its : c.in_err-add_node.field-0.0 ≡ TooManyNodes = search (rules, is) in
     let full = c.add_node.ensures.too_many (c.in_err-add_node.was ∙ ap (λ (e : PhaseError). Err e) its) in
-    let many = next-full (IsTelling g.F.SpillFile.held) (rules_of c.args.octree.now) c.args.checkpoint.now c.as_slice-line-items.result.now c.as_slice-line-items.ensures c.loop-line.line-index c.line-item.result c.loop-line-test.true (sym c.line-item.is) (nodes_of g.F.SpillFile.held c.loop-line.octree) (g.T.Store.files c.args.store.now) c.loop-line.invariant.far (most_of c.loop-line.octree) full in
-    omega (arith, many, c.loop-line.invariant.most)
+    absurd (omega (arith, full.1, c.lacks_slot.ensures.room c.if-lacks_slot.false full.0))
+
+pub returns-then-lacks_slot-clause-too_many : goal.returns-then-lacks_slot-clause-too_many
+returns-then-lacks_slot-clause-too_many g c = λ is.
+    let at : Checkpoint = c.args.checkpoint.now in
+    let items : List NodeLine = c.as_slice-line-items.result.now in
+    let i : ℕ = c.loop-line.line-index in
+    let invariant = c.loop-line.invariant in
+    let most : ℕ = most_of c.loop-line.octree in
+    let full = c.lacks_slot.ensures.full c.if-lacks_slot.true in
+    let many = next-full (IsTelling g.F.SpillFile.held) (rules_of c.args.octree.now) at items c.as_slice-line-items.ensures i c.line-item.result c.loop-line-test.true (sym c.line-item.is) (nodes_of g.F.SpillFile.held c.loop-line.octree) (g.T.Store.files c.args.store.now) invariant.far most full in
+    let last : i ≡ most = next-last (IsTelling g.F.SpillFile.held) (rules_of c.args.octree.now) at items c.as_slice-line-items.ensures i c.line-item.result c.loop-line-test.true (sym c.line-item.is) (nodes_of g.F.SpillFile.held c.loop-line.octree) (g.T.Store.files c.args.store.now) invariant.far most full c.lacks_slot.ensures.few in
+    (omega (arith, many, invariant.most), front-intact c.args.saved.now.current at items c.as_slice-line-items.ensures i (most_of c.args.octree.now) (last ∙ invariant.most) (g.T.Store.files c.args.store.now) invariant.intact)

@@ -4,7 +4,7 @@ use Rattle.ept_base.specs.Moves.{Moves, SameImages}
 use Rattle.ept_node.specs.Shown.{IsTelling}
 use Rattle.ept_octree.specs.Octree.{rules_of, most_of, cache_of, nodes_of, IsUnbroken, AgreesWithFiles}
 use Rattle.ept_phase.proofs.LoadedNodes.{AreLoaded, HasPlace}
-use Rattle.ept_phase.proofs.Undamaged.{AreIntact}
+use Rattle.ept_phase.specs.Loaded.{AreIntact}
 use Rattle.ept_phase.proofs.loading.add_nodes.Given as goal
 
 abbrev pub invariant-loop-line : goal.invariant-loop-line
@@ -19,6 +19,7 @@ invariant-loop-line g l =
       cache : cache_of l.octree ≡ cache_of l.initial.octree;
       agrees : AgreesWithFiles held g.F.SpillFile.faults g.F.SpillFile.keeps l.octree;
       unbroken : IsUnbroken l.octree;
+      few : l.line-index ≤ most_of l.initial.octree;
       place : HasPlace l.line-index l.octree;
       far : AreLoaded (IsTelling held) (rules_of l.initial.octree) (take l.line-index l.line-items) (nodes_of held l.octree) (g.T.Store.files l.initial.store);
       intact : Tells (AreIntact l.saved.current (take l.line-index l.line-items)) (g.T.Store.files l.initial.store);

@@ -1,4 +1,4 @@
-use Rattle.std.proofs.Common.{◌≡◌, ◌∙◌, ◌<◌, ◌^◌, List, length, Option, sym, ap, subst, arith, rules}
+use Rattle.std.proofs.Common.{◌≡◌, ◌≢◌, ◌∙◌, ℕ, ◌<◌, ◌^◌, List, length, Option, sym, ap, subst, arith, rules}
 use Rattle.std.specs.Prelude.{Err}
 use Rattle.ept_base.specs.Files.{Files, Tells}
 use Rattle.ept_base.specs.Moves.{Moves}
@@ -14,7 +14,9 @@ use Rattle.ept_phase.specs.declared.error.PhaseError.TheVariants.{Save, SpillFau
 use Rattle.ept_phase.specs.Errors.{IsDevices}
 use Rattle.ept_phase.specs.Lines.{TellNodes, NameTiles}
 use Rattle.ept_phase.specs.Phase.{GoesFurther}
-use Rattle.ept_phase.specs.Saving.{AreKnown, HasEachNodeOf}
+use Rattle.ept_save.specs.Names.{body_name, gate_name}
+use Rattle.ept_phase.specs.Saving.{AreKnown, HasEachNodeOf, PutsChanged}
+use Rattle.ept_phase.proofs.OnlyChanged.{saves-begin, saves-nodes, saves-commit}
 use Rattle.ept_phase.proofs.Phasing.{tree-valid, is-saved, names-saved, goes-all, keeps-goes, stands-current}
 use Rattle.ept_phase.proofs.Compared.{keeps-then}
 use Rattle.ept_phase.specs.Loaded.{HasNoDamage}
@@ -257,3 +259,35 @@ returns-in_err-save_nodes-clause-no_damage g c = λ points can are unbroken tell
     let is : c.from_residual-in_err-save_nodes.result ≡ Err c.in_err-save_nodes.field-0.0 = search rules in
     c.save_nodes.ensures.no_damage points (subst (λ (r : Rules). CanBeSampled r points) (sym c.requires.rules) can) (subst (λ (r : Rules). AreSampled r points (nodes_of g.F.SpillFile.held c.args.octree.now)) (sym c.requires.rules) are) unbroken tell kept found at
     (one-phase-refusal c.save_nodes.result c.from_residual-in_err-save_nodes.result c.in_err-save_nodes.field-0.0 c.in_err-save_nodes.was is (SpillDamaged kept found at) told)
+
+pub returns-in_err-begin-clause-only_changed : goal.returns-in_err-begin-clause-only_changed
+returns-in_err-begin-clause-only_changed g c = λ tell stands.
+    let start : View = c.args.saved.now in
+    let nodes : List Branch = nodes_of g.F.SpillFile.held c.args.octree.now in
+    saves-begin g.T.Store.files g.T.Store.may_leave g.T.Store.moment g.T.Store.image_since start.current nodes stands.all c.args.store.now c.begin.new.store c.begin.ensures.gate
+
+pub returns-in_err-save_nodes-clause-only_changed : goal.returns-in_err-save_nodes-clause-only_changed
+returns-in_err-save_nodes-clause-only_changed g c = λ tell stands.
+    let start : View = c.args.saved.now in
+    let nodes : List Branch = nodes_of g.F.SpillFile.held c.args.octree.now in
+    let begun : c.begin.new.saved.current ≡ start.current = ap (λ (v : View). v.current) c.in_ok-begin.ensures.begun in
+    let saved = saves-nodes g.T.Store.files g.T.Store.may_leave g.T.Store.moment g.T.Store.image_since start.current nodes stands.all c.args.store.now c.begin.new.store c.save_nodes.new.store stands.told (c.begin.ensures.keeps stands) c.begin.ensures.gate (λ all told. subst (λ (w : Current). Moves g.T.Store.files g.T.Store.may_leave g.T.Store.moment g.T.Store.image_since (PutsChanged w nodes all) c.begin.new.store c.save_nodes.new.store) begun (c.save_nodes.ensures.only_changed tell all told)) in
+    saved
+
+pub returns-in_err-commit-clause-only_changed : goal.returns-in_err-commit-clause-only_changed
+returns-in_err-commit-clause-only_changed g c = λ tell stands.
+    let start : View = c.args.saved.now in
+    let nodes : List Branch = nodes_of g.F.SpillFile.held c.args.octree.now in
+    let begun : c.begin.new.saved.current ≡ start.current = ap (λ (v : View). v.current) c.in_ok-begin.ensures.begun in
+    let saved = saves-nodes g.T.Store.files g.T.Store.may_leave g.T.Store.moment g.T.Store.image_since start.current nodes stands.all c.args.store.now c.begin.new.store c.save_nodes.new.store stands.told (c.begin.ensures.keeps stands) c.begin.ensures.gate (λ all told. subst (λ (w : Current). Moves g.T.Store.files g.T.Store.may_leave g.T.Store.moment g.T.Store.image_since (PutsChanged w nodes all) c.begin.new.store c.save_nodes.new.store) begun (c.save_nodes.ensures.only_changed tell all told)) in
+    let same : c.save_nodes.new.saved.current ≡ start.current = ap (λ (v : View). v.current) c.save_nodes.ensures.lines ∙ begun in
+    saves-commit g.T.Store.files g.T.Store.may_leave g.T.Store.moment g.T.Store.image_since start.current nodes stands.all c.args.store.now c.save_nodes.new.store c.commit.new.store saved (subst (λ (w : Current). Moves g.T.Store.files g.T.Store.may_leave g.T.Store.moment g.T.Store.image_since (λ (a b : Files). (name : List ℕ) → name ≢ body_name (next_letter w) → name ≢ gate_name (next_letter w) → b name ≡ a name) c.save_nodes.new.store c.commit.new.store) same c.commit.ensures.names)
+
+pub returns-clause-only_changed : goal.returns-clause-only_changed
+returns-clause-only_changed g c = λ tell stands.
+    let start : View = c.args.saved.now in
+    let nodes : List Branch = nodes_of g.F.SpillFile.held c.args.octree.now in
+    let begun : c.begin.new.saved.current ≡ start.current = ap (λ (v : View). v.current) c.in_ok-begin.ensures.begun in
+    let saved = saves-nodes g.T.Store.files g.T.Store.may_leave g.T.Store.moment g.T.Store.image_since start.current nodes stands.all c.args.store.now c.begin.new.store c.save_nodes.new.store stands.told (c.begin.ensures.keeps stands) c.begin.ensures.gate (λ all told. subst (λ (w : Current). Moves g.T.Store.files g.T.Store.may_leave g.T.Store.moment g.T.Store.image_since (PutsChanged w nodes all) c.begin.new.store c.save_nodes.new.store) begun (c.save_nodes.ensures.only_changed tell all told)) in
+    let same : c.save_nodes.new.saved.current ≡ start.current = ap (λ (v : View). v.current) c.save_nodes.ensures.lines ∙ begun in
+    saves-commit g.T.Store.files g.T.Store.may_leave g.T.Store.moment g.T.Store.image_since start.current nodes stands.all c.args.store.now c.save_nodes.new.store c.commit.new.store saved (subst (λ (w : Current). Moves g.T.Store.files g.T.Store.may_leave g.T.Store.moment g.T.Store.image_since (λ (a b : Files). (name : List ℕ) → name ≢ body_name (next_letter w) → name ≢ gate_name (next_letter w) → b name ≡ a name) c.save_nodes.new.store c.commit.new.store) same c.commit.ensures.names)

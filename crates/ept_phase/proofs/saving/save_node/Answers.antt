@@ -1,5 +1,5 @@
-use Rattle.std.proofs.Common.{◌≡◌, rules}
-use Rattle.std.specs.Prelude.{Ok, Err, true}
+use Rattle.std.proofs.Common.{◌≡◌, inl, inr, rules}
+use Rattle.std.specs.Prelude.{Ok, Err, true, false}
 use Rattle.ept_save.specs.Lines.{free_letter}
 use Rattle.ept_save.specs.Names.{work_tile_name}
 use Rattle.ept_save.proofs.LoadedLines.{handed-on}
@@ -12,6 +12,9 @@ use Rattle.ept_phase.proofs.saving.save_node.Goals as goal
 pub returns-in_err-has_node-clause-one_tile : goal.returns-in_err-has_node-clause-one_tile
 returns-in_err-has_node-clause-one_tile g c =
     same-but g.T.Store.files g.T.Store.may_leave g.T.Store.moment g.T.Store.image_since (work_tile_name (free_letter c.args.saved.now.current c.args.key) c.args.key) c.args.store.now c.has_node.new.store c.has_node.ensures.any_moment
+
+pub returns-in_err-has_node-clause-puts : goal.returns-in_err-has_node-clause-puts
+returns-in_err-has_node-clause-puts g c = λ all told. inl c.has_node.ensures.any_moment
 
 pub returns-in_err-has_node-clause-keeps : goal.returns-in_err-has_node-clause-keeps
 returns-in_err-has_node-clause-keeps g c =
@@ -36,6 +39,9 @@ pub returns-then-branch-clause-one_tile : goal.returns-then-branch-clause-one_ti
 returns-then-branch-clause-one_tile g c =
     same-but g.T.Store.files g.T.Store.may_leave g.T.Store.moment g.T.Store.image_since (work_tile_name (free_letter c.args.saved.now.current c.args.key) c.args.key) c.args.store.now c.has_node.new.store c.has_node.ensures.any_moment
 
+pub returns-then-branch-clause-puts : goal.returns-then-branch-clause-puts
+returns-then-branch-clause-puts g c = λ all told. inl c.has_node.ensures.any_moment
+
 pub returns-then-branch-clause-keeps : goal.returns-then-branch-clause-keeps
 returns-then-branch-clause-keeps g c =
     same-keeps g.T.Store.files g.T.Store.may_leave g.T.Store.moment g.T.Store.image_since c.args.saved.now.current c.args.store.now c.has_node.new.store c.has_node.ensures.any_moment
@@ -47,6 +53,11 @@ returns-clause-node g c =
 pub returns-clause-one_tile : goal.returns-clause-one_tile
 returns-clause-one_tile g c =
     but-then g.T.Store.files g.T.Store.may_leave g.T.Store.moment g.T.Store.image_since (work_tile_name (free_letter c.args.saved.now.current c.args.key) c.args.key) c.args.store.now c.has_node.new.store c.save_tile.new.store c.has_node.ensures.any_moment c.save_tile.ensures.one_tile
+
+pub returns-clause-puts : goal.returns-clause-puts
+returns-clause-puts g c = λ all told.
+    let is : c.has_node.result ≡ Ok false = search rules in
+    inr (c.has_node.ensures.has_not is all told, but-then g.T.Store.files g.T.Store.may_leave g.T.Store.moment g.T.Store.image_since (work_tile_name (free_letter c.args.saved.now.current c.args.key) c.args.key) c.args.store.now c.has_node.new.store c.save_tile.new.store c.has_node.ensures.any_moment c.save_tile.ensures.one_tile)
 
 pub returns-clause-keeps : goal.returns-clause-keeps
 returns-clause-keeps g c =

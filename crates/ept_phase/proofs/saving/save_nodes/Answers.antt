@@ -22,7 +22,8 @@ use Rattle.ept_phase.specs.Loaded.{HasNoDamage}
 use Rattle.ept_phase.specs.declared.error.PhaseError.TheVariants.{Save}
 use Rattle.ept_phase.specs.Errors.{of_node}
 use Rattle.ept_phase.specs.Saving.{SavesNode, keys_in}
-use Rattle.ept_phase.proofs.Compared.{keeps-none, keeps-then}
+use Rattle.ept_phase.proofs.Compared.{keeps-none, keeps-then, same-none}
+use Rattle.ept_phase.proofs.OnlyChanged.{puts-same, puts-more, puts-again}
 use Rattle.ept_phase.proofs.Lining.{take-next, drop-next}
 use Rattle.ept_octree.proofs.Sampled.{node-distinct}
 use Rattle.ept_phase.proofs.Refusing.{keeps-sound, save-fault, store-devices, store-refusal, store-no-spill, store-no-damage, devices-fault, node-devices, node-fault, node-damaged, node-tile, node-store}
@@ -35,6 +36,7 @@ pub loop-key-init : goal.loop-key-init
 loop-key-init g c = record {
   far = saved-none (IsTelling g.F.SpillFile.held) c.args.saved.now (nodes_of g.F.SpillFile.held c.args.octree.now) (g.T.Store.files c.args.store.now) c.requires.fresh c.requires.each;
   keeps = keeps-none g.T.Store.files g.T.Store.may_leave g.T.Store.moment g.T.Store.image_since c.args.saved.now.current c.args.store.now;
+  only = λ tell start told. puts-same g.T.Store.files g.T.Store.may_leave g.T.Store.moment g.T.Store.image_since c.args.saved.now.current (nodes_of g.F.SpillFile.held c.args.octree.now) start c.args.store.now c.args.store.now (same-none g.T.Store.files g.T.Store.may_leave g.T.Store.moment g.T.Store.image_since c.args.store.now);
   stands = λ stands. stands;
   later = omega arith;
   same = refl;
@@ -108,6 +110,7 @@ loop-key-preserved g c =
       far = subst (λ (w : List Branch). IsSavedTo telling start new w rest after) (take-next nodes i b at.1 at.2) more;
       keeps = keeps-then g.T.Store.files g.T.Store.may_leave g.T.Store.moment g.T.Store.image_since start.current c.args.store.now c.loop-key.store c.save_node.new.store c.loop-key.invariant.keeps
           (subst (λ (w : Current). Moves g.T.Store.files g.T.Store.may_leave g.T.Store.moment g.T.Store.image_since (Keeps w) c.loop-key.store c.save_node.new.store) (ap (λ (v : View). v.current) c.loop-key.invariant.far.view_is) c.save_node.ensures.keeps);
+      only = λ tell first told. puts-more g.T.Store.files g.T.Store.may_leave g.T.Store.moment g.T.Store.image_since start.current nodes first b at.3 c.args.store.now c.loop-key.store c.save_node.new.store told c.loop-key.invariant.keeps (c.loop-key.invariant.only tell first told) (λ mid told_mid. puts-again g.T.Store.files g.T.Store.may_leave g.T.Store.moment g.T.Store.image_since c.loop-key.store c.save_node.new.store mid now.current start.current key b.0 c.open_mask-mask.result b.1.mask points b.1.points (ap (λ (v : View). v.current) c.loop-key.invariant.far.view_is) (sym at.4) mask (points_are tell) (c.save_node.ensures.puts mid told_mid));
       stands = λ stands. c.save_node.ensures.stands (c.loop-key.invariant.stands stands);
       later = omega (arith, c.loop-key.invariant.later, c.save_node.ensures.cause.later);
       same = c.open_mask-mask.ensures.same ∙ (c.points_into.ensures.same ∙ c.loop-key.invariant.same);
@@ -124,6 +127,22 @@ returns-in_err-save_node-clause-keeps g c =
     let at = c.loop-key.invariant in
     keeps-then g.T.Store.files g.T.Store.may_leave g.T.Store.moment g.T.Store.image_since c.args.saved.now.current c.args.store.now c.loop-key.store c.save_node.new.store at.keeps
     (subst (λ (w : Current). Moves g.T.Store.files g.T.Store.may_leave g.T.Store.moment g.T.Store.image_since (Keeps w) c.loop-key.store c.save_node.new.store) (ap (λ (v : View). v.current) at.far.view_is) c.save_node.ensures.keeps)
+
+pub returns-in_err-save_node-clause-only_changed : goal.returns-in_err-save_node-clause-only_changed
+returns-in_err-save_node-clause-only_changed g c = λ tell first told.
+    let start : View = c.args.saved.now in
+    let now : View = c.loop-key.saved in
+    let nodes : List Branch = nodes_of g.F.SpillFile.held c.args.octree.now in
+    let key : VoxelKey = c.key-item.result in
+    let all : c.deref-key-items.result.now ≡ map key_of nodes = c.deref-key-items.ensures.value ∙ c.in_ok-keys.ensures.keys in
+    let at = node-at nodes c.deref-key-items.result.now c.loop-key.key-index key all c.loop-key-test.true c.key-item.is in
+    let b : Branch = at.0 in
+    let member : IsMember b (nodes_of g.F.SpillFile.held c.loop-key.octree) = subst (λ (w : List Branch). IsMember b w) (sym c.loop-key.invariant.same) at.3 in
+    let member_then : IsMember b (nodes_of g.F.SpillFile.held c.points_into.new.self) = subst (λ (w : List Branch). IsMember b w) (sym c.points_into.ensures.same) member in
+    let mask : c.open_mask-mask.result ≡ b.1.mask = c.open_mask-mask.ensures.mask b member_then at.4 in
+    let points : List Point = c.deref.result.now in
+    let points_are : points ≡ b.1.points = c.deref.ensures.value ∙ (c.in_ok-points_into.ensures.told tell b member at.4 ∙ ap (λ (w : List Point). w ++ b.1.points) c.clear.ensures.items) in
+    puts-more g.T.Store.files g.T.Store.may_leave g.T.Store.moment g.T.Store.image_since start.current nodes first b at.3 c.args.store.now c.loop-key.store c.save_node.new.store told c.loop-key.invariant.keeps (c.loop-key.invariant.only tell first told) (λ mid told_mid. puts-again g.T.Store.files g.T.Store.may_leave g.T.Store.moment g.T.Store.image_since c.loop-key.store c.save_node.new.store mid now.current start.current key b.0 c.open_mask-mask.result b.1.mask points b.1.points (ap (λ (v : View). v.current) c.loop-key.invariant.far.view_is) (sym at.4) mask points_are (c.save_node.ensures.puts mid told_mid))
 
 pub returns-in_err-save_node-clause-stands : goal.returns-in_err-save_node-clause-stands
 returns-in_err-save_node-clause-stands g c = λ stands. c.save_node.ensures.stands (c.loop-key.invariant.stands stands)

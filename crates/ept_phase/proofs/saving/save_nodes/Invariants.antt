@@ -1,9 +1,11 @@
-use Rattle.std.proofs.Common.{◌≡◌, ◌≤◌, take, drop}
+use Rattle.std.proofs.Common.{◌≡◌, ◌≤◌, take, drop, Some}
+use Rattle.ept_base.specs.Files.{Files}
 use Rattle.ept_base.specs.Moves.{Moves}
 use Rattle.ept_node.specs.Shown.{IsTelling}
 use Rattle.ept_octree.specs.Octree.{rules_of, most_of, cache_of, nodes_of, IsLinked, IsUnbroken, AgreesWithFiles}
 use Rattle.ept_save.specs.Current.{Keeps}
 use Rattle.ept_save.specs.View.{StandsFor}
+use Rattle.ept_phase.specs.Saving.{PutsChanged}
 use Rattle.ept_phase.proofs.SavedTo.{IsSavedTo}
 use Rattle.ept_phase.proofs.saving.save_nodes.Given as goal
 
@@ -16,6 +18,7 @@ invariant-loop-key g l =
     record {
       far : IsSavedTo (IsTelling held) l.initial.saved l.saved (take l.key-index all) (drop l.key-index all) (files l.store);
       keeps : Moves files may_leave g.T.Store.moment g.T.Store.image_since (Keeps l.initial.saved.current) l.initial.store l.store;
+      only : IsTelling held → (start : Files) → files l.initial.store ≡ Some start → Moves files may_leave g.T.Store.moment g.T.Store.image_since (PutsChanged l.initial.saved.current all start) l.initial.store l.store;
       stands : StandsFor l.initial.saved (files l.initial.store) (may_leave l.initial.store) → StandsFor l.saved (files l.store) (may_leave l.store);
       later : g.T.Store.faults l.initial.store ≤ g.T.Store.faults l.store;
       same : nodes_of held l.octree ≡ all;

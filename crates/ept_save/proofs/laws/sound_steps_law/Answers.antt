@@ -1,6 +1,6 @@
 use Rattle.ept_scan.proofs.OneScan.{scan_once}
 use Rattle.ept_save.proofs.OtherShelf.{inputs-enough}
-use Rattle.ept_save.proofs.SoundFiles.{same-sound, keeping-sound, guarding-sound, putting-sound, committing-sound}
+use Rattle.ept_save.proofs.SoundFiles.{same-sound, keeping-sound, beside-sound, guarding-sound, putting-sound, committing-sound}
 use Rattle.ept_save.proofs.laws.sound_steps_law.Goals as goal
 
 pub returns-clause-same : goal.returns-clause-same
@@ -8,6 +8,9 @@ returns-clause-same c = same-sound c.output_names_law.ensures.names c.output_nam
 
 pub returns-clause-keeping : goal.returns-clause-keeping
 returns-clause-keeping c = keeping-sound c.output_names_law.ensures.names c.output_names_law.ensures.outside
+
+pub returns-clause-beside : goal.returns-clause-beside
+returns-clause-beside c = beside-sound c.output_names_law.ensures.names c.output_names_law.ensures.outside
 
 pub returns-clause-guarding : goal.returns-clause-guarding
 returns-clause-guarding c =

@@ -9,7 +9,7 @@ use Rattle.ept_node.specs.declared.error.NodeError.TheVariants as node
 use Rattle.ept_work.specs.declared.error.WorkError.{WorkError}
 use Rattle.ept_work.specs.Working.{IsCause}
 use Rattle.ept_work.proofs.Results.{all-ok, cause-of, ends-fits, ends-landed, ends-sampling, ends-drawn, ends-sound, ends-fault, ends-changed, ends-no-change}
-use Rattle.ept_work.proofs.Settled.{settled-again, cause-again, whole-again, settled-fault, broken-there, some-fault, no-damage}
+use Rattle.ept_work.proofs.Settled.{settled-again, cause-again, whole-again, settled-fault, broken-there, own-fault, no-damage}
 use Rattle.ept_work.proofs.inserting.insert_all.Goals as goal
 
 pub returns-clause-landed : goal.returns-clause-landed
@@ -119,7 +119,7 @@ pub returns-clause-spill_fault : goal.returns-clause-spill_fault
 returns-clause-spill_fault g c = λ is. (
     let nodes = nodes_of c.close-forest.result.0 in
     let broken = settled-fault c.fault.result c.work_all-seat.result.result node.SpillFault (λ e. let x : SpillFault ≡ Memory = e in cc) (sym c.settled-result.ensures ∙ is) in
-    some-fault g.F.SpillFile.held g.F.SpillFile.faults g.F.SpillFile.keeps g.J.Scan.told nodes c.close-forest.ensures.nodes (broken-there nodes c.fault.result node.SpillFault c.fault.ensures.some broken))
+    own-fault g.F.SpillFile.held g.F.SpillFile.faults g.F.SpillFile.keeps g.J.Scan.told nodes c.close-forest.ensures.nodes (broken-there nodes c.fault.result node.SpillFault c.fault.ensures.some broken))
 
 pub returns-clause-damaged : goal.returns-clause-damaged
 returns-clause-damaged g c = λ kept found at is. (
