@@ -4,6 +4,7 @@ mod Apart
 mod Fits
 mod Once
 mod Sets
+mod Pages
 mod Sums
 mod Beating
 mod Masks

@@ -1,10 +1,9 @@
 -- Keys and ids as sets and lists.
-use Rattle.std.proofs.Common.{◌≡◌, ◌≢◌, ◌∙◌, ◌+◌, ◌<◌, ◌≤◌, ℕ, zero, suc, Bool, true, false, cond, ◌||◌, ◌&&◌, ◌==◌, inl, inr, ◌⊎◌, List, [], ◌∷◌, ◌++◌, length, map, get_or, take, refl, sym, ap, subst, arith, Ordering, Less, Equal, Greater}
+use Rattle.std.proofs.Common.{◌≡◌, ◌≢◌, ◌∙◌, ◌+◌, ◌<◌, ◌≤◌, ℕ, zero, suc, Bool, true, false, cond, ◌||◌, inl, inr, ◌⊎◌, List, [], ◌∷◌, ◌++◌, length, map, get_or, take, refl, sym, ap, subst, arith, Ordering, Less, Equal, Greater}
 use Rattle.std.specs.List.{All, list_any, Contains}
-use Rattle.std.specs.Ordering.{nat_cmp, is_eq, ordering_then}
+use Rattle.std.specs.Ordering.{is_eq}
 use Rattle.std.specs.BTreeMap.{is_at}
 use Rattle.std.proofs.lemmas.Bool.{false≢true}
-use Rattle.std.proofs.lemmas.Bool.Decides.{nat_tests}
 use Rattle.std.proofs.Math.Seq.{take-length}
 use Rattle.std.proofs.lemmas.Bool.{cases_lt}
 use Rattle.std.proofs.lemmas.List.{take_more, map-append, get_or-take, get_or_default, length-take}
@@ -27,7 +26,7 @@ use Rattle.ept_fit.specs.Fit.{is_among, has_child, IsInOctree, HasParent}
 use Rattle.ept_fit.proofs.Keys.{among-member}
 use Rattle.ept_check.specs.declared.octree.Octree.{Octree}
 use Rattle.ept_check.specs.Folder.{IsFirstOrphan}
-use Rattle.ept_check.specs.Walking.{IsOctree, id_cmp, is_one_id, is_of}
+use Rattle.ept_check.specs.Walking.{IsOctree, is_one_id, is_of}
 
 -- ---- one key in a set
 
@@ -184,12 +183,6 @@ cube-shallow octree is =
     let low = is.cube.span_low in let whole = is.cube.cells_whole in let high = is.cube.side_high in omega (arith, low, whole, high)
 
 -- ---- ids
-
-id-true : (a b : PointId) → is_one_id a b ≡ true → a ≡ b
-id-true a b is = grind (arith, nat_tests)
-
-pub id-at : (a b : PointId) → is_at (id_cmp a) b ≡ is_one_id a b
-id-at a b = grind (arith, nat_tests)
 
 pub id-more : (points : List Point) (i : ℕ) (p : Point) (q : PointId) (mid new first : Bool) → i < length points → p ≡ get_or points i p → mid ≡ (first || is_of (take i points) q) → new ≡ (mid || is_one_id (id p) q) → new ≡ (first || is_of (take (i + 1) points) q)
 id-more points i p q mid new first within at was put =

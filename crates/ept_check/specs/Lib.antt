@@ -3,6 +3,7 @@ pub mod Facts
 pub mod Folder
 pub mod Answers
 pub mod Causes
+pub mod Pages
 pub mod Walking
 pub mod Looking
 pub mod Verdicts

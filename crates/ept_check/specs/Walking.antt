@@ -4,8 +4,6 @@ use Rattle.std.specs.List.{All, AllPairs, list_any}
 use Rattle.std.specs.Option.{unwrap_or}
 use Rattle.std.specs.BTreeMap.{BTreeMap, get}
 use Rattle.std.specs.BTreeSet.{contains}
-use Rattle.std.specs.declared.cmp.Ordering.{Ordering}
-use Rattle.std.specs.Ordering.{nat_cmp, ordering_then}
 use Rattle.ept_point.specs.declared.point.Point.{Point}
 use Rattle.ept_point.specs.declared.id.PointId.{PointId}
 use Rattle.ept_point.specs.Order.{id}
@@ -19,6 +17,7 @@ use Rattle.ept_hier.specs.Hierarchy.{Node, keys_of}
 use Rattle.ept_fit.specs.Fit.{is_among}
 use Rattle.ept_check.specs.declared.octree.Octree.{Octree}
 use Rattle.ept_check.specs.declared.ids.Ids.{Ids}
+use Rattle.ept_check.specs.Pages.{is_noted}
 use Rattle.ept_check.specs.Nodes.{counted_within, AreInOctree, ComesBefore}
 
 -- ---- the hierarchy in memory
@@ -47,12 +46,9 @@ padded (suc n) (step ∷ steps) = suc step ∷ padded n steps
 
 -- ---- the ids so far
 
-abbrev pub id_cmp : PointId → PointId → Ordering
-id_cmp a b = ordering_then (nat_cmp a.origin b.origin) (nat_cmp a.number b.number)
-
 -- an id is one of those so far
-abbrev pub has_id : Ids → PointId → Bool
-has_id ids one = contains id_cmp ids.ids one
+unfoldable pub has_id : Ids → PointId → Bool
+has_id ids one = is_noted ids.pages one
 
 -- the two are one
 abbrev pub is_one_id : PointId → PointId → Bool

@@ -13,6 +13,7 @@ mod ids;
 mod keys;
 mod octree;
 mod orphans;
+mod page;
 mod preorder;
 mod seen;
 mod totals;

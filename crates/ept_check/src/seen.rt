@@ -70,7 +70,7 @@ impl Seen {
             Some(fault) => return Ok(Some(fault)),
             None => {}
         }
-        self.take(grid, points)?;
+        self.take(alloc, grid, points)?;
         Ok(None)
     }
 
@@ -100,13 +100,13 @@ impl Seen {
 
     // One more node. Of the others at most as many stay as there are above it: those are the first, since a node above stands no
     // deeper in the list than in the octree.
-    fn take(&mut self, grid: Grid, points: &[Point]) -> Result<(), Memory>
+    fn take(&mut self, alloc: Global, grid: Grid, points: &[Point]) -> Result<(), Memory>
         requires { IsStack self.old.above.items }
         ensures stack { OnOk result (IsStack self.new.above.items) }
         ensures above { OnOk result (HasCome grid self.old.above.items self.new.above.items) }
         ensures ids { OnOk result ((q : PointId) → has_id self.new.ids q ≡ (has_id self.old.ids q || is_of points.now q)) }
     {
-        self.ids.insert_all(points)?;
+        self.ids.insert_all(alloc, points)?;
         self.above.truncate(usize::from(grid.key().depth));
         self.above.push(grid)?;
         Ok(())
