@@ -16,6 +16,7 @@ use Rattle.ept_conn.specs.Held.{fresh, fed, has_turn}
 use Rattle.ept_conn.specs.Turns.{AreDue}
 use Rattle.ept_conn.specs.Answers.{Served, chunk, chunks, last_chunk, answer_to, answer, answers, query_answer, AreAnswers}
 use Rattle.ept_conn.specs.State.{State, IsFit}
+use Rattle.ept_conn.specs.Wanted.{kept_of}
 use Rattle.ept_conn.specs.Works.{IsPlanned, IsLastOf, IsLastWord, Stops}
 use Rattle.ept_conn.specs.Ends.{has_last, EndsItself, IsCutOff, IsQueryFront, AreLastWords, IsStatus, IsBroken}
 use Rattle.ept_conn.specs.History.{turns_in, begun_of, rest_of, Goes}
@@ -91,15 +92,15 @@ pub hand-answers : (served : Served) (hand : Hand) → IsPlanned served hand →
 hand-answers served Empty planned = answers-none served
 hand-answers served (Decided turn) planned = answers-one served turn
 hand-answers served (Tiles turn plan done) planned =
-    let f : Node → List ℕ = λ node. chunk (served.part plan.area node) in
+    let f : Node → List ℕ = λ node. chunk (kept_of turn.asked (served.part plan.area node)) in
     let h = head_text (head.Query turn.last) in
-    let whole : chunks served plan.area plan.tiles ≡ chunks served plan.area (take done plan.tiles) ++ chunks served plan.area (drop done plan.tiles) =
+    let whole : chunks served turn.asked plan.area plan.tiles ≡ chunks served turn.asked plan.area (take done plan.tiles) ++ chunks served turn.asked plan.area (drop done plan.tiles) =
     ap (flat_map f) (sym (take-append-drop done plan.tiles)) ∙ flat_map-append f (take done plan.tiles) (drop done plan.tiles) in
     answers-one served turn
     ∙ wants-answer served turn.asked plan.area planned.first planned.second turn.last planned.wants
-    ∙ ap (λ (p : Option (List Node)). query_answer served plan.area turn.last p) planned.plan_is
+    ∙ ap (λ (p : Option (List Node)). query_answer served turn.asked plan.area turn.last p) planned.plan_is
     ∙ ap (λ (w : List ℕ). h ++ (w ++ last_chunk)) whole
-    ∙ joined h (chunks served plan.area (take done plan.tiles)) (chunks served plan.area (drop done plan.tiles)) last_chunk
+    ∙ joined h (chunks served turn.asked plan.area (take done plan.tiles)) (chunks served turn.asked plan.area (drop done plan.tiles)) last_chunk
   where
     joined : (h a b l : List ℕ) → h ++ ((a ++ b) ++ l) ≡ (h ++ a) ++ (b ++ l)
     joined h a b l = simp (append_assoc, append-nil) refl
@@ -132,15 +133,15 @@ goes-broken served reason bytes sent old g =
 -- the front of an answer to a query is one of the answers
 query-split : (served : Served) (turn : Turn) (others : List Turn) (words : List ℕ) → IsQueryFront served turn words → (tail : List ℕ) × (answers served (turn ∷ others) ≡ words ++ tail)
 query-split served turn others words front =
-    let f : Node → List ℕ = λ node. chunk (served.part front.area node) in
+    let f : Node → List ℕ = λ node. chunk (kept_of turn.asked (served.part front.area node)) in
     let h = head_text (head.Query turn.last) in
-    let a = chunks served front.area (take front.done front.nodes) in
-    let b = chunks served front.area (drop front.done front.nodes) in
-    let whole : chunks served front.area front.nodes ≡ a ++ b =
+    let a = chunks served turn.asked front.area (take front.done front.nodes) in
+    let b = chunks served turn.asked front.area (drop front.done front.nodes) in
+    let whole : chunks served turn.asked front.area front.nodes ≡ a ++ b =
     ap (flat_map f) (sym (take-append-drop front.done front.nodes)) ∙ flat_map-append f (take front.done front.nodes) (drop front.done front.nodes) in
     let one : answer served turn ≡ h ++ ((a ++ b) ++ last_chunk) =
     wants-answer served turn.asked front.area front.first front.second turn.last front.wants
-    ∙ ap (λ (p : Option (List Node)). query_answer served front.area turn.last p) front.plan
+    ∙ ap (λ (p : Option (List Node)). query_answer served turn.asked front.area turn.last p) front.plan
     ∙ ap (λ (w : List ℕ). h ++ (w ++ last_chunk)) whole in
     let rest = answers served others in (
       (b ++ last_chunk) ++ rest,

@@ -60,6 +60,7 @@ next-falls old new turn is = turns-fall 65536 old.given new.given old.ended new.
 tasks-to : (a : Asked) (turn : Turn) → tasks_of (hand_to a turn) ≤ 2 ^ 64
 tasks-to (asked.File name) turn = omega arith
 tasks-to (asked.Query area first second) turn = omega arith
+tasks-to (asked.Select area first second sift) turn = omega arith
 tasks-to (asked.Refuse status) turn = omega arith
 
 tasks-at : (turn : Turn) (plan : Plan) (done : ℕ) (b : Bool) → nat_lt (done + 1) (length plan.tiles) ≡ b → done < length plan.tiles → tasks_of (hand_at turn plan (done + 1)) < length plan.tiles - done

@@ -1,9 +1,11 @@
 -- What a session has sent over any list of calls.
-use Rattle.std.proofs.Common.{◌≡◌, ◌∙◌, ◌⊎◌, inl, inr, ℕ, List, [], ◌∷◌, ◌++◌, length, arith, Bool, true, false, ◌||◌, Option, Some, None, IfSome, refl, sym, ap, subst, append_assoc, append-nil}
+use Rattle.std.proofs.Common.{◌≡◌, ◌≤◌, ◌∙◌, ◌⊎◌, inl, inr, ℕ, List, [], ◌∷◌, ◌++◌, length, arith, Bool, true, false, ◌||◌, Option, Some, None, IfSome, refl, sym, ap, subst, append_assoc, append-nil}
+use Rattle.std.specs.Prelude.{⊤}
 use Rattle.ept_base.specs.Files.{Files}
 use Rattle.ept_http.specs.declared.asked.Asked.{Asked}
 use Rattle.ept_http.specs.declared.asked.Asked.TheVariants as asked
 use Rattle.ept_http.specs.Answers.{MayBeAsked}
+use Rattle.ept_http.specs.QueryWords.{IsOrdered}
 use Rattle.ept_query.specs.declared.query_error.QueryFile.{QueryFile}
 use Rattle.ept_query.specs.declared.query_error.QueryFile.TheVariants as file
 use Rattle.ept_conn.specs.declared.hand.Hand.{Hand}
@@ -14,10 +16,11 @@ use Rattle.ept_conn.specs.declared.end.End.{End}
 use Rattle.ept_conn.specs.declared.end.End.TheVariants as end
 use Rattle.ept_conn.specs.declared.end.Want.TheVariants as want
 use Rattle.ept_conn.specs.Held.{has_turn}
+use Rattle.ept_conn.specs.Wanted.{Wanted, wanted}
 use Rattle.ept_conn.specs.Answers.{Served, answers, AreAnswers}
 use Rattle.ept_conn.specs.Served.{IsServed}
 use Rattle.ept_conn.specs.State.{State, IsFit, started, end_of, wants, want_of, feeds}
-use Rattle.ept_conn.specs.Works.{IsPlanned, Stops, IsDamagedFor, IsDamagedIn}
+use Rattle.ept_conn.specs.Works.{IsPlanned, Stops, IsDamagedOf, IsDamagedFor, IsDamagedIn}
 use Rattle.ept_conn.specs.Ends.{EndsItself, IsCutOff, AreLastWords, IsStatus, IsBroken, IsEnd}
 use Rattle.ept_conn.specs.History.{turns_in, begun_of, rest_of, Goes, HasFor, Has, IsOwed}
 use Rattle.ept_conn.specs.SessionCalls.{SessionCall, Fed, Worked, Sent, Failed, HasWorked, Leads, LeadsOn, fed_by, sent_by}
@@ -28,19 +31,32 @@ use Rattle.ept_conn.proofs.Wanting.{IsAtRest, work-parts, read-parts, write-some
 
 -- ---- no file that is served is damaged
 
-undamaged-for : (files : Files) (served : Served) (a : Asked) (found : QueryFile) → IsServed files served → MayBeAsked a → IsDamagedFor a found files → ⊥
-undamaged-for files served (asked.File name) found is may damaged = damaged
-undamaged-for files served (asked.Refuse status) found is may damaged = damaged
-undamaged-for files served (asked.Query area first second) file.BuildJson (inl shut) may damaged = shut.done damaged.0
-undamaged-for files served (asked.Query area first second) file.BuildJson (inr is) may damaged =
-    let has = (is.plan area first second may.0 may.1).2 in damaged.1 has.build.0 has.build.1
-undamaged-for files served (asked.Query area first second) (file.Hierarchy key) (inl shut) may damaged = shut.done damaged.0
-undamaged-for files served (asked.Query area first second) (file.Hierarchy key) (inr is) may damaged =
-    let has = (is.plan area first second may.0 may.1).2 in
+-- the points that are wanted can be asked for
+abbrev MayBeWanted : Option Wanted → Type 0
+MayBeWanted None = ⊤
+MayBeWanted (Some points) = IsOrdered points.area × (points.first ≤ points.second)
+
+may-wanted : (a : Asked) → MayBeAsked a → MayBeWanted (wanted a)
+may-wanted (asked.File name) may = tt
+may-wanted (asked.Query area first second) may = (may.0, may.1)
+may-wanted (asked.Select area first second sift) may = (may.0, may.1)
+may-wanted (asked.Refuse status) may = tt
+
+undamaged-of : (files : Files) (served : Served) (w : Option Wanted) (found : QueryFile) → IsServed files served → MayBeWanted w → IsDamagedOf w found files → ⊥
+undamaged-of files served None found is may damaged = damaged
+undamaged-of files served (Some points) file.BuildJson (inl shut) may damaged = shut.done damaged.0
+undamaged-of files served (Some points) file.BuildJson (inr is) may damaged =
+    let has = (is.plan points.area points.first points.second may.0 may.1).2 in damaged.1 has.build.0 has.build.1
+undamaged-of files served (Some points) (file.Hierarchy key) (inl shut) may damaged = shut.done damaged.0
+undamaged-of files served (Some points) (file.Hierarchy key) (inr is) may damaged =
+    let has = (is.plan points.area points.first points.second may.0 may.1).2 in
     let at = damaged.1.1 has.build.0 has.build.1 in
     let there = has.each has.build.0 has.build.1 key at.needed in
     at.damaged there.0 there.1
-undamaged-for files served (asked.Query area first second) (file.Tile key) is may damaged = damaged
+undamaged-of files served (Some points) (file.Tile key) is may damaged = damaged
+
+undamaged-for : (files : Files) (served : Served) (a : Asked) (found : QueryFile) → IsServed files served → MayBeAsked a → IsDamagedFor a found files → ⊥
+undamaged-for files served a found is may damaged = undamaged-of files served (wanted a) found is (may-wanted a may) damaged
 
 undamaged : (files : Files) (served : Served) (hand : Hand) (found : QueryFile) → IsServed files served → IsFit hand → IsPlanned served hand → IsDamagedIn hand found files → ⊥
 undamaged files served Empty found is fit planned damaged = damaged

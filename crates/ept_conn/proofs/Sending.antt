@@ -21,7 +21,7 @@ use Rattle.ept_conn.specs.HeadEnd.{Front, Whole, Long, Short, front}
 use Rattle.ept_conn.specs.Turns.{AreDue, IsFirst, IsNext}
 use Rattle.ept_conn.specs.Answers.{Served, chunk, chunks, last_chunk, answer_to, answer, answers, query_answer}
 use Rattle.ept_conn.specs.State.{State, IsFit, started, feeds}
-use Rattle.ept_conn.specs.Wanted.{wanted}
+use Rattle.ept_conn.specs.Wanted.{wanted, Wants, kept_of}
 use Rattle.ept_conn.specs.Works.{IsTurnsPlan, IsPlanned, hand_to, out_to, hand_at, end_at, Begins, Gets, WorksOn, Works}
 use Rattle.ept_conn.specs.Ends.{has_last}
 use Rattle.ept_conn.specs.History.{turns_in, begun_of, Goes}
@@ -45,9 +45,9 @@ answers-one served turn = append-nil (answer served turn)
 answers-more : (served : Served) (before : List Turn) (turn : Turn) → answers served before ++ answer served turn ≡ answers served (before ++ turn ∷ [])
 answers-more served before turn = ap (λ (w : List ℕ). answers served before ++ w) (sym (answers-one served turn)) ∙ sym (answers-append served before (turn ∷ []))
 
-chunks-more : (served : Served) (area : Box3) (nodes : List Node) (done : ℕ) → done < length nodes → chunks served area (take (done + 1) nodes) ≡ chunks served area (take done nodes) ++ chunk (served.part area (get_or nodes done (root, 0)))
-chunks-more served area nodes done within =
-    let f : Node → List ℕ = λ node. chunk (served.part area node) in
+chunks-more : (served : Served) (a : Asked) (area : Box3) (nodes : List Node) (done : ℕ) → done < length nodes → chunks served a area (take (done + 1) nodes) ≡ chunks served a area (take done nodes) ++ chunk (kept_of a (served.part area (get_or nodes done (root, 0))))
+chunks-more served a area nodes done within =
+    let f : Node → List ℕ = λ node. chunk (kept_of a (served.part area node)) in
     ap (flat_map f) (take_more nodes done (root, 0) within)
     ∙ flat_map-append f (take done nodes) (get_or nodes done (root, 0) ∷ [])
     ∙ ap (λ (w : List ℕ). flat_map f (take done nodes) ++ w) (append-nil (f (get_or nodes done (root, 0))))
@@ -177,6 +177,8 @@ decided-goes served bytes sent before new turn (asked.File name) is may stands a
     stays served bytes sent before turn new (Decided turn) stands hand refl may tt (ap (λ (w : List ℕ). sent ++ w) out ∙ append-nil sent ∙ all ∙ sym (append-nil (answers served before)))
 decided-goes served bytes sent before new turn (asked.Query area first second) is may stands all hand out =
     stays served bytes sent before turn new (Decided turn) stands hand refl may tt (ap (λ (w : List ℕ). sent ++ w) out ∙ append-nil sent ∙ all ∙ sym (append-nil (answers served before)))
+decided-goes served bytes sent before new turn (asked.Select area first second sift) is may stands all hand out =
+    stays served bytes sent before turn new (Decided turn) stands hand refl may tt (ap (λ (w : List ℕ). sent ++ w) out ∙ append-nil sent ∙ all ∙ sym (append-nil (answers served before)))
 decided-goes served bytes sent before new turn (asked.Refuse status) is may stands all hand out =
     let text : new.out ≡ answer served turn = out ∙ sym (ap (λ (a : Asked). answer_to served a turn.last) is) in
     answered served bytes sent before turn new stands hand (ap (λ (w : List ℕ). sent ++ w) text ∙ ap (λ (w : List ℕ). w ++ answer served turn) all)
@@ -202,29 +204,29 @@ shifted a h c k = simp (append_assoc, append-nil) refl
 shifted-over : (a h c k l : List ℕ) → (a ++ (h ++ c)) ++ (k ++ l) ≡ a ++ (h ++ ((c ++ k) ++ l))
 shifted-over a h c k l = simp (append_assoc, append-nil) refl
 
-tile-goes : (served : Served) (bytes sent : List ℕ) (before : List Turn) (turn : Turn) (plan : Plan) (done : ℕ) (new : State) (b : Bool) → nat_lt (done + 1) (length plan.tiles) ≡ b → done < length plan.tiles → IsTurnsPlan served turn plan → Stands bytes new.held before turn → sent ≡ answers served before ++ begun_of served (Tiles turn plan done) → new.hand ≡ hand_at turn plan (done + 1) → new.out ≡ chunk (served.part plan.area (node_at plan done)) ++ end_at plan (done + 1) → Goes served bytes sent new
+tile-goes : (served : Served) (bytes sent : List ℕ) (before : List Turn) (turn : Turn) (plan : Plan) (done : ℕ) (new : State) (b : Bool) → nat_lt (done + 1) (length plan.tiles) ≡ b → done < length plan.tiles → IsTurnsPlan served turn plan → Stands bytes new.held before turn → sent ≡ answers served before ++ begun_of served (Tiles turn plan done) → new.hand ≡ hand_at turn plan (done + 1) → new.out ≡ chunk (kept_of turn.asked (served.part plan.area (node_at plan done))) ++ end_at plan (done + 1) → Goes served bytes sent new
 tile-goes served bytes sent before turn plan done new true more within planned stands all hand out =
     let there = more-at turn plan (done + 1) more in
-    let k = chunk (served.part plan.area (node_at plan done)) in
+    let k = chunk (kept_of turn.asked (served.part plan.area (node_at plan done))) in
     let text : new.out ≡ k ++ [] = out ∙ ap (λ (w : List ℕ). k ++ w) there.1 in
-    let front = chunks served plan.area (take done plan.tiles) in
+    let front = chunks served turn.asked plan.area (take done plan.tiles) in
     let written : sent ++ new.out ≡ answers served before ++ begun_of served (Tiles turn plan (done + 1)) =
     ap (λ (w : List ℕ). sent ++ w) text ∙ ap (λ (w : List ℕ). w ++ (k ++ [])) all
     ∙ shifted (answers served before) (head_text (head.Query turn.last)) front k
-    ∙ sym (ap (λ (w : List ℕ). answers served before ++ (head_text (head.Query turn.last) ++ w)) (chunks-more served plan.area plan.tiles done within)) in
+    ∙ sym (ap (λ (w : List ℕ). answers served before ++ (head_text (head.Query turn.last) ++ w)) (chunks-more served turn.asked plan.area plan.tiles done within)) in
     stays served bytes sent before turn new (Tiles turn plan (done + 1)) stands (hand ∙ there.0) refl (fit-more (done + 1) (length plan.tiles) more) planned written
   where
     fit-more : (n m : ℕ) → nat_lt n m ≡ true → n < m
     fit-more n m is = grind (arith, is)
 tile-goes served bytes sent before turn plan done new false over within planned stands all hand out =
     let there = over-at turn plan (done + 1) over in
-    let k = chunk (served.part plan.area (node_at plan done)) in
+    let k = chunk (kept_of turn.asked (served.part plan.area (node_at plan done))) in
     let text : new.out ≡ k ++ last_chunk = out ∙ ap (λ (w : List ℕ). k ++ w) there.1 in
-    let front = chunks served plan.area (take done plan.tiles) in
-    let whole : chunks served plan.area plan.tiles ≡ front ++ k =
-    sym (ap (chunks served plan.area) (take_all (done + 1) plan.tiles (not-more done plan over))) ∙ chunks-more served plan.area plan.tiles done within in
-    let answer-is : answer served turn ≡ head_text (head.Query turn.last) ++ (chunks served plan.area plan.tiles ++ last_chunk) =
-    wants-answer served turn.asked plan.area planned.first planned.second turn.last planned.wants ∙ ap (λ (p : Option (List Node)). query_answer served plan.area turn.last p) planned.plan_is in
+    let front = chunks served turn.asked plan.area (take done plan.tiles) in
+    let whole : chunks served turn.asked plan.area plan.tiles ≡ front ++ k =
+    sym (ap (chunks served turn.asked plan.area) (take_all (done + 1) plan.tiles (not-more done plan over))) ∙ chunks-more served turn.asked plan.area plan.tiles done within in
+    let answer-is : answer served turn ≡ head_text (head.Query turn.last) ++ (chunks served turn.asked plan.area plan.tiles ++ last_chunk) =
+    wants-answer served turn.asked plan.area planned.first planned.second turn.last planned.wants ∙ ap (λ (p : Option (List Node)). query_answer served turn.asked plan.area turn.last p) planned.plan_is in
     let written : sent ++ new.out ≡ answers served before ++ answer served turn =
     ap (λ (w : List ℕ). sent ++ w) text ∙ ap (λ (w : List ℕ). w ++ (k ++ last_chunk)) all
     ∙ shifted-over (answers served before) (head_text (head.Query turn.last)) front k last_chunk
@@ -234,22 +236,26 @@ tile-goes served bytes sent before turn plan done new false over within planned 
     not-more : (done : ℕ) (plan : Plan) → nat_lt (done + 1) (length plan.tiles) ≡ false → length plan.tiles ≤ done + 1
     not-more done plan over = grind (arith, over)
 
-begun-goes : (served : Served) (bytes sent : List ℕ) (before : List Turn) (turn : Turn) (area : Box3) (first second : ℕ) (found : Option (List Node)) (new : State) → turn.asked ≡ asked.Query area first second → served.plan area first second ≡ found → Stands bytes new.held before turn → sent ≡ answers served before → Begins turn area found new → Goes served bytes sent new
-begun-goes served bytes sent before turn area first second None new is plan_is stands all begins =
-    answered-at-once served bytes sent before turn (asked.Query area first second) new is stands all begins.0 (begins.1 ∙ sym (ap (query_answer served area turn.last) plan_is))
-begun-goes served bytes sent before turn area first second (Some []) new is plan_is stands all begins =
-    answered-at-once served bytes sent before turn (asked.Query area first second) new is stands all begins.0 (begins.1 ∙ sym (ap (query_answer served area turn.last) plan_is))
-begun-goes served bytes sent before turn area first second (Some (n ∷ ns)) new is plan_is stands all begins =
+begun-goes : (served : Served) (bytes sent : List ℕ) (before : List Turn) (turn : Turn) (a : Asked) (area : Box3) (first second : ℕ) (found : Option (List Node)) (new : State) → turn.asked ≡ a → Wants a area first second → served.plan area first second ≡ found → Stands bytes new.held before turn → sent ≡ answers served before → Begins turn area found new → Goes served bytes sent new
+begun-goes served bytes sent before turn a area first second None new is wants plan_is stands all begins =
+    let text = wants-answer served a area first second turn.last wants ∙ ap (query_answer served a area turn.last) plan_is in
+    answered-at-once served bytes sent before turn a new is stands all begins.0 (begins.1 ∙ sym text)
+begun-goes served bytes sent before turn a area first second (Some []) new is wants plan_is stands all begins =
+    let text = wants-answer served a area first second turn.last wants ∙ ap (query_answer served a area turn.last) plan_is in
+    answered-at-once served bytes sent before turn a new is stands all begins.0 (begins.1 ∙ sym text)
+begun-goes served bytes sent before turn a area first second (Some (n ∷ ns)) new is wants plan_is stands all begins =
     let plan : Plan = record { area = area; tiles = n ∷ ns } in
     let there = more-at turn plan 0 (grind arith) in
     let text : new.out ≡ head_text (head.Query turn.last) ++ [] = begins.1 ∙ ap (λ (w : List ℕ). head_text (head.Query turn.last) ++ w) there.1 in
-    stays served bytes sent before turn new (Tiles turn plan 0) stands (begins.0 ∙ there.0) refl (omega arith) (record { first = first; second = second; wants = ap wanted is; plan_is = plan_is }) (ap (λ (w : List ℕ). sent ++ w) text ∙ ap (λ (w : List ℕ). w ++ (head_text (head.Query turn.last) ++ [])) all)
+    stays served bytes sent before turn new (Tiles turn plan 0) stands (begins.0 ∙ there.0) refl (omega arith) (record { first = first; second = second; wants = ap wanted is ∙ wants; plan_is = plan_is }) (ap (λ (w : List ℕ). sent ++ w) text ∙ ap (λ (w : List ℕ). w ++ (head_text (head.Query turn.last) ++ [])) all)
 
 got-goes : (served : Served) (bytes sent : List ℕ) (before : List Turn) (turn : Turn) (a : Asked) (new : State) → turn.asked ≡ a → Stands bytes new.held before turn → sent ≡ answers served before → Gets served turn a new → Goes served bytes sent new
 got-goes served bytes sent before turn (asked.File name) new is stands all gets =
     answered-at-once served bytes sent before turn (asked.File name) new is stands all gets.0 gets.1
 got-goes served bytes sent before turn (asked.Query area first second) new is stands all gets =
-    begun-goes served bytes sent before turn area first second (served.plan area first second) new is refl stands all gets
+    begun-goes served bytes sent before turn (asked.Query area first second) area first second (served.plan area first second) new is refl refl stands all gets
+got-goes served bytes sent before turn (asked.Select area first second sift) new is stands all gets =
+    begun-goes served bytes sent before turn (asked.Select area first second sift) area first second (served.plan area first second) new is refl refl stands all gets
 got-goes served bytes sent before turn (asked.Refuse status) new is stands all gets =
     answered-at-once served bytes sent before turn (asked.Refuse status) new is stands all gets.0 gets.1
 

@@ -37,13 +37,14 @@ file-some : (json last : Bool) (content : Option (List ℕ)) → 0 < length (fil
 file-some json last None = head-some (head.Refusal 404 last)
 file-some json last (Some content) = longer (head_text (head.File json (length content) last)) content (head-some (head.File json (length content) last))
 
-query-some : (served : Served) (area : _) (last : Bool) (plan : Option (List Node)) → 0 < length (query_answer served area last plan)
-query-some served area last None = head-some (head.Refusal 404 last)
-query-some served area last (Some nodes) = longer (head_text (head.Query last)) (chunks served area nodes ++ last_chunk) (head-some (head.Query last))
+query-some : (served : Served) (a : Asked) (area : _) (last : Bool) (plan : Option (List Node)) → 0 < length (query_answer served a area last plan)
+query-some served a area last None = head-some (head.Refusal 404 last)
+query-some served a area last (Some nodes) = longer (head_text (head.Query last)) (chunks served a area nodes ++ last_chunk) (head-some (head.Query last))
 
 answer-some : (served : Served) (a : Asked) (last : Bool) → 0 < length (answer_to served a last)
 answer-some served (asked.File name) last = file-some _ last (served.file name)
-answer-some served (asked.Query area first second) last = query-some served area last (served.plan area first second)
+answer-some served (asked.Query area first second) last = query-some served (asked.Query area first second) area last (served.plan area first second)
+answer-some served (asked.Select area first second sift) last = query-some served (asked.Select area first second sift) area last (served.plan area first second)
 answer-some served (asked.Refuse status) last = head-some (head.Refusal status last)
 
 -- ---- a turn is due
@@ -126,7 +127,7 @@ module _ (served : Served) (bytes sent : List ℕ) (last : State) where
   unanswered-on Empty g is parts = not-in-hand g is parts.out_is (parts.due_is is)
   unanswered-on (Decided turn) g is parts = in-hand (Decided turn) turn g is parts.out_is refl (answer-some served turn.asked turn.last)
   unanswered-on (Tiles turn plan done) g is parts =
-      in-hand (Tiles turn plan done) turn g is parts.out_is refl (ends-some (chunks served plan.area _) last_chunk (omega arith))
+      in-hand (Tiles turn plan done) turn g is parts.out_is refl (ends-some (chunks served turn.asked plan.area _) last_chunk (omega arith))
 
 pub works-unanswered : (served : Served) (reason : Type 0) (bytes sent : List ℕ) (last : State) → Has served reason bytes sent last → want_of last ≡ want.Work → IsUnanswered served bytes sent
 works-unanswered served reason bytes sent last has is =

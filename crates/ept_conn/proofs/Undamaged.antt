@@ -1,18 +1,18 @@
 -- Where a plan is there, or a tile, nothing that it needs is damaged.
-use Rattle.std.proofs.Common.{◌≡◌, ℕ, List, Some, refl, subst}
+use Rattle.std.proofs.Common.{◌≡◌, ℕ, List, Option, Some, refl, subst}
 use Rattle.ept_base.specs.Files.{Files}
 use Rattle.ept_point.specs.Packed.{tile}
 use Rattle.ept_space.specs.declared.box3.Box3.{Box3}
 use Rattle.ept_hier.specs.Hierarchy.{Node}
 use Rattle.ept_http.specs.declared.asked.Asked.{Asked}
-use Rattle.ept_http.specs.declared.asked.Asked.TheVariants as asked
 use Rattle.ept_save.specs.Done.{IsDone}
 use Rattle.ept_query.specs.declared.query_error.QueryFile.{QueryFile}
 use Rattle.ept_query.specs.declared.query_error.QueryFile.TheVariants.{BuildJson, Hierarchy, Tile}
 use Rattle.ept_query.specs.Damage.{HasNoBuild, HasTile, HasNoTile, IsFirstDamaged}
 use Rattle.ept_query.specs.Planning.{IsPlanFor}
 use Rattle.ept_query.specs.Parts.{Plan, IsPartOf}
-use Rattle.ept_conn.specs.Works.{IsDamagedFor}
+use Rattle.ept_conn.specs.Wanted.{Wanted, Wants}
+use Rattle.ept_conn.specs.Works.{IsDamagedOf, IsDamagedFor}
 
 first-of : (P Q : Type 0) → P × Q → P
 first-of P Q both = both.0
@@ -20,7 +20,11 @@ first-of P Q both = both.0
 second-of : (P Q : Type 0) → P × Q → Q
 second-of P Q both = both.1
 
-plan-sound : (files : Files) (area : Box3) (first second : ℕ) (plan : Plan) → IsPlanFor area first second plan files → (found : QueryFile) → ¬ IsDamagedFor (asked.Query area first second) found files
+-- the points of an area, in the nodes of depths
+abbrev of_area : Box3 → ℕ → ℕ → Option Wanted
+of_area area first second = Some (record { area = area; first = first; second = second })
+
+plan-sound : (files : Files) (area : Box3) (first second : ℕ) (plan : Plan) → IsPlanFor area first second plan files → (found : QueryFile) → ¬ IsDamagedOf (of_area area first second) found files
 plan-sound files area first second plan has BuildJson damaged =
     second-of (IsDone files) (HasNoBuild files) damaged has.build.0 has.build.1
 plan-sound files area first second plan has (Hierarchy key) damaged =
@@ -29,19 +33,19 @@ plan-sound files area first second plan has (Hierarchy key) damaged =
     is.damaged there.0 there.1
 plan-sound files area first second plan has (Tile key) damaged = damaged
 
-pub plan-undamaged : (files : Files) (area : Box3) (first second : ℕ) (plan : Plan) (wanted : Asked) → wanted ≡ asked.Query area first second → IsPlanFor area first second plan files → (found : QueryFile) → ¬ IsDamagedFor wanted found files
-plan-undamaged files area first second plan wanted is has found damaged =
-    plan-sound files area first second plan has found (subst (λ (a : Asked). IsDamagedFor a found files) is damaged)
+pub plan-undamaged : (files : Files) (area : Box3) (first second : ℕ) (plan : Plan) (a : Asked) → Wants a area first second → IsPlanFor area first second plan files → (found : QueryFile) → ¬ IsDamagedFor a found files
+plan-undamaged files area first second plan a is has found damaged =
+    plan-sound files area first second plan has found (subst (λ (w : Option Wanted). IsDamagedOf w found files) is damaged)
 
-not-done : (files : Files) (area : Box3) (first second : ℕ) → ¬ IsDone files → (found : QueryFile) → ¬ IsDamagedFor (asked.Query area first second) found files
+not-done : (files : Files) (area : Box3) (first second : ℕ) → ¬ IsDone files → (found : QueryFile) → ¬ IsDamagedOf (of_area area first second) found files
 not-done files area first second none BuildJson damaged = none (first-of (IsDone files) (HasNoBuild files) damaged)
 not-done files area first second none (Hierarchy key) damaged =
     none (first-of (IsDone files) (IsFirstDamaged area first second (Hierarchy key) files) damaged)
 not-done files area first second none (Tile key) damaged = damaged
 
-pub shut-undamaged : (files : Files) (area : Box3) (first second : ℕ) (wanted : Asked) → wanted ≡ asked.Query area first second → ¬ IsDone files → (found : QueryFile) → ¬ IsDamagedFor wanted found files
-shut-undamaged files area first second wanted is none found damaged =
-    not-done files area first second none found (subst (λ (a : Asked). IsDamagedFor a found files) is damaged)
+pub shut-undamaged : (files : Files) (area : Box3) (first second : ℕ) (a : Asked) → Wants a area first second → ¬ IsDone files → (found : QueryFile) → ¬ IsDamagedFor a found files
+shut-undamaged files area first second a is none found damaged =
+    not-done files area first second none found (subst (λ (w : Option Wanted). IsDamagedOf w found files) is damaged)
 
 pub part-has-tile : (files : Files) (area : Box3) (node : Node) (bytes : List ℕ) (count : ℕ) → IsPartOf area node bytes count (Some files) → ¬ HasNoTile files node.0 node.1
 part-has-tile files area node bytes count part none =

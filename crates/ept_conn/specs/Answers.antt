@@ -11,6 +11,7 @@ use Rattle.ept_http.specs.AnswerHead.{head_text}
 use Rattle.ept_conn.specs.declared.turn.Turn.{Turn}
 use Rattle.ept_conn.specs.Held.{fresh, fed}
 use Rattle.ept_conn.specs.Turns.{AreDue}
+use Rattle.ept_conn.specs.Wanted.{kept_of}
 
 -- what is sent of a folder: the content of a file, where there is one; the tiles of the plan of a query, where there are queries; and of a tile the packed points in an area
 pub record Served : Type 0 where
@@ -40,21 +41,23 @@ chunk (b ∷ bytes) = digits 16 false (length (b ∷ bytes)) ++ (codes "\r\n" ++
 abbrev pub last_chunk : List ℕ
 last_chunk = codes "0\r\n\r\n"
 
--- of each tile one chunk, with its points in the area
-abbrev pub chunks : Served → Box3 → List Node → List ℕ
-chunks served area nodes = flat_map (λ (node : Node). chunk (served.part area node)) nodes
+-- of each tile one chunk, with what is kept for a request of its points in the area
+abbrev pub chunks : Served → Asked → Box3 → List Node → List ℕ
+chunks served request area nodes = flat_map (λ (node : Node). chunk (kept_of request (served.part area node))) nodes
 
--- the answer to a query: its head and the chunks of the tiles of its plan, or status 404 where there are no queries
-abbrev pub query_answer : Served → Box3 → Bool → Option (List Node) → List ℕ
-query_answer served area last None = refusal 404 last
-query_answer served area last (Some nodes) =
-    head_text (head.Query last) ++ (chunks served area nodes ++ last_chunk)
+-- the answer to a query or a selection: its head and the chunks of the tiles of its plan, or status 404 where there are no queries
+abbrev pub query_answer : Served → Asked → Box3 → Bool → Option (List Node) → List ℕ
+query_answer served request area last None = refusal 404 last
+query_answer served request area last (Some nodes) =
+    head_text (head.Query last) ++ (chunks served request area nodes ++ last_chunk)
 
 -- the answer to what is asked for
 abbrev pub answer_to : Served → Asked → Bool → List ℕ
 answer_to served (asked.File name) last = file_answer (is_json name) last (served.file name)
 answer_to served (asked.Query area first second) last =
-    query_answer served area last (served.plan area first second)
+    query_answer served (asked.Query area first second) area last (served.plan area first second)
+answer_to served (asked.Select area first second sift) last =
+    query_answer served (asked.Select area first second sift) area last (served.plan area first second)
 answer_to served (asked.Refuse status) last = refusal status last
 
 abbrev pub answer : Served → Turn → List ℕ

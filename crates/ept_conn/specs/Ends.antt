@@ -33,7 +33,7 @@ pub record IsCutOff (served : Served) (bytes : List ℕ) (Fits : List Turn → L
   pub fits : Fits others words
   pub text_is : text ≡ answers served before ++ words
 
--- the head of the answer to a query, and whole chunks of it without the last chunk
+-- the head of the answer to a query or a selection, and whole chunks of it without the last chunk
 pub record IsQueryFront (served : Served) (turn : Turn) (text : List ℕ) : Type 0 where
   pub area : Box3
   pub first : ℕ
@@ -43,7 +43,7 @@ pub record IsQueryFront (served : Served) (turn : Turn) (text : List ℕ) : Type
   pub wants : Wants turn.asked area first second
   pub plan : served.plan area first second ≡ Some nodes
   pub within : done ≤ length nodes
-  pub text_is : text ≡ head_text (head.Query turn.last) ++ chunks served area (take done nodes)
+  pub text_is : text ≡ head_text (head.Query turn.last) ++ chunks served turn.asked area (take done nodes)
 
 -- the same of the first of some turns
 abbrev pub IsFrontOf : Served → List Turn → List ℕ → Type 0

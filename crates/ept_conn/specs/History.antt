@@ -24,13 +24,13 @@ turns_in (Tiles turn plan done) = turn ∷ []
 abbrev pub begun_of : Served → Hand → List ℕ
 begun_of served Empty = []
 begun_of served (Decided turn) = []
-begun_of served (Tiles turn plan done) = head_text (head.Query turn.last) ++ chunks served plan.area (take done plan.tiles)
+begun_of served (Tiles turn plan done) = head_text (head.Query turn.last) ++ chunks served turn.asked plan.area (take done plan.tiles)
 
 -- the rest of its answer
 abbrev pub rest_of : Served → Hand → List ℕ
 rest_of served Empty = []
 rest_of served (Decided turn) = answer served turn
-rest_of served (Tiles turn plan done) = chunks served plan.area (drop done plan.tiles) ++ last_chunk
+rest_of served (Tiles turn plan done) = chunks served turn.asked plan.area (drop done plan.tiles) ++ last_chunk
 
 -- Of a session that goes on: the turns of the bytes fed are those that are answered, the one in hand, and those that are due of what is held, whatever comes behind. What was sent and is to be sent now are the answers to the first, and what was put out of the answer in hand.
 pub record Goes (served : Served) (bytes sent : List ℕ) (state : State) : Type 0 where

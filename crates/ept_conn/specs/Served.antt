@@ -6,14 +6,17 @@ use Rattle.ept_point.specs.declared.point.Point.{Point}
 use Rattle.ept_point.specs.Packed.{tile}
 use Rattle.ept_space.specs.declared.box3.Box3.{Box3}
 use Rattle.ept_config.specs.declared.kept.Kept.{Kept}
+use Rattle.ept_filter.specs.declared.sift.Sift.{Sift}
 use Rattle.ept_hier.specs.Hierarchy.{Node}
+use Rattle.ept_http.specs.declared.asked.Asked.TheVariants.{Select}
 use Rattle.ept_http.specs.QueryWords.{IsOrdered}
 use Rattle.ept_save.specs.Complete.{IsComplete}
 use Rattle.ept_save.specs.Done.{IsDone}
 use Rattle.ept_query.specs.Planning.{IsPlanFor}
 use Rattle.ept_query.specs.Damage.{HasTile}
 use Rattle.ept_query.specs.Parts.{points_in}
-use Rattle.ept_query.specs.Rows.{answer}
+use Rattle.ept_query.specs.Rows.{answer, selection}
+use Rattle.ept_conn.specs.Wanted.{kept_of}
 use Rattle.ept_conn.specs.Answers.{Served}
 
 -- a tile is there, and these bytes are its points in an area, packed
@@ -53,3 +56,9 @@ CompleteIsServed =
 abbrev pub QueriesAreAnswered : Type 0
 QueriesAreAnswered =
     (kept : Kept) (points : List Point) (files : Files) (served : Served) → IsComplete kept points files → IsServed files served → (area : Box3) (first second : ℕ) → IsOrdered area → first ≤ second → (nodes : List Node) × (served.plan area first second ≡ Some nodes) × (flat_map (served.part area) nodes ≡ answer kept points area first second)
+
+-- And what a selection keeps of them, as it is sent one tile after another, is what is selected: of the same points those that
+-- pass, each with the dimensions that are asked for.
+abbrev pub SelectionsAreAnswered : Type 0
+SelectionsAreAnswered =
+    (kept : Kept) (points : List Point) (files : Files) (served : Served) → IsComplete kept points files → IsServed files served → (area : Box3) (first second : ℕ) (sift : Sift) → IsOrdered area → first ≤ second → (nodes : List Node) × (served.plan area first second ≡ Some nodes) × (flat_map (λ (node : Node). kept_of (Select area first second sift) (served.part area node)) nodes ≡ selection sift kept points area first second)

@@ -19,7 +19,7 @@ use Rattle.ept_conn.specs.declared.hand.Hand.TheVariants.{Empty, Decided, Tiles}
 use Rattle.ept_conn.specs.declared.end.Fault.{Fault}
 use Rattle.ept_conn.specs.declared.end.Fault.TheVariants as fault
 use Rattle.ept_conn.specs.Turns.{IsNext}
-use Rattle.ept_conn.specs.Wanted.{Wants}
+use Rattle.ept_conn.specs.Wanted.{Wanted, wanted, Wants, kept_of}
 use Rattle.ept_conn.specs.Answers.{Served, refusal, is_json, file_answer, chunk, last_chunk}
 use Rattle.ept_conn.specs.State.{State}
 
@@ -29,11 +29,13 @@ use Rattle.ept_conn.specs.State.{State}
 abbrev pub hand_to : Asked → Turn → Hand
 hand_to (asked.File name) turn = Decided turn
 hand_to (asked.Query area first second) turn = Decided turn
+hand_to (asked.Select area first second sift) turn = Decided turn
 hand_to (asked.Refuse status) turn = Empty
 
 abbrev pub out_to : Asked → Bool → List ℕ
 out_to (asked.File name) last = []
 out_to (asked.Query area first second) last = []
+out_to (asked.Select area first second sift) last = []
 out_to (asked.Refuse status) last = refusal status last
 
 -- the first turn that is due was decided
@@ -63,6 +65,7 @@ abbrev pub Gets : Served → Turn → Asked → State → Type 0
 Gets served turn (asked.File name) new =
     (new.hand ≡ Empty) × (new.out ≡ file_answer (is_json name) turn.last (served.file name))
 Gets served turn (asked.Query area first second) new = Begins turn area (served.plan area first second) new
+Gets served turn (asked.Select area first second sift) new = Begins turn area (served.plan area first second) new
 Gets served turn (asked.Refuse status) new = (new.hand ≡ Empty) × (new.out ≡ refusal status turn.last)
 
 -- a plan is that of a turn
@@ -102,14 +105,14 @@ WorksOn served (Decided turn) old new = (new.held ≡ old.held) × Gets served t
 WorksOn served (Tiles turn plan done) old new =
     (new.held ≡ old.held)
     × (new.hand ≡ hand_at turn plan (done + 1))
-    × (new.out ≡ chunk (served.part plan.area (node_at plan done)) ++ end_at plan (done + 1))
+    × (new.out ≡ chunk (kept_of turn.asked (served.part plan.area (node_at plan done))) ++ end_at plan (done + 1))
 
 abbrev pub Works : Served → State → State → Type 0
 Works served old new = WorksOn served old.hand old new
 
 -- ---- whatever a store holds
 
--- the turn is still in hand, with a plan, only where it asks for a query
+-- the turn is still in hand, with a plan, only where it asks for points
 abbrev pub IsBegun : Turn → Hand → Type 0
 IsBegun turn Empty = ⊤
 IsBegun turn (Decided other) = ⊥
@@ -149,14 +152,16 @@ pub record IsReady (state : State) : Type 0 where
   pub out : state.out ≡ []
   pub going : state.fault ≡ None
 
--- a file that a query needs is damaged: for its plan, the first such file; for its tiles, the next one
+-- a file that the points need that are wanted is damaged: for their plan, the first such file; for their tiles, the next one
+abbrev pub IsDamagedOf : Option Wanted → QueryFile → Files → Type 0
+IsDamagedOf None found files = ⊥
+IsDamagedOf (Some points) file.BuildJson files = IsDone files × HasNoBuild files
+IsDamagedOf (Some points) (file.Hierarchy key) files =
+    IsDone files × IsFirstDamaged points.area points.first points.second (file.Hierarchy key) files
+IsDamagedOf (Some points) (file.Tile key) files = ⊥
+
 abbrev pub IsDamagedFor : Asked → QueryFile → Files → Type 0
-IsDamagedFor (asked.File name) found files = ⊥
-IsDamagedFor (asked.Query area first second) file.BuildJson files = IsDone files × HasNoBuild files
-IsDamagedFor (asked.Query area first second) (file.Hierarchy key) files =
-    IsDone files × IsFirstDamaged area first second (file.Hierarchy key) files
-IsDamagedFor (asked.Query area first second) (file.Tile key) files = ⊥
-IsDamagedFor (asked.Refuse status) found files = ⊥
+IsDamagedFor request found files = IsDamagedOf (wanted request) found files
 
 abbrev pub IsDamagedIn : Hand → QueryFile → Files → Type 0
 IsDamagedIn Empty found files = ⊥
@@ -166,7 +171,7 @@ IsDamagedIn (Tiles turn plan done) found files =
 
 -- no file is damaged that is needed for this, or for what is in hand
 abbrev pub IsUndamagedFor : Asked → Files → Type 0
-IsUndamagedFor wanted files = (found : QueryFile) → ¬ IsDamagedFor wanted found files
+IsUndamagedFor request files = (found : QueryFile) → ¬ IsDamagedFor request found files
 
 abbrev pub IsUndamagedIn : Hand → Files → Type 0
 IsUndamagedIn hand files = (found : QueryFile) → ¬ IsDamagedIn hand found files

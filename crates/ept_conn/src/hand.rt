@@ -10,7 +10,7 @@ pub enum Hand {
     Empty,
     /// A turn that was decided. What it asks for is still to be got.
     Decided(Turn),
-    /// A query whose head is out. So many tiles of its plan are done, and there are more.
+    /// A query or a selection whose head is out. So many tiles of its plan are done, and there are more.
     Tiles {
         turn: Turn,
         plan: QueryPlan,

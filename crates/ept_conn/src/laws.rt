@@ -1,9 +1,10 @@
 //! What holds of every list of calls. Each law is the contract of a function that does nothing.
 
-ghost use Rattle.ept_conn.specs.Served.{ShutIsServed, CompleteIsServed, QueriesAreAnswered};
+ghost use Rattle.ept_conn.specs.Served.{ShutIsServed, CompleteIsServed, QueriesAreAnswered, SelectionsAreAnswered};
 ghost use Rattle.ept_conn.specs.SessionCalls.{SendsAnswers, EndsSo, ReadsAnswered, WorksUnanswered, OwesTheRest};
 ghost use Rattle.ept_conn.specs.Calls.{HoweverCut, AllAreGiven, TurnsAreThere, TurnsAreOne, JudgeGivesTurns, NextIsGiven, TurnsMayBeAsked};
 
+use ept_filter::sift_law;
 use ept_query::complete_law;
 
 /// Over any list of calls the turns given are, in order, the first turns of all the bytes fed, however these
@@ -27,7 +28,7 @@ pub fn one_list_of_turns_law()
 /// of the bytes fed: the answers to their turns, in order, as far as the session has come; and where it is at
 /// its end, what is sent at that end. There is what is sent of a folder whose done gate is not open, and of one
 /// that is complete. Of the latter what is sent of a query's tiles, one after another, is exactly the points of its box in
-/// nodes of its depths.
+/// nodes of its depths, and of a selection's tiles exactly what it keeps of these.
 pub fn session_law()
     ensures sends { SendsAnswers }
     ensures ends { EndsSo }
@@ -37,6 +38,8 @@ pub fn session_law()
     ensures shut { ShutIsServed }
     ensures complete { CompleteIsServed }
     ensures queries { QueriesAreAnswered }
+    ensures selections { SelectionsAreAnswered }
 {
     complete_law();
+    sift_law();
 }

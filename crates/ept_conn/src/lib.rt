@@ -10,6 +10,7 @@ mod end;
 mod folder;
 mod hand;
 mod head;
+mod keeping;
 mod laws;
 mod out;
 mod queries;

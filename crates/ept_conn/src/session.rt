@@ -1,6 +1,6 @@
 //! One connection as a machine: what it wants, what it is fed, and what it puts out.
 
-ghost use Rattle.std.specs.Prelude.{◌≡◌, ◌≢◌, ◌⊎◌, ◌≤◌, ◌<◌, ◌+◌, ◌++◌, ◌||◌, [], Some, None, IsTrue, true, drop, length, IfSome, option_map};
+ghost use Rattle.std.specs.Prelude.{◌≡◌, ◌≢◌, ◌⊎◌, ◌≤◌, ◌<◌, ◌+◌, ◌%◌, ◌++◌, ◌||◌, [], Some, None, IsTrue, true, drop, length, IfSome, option_map};
 ghost use Rattle.ept_base.specs.Causes.{Rose};
 ghost use Rattle.ept_base.specs.Files.{Files, SameFiles, Tells};
 ghost use Rattle.ept_base.specs.Moves.{Moves};
@@ -8,7 +8,9 @@ ghost use Rattle.ept_http.specs.Answers.{MayBeAsked};
 ghost use Rattle.ept_http.specs.QueryWords.{IsOrdered};
 ghost use Rattle.ept_http.specs.AnswerHead.{is_refusal, head_text};
 ghost use Rattle.ept_query.specs.declared.query_error.QueryFile.{QueryFile};
+ghost use Rattle.ept_point.specs.Dimensions.{packed_width};
 ghost use Rattle.ept_conn.specs.Held.{has_turn};
+ghost use Rattle.ept_conn.specs.Wanted.{Wants, kept_of};
 ghost use Rattle.ept_conn.specs.Answers.{Served, refusal, file_answer, is_json, chunk};
 ghost use Rattle.ept_conn.specs.Served.{IsServed};
 ghost use Rattle.ept_conn.specs.State.{started, want_of, wants_on, feeds};
@@ -18,12 +20,13 @@ use crate::conn::Conn;
 use crate::end::{End, Fault, Want};
 use crate::folder::{content_of, is_json};
 use crate::hand::Hand;
+use crate::keeping::kept_of;
 use crate::out::Out;
 use crate::queries::{fault_of, plan_of};
 use crate::turn::Turn;
 use ept_base::Store;
 use ept_http::{Asked, HeadKind};
-use ept_point::{Memory, Text};
+use ept_point::{Memory, Text, tile_length_law};
 use ept_query::{QueryPlan, query_tile};
 use ept_space::Box3;
 use std::alloc::Global;
@@ -91,7 +94,7 @@ impl Session {
         }
     }
 
-    /// Does one piece of work: decides one turn, makes the plan of one query, or gets one file or one tile.
+    /// Does one piece of work: decides one turn, makes the plan of one query or selection, or gets one file or one tile.
     /// Where that is refused, the session ends; with status 503 where the store is the cause and 507 where
     /// memory is, if nothing of the answer was put out before and there is memory for that.
     pub fn work<T: Store>(&mut self, store: &mut T)
@@ -248,6 +251,10 @@ impl Session {
                 let (area, depths) = (*area, (*first, *second));
                 self.make_plan(store, turn, &area, depths);
             }
+            Asked::Select(area, first, second, _) => {
+                let (area, depths) = (*area, (*first, *second));
+                self.make_plan(store, turn, &area, depths);
+            }
             Asked::Refuse(status) => self.refuse(*status, turn.last),
         }
     }
@@ -287,10 +294,10 @@ impl Session {
         }
     }
 
-    // Makes the plan of the query that the turn asks for, and puts the head of the answer out.
+    // Makes the plan of the points that the turn asks for, and puts the head of the answer out.
     fn make_plan<T: Store>(&mut self, store: &mut T, turn: Turn, area: &Box3, depths: (u8, u8))
         requires ready { IsReady self.old }
-        requires asked { turn.asked ≡ Asked.Query area.now depths.0 depths.1 }
+        requires wanted { Wants turn.asked area.now depths.0 depths.1 }
         requires ordered { IsOrdered area.now }
         requires depths { depths.0 ≤ depths.1 }
         ensures begins { self.new.fault ≡ None → (files : Files) → T.files store.old ≡ Some files
@@ -314,7 +321,7 @@ impl Session {
         }
     }
 
-    // Puts the head of a query's answer out, and behind it the last chunk where there is no tile.
+    // Puts the head of the answer out, and behind it the last chunk where there is no tile.
     fn begin(&mut self, turn: Turn, plan: QueryPlan)
         requires ready { IsReady self.old }
         ensures out { self.new.fault ≡ None → self.new.out ≡ head_text (HeadKind.Query turn.last) ++ end_at plan 0 }
@@ -355,10 +362,30 @@ impl Session {
         ensures later { T.faults store.old ≤ T.faults store.new }
         ensures any_moment { Moves T.files T.may_leave T.moment T.image_since SameFiles store.old store.new }
     {
+        tile_length_law();
         let mut points = Vec::new(self.alloc());
         match query_tile(self.alloc(), store, &plan, done, &mut points) {
-            Ok(_) => self.put_tile(turn, plan, done, &points),
+            Ok(_) => self.put_kept(turn, plan, done, points),
             Err(error) => self.break_off(fault_of(error)),
+        }
+    }
+
+    // Puts the chunk of what is kept of the points of one tile of a plan out, and behind the last one the last
+    // chunk.
+    fn put_kept(&mut self, turn: Turn, plan: QueryPlan, done: usize, points: Vec<u8>)
+        requires ready { IsReady self.old }
+        requires within { done < length plan.tiles }
+        requires whole { length points.items % packed_width ≡ 0 }
+        ensures out { self.new.fault ≡ None → self.new.out ≡ chunk (kept_of turn.asked points.items) ++ end_at plan (done + 1) }
+        ensures hand { self.new.fault ≡ None → self.new.hand ≡ hand_at turn plan (done + 1) }
+        ensures either { (self.new.hand ≡ Hand.Empty) ⊎ (self.new.hand ≡ Hand.Tiles turn plan (done + 1)) }
+        ensures same { (self.new.held ≡ self.old.held) × (self.new.closed ≡ self.old.closed) }
+        ensures stops { IfSome self.new.fault (Stops (Hand.Tiles turn plan done) self.new) }
+        ensures only { IfSome self.new.fault (λ cause. cause ≡ Fault.Memory) }
+    {
+        match kept_of(&turn.asked, points) {
+            Ok(kept) => self.put_tile(turn, plan, done, &kept),
+            Err(Memory) => self.break_off(Fault::Memory),
         }
     }
 

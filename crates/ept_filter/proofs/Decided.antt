@@ -26,7 +26,7 @@ use Rattle.ept_filter.proofs.Distinct.{few-distinct}
 use Rattle.ept_filter.proofs.DimLists.{all-are_dims, any-at, none-at}
 use Rattle.ept_filter.proofs.RowNames.{one-name}
 
-abbrev Decided : Type 0 → Type 0
+abbrev pub Decided : Type 0 → Type 0
 Decided P = P ⊎ (¬ P)
 
 -- ---- a word is one of so many
@@ -77,10 +77,10 @@ has-classes (word ∷ ws) least = by (one-of decimal 256 word) (has-classes ws)
     by (inl found) later = more found.0 found.1 found.2 (later (suc found.0)) (cases_lt found.0 least)
     by (inr none) later = inr (λ h. let first = first-class word ws least h in none (first.0, first.3, first.1))
 
-abbrev SomeClasses : List ℕ → Type 0
+abbrev pub SomeClasses : List ℕ → Type 0
 SomeClasses text = (classes : Option ClassSet) × IsClassesText text classes
 
-some-classes : ClassesHaveASet → (text : List ℕ) → Decided (SomeClasses text)
+pub some-classes : ClassesHaveASet → (text : List ℕ) → Decided (SomeClasses text)
 some-classes sets text = by (bytes_eq text (codes "-")) (bytes_eq-Decides text (codes "-")) (has-classes (words text) 0)
   where
     by : (dash : Bool) → Decides dash (text ≡ codes "-") → Decided (HasClasses (words text) 0) → Decided (SomeClasses text)
@@ -96,7 +96,7 @@ some-classes sets text = by (bytes_eq text (codes "-")) (bytes_eq-Decides text (
 
 -- ---- the time
 
-abbrev SomeTime : List ℕ → Type 0
+abbrev pub SomeTime : List ℕ → Type 0
 SomeTime text = (time : Option (List ℕ)) × IsTimeText text time
 
 is-decoded : (text time : List ℕ) → IsTimeDigits text time → decode_sized text 8 ≡ Ok time
@@ -116,7 +116,7 @@ some-digits text (Ok bytes) is = by (bytes_eq text (encode_lower bytes)) (bytes_
         let same : bytes ≡ h.0 = cc in
         false≢true (d.1 (h.1.spelled ∙ ap encode_lower (sym same))))
 
-some-time : (text : List ℕ) → Decided (SomeTime text)
+pub some-time : (text : List ℕ) → Decided (SomeTime text)
 some-time text = by (bytes_eq text (codes "-")) (bytes_eq-Decides text (codes "-")) (some-digits text (decode_sized text 8) refl)
   where
     by : (dash : Bool) → Decides dash (text ≡ codes "-") → Decided ((time : List ℕ) × IsTimeDigits text time) → Decided (SomeTime text)
@@ -211,13 +211,13 @@ made dims some inside d =
       take_at dims (zeros left) (length dims) refl,
     )
 
-abbrev SomeDims : List ℕ → Type 0
+abbrev pub SomeDims : List ℕ → Type 0
 SomeDims text = (dims : Dims) × IsDimsText text (asked_rows dims)
 
 all-made : (d : Dims) × (asked_rows d ≡ all_dims)
 all-made = (record { rows = all_dims; len = count_of_dims; dims = all-are_dims }, refl)
 
-some-dims : (text : List ℕ) → Decided (SomeDims text)
+pub some-dims : (text : List ℕ) → Decided (SomeDims text)
 some-dims text = by (bytes_eq text (codes "-")) (bytes_eq-Decides text (codes "-")) (has-names (words text))
   where
     named : (names : HasNames (words text)) → Decides false (text ≡ codes "-") → Decided (Differ names.0) → Decided (SomeDims text)

@@ -22,27 +22,27 @@ pub record HasRead (text : List ℕ) (rest : List (List ℕ)) (rows : List ℕ) 
 
 module _ (text : List ℕ) (rows : List ℕ) (len : ℕ) (word : List ℕ) (more : List (List ℕ)) (h : HasRead text (word ∷ more) rows len) where
   -- one more
-  pub read-more : (row : ℕ) → row < count_of_dims → name_of row ≡ word → ((i : ℕ) → i < len → get_or rows i 0 ≢ row) → len < count_of_dims → HasRead text more (set rows len row) (len + 1)
-  read-more row small named new room =
+  pub read-more : (dim : ℕ) → dim < count_of_dims → name_of dim ≡ word → ((i : ℕ) → i < len → get_or rows i 0 ≢ dim) → len < count_of_dims → HasRead text more (set rows len dim) (len + 1)
+  read-more dim small named new room =
       let inside_array : len < length rows = omega (arith, h.array) in
-      let at_len : get_or (set rows len row) len 0 ≡ row = get_or-set_same rows len row 0 inside_array in
-      let before = λ (i : ℕ) (less : i < len). get_or-set_other rows len i row 0 (omega arith) in
+      let at_len : get_or (set rows len dim) len 0 ≡ dim = get_or-set_same rows len dim 0 inside_array in
+      let before = λ (i : ℕ) (less : i < len). get_or-set_other rows len i dim 0 (omega arith) in
       record {
-        array = length-set rows len row ∙ h.array;
+        array = length-set rows len dim ∙ h.array;
         most = omega arith;
         spelled =
-            let taken : map name_of (take (len + 1) (set rows len row)) ≡ map name_of (take len rows) ++ (name_of row ∷ []) =
-            ap (map name_of) (take_more_set rows len row inside_array) ∙ map-append name_of (take len rows) (row ∷ []) in
-            h.spelled ∙ ap (λ (w : List ℕ). map name_of (take len rows) ++ (w ∷ more)) (sym named) ∙ sym (append_assoc (map name_of (take len rows)) (name_of row ∷ []) more) ∙ ap (λ (ws : List (List ℕ)). ws ++ more) (sym taken);
+            let taken : map name_of (take (len + 1) (set rows len dim)) ≡ map name_of (take len rows) ++ (name_of dim ∷ []) =
+            ap (map name_of) (take_more_set rows len dim inside_array) ∙ map-append name_of (take len rows) (dim ∷ []) in
+            h.spelled ∙ ap (λ (w : List ℕ). map name_of (take len rows) ++ (w ∷ more)) (sym named) ∙ sym (append_assoc (map name_of (take len rows)) (name_of dim ∷ []) more) ∙ ap (λ (ws : List (List ℕ)). ws ++ more) (sym taken);
         inside = λ i less. elim (cases_eq i len) [
-          | inl same ↦ omega (arith, ap (λ (k : ℕ). get_or (set rows len row) k 0) same, at_len)
+          | inl same ↦ omega (arith, ap (λ (k : ℕ). get_or (set rows len dim) k 0) same, at_len)
           | inr other ↦ omega (arith, before i (omega arith), h.inside i (omega arith))
         ];
         differ = λ i k less top. elim (cases_eq k len) [
-          | inl same ↦ λ e. new i (omega arith) (sym (before i (omega arith)) ∙ e ∙ ap (λ (j : ℕ). get_or (set rows len row) j 0) same ∙ at_len)
+          | inl same ↦ λ e. new i (omega arith) (sym (before i (omega arith)) ∙ e ∙ ap (λ (j : ℕ). get_or (set rows len dim) j 0) same ∙ at_len)
           | inr other ↦ λ e. h.differ i k less (omega arith) (sym (before i (omega arith)) ∙ e ∙ before k (omega arith))
         ];
-        others = λ i least. get_or-set_other rows len i row 0 (omega arith) ∙ h.others i (omega arith);
+        others = λ i least. get_or-set_other rows len i dim 0 (omega arith) ∙ h.others i (omega arith);
       }
 
   -- the words are names of these dimensions

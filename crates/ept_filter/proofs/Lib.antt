@@ -5,5 +5,5 @@ mod DimLists
 mod ClassLists
 mod Parts
 mod Sifted
-mod Once
-mod Decided
+pub mod Once
+pub mod Decided

@@ -9,10 +9,13 @@ use Rattle.ept_space.specs.declared.box3.Box3.{Box3}
 use Rattle.ept_space.specs.Place.{coordinate}
 use Rattle.ept_space.specs.VoxelKey.{VoxelKey, IsKey}
 use Rattle.ept_space.specs.KeyText.{key_text}
+use Rattle.ept_class.proofs.Bits.{classes_have_a_set}
+use Rattle.ept_filter.specs.declared.sift.Sift.{Sift}
+use Rattle.ept_filter.proofs.Decided.{SomeClasses, SomeTime, SomeDims, some-classes, some-time, some-dims}
 use Rattle.ept_http.specs.declared.asked.Asked.{Asked}
-use Rattle.ept_http.specs.declared.asked.Asked.TheVariants.{File, Query, Refuse}
+use Rattle.ept_http.specs.declared.asked.Asked.TheVariants.{File, Query, Select, Refuse}
 use Rattle.ept_http.specs.QueryWords.{IsOrdered, IsBoxText, IsDepthsText}
-use Rattle.ept_http.specs.Targets.{IsServedName, IsQueryTarget, AsksFor}
+use Rattle.ept_http.specs.Targets.{IsServedName, IsQueryTarget, AreSiftWords, IsSelectTarget, AsksFor}
 use Rattle.ept_http.proofs.Decided.{Decided, decided-as, both, either, same-bytes, below, whole, IsSplit, split}
 use Rattle.ept_http.proofs.QueryLemmas.{three-axes}
 use Rattle.ept_http.proofs.TargetLemmas.{none-named}
@@ -135,47 +138,135 @@ some-range text = decided-as there back (below 33 _ (λ last. below (suc last) _
     back : IsSomeRange text → (last : ℕ) × (last < 33) × ((first : ℕ) × (first < suc last) × (text ≡ join_with_byte 44 (map decimal (first ∷ last ∷ []))))
     back (first, last, is) = (last, omega (arith, is.bounded), (first, omega (arith, is.ordered), is.spelled))
 
+-- a word, a key, and what stands behind it
+record IsWord (key : List ℕ) (P Q : List ℕ → Type 0) (text : List ℕ) : Type 0 where
+  word : List ℕ
+  rest : List ℕ
+  is : text ≡ word ++ (key ++ rest)
+  is_word : P word
+  is_rest : Q rest
+
+word-decided : (key : List ℕ) (P Q : List ℕ → Type 0) → ((w : List ℕ) → Decided (P w)) → ((w : List ℕ) → Decided (Q w)) → (text : List ℕ) → Decided (IsWord key P Q text)
+word-decided key P Q each_word each_rest text = decided-as there back (split P (IsSplit (λ w. w ≡ key) Q) each_word (split (λ w. w ≡ key) Q (λ w. same-bytes w key) each_rest) text)
+  where
+    there : IsSplit P (IsSplit (λ w. w ≡ key) Q) text → IsWord key P Q text
+    there h =
+        let after = h.is_back in
+        record { word = h.front; rest = after.back; is = h.is ∙ ap (λ (w : List ℕ). h.front ++ w) (after.is ∙ ap (λ (w : List ℕ). w ++ after.back) after.is_front); is_word = h.is_front; is_rest = after.is_back }
+
+    back : IsWord key P Q text → IsSplit P (IsSplit (λ w. w ≡ key) Q) text
+    back h = record { front = h.word; back = key ++ h.rest; is = h.is; is_front = h.is_word; is_back = record { front = key; back = h.rest; is = refl; is_front = refl; is_back = h.is_rest } }
+
 abbrev NamesQuery : List ℕ → Type 0
 NamesQuery target = (area : Box3) × (first : ℕ) × (last : ℕ) × IsQueryTarget target area first last
 
 abbrev IsQueryCut : List ℕ → Type 0
-IsQueryCut = IsSplit (λ w. w ≡ codes "/query?box=") (IsSplit IsSomeBox (IsSplit (λ w. w ≡ codes "&depths=") IsSomeRange))
+IsQueryCut = IsWord (codes "/query?box=") (λ w. w ≡ []) (IsWord (codes "&depths=") IsSomeBox IsSomeRange)
 
 cut-query : (target : List ℕ) → IsQueryCut target → NamesQuery target
 cut-query target a =
-    let b = a.is_back in
-    let c = b.is_back in
-    let range = c.is_back in
-    let depths = c.is ∙ ap (λ (w : List ℕ). w ++ c.back) c.is_front in
-    let words = b.is ∙ ap (λ (w : List ℕ). b.front ++ w) depths in
-    let spelled = a.is ∙ ap (λ (w : List ℕ). w ++ a.back) a.is_front ∙ ap (λ (w : List ℕ). codes "/query?box=" ++ w) words in
-    (b.is_front.0, range.0, range.1, record { box = b.front; depths = c.back; spelled = spelled; is_box = b.is_front.1; are_depths = range.2 })
+    let b = a.is_rest in
+    let range = b.is_rest in
+    let spelled = a.is ∙ ap (λ (w : List ℕ). w ++ (codes "/query?box=" ++ a.rest)) a.is_word ∙ ap (λ (w : List ℕ). codes "/query?box=" ++ w) b.is in
+    (b.is_word.0, range.0, range.1, record { box = b.word; depths = b.rest; spelled = spelled; is_box = b.is_word.1; are_depths = range.2 })
 
 query-cut : (target : List ℕ) → NamesQuery target → IsQueryCut target
 query-cut target (area, first, last, is) = record {
-  front = codes "/query?box=";
-  back = is.box ++ (codes "&depths=" ++ is.depths);
+  word = [];
+  rest = is.box ++ (codes "&depths=" ++ is.depths);
   is = is.spelled;
-  is_front = refl;
-  is_back = record {
-    front = is.box;
-    back = codes "&depths=" ++ is.depths;
-    is = refl;
-    is_front = (area, is.is_box);
-    is_back = record { front = codes "&depths="; back = is.depths; is = refl; is_front = refl; is_back = (first, last, is.are_depths) };
-  };
+  is_word = refl;
+  is_rest = record { word = is.box; rest = is.depths; is = refl; is_word = (area, is.is_box); is_rest = (first, last, is.are_depths) };
 }
 
 names-query : (target : List ℕ) → Decided (NamesQuery target)
 names-query target = decided-as (cut-query target) (query-cut target)
-    (split (λ w. w ≡ codes "/query?box=") _ (λ w. same-bytes w (codes "/query?box=")) (split IsSomeBox _ some-box (split (λ w. w ≡ codes "&depths=") IsSomeRange (λ w. same-bytes w (codes "&depths=")) some-range)) target)
+    (word-decided (codes "/query?box=") _ _ (λ w. same-bytes w []) (word-decided (codes "&depths=") IsSomeBox IsSomeRange some-box some-range) target)
+
+-- ---- selections
+
+abbrev IsSomeSift : List ℕ → Type 0
+IsSomeSift words = (sift : Sift) × AreSiftWords words sift
+
+abbrev IsSiftCut : List ℕ → Type 0
+IsSiftCut = IsWord (codes "&time=") SomeClasses (IsWord (codes "&dims=") SomeTime SomeDims)
+
+cut-sift : (words : List ℕ) → IsSiftCut words → IsSomeSift words
+cut-sift words a =
+    let b = a.is_rest in (
+      record { classes = a.is_word.0; time = b.is_word.0; dims = b.is_rest.0 },
+      record {
+        classes = a.word;
+        time = b.word;
+        dims = b.rest;
+        spelled = a.is ∙ ap (λ (w : List ℕ). a.word ++ (codes "&time=" ++ w)) b.is;
+        are = record { classes_are = a.is_word.1; time_is = b.is_word.1; dims_are = b.is_rest.1 };
+      },
+    )
+
+sift-cut : (words : List ℕ) → IsSomeSift words → IsSiftCut words
+sift-cut words (sift, is) = record {
+  word = is.classes;
+  rest = is.time ++ (codes "&dims=" ++ is.dims);
+  is = is.spelled;
+  is_word = (sift.classes, is.are.classes_are);
+  is_rest = record { word = is.time; rest = is.dims; is = refl; is_word = (sift.time, is.are.time_is); is_rest = (sift.dims, is.are.dims_are) };
+}
+
+some-sift : (words : List ℕ) → Decided (IsSomeSift words)
+some-sift words = decided-as (cut-sift words) (sift-cut words)
+    (word-decided (codes "&time=") SomeClasses _ (some-classes classes_have_a_set) (word-decided (codes "&dims=") SomeTime SomeDims some-time some-dims) words)
+
+abbrev NamesSelect : List ℕ → Type 0
+NamesSelect target = (area : Box3) × (first : ℕ) × (last : ℕ) × (sift : Sift) × IsSelectTarget target area first last sift
+
+abbrev IsSelectCut : List ℕ → Type 0
+IsSelectCut = IsWord (codes "/select?box=") (λ w. w ≡ []) (IsWord (codes "&depths=") IsSomeBox (IsWord (codes "&classes=") IsSomeRange IsSomeSift))
+
+cut-select : (target : List ℕ) → IsSelectCut target → NamesSelect target
+cut-select target a =
+    let b = a.is_rest in
+    let c = b.is_rest in
+    let range = c.is_word in
+    let words = b.is ∙ ap (λ (w : List ℕ). b.word ++ (codes "&depths=" ++ w)) c.is in
+    let spelled = a.is ∙ ap (λ (w : List ℕ). w ++ (codes "/select?box=" ++ a.rest)) a.is_word ∙ ap (λ (w : List ℕ). codes "/select?box=" ++ w) words in
+    (b.is_word.0, range.0, range.1, c.is_rest.0, record { box = b.word; depths = c.word; words = c.rest; spelled = spelled; is_box = b.is_word.1; are_depths = range.2; are_words = c.is_rest.1 })
+
+select-cut : (target : List ℕ) → NamesSelect target → IsSelectCut target
+select-cut target (area, first, last, sift, is) = record {
+  word = [];
+  rest = is.box ++ (codes "&depths=" ++ (is.depths ++ (codes "&classes=" ++ is.words)));
+  is = is.spelled;
+  is_word = refl;
+  is_rest = record {
+    word = is.box;
+    rest = is.depths ++ (codes "&classes=" ++ is.words);
+    is = refl;
+    is_word = (area, is.is_box);
+    is_rest = record { word = is.depths; rest = is.words; is = refl; is_word = (first, last, is.are_depths); is_rest = (sift, is.are_words) };
+  };
+}
+
+names-select : (target : List ℕ) → Decided (NamesSelect target)
+names-select target = decided-as (cut-select target) (select-cut target)
+    (word-decided (codes "/select?box=") _ _ (λ w. same-bytes w []) (word-decided (codes "&depths=") IsSomeBox _ some-box (word-decided (codes "&classes=") IsSomeRange IsSomeSift some-range some-sift)) target)
 
 -- ---- targets
 
-target-asks : (target : List ℕ) → Decided (NamesFile target) → Decided (NamesQuery target) → (asked : Asked) × AsksFor target asked
-target-asks target (inl file) query = (File file.0, (file.1, file.2))
-target-asks target (inr no_file) (inl query) = (Query query.0 query.1 query.2, query.3)
-target-asks target (inr no_file) (inr no_query) = (Refuse 404, (refl, none-named target (λ name is served. no_file (name, is, served)) (λ area first last is. no_query (area, first, last, is))))
+target-asks : (target : List ℕ) → Decided (NamesFile target) → Decided (NamesQuery target) → Decided (NamesSelect target) → (asked : Asked) × AsksFor target asked
+target-asks target (inl file) query select = (File file.0, (file.1, file.2))
+target-asks target (inr no_file) (inl query) select = (Query query.0 query.1 query.2, query.3)
+target-asks target (inr no_file) (inr no_query) (inl select) = (Select select.0 select.1 select.2 select.3, select.4)
+target-asks target (inr no_file) (inr no_query) (inr no_select) = (
+  Refuse 404,
+  (
+    refl,
+    none-named target
+        (λ name is served. no_file (name, is, served))
+        (λ area first last is. no_query (area, first, last, is))
+        (λ area first last sift is. no_select (area, first, last, sift, is)),
+  ),
+)
 
 pub each-target-asks : (target : List ℕ) → (asked : Asked) × AsksFor target asked
-each-target-asks target = target-asks target (names-file target) (names-query target)
+each-target-asks target = target-asks target (names-file target) (names-query target) (names-select target)

@@ -2,6 +2,7 @@ mod Marks
 mod Numbers
 mod QueryLemmas
 mod TargetLemmas
+mod SiftTexts
 pub mod OneAnswer
 mod Decided
 mod DecidedHead

@@ -7,7 +7,7 @@ use Rattle.std.proofs.lemmas.List.{get_or_default}
 use Rattle.std.proofs.lemmas.List.Elements.{recursion_from_All}
 use Rattle.std.proofs.lemmas.Str.Parse.{digit_at}
 
-digits-lack : (mark n : ℕ) → mark < 45 → n < 2 ^ 64 → AllByRecursion (λ b. b ≢ mark) (decimal n)
+pub digits-lack : (mark n : ℕ) → mark < 45 → n < 2 ^ 64 → AllByRecursion (λ b. b ≢ mark) (decimal n)
 digits-lack mark n low small =
     recursion_from_All (λ b. b ≢ mark) (decimal n) (λ k d inside same.
     let digit = digit_at (decimal n) k (decimal_is_IsNumeral n small).0.1 inside in

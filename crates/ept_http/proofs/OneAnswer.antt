@@ -6,17 +6,22 @@ use Rattle.std.specs.List.{AllByRecursion}
 use Rattle.std.proofs.lemmas.List.{append_cancel_left}
 use Rattle.ept_space.specs.declared.box3.Box3.{Box3}
 use Rattle.ept_space.specs.Place.{coordinate}
+use Rattle.ept_class.proofs.Bits.{members_make_the_set}
+use Rattle.ept_filter.specs.declared.sift.Sift.{Sift}
+use Rattle.ept_filter.specs.SiftText.{IsSiftText}
+use Rattle.ept_filter.proofs.Once.{texts_have_one_sift}
 use Rattle.ept_http.specs.declared.asked.Asked.{Asked}
-use Rattle.ept_http.specs.declared.asked.Asked.TheVariants.{File, Query, Refuse}
+use Rattle.ept_http.specs.declared.asked.Asked.TheVariants.{File, Query, Select, Refuse}
 use Rattle.ept_http.specs.QueryWords.{IsBoxText, IsDepthsText}
-use Rattle.ept_http.specs.Targets.{IsServedName, IsQueryTarget, AsksFor}
+use Rattle.ept_http.specs.Targets.{IsServedName, IsQueryTarget, AreSiftWords, IsSelectTarget, AsksFor}
 use Rattle.httparse.specs.Grammar.{RequestHead}
 use Rattle.httparse.proofs.GrammarLemmas.{request_unique}
 use Rattle.ept_http.specs.WholeHead.{IsHead, lines_of}
 use Rattle.ept_http.specs.Fields.{has_close}
 use Rattle.ept_http.specs.Answers.{refusal_of, HeadAsks, IsAnswerTo, IsAnswer, MayBeAsked, IsJudge}
 use Rattle.ept_http.specs.AnswerHead.{is_refusal}
-use Rattle.ept_http.proofs.TargetLemmas.{box-lacks}
+use Rattle.ept_http.proofs.TargetLemmas.{box-lacks, depths-lack}
+use Rattle.ept_http.proofs.SiftTexts.{classes-lack, time-lacks}
 use Rattle.ept_http.proofs.Numbers.{number-lacks, one-number}
 use Rattle.ept_http.proofs.QueryLemmas.{three-axes, split-box, after_min_x, after_min_y, after_min_z, after_max_x, small-depth}
 
@@ -75,21 +80,56 @@ served-first name (inr (inr (key, is_key, is))) = (_, is)
 other-letters : (a b : ℕ) (xs ys : List ℕ) → a ∷ xs ≡ b ∷ ys → a < b → ⊥
 other-letters a b xs ys same less = let first : a ≡ b = cc in omega arith
 
--- so no target names a file and a query
+-- so no target names a file and a query or a selection, nor a query and a selection
 file-or-query : (target name : List ℕ) (area : Box3) (first last : ℕ) → target ≡ codes "/" ++ name → IsServedName name → IsQueryTarget target area first last → ⊥
 file-or-query target name area first last spelled served query =
     let begins = served-first name served in
     let same : 47 ∷ name ≡ codes "/query?box=" ++ (query.box ++ (codes "&depths=" ++ query.depths)) = sym spelled ∙ query.spelled in
     other-letters 101 113 _ _ (sym begins.1 ∙ append_cancel_left (47 ∷ []) name _ same) (lit< tt)
 
+file-or-select : (target name : List ℕ) (area : Box3) (first last : ℕ) (sift : Sift) → target ≡ codes "/" ++ name → IsServedName name → IsSelectTarget target area first last sift → ⊥
+file-or-select target name area first last sift spelled served select =
+    let begins = served-first name served in
+    let same : 47 ∷ name ≡ codes "/select?box=" ++ (select.box ++ (codes "&depths=" ++ (select.depths ++ (codes "&classes=" ++ select.words)))) = sym spelled ∙ select.spelled in
+    other-letters 101 115 _ _ (sym begins.1 ∙ append_cancel_left (47 ∷ []) name _ same) (lit< tt)
+
+query-or-select : (target : List ℕ) (a b : Box3) (i j k l : ℕ) (sift : Sift) → IsQueryTarget target a i j → IsSelectTarget target b k l sift → ⊥
+query-or-select target a b i j k l sift query select =
+    let same : codes "/query?box=" ++ (query.box ++ (codes "&depths=" ++ query.depths)) ≡ codes "/select?box=" ++ (select.box ++ (codes "&depths=" ++ (select.depths ++ (codes "&classes=" ++ select.words)))) = sym query.spelled ∙ select.spelled in
+    other-letters 113 115 _ _ (append_cancel_left (47 ∷ []) _ _ same) (lit< tt)
+
+-- a word that lacks an ampersand is found again in front of a key, and so is what stands behind the key
+same-word : (key a b s t : List ℕ) → AllByRecursion (λ c. c ≢ 38) a → AllByRecursion (λ c. c ≢ 38) b → a ++ 38 ∷ (key ++ s) ≡ b ++ 38 ∷ (key ++ t) → (a ≡ b) × (s ≡ t)
+same-word key a b s t no_a no_b same =
+    let parts = same-front 38 a b (key ++ s) (key ++ t) no_a no_b same in
+    (parts.0, append_cancel_left key s t parts.1)
+
 one-query : (target : List ℕ) (a b : Box3) (i j k l : ℕ) → IsQueryTarget target a i j → IsQueryTarget target b k l → (a ≡ b) × (i ≡ k) × (j ≡ l)
 one-query target a b i j k l p q =
     let words = append_cancel_left (codes "/query?box=") (p.box ++ (codes "&depths=" ++ p.depths)) (q.box ++ (codes "&depths=" ++ q.depths)) (sym p.spelled ∙ q.spelled) in
-    let parts = same-front 38 p.box q.box (codes "depths=" ++ p.depths) (codes "depths=" ++ q.depths) (box-lacks p.box a p.is_box) (box-lacks q.box b q.is_box) words in
-    let depths = append_cancel_left (codes "depths=") p.depths q.depths parts.1 in
+    let parts = same-word (codes "depths=") p.box q.box p.depths q.depths (box-lacks p.box a p.is_box) (box-lacks q.box b q.is_box) words in
     let box = one-box q.box a b (subst (λ (text : List ℕ). IsBoxText text a) parts.0 p.is_box) q.is_box in
-    let range = one-range q.depths i j k l (subst (λ (text : List ℕ). IsDepthsText text i j) depths p.are_depths) q.are_depths in
+    let range = one-range q.depths i j k l (subst (λ (text : List ℕ). IsDepthsText text i j) parts.1 p.are_depths) q.are_depths in
     (box, range.0, range.1)
+
+-- the words of a selection are those of one
+one-sift : (words : List ℕ) (a b : Sift) → AreSiftWords words a → AreSiftWords words b → a ≡ b
+one-sift words a b p q =
+    let classes = same-word (codes "time=") p.classes q.classes (p.time ++ (codes "&dims=" ++ p.dims)) (q.time ++ (codes "&dims=" ++ q.dims)) (classes-lack p.classes a.classes p.are.classes_are) (classes-lack q.classes b.classes q.are.classes_are) (sym p.spelled ∙ q.spelled) in
+    let time = same-word (codes "dims=") p.time q.time p.dims q.dims (time-lacks p.time a.time p.are.time_is) (time-lacks q.time b.time q.are.time_is) classes.1 in
+    let with_classes = subst (λ (text : List ℕ). IsSiftText text p.time p.dims a) classes.0 p.are in
+    let with_time = subst (λ (text : List ℕ). IsSiftText q.classes text p.dims a) time.0 with_classes in
+    let with_dims = subst (λ (text : List ℕ). IsSiftText q.classes q.time text a) time.1 with_time in
+    texts_have_one_sift members_make_the_set q.classes q.time q.dims a b with_dims q.are
+
+one-select : (target : List ℕ) (a b : Box3) (i j k l : ℕ) (s t : Sift) → IsSelectTarget target a i j s → IsSelectTarget target b k l t → (a ≡ b) × (i ≡ k) × (j ≡ l) × (s ≡ t)
+one-select target a b i j k l s t p q =
+    let words = append_cancel_left (codes "/select?box=") (p.box ++ (codes "&depths=" ++ (p.depths ++ (codes "&classes=" ++ p.words)))) (q.box ++ (codes "&depths=" ++ (q.depths ++ (codes "&classes=" ++ q.words)))) (sym p.spelled ∙ q.spelled) in
+    let boxes = same-word (codes "depths=") p.box q.box (p.depths ++ (codes "&classes=" ++ p.words)) (q.depths ++ (codes "&classes=" ++ q.words)) (box-lacks p.box a p.is_box) (box-lacks q.box b q.is_box) words in
+    let depths = same-word (codes "classes=") p.depths q.depths p.words q.words (depths-lack p.depths i j p.are_depths) (depths-lack q.depths k l q.are_depths) boxes.1 in
+    let box = one-box q.box a b (subst (λ (text : List ℕ). IsBoxText text a) boxes.0 p.is_box) q.is_box in
+    let range = one-range q.depths i j k l (subst (λ (text : List ℕ). IsDepthsText text i j) depths.0 p.are_depths) q.are_depths in
+    (box, range.0, range.1, one-sift q.words s t (subst (λ (text : List ℕ). AreSiftWords text s) depths.1 p.are_words) q.are_words)
 
 pub one-target : (target : List ℕ) (a b : Asked) → AsksFor target a → AsksFor target b → a ≡ b
 one-target target (File m) (File n) p q = ap File (append_cancel_left (codes "/") m n (sym p.0 ∙ q.0))
@@ -98,11 +138,20 @@ one-target target (Query a i j) (File n) p q = absurd (file-or-query target n a 
 one-target target (Query a i j) (Query b k l) p q =
     let same = one-query target a b i j k l p q in
     λ x. Query (same.0 x) (same.1 x) (same.2 x)
+one-target target (Select a i j s) (Select b k l t) p q =
+    let same = one-select target a b i j k l s t p q in
+    λ x. Select (same.0 x) (same.1 x) (same.2 x) (same.3 x)
+one-target target (File m) (Select b k l t) p q = absurd (file-or-select target m b k l t p.0 p.1 q)
+one-target target (Select a i j s) (File n) p q = absurd (file-or-select target n a i j s q.0 q.1 p)
+one-target target (Query a i j) (Select b k l t) p q = absurd (query-or-select target a b i j k l t p q)
+one-target target (Select a i j s) (Query b k l) p q = absurd (query-or-select target b a k l i j s q p)
 one-target target (Refuse s) (Refuse t) p q = ap Refuse (p.0 ∙ sym q.0)
 one-target target (Refuse s) (File n) p q = absurd (p.1 (File n) q)
 one-target target (Refuse s) (Query b k l) p q = absurd (p.1 (Query b k l) q)
+one-target target (Refuse s) (Select b k l t) p q = absurd (p.1 (Select b k l t) q)
 one-target target (File m) (Refuse t) p q = absurd (q.1 (File m) p)
 one-target target (Query a i j) (Refuse t) p q = absurd (q.1 (Query a i j) p)
+one-target target (Select a i j s) (Refuse t) p q = absurd (q.1 (Select a i j s) p)
 
 -- ---- heads
 
@@ -148,6 +197,7 @@ named-answer bytes P (whole, (is, at)) (name, asks) =
 target-asked : (target : List ℕ) (asked : Asked) → AsksFor target asked → MayBeAsked asked
 target-asked target (File name) h = h.1
 target-asked target (Query area first last) h = (h.is_box.ordered, h.are_depths.ordered, h.are_depths.bounded)
+target-asked target (Select area first last sift) h = (h.is_box.ordered, h.are_depths.ordered, h.are_depths.bounded)
 target-asked target (Refuse status) h = subst (λ (s : ℕ). IsTrue (is_refusal s)) (sym h.0) refl
 
 -- a head is refused before its target with one of three statuses

@@ -1,5 +1,5 @@
 -- Targets: that a served name is text, and what is not named.
-use Rattle.std.proofs.Common.{◌≡◌, ◌≢◌, ℕ, ◌<◌, List, [], ◌∷◌, ◌++◌, map, ℤ, FitsSigned, w64, true, ltb, refl, sym, subst, arith, lit<, inl, inr}
+use Rattle.std.proofs.Common.{◌≡◌, ◌≢◌, ℕ, ◌<◌, List, [], ◌∷◌, ◌++◌, map, ℤ, FitsSigned, w64, true, ltb, refl, sym, subst, arith, lit<, inl, inr, decimal}
 use Rattle.std.specs.Prelude.{codes}
 use Rattle.std.specs.Fmt.{signed_decimal}
 use Rattle.std.specs.List.{AllByRecursion, list_all, join_with_byte}
@@ -10,11 +10,12 @@ use Rattle.std.proofs.lemmas.Str.Ascii.{IsAscii-nil, IsAscii-cons}
 use Rattle.ept_space.specs.declared.box3.Box3.{Box3}
 use Rattle.ept_space.specs.KeyText.{key_text}
 use Rattle.ept_space.proofs.KeyTexts.{IsAscii-key_text}
+use Rattle.ept_filter.specs.declared.sift.Sift.{Sift}
 use Rattle.ept_http.specs.declared.asked.Asked.{Asked}
-use Rattle.ept_http.specs.declared.asked.Asked.TheVariants.{File, Query, Refuse}
-use Rattle.ept_http.specs.QueryWords.{IsBoxText}
-use Rattle.ept_http.specs.Targets.{IsTextName, IsServedName, IsQueryTarget, Names}
-use Rattle.ept_http.proofs.Numbers.{number-lacks}
+use Rattle.ept_http.specs.declared.asked.Asked.TheVariants.{File, Query, Select, Refuse}
+use Rattle.ept_http.specs.QueryWords.{IsBoxText, IsDepthsText}
+use Rattle.ept_http.specs.Targets.{IsTextName, IsServedName, IsQueryTarget, IsSelectTarget, Names}
+use Rattle.ept_http.proofs.Numbers.{digits-lack, number-lacks}
 
 -- ---- names are text
 
@@ -42,15 +43,16 @@ name-IsUtf8 name is = IsUtf8-from_ascii name (name-IsAscii name is)
 
 -- ---- what names nothing
 
-pub none-named : (target : List ℕ) → ((name : List ℕ) → target ≡ codes "/" ++ name → ¬ (IsServedName name)) → ((area : Box3) (first last : ℕ) → ¬ (IsQueryTarget target area first last)) → (asked : Asked) → ¬ (Names target asked)
-none-named target no_file no_query (File name) h = no_file name h.0 h.1
-none-named target no_file no_query (Query area first last) h = no_query area first last h
-none-named target no_file no_query (Refuse status) h = h
+pub none-named : (target : List ℕ) → ((name : List ℕ) → target ≡ codes "/" ++ name → ¬ (IsServedName name)) → ((area : Box3) (first last : ℕ) → ¬ (IsQueryTarget target area first last)) → ((area : Box3) (first last : ℕ) (sift : Sift) → ¬ (IsSelectTarget target area first last sift)) → (asked : Asked) → ¬ (Names target asked)
+none-named target no_file no_query no_select (File name) h = no_file name h.0 h.1
+none-named target no_file no_query no_select (Query area first last) h = no_query area first last h
+none-named target no_file no_query no_select (Select area first last sift) h = no_select area first last sift h
+none-named target no_file no_query no_select (Refuse status) h = h
 
 -- ---- the words of a query
 
 -- what lacks a byte, joined by another, lacks it
-lacks-append : (mark : ℕ) (xs ys : List ℕ) → AllByRecursion (λ b. b ≢ mark) xs → AllByRecursion (λ b. b ≢ mark) ys → AllByRecursion (λ b. b ≢ mark) (xs ++ ys)
+pub lacks-append : (mark : ℕ) (xs ys : List ℕ) → AllByRecursion (λ b. b ≢ mark) xs → AllByRecursion (λ b. b ≢ mark) ys → AllByRecursion (λ b. b ≢ mark) (xs ++ ys)
 lacks-append mark [] ys h k = k
 lacks-append mark (x ∷ xs) ys h k = (h.0, lacks-append mark xs ys h.1 k)
 
@@ -64,3 +66,8 @@ lacks-joined mark (n ∷ m ∷ numbers) low fits =
 pub box-lacks : (text : List ℕ) (area : Box3) → IsBoxText text area → AllByRecursion (λ b. b ≢ 38) text
 box-lacks text area is =
     subst (AllByRecursion (λ b. b ≢ 38)) (sym is.spelled) (lacks-joined 38 (area.min ++ area.max) (lit< tt) is.fits)
+
+-- nor has the text of depths
+pub depths-lack : (text : List ℕ) (first last : ℕ) → IsDepthsText text first last → AllByRecursion (λ b. b ≢ 38) text
+depths-lack text first last is =
+    subst (AllByRecursion (λ b. b ≢ 38)) (sym is.spelled) (lacks-append 38 (decimal first) (44 ∷ decimal last) (digits-lack 38 first (lit< tt) (omega (arith, is.ordered, is.bounded))) ((omega arith), digits-lack 38 last (lit< tt) (omega (arith, is.bounded))))

@@ -3,7 +3,7 @@ use Rattle.std.specs.Prelude.{◌≡◌, ◌≤◌, ◌⊎◌, IsTrue, ℕ, List
 use Rattle.std.specs.Str.{bytes_eq}
 use Rattle.httparse.specs.Grammar.{RequestHead}
 use Rattle.ept_http.specs.declared.asked.Asked.{Asked}
-use Rattle.ept_http.specs.declared.asked.Asked.TheVariants.{File, Query, Refuse}
+use Rattle.ept_http.specs.declared.asked.Asked.TheVariants.{File, Query, Select, Refuse}
 use Rattle.ept_http.specs.WholeHead.{IsHead, lines_of}
 use Rattle.ept_http.specs.Fields.{has_close, is_faulty}
 use Rattle.ept_http.specs.QueryWords.{IsOrdered}
@@ -30,6 +30,7 @@ closes status = status == 431 || status == 400 || status == 505 || status == 503
 abbrev pub is_last : Asked → Bool
 is_last (File name) = false
 is_last (Query area first last) = false
+is_last (Select area first last sift) = false
 is_last (Refuse status) = closes status
 
 -- the answer to a head, and whether it is the last
@@ -43,11 +44,12 @@ IsAnswer bytes asked last =
     ((head : RequestHead) × IsHead bytes head × IsAnswerTo head asked last)
     ⊎ (((head : RequestHead) → ¬ IsHead bytes head) × (asked ≡ Refuse 400) × (last ≡ true))
 
--- what may be asked for: a file that is served, a query of an ordered box and of ordered depths from 0 to
--- 32, or the status of a refusal
+-- what may be asked for: a file that is served, a query or a selection of an ordered box and of ordered depths
+-- from 0 to 32, or the status of a refusal
 abbrev pub MayBeAsked : Asked → Type 0
 MayBeAsked (File name) = IsServedName name
 MayBeAsked (Query area first last) = IsOrdered area × (first ≤ last) × (last ≤ 32)
+MayBeAsked (Select area first last sift) = IsOrdered area × (first ≤ last) × (last ≤ 32)
 MayBeAsked (Refuse status) = IsTrue (is_refusal status)
 
 -- a judge gives the answer to any bytes

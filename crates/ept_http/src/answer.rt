@@ -13,7 +13,7 @@ const ROOM: usize = 256;
 pub enum HeadKind {
     /// A file with status 200: whether it is JSON, and how many bytes it has.
     File { json: bool, length: u64, last: bool },
-    /// The points of a query with status 200, sent in chunks.
+    /// The points of a query, or what a selection keeps of them, with status 200, sent in chunks.
     Query { last: bool },
     /// A status without a body: 400, 404, 405, 431, 503, 505 or 507.
     Refusal { status: u16, last: bool },

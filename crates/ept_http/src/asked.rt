@@ -1,5 +1,6 @@
 //! What a request asks for.
 
+use ept_filter::Sift;
 use ept_point::Text;
 use ept_space::Box3;
 
@@ -10,6 +11,8 @@ pub enum Asked {
     File(Text),
     /// The points in a box, in stored units, of the depths from the first to the last.
     Query(Box3, u8, u8),
+    /// Of such points, those that pass a selection, each with the dimensions that it keeps.
+    Select(Box3, u8, u8, Sift),
     /// Nothing that is served: the answer has this status (RFC 9110, section 15).
     Refuse(u16),
 }

@@ -92,7 +92,7 @@ fn is_last(asked: &Asked) -> bool
     ensures { result ≡ is_last asked.now }
 {
     match asked {
-        Asked::File(_) | Asked::Query(..) => false,
+        Asked::File(_) | Asked::Query(..) | Asked::Select(..) => false,
         Asked::Refuse(status) => closes(*status),
     }
 }

@@ -1,15 +1,17 @@
-//! The target of a request (RFC 9112, section 3.2): a file of the dataset, or a query. Nothing in it is
-//! percent-decoded.
+//! The target of a request (RFC 9112, section 3.2): a file of the dataset, a query or a selection. Nothing in
+//! it is percent-decoded.
 
-ghost use Rattle.std.specs.Prelude.{◌≡◌, ◌≢◌, ◌↔◌, ℕ, List, ◌++◌, IsTrue, IfOk, OnErr, IfSome, IfNone, IsSomeAnd, MatchOption, codes};
+ghost use Rattle.std.specs.Prelude.{◌≡◌, ◌≢◌, ◌↔◌, ℕ, List, ◌∷◌, ◌++◌, IsTrue, IfOk, OnErr, IfSome, IfNone, IsSomeAnd, MatchOption, codes};
 ghost use Rattle.std.specs.List.{AllByRecursion};
 ghost use Rattle.ept_space.specs.declared.box3.Box3.{Box3};
 ghost use Rattle.ept_space.specs.VoxelKey.{VoxelKey, IsKey};
 ghost use Rattle.ept_space.specs.KeyText.{key_text};
-ghost use Rattle.ept_http.specs.Targets.{IsTextName, IsServedName, IsQueryTarget, AsksFor};
+ghost use Rattle.ept_filter.specs.declared.sift.Sift.{Sift};
+ghost use Rattle.ept_http.specs.Targets.{IsTextName, IsServedName, IsQueryTarget, AreSiftWords, IsSelectTarget, AsksFor};
 
 use crate::asked::Asked;
 use crate::query::{read_box, read_depths, split_once};
+use ept_filter::{Sift, read_sift};
 use ept_point::{Memory, Text};
 use ept_space::{Box3, Key, read_key};
 use std::alloc::Global;
@@ -30,6 +32,9 @@ pub fn asked_of(alloc: Global, target: &[u8]) -> Result<Asked, Memory>
     }
     if let Some((area, first, last)) = query_of(target) {
         return Ok(Asked::Query(area, first, last));
+    }
+    if let Some((area, first, last, sift)) = select_of(target) {
+        return Ok(Asked::Select(area, first, last, sift));
     }
     Ok(Asked::Refuse(404))
 }
@@ -95,9 +100,42 @@ fn query_words(target: &[u8]) -> Option<(&[u8], &[u8])>
         → IsSomeAnd result (λ words. (words.0.now ≡ area) × (words.1.now ≡ depths)) }
 {
     let words = behind(target, b"/query?box=")?;
-    let (area, words) = split_once(words, b'&')?;
-    let depths = behind(words, b"depths=")?;
-    Some((area, depths))
+    word_before(words, b"depths=")
+}
+
+// The box, the depths and the selection that a target asks for.
+fn select_of(target: &[u8]) -> Option<(Box3, u8, u8, Sift)>
+    ensures some { IfSome result (λ asked. IsSelectTarget target.now asked.0 asked.1 asked.2 asked.3) }
+    ensures none { IfNone result ((area : Box3) (first last : ℕ) (sift : Sift) → ¬ IsSelectTarget target.now area first last sift) }
+{
+    let words = behind(target, b"/select?box=")?;
+    let (area, words) = word_before(words, b"depths=")?;
+    let (depths, words) = word_before(words, b"classes=")?;
+    let sift = sift_of(words)?;
+    let area = read_box(area)?;
+    let (first, last) = read_depths(depths)?;
+    Some((area, first, last, sift))
+}
+
+// The selection that its words ask for.
+fn sift_of(words: &[u8]) -> Option<Sift>
+    ensures some { IfSome result (AreSiftWords words.now) }
+    ensures none { IfNone result ((sift : Sift) → ¬ AreSiftWords words.now sift) }
+{
+    let (classes, words) = word_before(words, b"time=")?;
+    let (time, dims) = word_before(words, b"dims=")?;
+    read_sift(classes, time, dims)
+}
+
+// The word before the first `&`, and what stands behind the key that has to follow.
+fn word_before<'a>(text: &'a [u8], key: &[u8]) -> Option<(&'a [u8], &'a [u8])>
+    ensures some { IfSome result (λ r. text.now ≡ r.0.now ++ 38 ∷ (key.now ++ r.1.now)) }
+    ensures found { (word rest : List ℕ) → AllByRecursion (λ b. b ≢ 38) word → text.now ≡ word ++ 38 ∷ (key.now ++ rest)
+        → IsSomeAnd result (λ r. (r.0.now ≡ word) × (r.1.now ≡ rest)) }
+{
+    let (word, words) = split_once(text, b'&')?;
+    let rest = behind(words, key)?;
+    Some((word, rest))
 }
 
 // What stands behind a front.

@@ -25,6 +25,7 @@ IsEarly status = (status ≡ 400) ⊎ ((status ≡ 404) ⊎ ((status ≡ 405) �
 abbrev IsPlain : Asked → Type 0
 IsPlain (asked.File name) = ⊤
 IsPlain (asked.Query area first second) = ⊤
+IsPlain (asked.Select area first second sift) = ⊤
 IsPlain (asked.Refuse status) = IsEarly status
 
 early-status : (faulty other old : Bool) (status : ℕ) → (if faulty then Some 400 else if other then Some 405 else if old then Some 505 else None) ≡ Some status → IsEarly status
@@ -36,6 +37,7 @@ early-status false false false status h = absurd cc
 target-plain : (target : List ℕ) (wanted : Asked) → AsksFor target wanted → IsPlain wanted
 target-plain target (asked.File name) h = tt
 target-plain target (asked.Query area first second) h = tt
+target-plain target (asked.Select area first second sift) h = tt
 target-plain target (asked.Refuse status) h = inr (inl h.0)
 
 by-refusal : (refused : Option ℕ) (target : List ℕ) (wanted : Asked) → ((status : ℕ) → refused ≡ Some status → IsEarly status) → MatchOption refused (AsksFor target wanted) (λ status. wanted ≡ asked.Refuse status) → IsPlain wanted
@@ -118,18 +120,19 @@ file-digit : (json last : Bool) (content : Option (List ℕ)) (more : List ℕ) 
 file-digit json last None more = refused-digit 404 last more (inr (inl refl))
 file-digit json last (Some content) more = content-digit json last content more
 
-nodes-digit : (served : Served) (area : Box3) (last : Bool) (nodes : List Node) (more : List ℕ) → IsOther (query_answer served area last (Some nodes) ++ more)
+nodes-digit : (served : Served) (a : Asked) (area : Box3) (last : Bool) (nodes : List Node) (more : List ℕ) → IsOther (query_answer served a area last (Some nodes) ++ more)
 unfolding head_text status_line digits
-nodes-digit served area last nodes more =
-    other-digit 48 (query_answer served area last (Some nodes) ++ more) refl (λ same. absurd cc) (λ same. absurd cc)
+nodes-digit served a area last nodes more =
+    other-digit 48 (query_answer served a area last (Some nodes) ++ more) refl (λ same. absurd cc) (λ same. absurd cc)
 
-query-digit : (served : Served) (area : Box3) (last : Bool) (nodes : Option (List Node)) (more : List ℕ) → IsOther (query_answer served area last nodes ++ more)
-query-digit served area last None more = refused-digit 404 last more (inr (inl refl))
-query-digit served area last (Some nodes) more = nodes-digit served area last nodes more
+query-digit : (served : Served) (a : Asked) (area : Box3) (last : Bool) (nodes : Option (List Node)) (more : List ℕ) → IsOther (query_answer served a area last nodes ++ more)
+query-digit served a area last None more = refused-digit 404 last more (inr (inl refl))
+query-digit served a area last (Some nodes) more = nodes-digit served a area last nodes more
 
 answer-digit : (served : Served) (wanted : Asked) (last : Bool) (more : List ℕ) → IsPlain wanted → IsOther (answer_to served wanted last ++ more)
 answer-digit served (asked.File name) last more is = file-digit (is_json name) last (served.file name) more
-answer-digit served (asked.Query area first second) last more is = query-digit served area last (served.plan area first second) more
+answer-digit served (asked.Query area first second) last more is = query-digit served (asked.Query area first second) area last (served.plan area first second) more
+answer-digit served (asked.Select area first second sift) last more is = query-digit served (asked.Select area first second sift) area last (served.plan area first second) more
 answer-digit served (asked.Refuse status) last more is = refused-digit status last more is
 
 three-digit : digit_of (refusal 503 true) ≡ 51 ∷ []

@@ -1,5 +1,5 @@
 -- A box as a test of places.
-use Rattle.std.proofs.Common.{◌≡◌, ◌∙◌, suc, ◌≤◌, Bool, true, false, cond, T, List, [], ◌∷◌, length, filter, refl, sym, arith}
+use Rattle.std.proofs.Common.{◌≡◌, ◌∙◌, Bool, true, false, T, refl, sym}
 use Rattle.std.specs.Prelude.{ℤ, IsTrue, ◌↔◌}
 use Rattle.std.specs.Int.Signed.{le_z, le_z_yes}
 use Rattle.std.proofs.lemmas.Bool.{and_parts, and_from}
@@ -44,12 +44,3 @@ same-test area at false says = by_test (is_in area at) refl
     by_test : (b : Bool) → is_in area at ≡ b → false ≡ is_in area at
     by_test true is = says.1 (is_in-yes area at is) ∙ sym is
     by_test false is = sym is
-
--- the items that pass a test are no more than all
-pub filter-short : {X : Type 0} (test : X → Bool) (xs : List X) → length (filter test xs) ≤ length xs
-filter-short test [] = omega arith
-filter-short test (x ∷ xs) = by_test (test x) (filter-short test xs)
-  where
-    by_test : (b : Bool) → length (filter test xs) ≤ length xs → length (cond b (x ∷ filter test xs) (filter test xs)) ≤ suc (length xs)
-    by_test true less = omega (arith, less)
-    by_test false less = omega (arith, less)

@@ -6,6 +6,7 @@ mod Counting
 mod Told
 mod Plans
 mod Inside
+mod Runs
 mod Tiles
 mod Written
 mod Refusing

@@ -1,6 +1,6 @@
 //! The tiles of a plan.
 
-ghost use Rattle.std.specs.Prelude.{◌≡◌, ◌+◌, ◌<◌, ◌≤◌, List, ◌++◌, length, IfOk, IfErr, OnErr};
+ghost use Rattle.std.specs.Prelude.{◌≡◌, ◌+◌, ◌<◌, ◌≤◌, List, ◌++◌, length, true, IfOk, IfErr, OnErr};
 ghost use Rattle.ept_base.specs.Causes.{HasCauseOf};
 ghost use Rattle.ept_base.specs.Files.{SameFiles, Tells};
 ghost use Rattle.ept_base.specs.Moves.{Moves};
@@ -17,7 +17,7 @@ use crate::query_error::{QueryError, QueryFile};
 use crate::reading::read_file;
 use ept_base::Store;
 use ept_meta::tile_name;
-use ept_point::{Memory, Point, TileError, pack, read_tile};
+use ept_point::{Memory, PACKED_LENGTH, Point, TileError, read_tile, tile_length_law};
 use ept_sample::place_of;
 use ept_space::{Box3, Key, contains};
 use std::alloc::Global;
@@ -47,10 +47,9 @@ pub fn query_tile<T: Store>(
     ensures cause { HasCauseOf QueryError.StoreFault (T.faults store.old) (T.faults store.new) result }
 {
     let (key, count) = plan.node(number);
-    let points = tile_points(alloc, store, &key, count)?;
-    let mut found = Vec::new(alloc);
-    let number = append_inside(&plan.area, &points, &mut found)?;
-    *into = found;
+    let (bytes, points) = read_points(alloc, store, &key, count)?;
+    let (part, number) = part_in(alloc, &plan.area, bytes, &points)?;
+    *into = part;
     Ok(number)
 }
 
@@ -73,9 +72,32 @@ pub fn tile_points<T: Store>(
     ensures gets { T.gets store.new ≤ T.gets store.old + 1 }
     ensures cause { HasCauseOf QueryError.StoreFault (T.faults store.old) (T.faults store.new) result }
 {
+    match read_points(alloc, store, key, count) {
+        Ok((_, points)) => Ok(points),
+        Err(error) => Err(error),
+    }
+}
+
+// The bytes of the tile of a key, and the points of which they are the packed form.
+fn read_points<T: Store>(
+    alloc: Global,
+    store: &mut T,
+    key: &Key,
+    count: u64,
+) -> Result<(Vec<u8>, Vec<Point>), QueryError>
+    ensures found { IfOk result (λ read. Tells (λ all. HasTile all key.now count read.1.items) (T.files store.old)) }
+    ensures points { IfOk result (λ read. IsAscending read.1.items × (length read.1.items ≡ count)) }
+    ensures bytes { IfOk result (λ read. read.0.items ≡ tile read.1.items) }
+    ensures refused { IfErr result (RefusesReading (QueryFile.Tile key.now)
+        (λ all. HasNoTile all key.now count) (T.files store.old)) }
+    ensures any_moment { Moves T.files T.may_leave T.moment T.image_since SameFiles store.old store.new }
+    ensures gets { T.gets store.new ≤ T.gets store.old + 1 }
+    ensures cause { HasCauseOf QueryError.StoreFault (T.faults store.old) (T.faults store.new) result }
+{
     let name = tile_name(alloc, key)?;
     let bytes = read_file(alloc, store, QueryFile::Tile(*key), name.as_str())?;
-    points_of(alloc, &bytes, count, QueryFile::Tile(*key))
+    let points = points_of(alloc, &bytes, count, QueryFile::Tile(*key))?;
+    Ok((bytes, points))
 }
 
 // The points that bytes are read as, where they are as many as counted.
@@ -112,18 +134,60 @@ fn told_of(error: TileError, file: QueryFile) -> QueryError
     }
 }
 
-// Appends the packed points that lie in the area, and answers their number.
-fn append_inside(area: &Box3, points: &[Point], into: &mut Vec<u8>) -> Result<u64, Memory>
+// The packed points that lie in the area, and their number: the bytes themselves where all do.
+fn part_in(
+    alloc: Global,
+    area: &Box3,
+    bytes: Vec<u8>,
+    points: &[Point],
+) -> Result<(Vec<u8>, u64), Memory>
+    requires { bytes.items ≡ tile points.now }
+    ensures bytes { IfOk result (λ part. part.0.items ≡ tile (points_in area.now points.now)) }
+    ensures number { IfOk result (λ part. part.1 ≡ length (points_in area.now points.now)) }
+{
+    if are_inside(area, points) {
+        return Ok((bytes, points.len() as u64));
+    }
+    let mut part = Vec::new(alloc);
+    let number = append_inside(area, points, &bytes, &mut part)?;
+    Ok((part, number))
+}
+
+// Whether all points lie in the area.
+fn are_inside(area: &Box3, points: &[Point]) -> bool
+    ensures { result ≡ true → points_in area.now points.now ≡ points.now }
+{
+    for point in points {
+        if !is_inside(area, point) {
+            return false;
+        }
+    }
+    true
+}
+
+// Appends the packed points that lie in the area, run by run, and returns their number.
+fn append_inside(
+    area: &Box3,
+    points: &[Point],
+    bytes: &[u8],
+    into: &mut Vec<u8>,
+) -> Result<u64, Memory>
+    requires { bytes.now ≡ tile points.now }
     ensures bytes { IfOk result (λ count. into.new.items ≡ into.old.items ++ tile (points_in area.now points.now)) }
     ensures number { IfOk result (λ count. count ≡ length (points_in area.now points.now)) }
 {
+    tile_length_law();
+    let mut start = 0;
     let mut count = 0;
-    for point in points {
-        if is_inside(area, point) {
-            into.extend_from_slice(&pack(point))?;
+    for at in 0..points.len() {
+        if is_inside(area, &points[at]) {
             count += 1;
+        } else {
+            into.extend_from_slice(&bytes[start * PACKED_LENGTH..at * PACKED_LENGTH])?;
+            start = at + 1;
         }
     }
+    into.extend_from_slice(&bytes[start * PACKED_LENGTH..])?;
     Ok(count)
 }
 

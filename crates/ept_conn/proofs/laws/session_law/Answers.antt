@@ -1,6 +1,6 @@
 use Rattle.std.proofs.Common.{◌≡◌, true, [], None, inl, refl}
 use Rattle.ept_base.specs.Causes.{Rose}
-use Rattle.ept_conn.proofs.Answered.{queries-answered}
+use Rattle.ept_conn.proofs.Answered.{queries-answered, selections-answered}
 use Rattle.ept_conn.proofs.Complete.{complete-served}
 use Rattle.ept_conn.proofs.Histories.{sends-answers, ends-has, reads-has, owes-has}
 use Rattle.ept_conn.proofs.Unanswered.{works-unanswered}
@@ -18,5 +18,6 @@ returns c = record {
     inl (record { done = not; file = λ name. refl; plan = λ area first second. refl }),
   );
   queries = λ kept points files served whole. queries-answered c.complete_law.ensures.answered kept points files served whole;
+  selections = λ kept points files served whole. selections-answered c.complete_law.ensures.answered c.sift_law.ensures.sifts kept points files served whole;
   complete = complete-served c.complete_law.ensures.plan c.complete_law.ensures.tiles c.complete_law.ensures.once;
 }

@@ -1,11 +1,30 @@
-use Rattle.std.proofs.Common.{arith, take, length-take}
-use Rattle.ept_query.specs.Rows.{is_inside}
-use Rattle.ept_query.proofs.Inside.{filter-short}
+use Rattle.std.proofs.Common.{◌≡◌, ◌∙◌, ◌*◌, ◌-◌, ◌<◌, ◌++◌, ℕ, List, length, take, drop, sym, ap, subst, arith}
+use Rattle.ept_point.specs.Dimensions.{packed_width}
+use Rattle.ept_query.proofs.Runs.{HasCopied, bytes-between, length-bytes, copied-on, copied-off, all-copied}
 use Rattle.ept_query.proofs.tile.append_inside.Goals as goal
+use Rattle.ept_query.proofs.tile.append_inside.Goals.{then-is_inside, else-is_inside+in_ok-extend_from_slice}
 
-pub overflow_add-count : goal.overflow_add-count
-overflow_add-count c =
-    let number = c.loop-point.invariant.number in
-    let short = filter-short (is_inside c.args.area.now) (take c.loop-point.point-index c.args.points.now) in
-    let front = length-take c.loop-point.point-index c.args.points.now in
-    omega (arith, number, short, front)
+pub loop-at-preserved : goal.loop-at-preserved
+loop-at-preserved c =
+    let points = c.args.points.now in
+    let there : c.loop-at.at < length points = omega (arith, c.loop-at-test.true, c.loop-at.auto.at-end) in
+    elim c.if-is_inside.branch [
+      | then-is_inside w ↦
+          rw (w.into-is, w.start-is, w.count-is)
+          (copied-on c.args.area.now points _ _ _ _ _ c.index-points-at.result c.loop-at.invariant there (sym c.index-points-at.is) (sym c.is_inside.ensures ∙ w.if-is_inside.true))
+      | else-is_inside+in_ok-extend_from_slice w ↦
+          let run = bytes-between c.tile_length_law.ensures.length c.args.bytes.now points c.loop-at.start c.loop-at.at c.requires c.loop-at.invariant.order c.loop-at.invariant.within in
+          rw (w.into-is, w.start-is, w.count-is)
+          (copied-off c.args.area.now points _ _ _ _ _ c.index-points-at.result c.loop-at.invariant there (sym c.index-points-at.is) w.extend_from_slice.new.self.items (sym c.is_inside.ensures ∙ w.if-is_inside.false) (w.in_ok-extend_from_slice.ensures.items ∙ ap (λ (bs : List ℕ). c.loop-at.into.items ++ bs) run))
+    ]
+
+pub returns-clause-bytes : goal.returns-clause-bytes
+returns-clause-bytes c =
+    let points = c.args.points.now in
+    let bytes = c.args.bytes.now in
+    let h = c.loop-at.invariant in
+    let end : c.loop-at.at ≡ length points = omega (arith, h.within, c.loop-at-test.false) in
+    let all = subst (λ (k : ℕ). HasCopied c.args.area.now points c.args.into.now.items c.loop-at.into.items c.loop-at.start k c.loop-at.count) end h in
+    let run = ap (λ (n : ℕ). take (n - c.loop-at.start * packed_width) (drop (c.loop-at.start * packed_width) bytes)) (length-bytes c.tile_length_law.ensures.length bytes points c.requires)
+    ∙ bytes-between c.tile_length_law.ensures.length bytes points c.loop-at.start (length points) c.requires all.order all.within in
+    (all-copied c.args.area.now points c.args.into.now.items c.loop-at.into.items c.extend_from_slice-2.new.self.items c.loop-at.start c.loop-at.count all (c.in_ok-extend_from_slice-2.ensures.items ∙ ap (λ (bs : List ℕ). c.loop-at.into.items ++ bs) run)).0

@@ -1,10 +1,5 @@
-use Rattle.std.proofs.Common.{◌≡◌, ◌++◌, length, take}
-use Rattle.ept_point.specs.Packed.{tile}
-use Rattle.ept_query.specs.Parts.{points_in}
+use Rattle.ept_query.proofs.Runs.{HasCopied}
 use Rattle.ept_query.proofs.tile.append_inside.Given as goal
 
-abbrev pub invariant-loop-point : goal.invariant-loop-point
-invariant-loop-point l = record {
-  bytes : l.into.items ≡ l.initial.into.items ++ tile (points_in l.area (take l.point-index l.points));
-  number : l.count ≡ length (points_in l.area (take l.point-index l.points));
-}
+abbrev pub invariant-loop-at : goal.invariant-loop-at
+invariant-loop-at l = HasCopied l.area l.points l.initial.into.items l.into.items l.start l.at l.count

@@ -11,6 +11,17 @@ returns-in-Query-clause-works g c = λ going files told served is.
 pub returns-in-Query-clause-plans : goal.returns-in-Query-clause-plans
 returns-in-Query-clause-plans g c = λ files told. c.make_plan.ensures.plans files told
 
+pub returns-in-Select-clause-works : goal.returns-in-Select-clause-works
+returns-in-Select-clause-works g c = λ going files told served is.
+    let begins = c.make_plan-in-Select.ensures.begins going files told served is in
+    (c.make_plan-in-Select.ensures.same.0, subst (λ (a : Asked). Gets served c.args.turn a c.make_plan-in-Select.new.self) (sym c.in-Select.is) begins)
+
+pub returns-in-Select-clause-plans : goal.returns-in-Select-clause-plans
+returns-in-Select-clause-plans g c = λ files told. c.make_plan-in-Select.ensures.plans files told
+
+pub returns-in-Select-clause-undamaged : goal.returns-in-Select-clause-undamaged
+returns-in-Select-clause-undamaged g c = λ going files told. c.make_plan-in-Select.ensures.undamaged going files told
+
 pub returns-in-File-clause-plans : goal.returns-in-File-clause-plans
 returns-in-File-clause-plans g c = λ files told. subst (HasPlanOf files) (sym c.get_file.ensures.hand) tt
 

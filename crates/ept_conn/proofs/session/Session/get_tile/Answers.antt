@@ -1,4 +1,5 @@
 use Rattle.std.proofs.Common.{◌∙◌, ◌+◌, ◌++◌, List, ℕ, sym, ap}
+use Rattle.ept_conn.specs.Wanted.{kept_of}
 use Rattle.ept_conn.specs.Answers.{chunk}
 use Rattle.ept_conn.specs.Works.{end_at}
 use Rattle.ept_query.specs.Parts.{node_at}
@@ -10,9 +11,9 @@ pub returns-in-Ok-clause-works : goal.returns-in-Ok-clause-works
 returns-in-Ok-clause-works g c = λ going files told served is planned.
     let part = rw told at c.in-Ok.ensures.part in
     let bytes = part-served files served c.args.turn c.args.plan c.args.done _ _ is planned c.requires.within part in (
-      c.put_tile.ensures.same.0,
-      c.put_tile.ensures.hand going,
-      c.put_tile.ensures.out going ∙ ap (λ (w : List ℕ). chunk w ++ end_at c.args.plan (c.args.done + 1)) (c.deref.ensures.value ∙ sym bytes),
+      c.put_kept.ensures.same.0,
+      c.put_kept.ensures.hand going,
+      c.put_kept.ensures.out going ∙ ap (λ (w : List ℕ). chunk (kept_of c.args.turn.asked w) ++ end_at c.args.plan (c.args.done + 1)) (sym bytes),
     )
 
 pub returns-in-Ok-clause-undamaged : goal.returns-in-Ok-clause-undamaged

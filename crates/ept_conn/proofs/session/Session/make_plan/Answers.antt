@@ -3,9 +3,8 @@ use Rattle.ept_hier.specs.Hierarchy.{Node}
 use Rattle.ept_http.specs.declared.answer.HeadKind.TheVariants as head
 use Rattle.ept_http.specs.AnswerHead.{head_text}
 use Rattle.ept_query.specs.Parts.{Plan}
-use Rattle.ept_conn.specs.Wanted.{wanted}
+use Rattle.ept_conn.specs.Wanted.{Wants}
 use Rattle.ept_conn.specs.Works.{Begins, hand_at, end_at}
-use Rattle.ept_http.specs.declared.asked.Asked.TheVariants as asked
 use Rattle.ept_query.specs.Planning.{IsPlanFor}
 use Rattle.ept_conn.proofs.Plans.{plan-served, tiles-plan}
 use Rattle.ept_conn.proofs.Undamaged.{plan-undamaged, shut-undamaged}
@@ -29,7 +28,7 @@ returns-in-Ok-Some-clause-plans g c = λ files told.
     tiles-plan files c.args.turn plan 0 c.begin.new.self.hand c.begin.ensures.either (record {
       first = c.args.depths.0;
       second = c.args.depths.1;
-      wants = ap wanted (c.requires.asked ∙ ap (λ a. asked.Query a c.args.depths.0 c.args.depths.1) (sym area));
+      wants = subst (λ a. Wants c.args.turn.asked a c.args.depths.0 c.args.depths.1) (sym area) c.requires.wanted;
       is_plan = subst (λ a. IsPlanFor a c.args.depths.0 c.args.depths.1 plan files) (sym area) found;
     })
 
@@ -37,9 +36,9 @@ pub returns-in-Ok-Some-clause-undamaged : goal.returns-in-Ok-Some-clause-undamag
 returns-in-Ok-Some-clause-undamaged g c = λ going files told.
     let plan = c.in-Ok-Some.plan in
     let found = rw (c.in-Ok-Some.field-0-is, c.in-Ok-Some.plan-is, told) at c.in-Ok-Some.ensures.plan in
-    plan-undamaged files c.args.area.now c.args.depths.0 c.args.depths.1 plan c.args.turn.asked c.requires.asked found
+    plan-undamaged files c.args.area.now c.args.depths.0 c.args.depths.1 plan c.args.turn.asked c.requires.wanted found
 
 pub returns-in-Ok-None-clause-undamaged : goal.returns-in-Ok-None-clause-undamaged
 returns-in-Ok-None-clause-undamaged g c = λ going files told.
     let none = rw (c.in-Ok-None.field-0-is, told) at c.in-Ok-None.ensures.plan in
-    shut-undamaged files c.args.area.now c.args.depths.0 c.args.depths.1 c.args.turn.asked c.requires.asked none
+    shut-undamaged files c.args.area.now c.args.depths.0 c.args.depths.1 c.args.turn.asked c.requires.wanted none
