@@ -3,6 +3,7 @@
 #![tactic(auto)]
 
 mod accepting;
+mod logging;
 mod serving;
 mod single;
 mod timed;

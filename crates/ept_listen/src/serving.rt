@@ -1,9 +1,11 @@
 //! The connections that a listener accepts, each served in a thread of its own.
 
 use crate::accepting::{PAUSE, is_passing};
+use crate::logging::{how_ended, log_of};
 use crate::timed::TimedStream;
 use ept_conn::serve_link;
-use ept_real::{RealLink, RealStore};
+use ept_log::WatchedLink;
+use ept_real::{ReadStore, RealFiles, RealLink};
 use std::io::{self, Read};
 use std::net::{Shutdown, TcpListener, TcpStream};
 use std::sync::Wait;
@@ -23,7 +25,7 @@ const REST_SECONDS: u64 = 5;
 
 /// Serves the connections that are accepted, each in a thread of its own and with a store of its own over
 /// the folder `out`, at most 1,024 at once: without end, or so many. It returns once all of them have ended. Then and
-/// after an error it no longer listens.
+/// after an error it no longer listens. If it logs, each request becomes a line on standard error.
 ///
 /// # Errors
 ///
@@ -35,6 +37,7 @@ pub fn serve_connections<R: Threads + Wait>(
     listener: TcpListener,
     out: &str,
     connections: Option<u32>,
+    logs: bool,
 ) -> io::Result<()> {
     let most = connections.map_or(usize::MAX, |count| count as usize);
     let served = AtomicU32::new(0);
@@ -43,7 +46,7 @@ pub fn serve_connections<R: Threads + Wait>(
         for _ in 0..most {
             let stream = accept(host, &listener, served)?;
             let serve = move || {
-                serve_stream(host, &stream, out);
+                serve_stream(host, &stream, out, logs);
                 served.fetch_sub(1, SeqCst);
             };
             if let Err(refused) = scope.spawn(serve) {
@@ -87,13 +90,19 @@ fn pause(host: &HostRuntime) {
 }
 
 // Serves one connection.
-fn serve_stream(host: &HostRuntime, stream: &TcpStream, out: &str) {
+fn serve_stream(host: &HostRuntime, stream: &TcpStream, out: &str, logs: bool) {
     let alloc = host.alloc();
     // Without it small answers may wait for the peer.
     let _ = stream.set_nodelay(true);
-    let mut store = RealStore::new(alloc, host, out);
-    let mut link = RealLink::new(TimedStream::new(host, stream));
-    serve_link(alloc, &mut link, &mut store);
+    let mut store = ReadStore::new(alloc, RealFiles::new(host), out);
+    let log = if logs {
+        log_of(host, stream.peer_addr())
+    } else {
+        None
+    };
+    let mut link = WatchedLink::new(RealLink::new(TimedStream::new(host, stream)), log);
+    let end = serve_link(alloc, &mut link, &mut store);
+    link.end(how_ended(end));
     let _ = finish(host, stream);
 }
 

@@ -4,10 +4,12 @@ ghost use Rattle.futures.specs.Poll.{OnPending};
 ghost use Rattle.futures.specs.Task.{Covers, IsArmed, Keeps};
 
 use crate::accepting::{PAUSE, is_passing};
+use crate::logging::{how_ended, log_of};
 use ept_conn::End;
 use ept_crowd::Crowd;
+use ept_log::WatchedLink;
 use ept_poll::PollConn;
-use ept_real::RealStore;
+use ept_real::{ReadStore, RealFiles};
 use ept_tokio::TokioLink;
 use futures::Future;
 use futures::task::{Context, Poll};
@@ -28,7 +30,8 @@ const MOST: u32 = 256;
 const TURNS: u32 = 64;
 
 /// Serves the connections that are accepted on this one thread, at most 256 at once and each with a store of its own
-/// over the folder `out`: without end, or so many. It returns once all of them have ended.
+/// over the folder `out`: without end, or so many. It returns once all of them have ended. If it logs, each request becomes
+/// a line on standard error.
 ///
 /// # Errors
 ///
@@ -40,12 +43,13 @@ pub fn serve_single<R>(
     listener: std::net::TcpListener,
     out: &str,
     connections: Option<u32>,
+    logs: bool,
 ) -> io::Result<()>
 where
     R: Wait + Clock + Net + RandomSource + AllocGlobal,
 {
     let mut runtime = LocalRuntime::new(rt)?;
-    let serving = serving_of(rt, host, runtime.handle(), listener, out, connections)?;
+    let serving = serving_of(rt, host, runtime.handle(), listener, out, connections, logs)?;
     runtime.block_on(rt, serving)?
 }
 
@@ -56,6 +60,7 @@ fn serving_of<'a, R: Clock>(
     listener: std::net::TcpListener,
     out: &'a str,
     connections: Option<u32>,
+    logs: bool,
 ) -> io::Result<Serving<'a, R>> {
     let timers = handle.time().clone()?;
     let listener = TcpListener::from_std(listener, handle.reactor())?;
@@ -63,6 +68,7 @@ fn serving_of<'a, R: Clock>(
         clock,
         host,
         out,
+        logs,
         pause: Pause::new(clock, &timers)?,
         timers,
         listener: Some(listener),
@@ -116,12 +122,17 @@ impl Pause {
 
 type Link<'a, R> = TokioLink<'a, R, TcpStream>;
 
+type Watched<'a, R> = WatchedLink<'a, Link<'a, R>, HostRuntime>;
+
+type Folder<'a> = ReadStore<'a, RealFiles<'a, HostRuntime>>;
+
 // What is accepted and served.
 #[derive(Drop)]
 struct Serving<'a, R> {
     clock: &'a R,
     host: &'a HostRuntime,
     out: &'a str,
+    logs: bool,
     timers: Handle,
     // None, and so closed, where no more are accepted.
     listener: Option<TcpListener>,
@@ -130,7 +141,7 @@ struct Serving<'a, R> {
     pause: Pause,
     // Why no more are accepted, where accepting failed.
     fault: Option<io::Error>,
-    crowd: Crowd<Link<'a, R>, RealStore<'a, HostRuntime>>,
+    crowd: Crowd<Watched<'a, R>, Folder<'a>>,
     // Connections that have ended, of which the rest is read.
     closing: Vec<Link<'a, R>>,
 }
@@ -191,14 +202,19 @@ impl<'a, R: Clock> Serving<'a, R> {
         }
         // Without it small answers may wait for the peer.
         let _ = stream.set_nodelay(true);
+        let log = if self.logs {
+            log_of(self.host, stream.peer_addr())
+        } else {
+            None
+        };
         if let Ok(link) = TokioLink::new(self.clock, &self.timers, stream) {
-            self.join(link);
+            self.join(WatchedLink::new(link, log));
         }
     }
 
-    fn join(&mut self, link: Link<'a, R>) {
+    fn join(&mut self, link: Watched<'a, R>) {
         let alloc = self.host.alloc();
-        let store = RealStore::new(alloc, self.host, self.out);
+        let store = ReadStore::new(alloc, RealFiles::new(self.host), self.out);
         let _ = self.crowd.add(PollConn::new(alloc, link, store, TURNS));
     }
 
@@ -220,6 +236,7 @@ impl<'a, R: Clock> Serving<'a, R> {
             let Some((_, end, link, _)) = self.crowd.take_ended() else {
                 return;
             };
+            let link = link.end(how_ended(end));
             if end != End::LinkFault && self.closing.len() < MOST as usize {
                 self.close(link, cx);
             }

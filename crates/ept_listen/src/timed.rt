@@ -21,6 +21,8 @@ pub(crate) struct TimedStream<'a> {
     stream: &'a TcpStream,
     // When the first byte of a head came.
     head: Option<Instant>,
+    // Whether a read may take less than `IDLE`.
+    is_short: bool,
 }
 
 impl<'a> TimedStream<'a> {
@@ -32,6 +34,7 @@ impl<'a> TimedStream<'a> {
             host,
             stream,
             head: None,
+            is_short: false,
         }
     }
 
@@ -44,11 +47,14 @@ impl<'a> TimedStream<'a> {
         }
     }
 
-    fn limit_read(&self) -> io::Result<()> {
-        match self.head {
-            Some(first) => self.stream.set_read_timeout(Some(self.left_since(first)?)),
-            None => Ok(()),
-        }
+    // Limits a read of the rest of a head.
+    fn limit_read(&mut self) -> io::Result<()> {
+        let Some(first) = self.head else {
+            return Ok(());
+        };
+        let left = self.left_since(first)?;
+        self.is_short = true;
+        self.stream.set_read_timeout(Some(left))
     }
 
     // Some bytes of a head came, which may be its first.
@@ -59,14 +65,15 @@ impl<'a> TimedStream<'a> {
         Ok(())
     }
 
-    // No head is waited for.
+    // No head is waited for. Most come in one read, whose time was not changed.
     fn forget_head(&mut self) -> io::Result<()> {
-        match self.head.take() {
-            Some(_) => self
-                .stream
-                .set_read_timeout(Some(Duration::from_secs(IDLE))),
-            None => Ok(()),
+        self.head = None;
+        if !self.is_short {
+            return Ok(());
         }
+        self.is_short = false;
+        self.stream
+            .set_read_timeout(Some(Duration::from_secs(IDLE)))
     }
 }
 

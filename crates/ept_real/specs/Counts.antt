@@ -7,6 +7,7 @@ use Rattle.ept_real.specs.declared.store.RealStore.{RealStore}
 use Rattle.ept_real.specs.declared.link.RealLink.{RealLink}
 use Rattle.ept_real.specs.declared.room.RealRoom.{RealRoom}
 use Rattle.ept_real.specs.declared.room.RealSpill.{RealSpill}
+use Rattle.ept_real.specs.declared.real_files.RealFiles.{RealFiles}
 
 -- how often an object has failed
 abbrev pub source_faults : {R F D : Type 0} → RealSource R F D → ℕ
@@ -20,6 +21,9 @@ sink_faults sink = sink.faults
 
 abbrev pub store_faults : {R F D : Type 0} → RealStore R F D → ℕ
 store_faults store = store.faults
+
+abbrev pub files_faults : {R F D : Type 0} → RealFiles R F D → ℕ
+files_faults files = files.faults
 
 abbrev pub link_faults : {S : Type 0} → RealLink S → ℕ
 link_faults link = link.faults

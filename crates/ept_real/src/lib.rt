@@ -7,9 +7,13 @@
 #![tactic(auto)]
 
 mod link;
+mod path_files;
 mod path_set;
 mod paths;
 mod progress;
+mod read_store;
+mod reading;
+mod real_files;
 mod room;
 mod seen_files;
 mod shelf;
@@ -19,7 +23,10 @@ mod store;
 mod unsynced;
 
 pub use link::RealLink;
+pub use path_files::PathFiles;
 pub use progress::{Ending, Telling};
+pub use read_store::ReadStore;
+pub use real_files::RealFiles;
 pub use room::{RealRoom, RealSpill};
 pub use seen_files::{SeenFile, SeenFiles};
 pub use shelf::RealShelf;

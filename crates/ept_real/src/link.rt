@@ -1,5 +1,9 @@
-ghost use Rattle.std.specs.Prelude.{◌≡◌, ◌≤◌};
-ghost use Rattle.ept_base.specs.Causes.{Rose};
+ghost use Rattle.std.specs.Prelude.{◌≡◌, ◌<◌, ◌≤◌, [], length, take, IfOk, OnErr};
+ghost use Rattle.std.specs.Io.{ReadsAtMost, WritesAtMost};
+ghost use Rattle.std.specs.Io.KnownBytes.{ReadConsumes, WriteAppends};
+ghost use Rattle.ept_base.specs.Causes.{Rose, HasCause};
+ghost use Rattle.ept_base.specs.Files.{StepsBy, Tells};
+ghost use Rattle.ept_base.specs.Links.{Reads, FailsToRead, Writes};
 
 use ept_base::{Failed, Link};
 use std::io::{Read, Write};
@@ -52,6 +56,7 @@ impl<S: Read + Write + Drop> RealLink<S> {
     fn fault(&mut self) -> Failed
         ensures rose { Rose (link_faults self.old) (link_faults self.new) }
         ensures later { link_faults self.old ≤ link_faults self.new }
+        ensures same { link_stream self.new ≡ link_stream self.old }
     {
         self.faults = self.faults.saturating_add(1);
         Failed
@@ -59,14 +64,24 @@ impl<S: Read + Write + Drop> RealLink<S> {
 }
 
 impl<S: Read + Write + Drop> Link for RealLink<S> {
-    ghost use Rattle.std.specs.Prelude.{None};
     ghost use Rattle.ept_real.specs.Counts.{link_faults};
+    ghost use Rattle.ept_real.specs.Streams.{link_stream, link_wire};
 
-    ghost wire = { λ _. None };
+    ghost wire = { λ link. link_wire link };
 
     ghost faults = { λ link. link_faults link };
 
-    fn read(&mut self, into: &mut [u8]) -> Result<usize, Failed> {
+    fn read(&mut self, into: &mut [u8]) -> Result<usize, Failed>
+        ensures bound { ReadsAtMost result into.new }
+        ensures ok { IfOk result (λ n. StepsBy (Reads (take n into.new)) (link_wire self.old) (link_wire self.new)) }
+        ensures end { IfOk result (λ n. n ≡ 0 → 0 < length into.new → Tells (λ told. told.left ≡ []) (link_wire self.new)) }
+        ensures failed { OnErr result (StepsBy FailsToRead (link_wire self.old) (link_wire self.new)) }
+        ensures unchanged { OnErr result (into.new ≡ into.old) }
+        ensures cause { HasCause (link_faults self.old) (link_faults self.new) result }
+
+        // It returns what the stream gave, and no other byte of the stream is taken.
+        ensures passed { ReadConsumes (S.remaining (link_stream self.old)) (S.remaining (link_stream self.new)) result into.new }
+    {
         let most = into.len().min(BLOCK);
         let block = &mut self.block[..];
         match self.stream.read(&mut block[..most]) {
@@ -78,7 +93,16 @@ impl<S: Read + Write + Drop> Link for RealLink<S> {
         }
     }
 
-    fn write(&mut self, from: &[u8]) -> Result<usize, Failed> {
+    fn write(&mut self, from: &[u8]) -> Result<usize, Failed>
+        ensures bound { WritesAtMost result from.now }
+        ensures some { IfOk result (λ n. 0 < length from.now → 0 < n) }
+        ensures ok { IfOk result (λ n. StepsBy (Writes (take n from.now)) (link_wire self.old) (link_wire self.new)) }
+        ensures unchanged { OnErr result (link_wire self.new ≡ link_wire self.old) }
+        ensures cause { HasCause (link_faults self.old) (link_faults self.new) result }
+
+        // What it reports as written is what the stream took.
+        ensures passed { WriteAppends (S.contents (link_stream self.old)) (S.contents (link_stream self.new)) result from.now }
+    {
         match self.stream.write(from) {
             Ok(count) if count > 0 || from.is_empty() => Ok(count),
             _ => Err(self.fault()),

@@ -1,4 +1,4 @@
-//! How far a build is, told on standard error.
+//! How far a build or a check is, told on standard error.
 
 ghost use Rattle.std.specs.Prelude.{◌≡◌, IfOk};
 
@@ -32,7 +32,16 @@ pub enum Telling {
     Lines,
 }
 
-/// The machine, and how far a build is: what was read of its files, put and flushed, as
+/// What a run does with its folder.
+#[derive(Clone, Copy)]
+pub(crate) enum Run {
+    /// It builds it.
+    Build,
+    /// It reads all of it.
+    Check,
+}
+
+/// The machine, and how far a run is: what was read of its files, put and flushed, as
 /// [`SeenFiles`](crate::SeenFiles) sees it.
 ///
 /// It is told on standard error. A clock that can't be read tells nothing, and a line that can't be written
@@ -45,6 +54,7 @@ pub(crate) struct Progress<R: Clock + Eprint + Drop> {
     machine: R,
     program: String,
     telling: Telling,
+    run: Run,
     began: Option<Instant>,
     // When the next line is due, in milliseconds from the start; at the greatest number none is.
     due: AtomicU64,
@@ -53,6 +63,7 @@ pub(crate) struct Progress<R: Clock + Eprint + Drop> {
     scanned: AtomicU64,
     loaded: AtomicU64,
     inserted: AtomicU64,
+    opened: AtomicU64,
     checkpoints: AtomicU64,
     put: AtomicU64,
     flushed: AtomicU64,
@@ -61,12 +72,13 @@ pub(crate) struct Progress<R: Clock + Eprint + Drop> {
 impl<R: Clock + Eprint + Drop> Progress<R> {
     ghost use Rattle.ept_real.specs.Machines.{machine_of};
 
-    /// A build on this machine by the program of this name, which begins now.
+    /// A run on this machine by the program of this name, which begins now.
     pub(crate) fn new(
         alloc: Global,
         machine: R,
         program: &str,
         telling: Telling,
+        run: Run,
     ) -> Result<Self, AllocError>
         ensures { IfOk result (λ progress. machine_of progress ≡ machine) }
     {
@@ -76,12 +88,14 @@ impl<R: Clock + Eprint + Drop> Progress<R> {
             machine,
             program,
             telling,
+            run,
             due: AtomicU64::new(first_due(telling)),
             is_told: AtomicBool::new(false),
             is_second: AtomicBool::new(false),
             scanned: AtomicU64::new(0),
             loaded: AtomicU64::new(0),
             inserted: AtomicU64::new(0),
+            opened: AtomicU64::new(0),
             checkpoints: AtomicU64::new(0),
             put: AtomicU64::new(0),
             flushed: AtomicU64::new(0),
@@ -100,11 +114,15 @@ impl<R: Clock + Eprint + Drop> Progress<R> {
         if role == Role::Done {
             self.is_second.store(true, Ordering::SeqCst);
         }
+        self.opened.fetch_add(1, Ordering::SeqCst);
     }
 
     /// So many bytes of a file were read.
     pub(crate) fn count_read(&self, role: Role, bytes: u64) {
-        let stage = stage_of_read(role, self.is_second.load(Ordering::SeqCst));
+        let stage = match self.run {
+            Run::Build => stage_of_read(role, self.is_second.load(Ordering::SeqCst)),
+            Run::Check => Stage::Checking,
+        };
         let total = match stage {
             Stage::Scanning => &self.scanned,
             Stage::Inserting => &self.inserted,
@@ -137,7 +155,7 @@ impl<R: Clock + Eprint + Drop> Progress<R> {
         }
     }
 
-    /// Tells how far the build is, where that is due.
+    /// Tells how far the run is, where that is due.
     fn tell(&self, stage: Stage) {
         let due = self.due.load(Ordering::SeqCst);
         let Some(now) = self.milliseconds() else {
@@ -157,7 +175,7 @@ impl<R: Clock + Eprint + Drop> Progress<R> {
         }
     }
 
-    /// How long the build has lasted.
+    /// How long the run has lasted.
     fn milliseconds(&self) -> Option<u64> {
         let elapsed = self.began?.elapsed(&self.machine).ok()?;
         u64::try_from(elapsed.as_millis()).ok()
@@ -167,12 +185,13 @@ impl<R: Clock + Eprint + Drop> Progress<R> {
     fn line(&self, stage: Stage) -> Line {
         let bytes = match stage {
             Stage::Scanning => &self.scanned,
-            Stage::Loading => &self.loaded,
+            Stage::Loading | Stage::Checking => &self.loaded,
             _ => &self.inserted,
         };
         Line {
             stage,
             megabytes: bytes.load(Ordering::SeqCst) / 1_000_000,
+            opened: self.opened.load(Ordering::SeqCst),
             checkpoints: self.checkpoints.load(Ordering::SeqCst),
             put: self.put.load(Ordering::SeqCst),
             flushed: self.flushed.load(Ordering::SeqCst),
@@ -238,7 +257,7 @@ fn name_in<'p>(folder: &str, path: &'p str) -> Option<&'p str> {
     path.strip_prefix(folder)?.strip_prefix('/')
 }
 
-/// What a build is at.
+/// What a run is at.
 #[derive(Clone, Copy, Debug, PartialEq, Eq)]
 enum Stage {
     Scanning,
@@ -246,6 +265,7 @@ enum Stage {
     Inserting,
     Saving,
     Publishing,
+    Checking,
 }
 
 /// What a build is at that reads a file. Behind the first reading it reads a tile only to compare it.
@@ -274,16 +294,18 @@ impl fmt::Display for Stage {
             Stage::Inserting => "reading 2",
             Stage::Saving => "saving",
             Stage::Publishing => "publishing",
+            Stage::Checking => "checking",
         })
     }
 }
 
-/// What is told: the stage, the megabytes of the reading, how many checkpoints were made, and how many files
-/// were put and flushed.
+/// What is told: the stage and the megabytes of the reading. Of a build it is also told how many checkpoints were made,
+/// and how many files were put and flushed; of a check how many files were opened.
 #[derive(Drop)]
 struct Line {
     stage: Stage,
     megabytes: u64,
+    opened: u64,
     checkpoints: u64,
     put: u64,
     flushed: u64,
@@ -291,8 +313,11 @@ struct Line {
 
 impl fmt::Display for Line {
     fn fmt<W: fmt::Write>(&self, f: &mut fmt::Formatter<W>) -> fmt::Result {
-        let (stage, megabytes, checkpoints) = (self.stage, self.megabytes, self.checkpoints);
-        let (put, flushed) = (self.put, self.flushed);
+        let (stage, megabytes, opened) = (self.stage, self.megabytes, self.opened);
+        if stage == Stage::Checking {
+            return write!(f, "{stage}, {megabytes} MB; files read {opened}");
+        }
+        let (checkpoints, put, flushed) = (self.checkpoints, self.put, self.flushed);
         write!(
             f,
             "{stage}, {megabytes} MB; checkpoints {checkpoints}; files put {put}, flushed {flushed}"
@@ -300,7 +325,7 @@ impl fmt::Display for Line {
     }
 }
 
-/// A writer that ends the progress of a build with its first write, so that what is written does not stand behind
+/// A writer that ends the progress of a run with its first write, so that what is written does not stand behind
 /// the line of a terminal.
 #[derive(Drop)]
 pub struct Ending<R: Clock + Eprint + Drop, W: Write + Drop> {

@@ -1,7 +1,7 @@
 ghost use Rattle.std.specs.Prelude.{◌≡◌, IfOk, string_bytes};
 ghost use Rattle.ept_base.specs.Devices.{counts_on};
 
-use crate::paths::{or_here, path_in};
+use crate::paths::path_in;
 use crate::store::{read_file, remove_file, write_file};
 use ept_base::{Failed, PutError, Room, SpillFile};
 use std::alloc::{AllocError, Global};
@@ -91,7 +91,8 @@ impl<'a, R: Files> SpillFile for RealSpill<'a, R> {
 }
 
 /// A folder of the machine for spill files. It is made at the first `keep` of one, and removed with the last one that is
-/// taken back. What an earlier program left there, which was stopped, is removed before the first file is made.
+/// taken back. What an earlier program left there, which was stopped, is removed before the first file is made. So a room
+/// is never the folder in which the program runs: with an empty path it makes no file.
 #[derive(Drop)]
 pub struct RealRoom<'a, R: Files> {
     files: &'a R,
@@ -105,20 +106,18 @@ pub struct RealRoom<'a, R: Files> {
 
 impl<'a, R: Files> RealRoom<'a, R> {
     ghost use Rattle.ept_real.specs.Counts.{room_faults, room_keeps};
-    ghost use Rattle.ept_real.specs.Joined.{folder_path};
     ghost use Rattle.ept_real.specs.Paths.{room_folder};
 
-    /// The room in this folder, without a fault, a file and a call of `keep`. An empty path is that of the folder in which
-    /// the program runs.
+    /// The room in this folder, without a fault, a file and a call of `keep`.
     pub fn new(alloc: Global, files: &'a R, folder: &'a str) -> Self
         ensures sound { room_faults result ≡ 0 }
         ensures unkept { room_keeps result ≡ 0 }
-        ensures folder { room_folder result ≡ folder_path folder.now }
+        ensures folder { room_folder result ≡ folder.now }
     {
         RealRoom {
             files,
             alloc,
-            folder: or_here(folder),
+            folder,
             out: 0,
             faults: 0,
             keeps: 0,
@@ -143,7 +142,7 @@ impl<'a, R: Files> RealRoom<'a, R> {
 impl<'a, R: Files> Room for RealRoom<'a, R> {
     type File = RealSpill<'a, R>;
 
-    ghost use Rattle.std.specs.Prelude.{◌≢◌, ◌≤◌, OnErr, Err};
+    ghost use Rattle.std.specs.Prelude.{◌≢◌, ◌≤◌, [], OnErr, Err};
     ghost use Rattle.ept_base.specs.Causes.{Rose, HasCauseOf};
     ghost use Rattle.ept_real.specs.Counts.{room_faults, room_keeps, spill_faults, spill_keeps};
     ghost use Rattle.ept_real.specs.Paths.{room_folder, spill_folder, slot_of};
@@ -159,9 +158,14 @@ impl<'a, R: Files> Room for RealRoom<'a, R> {
         ensures cause { HasCauseOf PutError.Failed (room_faults self.old) (room_faults self.new) result }
         ensures of_folder { IfOk result (λ file. spill_folder file ≡ room_folder self.old) }
         ensures of_slot { IfOk result (λ file. slot_of file ≡ slot) }
-        ensures only { OnErr result ⊥ }
+        ensures only { OnErr result (room_folder self.old ≡ []) }
+        ensures refused { room_folder self.old ≡ [] → result ≡ Err PutError.Failed }
         ensures folder { room_folder self.new ≡ room_folder self.old }
     {
+        if self.folder.is_empty() {
+            self.faults = self.faults.saturating_add(1);
+            return Err(PutError::Failed);
+        }
         if self.out == 0 {
             // What can't be removed is replaced at the first `keep`.
             let _ = self.files.remove_dir_all(self.alloc, self.folder);

@@ -1,6 +1,6 @@
 //! The machine's files, as a progress sees them.
 
-use crate::progress::{Ending, Progress, Role, Telling, role_of};
+use crate::progress::{Ending, Progress, Role, Run, Telling, role_of};
 use std::alloc::{AllocError, Allocator, Global};
 use std::fs::{Metadata, OpenFile, OpenOptions};
 use std::io::{self, Read, Seek, SeekFrom, Write};
@@ -9,7 +9,7 @@ use std::sync::Arc;
 use std::time::Clock;
 
 /// The machine's files, of which each call that reads, puts or flushes one counts as progress of a build into a
-/// folder, which is told on standard error.
+/// folder or of a check of one, which is told on standard error.
 #[derive(Drop)]
 pub struct SeenFiles<R: Files + Clock + Eprint + Drop> {
     progress: Arc<Progress<R>>,
@@ -26,8 +26,33 @@ impl<R: Files + Clock + Eprint + Drop> SeenFiles<R> {
         folder: &str,
         telling: Telling,
     ) -> Result<Self, AllocError> {
+        Self::of_run(alloc, machine, program, folder, telling, Run::Build)
+    }
+
+    /// The files of this machine, as a check of this folder by the program of this name sees them. The check
+    /// begins now.
+    pub fn of_check(
+        alloc: Global,
+        machine: R,
+        program: &str,
+        folder: &str,
+        telling: Telling,
+    ) -> Result<Self, AllocError> {
+        Self::of_run(alloc, machine, program, folder, telling, Run::Check)
+    }
+
+    // The files of this machine, as a run with this folder sees them.
+    fn of_run(
+        alloc: Global,
+        machine: R,
+        program: &str,
+        folder: &str,
+        telling: Telling,
+        run: Run,
+    ) -> Result<Self, AllocError> {
         let folder = String::from_str(alloc, folder)?;
-        let progress = Arc::new(alloc, Progress::new(alloc, machine, program, telling)?)?;
+        let progress = Progress::new(alloc, machine, program, telling, run)?;
+        let progress = Arc::new(alloc, progress)?;
         Ok(SeenFiles { progress, folder })
     }
 

@@ -2,7 +2,9 @@
 #![tactic(auto)]
 
 use ept_listen::{Serve, serve_connections, serve_single, server_words};
+use ept_real::{PathFiles, RealFiles};
 use std::alloc::{AllocError, AllocGlobal};
+use std::env::{self, VarError};
 use std::io::{self, ErrorKind};
 use std::net::{Net, TcpListener};
 use std::process::ExitCode;
@@ -10,7 +12,6 @@ use std::random::RandomSource;
 use std::sync::Wait;
 use std::thread::Threads;
 use std::time::Clock;
-use std::{env, fs};
 
 /// All connections were served.
 const OK: u8 = 0;
@@ -83,11 +84,17 @@ fn serve_on<R>(
 where
     R: Threads + Wait + Clock + Net + RandomSource + AllocGlobal,
 {
+    let logs = has_log(host);
     if serve.single {
-        serve_single(rt, host, listener, out, serve.connections)
+        serve_single(rt, host, listener, out, serve.connections, logs)
     } else {
-        serve_connections(rt, host, listener, out, serve.connections)
+        serve_connections(rt, host, listener, out, serve.connections, logs)
     }
+}
+
+// Whether the environment asks for a line a request, by any value.
+fn has_log(host: &HostRuntime) -> bool {
+    !matches!(env::var(host, "EPT_LOG"), Err(VarError::NotPresent))
 }
 
 // Whether the folder's gate is open.
@@ -99,9 +106,9 @@ fn is_finished(host: &HostRuntime, out: &str) -> bool {
 }
 
 fn is_open(host: &HostRuntime, gate: &str) -> bool {
-    match fs::read(host, gate) {
-        Ok(bytes) => bytes.as_slice() == [1].as_slice(),
-        Err(_) => false,
+    match RealFiles::new(host).read(host.alloc(), gate) {
+        Ok(Some(bytes)) => bytes.as_slice() == [1].as_slice(),
+        _ => false,
     }
 }
 

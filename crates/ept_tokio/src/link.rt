@@ -1,9 +1,14 @@
 //! A polled link over a stream.
 
-ghost use Rattle.std.specs.Prelude.{◌≡◌, ◌≤◌, None, IfOk};
-ghost use Rattle.futures.specs.Poll.{OnPending};
+ghost use Rattle.std.specs.Prelude.{◌≡◌, ◌<◌, ◌≤◌, [], IfOk, length, take};
+ghost use Rattle.std.specs.Io.{ReadsAtMost, WritesAtMost};
+ghost use Rattle.futures.specs.Poll.{IfReady, OnPending};
 ghost use Rattle.futures.specs.Task.{IsArmed, Keeps};
+ghost use Rattle.tokio.specs.Io.Moved.{bytes_moved};
 ghost use Rattle.ept_base.specs.Causes.{Rose};
+ghost use Rattle.ept_base.specs.Files.{Tells, StepsBy};
+ghost use Rattle.ept_base.specs.Links.{Reads, FailsToRead, Writes};
+ghost use Rattle.ept_poll.specs.Links.{IfReadyOk, OnReadyErr, Waits};
 
 use crate::limit::{Limit, Stage};
 use ept_base::Failed;
@@ -40,6 +45,7 @@ pub struct TokioLink<'a, C, S> {
 
 impl<'a, C: Clock, S: AsyncRead + AsyncWrite> TokioLink<'a, C, S> {
     ghost use Rattle.ept_tokio.specs.Counts.{link_faults, link_read_waits, link_write_waits};
+    ghost use Rattle.ept_tokio.specs.Streams.{link_stream};
 
     /// A link over this stream, without a fault.
     ///
@@ -48,6 +54,7 @@ impl<'a, C: Clock, S: AsyncRead + AsyncWrite> TokioLink<'a, C, S> {
     /// If the clock can't be read, or there is no memory for a timer.
     pub fn new(clock: &'a C, timers: &Handle, stream: S) -> io::Result<TokioLink<'a, C, S>>
         ensures sound { IfOk result (λ link. (link_faults link ≡ 0) × (link_read_waits link ≡ 0) × (link_write_waits link ≡ 0)) }
+        ensures over { IfOk result (λ link. link_stream link ≡ stream) }
     {
         Ok(TokioLink {
             stream,
@@ -135,6 +142,7 @@ impl<'a, C: Clock, S: AsyncRead + AsyncWrite> TokioLink<'a, C, S> {
         ensures later { link_faults self.old ≤ link_faults self.new }
         ensures reads { link_read_waits self.new ≡ link_read_waits self.old }
         ensures writes { link_write_waits self.new ≡ link_write_waits self.old }
+        ensures same { link_stream self.new ≡ link_stream self.old }
     {
         self.faults = self.faults.saturating_add(1);
         Failed
@@ -143,8 +151,9 @@ impl<'a, C: Clock, S: AsyncRead + AsyncWrite> TokioLink<'a, C, S> {
 
 impl<'a, C: Clock, S: AsyncRead + AsyncWrite> PollLink for TokioLink<'a, C, S> {
     ghost use Rattle.ept_tokio.specs.Counts.{link_faults, link_read_waits, link_write_waits};
+    ghost use Rattle.ept_tokio.specs.Streams.{link_stream, link_wire};
 
-    ghost wire = { λ _. None };
+    ghost wire = { λ link. link_wire link };
 
     ghost faults = { λ link. link_faults link };
 
@@ -152,7 +161,22 @@ impl<'a, C: Clock, S: AsyncRead + AsyncWrite> PollLink for TokioLink<'a, C, S> {
 
     ghost write_waits = { λ link. link_write_waits link };
 
-    fn poll_read(&mut self, cx: &mut Context<'_>, into: &mut [u8]) -> Poll<Result<usize, Failed>> {
+    fn poll_read(&mut self, cx: &mut Context<'_>, into: &mut [u8]) -> Poll<Result<usize, Failed>>
+        ensures bound { IfReady result (λ read. ReadsAtMost read into.new) }
+        ensures ok { IfReadyOk result (λ n. StepsBy (Reads (take n into.new)) (link_wire self.old) (link_wire self.new)) }
+        ensures end { IfReadyOk result (λ n. n ≡ 0 → 0 < length into.new → Tells (λ told. told.left ≡ []) (link_wire self.new)) }
+        ensures failed { OnReadyErr result (StepsBy FailsToRead (link_wire self.old) (link_wire self.new)) }
+        ensures unchanged { OnReadyErr result (into.new ≡ into.old) }
+        ensures cause { OnReadyErr result (Rose (link_faults self.old) (link_faults self.new)) }
+        ensures pending { OnPending result (Waits (link_read_waits self.old) (link_read_waits self.new) (link_wire self.old) (link_wire self.new) cx.new) }
+        ensures kept { Keeps cx.old cx.new }
+        ensures later { link_faults self.old ≤ link_faults self.new }
+        ensures later_reads { link_read_waits self.old ≤ link_read_waits self.new }
+        ensures later_writes { link_write_waits self.old ≤ link_write_waits self.new }
+
+        // It returns what the stream gave, and no other byte of the stream is taken.
+        ensures passed { S.reads (link_stream self.old) (bytes_moved result into.new) (link_stream self.new) }
+    {
         self.limit.reads();
         // A read that fails changes nothing of `into`.
         let mut block = [0; BLOCK];
@@ -174,7 +198,21 @@ impl<'a, C: Clock, S: AsyncRead + AsyncWrite> PollLink for TokioLink<'a, C, S> {
         }
     }
 
-    fn poll_write(&mut self, cx: &mut Context<'_>, from: &[u8]) -> Poll<Result<usize, Failed>> {
+    fn poll_write(&mut self, cx: &mut Context<'_>, from: &[u8]) -> Poll<Result<usize, Failed>>
+        ensures bound { IfReady result (λ written. WritesAtMost written from.now) }
+        ensures some { IfReadyOk result (λ n. 0 < length from.now → 0 < n) }
+        ensures ok { IfReadyOk result (λ n. StepsBy (Writes (take n from.now)) (link_wire self.old) (link_wire self.new)) }
+        ensures unchanged { OnReadyErr result (link_wire self.new ≡ link_wire self.old) }
+        ensures cause { OnReadyErr result (Rose (link_faults self.old) (link_faults self.new)) }
+        ensures pending { OnPending result (Waits (link_write_waits self.old) (link_write_waits self.new) (link_wire self.old) (link_wire self.new) cx.new) }
+        ensures kept { Keeps cx.old cx.new }
+        ensures later { link_faults self.old ≤ link_faults self.new }
+        ensures later_reads { link_read_waits self.old ≤ link_read_waits self.new }
+        ensures later_writes { link_write_waits self.old ≤ link_write_waits self.new }
+
+        // What it reports as written is what the stream took.
+        ensures passed { S.writes (link_stream self.old) (bytes_moved result from.now) (link_stream self.new) }
+    {
         self.limit.writes();
         match self.stream.poll_write(cx, from) {
             Poll::Ready(Ok(count)) if count > 0 || from.is_empty() => {

@@ -1,0 +1,57 @@
+//! What the first bytes of requests and responses say.
+
+ghost use Rattle.std.specs.Prelude.{◌≤◌, length};
+
+/// How many bytes of a target a line has at most.
+const MOST: usize = 256;
+
+/// The length of the head that these bytes begin with: up to its first empty line, or all of them if it has none.
+pub(crate) fn end_of_head(bytes: &[u8]) -> usize
+    ensures { result ≤ length bytes.now }
+{
+    for at in start_of_head(bytes)..bytes.len() {
+        if bytes[at..].starts_with(b"\r\n\r\n") {
+            return bytes.len().min(at + 4);
+        }
+    }
+    bytes.len()
+}
+
+// Where the first line begins that is not empty.
+fn start_of_head(bytes: &[u8]) -> usize
+    ensures { result ≤ length bytes.now }
+{
+    for at in 0..bytes.len() {
+        if bytes[at] != b'\r' && bytes[at] != b'\n' {
+            return at;
+        }
+    }
+    bytes.len()
+}
+
+/// The target of the request of this head, the second word of its first line, as far as 256 bytes.
+pub(crate) fn target_of(head: &[u8]) -> &[u8] {
+    let line = word_of(&head[start_of_head(head)..], b"\r\n");
+    let method = word_of(line, b" ");
+    let target = match line.strip_prefix(method) {
+        Some([_, rest @ ..]) => word_of(rest, b" "),
+        _ => b"",
+    };
+    &target[..target.len().min(MOST)]
+}
+
+// The bytes in front of the first one that is among these.
+fn word_of<'a>(bytes: &'a [u8], ends: &[u8]) -> &'a [u8] {
+    for at in 0..bytes.len() {
+        if ends.contains(&bytes[at]) {
+            return &bytes[..at];
+        }
+    }
+    bytes
+}
+
+/// The status of the response that begins with these bytes. No response begins with a chunk, which begins with its length.
+pub(crate) fn status_of(bytes: &[u8]) -> Option<&str> {
+    let rest = bytes.strip_prefix(b"HTTP/1.1 ")?;
+    str::from_utf8(word_of(rest, b" ")).ok()
+}
