@@ -2,7 +2,7 @@
 
 use crate::differences::{Differing, write_difference};
 use crate::keys::KEYS;
-use crate::sentences::{Names, write_query, write_refusal};
+use crate::sentences::{Names, write_check, write_query, write_refusal, write_unfit};
 use ept_base::{Shelf, Store};
 use ept_batch::Difference;
 use ept_config::{Config, ConfigError, MAX_LENGTH};
@@ -59,6 +59,8 @@ fn write_failure<H: Shelf, T: Store>(
         Failure::Refused(refusal) if names.config.is_empty() => write_refusal(text, refusal, names),
         Failure::Refused(refusal) => write_build(alloc, text, refusal, names, shelf, store),
         Failure::QueryRefused(error) => write_query(text, *error, names.out),
+        Failure::Unfit { key, why } => write_unfit(text, key, *why, names.out),
+        Failure::CheckRefused(error) => write_check(text, *error, names.out),
         Failure::LineNotWritten(line) => write_line(text, line),
     }
 }
@@ -77,7 +79,9 @@ fn names_of<'a>(words: &'a [String], found: &Found<'a>) -> Names<'a> {
             out,
             ..names
         },
-        Command::Query { out, .. } => Names { out, ..names },
+        Command::Query { out, .. } | Command::Select { out, .. } | Command::Check { out } => {
+            Names { out, ..names }
+        }
         Command::Info { las } => Names {
             input: las,
             ..names

@@ -1,6 +1,7 @@
 //! The sentence of each failure: what was wrong, in words, each file by its path.
 
 use crate::keys::{key_of, range_of};
+use ept_check::{CheckError, Fault};
 use ept_ckpt::Letter;
 use ept_config::{ConfigError, ConfigKey, MAX_LENGTH};
 use ept_las::LasError;
@@ -16,6 +17,8 @@ use std::fmt::Write;
 const USAGE: &str = "usage:
   build CONFIG OUT
   query OUT BOX DEPTHS
+  select OUT BOX DEPTHS CLASSES TIME DIMS
+  check OUT
   info LAS
   trial N WORKERS CACHE";
 
@@ -30,7 +33,7 @@ const SPILL_ADVICE: &str = "run the same build again, or with a greater `cacheSi
 pub(crate) struct Names<'a> {
     /// The configuration of a build.
     pub(crate) config: &'a str,
-    /// The folder of a build or of a query.
+    /// The folder of a build, a query, a selection or a check.
     pub(crate) out: &'a str,
     /// Whether that folder exists.
     pub(crate) has_out: bool,
@@ -237,7 +240,59 @@ fn write_unread(text: &mut String, names: &Names<'_>) -> Result<(), AllocError> 
     }
 }
 
-/// Writes the sentence of a query of this folder that is refused.
+/// Writes the sentence of a dataset in this folder that is not the sampling of its own points.
+pub(crate) fn write_unfit(
+    text: &mut String,
+    key: &Key,
+    why: Fault,
+    out: &str,
+) -> Result<(), AllocError> {
+    text.push_str("the node ")?;
+    write_text(text, key)?;
+    let fault = fault_text(why);
+    write!(
+        text,
+        " of {out} {fault}: restore {out} from a copy, or build it again in an empty folder"
+    )
+}
+
+// What is wrong with a node.
+fn fault_text(why: Fault) -> &'static str {
+    match why {
+        Fault::Orphan => "has no parent in the hierarchy",
+        Fault::Outside => "has a point outside its box",
+        Fault::OpenLoser => "has a point that belongs in a node below it",
+        Fault::TooMany =>
+            "has more points for one octant than `minNodeSize` allows, and no child there",
+        Fault::Above => "has a point that belongs in a node above it",
+        Fault::Few =>
+            "has a child of no more points than `minNodeSize`, which belong in the node itself",
+        Fault::Empty => "has no point",
+        Fault::Twice => "has a point that another node has too",
+    }
+}
+
+/// Writes the sentence of a check of this folder that is refused.
+pub(crate) fn write_check(
+    text: &mut String,
+    error: CheckError,
+    out: &str,
+) -> Result<(), AllocError> {
+    match error {
+        CheckError::NotComplete => write_query(text, QueryError::NotComplete, out),
+        CheckError::StoreFault => write_query(text, QueryError::StoreFault, out),
+        CheckError::Damaged { file } => {
+            write_query(text, QueryError::Damaged { file }, out)?;
+            write!(
+                text,
+                ": restore it from a copy, or build {out} again in an empty folder"
+            )
+        }
+        CheckError::Memory => text.push_str(OUT_OF_MEMORY),
+    }
+}
+
+/// Writes the sentence of a query of this folder, or a selection, that is refused.
 pub(crate) fn write_query(
     text: &mut String,
     error: QueryError,

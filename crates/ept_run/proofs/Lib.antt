@@ -1,9 +1,12 @@
+mod Apart
 mod Asked
+mod Checked
 mod Coming
 mod Fronts
 mod Numbers
 mod Queried
 mod Refused
 mod Runs
+mod Selected
 mod Texts
 mod Tried

@@ -12,9 +12,10 @@ use Rattle.ept_query.specs.declared.query_error.QueryError.TheVariants.{NotCompl
 use Rattle.ept_run.specs.declared.ended.Failure.{Failure}
 use Rattle.ept_run.specs.declared.ended.Failure.TheVariants.{QueryRefused}
 use Rattle.ept_run.specs.declared.refusal.Refusal.{Refusal}
+use Rattle.ept_filter.specs.declared.sift.Sift.{Sift}
 use Rattle.ept_run.specs.Words.{bytes_of, IsBuild, IsInfo, IsQuery, IsUsage}
-use Rattle.ept_run.specs.Answers.{AsksInfo, AsksQuery, IsFaulty}
-use Rattle.ept_run.specs.Queries.{query_status, query_failure, EndsQuery}
+use Rattle.ept_run.specs.Answers.{AsksInfo, AsksDataset, IsFaulty}
+use Rattle.ept_run.specs.Queries.{query_status, query_failure, EndsSelection, EndsQuery}
 use Rattle.ept_run.proofs.Runs.{some_or_none}
 
 -- ---- one command
@@ -32,8 +33,8 @@ module _ (words : List (List ℕ)) (out : List ℕ) (area : Box3) (first last : 
       apart : codes "info" ∷ las ∷ [] ≡ codes "query" ∷ out ∷ is.box ∷ is.depths ∷ [] → ⊥
       apart same = cc
 
-  pub query_asked : AsksQuery words
-  query_asked = record { folder = out; area = area; first = first; last = last; words_are = is }
+  pub query_asked : AsksDataset words
+  query_asked = inl (record { folder = out; area = area; first = first; last = last; words_are = is })
 
   pub query_unrefused : (all : Files) (r : Refusal) → IsFaulty words all r → ⊥
   query_unrefused all r (inl usage) = usage.1.not_query out area first last is
@@ -42,6 +43,19 @@ module _ (words : List (List ℕ)) (out : List ℕ) (area : Box3) (first last : 
 
   pub query_untold : {Fact : List ℕ → Type 0} → AsksInfo words Fact → ⊥
   query_untold asks = query_or_info asks.path asks.words_are
+
+-- how a query or a selection ends is how it does that asks for the same, with its failure
+abbrev pub EndsAsked : Option Sift → Box3 → ℕ → ℕ → ℕ → Option Failure → Option Files → Option (List ℕ) → Option (List ℕ) → Type 0 → Type 0 → Type 0
+EndsAsked sift area first last status failure files old new store sink =
+    (ends : EndsSelection sift area first last status files old new store sink) × (failure ≡ query_failure ends.answer)
+
+pub asked_same : (sift kept : Option Sift) (area found : Box3) (first last least most status : ℕ) (failure : Option Failure) (files : Option Files) (old new : Option (List ℕ)) (store sink : Type 0)
+    → sift ≡ kept → area ≡ found → first ≡ least → last ≡ most → EndsAsked sift area first last status failure files old new store sink → EndsAsked kept found least most status failure files old new store sink
+asked_same sift kept area found first last least most status failure files old new store sink same_sift same_area same_first same_last ends =
+    subst (λ (s : Option Sift). EndsAsked s found least most status failure files old new store sink) same_sift
+    (subst (λ (a : Box3). EndsAsked sift a least most status failure files old new store sink) same_area
+    (subst (λ (n : ℕ). EndsAsked sift area n most status failure files old new store sink) same_first
+    (subst (λ (n : ℕ). EndsAsked sift area first n status failure files old new store sink) same_last ends)))
 
 -- words ask for one box and one range
 module _ (one_box : TextHasOneBox) (one_range : TextHasOneRange) (words : List (List ℕ)) where
@@ -58,18 +72,18 @@ module _ (one_box : TextHasOneBox) (one_range : TextHasOneRange) (words : List (
       → ((ends : EndsQuery area first last status files old new store sink) × (failure ≡ query_failure ends.answer)) → (ends : EndsQuery found least most status files old new store sink) × (failure ≡ query_failure ends.answer)
   query_ends out other area found first last least most status failure files old new store sink one two ends =
       let same = query_once out other area found first last least most one two in
-      subst (λ (a : Box3). (ends : EndsQuery a least most status files old new store sink) × (failure ≡ query_failure ends.answer)) same.0
-      (subst (λ (n : ℕ). (ends : EndsQuery area n most status files old new store sink) × (failure ≡ query_failure ends.answer)) same.1
-      (subst (λ (n : ℕ). (ends : EndsQuery area first n status files old new store sink) × (failure ≡ query_failure ends.answer)) same.2 ends))
+      asked_same None None area found first last least most status failure files old new store sink refl same.0 same.1 same.2 ends
 
 -- words of another number than those of a command
-pub no_command : (words : List (String Global)) → length words ≢ 2 → length words ≢ 3 → length words ≢ 4 → IsUsage (bytes_of words)
-no_command words two three four =
+pub no_command : (words : List (String Global)) → length words ≢ 2 → length words ≢ 3 → length words ≢ 4 → length words ≢ 7 → IsUsage (bytes_of words)
+no_command words two three four seven =
     let size : length (bytes_of words) ≡ length words = length-map words string_bytes in
     record {
       not_build = λ config out is. three (sym size ∙ ap (λ (ws : List (List ℕ)). length ws) is.words_are);
       not_info = λ las is. two (sym size ∙ ap (λ (ws : List (List ℕ)). length ws) is.words_are);
       not_query = λ out area first last is. four (sym size ∙ ap (λ (ws : List (List ℕ)). length ws) is.words_are);
+      not_select = λ out area first last sift is. seven (sym size ∙ ap (λ (ws : List (List ℕ)). length ws) is.words_are);
+      not_check = λ out is. two (sym size ∙ ap (λ (ws : List (List ℕ)). length ws) is.words_are);
       not_trial = λ count workers cache is. four (sym size ∙ ap (λ (ws : List (List ℕ)). length ws) is.words_are);
     }
 
@@ -103,7 +117,7 @@ fails_at (Err Memory) = (λ is. absurd (omega (arith, is)), λ none. absurd (som
 pub query_no_failure : (answer : Result ℕ QueryError) (status : ℕ) (failure : Option Failure) → status ≡ query_status answer → failure ≡ query_failure answer → (status ≡ 0) ↔ (failure ≡ None)
 query_no_failure answer status failure status_is failure_is = (λ is. failure_is ∙ (fails_at answer).0 (sym status_is ∙ is), λ none. status_is ∙ (fails_at answer).1 (sym failure_is ∙ none))
 
-module _ (area : Box3) (first last status : ℕ) (files : Option Files) (old new : Option (List ℕ)) (store sink : Type 0) (ends : EndsQuery area first last status files old new store sink) where
+module _ (sift : Option Sift) (area : Box3) (first last status : ℕ) (files : Option Files) (old new : Option (List ℕ)) (store sink : Type 0) (ends : EndsSelection sift area first last status files old new store sink) where
   pub query_not_usage : status ≡ 2 → ⊥
   query_not_usage is = status_is_own ends.answer (sym ends.status_is ∙ is)
 

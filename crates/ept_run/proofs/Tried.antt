@@ -118,6 +118,8 @@ numbers_refused points workers cache w k workers_are few cache_is bounded wrong 
   not_build = λ config out is. not_build config out is.words_are;
   not_info = λ las is. not_info las is.words_are;
   not_query = λ out area first last is. not_query out is.box is.depths is.words_are;
+  not_select = λ out area first last sift is. not_select out is.box is.depths is.classes is.time is.dims is.words_are;
+  not_check = λ out is. not_check out is.words_are;
   not_trial = λ count found kept is. ranges found kept is (decimal_injective w found (omega (arith, few)) (omega (arith, is.threads)) (sym workers_are ∙ (parts count found kept is.words_are).0)) (decimal_injective k kept (omega (arith, bounded)) (omega (arith, is.bounded)) (sym cache_is ∙ (parts count found kept is.words_are).1));
 }
   where
@@ -130,6 +132,16 @@ numbers_refused points workers cache w k workers_are few cache_is bounded wrong 
     not_query : (out box depths : List ℕ) → codes "trial" ∷ points ∷ workers ∷ cache ∷ [] ≡ codes "query" ∷ out ∷ box ∷ depths ∷ [] → ⊥
     not_query out box depths same =
         let heads : 116 ≡ 113 = ap (λ (ws : List (List ℕ)). get_or (get_or ws 0 []) 0 0) same in
+        omega (arith, heads)
+
+    not_select : (out box depths classes time dims : List ℕ) → codes "trial" ∷ points ∷ workers ∷ cache ∷ [] ≡ codes "select" ∷ out ∷ box ∷ depths ∷ classes ∷ time ∷ dims ∷ [] → ⊥
+    not_select out box depths classes time dims same =
+        let heads : 116 ≡ 115 = ap (λ (ws : List (List ℕ)). get_or (get_or ws 0 []) 0 0) same in
+        omega (arith, heads)
+
+    not_check : (out : List ℕ) → codes "trial" ∷ points ∷ workers ∷ cache ∷ [] ≡ codes "check" ∷ out ∷ [] → ⊥
+    not_check out same =
+        let heads : 116 ≡ 99 = ap (λ (ws : List (List ℕ)). get_or (get_or ws 0 []) 0 0) same in
         omega (arith, heads)
 
     parts : (count found kept : ℕ) → codes "trial" ∷ points ∷ workers ∷ cache ∷ [] ≡ codes "trial" ∷ decimal count ∷ decimal found ∷ decimal kept ∷ [] → (workers ≡ decimal found) × (cache ≡ decimal kept)

@@ -4,6 +4,7 @@ use Rattle.std.specs.Io.KnownBytes.{Appends}
 use Rattle.std.specs.declared.alloc.Global.{Global}
 use Rattle.ept_base.specs.Devices.{AppendsPrefix}
 use Rattle.ept_base.specs.Files.{Files, Tells}
+use Rattle.ept_filter.specs.declared.sift.Sift.{Sift}
 use Rattle.ept_las.specs.declared.header.Header.{Header}
 use Rattle.ept_point.specs.declared.point.Point.{Point}
 use Rattle.ept_space.specs.declared.box3.Box3.{Box3}
@@ -16,7 +17,7 @@ use Rattle.ept_run.specs.declared.ended.Failure.{Failure}
 use Rattle.ept_run.specs.declared.ended.Failure.TheVariants.{Refused, LineNotWritten}
 use Rattle.ept_run.specs.declared.refusal.Refusal.{Refusal}
 use Rattle.ept_run.specs.declared.refusal.Refusal.TheVariants.{Usage, BadConfiguration, BadLas, OutOfBounds, NoBounds, SourceChanged, TooManyPoints, TooManyNodes, Differs, BadCheckpoint, TileDamaged, SourceFault, StoreFault, SpillFault, SpillDamaged, Memory}
-use Rattle.ept_run.specs.Words.{IsBuild, IsInfo, IsQuery, IsTrial, IsUsage}
+use Rattle.ept_run.specs.Words.{IsBuild, IsInfo, IsQuery, IsSelect, IsCheck, IsTrial, IsUsage}
 use Rattle.ept_run.specs.Lines.{summary_text, header_text, status_of, line_of}
 use Rattle.ept_run.specs.Requests.{HasBuilt, HasTold, HasTrial, HasHeader, IsAcceptedAt, IsDoneAt, AsksForBuild, ConfigurationIsRefused, BuildIsRefused, InfoIsRefused, IsOfStore, IsEarly}
 
@@ -46,6 +47,24 @@ pub record AsksQuery (words : List (List ℕ)) : Type 0 where
   pub first : ℕ
   pub last : ℕ
   pub words_are : IsQuery words folder area first last
+
+-- what some selection keeps of these points
+pub record AsksSelect (words : List (List ℕ)) : Type 0 where
+  pub folder : List ℕ
+  pub area : Box3
+  pub first : ℕ
+  pub last : ℕ
+  pub sift : Sift
+  pub words_are : IsSelect words folder area first last sift
+
+-- whether the dataset in some folder is the sampling of its own points
+pub record AsksCheck (words : List (List ℕ)) : Type 0 where
+  pub folder : List ℕ
+  pub words_are : IsCheck words folder
+
+-- something of a finished dataset
+abbrev pub AsksDataset : List (List ℕ) → Type 0
+AsksDataset words = AsksQuery words ⊎ AsksSelect words ⊎ AsksCheck words
 
 -- a trial of so many points, of which this holds
 pub record AsksTrial (words : List (List ℕ)) (Fact : ℕ → Type 0) : Type 0 where
@@ -206,10 +225,10 @@ YieldsDamage status old new failed =
 
 -- ---- what can be done
 
--- The devices tell, and what the words ask for can be done: a build that begins with sound files, and whose inputs are accepted or of which nothing is left to be done; a query of complete files; the header of a file that has one; a trial.
+-- The devices tell, and what the words ask for can be done: a build that begins with sound files, and whose inputs are accepted or of which nothing is left to be done; a query, a selection or a check of complete files; the header of a file that has one; a trial.
 pub data CanBeDone (words : List (List ℕ)) (shelf store : Option Files) (Begins : Files → Files → Type 0) : Type 0 where
   a_build : (all start : Files) → Begins all start → AsksBuild words (λ path. IsAcceptedAt all start path ⊎ IsDoneAt all start path) → CanBeDone words shelf store Begins
-  a_query : (start : Files) (kept : Kept) (points : List Point) → store ≡ Some start → IsComplete kept points start → AsksQuery words → CanBeDone words shelf store Begins
+  of_dataset : (start : Files) (kept : Kept) (points : List Point) → store ≡ Some start → IsComplete kept points start → AsksDataset words → CanBeDone words shelf store Begins
   a_header : (all : Files) (header : Header) → shelf ≡ Some all → AsksInfo words (λ path. HasHeader all path header) → CanBeDone words shelf store Begins
   a_trial : AsksTrial words (λ _. ⊤) → CanBeDone words shelf store Begins
 

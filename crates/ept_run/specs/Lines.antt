@@ -8,6 +8,9 @@ use Rattle.ept_las.specs.declared.las_error.LasError.{LasError}
 use Rattle.ept_las.specs.declared.las_error.LasError.TheVariants.{Short, Signature, Version, HeaderSize, Compressed, Format, RecordLength, PointOffset, Expect, Truncated}
 use Rattle.ept_las.specs.LasHeader as las
 use Rattle.ept_space.specs.KeyText as space
+use Rattle.ept_space.specs.VoxelKey.{VoxelKey}
+use Rattle.ept_check.specs.declared.fault.Fault.{Fault}
+use Rattle.ept_check.specs.Facts.{number_of}
 use Rattle.ept_ckpt.specs.declared.letter.Letter.{Letter}
 use Rattle.ept_ckpt.specs.declared.letter.Letter.TheVariants as letter
 use Rattle.ept_meta.specs.declared.fields.Field.{Field}
@@ -19,6 +22,14 @@ use Rattle.ept_run.specs.declared.refusal.Refusal.TheVariants as refusal
 -- what a build says of so many points in so many nodes
 unfoldable pub summary_text : ℕ → ℕ → List ℕ
 summary_text points nodes = codes "points " ++ decimal points ++ codes " nodes " ++ decimal nodes ++ codes "\n"
+
+-- what is said of a dataset that is the sampling of its own points, so many in so many nodes
+unfoldable pub fit_text : ℕ → ℕ → List ℕ
+fit_text points nodes = codes "fit points " ++ decimal points ++ codes " nodes " ++ decimal nodes ++ codes "\n"
+
+-- what is said of one that is not: a node, and the number of what is wrong with it
+unfoldable pub unfit_text : VoxelKey → Fault → List ℕ
+unfit_text key why = codes "unfit " ++ space.key_text key ++ codes " " ++ decimal (number_of why) ++ codes "\n"
 
 -- what is said of a header
 unfoldable pub header_text : Header → List ℕ

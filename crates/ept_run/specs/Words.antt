@@ -3,8 +3,10 @@ use Rattle.std.specs.Prelude.{◌≡◌, ◌≢◌, ◌≤◌, ℕ, List, [], �
 use Rattle.std.specs.declared.alloc.Global.{Global}
 use Rattle.ept_space.specs.declared.box3.Box3.{Box3}
 use Rattle.ept_http.specs.QueryWords.{IsBoxText, IsDepthsText}
+use Rattle.ept_filter.specs.declared.sift.Sift.{Sift}
+use Rattle.ept_filter.specs.SiftText.{IsSiftText}
 use Rattle.ept_run.specs.declared.words.Command.{Command}
-use Rattle.ept_run.specs.declared.words.Command.TheVariants.{Build, Info, Query, Trial, Usage}
+use Rattle.ept_run.specs.declared.words.Command.TheVariants.{Build, Info, Query, Select, Check, Trial, Usage}
 
 -- words as lists of bytes
 abbrev pub bytes_of : List (String Global) → List (List ℕ)
@@ -30,6 +32,24 @@ pub record IsQuery (words : List (List ℕ)) (out : List ℕ) (area : Box3) (fir
   pub area_is : IsBoxText box area
   pub depths_are : IsDepthsText depths first last
 
+-- `select`, the words of a query, and the three texts of a selection
+pub record IsSelect (words : List (List ℕ)) (out : List ℕ) (area : Box3) (first last : ℕ) (sift : Sift) : Type 0 where
+  pub box : List ℕ
+  pub depths : List ℕ
+  pub classes : List ℕ
+  pub time : List ℕ
+  pub dims : List ℕ
+  pub words_are : words ≡ codes "select" ∷ out ∷ box ∷ depths ∷ classes ∷ time ∷ dims ∷ []
+  pub out_is : out ≢ []
+  pub area_is : IsBoxText box area
+  pub depths_are : IsDepthsText depths first last
+  pub sift_is : IsSiftText classes time dims sift
+
+-- `check` and the path of a folder
+pub record IsCheck (words : List (List ℕ)) (out : List ℕ) : Type 0 where
+  pub words_are : words ≡ codes "check" ∷ out ∷ []
+  pub out_is : out ≢ []
+
 -- `trial` and three numbers, each in its one spelling: of points, at most 10,000,000; of workers, from 1 to 64; and of nodes that are in memory at a time, as many as there are workers or more, at most 65,536
 pub record IsTrial (words : List (List ℕ)) (count workers cache : ℕ) : Type 0 where
   pub words_are : words ≡ codes "trial" ∷ decimal count ∷ decimal workers ∷ decimal cache ∷ []
@@ -44,6 +64,8 @@ pub record IsUsage (words : List (List ℕ)) : Type 0 where
   pub not_build : (config out : List ℕ) → ¬ IsBuild words config out
   pub not_info : (las : List ℕ) → ¬ IsInfo words las
   pub not_query : (out : List ℕ) (area : Box3) (first last : ℕ) → ¬ IsQuery words out area first last
+  pub not_select : (out : List ℕ) (area : Box3) (first last : ℕ) (sift : Sift) → ¬ IsSelect words out area first last sift
+  pub not_check : (out : List ℕ) → ¬ IsCheck words out
   pub not_trial : (count workers cache : ℕ) → ¬ IsTrial words count workers cache
 
 -- the command that the words are
@@ -51,5 +73,7 @@ abbrev pub IsCommand : List (List ℕ) → Command → Type 0
 IsCommand words (Build config out) = IsBuild words config.now out.now
 IsCommand words (Info las) = IsInfo words las.now
 IsCommand words (Query out area depths) = IsQuery words out.now area depths.0 depths.1
+IsCommand words (Select out area depths sift) = IsSelect words out.now area depths.0 depths.1 sift
+IsCommand words (Check out) = IsCheck words out.now
 IsCommand words (Trial points workers cache) = IsTrial words points workers cache
 IsCommand words Usage = IsUsage words

@@ -25,8 +25,8 @@ pub(crate) fn finish<O: Sink>(alloc: Global, out: &mut O, line: Result<Vec<u8>, 
     }
 }
 
-// Writes the line of a command that is carried out.
-fn say<O: Sink>(out: &mut O, line: Vec<u8>) -> Ended
+/// Writes the line of a command that is carried out.
+pub(crate) fn say<O: Sink>(out: &mut O, line: Vec<u8>) -> Ended
     ensures { IsSaidFor line result.status result.failure (O.written out.old) (O.written out.new)
         (Rose (O.faults out.old) (O.faults out.new)) }
 {
@@ -91,8 +91,8 @@ fn refuse_memory<O: Sink>(out: &mut O) -> Ended
     Ended::refused(&Refusal::Memory)
 }
 
-// Writes a line, as far as the sink takes it.
-fn write_line<O: Sink>(out: &mut O, line: &[u8])
+/// Writes a line, as far as the sink takes it.
+pub(crate) fn write_line<O: Sink>(out: &mut O, line: &[u8])
     ensures { Says line.now (O.written out.old) (O.written out.new)
         (Rose (O.faults out.old) (O.faults out.new)) }
 {

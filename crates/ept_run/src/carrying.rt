@@ -6,6 +6,7 @@ ghost use Rattle.ept_base.specs.Causes.{Rose};
 ghost use Rattle.ept_base.specs.Files.{Files, SameFiles, Tells};
 ghost use Rattle.ept_base.specs.Moves.{Moves, IsSettled};
 ghost use Rattle.ept_space.specs.declared.box3.Box3 as space;
+ghost use Rattle.ept_filter.specs.declared.sift.Sift.{Sift};
 ghost use Rattle.ept_ckpt.specs.declared.letter.Letter.{Letter};
 ghost use Rattle.ept_save.specs.Opening.{IsBad};
 ghost use Rattle.ept_save.specs.Sound.{IsSound};
@@ -13,17 +14,20 @@ ghost use Rattle.ept_build.specs.Building.{BeginsWith};
 ghost use Rattle.ept_run.specs.declared.ended.Failure.TheVariants.{Refused};
 ghost use Rattle.ept_run.specs.declared.refusal.Refusal as cause;
 ghost use Rattle.ept_run.specs.declared.refusal.Refusal.TheVariants.{BadCheckpoint};
-ghost use Rattle.ept_run.specs.Words.{bytes_of, IsBuild, IsInfo, IsQuery, IsTrial, IsUsage};
+ghost use Rattle.ept_run.specs.Words.{bytes_of, IsBuild, IsInfo, IsQuery, IsSelect, IsCheck, IsTrial, IsUsage};
 ghost use Rattle.ept_run.specs.Requests.{IsDoneAt, ComesAt, DiffersAt, ComesToDamageAt, IsConfigured, HasSpilled, IsDefinite};
-ghost use Rattle.ept_run.specs.Answers.{YieldsRefusal, YieldsDifference, YieldsDamage, CanBeDone, EndsWell, SaysOfStore, IsAskedFor, AsksBuild, AsksInfo, AsksQuery, Ends, IsFaulty, Refuses, IsCut, IsUnwritten, EndsTrial};
-ghost use Rattle.ept_run.specs.Queries.{query_failure, EndsQuery};
+ghost use Rattle.ept_run.specs.Answers.{YieldsRefusal, YieldsDifference, YieldsDamage, CanBeDone, EndsWell, SaysOfStore, IsAskedFor, AsksBuild, AsksInfo, AsksQuery, AsksDataset, Ends, IsFaulty, Refuses, IsCut, IsUnwritten, EndsTrial};
+ghost use Rattle.ept_run.specs.Queries.{query_failure, EndsQuery, EndsSelect};
+ghost use Rattle.ept_run.specs.Checks.{EndsCheck, FailsCheck};
 
 use crate::answers::{finish, refuse_usage};
+use crate::checking::answer_check;
 use crate::commands::{build_line, info_line, trial_line};
 use crate::ended::Ended;
-use crate::querying::answer_query;
+use crate::querying::{answer_query, answer_select};
 use crate::words::{Command, command_of};
 use ept_base::{Gate, Room, Shelf, Sink, Store};
+use ept_filter::sift_text_law;
 use ept_http::query_words_law;
 use std::alloc::Global;
 use std::sync::Wait;
@@ -44,7 +48,7 @@ where
     H::Source: Send,
     M::File: Send + Sync,
     // The statuses: 0 done, 2 no command, 3 the configuration, 4 a scan, 5 too many, 6 another configuration or no
-    // complete dataset, 7 a device, 8 a damaged file, 9 memory.
+    // complete dataset, 7 a device, 8 a damaged file or an unfit dataset, 9 memory.
 
     // There is a failure at each status but 0.
     ensures failure { (result.status ≡ 0) ↔ (result.failure ≡ None) }
@@ -56,7 +60,7 @@ where
     ensures done { result.status ≡ 0
         → Ends (bytes_of words.now) (H.files shelf.old)
         (BeginsWith M.File.held (H.files shelf.old) (T.files store.old) (T.may_leave store.old)) (T.files store.new)
-        (Appends (O.written out.old) (O.written out.new)) ⊎ AsksQuery (bytes_of words.now) }
+        (Appends (O.written out.old) (O.written out.new)) ⊎ AsksDataset (bytes_of words.now) }
     ensures settled { (config folder : List ℕ) → IsBuild (bytes_of words.now) config folder
         → result.status ≡ 0 → IsSettled (T.files store.new) (T.may_leave store.new) }
     ensures kept { (config folder : List ℕ) → IsBuild (bytes_of words.now) config folder → result.status ≡ 0
@@ -86,6 +90,18 @@ where
     ensures query_puts_nothing { AsksQuery (bytes_of words.now)
         → Moves T.files T.may_leave T.moment T.image_since SameFiles store.old store.new }
 
+    // So does a selection; it has the statuses of a query.
+    ensures select { (folder : List ℕ) (area : space.Box3) (first last : ℕ) (sift : Sift) → IsSelect (bytes_of words.now) folder area first last sift
+        → (ends : EndsSelect sift area first last result.status (T.files store.old) (O.written out.old) (O.written out.new)
+        (Rose (T.faults store.old) (T.faults store.new)) (Rose (O.faults out.old) (O.faults out.new)))
+        × (result.failure ≡ query_failure ends.answer) }
+
+    // A check ends with the verdict on its folder or a refusal, each with its line, and the failure says which.
+    ensures check { (folder : List ℕ) → IsCheck (bytes_of words.now) folder
+        → (ends : EndsCheck result.status (T.files store.old) (O.written out.old) (O.written out.new)
+        (Rose (T.faults store.old) (T.faults store.new)) (Rose (O.faults out.old) (O.faults out.new)))
+        × FailsCheck ends.answer result.failure }
+
     // A trial ends with the line of what its octree comes to, whatever the files are, or for want of memory.
     ensures trial { (count workers cache : ℕ) → IsTrial (bytes_of words.now) count workers cache
         → EndsTrial count result.status (O.written out.old) (O.written out.new) (Rose (O.faults out.old) (O.faults out.new)) }
@@ -106,7 +122,7 @@ where
         (BeginsWith M.File.held (H.files shelf.old) (T.files store.old) (T.may_leave store.old)) result.status (T.files store.new)
         (Rose (O.faults out.old) (O.faults out.new)) (O.written out.old) (O.written out.new))
         × IsUnwritten result.failure cut.ends.line)
-        ⊎ AsksQuery (bytes_of words.now) }
+        ⊎ AsksDataset (bytes_of words.now) }
     ensures refusal_comes { Tells (λ all. (r : cause.Refusal) → IsDefinite r
         → IsFaulty (bytes_of words.now) all r
         → YieldsRefusal r result.status (O.written out.old) (O.written out.new)
@@ -139,7 +155,7 @@ where
     // What stays as it was.
     ensures others_put_nothing { AsksBuild (bytes_of words.now) (λ _. ⊤)
         ⊎ Moves T.files T.may_leave T.moment T.image_since SameFiles store.old store.new }
-    ensures same_store { AsksBuild (bytes_of words.now) (λ _. ⊤) ⊎ AsksQuery (bytes_of words.now) ⊎ (store.new ≡ store.old) }
+    ensures same_store { AsksBuild (bytes_of words.now) (λ _. ⊤) ⊎ AsksDataset (bytes_of words.now) ⊎ (store.new ≡ store.old) }
     ensures same_shelf { AsksBuild (bytes_of words.now) (λ _. ⊤) ⊎ AsksInfo (bytes_of words.now) (λ _. ⊤) ⊎ (shelf.new ≡ shelf.old) }
     ensures files { H.files shelf.new ≡ H.files shelf.old }
     ensures same_room { AsksBuild (bytes_of words.now) (λ _. ⊤) ⊎ (room.new ≡ room.old) }
@@ -157,6 +173,17 @@ where
             query_words_law();
             answer_query(alloc, &area, depths, store, out)
         }
+        Command::Select {
+            area,
+            depths,
+            sift,
+            ..
+        } => {
+            query_words_law();
+            sift_text_law();
+            answer_select(alloc, &area, depths, &sift, store, out)
+        }
+        Command::Check { .. } => answer_check(alloc, store, out),
         Command::Trial {
             points,
             workers,

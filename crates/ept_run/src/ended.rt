@@ -2,7 +2,9 @@
 
 use crate::refusal::Refusal;
 use crate::status::OK;
+use ept_check::{CheckError, Fault};
 use ept_query::QueryError;
+use ept_space::Key;
 
 /// How a run ends: its status, and why that is not 0.
 #[derive(Drop)]
@@ -18,8 +20,12 @@ pub struct Ended {
 pub enum Failure {
     /// The words, or the files that they name, are refused.
     Refused(Refusal),
-    /// A query is refused.
+    /// A query is refused, or a selection.
     QueryRefused(QueryError),
+    /// A dataset was checked, and this is wrong with the node of this key, the first one with which anything is.
+    Unfit { key: Key, why: Fault },
+    /// A dataset could not be checked.
+    CheckRefused(CheckError),
     /// The command is carried out, and its line could not be written: this one, with its line feed.
     LineNotWritten(Vec<u8>),
 }

@@ -7,6 +7,7 @@
 
 mod answers;
 mod carrying;
+mod checking;
 mod commands;
 mod ended;
 mod files;

@@ -4,10 +4,11 @@ ghost use Rattle.std.specs.Prelude.{◌≡◌, ◌++◌, IfOk, OnOk};
 ghost use Rattle.std.specs.Fmt.{decimal};
 ghost use Rattle.ept_las.specs.LasHeader as las;
 ghost use Rattle.ept_space.specs.KeyText as space;
-ghost use Rattle.ept_run.specs.Lines.{summary_text, header_text, trial_text, key_text, config_text, las_text, number_text, record_text, name_of, letter_text, refusal_text, line_of};
+ghost use Rattle.ept_run.specs.Lines.{summary_text, fit_text, unfit_text, header_text, trial_text, key_text, config_text, las_text, number_text, record_text, name_of, letter_text, refusal_text, line_of};
 
 use crate::refusal::Refusal;
 use ept_build::Summary;
+use ept_check::Fault;
 use ept_ckpt::Letter;
 use ept_config::ConfigError;
 use ept_las::{Header, LasError};
@@ -23,6 +24,15 @@ pub(crate) const USAGE_LINE: &[u8] = b"error 2 usage\n";
 
 /// The line of want of memory. It takes no memory.
 pub(crate) const MEMORY_LINE: &[u8] = b"error 9 memory\n";
+
+/// The line of a check of a folder without a complete dataset. It takes no memory.
+pub(crate) const NOT_COMPLETE_LINE: &[u8] = b"error 6 complete\n";
+
+/// The line of a check whose store failed. It takes no memory.
+pub(crate) const STORE_LINE: &[u8] = b"error 7 store\n";
+
+/// The line of a check that found a file damaged. It takes no memory.
+pub(crate) const DAMAGED_LINE: &[u8] = b"error 8 damaged\n";
 
 fn append(line: &mut Vec<u8>, text: &[u8]) -> Result<(), AllocError>
     ensures { OnOk result (line.new.items ≡ line.old.items ++ text.now) }
@@ -48,6 +58,30 @@ pub(crate) fn summary_line(alloc: Global, summary: Summary) -> Result<Vec<u8>, A
     let mut line = Vec::new(alloc);
     append_number(&mut line, b"points ", summary.points)?;
     append_number(&mut line, b" nodes ", u64::from(summary.nodes))?;
+    line.extend_from_slice(b"\n")?;
+    Ok(line)
+}
+
+/// What is said of a dataset that is the sampling of its own points: how many points there are, and how many nodes.
+#[tactic(auto, unfolding(crate::specs::Lines::fit_text))]
+pub(crate) fn fit_line(alloc: Global, points: u64, nodes: u64) -> Result<Vec<u8>, AllocError>
+    ensures { IfOk result (λ line. line.items ≡ fit_text points nodes) }
+{
+    let mut line = Vec::new(alloc);
+    append_number(&mut line, b"fit points ", points)?;
+    append_number(&mut line, b" nodes ", nodes)?;
+    line.extend_from_slice(b"\n")?;
+    Ok(line)
+}
+
+/// What is said of one that is not: the first node with which anything is wrong, and the number of what is.
+#[tactic(auto, unfolding(crate::specs::Lines::unfit_text))]
+pub(crate) fn unfit_line(alloc: Global, key: &Key, why: Fault) -> Result<Vec<u8>, AllocError>
+    ensures { IfOk result (λ line. line.items ≡ unfit_text key.now why) }
+{
+    let mut line = Vec::new(alloc);
+    append_tile(&mut line, b"unfit ", key)?;
+    append_number(&mut line, b" ", u64::from(why.number()))?;
     line.extend_from_slice(b"\n")?;
     Ok(line)
 }

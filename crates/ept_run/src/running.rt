@@ -6,16 +6,18 @@ ghost use Rattle.ept_base.specs.Causes.{Rose};
 ghost use Rattle.ept_base.specs.Files.{Files, SameFiles, Tells};
 ghost use Rattle.ept_base.specs.Moves.{Moves, IsSettled};
 ghost use Rattle.ept_space.specs.declared.box3.Box3 as space;
+ghost use Rattle.ept_filter.specs.declared.sift.Sift.{Sift};
 ghost use Rattle.ept_ckpt.specs.declared.letter.Letter.{Letter};
 ghost use Rattle.ept_save.specs.Opening.{IsBad};
 ghost use Rattle.ept_save.specs.Sound.{IsSound};
 ghost use Rattle.ept_build.specs.Building.{BeginsWith};
 ghost use Rattle.ept_run.specs.declared.refusal.Refusal as cause;
 ghost use Rattle.ept_run.specs.declared.refusal.Refusal.TheVariants.{BadCheckpoint};
-ghost use Rattle.ept_run.specs.Words.{bytes_of, IsBuild, IsInfo, IsQuery, IsTrial, IsUsage};
+ghost use Rattle.ept_run.specs.Words.{bytes_of, IsBuild, IsInfo, IsQuery, IsSelect, IsCheck, IsTrial, IsUsage};
 ghost use Rattle.ept_run.specs.Requests.{IsDoneAt, ComesAt, DiffersAt, ComesToDamageAt, IsConfigured, HasSpilled, IsDefinite};
-ghost use Rattle.ept_run.specs.Answers.{YieldsRefusal, YieldsDifference, YieldsDamage, CanBeDone, EndsWell, SaysOfStore, IsAskedFor, AsksBuild, AsksInfo, AsksQuery, Ends, IsFaulty, Refuses, IsCut, EndsTrial};
-ghost use Rattle.ept_run.specs.Queries.{EndsQuery};
+ghost use Rattle.ept_run.specs.Answers.{YieldsRefusal, YieldsDifference, YieldsDamage, CanBeDone, EndsWell, SaysOfStore, IsAskedFor, AsksBuild, AsksInfo, AsksQuery, AsksDataset, Ends, IsFaulty, Refuses, IsCut, EndsTrial};
+ghost use Rattle.ept_run.specs.Queries.{EndsQuery, EndsSelect};
+ghost use Rattle.ept_run.specs.Checks.{EndsCheck};
 
 use crate::carrying::carry_out;
 use ept_base::{Gate, Room, Shelf, Sink, Store};
@@ -30,9 +32,11 @@ use std::thread::Threads;
 /// octree of their points into the store, and writes how many points and nodes it has to the sink. Nodes past those
 /// that the configuration lets be in memory at a time are in spill files of the room meanwhile. `info LAS`
 /// reads the header of a LAS file from the shelf and writes what it says to the sink. `query OUT BOX DEPTHS`
-/// writes the packed points of a box and of some depths of the dataset in the store to the sink. `trial N WORKERS
+/// writes the packed points of a box and of some depths of the dataset in the store to the sink. `select OUT BOX DEPTHS
+/// CLASSES TIME DIMS` writes of these points those of some classes and of some GPS time, and of each the dimensions that
+/// are asked for. `check OUT` writes whether the dataset in the store is the sampling of its own points. `trial N WORKERS
 /// CACHE` builds the octree of generated scans of N points in memory, and writes what it comes to to the sink. A
-/// refusal is one line on the sink, except that of a query, which writes none.
+/// refusal is one line on the sink, except that of a query or a selection, and out of memory of a check, which write none.
 pub fn run<H: Shelf, T: Store, M: Room, O: Sink, G: Gate + Sync, R: Threads + Wait + Sync>(
     rt: &R,
     alloc: Global,
@@ -47,7 +51,7 @@ where
     H::Source: Send,
     M::File: Send + Sync,
     // The statuses: 0 done, 2 no command, 3 the configuration, 4 a scan, 5 too many, 6 another configuration or no
-    // complete dataset, 7 a device, 8 a damaged file, 9 memory.
+    // complete dataset, 7 a device, 8 a damaged file or an unfit dataset, 9 memory.
 
     // Words that are no command, and nothing else, are faulty.
     ensures usage { (result ≡ 2) ↔ IsUsage (bytes_of words.now) }
@@ -56,7 +60,7 @@ where
     ensures done { result ≡ 0
         → Ends (bytes_of words.now) (H.files shelf.old)
         (BeginsWith M.File.held (H.files shelf.old) (T.files store.old) (T.may_leave store.old)) (T.files store.new)
-        (Appends (O.written out.old) (O.written out.new)) ⊎ AsksQuery (bytes_of words.now) }
+        (Appends (O.written out.old) (O.written out.new)) ⊎ AsksDataset (bytes_of words.now) }
     ensures settled { (config folder : List ℕ) → IsBuild (bytes_of words.now) config folder
         → result ≡ 0 → IsSettled (T.files store.new) (T.may_leave store.new) }
     ensures kept { (config folder : List ℕ) → IsBuild (bytes_of words.now) config folder → result ≡ 0
@@ -85,6 +89,16 @@ where
     ensures query_puts_nothing { AsksQuery (bytes_of words.now)
         → Moves T.files T.may_leave T.moment T.image_since SameFiles store.old store.new }
 
+    // So does a selection; it has the statuses of a query.
+    ensures select { (folder : List ℕ) (area : space.Box3) (first last : ℕ) (sift : Sift) → IsSelect (bytes_of words.now) folder area first last sift
+        → EndsSelect sift area first last result (T.files store.old) (O.written out.old) (O.written out.new)
+        (Rose (T.faults store.old) (T.faults store.new)) (Rose (O.faults out.old) (O.faults out.new)) }
+
+    // A check ends with the verdict on its folder or a refusal, each with its line.
+    ensures check { (folder : List ℕ) → IsCheck (bytes_of words.now) folder
+        → EndsCheck result (T.files store.old) (O.written out.old) (O.written out.new)
+        (Rose (T.faults store.old) (T.faults store.new)) (Rose (O.faults out.old) (O.faults out.new)) }
+
     // A trial ends with the line of what its octree comes to, whatever the files are, or for want of memory.
     ensures trial { (count workers cache : ℕ) → IsTrial (bytes_of words.now) count workers cache
         → EndsTrial count result (O.written out.old) (O.written out.new) (Rose (O.faults out.old) (O.faults out.new)) }
@@ -102,7 +116,7 @@ where
         ⊎ IsCut (bytes_of words.now) (H.files shelf.old)
         (BeginsWith M.File.held (H.files shelf.old) (T.files store.old) (T.may_leave store.old)) result (T.files store.new)
         (Rose (O.faults out.old) (O.faults out.new)) (O.written out.old) (O.written out.new)
-        ⊎ AsksQuery (bytes_of words.now) }
+        ⊎ AsksDataset (bytes_of words.now) }
     ensures refusal_comes { Tells (λ all. (r : cause.Refusal) → IsDefinite r
         → IsFaulty (bytes_of words.now) all r
         → YieldsRefusal r result (O.written out.old) (O.written out.new)
@@ -135,7 +149,7 @@ where
     // What stays as it was.
     ensures others_put_nothing { AsksBuild (bytes_of words.now) (λ _. ⊤)
         ⊎ Moves T.files T.may_leave T.moment T.image_since SameFiles store.old store.new }
-    ensures same_store { AsksBuild (bytes_of words.now) (λ _. ⊤) ⊎ AsksQuery (bytes_of words.now) ⊎ (store.new ≡ store.old) }
+    ensures same_store { AsksBuild (bytes_of words.now) (λ _. ⊤) ⊎ AsksDataset (bytes_of words.now) ⊎ (store.new ≡ store.old) }
     ensures same_shelf { AsksBuild (bytes_of words.now) (λ _. ⊤) ⊎ AsksInfo (bytes_of words.now) (λ _. ⊤) ⊎ (shelf.new ≡ shelf.old) }
     ensures files { H.files shelf.new ≡ H.files shelf.old }
     ensures same_room { AsksBuild (bytes_of words.now) (λ _. ⊤) ⊎ (room.new ≡ room.old) }

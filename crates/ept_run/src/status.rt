@@ -15,7 +15,7 @@ pub const BAD_SCAN: u8 = 4;
 /// There are more points, or more nodes, than there may be.
 pub const TOO_MANY: u8 = 5;
 
-/// The folder of a query has no complete dataset.
+/// The folder of a query, a selection or a check has no complete dataset.
 pub const NOT_COMPLETE: u8 = 6;
 
 /// The folder of a build was built with another configuration.
@@ -24,8 +24,8 @@ pub const DIFFERS: u8 = 6;
 /// A device failed: the shelf, the store, the room or the sink.
 pub const DEVICE: u8 = 7;
 
-/// A file of the dataset, or a checkpoint of a build, is absent, or not of its form; or a spill file gave back other
-/// bytes than were kept.
+/// A file of the dataset, or a checkpoint of a build, is absent, or not of its form; or a checked dataset is not the
+/// sampling of its own points; or a spill file gave back other bytes than were kept.
 pub const DAMAGED: u8 = 8;
 
 /// There was no memory.

@@ -1,8 +1,9 @@
 //! What the words of a command line ask for.
 
 ghost use Rattle.std.specs.Prelude.{◌≡◌, ◌≢◌, ◌↔◌, ◌≤◌, ℕ, [], ◌∷◌, length, codes, decimal, pos, IsTrue, IfSome, IfNone};
-ghost use Rattle.ept_run.specs.Words.{bytes_of, IsBuild, IsInfo, IsCommand};
+ghost use Rattle.ept_run.specs.Words.{bytes_of, IsBuild, IsInfo, IsCheck, IsCommand};
 
+use ept_filter::{Sift, read_sift};
 use ept_http::{read_box, read_depths};
 use ept_num::read_whole;
 use ept_space::Box3;
@@ -32,6 +33,18 @@ pub enum Command<'a> {
         area: Box3,
         depths: (u8, u8),
     },
+    /// Answer what a selection keeps of the points of this box, in the nodes of these depths, of the dataset in this
+    /// folder.
+    Select {
+        out: &'a str,
+        area: Box3,
+        depths: (u8, u8),
+        sift: Sift,
+    },
+    /// Tell whether the dataset in this folder is the sampling of its own points.
+    Check {
+        out: &'a str,
+    },
     /// Build the octree of generated scans of so many points in memory, with so many workers and so many nodes
     /// at a time.
     Trial {
@@ -48,9 +61,12 @@ pub fn command_of(words: &[String]) -> Command<'_>
     ensures { IsCommand (bytes_of words.now) result }
 {
     match words {
-        [first, las] => command_of_two(first, las),
+        [first, second] => command_of_two(first, second),
         [first, config, out] => command_of_three(first, config, out),
         [first, second, third, fourth] => command_of_four(first, second, third, fourth),
+        [first, out, area, depths, classes, time, dims] => {
+            command_of_seven(first, out, area, depths, classes, time, dims)
+        }
         _ => no_command(words),
     }
 }
@@ -61,17 +77,20 @@ fn no_command(words: &[String]) -> Command<'_>
     requires two { length words.now ≢ 2 }
     requires three { length words.now ≢ 3 }
     requires four { length words.now ≢ 4 }
+    requires seven { length words.now ≢ 7 }
     ensures { IsCommand (bytes_of words.now) result }
 {
     Command::Usage
 }
 
 // The command that two words are.
-fn command_of_two<'a>(first: &str, las: &'a str) -> Command<'a>
-    ensures { IsCommand (first.now ∷ las.now ∷ []) result }
+fn command_of_two<'a>(first: &str, second: &'a str) -> Command<'a>
+    ensures { IsCommand (first.now ∷ second.now ∷ []) result }
 {
-    if is_info(first, las) {
-        Command::Info { las }
+    if is_info(first, second) {
+        Command::Info { las: second }
+    } else if is_check(first, second) {
+        Command::Check { out: second }
     } else {
         Command::Usage
     }
@@ -119,6 +138,15 @@ fn is_info(first: &str, las: &str) -> bool
     first == "info"
 }
 
+fn is_check(first: &str, out: &str) -> bool
+    ensures { IsTrue result ↔ IsCheck (first.now ∷ out.now ∷ []) out.now }
+{
+    if out.is_empty() {
+        return false;
+    }
+    first == "check"
+}
+
 fn is_query(first: &str) -> bool
     ensures { IsTrue result ↔ (first.now ≡ codes "query") }
 {
@@ -134,6 +162,61 @@ fn query_of<'a>(out: &'a str, area: &str, depths: &str) -> Command<'a>
     }
     match (read_box(area.as_bytes()), read_depths(depths.as_bytes())) {
         (Some(area), Some(depths)) => Command::Query { out, area, depths },
+        _ => Command::Usage,
+    }
+}
+
+// The command that seven words are.
+fn command_of_seven<'a>(
+    first: &str,
+    out: &'a str,
+    area: &str,
+    depths: &str,
+    classes: &str,
+    time: &str,
+    dims: &str,
+) -> Command<'a>
+    ensures { IsCommand (first.now ∷ out.now ∷ area.now ∷ depths.now ∷ classes.now ∷ time.now ∷ dims.now ∷ []) result }
+{
+    if is_select(first) {
+        select_of(out, area, depths, classes, time, dims)
+    } else {
+        Command::Usage
+    }
+}
+
+fn is_select(first: &str) -> bool
+    ensures { IsTrue result ↔ (first.now ≡ codes "select") }
+{
+    first == "select"
+}
+
+// The command of `select` with these words behind it.
+fn select_of<'a>(
+    out: &'a str,
+    area: &str,
+    depths: &str,
+    classes: &str,
+    time: &str,
+    dims: &str,
+) -> Command<'a>
+    ensures { IsCommand (codes "select" ∷ out.now ∷ area.now ∷ depths.now ∷ classes.now ∷ time.now ∷ dims.now ∷ []) result }
+{
+    if out.is_empty() {
+        return Command::Usage;
+    }
+    let sift = read_sift(classes.as_bytes(), time.as_bytes(), dims.as_bytes());
+    match (
+        read_box(area.as_bytes()),
+        read_depths(depths.as_bytes()),
+        sift,
+    ) {
+        (Some(area), Some(depths), Some(sift)) => Command::Select {
+            out,
+            area,
+            depths,
+            sift,
+        },
         _ => Command::Usage,
     }
 }

@@ -1,5 +1,6 @@
-//! `ept_tool` builds an Entwine Point Tile folder from LAS files, answers the points of a box of one, and tells
-//! what the header of a LAS file says, and what an octree of generated scans comes to.
+//! `ept_tool` builds an Entwine Point Tile folder from LAS files, answers the points of a box of one or what a selection
+//! keeps of them, checks whether one is the sampling of its own points, and tells what the header of a LAS file says, and
+//! what an octree of generated scans comes to.
 #![tactic(auto)]
 
 mod failing;
@@ -52,23 +53,23 @@ fn run_words<R: Threads + Wait + Sync>(rt: &R, disk: &HostRuntime, words: &[Stri
     }
 }
 
-// The machine's files, as a progress of these words sees them: of a build it is told on standard error.
+// The machine's files, as a progress of these words sees them: of a build and of a check it is told on standard error.
 fn files_for(disk: &HostRuntime, words: &[String]) -> Result<SeenFiles<HostRuntime>, AllocError> {
-    let telling = telling_of(disk, words);
-    SeenFiles::new(
-        disk.alloc(),
-        disk.clone()?,
-        "ept_tool",
-        folder_of(words),
-        telling,
-    )
+    let (alloc, machine) = (disk.alloc(), disk.clone()?);
+    let (folder, telling) = (folder_of(words), telling_of(disk, words));
+    match command_of(words) {
+        Command::Check { .. } => SeenFiles::of_check(alloc, machine, "ept_tool", folder, telling),
+        _ => SeenFiles::new(alloc, machine, "ept_tool", folder, telling),
+    }
 }
 
-// Where the progress of these words is told: of a build on standard error, of nothing else.
+// Where the progress of these words is told: of a build and of a check on standard error, of nothing else.
 fn telling_of(disk: &HostRuntime, words: &[String]) -> Telling {
     match command_of(words) {
-        Command::Build { .. } if disk.stderr().is_terminal() => Telling::Terminal,
-        Command::Build { .. } => Telling::Lines,
+        Command::Build { .. } | Command::Check { .. } if disk.stderr().is_terminal() => {
+            Telling::Terminal
+        }
+        Command::Build { .. } | Command::Check { .. } => Telling::Lines,
         _ => Telling::Silent,
     }
 }

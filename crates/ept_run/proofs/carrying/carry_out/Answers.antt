@@ -1,4 +1,4 @@
-use Rattle.std.proofs.Common.{◌⊎◌, map, string_bytes, refl, sym, inl, inr, ⊎_elim, subst, ℕ, List, arith}
+use Rattle.std.proofs.Common.{◌⊎◌, map, string_bytes, refl, sym, inl, inr, ⊎_elim, subst, ℕ, List, None, Some, arith}
 use Rattle.ept_base.specs.Causes.{Rose}
 use Rattle.ept_run.specs.declared.ended.Failure.TheVariants.{Refused}
 use Rattle.ept_run.specs.declared.refusal.Refusal.{Refusal}
@@ -13,7 +13,10 @@ use Rattle.ept_base.specs.Moves.{Moves, IsSettled}
 use Rattle.ept_run.proofs.Refused.{stays}
 use Rattle.ept_run.proofs.Queried.{query_or_build, query_or_info, query_asked, query_unrefused, query_ends, query_not_usage, query_no_failure, query_rose, first_two}
 use Rattle.ept_run.proofs.Tried.{trial_or_build, trial_or_info, trial_or_query, one_count, trial_carries, trial_ends, trial_yields}
-use Rattle.ept_run.proofs.Coming.{build_can, info_can, query_can, trial_can, nothing_can}
+use Rattle.ept_run.proofs.Selected.{select_ends}
+use Rattle.ept_run.proofs.Checked.{check_not_usage, check_rose}
+use Rattle.ept_run.proofs.Apart.{select_or_build, select_or_info, select_or_query, select_or_trial, select_asked, select_unrefused, check_or_build, check_or_info, check_or_query, check_or_select, check_or_trial, check_asked, check_unrefused}
+use Rattle.ept_run.proofs.Coming.{build_can, info_can, query_can, check_can, trial_can, nothing_can}
 use Rattle.ept_run.proofs.carrying.carry_out.Given as given
 use Rattle.ept_run.proofs.carrying.carry_out.Goals as goal
 
@@ -157,7 +160,7 @@ returns-in-Query-clause-failure g c = query_no_failure c.answer_query.ensures.en
 
 pub returns-in-Query-clause-usage : goal.returns-in-Query-clause-usage
 returns-in-Query-clause-usage g c = (
-  λ is. absurd (query_not_usage c.in-Query.area c.in-Query.depths.0 c.in-Query.depths.1 c.answer_query.result.status (g.T.Store.files c.args.store.now) (g.O.Sink.written c.args.out.now) (g.O.Sink.written c.answer_query.new.out) (Rose (g.T.Store.faults c.args.store.now) (g.T.Store.faults c.answer_query.new.store)) (Rose (g.O.Sink.faults c.args.out.now) (g.O.Sink.faults c.answer_query.new.out)) c.answer_query.ensures.ends.0 is),
+  λ is. absurd (query_not_usage None c.in-Query.area c.in-Query.depths.0 c.in-Query.depths.1 c.answer_query.result.status (g.T.Store.files c.args.store.now) (g.O.Sink.written c.args.out.now) (g.O.Sink.written c.answer_query.new.out) (Rose (g.T.Store.faults c.args.store.now) (g.T.Store.faults c.answer_query.new.store)) (Rose (g.O.Sink.faults c.args.out.now) (g.O.Sink.faults c.answer_query.new.out)) c.answer_query.ensures.ends.0 is),
   λ usage. absurd (usage.not_query c.in-Query.out.now c.in-Query.area c.in-Query.depths.0 c.in-Query.depths.1 c.in-Query.ensures),
 )
 
@@ -193,7 +196,7 @@ returns-in-Query-clause-refusal_comes g c =
     told_always (λ all. (r : Refusal) → IsDefinite r → IsFaulty (map string_bytes c.args.words.now) all r → YieldsRefusal r c.answer_query.result.status (g.O.Sink.written c.args.out.now) (g.O.Sink.written c.answer_query.new.out) (Rose (g.O.Sink.faults c.args.out.now) (g.O.Sink.faults c.answer_query.new.out))) (g.H.Shelf.files c.args.shelf.now) (λ all r definite refused. absurd (query_unrefused (map string_bytes c.args.words.now) c.in-Query.out.now c.in-Query.area c.in-Query.depths.0 c.in-Query.depths.1 c.in-Query.ensures all r refused))
 
 pub returns-in-Query-clause-fault : goal.returns-in-Query-clause-fault
-returns-in-Query-clause-fault g c = λ is. ⊎_elim (λ store. inr (inl store)) (λ sink. inr (inr (inr sink))) (query_rose c.in-Query.area c.in-Query.depths.0 c.in-Query.depths.1 c.answer_query.result.status (g.T.Store.files c.args.store.now) (g.O.Sink.written c.args.out.now) (g.O.Sink.written c.answer_query.new.out) (Rose (g.T.Store.faults c.args.store.now) (g.T.Store.faults c.answer_query.new.store)) (Rose (g.O.Sink.faults c.args.out.now) (g.O.Sink.faults c.answer_query.new.out)) c.answer_query.ensures.ends.0 is)
+returns-in-Query-clause-fault g c = λ is. ⊎_elim (λ store. inr (inl store)) (λ sink. inr (inr (inr sink))) (query_rose None c.in-Query.area c.in-Query.depths.0 c.in-Query.depths.1 c.answer_query.result.status (g.T.Store.files c.args.store.now) (g.O.Sink.written c.args.out.now) (g.O.Sink.written c.answer_query.new.out) (Rose (g.T.Store.faults c.args.store.now) (g.T.Store.faults c.answer_query.new.store)) (Rose (g.O.Sink.faults c.args.out.now) (g.O.Sink.faults c.answer_query.new.out)) c.answer_query.ensures.ends.0 is)
 
 -- ---- no query
 
@@ -383,8 +386,8 @@ returns-in-Info-clause-comes g c =
 pub returns-in-Query-clause-comes : goal.returns-in-Query-clause-comes
 returns-in-Query-clause-comes g c =
     query_can (map string_bytes c.args.words.now) (g.H.Shelf.files c.args.shelf.now) (g.T.Store.files c.args.store.now) (BeginsWith g.M.File.SpillFile.held (g.H.Shelf.files c.args.shelf.now) (g.T.Store.files c.args.store.now) (g.T.Store.may_leave c.args.store.now)) c.answer_query.result.status (Rose (g.H.Shelf.faults c.args.shelf.now) (g.H.Shelf.faults c.args.shelf.now) ⊎ Rose (g.T.Store.faults c.args.store.now) (g.T.Store.faults c.answer_query.new.store) ⊎ Rose (g.M.Room.faults c.args.room.now) (g.M.Room.faults c.args.room.now) ⊎ Rose (g.O.Sink.faults c.args.out.now) (g.O.Sink.faults c.answer_query.new.out)) (returns-in-Query-clause-fault g c)
-    c.in-Query.out.now c.in-Query.area c.in-Query.depths.0 c.in-Query.depths.1 (g.O.Sink.written c.args.out.now) (g.O.Sink.written c.answer_query.new.out) (Rose (g.T.Store.faults c.args.store.now) (g.T.Store.faults c.answer_query.new.store)) (Rose (g.O.Sink.faults c.args.out.now) (g.O.Sink.faults c.answer_query.new.out))
-    c.in-Query.ensures c.answer_query.ensures.ends.0
+    None c.in-Query.area c.in-Query.depths.0 c.in-Query.depths.1 (g.O.Sink.written c.args.out.now) (g.O.Sink.written c.answer_query.new.out) (Rose (g.T.Store.faults c.args.store.now) (g.T.Store.faults c.answer_query.new.store)) (Rose (g.O.Sink.faults c.args.out.now) (g.O.Sink.faults c.answer_query.new.out))
+    (query_asked (map string_bytes c.args.words.now) c.in-Query.out.now c.in-Query.area c.in-Query.depths.0 c.in-Query.depths.1 c.in-Query.ensures) c.answer_query.ensures.ends.0
 
 pub returns-in-Trial-clause-comes : goal.returns-in-Trial-clause-comes
 returns-in-Trial-clause-comes g c =
@@ -456,3 +459,203 @@ returns-in-Trial-clause-same_room g c = inr refl
 
 pub returns-in-Usage-clause-same_room : goal.returns-in-Usage-clause-same_room
 returns-in-Usage-clause-same_room g c = inr refl
+
+-- ---- select
+
+pub returns-in-Select-clause-done : goal.returns-in-Select-clause-done
+returns-in-Select-clause-done g c = λ ok. inr (select_asked (map string_bytes c.args.words.now) c.in-Select.out.now c.in-Select.area c.in-Select.depths.0 c.in-Select.depths.1 c.in-Select.sift c.in-Select.ensures)
+
+pub returns-in-Select-clause-settled : goal.returns-in-Select-clause-settled
+returns-in-Select-clause-settled g c = λ config folder is ok. absurd (select_or_build (map string_bytes c.args.words.now) c.in-Select.out.now c.in-Select.area c.in-Select.depths.0 c.in-Select.depths.1 c.in-Select.sift c.in-Select.ensures config folder is)
+
+pub returns-in-Select-clause-kept : goal.returns-in-Select-clause-kept
+returns-in-Select-clause-kept g c = λ config folder is ok all start begins. absurd (select_or_build (map string_bytes c.args.words.now) c.in-Select.out.now c.in-Select.area c.in-Select.depths.0 c.in-Select.depths.1 c.in-Select.sift c.in-Select.ensures config folder is)
+
+pub returns-in-Select-clause-done_already : goal.returns-in-Select-clause-done_already
+returns-in-Select-clause-done_already g c = λ all start begins asks. c.answer_select.ensures.any_moment
+
+pub returns-in-Select-clause-others_put_nothing : goal.returns-in-Select-clause-others_put_nothing
+returns-in-Select-clause-others_put_nothing g c = inr c.answer_select.ensures.any_moment
+
+pub returns-in-Select-clause-sound : goal.returns-in-Select-clause-sound
+returns-in-Select-clause-sound g c = λ config folder is. absurd (select_or_build (map string_bytes c.args.words.now) c.in-Select.out.now c.in-Select.area c.in-Select.depths.0 c.in-Select.depths.1 c.in-Select.sift c.in-Select.ensures config folder is)
+
+pub returns-in-Select-clause-query : goal.returns-in-Select-clause-query
+returns-in-Select-clause-query g c = λ folder area first last is. absurd (select_or_query (map string_bytes c.args.words.now) c.in-Select.out.now c.in-Select.area c.in-Select.depths.0 c.in-Select.depths.1 c.in-Select.sift c.in-Select.ensures folder area first last is)
+
+pub returns-in-Select-clause-query_puts_nothing : goal.returns-in-Select-clause-query_puts_nothing
+returns-in-Select-clause-query_puts_nothing g c = λ asks. c.answer_select.ensures.any_moment
+
+pub returns-in-Select-clause-trial : goal.returns-in-Select-clause-trial
+returns-in-Select-clause-trial g c = λ count workers cache is. absurd (select_or_trial (map string_bytes c.args.words.now) c.in-Select.out.now c.in-Select.area c.in-Select.depths.0 c.in-Select.depths.1 c.in-Select.sift c.in-Select.ensures count workers cache is)
+
+pub returns-in-Select-clause-refused : goal.returns-in-Select-clause-refused
+returns-in-Select-clause-refused g c = λ not_ok. inr (inr (select_asked (map string_bytes c.args.words.now) c.in-Select.out.now c.in-Select.area c.in-Select.depths.0 c.in-Select.depths.1 c.in-Select.sift c.in-Select.ensures))
+
+pub returns-in-Select-clause-refusal_comes : goal.returns-in-Select-clause-refusal_comes
+returns-in-Select-clause-refusal_comes g c =
+    told_always (λ all. (r : Refusal) → IsDefinite r → IsFaulty (map string_bytes c.args.words.now) all r → YieldsRefusal r c.answer_select.result.status (g.O.Sink.written c.args.out.now) (g.O.Sink.written c.answer_select.new.out) (Rose (g.O.Sink.faults c.args.out.now) (g.O.Sink.faults c.answer_select.new.out))) (g.H.Shelf.files c.args.shelf.now) (λ all r definite refused. absurd (select_unrefused (map string_bytes c.args.words.now) c.in-Select.out.now c.in-Select.area c.in-Select.depths.0 c.in-Select.depths.1 c.in-Select.sift c.in-Select.ensures all r refused))
+
+pub returns-in-Select-clause-build_refusal_comes : goal.returns-in-Select-clause-build_refusal_comes
+returns-in-Select-clause-build_refusal_comes g c = λ all start begins r asks. absurd (select_or_build (map string_bytes c.args.words.now) c.in-Select.out.now c.in-Select.area c.in-Select.depths.0 c.in-Select.depths.1 c.in-Select.sift c.in-Select.ensures asks.path asks.out asks.words_are)
+
+pub returns-in-Select-clause-differs_comes : goal.returns-in-Select-clause-differs_comes
+returns-in-Select-clause-differs_comes g c = λ all start told stored asks. absurd (select_or_build (map string_bytes c.args.words.now) c.in-Select.out.now c.in-Select.area c.in-Select.depths.0 c.in-Select.depths.1 c.in-Select.sift c.in-Select.ensures asks.path asks.out asks.words_are)
+
+pub returns-in-Select-clause-damaged_comes : goal.returns-in-Select-clause-damaged_comes
+returns-in-Select-clause-damaged_comes g c = λ all start told stored asks. absurd (select_or_build (map string_bytes c.args.words.now) c.in-Select.out.now c.in-Select.area c.in-Select.depths.0 c.in-Select.depths.1 c.in-Select.sift c.in-Select.ensures asks.path asks.out asks.words_are)
+
+pub returns-in-Select-clause-bad_comes : goal.returns-in-Select-clause-bad_comes
+returns-in-Select-clause-bad_comes g c = λ all start letter told stored bad asks. absurd (select_or_build (map string_bytes c.args.words.now) c.in-Select.out.now c.in-Select.area c.in-Select.depths.0 c.in-Select.depths.1 c.in-Select.sift c.in-Select.ensures asks.path asks.out asks.words_are)
+
+pub returns-in-Select-clause-asked : goal.returns-in-Select-clause-asked
+returns-in-Select-clause-asked g c = λ start told. inr (inr refl)
+
+pub returns-in-Select-clause-same_store : goal.returns-in-Select-clause-same_store
+returns-in-Select-clause-same_store g c = inr (inl (select_asked (map string_bytes c.args.words.now) c.in-Select.out.now c.in-Select.area c.in-Select.depths.0 c.in-Select.depths.1 c.in-Select.sift c.in-Select.ensures))
+
+pub returns-in-Select-clause-same_shelf : goal.returns-in-Select-clause-same_shelf
+returns-in-Select-clause-same_shelf g c = inr (inr refl)
+
+pub returns-in-Select-clause-same_room : goal.returns-in-Select-clause-same_room
+returns-in-Select-clause-same_room g c = inr refl
+
+pub returns-in-Select-clause-failure : goal.returns-in-Select-clause-failure
+returns-in-Select-clause-failure g c = query_no_failure c.answer_select.ensures.ends.0.answer c.answer_select.result.status c.answer_select.result.failure c.answer_select.ensures.ends.0.status_is c.answer_select.ensures.ends.1
+
+pub returns-in-Select-clause-usage : goal.returns-in-Select-clause-usage
+returns-in-Select-clause-usage g c = (
+  λ is. absurd (query_not_usage (Some c.in-Select.sift) c.in-Select.area c.in-Select.depths.0 c.in-Select.depths.1 c.answer_select.result.status (g.T.Store.files c.args.store.now) (g.O.Sink.written c.args.out.now) (g.O.Sink.written c.answer_select.new.out) (Rose (g.T.Store.faults c.args.store.now) (g.T.Store.faults c.answer_select.new.store)) (Rose (g.O.Sink.faults c.args.out.now) (g.O.Sink.faults c.answer_select.new.out)) c.answer_select.ensures.ends.0 is),
+  λ usage. absurd (usage.not_select c.in-Select.out.now c.in-Select.area c.in-Select.depths.0 c.in-Select.depths.1 c.in-Select.sift c.in-Select.ensures),
+)
+
+pub returns-in-Select-clause-fault : goal.returns-in-Select-clause-fault
+returns-in-Select-clause-fault g c = λ is. ⊎_elim (λ store. inr (inl store)) (λ sink. inr (inr (inr sink))) (query_rose (Some c.in-Select.sift) c.in-Select.area c.in-Select.depths.0 c.in-Select.depths.1 c.answer_select.result.status (g.T.Store.files c.args.store.now) (g.O.Sink.written c.args.out.now) (g.O.Sink.written c.answer_select.new.out) (Rose (g.T.Store.faults c.args.store.now) (g.T.Store.faults c.answer_select.new.store)) (Rose (g.O.Sink.faults c.args.out.now) (g.O.Sink.faults c.answer_select.new.out)) c.answer_select.ensures.ends.0 is)
+
+pub returns-in-Select-clause-select : goal.returns-in-Select-clause-select
+returns-in-Select-clause-select g c = λ folder area first last sift is. select_ends c.query_words_law-in-Select.ensures.one_box c.query_words_law-in-Select.ensures.one_range c.sift_text_law.ensures.once (map string_bytes c.args.words.now) c.in-Select.out.now folder c.in-Select.area area c.in-Select.depths.0 c.in-Select.depths.1 first last c.in-Select.sift sift c.answer_select.result.status c.answer_select.result.failure (g.T.Store.files c.args.store.now) (g.O.Sink.written c.args.out.now) (g.O.Sink.written c.answer_select.new.out) (Rose (g.T.Store.faults c.args.store.now) (g.T.Store.faults c.answer_select.new.store)) (Rose (g.O.Sink.faults c.args.out.now) (g.O.Sink.faults c.answer_select.new.out)) c.in-Select.ensures is c.answer_select.ensures.ends
+
+pub returns-in-Select-clause-check : goal.returns-in-Select-clause-check
+returns-in-Select-clause-check g c = λ folder is. absurd (check_or_select (map string_bytes c.args.words.now) folder is c.in-Select.out.now c.in-Select.area c.in-Select.depths.0 c.in-Select.depths.1 c.in-Select.sift c.in-Select.ensures)
+
+pub returns-in-Select-clause-comes : goal.returns-in-Select-clause-comes
+returns-in-Select-clause-comes g c =
+    query_can (map string_bytes c.args.words.now) (g.H.Shelf.files c.args.shelf.now) (g.T.Store.files c.args.store.now) (BeginsWith g.M.File.SpillFile.held (g.H.Shelf.files c.args.shelf.now) (g.T.Store.files c.args.store.now) (g.T.Store.may_leave c.args.store.now)) c.answer_select.result.status (Rose (g.H.Shelf.faults c.args.shelf.now) (g.H.Shelf.faults c.args.shelf.now) ⊎ Rose (g.T.Store.faults c.args.store.now) (g.T.Store.faults c.answer_select.new.store) ⊎ Rose (g.M.Room.faults c.args.room.now) (g.M.Room.faults c.args.room.now) ⊎ Rose (g.O.Sink.faults c.args.out.now) (g.O.Sink.faults c.answer_select.new.out)) (returns-in-Select-clause-fault g c)
+    (Some c.in-Select.sift) c.in-Select.area c.in-Select.depths.0 c.in-Select.depths.1 (g.O.Sink.written c.args.out.now) (g.O.Sink.written c.answer_select.new.out) (Rose (g.T.Store.faults c.args.store.now) (g.T.Store.faults c.answer_select.new.store)) (Rose (g.O.Sink.faults c.args.out.now) (g.O.Sink.faults c.answer_select.new.out))
+    (select_asked (map string_bytes c.args.words.now) c.in-Select.out.now c.in-Select.area c.in-Select.depths.0 c.in-Select.depths.1 c.in-Select.sift c.in-Select.ensures) c.answer_select.ensures.ends.0
+
+-- ---- check
+
+pub returns-in-Check-clause-done : goal.returns-in-Check-clause-done
+returns-in-Check-clause-done g c = λ ok. inr (check_asked (map string_bytes c.args.words.now) c.in-Check.out.now c.in-Check.ensures)
+
+pub returns-in-Check-clause-settled : goal.returns-in-Check-clause-settled
+returns-in-Check-clause-settled g c = λ config folder is ok. absurd (check_or_build (map string_bytes c.args.words.now) c.in-Check.out.now c.in-Check.ensures config folder is)
+
+pub returns-in-Check-clause-kept : goal.returns-in-Check-clause-kept
+returns-in-Check-clause-kept g c = λ config folder is ok all start begins. absurd (check_or_build (map string_bytes c.args.words.now) c.in-Check.out.now c.in-Check.ensures config folder is)
+
+pub returns-in-Check-clause-done_already : goal.returns-in-Check-clause-done_already
+returns-in-Check-clause-done_already g c = λ all start begins asks. c.answer_check.ensures.any_moment
+
+pub returns-in-Check-clause-others_put_nothing : goal.returns-in-Check-clause-others_put_nothing
+returns-in-Check-clause-others_put_nothing g c = inr c.answer_check.ensures.any_moment
+
+pub returns-in-Check-clause-sound : goal.returns-in-Check-clause-sound
+returns-in-Check-clause-sound g c = λ config folder is. absurd (check_or_build (map string_bytes c.args.words.now) c.in-Check.out.now c.in-Check.ensures config folder is)
+
+pub returns-in-Check-clause-query : goal.returns-in-Check-clause-query
+returns-in-Check-clause-query g c = λ folder area first last is. absurd (check_or_query (map string_bytes c.args.words.now) c.in-Check.out.now c.in-Check.ensures folder area first last is)
+
+pub returns-in-Check-clause-query_puts_nothing : goal.returns-in-Check-clause-query_puts_nothing
+returns-in-Check-clause-query_puts_nothing g c = λ asks. c.answer_check.ensures.any_moment
+
+pub returns-in-Check-clause-trial : goal.returns-in-Check-clause-trial
+returns-in-Check-clause-trial g c = λ count workers cache is. absurd (check_or_trial (map string_bytes c.args.words.now) c.in-Check.out.now c.in-Check.ensures count workers cache is)
+
+pub returns-in-Check-clause-refused : goal.returns-in-Check-clause-refused
+returns-in-Check-clause-refused g c = λ not_ok. inr (inr (check_asked (map string_bytes c.args.words.now) c.in-Check.out.now c.in-Check.ensures))
+
+pub returns-in-Check-clause-refusal_comes : goal.returns-in-Check-clause-refusal_comes
+returns-in-Check-clause-refusal_comes g c =
+    told_always (λ all. (r : Refusal) → IsDefinite r → IsFaulty (map string_bytes c.args.words.now) all r → YieldsRefusal r c.answer_check.result.status (g.O.Sink.written c.args.out.now) (g.O.Sink.written c.answer_check.new.out) (Rose (g.O.Sink.faults c.args.out.now) (g.O.Sink.faults c.answer_check.new.out))) (g.H.Shelf.files c.args.shelf.now) (λ all r definite refused. absurd (check_unrefused (map string_bytes c.args.words.now) c.in-Check.out.now c.in-Check.ensures all r refused))
+
+pub returns-in-Check-clause-build_refusal_comes : goal.returns-in-Check-clause-build_refusal_comes
+returns-in-Check-clause-build_refusal_comes g c = λ all start begins r asks. absurd (check_or_build (map string_bytes c.args.words.now) c.in-Check.out.now c.in-Check.ensures asks.path asks.out asks.words_are)
+
+pub returns-in-Check-clause-differs_comes : goal.returns-in-Check-clause-differs_comes
+returns-in-Check-clause-differs_comes g c = λ all start told stored asks. absurd (check_or_build (map string_bytes c.args.words.now) c.in-Check.out.now c.in-Check.ensures asks.path asks.out asks.words_are)
+
+pub returns-in-Check-clause-damaged_comes : goal.returns-in-Check-clause-damaged_comes
+returns-in-Check-clause-damaged_comes g c = λ all start told stored asks. absurd (check_or_build (map string_bytes c.args.words.now) c.in-Check.out.now c.in-Check.ensures asks.path asks.out asks.words_are)
+
+pub returns-in-Check-clause-bad_comes : goal.returns-in-Check-clause-bad_comes
+returns-in-Check-clause-bad_comes g c = λ all start letter told stored bad asks. absurd (check_or_build (map string_bytes c.args.words.now) c.in-Check.out.now c.in-Check.ensures asks.path asks.out asks.words_are)
+
+pub returns-in-Check-clause-asked : goal.returns-in-Check-clause-asked
+returns-in-Check-clause-asked g c = λ start told. inr (inr refl)
+
+pub returns-in-Check-clause-same_store : goal.returns-in-Check-clause-same_store
+returns-in-Check-clause-same_store g c = inr (inl (check_asked (map string_bytes c.args.words.now) c.in-Check.out.now c.in-Check.ensures))
+
+pub returns-in-Check-clause-same_shelf : goal.returns-in-Check-clause-same_shelf
+returns-in-Check-clause-same_shelf g c = inr (inr refl)
+
+pub returns-in-Check-clause-same_room : goal.returns-in-Check-clause-same_room
+returns-in-Check-clause-same_room g c = inr refl
+
+pub returns-in-Check-clause-failure : goal.returns-in-Check-clause-failure
+returns-in-Check-clause-failure g c = c.answer_check.ensures.failure
+
+pub returns-in-Check-clause-usage : goal.returns-in-Check-clause-usage
+returns-in-Check-clause-usage g c = (
+  λ is. absurd (check_not_usage c.answer_check.result.status (g.O.Sink.written c.args.out.now) (g.O.Sink.written c.answer_check.new.out) (Rose (g.O.Sink.faults c.args.out.now) (g.O.Sink.faults c.answer_check.new.out)) c.answer_check.ensures.ends.0.answer c.answer_check.ensures.ends.0.says is),
+  λ usage. absurd (usage.not_check c.in-Check.out.now c.in-Check.ensures),
+)
+
+pub returns-in-Check-clause-fault : goal.returns-in-Check-clause-fault
+returns-in-Check-clause-fault g c = λ is. ⊎_elim (λ store. inr (inl store)) (λ sink. inr (inr (inr sink))) (check_rose c.answer_check.result.status (g.O.Sink.written c.args.out.now) (g.O.Sink.written c.answer_check.new.out) (Rose (g.O.Sink.faults c.args.out.now) (g.O.Sink.faults c.answer_check.new.out)) c.answer_check.ensures.ends.0.answer (Rose (g.T.Store.faults c.args.store.now) (g.T.Store.faults c.answer_check.new.store)) c.answer_check.ensures.ends.0.stores c.answer_check.ensures.ends.0.says is)
+
+pub returns-in-Check-clause-select : goal.returns-in-Check-clause-select
+returns-in-Check-clause-select g c = λ folder area first last sift is. absurd (check_or_select (map string_bytes c.args.words.now) c.in-Check.out.now c.in-Check.ensures folder area first last sift is)
+
+pub returns-in-Check-clause-check : goal.returns-in-Check-clause-check
+returns-in-Check-clause-check g c = λ folder is. c.answer_check.ensures.ends
+
+pub returns-in-Check-clause-comes : goal.returns-in-Check-clause-comes
+returns-in-Check-clause-comes g c =
+    check_can (map string_bytes c.args.words.now) (g.H.Shelf.files c.args.shelf.now) (g.T.Store.files c.args.store.now) (BeginsWith g.M.File.SpillFile.held (g.H.Shelf.files c.args.shelf.now) (g.T.Store.files c.args.store.now) (g.T.Store.may_leave c.args.store.now)) c.answer_check.result.status (Rose (g.H.Shelf.faults c.args.shelf.now) (g.H.Shelf.faults c.args.shelf.now) ⊎ Rose (g.T.Store.faults c.args.store.now) (g.T.Store.faults c.answer_check.new.store) ⊎ Rose (g.M.Room.faults c.args.room.now) (g.M.Room.faults c.args.room.now) ⊎ Rose (g.O.Sink.faults c.args.out.now) (g.O.Sink.faults c.answer_check.new.out)) (returns-in-Check-clause-fault g c)
+    (g.O.Sink.written c.args.out.now) (g.O.Sink.written c.answer_check.new.out) (Rose (g.T.Store.faults c.args.store.now) (g.T.Store.faults c.answer_check.new.store)) (Rose (g.O.Sink.faults c.args.out.now) (g.O.Sink.faults c.answer_check.new.out))
+    (check_asked (map string_bytes c.args.words.now) c.in-Check.out.now c.in-Check.ensures) c.answer_check.ensures.ends.0
+
+-- ---- no selection and no check
+
+pub returns-in-Build-clause-select : goal.returns-in-Build-clause-select
+returns-in-Build-clause-select g c = λ folder area first last sift is. absurd (select_or_build (map string_bytes c.args.words.now) folder area first last sift is c.in-Build.config.now c.in-Build.out.now c.in-Build.ensures)
+
+pub returns-in-Build-clause-check : goal.returns-in-Build-clause-check
+returns-in-Build-clause-check g c = λ folder is. absurd (check_or_build (map string_bytes c.args.words.now) folder is c.in-Build.config.now c.in-Build.out.now c.in-Build.ensures)
+
+pub returns-in-Info-clause-select : goal.returns-in-Info-clause-select
+returns-in-Info-clause-select g c = λ folder area first last sift is. absurd (select_or_info (map string_bytes c.args.words.now) folder area first last sift is c.in-Info.las.now c.in-Info.ensures)
+
+pub returns-in-Info-clause-check : goal.returns-in-Info-clause-check
+returns-in-Info-clause-check g c = λ folder is. absurd (check_or_info (map string_bytes c.args.words.now) folder is c.in-Info.las.now c.in-Info.ensures)
+
+pub returns-in-Query-clause-select : goal.returns-in-Query-clause-select
+returns-in-Query-clause-select g c = λ folder area first last sift is. absurd (select_or_query (map string_bytes c.args.words.now) folder area first last sift is c.in-Query.out.now c.in-Query.area c.in-Query.depths.0 c.in-Query.depths.1 c.in-Query.ensures)
+
+pub returns-in-Query-clause-check : goal.returns-in-Query-clause-check
+returns-in-Query-clause-check g c = λ folder is. absurd (check_or_query (map string_bytes c.args.words.now) folder is c.in-Query.out.now c.in-Query.area c.in-Query.depths.0 c.in-Query.depths.1 c.in-Query.ensures)
+
+pub returns-in-Trial-clause-select : goal.returns-in-Trial-clause-select
+returns-in-Trial-clause-select g c = λ folder area first last sift is. absurd (select_or_trial (map string_bytes c.args.words.now) folder area first last sift is c.in-Trial.points c.in-Trial.workers c.in-Trial.cache c.in-Trial.ensures)
+
+pub returns-in-Trial-clause-check : goal.returns-in-Trial-clause-check
+returns-in-Trial-clause-check g c = λ folder is. absurd (check_or_trial (map string_bytes c.args.words.now) folder is c.in-Trial.points c.in-Trial.workers c.in-Trial.cache c.in-Trial.ensures)
+
+pub returns-in-Usage-clause-select : goal.returns-in-Usage-clause-select
+returns-in-Usage-clause-select g c = λ folder area first last sift is. absurd (c.in-Usage.ensures.not_select folder area first last sift is)
+
+pub returns-in-Usage-clause-check : goal.returns-in-Usage-clause-check
+returns-in-Usage-clause-check g c = λ folder is. absurd (c.in-Usage.ensures.not_check folder is)

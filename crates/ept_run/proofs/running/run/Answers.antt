@@ -6,3 +6,9 @@ returns-clause-refused g c = λ not_ok. first_parts (c.carry_out.ensures.refused
 
 pub returns-clause-query : goal.returns-clause-query
 returns-clause-query g c = λ folder area first last is. (c.carry_out.ensures.query folder area first last is).0
+
+pub returns-clause-select : goal.returns-clause-select
+returns-clause-select g c = λ folder area first last sift is. (c.carry_out.ensures.select folder area first last sift is).0
+
+pub returns-clause-check : goal.returns-clause-check
+returns-clause-check g c = λ folder is. (c.carry_out.ensures.check folder is).0
