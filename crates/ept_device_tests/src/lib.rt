@@ -9,6 +9,8 @@ mod folder;
 #[cfg(test)]
 mod listening;
 #[cfg(test)]
+mod logs;
+#[cfg(test)]
 mod meeting;
 #[cfg(test)]
 mod memory;
@@ -16,6 +18,8 @@ mod memory;
 mod memory_store;
 #[cfg(test)]
 mod progress;
+#[cfg(test)]
+mod reads;
 #[cfg(test)]
 mod rooms;
 #[cfg(test)]

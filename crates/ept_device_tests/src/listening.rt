@@ -66,7 +66,7 @@ fn two_connections_over_the_loopback_are_answered(rt: HostRuntime) -> Result<(),
     let address = listener.local_addr()?;
     let (served, (first, second)) = thread::join(
         &rt,
-        || serve_connections(&rt, &rt, listener, "out/tests/served", Some(2)),
+        || serve_connections(&rt, &rt, listener, "out/tests/served", Some(2), false),
         || {
             (
                 is_answered(&rt, address, FIRST, FIRST_ANSWER),
@@ -87,7 +87,7 @@ fn one_thread_answers_two_connections_in_turn(rt: HostRuntime) -> Result<(), Fai
     let address = listener.local_addr()?;
     let (served, answered) = thread::join(
         &rt,
-        || serve_single(&rt, &rt, listener, "out/tests/served", Some(2)),
+        || serve_single(&rt, &rt, listener, "out/tests/served", Some(2), false),
         || are_answered_in_turn(&rt, address),
     );
     served?;

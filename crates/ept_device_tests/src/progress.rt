@@ -1,4 +1,4 @@
-//! What is told of a build, and when.
+//! What is told of a build and of a check, and when.
 
 use crate::disk::{Disk, Seen};
 use crate::folder::{enter, pattern};
@@ -103,6 +103,32 @@ fn each_file_has_its_role(rt: HostRuntime) -> Result<(), Fail> {
     fs::write(&rt, "one", "")?;
     for (folder, path, told) in ROLES {
         expect_role(&rt, &rt, folder, path, told)?;
+    }
+    Ok(())
+}
+
+// The files that a check reads first, and what is told of each where a line is due at once.
+static CHECKED: [(&str, &str); 3] = [
+    ("out/ept-work/done", "test: checking, 0 MB; files read 1\n"),
+    ("out/ept-build.json", "test: checking, 0 MB; files read 2\n"),
+    (
+        "out/ept-data/0-0-0-0.bin",
+        "test: checking, 0 MB; files read 3\n",
+    ),
+];
+
+#[test]
+fn a_check_tells_how_far_it_is(rt: HostRuntime) -> Result<(), Fail> {
+    enter(&rt, "checked")?;
+    fs::write(&rt, "one", "")?;
+    let seen = Seen::new(rt.alloc())?;
+    seen.step.set(10_000);
+    seen.is_one.set(true);
+    let disk = Disk::new(&rt, &seen)?;
+    let files = SeenFiles::of_check(rt.alloc(), disk, "test", "out", Telling::Lines)?;
+    for (path, told) in CHECKED {
+        assert!(rt; read_one(&files, path).is_ok());
+        assert!(rt; seen.was_said_last(told));
     }
     Ok(())
 }

@@ -63,3 +63,14 @@ fn a_spill_file_that_fails_is_a_fault(rt: HostRuntime) -> Result<(), Fail> {
     assert!(rt; (room.faults(), room.keeps()) == (1, 1));
     Ok(())
 }
+
+#[test]
+fn a_room_without_a_path_makes_no_file(rt: HostRuntime) -> Result<(), Fail> {
+    enter(&rt, "no_path")?;
+    fs::write(&rt, "kept", "by another")?;
+    let mut room = RealRoom::new(rt.alloc(), &rt, "");
+    assert!(rt; room.make(1).err() == Some(PutError::Failed));
+    assert!(rt; fs::exists(&rt, "kept")?);
+    assert!(rt; (room.faults(), room.keeps()) == (1, 0));
+    Ok(())
+}

@@ -1,4 +1,4 @@
-//! Rows of builds, queries and trials over devices in memory: each line of the input makes a file, lets a call fail,
+//! Rows of builds, queries, selections, checks and trials over devices in memory: each line of the input makes a file, lets a call fail,
 //! runs the words of a command line or looks at what a run left, and the program prints the answer.
 #![tactic(auto)]
 
@@ -58,11 +58,23 @@ fn answer<R: Threads + Wait + Sync>(
             files::change(bench, call, rest)?;
             done(out)
         }
-        "fail" | "forget" | "sink" | "store" | "keep" | "put" | "damage" | "fuse" | "crash" => {
+        "fail"
+        | "forget"
+        | "sink"
+        | "store"
+        | "keep"
+        | "put"
+        | "damage"
+        | "remove"
+        | "swap"
+        | "replace"
+        | "fuse"
+        | "wear"
+        | "crash" => {
             stores::change(bench, call, rest)?;
             done(out)
         }
-        "run" | "query" | "meet" => runs::answer(rt, bench, call, rest, out),
+        "run" | "query" | "select" | "meet" => runs::answer(rt, bench, call, rest, out),
         "stops" | "fails" | "spoils" => stops::answer(rt, bench, call, rest, out),
         "say" | "starve" | "differ" | "differ-hex" => sentences::answer(bench, call, rest, out),
         _ => looks::answer(bench, call, rest, out),

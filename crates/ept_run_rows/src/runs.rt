@@ -23,6 +23,7 @@ pub(crate) fn answer<R: Threads + Wait + Sync>(
             append_end(bench, out)
         }
         "query" => query(rt, bench, rest, out),
+        "select" => select(rt, bench, rest, out),
         "meet" => meet(rt, bench, rest, out),
         _ => Err(Miss::Form),
     }
@@ -53,7 +54,32 @@ fn query<R: Threads + Wait + Sync>(
 ) -> Result<(), Miss> {
     let (area, depths) = first_word(asked);
     let words = format!(in bench.alloc; "query|out|{area}|{depths}")?;
-    bench.carry_out(rt, words.as_str())?;
+    ask(rt, bench, words.as_str(), out)
+}
+
+// `select BOX DEPTHS CLASSES TIME DIMS`: the status of a selection from the folder, and the bytes of what it keeps.
+fn select<R: Threads + Wait + Sync>(
+    rt: &R,
+    bench: &mut Bench,
+    asked: &str,
+    out: &mut String,
+) -> Result<(), Miss> {
+    let (area, rest) = first_word(asked);
+    let (depths, rest) = first_word(rest);
+    let (classes, rest) = first_word(rest);
+    let (time, dims) = first_word(rest);
+    let words = format!(in bench.alloc; "select|out|{area}|{depths}|{classes}|{time}|{dims}")?;
+    ask(rt, bench, words.as_str(), out)
+}
+
+// Runs words that ask for points, and writes the status and the bytes.
+fn ask<R: Threads + Wait + Sync>(
+    rt: &R,
+    bench: &mut Bench,
+    words: &str,
+    out: &mut String,
+) -> Result<(), Miss> {
+    bench.carry_out(rt, words)?;
     write!(out, "{} ", bench.left.status)?;
     append_bytes(out, &bench.left.written)
 }

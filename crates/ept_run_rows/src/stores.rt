@@ -22,7 +22,11 @@ pub(crate) fn change(bench: &mut Bench, call: &str, rest: &str) -> Result<(), Mi
         "keep" => keep(bench),
         "put" => put(bench, name, text),
         "damage" => damage(bench, name),
+        "remove" => spoil(bench, "remove", name),
+        "swap" => swap(bench, name, text),
+        "replace" => replace(bench, name, text),
         "fuse" => fuse(bench, number(name)?),
+        "wear" => wear(bench, number(name)?),
         "crash" => crash(bench, crash_of(name)?),
         _ => Err(Miss::Form),
     }
@@ -80,10 +84,33 @@ fn damage(bench: &mut Bench, name: &str) -> Result<(), Miss> {
     spoil(bench, "cut", name)
 }
 
+// `swap NAME NAME`: exchanges two files of the store.
+fn swap(bench: &mut Bench, first: &str, second: &str) -> Result<(), Miss> {
+    let one = content(bench, first)?;
+    let other = content(bench, second)?;
+    bench.store.put(first, &other).map_err(of_put)?;
+    bench.store.put(second, &one).map_err(of_put)
+}
+
+// `replace NAME FROM|TO`: a text in a file of the store gives way to another one, where it stands first.
+fn replace(bench: &mut Bench, name: &str, texts: &str) -> Result<(), Miss> {
+    let (from, to) = texts.split_once('|').ok_or(Miss::Form)?;
+    let bytes = content(bench, name)?;
+    let text = str::from_utf8(&bytes).map_err(|_| Miss::Form)?;
+    let (before, after) = text.split_once(from).ok_or(Miss::Form)?;
+    let text = format!(in bench.alloc; "{before}{to}{after}")?;
+    bench.store.put(name, text.as_bytes()).map_err(of_put)
+}
+
+// The bytes of a file of the store.
+fn content(bench: &Bench, name: &str) -> Result<Vec<u8>, Miss> {
+    let bytes = bench.store.file(name).ok_or(Miss::Form)?;
+    Ok(Vec::from_slice(bench.alloc, bytes)?)
+}
+
 /// Spoils a file of the store: `remove` takes it away, `cut` its last byte, and `raise` raises its first byte by one.
 pub(crate) fn spoil(bench: &mut Bench, how: &str, name: &str) -> Result<(), Miss> {
-    let mut bytes = Vec::new(bench.alloc);
-    bytes.extend_from_slice(bench.store.file(name).ok_or(Miss::Form)?)?;
+    let mut bytes = content(bench, name)?;
     match how {
         "remove" => return bench.store.remove(name).map_err(of_put),
         "cut" => {
@@ -107,6 +134,14 @@ fn of_put(error: PutError) -> Miss {
 
 /// `fuse CALLS`: the store passes so many calls, and fails each one after them.
 pub(crate) fn fuse(bench: &mut Bench, calls: u64) -> Result<(), Miss> {
+    let fresh = store_with_other(bench.alloc, None)?;
+    let store = bench.replace_store(fresh);
+    bench.store = store.with_fuse(calls);
+    Ok(())
+}
+
+// `wear CALLS`: the store as it is passes so many calls more, and fails each one after them.
+fn wear(bench: &mut Bench, calls: u64) -> Result<(), Miss> {
     let fresh = store_with_other(bench.alloc, None)?;
     let store = bench.replace_store(fresh);
     bench.store = store.with_fuse(calls);

@@ -2,6 +2,7 @@
 
 use crate::escaped::{push_escaped, unescape};
 use crate::row::{RowError, cut, number, plain};
+use ept_filter::Sift;
 use ept_http::{Asked, HeadKind, read_box, read_depths, read_request, response_head};
 use ept_space::Box3;
 use std::alloc::{AllocError, Global};
@@ -20,6 +21,9 @@ pub(crate) fn push_asked(answer: &mut String, asked: &Asked, last: bool) -> Resu
     match asked {
         Asked::File(name) => push_file(answer, name.as_str())?,
         Asked::Query(area, first, last) => push_query(answer, area, *first, *last)?,
+        Asked::Select(area, first, last, sift) => {
+            push_select(answer, area, (*first, *last), sift)?;
+        }
         Asked::Refuse(status) => write!(answer, "refuse {status}")?,
     }
     if last {
@@ -36,6 +40,49 @@ fn push_query(answer: &mut String, area: &Box3, first: u8, last: u8) -> Result<(
     answer.push_str("query ")?;
     push_box(answer, area)?;
     write!(answer, " {first},{last}")
+}
+
+fn push_select(
+    answer: &mut String,
+    area: &Box3,
+    depths: (u8, u8),
+    sift: &Sift,
+) -> Result<(), AllocError> {
+    let (first, last) = depths;
+    answer.push_str("select ")?;
+    push_box(answer, area)?;
+    write!(answer, " {first},{last}")?;
+    push_classes(answer, sift)?;
+    push_time(answer, sift)?;
+    answer.push_str(" dims")?;
+    for row in sift.dims.rows() {
+        write!(answer, " {row}")?;
+    }
+    Ok(())
+}
+
+fn push_classes(answer: &mut String, sift: &Sift) -> Result<(), AllocError> {
+    answer.push_str(" classes")?;
+    let Some(classes) = &sift.classes else {
+        return answer.push_str(" any");
+    };
+    for class in 0..=255 {
+        if classes.contains(class) {
+            write!(answer, " {class}")?;
+        }
+    }
+    Ok(())
+}
+
+fn push_time(answer: &mut String, sift: &Sift) -> Result<(), AllocError> {
+    answer.push_str(" time ")?;
+    let Some(time) = &sift.time else {
+        return answer.push_str("any");
+    };
+    for byte in time {
+        write!(answer, "{byte:02x}")?;
+    }
+    Ok(())
 }
 
 fn push_box(answer: &mut String, area: &Box3) -> Result<(), AllocError> {

@@ -1,0 +1,137 @@
+//! The lines of a log.
+
+use crate::disk::{Disk, Seen};
+use crate::streams::{Peer, peer_of};
+use ept_base::Link;
+use ept_log::{Log, WatchedLink};
+use ept_real::RealLink;
+use std::alloc::AllocError;
+use std::test::Fail;
+
+// What comes over a connection, what is sent after it, how it ends, and the lines.
+type Row = (
+    &'static [u8],
+    &'static [&'static [u8]],
+    &'static str,
+    &'static str,
+);
+
+static ROWS: [Row; 10] = [
+    (
+        b"GET /ept.json HTTP/1.1\r\nHost: a\r\n\r\n",
+        &[b"HTTP/1.1 200 OK\r\n\r\n{}"],
+        "sent",
+        "peer /ept.json 200 21 1 sent\n",
+    ),
+    // The second request came with the first.
+    (
+        b"\r\nGET /a HTTP/1.1\r\n\r\nHEAD /b HTTP/1.1\r\n\r\n",
+        &[
+            b"HTTP/1.1 404 Not Found\r\n\r\n",
+            b"HTTP/1.1 405 Method Not Allowed\r\n\r\n",
+        ],
+        "link-fault",
+        "peer /a 404 26 1 sent\npeer /b 405 35 2 link-fault\n",
+    ),
+    // A query, in two pieces.
+    (
+        b"GET /query?box=1 HTTP/1.1\r\n\r\n",
+        &[b"HTTP/1.1 200 OK\r\n\r\n2\r\nab\r\n", b"9\r\nHTTP/1.1 \r\n"],
+        "damaged",
+        "peer /query?box=1 200 40 1 damaged\n",
+    ),
+    (
+        b"\x16\x03\x01 x\r\n\r\n",
+        &[b"HTTP/1.1 400 Bad Request\r\n\r\n"],
+        "sent",
+        "peer x 400 28 1 sent\n",
+    ),
+    (
+        b"GET /\xff\"\x7fy HTTP/1.1\r\n\r\n",
+        &[b"HTTP/1.1 404 Not Found\r\n\r\n"],
+        "sent",
+        "peer /?\"?y 404 26 1 sent\n",
+    ),
+    (
+        b"GET\r\n\r\n",
+        &[b"HTTP/1.1 400 Bad Request\r\n\r\n"],
+        "sent",
+        "peer - 400 28 1 sent\n",
+    ),
+    (
+        b"GET /a HTTP/1.1\r\n\r\n",
+        &[],
+        "memory",
+        "peer /a - 0 1 memory\n",
+    ),
+    (
+        b"GET /a HT",
+        &[],
+        "link-fault",
+        "peer /a - 0 1 link-fault\n",
+    ),
+    (b"GET /a HT", &[], "sent", ""),
+    (b"", &[], "sent", ""),
+];
+
+type Watched<'a> = WatchedLink<'a, RealLink<Peer<'a>>, Disk>;
+
+// A link over which these bytes come three at a time, and which takes two at a time.
+fn watched<'a>(
+    rt: &HostRuntime,
+    disk: &'a Disk,
+    comes: &'a [u8],
+) -> Result<Watched<'a>, AllocError> {
+    let alloc = rt.alloc();
+    let log = Log::new(disk, alloc, String::from_str(alloc, "peer")?);
+    Ok(WatchedLink::new(RealLink::new(peer_of(alloc, comes, false, 2)), Some(log)))
+}
+
+// Reads this number of bytes.
+fn read_so_many(link: &mut Watched<'_>, count: usize) {
+    let mut into = [0; 8];
+    for _ in 0..count.div_ceil(3) {
+        let _ = link.read(&mut into);
+    }
+}
+
+// Writes all of these bytes.
+fn write_whole(link: &mut Watched<'_>, bytes: &[u8]) {
+    for at in (0..bytes.len()).step_by(2) {
+        let _ = link.write(&bytes[at..]);
+    }
+}
+
+#[test]
+fn each_request_becomes_a_line(rt: HostRuntime) -> Result<(), Fail> {
+    let seen = Seen::new(rt.alloc())?;
+    seen.step.set(1);
+    let disk = Disk::new(&rt, &seen)?;
+    for (comes, responses, how, lines) in ROWS {
+        let mut link = watched(&rt, &disk, comes)?;
+        read_so_many(&mut link, comes.len());
+        for response in responses {
+            write_whole(&mut link, response);
+        }
+        link.end(how);
+        assert!(rt; seen.was_said(lines));
+    }
+    Ok(())
+}
+
+#[test]
+fn a_line_is_written_before_the_next_read(rt: HostRuntime) -> Result<(), Fail> {
+    let seen = Seen::new(rt.alloc())?;
+    let disk = Disk::new(&rt, &seen)?;
+    let comes = b"GET /a HTTP/1.1\r\n\r\n";
+    let mut link = watched(&rt, &disk, comes)?;
+    read_so_many(&mut link, comes.len());
+    write_whole(&mut link, b"HTTP/1.1 404 Not Found\r\n\r\n");
+    assert!(rt; seen.was_said(""));
+    read_so_many(&mut link, 1);
+    assert!(rt; seen.was_said("peer /a 404 26 0 sent\n"));
+    let link = link.end("link-fault");
+    assert!(rt; seen.was_said(""));
+    assert!(rt; link.faults() == 0);
+    Ok(())
+}
