@@ -17,9 +17,10 @@ _ept_tool() {
   case $COMP_CWORD:${COMP_WORDS[1]} in
     1:*) COMPREPLY=($(compgen -W "@COMMANDS@" -- "$word")) ;;
     2:build) _ept_files "$word" json ;;
-    3:build | 2:query) _ept_folders "$word" ;;
+    3:build | 2:query | 2:select | 2:check) _ept_folders "$word" ;;
     2:info) _ept_files "$word" las ;;
-    4:query) COMPREPLY=($(compgen -W "0,32" -- "$word")) ;;
+    4:query | 4:select) COMPREPLY=($(compgen -W "0,32" -- "$word")) ;;
+    [567]:select) COMPREPLY=($(compgen -W "-" -- "$word")) ;;
     *) COMPREPLY=() ;;
   esac
 }

@@ -17,7 +17,7 @@ PAGES = {
     "ept_tool.1": ("builds and queries Entwine Point Tile datasets", [
         ("COMMANDS", USE, "The commands"), ("PROGRESS", USE, "Progress"),
         ("RESUMING AND ADDING FLIGHTS", USE, "Resuming and adding flights"), ("MEMORY AND THREADS", USE, "Memory and threads"),
-        ("QUERIES", USE, "Queries"), ("TRIALS", USE, "Trials"), ("EXIT STATUS", README, "Exit statuses"), ("OUTPUT", FORMATS, "The lines")]),
+        ("QUERIES", USE, "Queries"), ("CHECKING A DATASET", USE, "Checking a dataset"), ("TRIALS", USE, "Trials"), ("EXIT STATUS", README, "Exit statuses"), ("OUTPUT", FORMATS, "The lines")]),
     "ept-configuration.5": ("the configuration of a build of ept_tool", [
         ("KEYS", USE, "The configuration"), ("VALUES", FORMATS, "The configuration")]),
     "ept_server.8": ("serves an Entwine Point Tile dataset over HTTP", [

@@ -24,7 +24,9 @@ FIELD = re.compile(b"(%s):(%s)\r?\n" % (TOKEN, VALUE))
 HEAD = re.compile(b"(?:\r?\n)*(%s) ([!-~\x80-\xff]+) HTTP/1\\.([01])\r?\n((?:%s:%s\r?\n)*)\r?\n" % (TOKEN, TOKEN, VALUE))
 NUMBER = rb"(?:0|-?[1-9]\d{0,18})"
 DEPTH = rb"(?:0|[1-9]\d?)"
-QUERY = re.compile(rb"/query\?box=(%s)&depths=(%s,%s)" % (b",".join([NUMBER] * 6), DEPTH, DEPTH))
+POINTS = rb"box=(%s)&depths=(%s,%s)" % (b",".join([NUMBER] * 6), DEPTH, DEPTH)
+QUERY = re.compile(rb"/query\?" + POINTS)
+SELECT = re.compile(rb"/select\?" + POINTS + rb"&classes=([^&]*)&time=([^&]*)&dims=([^&]*)")
 
 
 # ---- requests
@@ -66,15 +68,17 @@ def is_served(name):
 
 
 def asked_by(target):
-    """What a target asks for: the name of a file, a box with depths, or the status 404."""
+    """What a target asks for: the name of a file, a box with depths and a selection or none, or the status 404."""
     if target[:1] == b"/" and is_served(target[1:].decode()):
         return target[1:].decode()
-    found = QUERY.fullmatch(target)
+    found = QUERY.fullmatch(target) or SELECT.fullmatch(target)
     if not found:
         return 404
-    area, depths = (tuple(map(int, words.split(b","))) for words in found.groups())
+    box, range_of, *texts = found.groups()
+    area, depths = (tuple(map(int, words.split(b","))) for words in (box, range_of))
     is_ordered = all(-2 ** 63 <= area[i] <= area[i + 3] < 2 ** 63 for i in range(3)) and depths[0] <= depths[1] <= 32
-    return (area, depths) if is_ordered else 404
+    sift = model_query.read_sift(*(text.decode() for text in texts)) if texts else None
+    return (area, depths, sift) if is_ordered and (sift or not texts) else 404
 
 
 def judged(data):
@@ -133,8 +137,8 @@ class Folder:
         kind = "json" if asked.endswith(".json") else "octet-stream"
         return answer_head(200, kind, last, len(content)) + content, not last
 
-    def query(self, area, depths, last):
-        """A query's answer: a chunk for each tile that has points of it, up to one that is damaged."""
+    def query(self, area, depths, sift, last):
+        """The answer to a query or a selection: a chunk for each tile that has points of it, up to one that is damaged."""
         try:
             tiles = model_query.plan(self.files, area, depths)
         except model_query.Damaged:
@@ -142,7 +146,7 @@ class Folder:
         sent = answer_head(200, "octet-stream", last, None)
         for key, count in tiles:
             try:
-                points = model_query.points_in(self.files, key, count, area)
+                points = model_query.sifted(sift, model_query.points_in(self.files, key, count, area))
             except model_query.Damaged:
                 return sent, False
             sent += b"%x\r\n%s\r\n" % (len(points), points) if points else EMPTY_CHUNK

@@ -1,4 +1,5 @@
-"""A second implementation of queries: what `query OUT BOX DEPTHS` answers on any folder, whole or damaged.
+"""A second implementation of queries and selections: what `query OUT BOX DEPTHS` and `select OUT BOX DEPTHS CLASSES TIME
+DIMS` answer on any folder, whole or damaged.
 
 It follows docs/FORMATS.md: the done gate, then `ept-build.json`, then each hierarchy file that a link leads to and
 whose root's box meets the area, in key order, then each tile in the depths whose box meets the area, in key order.
@@ -13,6 +14,7 @@ import model
 
 DONE = "ept-work/done"
 ROOT = (0, 0, 0, 0)
+WIDTHS = {"X": 4, "Y": 4, "Z": 4} | {name: size for name, _, size in model.DIMENSIONS}
 
 
 class Damaged(Exception):
@@ -128,23 +130,73 @@ def points_in(files, key, count, area):
     return b"".join(point["packed"] for point in points if all(area[i] <= point["place"][i] <= area[i + 3] for i in range(3)))
 
 
-def answer(files, area, depths):
-    """The packed points of a query; a file that is not of its form is told."""
+# ---- selections
+
+def read_classes(text):
+    """The classes of a text in a tuple, which is empty for any; None where the text is of no form."""
+    if text == "-":
+        return ()
+    if not re.fullmatch(r"(?:0|[1-9]\d{0,2})(?:,(?:0|[1-9]\d{0,2}))*", text, re.ASCII):
+        return None
+    classes = tuple(map(int, text.split(",")))
+    return classes if classes == tuple(sorted(set(classes))) and classes[-1] <= 255 else None
+
+
+def read_time(text):
+    """The bytes of the time of a text, none for any; None where the text is of no form."""
+    if text == "-":
+        return b""
+    return bytes.fromhex(text) if re.fullmatch(r"[0-9a-f]{16}", text, re.ASCII) else None
+
+
+def read_dims(text):
+    """The names of the dimensions of a text; None where the text is of no form."""
+    names = tuple(WIDTHS) if text == "-" else tuple(text.split(","))
+    return names if len(set(names)) == len(names) and set(names) <= set(WIDTHS) else None
+
+
+def read_sift(classes, time, dims):
+    """The selection that three texts ask for; None where one of them is of no form."""
+    sift = read_classes(classes), read_time(time), read_dims(dims)
+    return None if None in sift else sift
+
+
+def fields_of(packed):
+    """The bytes of each dimension of a packed point."""
+    fields, at = {}, 0
+    for name, width in WIDTHS.items():
+        fields[name], at = packed[at:at + width], at + width
+    return fields
+
+
+def sifted(sift, data):
+    """What a selection keeps of packed points; all where there is none."""
+    if sift is None:
+        return data
+    classes, time, dims = sift
+    width = sum(WIDTHS.values())
+    points = [fields_of(data[at:at + width]) for at in range(0, len(data), width)]
+    return b"".join(point[name] for point in points for name in dims
+                    if (not classes or point["Classification"][0] in classes) and (not time or point["GpsTime"] == time))
+
+
+def answer(files, area, depths, sift=None):
+    """The packed points of a query, or what a selection keeps of them; a file that is not of its form is told."""
     written = b""
     for key, count in plan(files, area, depths):
         try:
-            written += points_in(files, key, count, area)
+            written += sifted(sift, points_in(files, key, count, area))
         except Damaged as damaged:
             raise Damaged(damaged.name, written) from damaged
     return written
 
 
-def query(files, area, depths):
-    """Status, bytes and the file that is damaged, or None, of a query on these files."""
+def query(files, area, depths, sift=None):
+    """Status, bytes and the file that is damaged, or None, of a query or a selection on these files."""
     if files.get(DONE) != b"\1":
         return 6, b"", None
     try:
-        return 0, answer(files, area, depths), None
+        return 0, answer(files, area, depths, sift), None
     except Damaged as damaged:
         return 8, damaged.written, damaged.name
 

@@ -67,15 +67,19 @@ def wait_for(port, process, seconds=10):
     sys.exit(f"{process.args[0]} does not listen")
 
 
-def start(out, descriptors=None, single=False):
-    """Starts the server, with so many descriptors at most and on a single thread if asked to, and waits until it listens."""
+def start(out, descriptors=None, single=False, logs=None):
+    """Starts the server, with so many descriptors at most, on a single thread and with a line a request in the file
+    `logs` if asked to, and waits until it listens."""
     def limit():
         if descriptors:
             resource.setrlimit(resource.RLIMIT_NOFILE, (descriptors, descriptors))
 
     port = free_port()
     words = [str(PROGRAM), *(["--single"] if single else []), str(out), f"127.0.0.1:{port}"]
-    server = subprocess.Popen(words, preexec_fn=limit)
+    environment = {name: value for name, value in os.environ.items() if name != "EPT_LOG"}
+    if logs:
+        environment["EPT_LOG"] = "1"
+    server = subprocess.Popen(words, preexec_fn=limit, env=environment, stderr=logs)
     wait_for(port, server)
     return server, port
 
