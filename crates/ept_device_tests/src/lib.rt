@@ -7,10 +7,6 @@ mod disk;
 #[cfg(test)]
 mod folder;
 #[cfg(test)]
-mod listening;
-#[cfg(test)]
-mod logs;
-#[cfg(test)]
 mod meeting;
 #[cfg(test)]
 mod memory;

@@ -59,10 +59,10 @@ impl Write for Unable {
     }
 }
 
-/// A stream whose bytes come three at a time, and behind them their end or, of one that breaks, an error. It
-/// takes as many bytes at a time as its writer.
+// A stream whose bytes come three at a time, and after them their end or, of one that breaks, an error. It
+// takes as many bytes at a time as its writer.
 #[derive(Drop)]
-pub(crate) struct Peer<'a> {
+struct Peer<'a> {
     comes: &'a [u8],
     breaks: bool,
     writer: Pieces,
@@ -88,8 +88,7 @@ impl Write for Peer<'_> {
     }
 }
 
-/// Such a stream, of which nothing has come.
-pub(crate) fn peer_of(alloc: Global, comes: &[u8], breaks: bool, most: usize) -> Peer<'_> {
+fn peer_of(alloc: Global, comes: &[u8], breaks: bool, most: usize) -> Peer<'_> {
     Peer {
         comes,
         breaks,

@@ -1,11 +1,11 @@
 //! The lines of a log.
 
-use crate::disk::{Disk, Seen};
-use crate::streams::{Peer, peer_of};
+use crate::peer::Peer;
+use crate::terminal::Terminal;
 use ept_base::Link;
 use ept_log::{Log, WatchedLink};
 use ept_real::RealLink;
-use std::alloc::AllocError;
+use std::alloc::{AllocError, Global};
 use std::test::Fail;
 
 // What comes over a connection, what is sent after it, how it ends, and the lines.
@@ -74,17 +74,16 @@ static ROWS: [Row; 10] = [
     (b"", &[], "sent", ""),
 ];
 
-type Watched<'a> = WatchedLink<'a, RealLink<Peer<'a>>, Disk>;
+type Watched<'a> = WatchedLink<'a, RealLink<Peer<'a>>, Terminal>;
 
-// A link over which these bytes come three at a time, and which takes two at a time.
+// A link over which these bytes come, whose lines go to this terminal.
 fn watched<'a>(
-    rt: &HostRuntime,
-    disk: &'a Disk,
-    comes: &'a [u8],
+    alloc: Global,
+    terminal: &'a Terminal,
+    sends: &'a [u8],
 ) -> Result<Watched<'a>, AllocError> {
-    let alloc = rt.alloc();
-    let log = Log::new(disk, alloc, String::from_str(alloc, "peer")?);
-    Ok(WatchedLink::new(RealLink::new(peer_of(alloc, comes, false, 2)), Some(log)))
+    let log = Log::new(terminal, alloc, String::from_str(alloc, "peer")?);
+    Ok(WatchedLink::new(RealLink::new(Peer { sends }), Some(log)))
 }
 
 // Reads this number of bytes.
@@ -104,34 +103,31 @@ fn write_whole(link: &mut Watched<'_>, bytes: &[u8]) {
 
 #[test]
 fn each_request_becomes_a_line(rt: HostRuntime) -> Result<(), Fail> {
-    let seen = Seen::new(rt.alloc())?;
-    seen.step.set(1);
-    let disk = Disk::new(&rt, &seen)?;
-    for (comes, responses, how, lines) in ROWS {
-        let mut link = watched(&rt, &disk, comes)?;
-        read_so_many(&mut link, comes.len());
+    let terminal = Terminal::new(rt.alloc(), 1);
+    for (sends, responses, how, lines) in ROWS {
+        let mut link = watched(rt.alloc(), &terminal, sends)?;
+        read_so_many(&mut link, sends.len());
         for response in responses {
             write_whole(&mut link, response);
         }
         link.end(how);
-        assert!(rt; seen.was_said(lines));
+        assert!(rt; terminal.was_written(lines));
     }
     Ok(())
 }
 
 #[test]
 fn a_line_is_written_before_the_next_read(rt: HostRuntime) -> Result<(), Fail> {
-    let seen = Seen::new(rt.alloc())?;
-    let disk = Disk::new(&rt, &seen)?;
-    let comes = b"GET /a HTTP/1.1\r\n\r\n";
-    let mut link = watched(&rt, &disk, comes)?;
-    read_so_many(&mut link, comes.len());
+    let terminal = Terminal::new(rt.alloc(), 0);
+    let sends = b"GET /a HTTP/1.1\r\n\r\n";
+    let mut link = watched(rt.alloc(), &terminal, sends)?;
+    read_so_many(&mut link, sends.len());
     write_whole(&mut link, b"HTTP/1.1 404 Not Found\r\n\r\n");
-    assert!(rt; seen.was_said(""));
+    assert!(rt; terminal.was_written(""));
     read_so_many(&mut link, 1);
-    assert!(rt; seen.was_said("peer /a 404 26 0 sent\n"));
+    assert!(rt; terminal.was_written("peer /a 404 26 0 sent\n"));
     let link = link.end("link-fault");
-    assert!(rt; seen.was_said(""));
+    assert!(rt; terminal.was_written(""));
     assert!(rt; link.faults() == 0);
     Ok(())
 }

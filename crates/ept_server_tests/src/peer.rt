@@ -1,0 +1,26 @@
+//! The stream of a peer that sends and takes a few bytes at a time.
+
+use std::io::{self, Read, Write};
+
+/// A stream whose bytes come three at a time, and which takes two at a time.
+#[derive(Drop)]
+pub(crate) struct Peer<'a> {
+    pub(crate) sends: &'a [u8],
+}
+
+impl Read for Peer<'_> {
+    fn read(&mut self, into: &mut [u8]) -> io::Result<usize> {
+        let most = into.len().min(3);
+        self.sends.read(&mut into[..most])
+    }
+}
+
+impl Write for Peer<'_> {
+    fn write(&mut self, from: &[u8]) -> io::Result<usize> {
+        Ok(from.len().min(2))
+    }
+
+    fn flush(&mut self) -> io::Result<()> {
+        Ok(())
+    }
+}
