@@ -11,7 +11,7 @@ use std::test::Fail;
 // What comes over a connection, what is sent after it, how it ends, and the lines.
 type Row = (
     &'static [u8],
-    &'static [&'static [u8]],
+    [&'static [u8]; 2],
     &'static str,
     &'static str,
 );
@@ -19,14 +19,14 @@ type Row = (
 static ROWS: [Row; 10] = [
     (
         b"GET /ept.json HTTP/1.1\r\nHost: a\r\n\r\n",
-        &[b"HTTP/1.1 200 OK\r\n\r\n{}"],
+        [b"HTTP/1.1 200 OK\r\n\r\n{}", b""],
         "sent",
         "peer /ept.json 200 21 1 sent\n",
     ),
     // The second request came with the first.
     (
         b"\r\nGET /a HTTP/1.1\r\n\r\nHEAD /b HTTP/1.1\r\n\r\n",
-        &[
+        [
             b"HTTP/1.1 404 Not Found\r\n\r\n",
             b"HTTP/1.1 405 Method Not Allowed\r\n\r\n",
         ],
@@ -36,42 +36,42 @@ static ROWS: [Row; 10] = [
     // A query, in two pieces.
     (
         b"GET /query?box=1 HTTP/1.1\r\n\r\n",
-        &[b"HTTP/1.1 200 OK\r\n\r\n2\r\nab\r\n", b"9\r\nHTTP/1.1 \r\n"],
+        [b"HTTP/1.1 200 OK\r\n\r\n2\r\nab\r\n", b"9\r\nHTTP/1.1 \r\n"],
         "damaged",
         "peer /query?box=1 200 40 1 damaged\n",
     ),
     (
         b"\x16\x03\x01 x\r\n\r\n",
-        &[b"HTTP/1.1 400 Bad Request\r\n\r\n"],
+        [b"HTTP/1.1 400 Bad Request\r\n\r\n", b""],
         "sent",
         "peer x 400 28 1 sent\n",
     ),
     (
         b"GET /\xff\"\x7fy HTTP/1.1\r\n\r\n",
-        &[b"HTTP/1.1 404 Not Found\r\n\r\n"],
+        [b"HTTP/1.1 404 Not Found\r\n\r\n", b""],
         "sent",
         "peer /?\"?y 404 26 1 sent\n",
     ),
     (
         b"GET\r\n\r\n",
-        &[b"HTTP/1.1 400 Bad Request\r\n\r\n"],
+        [b"HTTP/1.1 400 Bad Request\r\n\r\n", b""],
         "sent",
         "peer - 400 28 1 sent\n",
     ),
     (
         b"GET /a HTTP/1.1\r\n\r\n",
-        &[],
+        [b"", b""],
         "memory",
         "peer /a - 0 1 memory\n",
     ),
     (
         b"GET /a HT",
-        &[],
+        [b"", b""],
         "link-fault",
         "peer /a - 0 1 link-fault\n",
     ),
-    (b"GET /a HT", &[], "sent", ""),
-    (b"", &[], "sent", ""),
+    (b"GET /a HT", [b"", b""], "sent", ""),
+    (b"", [b"", b""], "sent", ""),
 ];
 
 type Watched<'a> = WatchedLink<'a, RealLink<Peer<'a>>, Terminal>;
