@@ -95,8 +95,14 @@ def found_by(core, where, config=CONFIG, names=NAMES):
     found = Counter()
     for point in points:
         stored = [round((point[axis] - start) * unit) for axis, start in zip("XYZ", places)]
-        found[(*stored, *(point.get(name) for name in names[3:]))] += 1
+        found[(*stored, *(value_of(point, name) for name in names[3:]))] += 1
     return facts, found
+
+
+def value_of(point, name):
+    """An attribute of a point. The number of a record is in two, its lower and its upper 32 bits, where QGIS takes no whole one."""
+    low, high = point.get(name), point.get("PointIdHigh")
+    return low if name != "PointId" or high is None else low + (high << 32)
 
 
 def differences(facts, found, wanted, config=CONFIG):

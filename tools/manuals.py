@@ -28,7 +28,7 @@ PAGES = {
     "ept-alias.1": ("makes a folder of links to a dataset for a program that misreads it", [("USAGE", "tools/alias", None)]),
 }
 SYNOPSES = {
-    "ept-configure.1": "ept-configure [--scale K] [--bounds MARGIN] [--srs SYSTEM] FLIGHT.las..\n"
+    "ept-configure.1": "ept-configure [--scale K] [--bounds MARGIN] [--srs SYSTEM] [--first-classes CLASSES] [--withheld-last] FLIGHT.las..\n"
                        "ept-configure --check CONFIG\nept-configure --add CONFIG NEW.las..",
     "ept-view.1": "ept-view OUT PAGE [FROM]", "ept-points.1": "ept-points OUT las|csv|svg < POINTS > FILE",
     "ept-alias.1": "ept-alias OUT NEW --for pdal-2|qgis",

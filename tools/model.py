@@ -16,7 +16,7 @@ from pathlib import Path
 TOP = Path(__file__).resolve().parent.parent
 PROGRAM = Path(os.environ.get("EPT_TOOL", TOP / "crates/ept_tool/out/ept_tool")).absolute()
 KEYS = ["input", "scale", "offset", "bounds", "span", "minNodeSize", "maxDepth", "hierarchyStep", "srs",
-        "threads", "cacheSize", "maxNodes", "checkpoint"]
+        "firstClasses", "withheldLast", "threads", "cacheSize", "maxNodes", "checkpoint"]
 SRS_KEYS = ["authority", "horizontal", "vertical", "wkt"]
 BOUNDED = [(14, 15), (15, 15), (16, 1), (17, 1), (19, 15), (20, 3)]  # places in a packed point, and their greatest values
 LEAST_HEADER = {2: 227, 3: 235, 4: 375}
@@ -27,7 +27,7 @@ DIMENSIONS = [("Intensity", "unsigned", 2), ("ReturnNumber", "unsigned", 1), ("N
               ("ScanAngleRank", "signed", 1), ("ScanAngle", "signed", 2), ("UserData", "unsigned", 1),
               ("PointSourceId", "unsigned", 2), ("GpsTime", "float", 8), ("Red", "unsigned", 2),
               ("Green", "unsigned", 2), ("Blue", "unsigned", 2), ("OriginId", "unsigned", 4),
-              ("PointId", "unsigned", 4)]
+              ("PointId", "unsigned", 8)]
 
 
 class Refused(Exception):
@@ -125,6 +125,14 @@ def read_srs(value):
     return {key: value[key] for key in SRS_KEYS if key in value}
 
 
+def read_classes(value):
+    if not isinstance(value, list) or not all(map(is_whole, value)):
+        raise kind("firstClasses")
+    if not all(0 <= n <= 255 for n in value) or len(set(value)) < len(value):
+        raise out_of_range("firstClasses")
+    return value
+
+
 def read_config(text):
     try:
         config = json.loads(text, parse_int=whole, parse_float=lambda _: NoWhole())
@@ -153,6 +161,10 @@ def read_config(text):
     kept["maxDepth"] = number(config, "maxDepth", 0, 32, 32)
     kept["hierarchyStep"] = number(config, "hierarchyStep", 0, 32, 0)
     kept["srs"] = read_srs(config.get("srs", {}))
+    kept["firstClasses"] = read_classes(config.get("firstClasses", []))
+    kept["withheldLast"] = config.get("withheldLast", False)
+    if not isinstance(kept["withheldLast"], bool):
+        raise kind("withheldLast")
     threads = number(config, "threads", 1, 64, 4)
     cache = number(config, "cacheSize", 1, 2 ** 20, 64)
     kept["maxNodes"] = number(config, "maxNodes", 1, 2 ** 20, 65536)
@@ -227,19 +239,19 @@ def packed(point):
     return struct.pack("<iiiHBBBBBBBbhBH", *point["place"], point["intensity"], *f["returns"], f["direction"],
                        f["edge"], f["class_of"], f["class_flags"], f["channel"], f["angle_rank"], f["angle"],
                        point["user"], f["source_id"]) \
-        + f["gps"] + struct.pack("<HHHII", *f["colour"], *point["id"])
+        + f["gps"] + struct.pack("<HHHIQ", *f["colour"], *point["id"])
 
 
 def read_tile(data):
     """The points of a tile, each with its packed form; None where the bytes are no tile."""
-    if len(data) % 49:
+    if len(data) % 53:
         return None
     points = []
-    for at in range(0, len(data), 49):
-        piece = data[at:at + 49]
+    for at in range(0, len(data), 53):
+        piece = data[at:at + 53]
         if any(piece[place] > most for place, most in BOUNDED):
             return None
-        point = {"place": list(struct.unpack("<iii", piece[:12])), "id": struct.unpack("<II", piece[41:]), "packed": piece}
+        point = {"place": list(struct.unpack("<iii", piece[:12])), "id": struct.unpack("<IQ", piece[41:]), "packed": piece}
         if points and point["id"] <= points[-1]["id"]:
             return None
         points.append(point)
@@ -254,7 +266,7 @@ def scan_input(one, source, files, bounds, scale):
     if fault:
         raise Refused("error 4 las %d source %d" % (fault, source))
     header = read_header(data[:375])
-    if header["points"] >= 2 ** 32:
+    if header["points"] >= 2 ** 40:
         raise Refused("error 5 points source %d" % source)
     points = []
     for at in range(header["points"]):
@@ -297,7 +309,15 @@ def cube_of(bounds, span, max_depth):
     return bounds[:3], e, min(max_depth, e - s)
 
 
-def sample(points, bounds, span, threshold, max_depth):
+def group_of(point, first, withheld_last):
+    """Points of a lower group come first: 2 for a withheld point, and 1 more for a class that is none of the first ones."""
+    if not first and not withheld_last:
+        return 0
+    kind_of, flags = packed(point)[18:20]
+    return 2 * (withheld_last and flags >> 2 & 1) + (1 if first and kind_of not in first else 0)
+
+
+def sample(points, bounds, span, threshold, max_depth, first=(), withheld_last=False):
     """The nodes: from key to points, in order of their ids."""
     corner, e, deepest = cube_of(bounds, span, max_depth)
     s = span.bit_length() - 1
@@ -311,7 +331,7 @@ def sample(points, bounds, span, threshold, max_depth):
         for point in given:
             index = tuple((point["place"][i] - corner[i]) // cell for i in range(3))
             distance = sum((2 * (point["place"][i] - corner[i] - index[i] * cell) - cell) ** 2 for i in range(3))
-            rank = (distance,) + point["id"]
+            rank = (group_of(point, first, withheld_last), distance) + point["id"]
             if index not in best or rank < best[index][0]:
                 best[index] = (rank, point)
         winners = {point["id"] for _, point in best.values()}
@@ -378,9 +398,11 @@ def input_text(one):
 
 def field_texts(kept, bounds):
     """The members of `ept-build.json` but the inputs, in order."""
+    first = {"firstClasses": row_text(sorted(kept["firstClasses"]))} if kept["firstClasses"] else {}
+    last = {"withheldLast": "true"} if kept["withheldLast"] else {}
     return {"scale": str(kept["scale"]), "offset": row_text(kept["offset"]), "bounds": row_text(bounds),
             "span": str(kept["span"]), "minNodeSize": str(kept["minNodeSize"]), "maxDepth": str(kept["maxDepth"]),
-            "hierarchyStep": str(kept["hierarchyStep"]), "srs": srs_text(kept["srs"])}
+            "hierarchyStep": str(kept["hierarchyStep"]), "srs": srs_text(kept["srs"])} | first | last
 
 
 def build_text(kept, bounds):
@@ -423,7 +445,8 @@ def model(config, files):
         if not points and kept["bounds"] is None:
             raise Refused("error 4 nobounds")
         bounds = kept["bounds"] or extent_of(points)
-        nodes, cube = sample(points, bounds, kept["span"], kept["minNodeSize"], kept["maxDepth"])
+        nodes, cube = sample(points, bounds, kept["span"], kept["minNodeSize"], kept["maxDepth"], kept["firstClasses"],
+                             kept["withheldLast"])
         if len(nodes) > kept["maxNodes"]:
             raise Refused("error 5 nodes")
         return "points %d nodes %d" % (len(points), len(nodes)), 0, output(kept, list(map(count_of, sources)), bounds, nodes, cube)

@@ -67,10 +67,11 @@ class Folder:
         return tuple((at - least) >> (self.side - depth - self.cells) for at, least in zip(point["place"], self.corner))
 
     def rank(self, depth, point):
-        """The less, the better: how far from the centre of its cell, then by id."""
+        """The less, the better: its group, how far from the centre of its cell, then by id."""
         size = 2 ** (self.side - depth - self.cells)
         centre = [2 * least + (2 * at + 1) * size for least, at in zip(self.corner, self.cell(depth, point))]
-        return sum((2 * at - middle) ** 2 for at, middle in zip(point["place"], centre)), *point["id"]
+        far = sum((2 * at - middle) ** 2 for at, middle in zip(point["place"], centre))
+        return model.group_of(point, self.kept["firstClasses"], self.kept["withheldLast"]), far, *point["id"]
 
     def best(self, depth, points):
         """The best point of each cell."""

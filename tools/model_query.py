@@ -12,7 +12,9 @@ import re
 
 import model
 
-DONE = "ept-work/done"
+DONE = "ept-work/done-2"
+BUILD_KEYS = ["scale", "offset", "bounds", "span", "minNodeSize", "maxDepth", "hierarchyStep", "srs", "input"]
+OPTIONAL_KEYS = {"firstClasses", "withheldLast"}
 ROOT = (0, 0, 0, 0)
 WIDTHS = {"X": 4, "Y": 4, "Z": 4} | {name: size for name, _, size in model.DIMENSIONS}
 
@@ -40,8 +42,7 @@ def as_object(data):
 def read_build_json(data):
     """What `ept-build.json` says; None where no build has these very bytes."""
     value = as_object(data) if data is not None else None
-    if value is None or list(value) != ["scale", "offset", "bounds", "span", "minNodeSize", "maxDepth", "hierarchyStep", "srs",
-                                        "input"]:
+    if value is None or [key for key in value if key not in OPTIONAL_KEYS] != BUILD_KEYS:
         return None
     try:
         kept = model.read_config(json.dumps(value, default=lambda _: 0.5))

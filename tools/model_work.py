@@ -11,11 +11,13 @@ from collections import defaultdict
 import model
 from model import Refused
 
-MARK = b"EPTW" + struct.pack("<I", 1)
+NEWEST = 3
+MARKS = {b"EPTW" + struct.pack("<I", version): version for version in (1, 2, NEWEST)}
+MOST_POINTS = {1: 2 ** 32 - 1, 2: 2 ** 40 - 1, NEWEST: 2 ** 40 - 1}
 SRS_BITS = {"authority": 0, "horizontal": 1, "vertical": 2, "wkt": 3}
-FIELDS = ["scale", "offset", "bounds", "span", "minNodeSize", "maxDepth", "hierarchyStep", "srs"]
+FIELDS = ["scale", "offset", "bounds", "span", "minNodeSize", "maxDepth", "hierarchyStep", "srs", "firstClasses", "withheldLast"]
 LETTERS = "ab"
-DONE = "ept-work/done"
+DONE = "ept-work/done-2"
 
 
 class Fault(Exception):
@@ -70,12 +72,12 @@ def is_text(piece):
         return False
 
 
-def read_source(fields, scale, bounds):
+def read_source(fields, most, scale, bounds):
     """An input with its number of points and their extent."""
     one = {"path": fields.text(1, 4096), "scale": fields.number(1, 0, scale), "shift": fields.near(10 ** 15)}
     if fields.number(1, 0, 1):
         one["expect"] = fields.take(48).hex()
-    points = fields.number(8, 0, 2 ** 32 - 1)
+    points = fields.number(8, 0, most)
     there = fields.number(1, int(points > 0), int(points > 0))
     return one, (points, fields.box(bounds) if there else None)
 
@@ -88,9 +90,10 @@ def read_node(fields, deepest):
 
 
 def read_body(data):
-    """The checkpoint of a body: generation, kept, counts, inserted and nodes; or its first fault."""
+    """The checkpoint of a body: version, generation, kept, counts, inserted and nodes; or its first fault."""
     fields = Fields(data)
-    if fields.take(8) != MARK:
+    version = MARKS.get(fields.take(8))
+    if version is None:
         raise Fault("Version")
     generation = fields.number(8)
     kept = {"scale": fields.number(1, 0, 9), "span": 2 ** fields.number(1, 1, 10), "maxDepth": fields.number(1, 0, 32),
@@ -98,18 +101,21 @@ def read_body(data):
             "bounds": fields.box()}
     there = fields.number(1, 0, 15)
     kept["srs"] = {key: fields.text(0, 65536) for key, bit in SRS_BITS.items() if there >> bit & 1}
-    sources = [read_source(fields, kept["scale"], kept["bounds"]) for _ in range(fields.number(4, 1, 65535))]
+    bits = int.from_bytes(fields.take(32), "little") if version == NEWEST else 0
+    kept["firstClasses"] = [n for n in range(256) if bits >> n & 1]
+    kept["withheldLast"] = version == NEWEST and fields.number(1, 0, 1) == 1
+    sources = [read_source(fields, MOST_POINTS[version], kept["scale"], kept["bounds"]) for _ in range(fields.number(4, 1, 65535))]
     kept["input"], counts = [one for one, _ in sources], [count for _, count in sources]
     inserted = fields.number(8, 0, sum(points for points, _ in counts))
     _, _, deepest = model.cube_of(kept["bounds"], kept["span"], kept["maxDepth"])
     lines = [read_node(fields, deepest) for _ in range(fields.number(4))]
     if fields.at != len(data):
         raise Fault("Length")
-    if not 1 <= generation <= inserted + len(counts):
+    if not 1 <= generation <= inserted + len(counts) + (version > 1):
         raise Fault("Field", 8)
     if not is_tree(lines, inserted):
         raise Fault("Tree")
-    return {"generation": generation, "kept": kept, "counts": counts, "inserted": inserted, "nodes": dict(lines)}
+    return {"version": version, "generation": generation, "kept": kept, "counts": counts, "inserted": inserted, "nodes": dict(lines)}
 
 
 def masks_of(keys):
@@ -130,12 +136,15 @@ def is_tree(lines, inserted):
 
 
 def write_body(checkpoint):
-    """The body of a checkpoint."""
-    kept = checkpoint["kept"]
+    """The body of a checkpoint, of the newest version if it has none."""
+    kept, version = checkpoint["kept"], checkpoint.get("version", NEWEST)
     text = lambda value: struct.pack("<I", len(value.encode())) + value.encode()
-    out = MARK + struct.pack("<QBBBBI3q6i", checkpoint["generation"], kept["scale"], kept["span"].bit_length() - 1, kept["maxDepth"],
+    out = b"EPTW" + struct.pack("<I", version)
+    out += struct.pack("<QBBBBI3q6i", checkpoint["generation"], kept["scale"], kept["span"].bit_length() - 1, kept["maxDepth"],
                              kept["hierarchyStep"], kept["minNodeSize"], *kept["offset"], *kept["bounds"])
     out += bytes([sum(1 << SRS_BITS[key] for key in kept["srs"])]) + b"".join(text(kept["srs"][key]) for key in SRS_BITS if key in kept["srs"])
+    if version == NEWEST:
+        out += sum(1 << n for n in kept["firstClasses"]).to_bytes(32, "little") + bytes([kept["withheldLast"]])
     out += struct.pack("<I", len(kept["input"]))
     for one, (points, box) in zip(kept["input"], checkpoint["counts"]):
         out += text(one["path"]) + struct.pack("<B3q", one["scale"], *one["shift"])
@@ -164,14 +173,17 @@ def has_checkpoints(names):
 
 
 def current(files):
-    """The letter and the current checkpoint, or None; a counted body that is none is refused."""
+    """The letter and the current checkpoint, or None; a counted body that is none, or has tiles of the old layout, is refused."""
     found = []
     for letter in LETTERS:
         if files.get("ept-work/gate-" + letter) == b"\1":
             try:
-                found.append((read_body(files.get("ept-work/body-" + letter, b"")), letter))
+                checkpoint = read_body(files.get("ept-work/body-" + letter, b""))
             except Fault:
+                checkpoint = None
+            if checkpoint is None or checkpoint["version"] == 1:
                 raise Refused("error 8 checkpoint " + letter)
+            found.append((checkpoint, letter))
     if len(found) == 2 and found[0][0]["generation"] == found[1][0]["generation"]:
         raise Refused("error 8 checkpoint b")
     return max(found, key=lambda one: one[0]["generation"])[::-1] if found else None
@@ -208,7 +220,9 @@ def losers_of(points, kept, key, low, side):
     for point in points:
         index = tuple((point["place"][i] - low[i]) // cell for i in range(3))
         distance = sum((2 * (point["place"][i] - low[i] - index[i] * cell) - cell) ** 2 for i in range(3))
-        best[index] = min(best.get(index, ((distance,) + point["id"], point)), ((distance,) + point["id"], point), key=lambda one: one[0])
+        group = model.group_of(point, kept["firstClasses"], kept["withheldLast"])
+        one = (group, distance) + point["id"], point
+        best[index] = min(best.get(index, one), one, key=lambda other: other[0])
     winners = {point["id"] for _, point in best.values()}
     for point in points:
         if point["id"] not in winners:
@@ -219,7 +233,8 @@ def losers_of(points, kept, key, low, side):
 
 def sampled(kept, points):
     """The nodes of the sampling, by what is kept of a configuration."""
-    return model.sample(points, kept["bounds"], kept["span"], kept["minNodeSize"], kept["maxDepth"])
+    return model.sample(points, kept["bounds"], kept["span"], kept["minNodeSize"], kept["maxDepth"], kept["firstClasses"],
+                        kept["withheldLast"])
 
 
 def lines_of(nodes):
@@ -281,7 +296,7 @@ def differing(kept, given):
     """The first field in which a configuration differs from what is kept, or None."""
     ours, theirs = model.field_texts(kept, kept["bounds"]), model.field_texts(given, given["bounds"] or kept["bounds"])
     for field in FIELDS:
-        if ours[field] != theirs[field]:
+        if ours.get(field) != theirs.get(field):
             return field
     is_front = list(map(model.input_text, given["input"][:len(kept["input"])])) == list(map(model.input_text, kept["input"]))
     return None if is_front else "input"

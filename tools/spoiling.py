@@ -11,8 +11,8 @@ import model
 import model_check
 import model_query
 
-LENGTH = 49
-ORIGIN, NUMBER = slice(41, 45), slice(45, 49)
+LENGTH = 53
+ORIGIN, NUMBER = slice(41, 45), slice(45, 53)
 
 
 # ---- what a folder has
@@ -85,7 +85,7 @@ def flip_bit(lot, files):
         return {}
     name = tile_name(lot.choice(keys))
     data = bytearray(files[name])
-    at = lot.randrange(len(data) // LENGTH) * LENGTH + lot.choice([lot.randrange(LENGTH), lot.randrange(12), lot.randrange(41, 49)])
+    at = lot.randrange(len(data) // LENGTH) * LENGTH + lot.choice([lot.randrange(LENGTH), lot.randrange(12), lot.randrange(41, LENGTH)])
     data[at] ^= 1 << lot.randrange(8)
     return {name: bytes(data)}
 
@@ -214,7 +214,7 @@ def add_key(lot, files):
     if key in keys_of(files) or key[0] > deepest and lot.random() < 0.9:
         return {}
     least = [at + axis * 2 ** max(side - key[0], 0) for at, axis in zip(corner, key[1:])]
-    one = b"".join((at % 2 ** 32).to_bytes(4, "little") for at in least) + bytes(29) + (2 ** 32 - 1).to_bytes(4, "little") * 2
+    one = b"".join((at % 2 ** 32).to_bytes(4, "little") for at in least) + bytes(29) + b"\xff" * 12
     points, left = lot.choice([([], points_of(files, top)), (points_of(files, top), []), ([one], points_of(files, top))])
     counts = counts_of(files) | {key: len(points), top: len(left)}
     return recounted(files, counts) | {tile_name(key): tile_of(points), tile_name(top): tile_of(left)}
@@ -231,6 +231,16 @@ def change_number(lot, files):
     begin, end = lot.choice([found.span() for found in re.finditer(r"-?\d+", text)])
     number = int(text[begin:end])
     return {"ept-build.json": (text[:begin] + str(lot.choice([number + 1, number - 1, -number, 2 * number])) + text[end:]).encode()}
+
+
+def change_precedence(lot, files):
+    """Other classes that come first in `ept-build.json`, or withheld points last or not; now and then in no form of a build's."""
+    text = files["ept-build.json"].decode()
+    first = lot.choice([[], [], [2], [0, 255], sorted(lot.sample(range(256), lot.choice([1, 5, 128, 256]))), [3, 2], [2, 2], [256], [-1], [2.0]])
+    members = "" if not first and lot.random() < 0.9 else ',"firstClasses":%s' % json.dumps(first, separators=(",", ":"))
+    members += lot.choice(["", "", ',"withheldLast":true', ',"withheldLast":true', ',"withheldLast":false', ',"withheldLast":1'])
+    plain = re.sub(r',"firstClasses":\[[\d,]*\]', "", text.replace(',"withheldLast":true', "", 1), count=1)
+    return {"ept-build.json": plain.replace(',"input":[', members + ',"input":[', 1).encode()}
 
 
 def repeat_id(lot, files):
@@ -274,7 +284,7 @@ def lose_file(lot, files):
     """A file of the output that is absent, cut or longer."""
     name = lot.choice(lot.choice([[name for name in files if name.startswith(front)] or ["ept-build.json"]
                                   for front in ("ept-data/", "ept-hierarchy/", "ept-build.json", model_query.DONE)]))
-    return {name: lot.choice([None, files[name][:-1], files[name] + b"0", files[name] + files[name][-49:]])}
+    return {name: lot.choice([None, files[name][:-1], files[name] + b"0", files[name] + files[name][-LENGTH:]])}
 
 
 def leave(lot, files):
@@ -283,7 +293,7 @@ def leave(lot, files):
 
 
 WAYS = [flip_bit, move_point, drop_point, empty_tile, exchange_tiles, exchange_points, sink_winner, fold_node, change_count, remove_key, add_key,
-        change_number, repeat_id, repeat_point, move_far, lose_file, leave]
+        change_number, change_precedence, repeat_id, repeat_point, move_far, lose_file, leave]
 
 
 def spoil(lot, files):

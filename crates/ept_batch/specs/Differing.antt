@@ -21,12 +21,14 @@ IsAsKept kept given field.MinNodeSize = given.threshold ≡ kept.threshold
 IsAsKept kept given field.MaxDepth = given.max_depth ≡ kept.max_depth
 IsAsKept kept given field.HierarchyStep = given.step ≡ kept.step
 IsAsKept kept given field.Srs = given.srs ≡ kept.srs
+IsAsKept kept given field.FirstClasses = given.first ≡ kept.first
+IsAsKept kept given field.WithheldLast = given.withheld_last ≡ kept.withheld_last
 IsAsKept kept given field.Input = ArePrefix kept.inputs given.inputs
 
 -- the order in which fields are compared
 abbrev pub in_order : List Field
 in_order =
-    field.Scale ∷ field.Offset ∷ field.Bounds ∷ field.Span ∷ field.MinNodeSize ∷ field.MaxDepth ∷ field.HierarchyStep ∷ field.Srs ∷ field.Input ∷ []
+    field.Scale ∷ field.Offset ∷ field.Bounds ∷ field.Span ∷ field.MinNodeSize ∷ field.MaxDepth ∷ field.HierarchyStep ∷ field.Srs ∷ field.FirstClasses ∷ field.WithheldLast ∷ field.Input ∷ []
 
 -- nothing differs: the inputs may be more than those kept
 abbrev pub GoesOnFrom : Kept → Kept → Type 0

@@ -3,14 +3,14 @@
 ghost use Rattle.std.specs.Prelude.{◌≡◌, ◌↔◌, [], IsTrue, Ok, None, IfOk, IfSome, OnOk};
 ghost use Rattle.ept_batch.specs.Differing.{ArePrefix, IsAsKept, GoesOnFrom, IsFirst, AreTexts, AreInputTexts, IsDifference};
 
-use crate::equal::{alike, is_prefix, is_same_bounds, is_same_offset, is_same_srs};
+use crate::equal::{alike, is_prefix, is_same_bounds, is_same_offset, is_same_set, is_same_srs};
 use ept_config::{Input, Kept};
 use ept_meta::{Field, field_json, input_json};
 use ept_point::Memory;
 use std::alloc::Global;
 
 // The fields in the order in which they are compared.
-const FIELDS: [Field; 9] = [
+const FIELDS: [Field; 11] = [
     Field::Scale,
     Field::Offset,
     Field::Bounds,
@@ -19,6 +19,8 @@ const FIELDS: [Field; 9] = [
     Field::MaxDepth,
     Field::HierarchyStep,
     Field::Srs,
+    Field::FirstClasses,
+    Field::WithheldLast,
     Field::Input,
 ];
 
@@ -74,6 +76,8 @@ fn is_as_kept(kept: &Kept, given: &Kept, field: Field) -> bool
         Field::MaxDepth => given.max_depth == kept.max_depth,
         Field::HierarchyStep => given.step == kept.step,
         Field::Srs => is_same_srs(&kept.srs, &given.srs),
+        Field::FirstClasses => is_same_set(&kept.first, &given.first),
+        Field::WithheldLast => given.withheld_last == kept.withheld_last,
         Field::Input => is_prefix(kept.inputs.as_slice(), given.inputs.as_slice()),
     }
 }

@@ -4,6 +4,7 @@ ghost use Rattle.std.specs.Prelude.{◌≡◌, ◌↔◌, IsTrue};
 ghost use Rattle.ept_batch.specs.Differing.{ArePrefix};
 ghost use Rattle.ept_batch.specs.Alike.{AreAlikeTo};
 
+use ept_class::ClassSet;
 use ept_config::{EXPECT_WIDTH, Input, Srs};
 use ept_point::Text;
 use ept_space::Bounds;
@@ -56,6 +57,13 @@ fn is_same_corner(a: &[i32; 3], b: &[i32; 3]) -> bool
     ensures { IsTrue result ↔ (b.now ≡ a.now) }
 {
     b == a
+}
+
+/// Whether two sets of classes are the same.
+pub(crate) fn is_same_set(a: &ClassSet, b: &ClassSet) -> bool
+    ensures { IsTrue result ↔ (b.now ≡ a.now) }
+{
+    b.bytes == a.bytes
 }
 
 /// Whether bounds are the same.

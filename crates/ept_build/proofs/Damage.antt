@@ -7,6 +7,7 @@ use Rattle.ept_sample.specs.Members.{IsMember}
 use Rattle.ept_ckpt.specs.declared.node_line.NodeLine.{NodeLine}
 use Rattle.ept_ckpt.specs.Lookup.{line_of_key}
 use Rattle.ept_meta.specs.Output.{rules_of}
+use Rattle.ept_ckpt.specs.Versions.{layout_of}
 use Rattle.ept_save.specs.Current.{Current, HasCurrent, Keeps, tile_of_line}
 use Rattle.ept_config.specs.declared.config.Config.{Config}
 use Rattle.ept_save.specs.Done.{IsDone}
@@ -17,7 +18,7 @@ use Rattle.ept_save.specs.View.{View, StandsFor}
 use Rattle.ept_save.specs.declared.error.SaveError.{SaveError}
 use Rattle.ept_save.specs.declared.error.SaveError.TheVariants as save
 use Rattle.ept_phase.specs.Loaded.{AreIntact, HasSlot, IsFirstDamaged}
-use Rattle.ept_phase.proofs.Undamaged.{damaged-before}
+use Rattle.ept_save.proofs.DamagedTiles.{damaged-before}
 use Rattle.ept_plan.specs.Plans.{inputs_by}
 use Rattle.ept_build.specs.declared.error.BuildError.{BuildError}
 use Rattle.ept_build.specs.declared.error.BuildError.TheVariants.{StoreFault, BadCheckpoint, TileDamaged, Differs, SourceFault, BadLas, OutOfBounds, TooManyPoints, NoBounds, SourceChanged, SpillFault, SpillDamaged, TooManyNodes, Memory}
@@ -61,7 +62,7 @@ pub damaged-line : (current : Current) (key : VoxelKey) (files : Files) → IsDa
 damaged-line None key files is = absurd is
 damaged-line (Some (letter, c)) key files is = at (line_of_key c.nodes key) is
   where
-    at : (found : Option NodeLine) → IsSomeAnd found (λ line. IsDamagedLine (rules_of c.kept) line files) → IsSome found
+    at : (found : Option NodeLine) → IsSomeAnd found (λ line. IsDamagedLine (layout_of c.version) (rules_of c.kept) line files) → IsSome found
     at None is = absurd is
     at (Some line) is = refl
 

@@ -20,6 +20,8 @@ use Rattle.ept_ckpt.specs.declared.checkpoint.Checkpoint.{Checkpoint}
 use Rattle.ept_table.specs.Octree.{Branch, tile_of, AreSampled}
 use Rattle.ept_meta.specs.Output.{File, IsOutput, IsOutputName, EachIsOutsideWork, AreCountsOf, rules_of, names_of, files_of, output}
 use Rattle.ept_meta.specs.OutputLaws.{OutputIsOne, FilesHaveOutputNames}
+use Rattle.ept_point.specs.declared.layout.Layout.TheVariants.{New}
+use Rattle.ept_ckpt.specs.Versions.{layout_of}
 use Rattle.ept_save.specs.Names.{gate_name, body_name, done_name, IsSavedName}
 use Rattle.ept_save.specs.Current.{Current, HasCurrent}
 use Rattle.ept_save.specs.Complete.{HasAllOf, IsComplete}
@@ -53,7 +55,7 @@ extent-of shelf plan points extent scan found = subst (λ (w : List Point). HasE
 all_at : {X : Type 0} (P : X → Type 0) (xs : List X) (x : X) → All P xs → Contains xs x → P x
 all_at P xs x every among = subst P among.2 (every among.0 x among.1)
 
-module _ (one_output : OutputIsOne) (have_names : FilesHaveOutputNames) (outside : EachIsOutsideWork) (there : OutputIsThere) (putting : PuttingKeepsSound) (guarding : GuardingKeepsSound) (shelf : Files) (plan : Plan) (points : List Point) (out : List File) (are : AreOfShelf shelf plan points out) (number : length points ≡ plan.points) (extent : Option Bounds) (has_extent : HasExtent points extent) (nodes : List Branch) (sampled_nodes : AreSampled (rules_of plan.kept) points nodes) (letter : Letter) (c : Checkpoint) (is_of : IsOf plan (Some (letter, c))) (all_in : c.inserted ≡ plan.points) where
+module _ (one_output : OutputIsOne) (have_names : FilesHaveOutputNames) (outside : EachIsOutsideWork) (there : OutputIsThere) (putting : PuttingKeepsSound) (guarding : GuardingKeepsSound) (shelf : Files) (plan : Plan) (points : List Point) (out : List File) (are : AreOfShelf shelf plan points out) (number : length points ≡ plan.points) (extent : Option Bounds) (has_extent : HasExtent points extent) (nodes : List Branch) (sampled_nodes : AreSampled (rules_of plan.kept) points nodes) (letter : Letter) (c : Checkpoint) (is_of : IsOf plan (Some (letter, c))) (all_in : c.inserted ≡ plan.points) (newest : layout_of c.version ≡ New) where
   abbrev current : Current
   current = Some (letter, c)
 
@@ -111,7 +113,7 @@ module _ (one_output : OutputIsOne) (have_names : FilesHaveOutputNames) (outside
       change = its_change old new named
 
   pub published : (old now : Files) → PutsAll put_files old now → IsPublished shelf current now
-  published old now puts = (points, out, scan, is_output, record { inserted = all_in ∙ sym number; there = all_there })
+  published old now puts = (points, out, scan, is_output, record { inserted = all_in ∙ sym number; newest = newest; there = all_there })
     where
       all_there : HasAllOf out now
       all_there = subst (λ (w : List File). HasAllOf w now) out_is (there plan.kept plan.counts extent points old now are.can (subst (λ (w : List File). PutsAll w old now) is_its puts))

@@ -16,6 +16,7 @@ use Rattle.ept_ckpt.specs.declared.letter.Letter.{Letter}
 use Rattle.ept_ckpt.specs.declared.checkpoint.Checkpoint.{Checkpoint}
 use Rattle.ept_meta.specs.Output.{rules_of}
 use Rattle.ept_node.specs.Shown.{IsTelling}
+use Rattle.ept_ckpt.specs.Versions.{layout_of}
 use Rattle.ept_save.specs.Names.{gate_name, body_name}
 use Rattle.ept_save.specs.Current.{Current, HasCurrent}
 use Rattle.ept_save.specs.Done.{IsDone}
@@ -54,7 +55,7 @@ module _ (same_sound : SameIsSound) (complete : DoneIsComplete) (all start now :
       let its = sound-at all now (Some (letter, c)) has_now sound in
       let same : its.0 ≡ points = scan_once all c.kept.scale (Some c.kept.bounds) c.kept.inputs 0 its.0 points _ _ its.1.scan scan in
       let whole : take c.inserted its.0 ≡ points = ap (take c.inserted) same ∙ all-front points c.inserted (sym it.2) in
-      let lines : length c.nodes ≡ length (sampled (rules_of c.kept) (take c.inserted its.0)) = lines-number (IsSavedAs now) (sampled (rules_of c.kept) (take c.inserted its.0)) c.nodes its.1.nodes in
+      let lines : length c.nodes ≡ length (sampled (rules_of c.kept) (take c.inserted its.0)) = lines-number (IsSavedAs (layout_of c.version) now) (sampled (rules_of c.kept) (take c.inserted its.0)) c.nodes its.1.nodes in
       record {
         current = Some (letter, c);
         has_current = has;

@@ -29,6 +29,7 @@ use Rattle.ept_ckpt.specs.declared.checkpoint.Checkpoint.{Checkpoint}
 use Rattle.ept_table.specs.Octree.{Branch, AreSampled}
 use Rattle.ept_meta.specs.Output.{File, IsOutput, rules_of, names_of, output}
 use Rattle.ept_meta.specs.OutputLaws.{OutputIsOne, PointsCanBeSampled, NamesGrow}
+use Rattle.ept_ckpt.specs.Versions.{layout_of}
 use Rattle.ept_save.specs.Current.{Current, HasCurrent}
 use Rattle.ept_save.specs.Sound.{HasPointsOf, IsSavedAs, IsSoundFor, IsSound}
 use Rattle.ept_save.specs.SoundLaws.{HasNamesOf}
@@ -81,9 +82,9 @@ has-counts shelf start config current plan scans has sound =
     (it.0, plan.kept.bounds, it.1)
 
 -- of a store that tells, the tiles of the checkpoint are those at the start
-told-tiles : (current : Current) (nodes : List Branch) (files : Option Files) (start : Files) → files ≡ Some start → OfCurrent current (λ (c : Checkpoint). Tells (λ all. NameTiles all nodes c.nodes) files) → OfCurrent current (λ (c : Checkpoint). NameTiles start nodes c.nodes)
+told-tiles : (current : Current) (nodes : List Branch) (files : Option Files) (start : Files) → files ≡ Some start → OfCurrent current (λ (c : Checkpoint). Tells (λ all. NameTiles (layout_of c.version) all nodes c.nodes) files) → OfCurrent current (λ (c : Checkpoint). NameTiles (layout_of c.version) start nodes c.nodes)
 told-tiles None nodes files start told of = tt
-told-tiles (Some (letter, c)) nodes files start told of = told_some (λ (all : Files). NameTiles all nodes c.nodes) files start told of
+told-tiles (Some (letter, c)) nodes files start told of = told_some (λ (all : Files). NameTiles (layout_of c.version) all nodes c.nodes) files start told of
 
 -- The points of all inputs and their output, and what is known of the octree that was loaded.
 pub record IsGround (shelf start : Files) (config : Config) (current : Current) (plan : Plan) (extent : Option Bounds) : Type 0 where
@@ -176,10 +177,10 @@ module _ (one_output : OutputIsOne) (can_be : PointsCanBeSampled) (grow : NamesG
 
   -- ---- the nodes that are loaded
 
-  loaded-sampled : (nodes : List Branch) → OfCurrent current (λ (c : Checkpoint). TellNodes nodes c.nodes) → OfCurrent current (λ (c : Checkpoint). NameTiles start nodes c.nodes) → (current ≡ None → AreSampled (rules_of plan.kept) [] nodes) → AreSampled (rules_of plan.kept) (take plan.inserted points) nodes
+  loaded-sampled : (nodes : List Branch) → OfCurrent current (λ (c : Checkpoint). TellNodes nodes c.nodes) → OfCurrent current (λ (c : Checkpoint). NameTiles (layout_of c.version) start nodes c.nodes) → (current ≡ None → AreSampled (rules_of plan.kept) [] nodes) → AreSampled (rules_of plan.kept) (take plan.inserted points) nodes
   loaded-sampled nodes told tiles begun = at current refl its is.rules_stay told tiles
     where
-      at : (now : Current) → current ≡ now → IsSoundFor shelf start now → plans.RulesStay now plan.kept → OfCurrent now (λ (c : Checkpoint). TellNodes nodes c.nodes) → OfCurrent now (λ (c : Checkpoint). NameTiles start nodes c.nodes) → AreSampled (rules_of plan.kept) (take plan.inserted points) nodes
+      at : (now : Current) → current ≡ now → IsSoundFor shelf start now → plans.RulesStay now plan.kept → OfCurrent now (λ (c : Checkpoint). TellNodes nodes c.nodes) → OfCurrent now (λ (c : Checkpoint). NameTiles (layout_of c.version) start nodes c.nodes) → AreSampled (rules_of plan.kept) (take plan.inserted points) nodes
       at None same so stay told tiles =
           let none : plan.inserted ≡ 0 = is.inserted_is ∙ ap inserted_by same in
           subst (λ (n : ℕ). AreSampled (rules_of plan.kept) (take n points) nodes) (sym none) (begun same)
@@ -192,8 +193,8 @@ module _ (one_output : OutputIsOne) (can_be : PointsCanBeSampled) (grow : NamesG
           let fronts : take c.inserted first ≡ take c.inserted points = ap (take c.inserted) (sym front) ∙ take-take c.inserted (length first) points most in
           let can_first : CanBeSampled (rules_of c.kept) (take c.inserted first) =
           subst (λ (w : List Point). CanBeSampled (rules_of c.kept) w) (sym fronts) (can-front (rules_of c.kept) c.inserted points (subst (λ (r : Rules). CanBeSampled r points) stay.0 can)) in
-          let zip = subst (λ (w : List Point). AllZip (IsSavedAs start) (sampled (rules_of c.kept) (take c.inserted w)) c.nodes) alike so.1.nodes in
-          let are_nodes : AreSampled (rules_of c.kept) (take c.inserted first) nodes = loaded (rules_of c.kept) start (take c.inserted first) nodes c.nodes can_first told tiles c.is_checkpoint.nodes_are.octree zip in
+          let zip = subst (λ (w : List Point). AllZip (IsSavedAs (layout_of c.version) start) (sampled (rules_of c.kept) (take c.inserted w)) c.nodes) alike so.1.nodes in
+          let are_nodes : AreSampled (rules_of c.kept) (take c.inserted first) nodes = loaded (layout_of c.version) (rules_of c.kept) start (take c.inserted first) nodes c.nodes can_first told tiles c.is_checkpoint.nodes_are.octree zip in
           subst (λ (n : ℕ). AreSampled (rules_of plan.kept) (take n points) nodes) (sym inserted)
           (subst (λ (w : List Point). AreSampled (rules_of plan.kept) w nodes) fronts
           (subst (λ (r : Rules). AreSampled r (take c.inserted first) nodes) (sym stay.0) are_nodes))
@@ -211,7 +212,7 @@ module _ (one_output : OutputIsOne) (can_be : PointsCanBeSampled) (grow : NamesG
           let size : length first ≡ total c.counts = kept-number shelf c.kept c.counts first mine in
           let most : c.inserted ≤ length first = omega (arith, c.is_checkpoint.inserted_most, size) in
           let fronts : take c.inserted so.0 ≡ take plan.inserted points = ap (take c.inserted) (alike ∙ sym front) ∙ (take-take c.inserted (length first) points most ∙ ap (λ (n : ℕ). take n points) (sym inserted)) in
-          let zip = lines-number (IsSavedAs start) (sampled (rules_of c.kept) (take c.inserted so.0)) c.nodes so.1.nodes in
+          let zip = lines-number (IsSavedAs (layout_of c.version) start) (sampled (rules_of c.kept) (take c.inserted so.0)) c.nodes so.1.nodes in
           let there : length (sampled (rules_of c.kept) (take c.inserted so.0)) ≡ length (sampled (rules_of plan.kept) (take plan.inserted points)) =
           ap (λ (w : List Point). length (sampled (rules_of c.kept) w)) fronts ∙ ap (λ (r : Rules). length (sampled r (take plan.inserted points))) (sym stay.0) in
           omega (arith, zip, there)

@@ -15,6 +15,9 @@ use Rattle.ept_ckpt.specs.declared.checkpoint.Checkpoint.{Checkpoint}
 use Rattle.ept_table.specs.Octree.{Branch, AreSampled}
 use Rattle.ept_meta.specs.Output.{File, IsOutput, rules_of, names_of}
 use Rattle.ept_meta.specs.OutputLaws.{OutputIsOne}
+use Rattle.ept_point.specs.declared.layout.Layout.{Layout}
+use Rattle.ept_point.specs.declared.layout.Layout.TheVariants.{New}
+use Rattle.ept_ckpt.specs.Versions.{layout_of}
 use Rattle.ept_save.specs.Names.{done_name}
 use Rattle.ept_save.specs.Current.{Current, HasCurrent, Keeps}
 use Rattle.ept_save.specs.Sound.{HasPointsOf, IsSavedAs, IsSaved, IsSound}
@@ -42,12 +45,13 @@ module _ (saved : SampledIsSaved) (keeping : KeepingKeepsSound) (committing : Co
   next_saved files next =
       let c : Checkpoint = next.next in
       let is : IsNext view plan.kept plan.counts inserted nodes c = next.is_next in
-      let lines : AllZip (IsSavedAs files) (sampled (rules_of plan.kept) (take inserted points)) c.nodes = saved (rules_of plan.kept) files (take inserted points) nodes c.nodes sampled_nodes is.told next.tiles in
+      let lines : AllZip (IsSavedAs New files) (sampled (rules_of plan.kept) (take inserted points)) c.nodes = saved New (rules_of plan.kept) files (take inserted points) nodes c.nodes sampled_nodes is.told next.tiles in
       record {
         scan = scan-of shelf plan points c is.kept_is is.counts_are are.scan;
         nodes =
-            subst (λ (k : Kept). AllZip (IsSavedAs files) (sampled (rules_of k) (take c.inserted points)) c.nodes) (sym is.kept_is)
-            (subst (λ (n : ℕ). AllZip (IsSavedAs files) (sampled (rules_of plan.kept) (take n points)) c.nodes) (sym is.inserted_is) lines);
+            subst (λ (k : Kept). AllZip (IsSavedAs (layout_of c.version) files) (sampled (rules_of k) (take c.inserted points)) c.nodes) (sym is.kept_is)
+            (subst (λ (n : ℕ). AllZip (IsSavedAs (layout_of c.version) files) (sampled (rules_of plan.kept) (take n points)) c.nodes) (sym is.inserted_is)
+            (subst (λ (layout : Layout). AllZip (IsSavedAs layout files) (sampled (rules_of plan.kept) (take inserted points)) c.nodes) (sym is.newest) lines));
       }
 
   pub goes-sound : (old new : Files) → HasCurrent view.current old → IsSoundUndone shelf old → GoesOn view plan.kept plan.counts inserted nodes old new → IsSoundUndone shelf new

@@ -24,6 +24,10 @@ use Rattle.ept_octree.specs.Octree as tree
 use Rattle.ept_insert.specs.Between.{StandsBetween, FilesTell}
 use Rattle.ept_scan.specs.declared.second_reading.Reader.{Reader}
 use Rattle.ept_meta.specs.Output.{rules_of}
+use Rattle.ept_point.specs.declared.layout.Layout.TheVariants.{Old}
+use Rattle.ept_ckpt.specs.Versions.{layout_of}
+use Rattle.ept_save.specs.Tiles.{IsOfLayout}
+use Rattle.ept_save.proofs.TileFiles.{not-old}
 use Rattle.ept_save.specs.Current.{Current}
 use Rattle.ept_save.specs.Opening.{lines_of}
 use Rattle.ept_save.specs.View.{View, next_letter}
@@ -99,6 +103,9 @@ module _ (plan : Plan) (old new : View) (inserted : ℕ) (nodes : List Branch) (
   pub saved-inputs : inputs_by new.current ≡ length plan.kept.inputs
   saved-inputs = ap inputs_by now ∙ ap (λ (k : Kept). length k.inputs) saved.is_next.kept_is
 
+  pub saved-newest : ¬ IsOfLayout Old new.current
+  saved-newest = subst (λ (c : Current). ¬ IsOfLayout Old c) (sym now) (not-old (layout_of saved.next.version) saved.is_next.newest)
+
   pub saved-of : IsOf plan new.current
   saved-of = subst (IsOf plan) (sym now) (saved.is_next.kept_is, saved.is_next.counts_are)
 
@@ -145,6 +152,7 @@ next-tree held faults keeps plan inserted grown next old new own whole number no
   unbroken = unbroken;
   number = ap (λ (w : List Branch). length (points_in w)) nodes ∙ number;
   fresh = saved-fresh plan old new inserted (tree.nodes_of held grown) saved;
+  newest = saved-newest plan old new inserted (tree.nodes_of held grown) saved;
   each = subst (λ (w : List Branch). HasEachNodeOf new.current w) (sym nodes) (saved-each plan old new inserted (tree.nodes_of held grown) saved);
   by_checkpoint = saved-inserted plan old new inserted (tree.nodes_of held grown) saved;
   inputs_least = omega (arith, saved-inputs plan old new inserted (tree.nodes_of held grown) saved);

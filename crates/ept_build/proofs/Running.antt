@@ -8,6 +8,8 @@ use Rattle.ept_save.specs.Current.{Current, HasCurrent}
 use Rattle.ept_save.specs.Done.{IsDone, IsGuarded, Guards}
 use Rattle.ept_save.specs.Sound.{IsSound}
 use Rattle.ept_save.specs.SoundLaws.{SameIsSound, DoneIsPublished, GuardingKeepsSound}
+use Rattle.ept_point.specs.declared.layout.Layout.TheVariants.{Old}
+use Rattle.ept_save.specs.Tiles.{IsOfLayout}
 use Rattle.ept_save.specs.View.{View}
 use Rattle.ept_save.proofs.Keeping.{has_current-same}
 use Rattle.ept_save.proofs.NamesDiffer.{done-gate, done-body}
@@ -100,8 +102,8 @@ pub few-lines : (max slots lines nodes : ℕ) → (slots < lines → slots ≡ m
 few-lines max slots lines nodes all many few = omega (arith, all many, many, few)
 
 -- the octree that was loaded is that of the plan
-pub tree-loaded : {F : Type 0} (held : F → Option (List ℕ)) (faults keeps : F → ℕ) (plan : Plan) (inserted : ℕ) (view : View) (old new : Octree F) → IsBegun held faults keeps plan inserted old view → tree.rules_of new ≡ tree.rules_of old → tree.IsWhole held new → tree.IsLinked held new → tree.AgreesWithFiles held faults keeps new → tree.IsUnbroken new → OfCurrent view.current (λ (c : Checkpoint). TellNodes (tree.nodes_of held new) c.nodes) → (view.current ≡ None → tree.nodes_of held new ≡ tree.nodes_of held old) → IsTreeOf held faults keeps plan inserted new view
-tree-loaded held faults keeps plan inserted view old new is own whole linked agrees unbroken told begun = record {
+pub tree-loaded : {F : Type 0} (held : F → Option (List ℕ)) (faults keeps : F → ℕ) (plan : Plan) (inserted : ℕ) (view : View) (old new : Octree F) → ¬ IsOfLayout Old view.current → IsBegun held faults keeps plan inserted old view → tree.rules_of new ≡ tree.rules_of old → tree.IsWhole held new → tree.IsLinked held new → tree.AgreesWithFiles held faults keeps new → tree.IsUnbroken new → OfCurrent view.current (λ (c : Checkpoint). TellNodes (tree.nodes_of held new) c.nodes) → (view.current ≡ None → tree.nodes_of held new ≡ tree.nodes_of held old) → IsTreeOf held faults keeps plan inserted new view
+tree-loaded held faults keeps plan inserted view old new newest is own whole linked agrees unbroken told begun = record {
   rules = own ∙ is.rules;
   whole = whole;
   linked = linked;
@@ -109,6 +111,7 @@ tree-loaded held faults keeps plan inserted view old new is own whole linked agr
   unbroken = unbroken;
   number = number view.current refl told;
   fresh = is.fresh;
+  newest = newest;
   each = each view.current told;
   by_checkpoint = is.by_checkpoint;
   inputs_least = is.inputs_least;

@@ -27,8 +27,11 @@ use Rattle.ept_save.specs.Loading.{HasLine, IsDamaged}
 use Rattle.ept_save.specs.Opening.{lines_of}
 use Rattle.ept_save.specs.Sound.{IsSound}
 use Rattle.ept_save.specs.SoundLaws.{HasNamesOf}
+use Rattle.ept_save.specs.Tiles.{IsOfLayout}
 use Rattle.ept_save.specs.View.{View, StandsFor}
+use Rattle.ept_point.specs.declared.layout.Layout.TheVariants.{Old}
 use Rattle.ept_ckpt.specs.declared.checkpoint.Checkpoint.{Checkpoint}
+use Rattle.ept_ckpt.specs.Versions.{layout_of}
 use Rattle.ept_phase.specs.Lines.{TellNodes, NameTiles}
 use Rattle.ept_phase.specs.Loaded.{OfCurrent}
 use Rattle.ept_phase.specs.Saving.{HasEachNodeOf}
@@ -68,7 +71,7 @@ pub record IsBegun {F : Type 0} (held : F → Option (List ℕ)) (faults keeps :
   pub by_checkpoint : inserted_by view.current ≡ inserted
   pub inputs_least : inputs_by view.current ≤ length plan.kept.inputs
 
--- The octree is a whole one of so many points, under the rules that are kept, none of its nodes is broken, and each agrees with its file. It has each node of the checkpoint, which has as many points inserted.
+-- The octree is a whole one of so many points, under the rules that are kept, none of its nodes is broken, and each agrees with its file. It has each node of the checkpoint, which has as many points inserted, and no tiles of the old layout.
 pub record IsTreeOf {F : Type 0} (held : F → Option (List ℕ)) (faults keeps : F → ℕ) (plan : Plan) (inserted : ℕ) (octree : Octree F) (view : View) : Type 0 where
   pub rules : tree.rules_of octree ≡ rules_of plan.kept
   pub whole : tree.IsWhole held octree
@@ -77,14 +80,15 @@ pub record IsTreeOf {F : Type 0} (held : F → Option (List ℕ)) (faults keeps 
   pub unbroken : tree.IsUnbroken octree
   pub number : length (tree.points_of held octree) ≡ inserted
   pub fresh : view.lines ≡ lines_of view.current
+  pub newest : ¬ IsOfLayout Old view.current
   pub each : HasEachNodeOf view.current (tree.nodes_of held octree)
   pub by_checkpoint : inserted_by view.current ≡ inserted
   pub inputs_least : inputs_by view.current ≤ length plan.kept.inputs
 
--- The nodes are those of the checkpoint: its lines tell of them, and name their tiles. Where there is none, they are those of no points.
+-- The nodes are those of the checkpoint: its lines tell of them, and name their tiles, in its layout. Where there is none, they are those of no points.
 pub record AreLoaded (plan : Plan) (current : Current) (nodes : List Branch) (files : Option Files) : Type 0 where
   pub told : OfCurrent current (λ (c : Checkpoint). TellNodes nodes c.nodes)
-  pub tiles : OfCurrent current (λ (c : Checkpoint). Tells (λ all. NameTiles all nodes c.nodes) files)
+  pub tiles : OfCurrent current (λ (c : Checkpoint). Tells (λ all. NameTiles (layout_of c.version) all nodes c.nodes) files)
   pub begun : current ≡ None → AreSampled (rules_of plan.kept) [] nodes
 
 -- So many slots are enough: as many as there may be nodes, or no fewer than the checkpoint has nodes, and than so many points have at most.

@@ -12,8 +12,11 @@ ghost use Rattle.ept_forest.specs.Slots as trees;
 ghost use Rattle.ept_octree.specs.Octree.{forest_of, nodes_of, most_of, cache_of};
 ghost use Rattle.ept_save.specs.Opening.{lines_of};
 ghost use Rattle.ept_save.specs.SoundLaws.{HasNamesOf};
+ghost use Rattle.ept_point.specs.declared.layout.Layout.TheVariants.{Old};
+ghost use Rattle.ept_save.specs.Tiles.{IsOfLayout};
 ghost use Rattle.ept_save.specs.View.{StandsFor};
-ghost use Rattle.ept_phase.specs.Loaded.{HasNoDamage, AreIntact, IsFirstDamaged};
+ghost use Rattle.ept_save.specs.Loading.{HasNoDamage};
+ghost use Rattle.ept_phase.specs.Loaded.{AreIntact, IsFirstDamaged};
 ghost use Rattle.ept_plan.specs.Plans.{IsPlan};
 ghost use Rattle.ept_build.specs.Phases.{IsBegun, HasRoom, IsTreeOf, AreLoaded, IsReady, IsOnWay, IsSoundAt, HasDamage, IsPhaseFault, IsRoomFault};
 
@@ -94,6 +97,7 @@ pub(crate) fn take_up<F: SpillFile, T: Store>(
     plan: &Plan,
 ) -> Result<(), BuildError>
     requires begun { IsBegun F.held F.faults F.keeps plan.now at.old.inserted at.old.octree at.old.saved }
+    requires newest { ¬ IsOfLayout Old at.old.saved.current }
     ensures saved { at.new.saved ≡ at.old.saved }
     ensures inserted { at.new.inserted ≡ at.old.inserted }
     ensures most { most_of at.new.octree ≡ most_of at.old.octree }

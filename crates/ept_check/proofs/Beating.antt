@@ -53,7 +53,7 @@ better-both a b c less not-less =
       | inl more ↦ is_better-trans c a b more less
       | inr none ↦
           let level = is_better-total a c not-less none in
-          let same : a ≡ c = (λ i. record { distance = level.0 i; origin = level.1 i; number = level.2 i }) in
+          let same : a ≡ c = (λ i. record { group = level.0 i; distance = level.1 i; origin = level.2 i; number = level.3 i }) in
           subst (λ (r : Rank). is_better r b ≡ true) same less
     ]
 

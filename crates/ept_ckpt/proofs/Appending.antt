@@ -28,3 +28,12 @@ pub eight_written : (s a b c d e f g h t0 t1 t2 t3 t4 t5 t6 end : List ℕ) → 
 eight_written s a b c d e f g h t0 t1 t2 t3 t4 t5 t6 end e0 e1 e2 e3 e4 e5 e6 e7 =
     e7 ∙ ap (λ t. t ++ h) (e6 ∙ ap (λ t. t ++ g) (six_written s a b c d e f t0 t1 t2 t3 t4 t5 e0 e1 e2 e3 e4 e5))
     ∙ regroup_eight s (((((a ++ b) ++ c) ++ d) ++ e) ++ f) g h
+
+regroup_nine : (s front i : List ℕ) → (s ++ front) ++ i ≡ s ++ (front ++ i)
+regroup_nine s front i = append_assoc s front i
+
+-- nine of them
+pub nine_written : (s a b c d e f g h i t0 t1 t2 t3 t4 t5 t6 t7 end : List ℕ) → t0 ≡ s ++ a → t1 ≡ t0 ++ b → t2 ≡ t1 ++ c → t3 ≡ t2 ++ d → t4 ≡ t3 ++ e → t5 ≡ t4 ++ f → t6 ≡ t5 ++ g → t7 ≡ t6 ++ h → end ≡ t7 ++ i → end ≡ s ++ ((((((((a ++ b) ++ c) ++ d) ++ e) ++ f) ++ g) ++ h) ++ i)
+nine_written s a b c d e f g h i t0 t1 t2 t3 t4 t5 t6 t7 end e0 e1 e2 e3 e4 e5 e6 e7 e8 =
+    e8 ∙ ap (λ t. t ++ i) (eight_written s a b c d e f g h t0 t1 t2 t3 t4 t5 t6 t7 e0 e1 e2 e3 e4 e5 e6 e7)
+    ∙ regroup_nine s (((((((a ++ b) ++ c) ++ d) ++ e) ++ f) ++ g) ++ h) i

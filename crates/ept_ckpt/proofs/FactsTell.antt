@@ -4,12 +4,13 @@ use Rattle.std.specs.List.{zip}
 use Rattle.std.proofs.Props.{props}
 use Rattle.std.proofs.lemmas.List.{length-map}
 use mathlib.Core.HLevel.{is_prop→PathP}
+use Rattle.ept_class.proofs.Bits.{same_set}
 use Rattle.ept_config.specs.declared.kept.Kept.{Kept}
 use Rattle.ept_config.specs.Facts.{input_facts}
 use Rattle.ept_config.specs.Ranges.{LayoutInRange, BoundsInRange}
 use Rattle.ept_config.proofs.FactsTell.{inputs_same, srs_same}
 use Rattle.ept_ckpt.specs.declared.checkpoint.Checkpoint.{Checkpoint}
-use Rattle.ept_ckpt.specs.Facts.{sources_of, kept_facts, facts}
+use Rattle.ept_ckpt.specs.Facts.{sources_of, kept_facts, precedence_of, facts}
 use Rattle.ept_ckpt.specs.Valid.{IsCheckpoint}
 
 -- two lists of pairs are one where the lists that are paired are
@@ -27,8 +28,8 @@ zip_same {X} {Y} (x ∷ xs) (u ∷ us) (y ∷ ys) (v ∷ vs) m n e =
     let more = zip_same xs us ys vs (omega (arith, m)) (omega (arith, n)) others in
     ((λ i. (first i).0 ∷ more.0 i), (λ i. (first i).1 ∷ more.1 i))
 
-kept_same : (a b : Kept) → kept_facts a ≡ kept_facts b → a.inputs ≡ b.inputs → a ≡ b
-kept_same a b e inputs = λ i. record {
+kept_same : (a b : Kept) → kept_facts a ≡ kept_facts b → precedence_of a ≡ precedence_of b → a.inputs ≡ b.inputs → a ≡ b
+kept_same a b e p inputs = λ i. record {
   scale = (e i).scale;
   offset = (e i).offset;
   bounds = (e i).bounds;
@@ -37,6 +38,8 @@ kept_same a b e inputs = λ i. record {
   max_depth = (e i).max_depth;
   step = (e i).step;
   srs = reference i;
+  first = classes i;
+  withheld_last = (p i).withheld_last;
   inputs = inputs i;
   layout = is_prop→PathP (λ j. LayoutInRange (e j).scale (e j).offset (e j).s (e j).threshold (e j).max_depth (e j).step (inputs j)) (λ j. hlevel props) a.layout b.layout i;
   has_bounds = is_prop→PathP (λ j. BoundsInRange (e j).bounds) (λ j. hlevel props) a.has_bounds b.has_bounds i;
@@ -45,19 +48,23 @@ kept_same a b e inputs = λ i. record {
     reference : a.srs ≡ b.srs
     reference = srs_same a.srs b.srs (λ i. (e i).srs)
 
+    classes : a.first ≡ b.first
+    classes = same_set a.first b.first (λ i. (p i).first)
+
 pub checkpoint_same : (a b : Checkpoint) → facts a ≡ facts b → a ≡ b
 unfolding sources_of
 checkpoint_same a b e = λ i. record {
+  version = (e i).version;
   generation = (e i).generation;
   kept = kept i;
   counts = lists.1 i;
   inserted = (e i).inserted;
   nodes = (e i).nodes;
-  is_checkpoint = is_prop→PathP (λ j. IsCheckpoint (e j).generation (kept j) (lists.1 j) (e j).inserted (e j).nodes) (λ j. hlevel props) a.is_checkpoint b.is_checkpoint i;
+  is_checkpoint = is_prop→PathP (λ j. IsCheckpoint (e j).version (e j).generation (kept j) (lists.1 j) (e j).inserted (e j).nodes) (λ j. hlevel props) a.is_checkpoint b.is_checkpoint i;
 }
   where
     lists : (map input_facts a.kept.inputs ≡ map input_facts b.kept.inputs) × (a.counts ≡ b.counts)
     lists = zip_same (map input_facts a.kept.inputs) (map input_facts b.kept.inputs) a.counts b.counts (a.is_checkpoint.each ∙ sym (length-map a.kept.inputs input_facts)) (b.is_checkpoint.each ∙ sym (length-map b.kept.inputs input_facts)) (λ i. (e i).sources)
 
     kept : a.kept ≡ b.kept
-    kept = kept_same a.kept b.kept (λ i. (e i).kept) (inputs_same a.kept.inputs b.kept.inputs lists.0)
+    kept = kept_same a.kept b.kept (λ i. (e i).kept) (λ i. (e i).precedence) (inputs_same a.kept.inputs b.kept.inputs lists.0)

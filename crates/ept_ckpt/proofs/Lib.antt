@@ -10,6 +10,7 @@ mod Paired
 mod ReadBodies
 mod ReadNodes
 mod ReadNumbers
+mod ReadPrecedence
 mod ReadSettings
 mod ReadSources
 mod SourceText

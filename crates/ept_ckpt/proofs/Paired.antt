@@ -1,12 +1,12 @@
 -- Inputs and their counts, one pair more.
-use Rattle.std.proofs.Common.{◌≡◌, ℕ, ◌+◌, ◌*◌, ◌^◌, ◌<◌, ◌≤◌, List, [], ◌∷◌, ◌++◌, length, fold, refl, ap, arith}
+use Rattle.std.proofs.Common.{◌≡◌, ℕ, ◌+◌, ◌*◌, ◌≤◌, List, [], ◌∷◌, ◌++◌, length, fold, refl, ap, arith}
 use Rattle.std.specs.List.{All}
 use Rattle.std.proofs.lemmas.List.Sums.{sum_by-le}
 use Rattle.ept_config.specs.declared.input.Input.{Input}
 use Rattle.ept_config.specs.declared.source_count.SourceCount.{SourceCount}
 use Rattle.ept_ckpt.specs.Facts.{Source, source_facts, sources_of}
 use Rattle.ept_ckpt.specs.Forms.{points_of_sources}
-use Rattle.ept_config.specs.Counts.{total}
+use Rattle.ept_config.specs.Counts.{most_points, total}
 
 pub one_pair_more : (inputs : List Input) (counts : List SourceCount) (input : Input) (count : SourceCount) → length inputs ≡ length counts
     → sources_of (inputs ++ input ∷ []) (counts ++ count ∷ []) ≡ sources_of inputs counts ++ source_facts (input, count) ∷ []
@@ -29,7 +29,7 @@ pub points_of_pairs : (inputs : List Input) (counts : List SourceCount) → leng
 points_of_pairs inputs counts same = sum_from 0 inputs counts same
 
 -- how great their number is
-pub total_few : (counts : List SourceCount) → length counts ≤ 65535 → All (λ count. count.points < 2 ^ 32) counts → total counts ≤ 65535 * 4294967295
+pub total_few : (counts : List SourceCount) → length counts ≤ 65535 → All (λ count. count.points ≤ most_points) counts → total counts ≤ 65535 * most_points
 total_few counts few each =
-    let most = sum_by-le (λ (count : SourceCount). count.points) 4294967295 counts (λ k d inside. let small = each k d inside in omega (arith, small)) in
+    let most = sum_by-le (λ (count : SourceCount). count.points) most_points counts (λ k d inside. let small = each k d inside in omega (arith, small)) in
     omega (arith, most, few)

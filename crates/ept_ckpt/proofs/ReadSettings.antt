@@ -81,7 +81,7 @@ flag_tells : {A : Type 0} (form : Reading A) (there : Bool) (total : ℕ) (rest 
 flag_tells form false total rest left a read = ap flag (sym (same_read read).0)
 flag_tells form true total rest left a read = steps (form total rest) _ read (λ x mid first last. ap flag (sym (same_read last).0))
 
-one_or_none : (n : ℕ) → n < 2 → (if n == 1 then 1 else 0) ≡ n
+pub one_or_none : (n : ℕ) → n < 2 → (if n == 1 then 1 else 0) ≡ n
 one_or_none n few = grind arith
 
 pub flag_is : {A : Type 0} (form : Reading A) (n total : ℕ) (rest left : List ℕ) (a : Option A) → n < 2 → optional (n == 1) form total rest ≡ Ok (a, left) → flag a ≡ n

@@ -1,6 +1,6 @@
 -- The inputs of a checkpoint, each with its count, are the bytes that they are read from.
 use Rattle.std.proofs.Common.{◌≡◌, ℕ, ◌<◌, ◌^◌, Bool, true, false, List, [], ◌∷◌, ◌++◌, refl, sym, arith, append_assoc}
-use Rattle.std.specs.Prelude.{◌-◌, ◌==◌, if◌then◌else◌}
+use Rattle.std.specs.Prelude.{◌==◌, if◌then◌else◌}
 use Rattle.std.proofs.lemmas.Bool.{eqb-true}
 use Rattle.byteorder.specs.Endian.{little_bytes}
 use Rattle.ept_space.specs.declared.bounds.Bounds.{Bounds}
@@ -51,11 +51,11 @@ few_there : (empty : Bool) (there : ℕ) → (there == (if empty then 0 else 1))
 few_there true there passed = omega (arith, eqb-true there 0 passed)
 few_there false there passed = omega (arith, eqb-true there 1 passed)
 
-pub count_cut : (bounds : Bounds) → CutsOff SourceCount (count_form bounds) count_bytes
+pub count_cut : (most : ℕ) (bounds : Bounds) → CutsOff SourceCount (count_form most bounds) count_bytes
 unfolding count_form
-count_cut bounds = record {
+count_cut most bounds = record {
   cut = λ total rest left count fit read.
-      steps (within 0 (2 ^ 32 - 1) (number 8) total rest) _ read (λ points m1 r1 read1.
+      steps (within 0 most (number 8) total rest) _ read (λ points m1 r1 read1.
       steps (field (λ n. n == (if points == 0 then 0 else 1)) (number 1) total m1) _ read1 (λ there m2 r2 read2.
       steps (optional (there == 1) (box_within bounds) total m2) _ read2 (λ extent m3 r3 last.
       let few = few_there (points == 0) there (field_read (λ n. n == (if points == 0 then 0 else 1)) (number 1) total m1 m2 there r2).1 in
@@ -68,12 +68,12 @@ count_cut bounds = record {
 count_behind : (input a b c : List ℕ) → input ++ ((a ++ b) ++ c) ≡ ((input ++ a) ++ b) ++ c
 count_behind input a b c = simp append_assoc
 
-pub source_cut : (scale : ℕ) (bounds : Bounds) → CutsOff Source (source_form scale bounds) source_bytes
+pub source_cut : (most scale : ℕ) (bounds : Bounds) → CutsOff Source (source_form most scale bounds) source_bytes
 unfolding source_form source_bytes
-source_cut scale bounds = record {
+source_cut most scale bounds = record {
   cut = λ total rest left source fit read.
       steps (input_form scale total rest) _ read (λ input m1 r1 read1.
-      steps (count_form bounds total m1) _ read1 (λ count m2 r2 last.
-      all_cut source_bytes (cut_by total (count_cut bounds) (cut_by total (input_cut scale) (uncut rest fit) r1) r2)
+      steps (count_form most bounds total m1) _ read1 (λ count m2 r2 last.
+      all_cut source_bytes (cut_by total (count_cut most bounds) (cut_by total (input_cut scale) (uncut rest fit) r1) r2)
       (count_behind (input_bytes input) (little_bytes 8 count.points) (flag count.extent ∷ []) (body.optional bounds_bytes count.extent)) last));
 }

@@ -15,6 +15,9 @@ four_then a b c d rest = simp append_assoc
 pub eight_then : (a b c d e f g h rest : List ℕ) → (((((((a ++ b) ++ c) ++ d) ++ e) ++ f) ++ g) ++ h) ++ rest ≡ a ++ (b ++ (c ++ (d ++ (e ++ (f ++ (g ++ (h ++ rest)))))))
 eight_then a b c d e f g h rest = simp append_assoc
 
+pub nine_then : (a b c d e f g h i rest : List ℕ) → ((((((((a ++ b) ++ c) ++ d) ++ e) ++ f) ++ g) ++ h) ++ i) ++ rest ≡ a ++ (b ++ (c ++ (d ++ (e ++ (f ++ (g ++ (h ++ (i ++ rest))))))))
+nine_then a b c d e f g h i rest = simp append_assoc
+
 -- in front of any bytes, the bytes of this value are read as it
 abbrev pub ReadsBack : {A : Type 0} → Reading A → (A → List ℕ) → ℕ → A → Type 0
 ReadsBack form written total a = (rest : List ℕ) → form total (written a ++ rest) ≡ Ok (a, rest)

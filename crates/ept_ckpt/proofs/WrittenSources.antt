@@ -1,5 +1,5 @@
 -- Inputs with their counts that are written read back.
-use Rattle.std.proofs.Common.{◌≡◌, ℕ, zero, suc, ◌-◌, ◌^◌, ◌≤◌, true, List, [], ◌∷◌, ◌++◌, length, Option, Some, None, Ok, refl, arith}
+use Rattle.std.proofs.Common.{◌≡◌, ℕ, zero, suc, ◌^◌, ◌≤◌, true, List, [], ◌∷◌, ◌++◌, length, Option, Some, None, Ok, refl, arith}
 use Rattle.std.specs.Prelude.{◌==◌, ◌<◌, ◌↔◌, IsSome, if◌then◌else◌}
 use Rattle.std.specs.List.{All}
 use Rattle.std.proofs.lemmas.Bool.{false≢true}
@@ -52,30 +52,30 @@ there_is (suc n) (Some extent) there = grind (arith, nat_tests)
 count_tail : SourceCount → List ℕ → List ℕ
 count_tail count rest = flag count.extent ∷ (body.optional bounds_bytes count.extent ++ rest)
 
-count_written : (total : ℕ) (bounds : Bounds) (count : SourceCount) (rest : List ℕ) → BoundsInRange bounds → IsCount bounds count → ExtentInRange count → count_form bounds total (little_bytes 8 count.points ++ count_tail count rest) ≡ Ok (count, rest)
+count_written : (total most : ℕ) (bounds : Bounds) (count : SourceCount) (rest : List ℕ) → BoundsInRange bounds → count.points ≤ most → IsCount bounds count → ExtentInRange count → count_form most bounds total (little_bytes 8 count.points ++ count_tail count rest) ≡ Ok (count, rest)
 unfolding count_form count_tail
-count_written total bounds count rest are is in_range =
+count_written total most bounds count rest are few is in_range =
     let extent : List ℕ = body.optional bounds_bytes count.extent ++ rest in
-    read_then _ (within_read 0 (2 ^ 32 - 1) (number 8) total _ (count_tail count rest) count.points (number_written total 8 count.points (count_tail count rest) (omega (arith, is.few))) (omega arith) (omega (arith, is.few)))
+    read_then _ (within_read 0 most (number 8) total _ (count_tail count rest) count.points (number_written total 8 count.points (count_tail count rest) (omega (arith, is.few))) (omega arith) few)
     (read_then _ (field_read (λ (n : ℕ). n == (if count.points == 0 then 0 else 1)) (number 1) total _ extent (flag count.extent) (byte_written total (flag count.extent) extent) (there_is count.points count.extent is.there))
     (read_then _ (optional_written total (box_within bounds) bounds_bytes count.extent _ rest refl (λ box some. extent_written total bounds box rest are (is.inside box some) (in_range box some))) refl))
 
 -- ---- both
 
-source_reads : (total scale : ℕ) (bounds : Bounds) (input : Input) (count : SourceCount) → BoundsInRange bounds → input.scale ≤ scale → IsCount bounds count → ExtentInRange count → ReadsBack (source_form scale bounds) source_bytes total (source_facts (input, count))
+source_reads : (total greatest scale : ℕ) (bounds : Bounds) (input : Input) (count : SourceCount) → BoundsInRange bounds → input.scale ≤ scale → count.points ≤ greatest → IsCount bounds count → ExtentInRange count → ReadsBack (source_form greatest scale bounds) source_bytes total (source_facts (input, count))
 unfolding source_form source_bytes input_tail count_tail
-source_reads total scale bounds input count are most is in_range rest =
+source_reads total greatest scale bounds input count are most few is in_range rest =
     let counted : List ℕ = little_bytes 8 count.points ++ count_tail count rest in
     rw (eight_then (text_bytes input.path) (input.scale ∷ []) (i64_bytes input.shift) (flag input.expect ∷ []) (body.optional (λ bytes. bytes) input.expect) (little_bytes 8 count.points) (flag count.extent ∷ []) (body.optional bounds_bytes count.extent) rest)
     (read_then _ (input_written total scale input counted most)
-    (read_then _ (count_written total bounds count rest are is in_range) refl))
+    (read_then _ (count_written total greatest bounds count rest are few is in_range) refl))
 
 -- each input, with its count, reads back
-pub sources_read : (total scale : ℕ) (bounds : Bounds) (inputs : List Input) (counts : List SourceCount) → BoundsInRange bounds → length counts ≡ length inputs → All (λ input. input.scale ≤ scale) inputs → All (IsCount bounds) counts → All ExtentInRange counts → All (ReadsBack (source_form scale bounds) source_bytes total) (sources_of inputs counts)
+pub sources_read : (total greatest scale : ℕ) (bounds : Bounds) (inputs : List Input) (counts : List SourceCount) → BoundsInRange bounds → length counts ≡ length inputs → All (λ input. input.scale ≤ scale) inputs → All (λ count. count.points ≤ greatest) counts → All (IsCount bounds) counts → All ExtentInRange counts → All (ReadsBack (source_form greatest scale bounds) source_bytes total) (sources_of inputs counts)
 unfolding sources_of
-sources_read total scale bounds [] counts are same most is in_range = All-nil (ReadsBack (source_form scale bounds) source_bytes total)
-sources_read total scale bounds (input ∷ inputs) [] are same most is in_range = absurd (omega (arith, same))
-sources_read total scale bounds (input ∷ inputs) (count ∷ counts) are same most is in_range =
-    All-cons (ReadsBack (source_form scale bounds) source_bytes total) (source_facts (input, count)) (sources_of inputs counts)
-    (source_reads total scale bounds input count are (All-head (λ (i : Input). i.scale ≤ scale) input inputs most) (All-head (IsCount bounds) count counts is) (All-head ExtentInRange count counts in_range))
-    (sources_read total scale bounds inputs counts are (omega (arith, same)) (All-tail (λ (i : Input). i.scale ≤ scale) input inputs most) (All-tail (IsCount bounds) count counts is) (All-tail ExtentInRange count counts in_range))
+sources_read total greatest scale bounds [] counts are same most few is in_range = All-nil (ReadsBack (source_form greatest scale bounds) source_bytes total)
+sources_read total greatest scale bounds (input ∷ inputs) [] are same most few is in_range = absurd (omega (arith, same))
+sources_read total greatest scale bounds (input ∷ inputs) (count ∷ counts) are same most few is in_range =
+    All-cons (ReadsBack (source_form greatest scale bounds) source_bytes total) (source_facts (input, count)) (sources_of inputs counts)
+    (source_reads total greatest scale bounds input count are (All-head (λ (i : Input). i.scale ≤ scale) input inputs most) (All-head (λ (n : SourceCount). n.points ≤ greatest) count counts few) (All-head (IsCount bounds) count counts is) (All-head ExtentInRange count counts in_range))
+    (sources_read total greatest scale bounds inputs counts are (omega (arith, same)) (All-tail (λ (i : Input). i.scale ≤ scale) input inputs most) (All-tail (λ (n : SourceCount). n.points ≤ greatest) count counts few) (All-tail (IsCount bounds) count counts is) (All-tail ExtentInRange count counts in_range))

@@ -1,5 +1,5 @@
 -- The body of a checkpoint: its fields, one after another. Numbers are little-endian, signed ones in two's complement.
-use Rattle.std.specs.Prelude.{ℕ, ℤ, ◌+◌, ◌*◌, List, [], ◌∷◌, ◌++◌, length, codes, Option, Some, None}
+use Rattle.std.specs.Prelude.{ℕ, ℤ, ◌+◌, ◌*◌, List, [], ◌∷◌, ◌++◌, length, codes, if◌then◌else◌, Option, Some, None}
 use Rattle.std.specs.Int.{w32, w64, cast_unsigned}
 use Rattle.std.specs.List.{flat_map}
 use Rattle.byteorder.specs.Endian.{little_bytes}
@@ -8,7 +8,10 @@ use Rattle.ept_config.specs.Facts.{SrsFacts}
 use Rattle.ept_ckpt.specs.declared.node_line.NodeLine.{NodeLine}
 use Rattle.ept_ckpt.specs.declared.letter.Letter.{Letter}
 use Rattle.ept_ckpt.specs.declared.letter.Letter.TheVariants.{A, B}
-use Rattle.ept_ckpt.specs.Facts.{KeptFacts, Source, CheckpointFacts}
+use Rattle.ept_ckpt.specs.declared.version.BodyVersion.{BodyVersion}
+use Rattle.ept_ckpt.specs.declared.version.BodyVersion.TheVariants.{V1, V2, V3}
+use Rattle.ept_ckpt.specs.Versions.{number_of}
+use Rattle.ept_ckpt.specs.Facts.{KeptFacts, PrecedenceFacts, Source, CheckpointFacts}
 
 -- numbers of 32 bits, and of 64
 abbrev pub i32_bytes : List ℤ → List ℕ
@@ -81,14 +84,21 @@ node_bytes line =
     ++ (line.mask ∷ letter_code line.letter ∷ [])
 
 -- the name of the format, and its version
-unfoldable pub mark_bytes : List ℕ
-mark_bytes = codes "EPTW" ++ little_bytes 4 1
+unfoldable pub mark_bytes : BodyVersion → List ℕ
+mark_bytes version = codes "EPTW" ++ little_bytes 4 (number_of version)
+
+-- 32 bytes of the classes that come first, and 1 if withheld points come last; the versions before 3 have neither
+abbrev pub precedence_bytes : BodyVersion → PrecedenceFacts → List ℕ
+precedence_bytes V1 precedence = []
+precedence_bytes V2 precedence = []
+precedence_bytes V3 precedence = precedence.first ++ ((if precedence.withheld_last then 1 else 0) ∷ [])
 
 unfoldable pub body : CheckpointFacts → List ℕ
 body c =
-    mark_bytes
+    mark_bytes c.version
     ++ little_bytes 8 c.generation
     ++ kept_bytes c.kept
+    ++ precedence_bytes c.version c.precedence
     ++ little_bytes 4 (length c.sources)
     ++ flat_map source_bytes c.sources
     ++ little_bytes 8 c.inserted

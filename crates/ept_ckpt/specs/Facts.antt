@@ -1,5 +1,5 @@
 -- A checkpoint as numbers and lists.
-use Rattle.std.specs.Prelude.{ℕ, ℤ, List, map}
+use Rattle.std.specs.Prelude.{ℕ, ℤ, Bool, List, map}
 use Rattle.std.specs.List.{zip}
 use Rattle.ept_space.specs.declared.bounds.Bounds.{Bounds}
 use Rattle.ept_config.specs.declared.input.Input.{Input}
@@ -8,6 +8,8 @@ use Rattle.ept_config.specs.declared.source_count.SourceCount.{SourceCount}
 use Rattle.ept_config.specs.Facts.{InputFacts, SrsFacts, input_facts, srs_facts}
 use Rattle.ept_ckpt.specs.declared.node_line.NodeLine.{NodeLine}
 use Rattle.ept_ckpt.specs.declared.settings.Settings.{Settings}
+use Rattle.ept_ckpt.specs.declared.precedence.Precedence.{Precedence}
+use Rattle.ept_ckpt.specs.declared.version.BodyVersion.{BodyVersion}
 use Rattle.ept_ckpt.specs.declared.draft.Draft.{Draft}
 use Rattle.ept_ckpt.specs.declared.checkpoint.Checkpoint.{Checkpoint}
 
@@ -22,13 +24,20 @@ pub record KeptFacts : Type 0 where
   pub bounds : Bounds
   pub srs : SrsFacts
 
+-- which points come first, as the bytes of a set of classes, and whether withheld ones come last
+pub record PrecedenceFacts : Type 0 where
+  pub first : List ℕ
+  pub withheld_last : Bool
+
 -- an input, and what was counted of it
 abbrev pub Source : Type 0
 Source = InputFacts × SourceCount
 
 pub record CheckpointFacts : Type 0 where
+  pub version : BodyVersion
   pub generation : ℕ
   pub kept : KeptFacts
+  pub precedence : PrecedenceFacts
   pub sources : List Source
   pub inserted : ℕ
   pub nodes : List NodeLine
@@ -61,10 +70,18 @@ settings_facts settings = record {
   srs = srs_facts settings.srs;
 }
 
+abbrev pub precedence_facts : Precedence → PrecedenceFacts
+precedence_facts precedence = record { first = precedence.first.bytes; withheld_last = precedence.withheld_last }
+
+abbrev pub precedence_of : Kept → PrecedenceFacts
+precedence_of kept = record { first = kept.first.bytes; withheld_last = kept.withheld_last }
+
 abbrev pub draft_facts : Draft → CheckpointFacts
 draft_facts draft = record {
+  version = draft.version;
   generation = draft.generation;
   kept = settings_facts draft.settings;
+  precedence = precedence_facts draft.precedence;
   sources = sources_of draft.sources.inputs draft.sources.counts;
   inserted = draft.inserted;
   nodes = draft.nodes;
@@ -72,8 +89,10 @@ draft_facts draft = record {
 
 abbrev pub facts : Checkpoint → CheckpointFacts
 facts c = record {
+  version = c.version;
   generation = c.generation;
   kept = kept_facts c.kept;
+  precedence = precedence_of c.kept;
   sources = sources_of c.kept.inputs c.counts;
   inserted = c.inserted;
   nodes = c.nodes;

@@ -26,6 +26,11 @@ give a total rest = Ok (a, rest)
 abbrev pub unless : FieldError → Bool → Reading ⊤
 unless e test total rest = if test then Ok (tt, rest) else Err e
 
+-- a value, where there is one
+abbrev pub known : {A : Type 0} → FieldError → Option A → Reading A
+known e None total rest = Err e
+known e (Some a) total rest = Ok (a, rest)
+
 -- so many bytes
 unfoldable pub bytes : ℕ → Reading (List ℕ)
 bytes width total rest = if nat_le width (length rest) then Ok (take width rest, drop width rest) else Err Length

@@ -1,7 +1,8 @@
 -- The fields of a body, each with its range.
-use Rattle.std.specs.Prelude.{ℕ, ℤ, pos, negsuc, ◌+◌, ◌-◌, ◌^◌, Bool, ◌&&◌, ◌==◌, nat_le, nat_eq, ⊤, List, [], ◌∷◌, length, sum_by, Ok, Err, if◌then◌else◌, unsigned_abs, int_le}
+use Rattle.std.specs.Prelude.{ℕ, ℤ, pos, negsuc, ◌+◌, ◌-◌, ◌^◌, Bool, false, ◌&&◌, ◌==◌, nat_le, nat_eq, ⊤, List, [], ◌∷◌, length, sum_by, Option, Ok, Err, find, if◌then◌else◌, unsigned_abs, int_le}
 use Rattle.std.specs.Int.{w32, w64, bit_at}
 use Rattle.std.specs.List.{starts_with}
+use Rattle.ept_class.specs.NoClass.{no_class}
 use Rattle.ept_space.specs.declared.bounds.Bounds.{Bounds}
 use Rattle.ept_space.specs.Place.{coordinate}
 use Rattle.ept_space.specs.VoxelKey.{VoxelKey}
@@ -12,10 +13,13 @@ use Rattle.ept_ckpt.specs.declared.field_error.FieldError.TheVariants.{Length, V
 use Rattle.ept_ckpt.specs.declared.node_line.NodeLine.{NodeLine}
 use Rattle.ept_ckpt.specs.declared.letter.Letter.{Letter}
 use Rattle.ept_ckpt.specs.declared.letter.Letter.TheVariants.{A, B}
-use Rattle.ept_ckpt.specs.Facts.{KeptFacts, Source, CheckpointFacts}
+use Rattle.ept_ckpt.specs.declared.version.BodyVersion.{BodyVersion}
+use Rattle.ept_ckpt.specs.declared.version.BodyVersion.TheVariants.{V1, V2, V3}
+use Rattle.ept_ckpt.specs.Versions.{most_points_of, spare_of}
+use Rattle.ept_ckpt.specs.Facts.{KeptFacts, PrecedenceFacts, Source, CheckpointFacts}
 use Rattle.ept_ckpt.specs.Body.{mark_bytes}
 use Rattle.ept_ckpt.specs.Valid.{deepest}
-use Rattle.ept_ckpt.specs.Fields.{Reading, ◌>>=◌, give, unless, bytes, number, signed, field, within, three, optional, times}
+use Rattle.ept_ckpt.specs.Fields.{Reading, ◌>>=◌, give, unless, known, bytes, number, signed, field, within, three, optional, times}
 
 -- a whole number of 64 bits, at most this far from 0
 unfoldable pub near : ℕ → Reading ℤ
@@ -98,17 +102,17 @@ input_form scale = do
   give (record { path = path; scale = its_scale; shift = shift; expect = expect })
 
 -- an extent is there exactly where there are points
-unfoldable pub count_form : Bounds → Reading SourceCount
-count_form bounds = do
-  points ← within 0 (2 ^ 32 - 1) (number 8)
+unfoldable pub count_form : ℕ → Bounds → Reading SourceCount
+count_form most bounds = do
+  points ← within 0 most (number 8)
   there ← field (λ n. n == (if points == 0 then 0 else 1)) (number 1)
   extent ← optional (there == 1) (box_within bounds)
   give (record { points = points; extent = extent })
 
-unfoldable pub source_form : ℕ → Bounds → Reading Source
-source_form scale bounds = do
+unfoldable pub source_form : ℕ → ℕ → Bounds → Reading Source
+source_form most scale bounds = do
   input ← input_form scale
-  count ← count_form bounds
+  count ← count_form most bounds
   give (input, count)
 
 -- an index on an axis, among those of a depth
@@ -135,11 +139,28 @@ node_form most = do
   code ← within 0 1 (number 1)
   give (record { key = key; count = count; mask = mask; letter = letter_of code })
 
+-- the version whose mark these bytes begin with
+abbrev pub version_of : List ℕ → Option BodyVersion
+version_of front = find (λ version. starts_with nat_eq front (mark_bytes version)) (V1 ∷ V2 ∷ V3 ∷ [])
+
 -- the name of the format, and its version
-unfoldable pub mark : Reading ⊤
+unfoldable pub mark : Reading BodyVersion
 mark = do
   front ← bytes 8
-  unless Version (starts_with nat_eq front mark_bytes)
+  known Version (version_of front)
+
+-- no class comes first, and withheld points are as others
+abbrev pub no_precedence : PrecedenceFacts
+no_precedence = record { first = no_class.bytes; withheld_last = false }
+
+-- which points come first and last
+unfoldable pub precedence_form : BodyVersion → Reading PrecedenceFacts
+precedence_form V1 = give no_precedence
+precedence_form V2 = give no_precedence
+precedence_form V3 = do
+  first ← bytes 32
+  last ← within 0 1 (number 1)
+  give (record { first = first; withheld_last = last == 1 })
 
 -- how many points the sources have
 abbrev pub points_of_sources : List Source → ℕ
@@ -153,22 +174,31 @@ deepest_of kept = deepest kept.bounds kept.s kept.max_depth
 unfoldable pub end : Reading ⊤
 end total rest = if length rest == 0 then Ok (tt, rest) else Err Length
 
--- each commit has more points or more inputs than the one before it; the generation, which begins at byte 8, is
--- judged at the end
+-- each commit has more points or more inputs than the one before it, but for one that takes over a checkpoint of
+-- version 1; the generation, which begins at byte 8, is judged at the end
 unfoldable pub ripe : ℕ → ℕ → Reading ⊤
 ripe generation most = unless (Field 8) (nat_le 1 generation && nat_le generation most)
 
 -- all fields, in order
 unfoldable pub fields : Reading CheckpointFacts
 fields = do
-  marked ← mark
+  version ← mark
   generation ← number 8
   kept ← kept_form
+  precedence ← precedence_form version
   inputs ← within 1 65535 (number 4)
-  sources ← times inputs (source_form kept.scale kept.bounds)
+  sources ← times inputs (source_form (most_points_of version) kept.scale kept.bounds)
   inserted ← within 0 (points_of_sources sources) (number 8)
   lines ← number 4
   nodes ← times lines (node_form (deepest_of kept))
   ended ← end
-  judged ← ripe generation (inserted + inputs)
-  give (record { generation = generation; kept = kept; sources = sources; inserted = inserted; nodes = nodes })
+  judged ← ripe generation (inserted + inputs + spare_of version)
+  give (record {
+    version = version;
+    generation = generation;
+    kept = kept;
+    precedence = precedence;
+    sources = sources;
+    inserted = inserted;
+    nodes = nodes;
+  })

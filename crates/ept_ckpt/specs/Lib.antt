@@ -1,3 +1,4 @@
+pub mod Versions
 pub mod SettingRanges
 pub mod Facts
 pub mod Octree

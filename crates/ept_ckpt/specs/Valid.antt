@@ -1,6 +1,8 @@
 -- Which checkpoints there are.
-use Rattle.std.specs.Prelude.{◌≡◌, ℕ, ◌+◌, ◌<◌, ◌≤◌, ◌^◌, List, length, All}
+use Rattle.std.specs.Prelude.{◌≡◌, ◌≢◌, ℕ, ◌+◌, ◌<◌, ◌≤◌, ◌^◌, Bool, false, List, length, All}
 use Rattle.std.specs.Option.{ForSome}
+use Rattle.ept_class.specs.declared.class_set.ClassSet.{ClassSet}
+use Rattle.ept_class.specs.ClassSet.{has_member}
 use Rattle.ept_space.specs.declared.bounds.Bounds.{Bounds}
 use Rattle.ept_space.specs.CubeOfBounds.{cube_of}
 use Rattle.ept_space.specs.VoxelKey.{IsKey}
@@ -8,7 +10,10 @@ use Rattle.ept_config.specs.Counts.{total, IsCount}
 use Rattle.ept_config.specs.Ranges.{BoundsInRange}
 use Rattle.ept_config.specs.declared.kept.Kept.{Kept}
 use Rattle.ept_config.specs.declared.source_count.SourceCount.{SourceCount}
+use Rattle.ept_ckpt.specs.declared.version.BodyVersion.{BodyVersion}
+use Rattle.ept_ckpt.specs.declared.version.BodyVersion.TheVariants.{V3}
 use Rattle.ept_ckpt.specs.declared.node_line.NodeLine.{NodeLine}
+use Rattle.ept_ckpt.specs.Versions.{most_points_of, spare_of}
 use Rattle.ept_ckpt.specs.Octree.{AreNodesOf}
 
 -- the numbers of an extent that is there are of 32 bits, three at each end
@@ -24,14 +29,20 @@ pub record IsNode (most : ℕ) (line : NodeLine) : Type 0 where
 abbrev pub deepest : Bounds → ℕ → ℕ → ℕ
 deepest bounds s max_depth = (cube_of bounds s max_depth).depth
 
+-- no class comes first, and withheld points are as others
+abbrev pub IsPlain : ClassSet → Bool → Type 0
+IsPlain first withheld_last = (has_member first ≡ false) × (withheld_last ≡ false)
+
 -- What each checkpoint keeps: a count for each input, no more points inserted than there are, and the nodes of these.
-pub record IsCheckpoint (generation : ℕ) (kept : Kept) (counts : List SourceCount) (inserted : ℕ) (nodes : List NodeLine) : Type 0 where
+pub record IsCheckpoint (version : BodyVersion) (generation : ℕ) (kept : Kept) (counts : List SourceCount) (inserted : ℕ) (nodes : List NodeLine) : Type 0 where
   pub each : length counts ≡ length kept.inputs
+  pub few : All (λ count. count.points ≤ most_points_of version) counts
+  pub plain : version ≢ V3 → IsPlain kept.first kept.withheld_last
   pub counted : All (IsCount kept.bounds) counts
   pub extents : All ExtentInRange counts
   pub inserted_most : inserted ≤ total counts
   pub generation_least : 1 ≤ generation
-  pub generation_most : generation ≤ inserted + length kept.inputs
+  pub generation_most : generation ≤ inserted + length kept.inputs + spare_of version
   pub nodes_few : length nodes < 2 ^ 32
   pub lines : All (IsNode (deepest kept.bounds kept.s kept.max_depth)) nodes
   pub nodes_are : AreNodesOf inserted nodes

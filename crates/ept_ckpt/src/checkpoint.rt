@@ -4,6 +4,7 @@ ghost use Rattle.ept_ckpt.specs.Valid.{IsCheckpoint};
 ghost use Rattle.std.proofs.Props.{props};
 
 use crate::node_line::NodeLine;
+use crate::version::BodyVersion;
 use ept_config::{Kept, SourceCount};
 use ept_point::List;
 
@@ -13,7 +14,10 @@ use ept_point::List;
 /// order of their keys.
 #[derive(Debug, Drop)]
 pub struct Checkpoint {
-    /// How many commits there were, this one included; at most one for each point and each input.
+    /// The version of its body.
+    pub version: BodyVersion,
+    /// How many commits there were, this one included: at most one for each inserted point and each input,
+    /// and from version 2 on one more, which took over a checkpoint of version 1.
     pub generation: u64,
     /// What the output depends on.
     pub kept: Kept,
@@ -23,5 +27,5 @@ pub struct Checkpoint {
     pub inserted: u64,
     /// The nodes, in the order of their keys.
     pub nodes: List<NodeLine>,
-    pub ghost is_checkpoint: { IsCheckpoint generation kept counts inserted nodes } by { Prim.hlevel props },
+    pub ghost is_checkpoint: { IsCheckpoint version generation kept counts inserted nodes } by { Prim.hlevel props },
 }

@@ -2,33 +2,39 @@
 
 ghost use Rattle.std.specs.Prelude.{◌≡◌, ◌≤◌, ◌<◌, ◌*◌, ◌^◌, length, [], OnOk};
 ghost use Rattle.std.specs.List.{All};
-ghost use Rattle.ept_config.specs.Counts.{total};
+ghost use Rattle.ept_config.specs.Counts.{most_points, total};
 ghost use Rattle.ept_ckpt.specs.Facts.{sources_of, draft_facts};
 ghost use Rattle.ept_ckpt.specs.Forms.{mark, end, ripe, fields, points_of_sources};
-ghost use Rattle.ept_ckpt.specs.Reads.{ReadsAs};
+ghost use Rattle.ept_ckpt.specs.Reads.{Reads, ReadsAs};
 ghost use Rattle.ept_ckpt.specs.Valid.{deepest};
 
 use crate::cursor::Cursor;
 use crate::draft::Draft;
 use crate::field_error::FieldError;
-use crate::limits::{GENERATION_AT, MARK};
+use crate::limits::{GENERATION_AT, MARK_LENGTH};
 use crate::settings::Settings;
 use crate::sources::Sources;
+use crate::version::BodyVersion;
 use ept_config::{MAX_INPUTS, total_of};
 use ept_space::Cube;
 use std::alloc::Global;
 
 impl<'a> Cursor<'a> {
     /// The name of the format and its version.
-    #[tactic(auto, unfolding(crate::specs::Forms::mark, crate::specs::Body::mark_bytes))]
-    fn mark(&mut self) -> Result<(), FieldError>
-        ensures reads { ReadsAs mark (λ _. tt) self.old self.new result }
+    #[tactic(auto, unfolding(crate::specs::Forms::mark))]
+    fn mark(&mut self) -> Result<BodyVersion, FieldError>
+        ensures reads { Reads mark self.old self.new result }
     {
-        let front = self.bytes(MARK.len())?;
-        if !front.starts_with(&MARK) {
-            return Err(FieldError::Version);
+        let front = self.bytes(MARK_LENGTH)?;
+        if front.starts_with(&BodyVersion::V1.mark()) {
+            Ok(BodyVersion::V1)
+        } else if front.starts_with(&BodyVersion::V2.mark()) {
+            Ok(BodyVersion::V2)
+        } else if front.starts_with(&BodyVersion::V3.mark()) {
+            Ok(BodyVersion::V3)
+        } else {
+            Err(FieldError::Version)
         }
-        Ok(())
     }
 
     /// The end of the body.
@@ -63,19 +69,24 @@ impl<'a> Cursor<'a> {
         ensures reads { ReadsAs fields draft_facts self.old self.new result }
         ensures empty { OnOk result (self.new.rest.now ≡ []) }
     {
-        self.mark()?;
+        let version = self.mark()?;
         let generation = self.number(8)?;
         let settings = self.settings(alloc)?;
+        let precedence = self.precedence(version)?;
         let inputs = self.within(4, 1, MAX_INPUTS as u64)? as u32;
-        let sources = self.sources(alloc, inputs, settings.scale, &settings.bounds)?;
+        let most = version.most_points();
+        let sources = self.sources(alloc, inputs, most, settings.scale, &settings.bounds)?;
         let inserted = self.within(8, 0, points_in(&sources))?;
         let lines = self.u32()?;
         let nodes = self.nodes(alloc, lines, deepest(&settings))?;
         self.end()?;
-        self.ripe(generation, inserted + u64::from(inputs))?;
+        let ripest = inserted + u64::from(inputs) + version.spare();
+        self.ripe(generation, ripest)?;
         Ok(Draft {
+            version,
             generation,
             settings,
+            precedence,
             sources,
             inserted,
             nodes,
@@ -98,10 +109,10 @@ fn deepest(settings: &Settings) -> u8
 fn points_in(sources: &Sources) -> u64
     requires few { length sources.now.inputs ≤ MAX_INPUTS }
     requires each { length sources.now.counts ≡ length sources.now.inputs }
-    requires counted { All (λ count. count.points < 2 ^ 32) sources.now.counts }
+    requires counted { All (λ count. count.points ≤ most_points) sources.now.counts }
     ensures points { result ≡ points_of_sources (sources_of sources.now.inputs sources.now.counts) }
     ensures counts { result ≡ total sources.now.counts }
-    ensures most { result ≤ 65535 * 4294967295 }
+    ensures most { result ≤ 65535 * most_points }
 {
     total_of(sources.counts.as_slice())
 }

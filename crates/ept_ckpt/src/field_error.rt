@@ -10,7 +10,7 @@ use std::alloc::{AllocError, AllocFailed};
 pub(crate) enum FieldError {
     /// The bytes end within a field, or go on behind the last one.
     Length,
-    /// The first bytes are not those of this version of the format.
+    /// The first bytes are not those of a version of the format.
     Version,
     /// The field that begins at this byte, from 0, is out of its range.
     Field { at: u64 },

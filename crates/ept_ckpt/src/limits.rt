@@ -2,8 +2,8 @@
 
 use ept_space::Bounds;
 
-/// The name of the format, `EPTW`, and its version, 1, with which a body begins.
-pub(crate) const MARK: [u8; 8] = *b"EPTW\x01\0\0\0";
+/// How many bytes the name of the format and the number of the version take.
+pub(crate) const MARK_LENGTH: usize = 8;
 
 /// Where the generation begins, in bytes.
 pub(crate) const GENERATION_AT: u64 = 8;

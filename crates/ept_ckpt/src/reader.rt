@@ -14,6 +14,7 @@ use crate::ckpt_error::CkptError;
 use crate::cursor::Cursor;
 use crate::draft::Draft;
 use crate::field_error::FieldError;
+use crate::precedence::Precedence;
 use crate::settings::Settings;
 use crate::sources::Sources;
 use crate::whole_octree::are_nodes_of;
@@ -26,11 +27,11 @@ use std::alloc::Global;
 ///
 /// # Errors
 ///
-/// The fields are looked at in order, and the first that is at fault decides: `Length` where the bytes end
-/// before it does, `Version` where the first bytes are others, and `Field` where it is out of its range.
-/// Behind the last field `Length` where bytes are left, then `Field` for the generation, which is from 1 to
-/// the number of points that are inserted and of inputs together, and then `Tree` where the nodes are no
-/// whole octree of these points. `Memory` may come at any place.
+/// The fields are looked at in order, and the first that is at fault decides: `Length` if the bytes end
+/// before it does, `Version` if the first bytes are not those of a [`BodyVersion`](crate::BodyVersion), and
+/// `Field` if it is out of its range. After the last field, `Length` if bytes are left, then `Field` for the
+/// generation, which is from 1 to the number of inserted points and inputs together, and one more in versions
+/// 2 and 3, and then `Tree` if the nodes are no whole octree of these points. `Memory` may come at any place.
 pub fn read_ckpt(alloc: Global, bytes: &[u8]) -> Result<Checkpoint, CkptError>
     ensures read { IfOk result (λ c. bytes.now ≡ body (facts c)) }
     ensures comes { (c : kept.Checkpoint) → bytes.now ≡ body (facts c)
@@ -71,16 +72,19 @@ fn checkpoint_of(draft: Draft) -> Checkpoint
     ensures { facts result ≡ draft_facts draft }
 {
     let Draft {
+        version,
         generation,
         settings,
+        precedence,
         sources,
         inserted,
         nodes,
     } = draft;
     let Sources { inputs, counts } = sources;
     Checkpoint {
+        version,
         generation,
-        kept: kept_of(settings, inputs),
+        kept: kept_of(settings, precedence, inputs),
         counts,
         inserted,
         nodes,
@@ -88,11 +92,13 @@ fn checkpoint_of(draft: Draft) -> Checkpoint
 }
 
 // What is kept of the configuration, with these inputs.
-fn kept_of(settings: Settings, inputs: List<Input>) -> Kept
+fn kept_of(settings: Settings, precedence: Precedence, inputs: List<Input>) -> Kept
     requires some { 1 ≤ length inputs }
     requires most { length inputs ≤ 65535 }
     requires scales { All (λ input. input.scale ≤ settings.scale) inputs }
     ensures settings { kept_facts result ≡ settings_facts settings }
+    ensures first { result.first ≡ precedence.first }
+    ensures withheld_last { result.withheld_last ≡ precedence.withheld_last }
     ensures inputs { result.inputs ≡ inputs }
 {
     let Settings {
@@ -114,6 +120,8 @@ fn kept_of(settings: Settings, inputs: List<Input>) -> Kept
         max_depth,
         step,
         srs,
+        first: precedence.first,
+        withheld_last: precedence.withheld_last,
         inputs,
     }
 }

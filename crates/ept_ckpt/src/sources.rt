@@ -10,7 +10,7 @@ ghost use Rattle.ept_ckpt.specs.Fields.{bytes, optional, times};
 ghost use Rattle.ept_ckpt.specs.Forms.{box_within, input_form, count_form, source_form};
 ghost use Rattle.ept_ckpt.specs.Reads.{Reads, ReadsAs};
 ghost use Rattle.ept_ckpt.specs.Valid.{ExtentInRange};
-ghost use Rattle.ept_config.specs.Counts.{IsCount};
+ghost use Rattle.ept_config.specs.Counts.{IsCount, most_points};
 ghost use Rattle.ept_config.specs.Ranges.{BoundsInRange};
 ghost use Rattle.ept_space.specs.CubeOfBounds.{IsInside};
 
@@ -78,12 +78,14 @@ impl<'a> Cursor<'a> {
 
     /// What was found of an input, in the next bytes.
     #[tactic(auto, unfolding(crate::specs::Forms::count_form))]
-    fn count(&mut self, bounds: &Bounds) -> Result<SourceCount, FieldError>
-        ensures reads { Reads (count_form bounds.now) self.old self.new result }
+    fn count(&mut self, most: u64, bounds: &Bounds) -> Result<SourceCount, FieldError>
+        requires { most ≤ most_points }
+        ensures reads { Reads (count_form most bounds.now) self.old self.new result }
+        ensures few { IfOk result (λ count. count.points ≤ most) }
         ensures count { IfOk result (IsCount bounds.now) }
         ensures extent { IfOk result ExtentInRange }
     {
-        let points = self.within(8, 0, u64::from(u32::MAX))?;
+        let points = self.within(8, 0, most)?;
         let there = u64::from(points > 0);
         let at = self.place();
         if self.number(1)? != there {
@@ -98,17 +100,20 @@ impl<'a> Cursor<'a> {
     pub(crate) fn source(
         &mut self,
         alloc: Global,
+        most: u64,
         scale: u8,
         bounds: &Bounds,
     ) -> Result<(Input, SourceCount), FieldError>
-        requires { scale ≤ 9 }
-        ensures reads { ReadsAs (source_form scale bounds.now) source_facts self.old self.new result }
+        requires most { most ≤ most_points }
+        requires scale { scale ≤ 9 }
+        ensures reads { ReadsAs (source_form most scale bounds.now) source_facts self.old self.new result }
         ensures scale { IfOk result (λ source. source.0.scale ≤ scale) }
+        ensures few { IfOk result (λ source. source.1.points ≤ most) }
         ensures count { IfOk result (λ source. IsCount bounds.now source.1) }
         ensures extent { IfOk result (λ source. ExtentInRange source.1) }
     {
         let input = self.input(alloc, scale)?;
-        let count = self.count(bounds)?;
+        let count = self.count(most, bounds)?;
         Ok((input, count))
     }
 
@@ -117,22 +122,25 @@ impl<'a> Cursor<'a> {
         &mut self,
         alloc: Global,
         number: u32,
+        most: u64,
         scale: u8,
         bounds: &Bounds,
     ) -> Result<Sources, FieldError>
-        requires { scale ≤ 9 }
-        ensures reads { ReadsAs (times number (source_form scale bounds.now)) (λ s. sources_of s.inputs s.counts)
+        requires most { most ≤ most_points }
+        requires scale { scale ≤ 9 }
+        ensures reads { ReadsAs (times number (source_form most scale bounds.now)) (λ s. sources_of s.inputs s.counts)
             self.old self.new result }
         ensures inputs { IfOk result (λ s. length s.inputs ≡ number) }
         ensures each { IfOk result (λ s. length s.counts ≡ number) }
         ensures scales { IfOk result (λ s. All (λ input. input.scale ≤ scale) s.inputs) }
+        ensures few { IfOk result (λ s. All (λ count. count.points ≤ most) s.counts) }
         ensures counts { IfOk result (λ s. All (IsCount bounds.now) s.counts) }
         ensures extents { IfOk result (λ s. All ExtentInRange s.counts) }
     {
         let mut inputs = Vec::new(alloc);
         let mut counts = Vec::new(alloc);
         for _ in 0..number {
-            let (input, count) = self.source(alloc, scale, bounds)?;
+            let (input, count) = self.source(alloc, most, scale, bounds)?;
             inputs.push(input)?;
             counts.push(count)?;
         }

@@ -3,16 +3,16 @@
 ghost use Rattle.std.specs.Prelude.{◌≡◌, ◌++◌, length, map, OnOk, OnErr};
 ghost use Rattle.std.specs.List.{flat_map, zip};
 ghost use Rattle.ept_config.specs.Facts.{input_facts, srs_facts};
-ghost use Rattle.ept_ckpt.specs.Body.{mark_bytes, kept_bytes, srs_bytes, source_bytes, node_bytes, optional, bounds_bytes, body};
-ghost use Rattle.ept_ckpt.specs.Facts.{kept_facts, facts};
+ghost use Rattle.ept_ckpt.specs.Body.{kept_bytes, precedence_bytes, srs_bytes, source_bytes, node_bytes, optional, bounds_bytes, body};
+ghost use Rattle.ept_ckpt.specs.Facts.{kept_facts, precedence_of, facts};
 
 use crate::append::{
     append, append_bounds, append_i64s, append_path, append_srs_text, append_u8, append_u32,
     append_u64, flag,
 };
 use crate::checkpoint::Checkpoint;
-use crate::limits::MARK;
 use crate::node_line::NodeLine;
+use crate::version::BodyVersion;
 use ept_config::{EXPECT_WIDTH, Input, Kept, SourceCount, Srs};
 use ept_point::Memory;
 use ept_space::Bounds;
@@ -35,9 +35,10 @@ fn append_body(out: &mut Vec<u8>, checkpoint: &Checkpoint) -> Result<(), Memory>
 {
     let counts = checkpoint.counts.as_slice();
     let nodes = checkpoint.nodes.as_slice();
-    append_mark(out)?;
+    append(out, &checkpoint.version.mark())?;
     append_u64(out, checkpoint.generation)?;
     append_kept(out, &checkpoint.kept)?;
+    append_precedence(out, checkpoint.version, &checkpoint.kept)?;
     append_u32(out, counts.len() as u32)?;
     append_sources(out, &checkpoint.kept, counts)?;
     append_u64(out, checkpoint.inserted)?;
@@ -46,11 +47,15 @@ fn append_body(out: &mut Vec<u8>, checkpoint: &Checkpoint) -> Result<(), Memory>
     Ok(())
 }
 
-#[tactic(auto, unfolding(crate::specs::Body::mark_bytes))]
-fn append_mark(out: &mut Vec<u8>) -> Result<(), Memory>
-    ensures { OnOk result (out.new.items ≡ out.old.items ++ mark_bytes) }
+// Which points come first and last, where the version has it.
+fn append_precedence(out: &mut Vec<u8>, version: BodyVersion, kept: &Kept) -> Result<(), Memory>
+    ensures { OnOk result (out.new.items ≡ out.old.items ++ precedence_bytes version (precedence_of kept.now)) }
 {
-    append(out, &MARK)
+    if version == BodyVersion::V3 {
+        append(out, &kept.first.bytes)?;
+        append_u8(out, u8::from(kept.withheld_last))?;
+    }
+    Ok(())
 }
 
 #[tactic(auto, unfolding(crate::specs::Body::kept_bytes))]

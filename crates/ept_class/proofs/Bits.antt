@@ -1,10 +1,10 @@
 -- Lists of bytes, of which each bit is a member.
-use Rattle.std.proofs.Common.{◌≡◌, ℕ, zero, suc, bit_and, ◌+◌, ◌*◌, ◌/◌, ◌%◌, ◌^◌, ◌<◌, ◌||◌, Bool, true, false, eqb, bit_or, List, [], ◌∷◌, length, get_or, slice_set, refl, sym, ap, ◌∙◌, arith, w8}
+use Rattle.std.proofs.Common.{◌≡◌, ℕ, zero, suc, bit_and, ◌+◌, ◌*◌, ◌/◌, ◌%◌, ◌^◌, ◌<◌, ◌||◌, Bool, true, false, not, eqb, bit_or, ◌⊎◌, inl, inr, List, [], ◌∷◌, length, get_or, slice_set, refl, sym, ap, ◌∙◌, arith, w8}
 use Rattle.std.specs.Bool.{Decides}
 use Rattle.std.specs.Int.{bit_at}
 use Rattle.std.specs.List.{AllByRecursion, list_any}
 use Rattle.std.proofs.lemmas.Bool.Decides.{nat_tests, Decides-eqb, not_from_Decides}
-use Rattle.std.proofs.lemmas.Bool.{eq-eqb}
+use Rattle.std.proofs.lemmas.Bool.{cases_Bool as either, eq-eqb, false≢true, or_right, or_parts}
 use Rattle.std.proofs.lemmas.Grind.{same_number_lists}
 use Rattle.std.proofs.lemmas.List.{get_or-set_same, get_or-set_other, length-set}
 use Rattle.std.proofs.lemmas.Nat.{or_of_8}
@@ -12,8 +12,10 @@ use Rattle.std.proofs.lemmas.Nat.Bits.{shr_and_one, bit_at-zero, bit_at-lt, bit_
 use denote.Struct.Record.{values_one}
 use Rattle.ept_class.specs.contracts.class_set.ClassSet.{struct, the_propositions}
 use Rattle.ept_class.specs.Bytes.{AreSetBytes}
-use Rattle.ept_class.specs.ClassSet.{has_class}
-use Rattle.ept_class.specs.Laws.{MembersMakeTheSet, ClassesHaveASet}
+use Rattle.ept_class.specs.declared.class_set.ClassSet.{ClassSet}
+use Rattle.ept_class.specs.ClassSet.{has_class, has_member}
+use Rattle.ept_class.specs.NoClass.{no_bytes, no_bytes_read, no_bytes-set_bytes, no_class}
+use Rattle.ept_class.specs.Laws.{MembersMakeTheSet, ClassesHaveASet, AMemberIsAClass}
 
 -- the bit of a class is set
 abbrev pub is_set : List ℕ → ℕ → Bool
@@ -21,22 +23,8 @@ is_set bytes class = eqb (bit_at (get_or bytes (class / 8) 0) (class % 8)) 1
 
 -- ---- no member
 
-abbrev pub no_bytes : List ℕ
-no_bytes = 0 ∷ 0 ∷ 0 ∷ 0 ∷ 0 ∷ 0 ∷ 0 ∷ 0 ∷ 0 ∷ 0 ∷ 0 ∷ 0 ∷ 0 ∷ 0 ∷ 0 ∷ 0 ∷ 0 ∷ 0 ∷ 0 ∷ 0 ∷ 0 ∷ 0 ∷ 0 ∷ 0 ∷ 0 ∷ 0 ∷ 0 ∷ 0 ∷ 0 ∷ 0 ∷ 0 ∷ 0 ∷ []
-
-reads_zero : (bytes : List ℕ) (k : ℕ) → AllByRecursion (λ b. b ≡ 0) bytes → get_or bytes k 0 ≡ 0
-reads_zero [] k none = refl
-reads_zero (b ∷ bytes) zero none = none.0
-reads_zero (b ∷ bytes) (suc k) none = reads_zero bytes k none.1
-
-no_bytes_read : (k : ℕ) → get_or no_bytes k 0 ≡ 0
-no_bytes_read k = reads_zero no_bytes k (refl, (refl, (refl, (refl, (refl, (refl, (refl, (refl, (refl, (refl, (refl, (refl, (refl, (refl, (refl, (refl, (refl, (refl, (refl, (refl, (refl, (refl, (refl, (refl, (refl, (refl, (refl, (refl, (refl, (refl, (refl, (refl, tt))))))))))))))))))))))))))))))))
-
 pub none-set : (class : ℕ) → is_set no_bytes class ≡ false
 none-set class = rw (no_bytes_read (class / 8), bit_at-zero (class % 8)) refl
-
-pub no_bytes-set_bytes : AreSetBytes no_bytes
-no_bytes-set_bytes = record { len = refl; widths = λ k. omega (arith, no_bytes_read k) }
 
 -- ---- a member
 
@@ -110,11 +98,14 @@ same-bytes : (a b : List ℕ) → AreSetBytes a → AreSetBytes b → ((class : 
 same-bytes a b are_a are_b same =
     same_number_lists a b (are_a.len ∙ sym are_b.len) (λ k inside. same_from_bits_below 8 (get_or a k 0) (get_or b k 0) (are_a.widths k) (are_b.widths k) (same-bits a b same k))
 
+-- two sets of the same bytes are the same
+pub same_set : (a b : ClassSet) → a.bytes ≡ b.bytes → a ≡ b
+same_set a b bytes = values_one struct the_propositions a b (λ i. (bytes i, tt))
+
 pub members_make_the_set : MembersMakeTheSet
 unfolding has_class
 members_make_the_set a b same =
-    let bytes : a.bytes ≡ b.bytes = same-bytes a.bytes b.bytes a.set_bytes b.set_bytes same in
-    values_one struct the_propositions a b (λ i. (bytes i, tt))
+    same_set a b (same-bytes a.bytes b.bytes a.set_bytes b.set_bytes same)
 
 bytes_with : (classes : List ℕ) → AllByRecursion (λ class. class < 256) classes → (bytes : List ℕ) × AreSetBytes bytes × ((class : ℕ) → is_set bytes class ≡ list_any (λ member. eqb class member) classes)
 bytes_with [] small = (no_bytes, no_bytes-set_bytes, none-set)
@@ -128,3 +119,81 @@ unfolding has_class
 classes_have_a_set classes small =
     let found = bytes_with classes small in
     (record { bytes = found.0; set_bytes = found.1 }, found.2)
+
+-- ---- some member
+
+-- of the lowest bits of a byte one is set, or none is
+some-bit : (byte n : ℕ) → ((i : ℕ) × (bit_at byte i ≡ 1) × (i < n)) ⊎ ((i : ℕ) → i < n → bit_at byte i ≡ 0)
+some-bit byte zero = inr (λ i h. absurd (omega arith))
+some-bit byte (suc n) =
+    elim (some-bit byte n) [
+      | inl found ↦ inl (found.0, found.1, omega (arith, found.2))
+      | inr none ↦ here (eqb (bit_at byte n) 1) (Decides-eqb (bit_at byte n) 1) none
+    ] where
+      here : (set : Bool) → Decides set (bit_at byte n ≡ 1) → ((i : ℕ) → i < n → bit_at byte i ≡ 0) → ((i : ℕ) × (bit_at byte i ≡ 1) × (i < suc n)) ⊎ ((i : ℕ) → i < suc n → bit_at byte i ≡ 0)
+      here true d none = inl (n, d.0 refl, omega arith)
+      here false d none = inr each where
+        each : (i : ℕ) → i < suc n → bit_at byte i ≡ 0
+        each i h = last (eqb i n) (Decides-eqb i n) where
+          last : (same : Bool) → Decides same (i ≡ n) → bit_at byte i ≡ 0
+          last true e = rw (e.0 refl) (omega (arith, bit_at-lt byte n, not_from_Decides false d refl))
+          last false e = none i (omega (arith, not_from_Decides false e refl))
+
+-- a byte that is not 0 has a bit
+bit-of : (byte : ℕ) → byte < 2 ^ 8 → not (eqb byte 0) ≡ true → (i : ℕ) × (bit_at byte i ≡ 1) × (i < 8)
+bit-of byte small some =
+    elim (some-bit byte 8) [
+      | inl found ↦ found
+      | inr none ↦
+          let zero_byte : byte ≡ 0 = same_from_bits_below 8 byte 0 small (omega arith) (λ i h. none i h ∙ sym (bit_at-zero i)) in
+          absurd (grind (arith, nat_tests))
+    ]
+
+some-byte : (bytes : List ℕ) → list_any (λ byte. not (eqb byte 0)) bytes ≡ true → (k : ℕ) × (not (eqb (get_or bytes k 0) 0) ≡ true)
+some-byte [] some = absurd (false≢true some)
+some-byte (b ∷ bytes) some =
+    elim (either (not (eqb b 0))) [
+      | inl here ↦ (0, here)
+      | inr none ↦ let later = some-byte bytes (rw none at some) in (suc later.0, later.1)
+    ]
+
+byte-some : (bytes : List ℕ) (k : ℕ) → not (eqb (get_or bytes k 0) 0) ≡ true → list_any (λ byte. not (eqb byte 0)) bytes ≡ true
+byte-some [] k some = absurd (false≢true some)
+byte-some (b ∷ bytes) zero some = rw some refl
+byte-some (b ∷ bytes) (suc k) some = or_right (not (eqb b 0)) _ (byte-some bytes k some)
+
+pub a_member_is_a_class : AMemberIsAClass
+unfolding has_class has_member
+a_member_is_a_class set = (found, has)
+  where
+    found : list_any (λ byte. not (eqb byte 0)) set.bytes ≡ true → (class : ℕ) × (is_set set.bytes class ≡ true)
+    found some =
+        let byte = some-byte set.bytes some in
+        let bit = bit-of (get_or set.bytes byte.0 0) (set.set_bytes.widths byte.0) byte.1 in
+        let at : (8 * byte.0 + bit.0) / 8 ≡ byte.0 = omega (arith, bit.2) in
+        let low : (8 * byte.0 + bit.0) % 8 ≡ bit.0 = omega (arith, bit.2) in
+        (8 * byte.0 + bit.0, rw (at, low, bit.1) refl)
+
+    has : ((class : ℕ) × (is_set set.bytes class ≡ true)) → list_any (λ byte. not (eqb byte 0)) set.bytes ≡ true
+    has member =
+        let k = member.0 / 8 in
+        byte-some set.bytes k (of (eqb (get_or set.bytes k 0) 0) (Decides-eqb (get_or set.bytes k 0) 0)) where
+          of : (none : Bool) → Decides none (get_or set.bytes (member.0 / 8) 0 ≡ 0) → not none ≡ true
+          of true d =
+              let bit : bit_at (get_or set.bytes (member.0 / 8) 0) (member.0 % 8) ≡ 0 = rw (d.0 refl) (bit_at-zero (member.0 % 8)) in
+              absurd (false≢true (rw bit at member.1))
+          of false d = refl
+
+-- a set without a member has these bytes
+no_member-zero : (bytes : List ℕ) (k : ℕ) → list_any (λ byte. not (eqb byte 0)) bytes ≡ false → get_or bytes k 0 ≡ 0
+no_member-zero [] k none = refl
+no_member-zero (b ∷ bytes) zero none = let here = (or_parts (not (eqb b 0)) _ none).0 in grind (arith, nat_tests)
+no_member-zero (b ∷ bytes) (suc k) none = no_member-zero bytes k (or_parts (not (eqb b 0)) _ none).1
+
+pub no_member_bytes : (set : ClassSet) → has_member set ≡ false → set.bytes ≡ no_bytes
+unfolding has_member
+no_member_bytes set none = same_number_lists set.bytes no_bytes set.set_bytes.len (λ k inside. no_member-zero set.bytes k none ∙ sym (no_bytes_read k))
+
+pub none_has_no_member : has_member no_class ≡ false
+unfolding has_member
+none_has_no_member = refl

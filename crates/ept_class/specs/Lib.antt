@@ -1,3 +1,4 @@
 pub mod Bytes
 pub mod ClassSet
+pub mod NoClass
 pub mod Laws

@@ -3,7 +3,7 @@
 ghost use Rattle.ept_class.specs.Bytes.{AreSetBytes};
 
 /// How many bytes a set takes: a bit for each class.
-const SET_LENGTH: usize = 32;
+pub const SET_LENGTH: usize = 32;
 
 /// A set of classes, each a number from 0 to 255. A class `c` is a member where the bit `c % 8` of the
 /// byte `c / 8` is set.
@@ -15,16 +15,25 @@ pub struct ClassSet {
 }
 
 impl ClassSet {
-    ghost use Rattle.std.specs.Prelude.{◌≡◌, ◌==◌, ◌||◌, ℕ, false};
-    ghost use Rattle.ept_class.specs.ClassSet.{has_class};
+    ghost use Rattle.std.specs.Prelude.{◌≡◌, ◌==◌, ◌||◌, ℕ, false, not};
+    ghost use Rattle.ept_class.specs.ClassSet.{has_class, has_member};
+    ghost use Rattle.ept_class.specs.NoClass.{no_class};
 
     /// The set without a member.
     pub fn new() -> ClassSet
         ensures empty { (class : ℕ) → has_class result class ≡ false }
+        ensures value { result ≡ no_class }
     {
         ClassSet {
             bytes: [0; SET_LENGTH],
         }
+    }
+
+    /// The set of these bytes.
+    pub fn of(bytes: [u8; SET_LENGTH]) -> ClassSet
+        ensures { result.bytes ≡ bytes }
+    {
+        ClassSet { bytes }
     }
 
     /// Whether a class is a member.
@@ -32,6 +41,13 @@ impl ClassSet {
         ensures member { result ≡ has_class self.now class }
     {
         self.bytes[usize::from(class / 8)] >> (class % 8) & 1 == 1
+    }
+
+    /// Whether no class is a member.
+    pub fn is_empty(&self) -> bool
+        ensures none { result ≡ not (has_member self.now) }
+    {
+        !self.bytes.iter().any(|byte| *byte != 0)
     }
 
     /// Makes a class a member.

@@ -4,5 +4,5 @@
 mod class_set;
 mod laws;
 
-pub use class_set::ClassSet;
+pub use class_set::{ClassSet, SET_LENGTH};
 pub use laws::class_set_law;

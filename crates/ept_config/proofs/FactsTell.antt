@@ -2,6 +2,7 @@
 use Rattle.std.proofs.Common.{◌≡◌, List, [], ◌∷◌, map, refl}
 use Rattle.std.proofs.Props.{props}
 use mathlib.Core.HLevel.{is_prop→PathP}
+use Rattle.ept_class.proofs.Bits.{members_make_the_set}
 use Rattle.ept_config.specs.declared.input.Input.{Input}
 use Rattle.ept_config.specs.declared.srs.Srs.{Srs}
 use Rattle.ept_config.specs.declared.config.Config.{Config}
@@ -49,6 +50,8 @@ config_same a b e = λ i. record {
   max_depth = (e i).max_depth;
   step = (e i).step;
   srs = same_srs i;
+  first = same_first i;
+  withheld_last = (e i).withheld_last;
   inputs = same_inputs i;
   threads = (e i).threads;
   cache = (e i).cache;
@@ -61,6 +64,9 @@ config_same a b e = λ i. record {
   where
     same_srs : a.srs ≡ b.srs
     same_srs = srs_same a.srs b.srs (λ i. (e i).srs)
+
+    same_first : a.first ≡ b.first
+    same_first = members_make_the_set a.first b.first (λ class i. (e i).first class)
 
     same_inputs : a.inputs ≡ b.inputs
     same_inputs = inputs_same a.inputs b.inputs (λ i. (e i).inputs)

@@ -9,7 +9,7 @@ use Rattle.ept_config.specs.declared.config_error.ConfigError.{ConfigError}
 use Rattle.ept_config.specs.declared.config_error.ConfigError.TheVariants.{Json, Unknown, Missing, Kind, Range, Threads, Long, Memory}
 use Rattle.ept_config.specs.Steps.{◌>>=◌, unless_refused}
 use Rattle.ept_config.specs.Facts.{SrsFacts}
-use Rattle.ept_config.specs.Values.{natural, span, offset, bounds, srs, srs_text, srs_texts, input, each_input, list_inputs, inputs, natural_at, span_at, offset_at, bounds_at, srs_at}
+use Rattle.ept_config.specs.Values.{natural, span, offset, bounds, srs, srs_text, srs_texts, input, each_input, list_inputs, inputs, natural_at, span_at, offset_at, bounds_at, srs_at, first_classes, first_classes_at, withheld_last_at}
 use Rattle.ept_config.specs.Configuration.{work_at, values}
 
 -- the place of a refusal in the order of the checks
@@ -122,6 +122,18 @@ srs_at-fault : (d : Data) → IsWithin 6 6 (srs_at d)
 unfolding srs_at
 srs_at-fault d = search (arith, given_or, srs-fault) depth 14
 
+first_classes-fault : (d : Data) → IsWithin 6 6 (first_classes d)
+unfolding first_classes
+first_classes-fault d = search (arith, then, some_or) depth 14
+
+first_classes_at-fault : (d : Data) → IsWithin 6 6 (first_classes_at d)
+unfolding first_classes_at
+first_classes_at-fault d = search (arith, given_or, first_classes-fault) depth 14
+
+withheld_last_at-fault : (d : Data) → IsWithin 6 6 (withheld_last_at d)
+unfolding withheld_last_at
+withheld_last_at-fault d = search (arith, given_or, some_or) depth 14
+
 work_at-fault : (d : Data) → IsWithin 6 6 (work_at d)
 unfolding work_at
 work_at-fault d = search (arith, then, accepted, natural_at-fault) depth 14
@@ -129,4 +141,4 @@ work_at-fault d = search (arith, then, accepted, natural_at-fault) depth 14
 -- the values of the keys are refused for their kinds and ranges alone
 pub values-fault : (input scale d : Data) → IsWithin 6 6 (values input scale d)
 unfolding values
-values-fault input scale d = search (arith, then, accepted, natural-fault, inputs-fault, offset_at-fault, bounds_at-fault, span_at-fault, natural_at-fault, srs_at-fault, work_at-fault) depth 14
+values-fault input scale d = search (arith, then, accepted, natural-fault, inputs-fault, offset_at-fault, bounds_at-fault, span_at-fault, natural_at-fault, srs_at-fault, first_classes_at-fault, withheld_last_at-fault, work_at-fault) depth 14

@@ -3,6 +3,7 @@ mod Objects
 mod Signed
 mod Places
 mod EachInput
+mod ClassLists
 mod Faults
 mod RefusalLaws
 pub mod FactsTell

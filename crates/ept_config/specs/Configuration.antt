@@ -9,7 +9,7 @@ use Rattle.ept_config.specs.declared.config_error.ConfigError.TheVariants as err
 use Rattle.ept_config.specs.Keys.{name_of}
 use Rattle.ept_json.specs.Document.{document}
 use Rattle.ept_config.specs.Json.{has_only}
-use Rattle.ept_config.specs.Values.{natural, natural_at, span_at, offset_at, bounds_at, inputs, srs_at}
+use Rattle.ept_config.specs.Values.{natural, natural_at, span_at, offset_at, bounds_at, inputs, srs_at, first_classes_at, withheld_last_at}
 use Rattle.ept_config.specs.Facts.{Facts}
 use Rattle.ept_config.specs.Steps.{◌>>=◌, required, unless_refused}
 
@@ -25,6 +25,8 @@ top_keys =
     ∷ name_of key.MaxDepth
     ∷ name_of key.HierarchyStep
     ∷ name_of key.Srs
+    ∷ name_of key.FirstClasses
+    ∷ name_of key.WithheldLast
     ∷ name_of key.Threads
     ∷ name_of key.CacheSize
     ∷ name_of key.MaxNodes
@@ -58,6 +60,8 @@ values input scale_value d = do
   max_depth ← natural_at key.MaxDepth 0 32 32 d
   step ← natural_at key.HierarchyStep 0 32 0 d
   srs ← srs_at d
+  first ← first_classes_at d
+  withheld_last ← withheld_last_at d
   work ← work_at d
   Ok (record {
     scale = scale;
@@ -68,6 +72,8 @@ values input scale_value d = do
     max_depth = max_depth;
     step = step;
     srs = srs;
+    first = first;
+    withheld_last = withheld_last;
     inputs = list;
     threads = work.threads;
     cache = work.cache;

@@ -1,11 +1,15 @@
 -- The number of an input's points and their extent: whose they are, and what such a count may be.
-use Rattle.std.specs.Prelude.{◌≡◌, ℕ, ◌<◌, ◌^◌, ◌↔◌, List, length, sum_by, IsSome}
+use Rattle.std.specs.Prelude.{◌≡◌, ℕ, ◌<◌, ◌≤◌, ◌↔◌, List, length, sum_by, IsSome}
 use Rattle.std.specs.Option.{ForSome}
 use Rattle.ept_point.specs.declared.point.Point.{Point}
 use Rattle.ept_space.specs.declared.bounds.Bounds.{Bounds}
 use Rattle.ept_space.specs.CubeOfBounds.{HasPlace, IsInside}
 use Rattle.ept_config.specs.declared.source_count.SourceCount.{SourceCount}
 use Rattle.ept_config.specs.Extents.{HasExtent}
+
+-- how many points an input may have: 2 ^ 40 - 1
+abbrev pub most_points : ℕ
+most_points = 1099511627775
 
 -- the number of all points of some counts
 abbrev pub total : List SourceCount → ℕ
@@ -16,10 +20,10 @@ pub record IsCountOf (points : List Point) (count : SourceCount) : Type 0 where
   pub number : count.points ≡ length points
   pub has_extent : HasExtent points count.extent
 
--- The points number fewer than 2 ^ 32. An extent is there exactly where there are points: its minimum is at most
+-- The points are not too many. An extent is there exactly where there are points: its minimum is at most
 -- its maximum on every axis, and it lies within the bounds.
 pub record IsCount (bounds : Bounds) (count : SourceCount) : Type 0 where
-  pub few : count.points < 2 ^ 32
+  pub few : count.points ≤ most_points
   pub there : IsSome count.extent ↔ (0 < count.points)
   pub ordered : ForSome count.extent HasPlace
   pub inside : ForSome count.extent (IsInside bounds)

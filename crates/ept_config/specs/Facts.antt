@@ -1,5 +1,6 @@
 -- A configuration as numbers and lists.
-use Rattle.std.specs.Prelude.{ℕ, ℤ, List, map, Option}
+use Rattle.std.specs.Prelude.{ℕ, ℤ, Bool, List, map, Option}
+use Rattle.ept_class.specs.ClassSet.{has_class}
 use Rattle.ept_space.specs.declared.bounds.Bounds.{Bounds}
 use Rattle.ept_config.specs.declared.input.Input.{Input}
 use Rattle.ept_config.specs.declared.srs.Srs.{Srs}
@@ -26,6 +27,8 @@ pub record Facts : Type 0 where
   pub max_depth : ℕ
   pub step : ℕ
   pub srs : SrsFacts
+  pub first : ℕ → Bool
+  pub withheld_last : Bool
   pub inputs : List InputFacts
   pub threads : ℕ
   pub cache : ℕ
@@ -48,6 +51,8 @@ facts config = record {
   max_depth = config.max_depth;
   step = config.step;
   srs = srs_facts config.srs;
+  first = has_class config.first;
+  withheld_last = config.withheld_last;
   inputs = map input_facts config.inputs;
   threads = config.threads;
   cache = config.cache;

@@ -14,4 +14,6 @@ pub record IsKeptOf (config : Config) (bounds : Bounds) (kept : Kept) : Type 0 w
   pub max_depth_is : kept.max_depth ≡ config.max_depth
   pub step_is : kept.step ≡ config.step
   pub srs_is : kept.srs ≡ config.srs
+  pub first_is : kept.first ≡ config.first
+  pub withheld_last_is : kept.withheld_last ≡ config.withheld_last
   pub inputs_is : kept.inputs ≡ config.inputs

@@ -10,6 +10,7 @@ pub mod Facts
 pub mod Numbers
 pub mod Inputs
 pub mod SrsTexts
+pub mod Classes
 pub mod RawInputs
 pub mod RawSrs
 pub mod Values

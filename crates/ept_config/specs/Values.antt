@@ -1,9 +1,9 @@
 -- The value of each key: its kind is looked at before its range.
-use Rattle.std.specs.Prelude.{ℕ, ℤ, Bool, pos, ◌^◌, ◌&&◌, nat_le, length, List, [], ◌∷◌, if◌then◌else◌, Option, Some, None, Result, Ok}
+use Rattle.std.specs.Prelude.{ℕ, ℤ, Bool, false, pos, ◌^◌, ◌&&◌, nat_le, length, List, [], ◌∷◌, if◌then◌else◌, Option, Some, None, option_map, Result, Ok}
 use Rattle.std.specs.Option.{option_map_or}
 use Rattle.std.specs.List.{list_all}
 use Rattle.serde_json.specs.Data.{Data}
-use Rattle.serde_json.specs.Find.{get}
+use Rattle.serde_json.specs.Find.{get, as_bool}
 use Rattle.ept_space.specs.declared.bounds.Bounds.{Bounds}
 use Rattle.ept_config.specs.declared.config_key.ConfigKey.{ConfigKey}
 use Rattle.ept_config.specs.declared.config_key.ConfigKey.TheVariants as key
@@ -14,6 +14,7 @@ use Rattle.ept_config.specs.Json.{whole, wholes}
 use Rattle.ept_config.specs.Numbers.{natural_within, span_exponent, all_within, bounds_within}
 use Rattle.ept_config.specs.Inputs.{raw_input, input_within, input_items, is_input}
 use Rattle.ept_config.specs.SrsTexts.{raw_srs, fits_srs, no_srs}
+use Rattle.ept_config.specs.Classes.{whole_items, distinct_classes, is_listed}
 use Rattle.ept_config.specs.Facts.{InputFacts, SrsFacts}
 use Rattle.ept_config.specs.Steps.{◌>>=◌, of_kind, in_range, unless_refused}
 
@@ -62,6 +63,12 @@ input scale d = do
   members ← of_kind key.Input (raw_input d)
   in_range key.Input (input_within scale members)
 
+-- the classes that come first: an array of whole numbers, each a class, none twice
+unfoldable pub first_classes : Data → Result (ℕ → Bool) ConfigError
+first_classes d = do
+  items ← of_kind key.FirstClasses (whole_items d)
+  in_range key.FirstClasses (option_map is_listed (distinct_classes items))
+
 -- inputs one after another
 abbrev pub each_input : ℕ → List Data → Result (List InputFacts) ConfigError
 each_input scale [] = Ok []
@@ -102,3 +109,11 @@ bounds_at top = option_map_or bounds (get (name_of key.Bounds) top) (Ok None)
 
 unfoldable pub srs_at : Data → Result SrsFacts ConfigError
 srs_at top = option_map_or srs (get (name_of key.Srs) top) (Ok no_srs)
+
+-- no class comes first
+unfoldable pub first_classes_at : Data → Result (ℕ → Bool) ConfigError
+first_classes_at top = option_map_or first_classes (get (name_of key.FirstClasses) top) (Ok (is_listed []))
+
+-- withheld points come last where this is true, and are as others
+unfoldable pub withheld_last_at : Data → Result Bool ConfigError
+withheld_last_at top = option_map_or (λ d. of_kind key.WithheldLast (as_bool d)) (get (name_of key.WithheldLast) top) (Ok false)

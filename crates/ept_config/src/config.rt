@@ -8,6 +8,7 @@ use crate::copies::{copy_of_inputs, copy_of_srs};
 use crate::input::Input;
 use crate::kept::Kept;
 use crate::srs::Srs;
+use ept_class::ClassSet;
 use ept_point::{List, Memory};
 use ept_space::Bounds;
 use std::alloc::Global;
@@ -32,6 +33,10 @@ pub struct Config {
     pub step: u8,
     /// The spatial reference.
     pub srs: Srs,
+    /// The classes whose points come before all others. Without a member all classes are alike.
+    pub first: ClassSet,
+    /// Whether withheld points come after all others.
+    pub withheld_last: bool,
     /// The inputs in order. None has a greater scale than the build.
     pub inputs: List<Input>,
     /// The number of threads that insert points, from 1 to `cache`.
@@ -78,6 +83,8 @@ impl Config {
             max_depth: self.max_depth,
             step: self.step,
             srs,
+            first: self.first,
+            withheld_last: self.withheld_last,
             inputs,
         })
     }

@@ -6,6 +6,7 @@ ghost use Rattle.std.proofs.Props.{props};
 use crate::copies::{copy_of_inputs, copy_of_srs};
 use crate::input::Input;
 use crate::srs::Srs;
+use ept_class::ClassSet;
 use ept_point::{List, Memory};
 use ept_space::Bounds;
 use std::alloc::Global;
@@ -29,6 +30,10 @@ pub struct Kept {
     pub step: u8,
     /// The spatial reference.
     pub srs: Srs,
+    /// The classes whose points come before all others. Without a member all classes are alike.
+    pub first: ClassSet,
+    /// Whether withheld points come after all others.
+    pub withheld_last: bool,
     /// The inputs in order. None has a greater scale than the build.
     pub inputs: List<Input>,
     pub ghost layout: { LayoutInRange scale offset s threshold max_depth step inputs } by { Prim.hlevel props },
@@ -62,6 +67,8 @@ impl Kept {
             max_depth: self.max_depth,
             step: self.step,
             srs,
+            first: self.first,
+            withheld_last: self.withheld_last,
             inputs,
         })
     }

@@ -2,6 +2,7 @@
 #![tactic(auto)]
 
 mod bounds_range;
+mod classes;
 mod config;
 mod config_error;
 mod config_key;
@@ -34,6 +35,6 @@ pub use limits::{
     MAX_SRS_TEXT, MAX_STEP, MAX_THRESHOLD,
 };
 pub use reader::{read_config, read_value};
-pub use source_count::{SourceCount, total_of};
+pub use source_count::{MAX_POINTS, SourceCount, total_of};
 pub use srs::Srs;
 pub use texts::{is_path, is_srs_text};

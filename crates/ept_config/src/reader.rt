@@ -10,6 +10,7 @@ ghost use Rattle.serde_json.specs.Find.{get};
 ghost use Rattle.ept_config.specs.Keys.{name_of};
 ghost use Rattle.ept_config.specs.Steps.{required};
 
+use crate::classes::{first_classes_at, withheld_last_at};
 use crate::config::Config;
 use crate::config_error::ConfigError;
 use crate::config_key::ConfigKey;
@@ -27,7 +28,7 @@ use serde_json::Value;
 use std::alloc::Global;
 
 /// The keys of a configuration.
-const KEYS: [&str; 13] = [
+const KEYS: [&str; 15] = [
     "input",
     "scale",
     "offset",
@@ -37,6 +38,8 @@ const KEYS: [&str; 13] = [
     "maxDepth",
     "hierarchyStep",
     "srs",
+    "firstClasses",
+    "withheldLast",
     "threads",
     "cacheSize",
     "maxNodes",
@@ -55,8 +58,9 @@ const KEYS: [&str; 13] = [
 /// are the text of no JSON value, `Kind` of `Top` where the value is no object, `Unknown` where it has
 /// another key, `Missing` for `input` and then for `scale`, then `Kind` before `Range` for `scale` and
 /// then for each key in the order `input`, `offset`, `bounds`, `span`, `minNodeSize`, `maxDepth`,
-/// `hierarchyStep`, `srs`, `threads`, `cacheSize`, `maxNodes`, `checkpoint`, and at last `Threads` where
-/// `cacheSize` is below `threads`. `Memory` may come at any place.
+/// `hierarchyStep`, `srs`, `firstClasses`, `withheldLast`, `threads`, `cacheSize`, `maxNodes`,
+/// `checkpoint`, and at last `Threads` where `cacheSize` is below `threads`. `Memory` may come at any
+/// place.
 #[tactic(auto, unfolding(crate::specs::Configuration::reading))]
 pub fn read_config(alloc: Global, bytes: &[u8]) -> Result<Config, ConfigError>
     ensures ok { IfOk result (λ config. reading bytes.now ≡ Ok (facts config)) }
@@ -132,6 +136,8 @@ fn read_object(alloc: Global, top: &Value) -> Result<Config, ConfigError>
         top,
     )?;
     let srs = srs_at(alloc, top)?;
+    let first = first_classes_at(top)?;
+    let withheld_last = withheld_last_at(top)?;
     let work = work_at(top)?;
     if work.cache < work.threads {
         return Err(ConfigError::Threads);
@@ -145,6 +151,8 @@ fn read_object(alloc: Global, top: &Value) -> Result<Config, ConfigError>
         max_depth: max_depth as u8,
         step: step as u8,
         srs,
+        first,
+        withheld_last,
         inputs,
         threads: work.threads,
         cache: work.cache,

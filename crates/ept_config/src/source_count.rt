@@ -2,7 +2,7 @@
 
 ghost use Rattle.std.specs.Prelude.{◌≡◌, ◌≤◌, ◌<◌, ◌^◌, length};
 ghost use Rattle.std.specs.List.{All};
-ghost use Rattle.ept_config.specs.Counts.{total};
+ghost use Rattle.ept_config.specs.Counts.{total, most_points};
 
 use ept_space::Bounds;
 
@@ -14,10 +14,13 @@ pub struct SourceCount {
     pub extent: Option<Bounds>,
 }
 
+/// The greatest number of points of an input, 2^40 - 1.
+pub const MAX_POINTS: u64 = 1_099_511_627_775;
+
 /// The number of all points of some counts.
 pub fn total_of(counts: &[SourceCount]) -> u64
     requires inputs { length counts.now ≤ 65535 }
-    requires few { All (λ count. count.points < 2 ^ 32) counts.now }
+    requires few { All (λ count. count.points ≤ most_points) counts.now }
     ensures { result ≡ total counts.now }
 {
     let mut sum: u64 = 0;

@@ -59,7 +59,7 @@ static ROLES: [(&str, &str, [&str; 2]); 13] = [
     ("out", "out/ept-work/body-a", BODY),
     ("out", "out/ept-work/body-b", BODY),
     ("out", "out/ept-work/body-c", WORK),
-    ("out", "out/ept-work/done", DONE),
+    ("out", "out/ept-work/done-2", DONE),
     ("out", "out/ept-work/gate-a", WORK),
     ("out", "out/ept-work/a/0-0-0-0.bin", WORK),
     ("out", "out/ept-data/0-0-0-0.bin", OUTPUT),
@@ -109,7 +109,7 @@ fn each_file_has_its_role(rt: HostRuntime) -> Result<(), Fail> {
 
 // The files that a check reads first, and what is told of each where a line is due at once.
 static CHECKED: [(&str, &str); 3] = [
-    ("out/ept-work/done", "test: checking, 0 MB; files read 1\n"),
+    ("out/ept-work/done-2", "test: checking, 0 MB; files read 1\n"),
     ("out/ept-build.json", "test: checking, 0 MB; files read 2\n"),
     (
         "out/ept-data/0-0-0-0.bin",
@@ -162,7 +162,7 @@ static CALLS: [(Call<'static>, &str); 16] = [
         Call::Get("ept-work/a/0-0-0-0.bin"),
         "test: loading, 1 MB; checkpoints 0; files put 0, flushed 0\n",
     ),
-    (Call::Get("ept-work/done"), ""),
+    (Call::Get("ept-work/done-2"), ""),
     (
         Call::Sync,
         "test: saving, 0 MB; checkpoints 0; files put 0, flushed 2\n",

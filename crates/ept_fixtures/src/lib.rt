@@ -3,7 +3,7 @@
 
 ghost use Rattle.std.specs.Prelude.{◌≡◌, [], ◌∷◌, pos};
 
-use ept_point::Point;
+use ept_point::{Point, PointNumber};
 use ept_space::{Cube, Rules};
 
 /// The rules over the bounds 0 to 7 on each axis, with a span of 2 cells and nodes down to depth 2.
@@ -17,11 +17,11 @@ pub fn small_rules(threshold: u64) -> Rules
         s: 1,
         depth: 2,
     };
-    Rules { cube, threshold }
+    Rules::plain(cube, threshold)
 }
 
 /// The point of this number in the first input, at this place in stored units; it is the only return of its pulse, and all else is 0.
-pub fn point(number: u32, place: [i32; 3]) -> Point
+pub fn point(number: PointNumber, place: [i32; 3]) -> Point
     ensures place { result.x ∷ result.y ∷ result.z ∷ [] ≡ place }
     ensures origin { result.origin ≡ 0 }
     ensures number { result.number ≡ number }

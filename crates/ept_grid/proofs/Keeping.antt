@@ -1,5 +1,7 @@
 -- A node stays one when it takes in a point.
-use Rattle.std.proofs.Common.{◌≡◌, ◌∙◌, ℕ, zero, suc, ◌+◌, ◌*◌, ◌^◌, ◌<◌, ◌≤◌, ◌⊎◌, inl, inr, Bool, true, false, ◌&&◌, nat_lt, List, [], ◌∷◌, ◌++◌, length, length-append, refl, ap, sym, subst, arith}
+use Rattle.std.proofs.Common.{◌≡◌, ◌∙◌, ℕ, ◌+◌, ◌*◌, ◌^◌, ◌<◌, ◌≤◌, ◌⊎◌, inl, inr, Bool, true, false, ◌&&◌, nat_lt, List, [], ◌∷◌, ◌++◌, length, length-append, refl, ap, sym, subst, arith}
+use Rattle.std.specs.Prelude.{◌==◌, if◌then◌else◌}
+use Rattle.std.proofs.lemmas.Bool.{eq-eqb}
 use Rattle.std.proofs.lemmas.List.Sorted.{IsPermutation-sym}
 use Rattle.std.proofs.lemmas.List.{length-map}
 use Rattle.ept_point.specs.declared.point.Point.{Point}
@@ -7,6 +9,7 @@ use Rattle.ept_space.specs.declared.cube.Rules.{Rules}
 use Rattle.ept_space.specs.VoxelKey.{VoxelKey}
 use Rattle.ept_space.specs.OctreeCube.{InBox, OctreeCube}
 use Rattle.ept_space.proofs.PlaceKeys.{octant_at-below}
+use Rattle.ept_space.proofs.Cells.{octant_at-same_cell}
 use Rattle.ept_sample.specs.Place.{place, AllInBox}
 use Rattle.ept_sample.specs.Members.{IsMember}
 use Rattle.ept_sample.specs.Arrivals.{octant}
@@ -16,17 +19,41 @@ use Rattle.ept_grid.specs.declared.pool.Cell.{Cell}
 use Rattle.ept_grid.specs.Outgoing.{Leaving, leaving_at, points_at, all_points}
 use Rattle.ept_grid.specs.Settling.{winners, AreApart, HasItsCell, HasContended}
 use Rattle.ept_grid.specs.Columns.{spots_of, nexts_of, IsChained}
-use Rattle.ept_grid.specs.Contents.{contents, IsSettled, AreFew, HasSent, HasTaken, joined, IsNode, IsBehind, cell_room, opens_with}
-use Rattle.ept_grid.proofs.Lanes.{member-at, at-member, joined-room}
+use Rattle.ept_grid.specs.Contents.{contents, IsSettled, AreFew, HasSent, HasTaken, joined, IsNode, IsBehind, IsLaneAfter, cell_room, opens_with}
+use Rattle.ept_grid.proofs.Lanes.{member-at, at-member, joined-there, joined-other}
+use Rattle.ept_grid.proofs.Leaving.{same_or}
 use Rattle.ept_grid.proofs.Contest.{own-cell, contended}
 use Rattle.ept_grid.proofs.Sent.{stayed, settled-sent, few-sent}
 use Rattle.ept_grid.proofs.Leaving.{none-lost}
 use Rattle.ept_grid.proofs.Leavings.{all-same}
-use Rattle.ept_grid.proofs.Room.{least-limit, least-room}
-use Rattle.ept_grid.specs.Node.{least_room}
 use Rattle.std.proofs.lemmas.Bool.Decides.{nat_tests}
 
 -- ---- what is taken
+
+-- a list of losers as it is
+same-lane : (l : Leaving) (more : ℕ) → IsLaneAfter more l l
+same-lane l more = record { grows = omega arith; room = omega arith }
+
+-- a point that loses lies in the octant of the point that has come
+pub loser-octant : (rules : Rules) (depth : ℕ) (p : Point) (ws ws' : List Point) (loser : Point) → 1 ≤ rules.cube.s → HasContended rules depth p ws ws' loser → octant rules depth loser ≡ octant rules depth p
+loser-octant rules depth p ws ws' loser span h = elim h.outcome [
+  | inl r ↦ ap (λ (q : Point). octant rules depth q) r.2 ∙ octant_at-same_cell rules.cube depth depth (place h.winner) (place p) span (omega arith) h.one_cell
+  | inr r ↦ ap (λ (q : Point). octant rules depth q) r.2
+]
+
+-- the lists of losers with one more, in that of its octant
+joined-lane : (rules : Rules) (depth : ℕ) (p loser : Point) (losers : List Leaving) (o : ℕ) → length losers ≡ 8 → o < 8 → octant rules depth loser ≡ octant rules depth p → IsLaneAfter (if octant rules depth p == o then 1 else 0) (leaving_at losers o) (leaving_at (joined losers (octant rules depth loser) loser) o)
+joined-lane rules depth p loser losers o eight h same = elim (same_or o (octant rules depth loser)) [
+  | inl is ↦
+      let here : (octant rules depth p == o) ≡ true = eq-eqb (octant rules depth p) o (sym same ∙ sym is) in
+      let k : ℕ = octant rules depth loser in
+      let there = joined-there losers k loser (omega (arith, eight, h, is)) in
+      rw here (subst (λ (n : ℕ). IsLaneAfter 1 (leaving_at losers n) (leaving_at (joined losers k loser) n)) (sym is) (record {
+        grows = omega (arith, ap (λ (w : List Point). length w) there.0, length-append (points_at losers k) (loser ∷ []));
+        room = omega (arith, there.1);
+      }))
+  | inr isn't ↦ subst (λ (l : Leaving). IsLaneAfter (if octant rules depth p == o then 1 else 0) (leaving_at losers o) l) (sym (joined-other losers (octant rules depth loser) o loser isn't)) (same-lane (leaving_at losers o) _)
+]
 
 pub taken-own : (rules : Rules) (depth mask : ℕ) (p : Point) (ws ws' : List Point) (losers out : List Leaving) → length losers ≡ 8 → length out ≡ 8 → IsSettled rules depth ws losers → AreFew rules depth mask losers → AreApart rules depth ws' → HasItsCell rules depth p ws ws' → HasTaken rules depth mask mask p ws ws' losers losers out out
 taken-own rules depth mask p ws ws' losers out e f s few apart h =
@@ -34,17 +61,17 @@ taken-own rules depth mask p ws ws' losers out e f s few apart h =
       mid = losers;
       settled = now.settled;
       together = now.together;
-      room = λ o m. omega arith;
+      lanes = λ o m. same-lane (leaving_at losers o) _;
       sent = none-lost rules depth mask losers out e f few;
     }
 
-pub taken-lost : (rules : Rules) (depth mask mask' : ℕ) (p : Point) (ws ws' : List Point) (losers losers' before after : List Leaving) (loser : Point) → length losers ≡ 8 → IsSettled rules depth ws losers → AreApart rules depth ws' → HasContended rules depth p ws ws' loser → HasSent rules depth mask mask' (joined losers (octant rules depth loser) loser) losers' before after → HasTaken rules depth mask mask' p ws ws' losers losers' before after
-taken-lost rules depth mask mask' p ws ws' losers losers' before after loser e s apart h sent =
+pub taken-lost : (rules : Rules) (depth mask mask' : ℕ) (p : Point) (ws ws' : List Point) (losers losers' before after : List Leaving) (loser : Point) → 1 ≤ rules.cube.s → length losers ≡ 8 → IsSettled rules depth ws losers → AreApart rules depth ws' → HasContended rules depth p ws ws' loser → HasSent rules depth mask mask' (joined losers (octant rules depth loser) loser) losers' before after → HasTaken rules depth mask mask' p ws ws' losers losers' before after
+taken-lost rules depth mask mask' p ws ws' losers losers' before after loser span e s apart h sent =
     let now = contended rules depth p ws ws' losers loser (octant rules depth loser) (omega (arith, e, octant_at-below rules.cube depth (place loser))) refl s apart h in record {
       mid = joined losers (octant rules depth loser) loser;
       settled = now.settled;
       together = now.together;
-      room = λ o m. joined-room losers (octant rules depth loser) o loser;
+      lanes = λ o m. joined-lane rules depth p loser losers o e m (loser-octant rules depth p ws ws' loser span h);
       sent = sent;
     }
 
@@ -95,15 +122,6 @@ pub all-heads : (key : VoxelKey) (rules : Rules) (mask : ℕ) (heads : List ℕ)
 all-heads key rules mask heads cells capacity losers node h =
     elim node.table [ inl none ↦ absurd (omega (arith, none, node.some h)) | inr all ↦ all ]
 
--- no list has more than all points
-length-at : (losers : List Leaving) (o : ℕ) → length (points_at losers o) ≤ length (all_points losers)
-length-at [] o = omega arith
-length-at (l ∷ losers) zero = omega (arith, length-append l.points (all_points losers))
-length-at (l ∷ losers) (suc o) = omega (arith, length-append l.points (all_points losers), length-at losers o)
-
-pub one-list : (ws : List Point) (losers : List Leaving) (o n : ℕ) → length (contents ws losers) + 1 ≤ n → length (points_at losers o) + 1 ≤ n
-one-list ws losers o n h = omega (arith, h, length-append ws (all_points losers), length-at losers o)
-
 -- ---- how many winners there are
 
 pub contended-length : (rules : Rules) (depth : ℕ) (p : Point) (ws ws' : List Point) (loser : Point) → HasContended rules depth p ws ws' loser → length ws' ≡ length ws
@@ -118,12 +136,8 @@ same-cells cells cells' e = omega (arith, e, length-map cells (λ (c : Cell). c.
 
 -- ---- room
 
-pub room-cell : (capacity count : ℕ) (losers : List Leaving) → 0 < least_room (cell_room capacity count) losers → (count < capacity) × (count < 4294967295)
-room-cell capacity count losers h =
-    (omega (arith, h, least-limit (cell_room capacity count) losers), omega (arith, h, least-limit (cell_room capacity count) losers))
-
-pub room-loser : (limit : ℕ) (losers : List Leaving) (o : ℕ) → length losers ≡ 8 → o < 8 → 0 < least_room limit losers → 0 < (leaving_at losers o).room
-room-loser limit losers o e small h = omega (arith, h, least-room limit losers o (omega (arith, e, small)))
+pub room-cell : (capacity count : ℕ) → 0 < cell_room capacity count → (count < capacity) × (count < 4294967295)
+room-cell capacity count h = (omega (arith, h), omega (arith, h))
 
 -- a node without points
 pub node-none : (key : VoxelKey) (rules : Rules) (heads : List ℕ) (cells : List Cell) (capacity : ℕ) (losers : List Leaving) → key.depth ≤ rules.cube.depth → heads ≡ [] → cells ≡ [] → capacity ≡ 0 → length losers ≡ 8 → ((o : ℕ) → points_at losers o ≡ []) → IsNode key rules heads cells capacity losers 0

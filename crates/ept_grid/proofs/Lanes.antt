@@ -89,13 +89,6 @@ joined-member (l ∷ losers) (suc o) zero r q m = inl m
 joined-member (l ∷ losers) (suc o) (suc k) r q m =
     elim (joined-member losers o k r q m) [ inl old ↦ inl old | inr new ↦ inr (new.0, ap suc new.1) ]
 
-pub joined-room : (losers : List Leaving) (o k : ℕ) (q : Point) → (leaving_at losers k).room ≤ (leaving_at (joined losers o q) k).room + 1
-joined-room [] o k q = omega arith
-joined-room (l ∷ losers) zero zero q = omega arith
-joined-room (l ∷ losers) zero (suc k) q = omega arith
-joined-room (l ∷ losers) (suc o) zero q = omega arith
-joined-room (l ∷ losers) (suc o) (suc k) q = joined-room losers o k q
-
 -- a point in front of two lists may stand between them
 pub between : {X : Type 0} (x : X) (xs ys zs : List X) → IsPermutation (x ∷ ys) zs → IsPermutation (x ∷ (xs ++ ys)) (xs ++ zs)
 between x xs ys zs h =

@@ -12,7 +12,7 @@ use Rattle.ept_grid.specs.Outgoing.{Leaving, leaving_at, points_at}
 use Rattle.ept_grid.specs.Contents.{AreFew, HasSentAt, HasSent, joined, opens_with}
 use Rattle.ept_grid.proofs.Lanes.{length-joined, joined-there, joined-other}
 
-same_or : (o k : ℕ) → (o ≡ k) ⊎ (o ≢ k)
+pub same_or : (o k : ℕ) → (o ≡ k) ⊎ (o ≢ k)
 same_or o k = elim (either (o == k)) [ inl is ↦ inl (grind (arith, nat_tests)) | inr isn't ↦ inr (λ e. grind (arith, nat_tests)) ]
 
 -- ---- an octant that nothing happens to

@@ -1,8 +1,8 @@
 -- What a node that took in a point keeps and sends.
-use Rattle.std.proofs.Common.{◌≡◌, ◌∙◌, ℕ, zero, suc, ◌+◌, ◌-◌, ◌<◌, ◌≤◌, Bool, true, false, cond, ◌||◌, inl, inr, List, [], ◌∷◌, ◌++◌, length, length-append, count_by, refl, ap, sym, subst, arith}
+use Rattle.std.proofs.Common.{◌≡◌, ◌∙◌, ℕ, suc, ◌+◌, ◌-◌, ◌<◌, ◌≤◌, Bool, true, false, cond, ◌||◌, inl, inr, List, [], ◌∷◌, ◌++◌, length, count_by, refl, ap, sym, subst, arith}
 use Rattle.std.proofs.lemmas.Bool.{false≢true}
 use Rattle.std.specs.List.Sorted.{IsPermutation}
-use Rattle.std.proofs.lemmas.List.Sorted.{IsPermutation-sym, IsPermutation-trans, IsPermutation-cons, length_permutation}
+use Rattle.std.proofs.lemmas.List.Sorted.{IsPermutation-sym, IsPermutation-trans, IsPermutation-cons}
 use Rattle.ept_point.specs.declared.point.Point.{Point}
 use Rattle.ept_space.specs.declared.cube.Rules.{Rules}
 use Rattle.ept_sample.specs.Members.{IsMember}
@@ -14,7 +14,7 @@ use Rattle.ept_sample.proofs.Ascending.{IsRising, IsRising-filter}
 use Rattle.ept_sample.proofs.ArrivalLaws.{leaves-loses, leaves-open, leaves-from, IsMember-stays, stays-IsMember, sent-open, IsRising-kept}
 use Rattle.ept_sample.proofs.IdLaws.{count_by-cons, count_by-append, count_by-IsPermutation, HasDistinctIds-IsPermutation, HasDistinctIds-IsRising, IsPermutation-in_id_order, IsMember-IsPermutation, IsRising-in_id_order, in_id_order-IsRising, in_id_order-IsPermutation, in_id_order-members}
 use Rattle.ept_grid.specs.Mask.{opened}
-use Rattle.ept_grid.specs.Node.{Node, given_with, SendsOn, TakesIn, least_room, spare}
+use Rattle.ept_grid.specs.Node.{Node, given_with, SendsOn, TakesIn}
 use Rattle.ept_grid.specs.Outgoing.{Leaving, leaving_at, points_at, all_points}
 use Rattle.ept_grid.specs.Contents.{contents, IsSettled, HasSentAt, HasSent, HasTaken}
 use Rattle.ept_grid.proofs.MaskLaws.{opened-none}
@@ -193,54 +193,3 @@ taken-takes_in old new p ws ws' losers losers' before after was is t once =
       opens = λ o h. opens_now old.rules old.key.depth old.mask new.mask ws' t.mid losers' before after _ takes o h ∙ ap (λ (w : List Point). is_open old.rules old.key.depth (opened old.mask) w o) same;
       leave = λ o h. leaves_now old.rules old.key.depth old.mask new.mask ws' t.mid losers' before after _ takes o h ∙ ap (λ (w : List Point). points_at before o ++ sent old.rules old.key.depth (opened old.mask) w o) same;
     }
-
--- ---- room
-
--- how many stay and leave
-lengths_left : (rules : Rules) (depth mask mask' o : ℕ) (mid stay before after : Leaving) → (at : HasSentAt rules depth mask mask' o mid stay before after) → length stay.points + length at.added ≡ length mid.points
-lengths_left rules depth mask mask' o mid stay before after at =
-    elim (either (opened mask' o)) [
-      | inl is ↦ omega (arith, ap (λ (w : List Point). length w) (at.gone is), length_permutation mid.points at.added (at.leave is))
-      | inr isn't ↦ omega (arith, ap (λ (w : List Point). length w) (at.shut isn't).0, none-added rules depth mask mask' o mid stay before after at isn't)
-    ]
-
-lengths_all : (a b : List Leaving) → length a ≡ length b → ((o : ℕ) → o < length a → length (points_at a o) ≤ length (points_at b o)) → length (all_points a) ≤ length (all_points b)
-lengths_all [] [] e each = omega arith
-lengths_all [] (l ∷ b) e each = absurd (omega arith)
-lengths_all (k ∷ a) [] e each = absurd (omega arith)
-lengths_all (k ∷ a) (l ∷ b) e each =
-    omega (arith, each 0 (omega arith), lengths_all a b (omega arith) (λ o h. each (suc o) (omega arith)), length-append k.points (all_points a), length-append l.points (all_points b))
-
-lengths_one : (a b : List Leaving) (o : ℕ) → length a ≡ length b → ((k : ℕ) → k < length a → length (points_at a k) ≤ length (points_at b k)) → o < length a → length (points_at b o) + length (all_points a) ≤ length (all_points b) + length (points_at a o)
-lengths_one [] b o e each h = absurd (omega arith)
-lengths_one (k ∷ a) [] o e each h = absurd (omega arith)
-lengths_one (k ∷ a) (l ∷ b) zero e each h =
-    omega (arith, lengths_all a b (omega arith) (λ o h. each (suc o) (omega arith)), length-append k.points (all_points a), length-append l.points (all_points b))
-lengths_one (k ∷ a) (l ∷ b) (suc o) e each h =
-    omega (arith, each 0 (omega arith), lengths_one a b o (omega arith) (λ o h. each (suc o) (omega arith)) (omega arith), length-append k.points (all_points a), length-append l.points (all_points b))
-
-least_fewer : (limit limit' less : ℕ) (before after : List Leaving) → limit ≤ limit' + less → length after ≡ length before → ((o : ℕ) → o < length before → (leaving_at before o).room ≤ (leaving_at after o).room + less) → least_room limit before ≤ least_room limit' after + less
-least_fewer limit limit' less [] [] h len each = omega (arith, h)
-least_fewer limit limit' less [] (m ∷ after) h len each = absurd (omega arith)
-least_fewer limit limit' less (l ∷ before) [] h len each = absurd (omega arith)
-least_fewer limit limit' less (l ∷ before) (m ∷ after) h len each =
-    omega (arith, each 0 (omega arith), least_fewer limit limit' less before after h (omega arith) (λ o h. each (suc o) (omega arith)))
-
--- the room of a node: of its pool of cells and of each list of losers
-pub taken-spare : (old new : Node) (p : Point) (ws ws' : List Point) (losers losers' before after : List Leaving) (limit limit' : ℕ) → old.points ≡ in_id_order (contents ws losers) → new.points ≡ in_id_order (contents ws' losers') → old.room ≡ least_room limit losers → new.room ≡ least_room limit' losers' → limit ≤ limit' + 1 → length losers ≡ 8 → HasTaken old.rules old.key.depth old.mask new.mask p ws ws' losers losers' before after → spare old before ≤ spare new after + 1
-unfolding spare
-taken-spare old new p ws ws' losers losers' before after limit limit' was is room room' fewer eight t =
-    let n : length old.points ≡ length (contents ws losers) = ap (λ (w : List Point). length w) was ∙ length_permutation (contents ws losers) (in_id_order (contents ws losers)) (IsPermutation-in_id_order (contents ws losers)) in
-    let n' : length new.points ≡ length (contents ws' losers') = ap (λ (w : List Point). length w) is ∙ length_permutation (contents ws' losers') (in_id_order (contents ws' losers')) (IsPermutation-in_id_order (contents ws' losers')) in
-    let left : ℕ = length (all_points t.mid) - length (all_points losers') in
-    let all : length (all_points losers') ≤ length (all_points t.mid) = lengths_all losers' t.mid (omega (arith, t.sent.stay_eight, t.sent.mid_eight)) short in
-    let count : length new.points + left ≡ length old.points + 1 = omega (arith, n, n', all, length_permutation (p ∷ contents ws losers) (contents ws' t.mid) t.together, length-append ws' (all_points losers'), length-append ws' (all_points t.mid)) in
-    let inner : least_room limit losers ≤ least_room limit' losers' + 1 = least_fewer limit limit' 1 losers losers' fewer (omega (arith, eight, t.sent.stay_eight)) (λ o h. omega (arith, t.room o (omega (arith, eight)), (t.sent.each o (omega (arith, eight))).room)) in
-    let outer : least_room (old.room + length old.points) before ≤ least_room (new.room + length new.points) after + left = least_fewer (old.room + length old.points) (new.room + length new.points) left before after (omega (arith, inner, room, room', count)) (omega (arith, t.sent.before_eight, t.sent.after_eight)) (λ o h. omega (arith, (t.sent.each o (omega (arith, t.sent.before_eight))).places, gone o (omega (arith, t.sent.before_eight)))) in
-    omega (arith, outer, count)
-  where
-    short : (o : ℕ) → o < length losers' → length (points_at losers' o) ≤ length (points_at t.mid o)
-    short o h = omega (arith, lengths_left old.rules old.key.depth old.mask new.mask o _ _ _ _ (t.sent.each o (omega (arith, t.sent.stay_eight))))
-
-    gone : (o : ℕ) → (h : o < 8) → length (t.sent.each o h).added ≤ length (all_points t.mid) - length (all_points losers')
-    gone o h = omega (arith, lengths_left old.rules old.key.depth old.mask new.mask o _ _ _ _ (t.sent.each o h), lengths_one losers' t.mid o (omega (arith, t.sent.stay_eight, t.sent.mid_eight)) short (omega (arith, t.sent.stay_eight)))

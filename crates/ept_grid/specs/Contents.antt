@@ -1,5 +1,5 @@
 -- What a node has: the winners of its cells, and its losers by octant.
-use Rattle.std.specs.Prelude.{ℕ, zero, suc, ◌≡◌, ◌⊎◌, ◌+◌, ◌-◌, ◌*◌, ◌^◌, ◌<◌, ◌≤◌, min, IsTrue, Bool, true, false, ◌&&◌, ◌||◌, nat_lt, List, [], ◌∷◌, ◌++◌, length, IsPermutation}
+use Rattle.std.specs.Prelude.{ℕ, zero, suc, ◌≡◌, ◌⊎◌, ◌+◌, ◌-◌, ◌*◌, ◌^◌, ◌<◌, ◌≤◌, ◌==◌, if◌then◌else◌, min, IsTrue, Bool, true, false, ◌&&◌, ◌||◌, nat_lt, List, [], ◌∷◌, ◌++◌, length, IsPermutation}
 use Rattle.ept_point.specs.declared.point.Point.{Point}
 use Rattle.ept_space.specs.declared.cube.Rules.{Rules}
 use Rattle.ept_space.specs.VoxelKey.{VoxelKey}
@@ -9,6 +9,7 @@ use Rattle.ept_sample.specs.Ids.{HasDistinctIds, in_id_order}
 use Rattle.ept_sample.specs.Arrivals.{octant}
 use Rattle.ept_grid.specs.Mask.{opened}
 use Rattle.ept_grid.specs.Outgoing.{Leaving, leaving_at, points_at, all_points}
+use Rattle.ept_grid.specs.Node.{Lane}
 use Rattle.ept_grid.specs.declared.pool.Cell.{Cell}
 use Rattle.ept_grid.specs.Settling.{winners, share_cell, is_better_at, AreApart}
 use Rattle.ept_grid.specs.Columns.{spots_of, nexts_of, IsChained}
@@ -66,14 +67,28 @@ pub record HasSent (rules : Rules) (depth mask mask' : ℕ) (mid stay before aft
   pub before_eight : length before ≡ 8
   pub after_eight : length after ≡ 8
 
+-- a list of losers with so many more at most
+pub record IsLaneAfter (more : ℕ) (before after : Leaving) : Type 0 where
+  pub grows : length after.points ≤ length before.points + more
+  pub room : before.room ≤ after.room + more
+
+-- the list of losers of an octant, and what it counts
+abbrev pub lane_of : Leaving → Lane
+lane_of l = record { count = length l.points; room = l.room }
+
 -- A point is among the winners or the losers of a node, one of which may be displaced by it, and then losers leave.
 pub record HasTaken (rules : Rules) (depth mask mask' : ℕ) (p : Point) (ws ws' : List Point) (losers losers' before after : List Leaving) : Type 0 where
   -- the losers with the point that loses, if one does, before any leaves
   pub mid : List Leaving
   pub settled : IsSettled rules depth ws' mid
   pub together : IsPermutation (p ∷ contents ws losers) (contents ws' mid)
-  pub room : (o : ℕ) → o < 8 → (leaving_at losers o).room ≤ (leaving_at mid o).room + 1
+  pub lanes : (o : ℕ) → o < 8 → IsLaneAfter (if octant rules depth p == o then 1 else 0) (leaving_at losers o) (leaving_at mid o)
   pub sent : HasSent rules depth mask mask' mid losers' before after
+
+-- there is room for so many points of an octant: among its losers where it is closed, and, with these, among what leaves for it
+pub record HasLaneRoom (mask o count : ℕ) (losers out : List Leaving) : Type 0 where
+  pub stay : opened mask o ≡ false → count ≤ (leaving_at losers o).room
+  pub leave : length (points_at losers o) + count ≤ (leaving_at out o).room
 
 -- for how many more cells a pool has room: a link names the cells below 2 ^ 32 - 1
 abbrev pub cell_room : ℕ → ℕ → ℕ

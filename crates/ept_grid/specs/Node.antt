@@ -1,5 +1,5 @@
 -- A node with its points, and what an arrival does to it.
-use Rattle.std.specs.Prelude.{ℕ, ◌≡◌, ◌+◌, ◌-◌, ◌<◌, IsTrue, Bool, false, List, [], ◌∷◌, ◌++◌, length, min}
+use Rattle.std.specs.Prelude.{ℕ, ◌≡◌, ◌-◌, ◌<◌, ◌≤◌, ◌==◌, IsTrue, Bool, true, false, List, [], ◌∷◌, ◌++◌, length, min, count_by, slice_index_or}
 use Rattle.std.specs.List.{All}
 use Rattle.ept_point.specs.declared.point.Point.{Point}
 use Rattle.ept_space.specs.declared.cube.Rules.{Rules}
@@ -7,16 +7,37 @@ use Rattle.ept_space.specs.VoxelKey.{VoxelKey}
 use Rattle.ept_sample.specs.Ids.{comes_before, in_id_order}
 use Rattle.ept_sample.specs.Arrivals.{octant, kept, sent, is_open}
 use Rattle.ept_grid.specs.Mask.{opened}
-use Rattle.ept_grid.specs.Outgoing.{Leaving, points_at}
+use Rattle.ept_grid.specs.Outgoing.{Leaving, leaving_at, points_at}
+
+-- the losers of an octant that a node keeps: how many there are, and for how many more there is room
+pub record Lane : Type 0 where
+  pub count : ℕ
+  pub room : ℕ
+
+abbrev pub no_lane : Lane
+no_lane = record { count = 0; room = 0 }
+
+-- that of an octant
+abbrev pub lane_at : List Lane → ℕ → Lane
+lane_at lanes o = slice_index_or lanes o no_lane
+
+-- room in a node: for so many winners more, and for losers by octant
+pub record Room : Type 0 where
+  pub cells : ℕ
+  pub lanes : List Lane
+
+-- no room
+abbrev pub no_room : Room
+no_room = record { cells = 0; lanes = [] }
 
 -- the key of a node, the rules of its sampling, its points in id order, its open octants as the bits of a number,
--- and for how many more points it has room
+-- and its room for more points
 pub record Node : Type 0 where
   pub key : VoxelKey
   pub rules : Rules
   pub points : List Point
   pub mask : ℕ
-  pub room : ℕ
+  pub room : Room
 
 -- the node of a key and rules with these points and open octants
 pub record IsNodeOf (its_key : VoxelKey) (its_rules : Rules) (its_mask : ℕ) (its_points : List Point) (node : Node) : Type 0 where
@@ -57,12 +78,18 @@ pub record TakesIn (old new : Node) (p : Point) (before after : List Leaving) : 
   pub opens : (o : ℕ) → o < 8 → is_open_in new o ≡ is_open old.rules old.key.depth (is_open_in old) (given_with old p) o
   pub leave : (o : ℕ) → o < 8 → points_at after o ≡ points_at before o ++ sent old.rules old.key.depth (is_open_in old) (given_with old p) o
 
--- the least room of these lists, and at most a limit
-abbrev pub least_room : ℕ → List Leaving → ℕ
-least_room limit [] = limit
-least_room limit (l ∷ out) = min l.room (least_room limit out)
+-- how many of these points lie in an octant
+abbrev pub count_in : Rules → ℕ → ℕ → List Point → ℕ
+count_in rules depth o points = count_by (λ p. octant rules depth p == o) points
 
--- How many arrivals a node and what leaves it can take together: the node has a place for each,
--- and there is room for all its points and these to leave for any octant.
-unfoldable pub spare : Node → List Leaving → ℕ
-spare node out = least_room (node.room + length node.points) out - length node.points
+-- How many points of an octant can arrive, where there is room for so many to leave: those of an open one leave; of
+-- another one each may stay, and leave with all losers once it opens.
+abbrev pub lane_spare : Bool → Lane → ℕ → ℕ
+lane_spare true lane room = room
+lane_spare false lane room = min lane.room (room - lane.count)
+
+-- There is room for these points to arrive, one after another: for each a cell, and for those of each octant among its
+-- losers and among what leaves for it.
+pub record HasRoomFor (node : Node) (out : List Leaving) (points : List Point) : Type 0 where
+  pub cells : length points ≤ node.room.cells
+  pub places : (o : ℕ) → o < 8 → count_in node.rules node.key.depth o points ≤ lane_spare (is_open_in node o) (lane_at node.room.lanes o) (leaving_at out o).room

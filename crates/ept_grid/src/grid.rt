@@ -1,16 +1,16 @@
 //! A node of the octree with its points.
 
-ghost use Rattle.std.specs.Prelude.{◌≡◌, ◌≢◌, ◌<◌, ◌≤◌, ◌+◌, ◌∷◌, [], ◌++◌, ◌↔◌, ℕ, Bool, IsTrue, OnOk, OnErr, IfOk, IfErr, length, count_by, MatchOption, slice_index};
+ghost use Rattle.std.specs.Prelude.{◌≡◌, ◌≢◌, ◌<◌, ◌≤◌, ◌+◌, ◌∷◌, [], ◌++◌, ◌↔◌, ℕ, Bool, List, IsTrue, OnOk, OnErr, IfOk, IfErr, length, count_by, MatchOption, slice_index};
 ghost use Rattle.ept_point.specs.declared.point.Point.{Point};
 ghost use Rattle.std.specs.List.{All};
 ghost use Rattle.ept_point.specs.Order.{IsAscending};
 ghost use Rattle.ept_space.specs.OctreeCube.{InBox};
-ghost use Rattle.ept_sample.specs.Place.{place};
+ghost use Rattle.ept_sample.specs.Place.{place, AllInBox};
 ghost use Rattle.ept_sample.specs.Ids.{HasDistinctIds};
 ghost use Rattle.ept_grid.specs.Outgoing.{points_at, all_points};
 ghost use Rattle.ept_grid.specs.Tile.{IsTile, IsTileFault};
 ghost use Rattle.ept_grid.specs.Winner.{IsCellOf, NoneIn, IsBestIn, column_cells};
-ghost use Rattle.ept_grid.specs.Node.{IsNodeOf, IsInIdOrder, SendsOn, TakesIn, spare};
+ghost use Rattle.ept_grid.specs.Node.{IsNodeOf, IsInIdOrder, SendsOn, TakesIn, HasRoomFor};
 
 use crate::by_id::{append_by_id, count};
 use crate::error::GridError;
@@ -45,11 +45,11 @@ pub struct Grid {
 }
 
 impl Model for Grid {
-    ghost use Rattle.std.specs.Prelude.{vec_len, vec_capacity};
+    ghost use Rattle.std.specs.Prelude.{map, vec_len, vec_capacity};
     ghost use Rattle.ept_sample.specs.Ids.{in_id_order};
-    ghost use Rattle.ept_grid.specs.Node.{Node, least_room};
+    ghost use Rattle.ept_grid.specs.Node.{Node};
     ghost use Rattle.ept_grid.specs.Settling.{winners};
-    ghost use Rattle.ept_grid.specs.Contents.{contents, cell_room, IsNode};
+    ghost use Rattle.ept_grid.specs.Contents.{contents, cell_room, lane_of, IsNode};
 
     ghost Value = { Node };
 
@@ -58,7 +58,7 @@ impl Model for Grid {
       rules = g.rules;
       points = in_id_order (contents (winners g.cells.items) g.losers);
       mask = g.mask;
-      room = least_room (cell_room (vec_capacity g.cells) (vec_len g.cells)) g.losers;
+      room = record { cells = cell_room (vec_capacity g.cells) (vec_len g.cells); lanes = map lane_of g.losers };
     } };
 
     ghost invariant = { λ g. IsNode g.key g.rules g.heads.items g.cells.items (vec_capacity g.cells) g.losers g.mask };
@@ -130,7 +130,7 @@ impl Grid {
 
     /// Takes in a point, and gives out the points that leave. It takes no memory.
     pub fn arrive(&mut self, point: Point, out: &mut Outgoing)
-        requires room { 1 ≤ spare self.old out.old }
+        requires room { HasRoomFor self.old out.old (point ∷ []) }
         requires inside { InBox self.old.rules.cube self.old.key (place point) }
 
         // Whatever the ids, no point is lost, and each that leaves lies in its octant, which is open.
@@ -141,7 +141,8 @@ impl Grid {
             ≡ count_by test (point ∷ self.old.points) + count_by test (all_points out.old) }
         ensures sends_on { (o : ℕ) → o < 8 →
             SendsOn self.old self.new o (points_at out.old o) (points_at out.new o) }
-        ensures spare { spare self.old out.old ≤ spare self.new out.new + 1 }
+        ensures room { (later : List Point) →
+            HasRoomFor self.old out.old (point ∷ later) → HasRoomFor self.new out.new later }
 
         // Where the ids are all different, the node keeps and sends what the sampling says.
         ensures takes_in { HasDistinctIds (point ∷ self.old.points) →
@@ -195,23 +196,26 @@ impl Grid {
         is_inside(&self.key, &self.rules, point)
     }
 
-    /// Makes room in the node and in what leaves it for so many arrivals. The points of both stay,
-    /// whatever the answer.
-    pub fn reserve(&mut self, arrivals: usize, out: &mut Outgoing) -> Result<(), Memory>
-        ensures room { OnOk result (arrivals ≤ spare self.new out.new) }
+    /// Makes room in the node and in what leaves it for these points to arrive: for those of each octant
+    /// where they may come to stand. The points of both stay, whatever the answer.
+    pub fn reserve(&mut self, arrivals: &[Point], out: &mut Outgoing) -> Result<(), Memory>
+        requires inside { AllInBox self.old.rules.cube self.old.key arrivals.now }
+        ensures room { OnOk result (HasRoomFor self.new out.new arrivals.now) }
         ensures node { self.new ≡ record self.old { room = self.new.room } }
         ensures points { (o : ℕ) → points_at out.new o ≡ points_at out.old o }
         ensures all { all_points out.new ≡ all_points out.old }
     {
         out.known();
         make_room(
+            &self.key,
             &self.rules,
             &mut self.heads,
             &mut self.cells,
             &mut self.losers,
+            self.mask,
             arrivals,
-        )?;
-        out.reserve(count(self.cells.as_slice(), &self.losers) + arrivals)
+            out,
+        )
     }
 
     /// Appends the points of the node, in id order. After `Memory` the list is as it was.

@@ -1,9 +1,10 @@
 //! What becomes of a point that loses in a node.
 
-ghost use Rattle.std.specs.Prelude.{◌≡◌, ◌<◌, ◌≤◌, ◌+◌, ℕ, length};
+ghost use Rattle.std.specs.Prelude.{◌≡◌, ◌<◌, ◌≤◌, ◌+◌, false, length};
 ghost use Rattle.ept_space.specs.OctreeCube.{InCube};
 ghost use Rattle.ept_sample.specs.Place.{place};
 ghost use Rattle.ept_sample.specs.Arrivals.{octant};
+ghost use Rattle.ept_grid.specs.Mask.{opened};
 ghost use Rattle.ept_grid.specs.Outgoing.{leaving_at, points_at};
 ghost use Rattle.ept_grid.specs.Contents.{AreFew, HasSent, joined, opens_with};
 
@@ -25,8 +26,10 @@ pub(crate) fn lose(
     requires low { depth ≤ rules.now.cube.depth }
     requires inside { InCube rules.now.cube (place point) }
     requires few { AreFew rules.now depth mask losers.old }
-    requires room { (o : ℕ) → o < 8 → 0 < (leaving_at losers.old o).room }
-    requires lists { (o : ℕ) → o < 8 → length (points_at losers.old o) + 1 ≤ (leaving_at out.old o).room }
+    requires place { opened mask (octant rules.now depth point) ≡ false →
+        0 < (leaving_at losers.old (octant rules.now depth point)).room }
+    requires list { length (points_at losers.old (octant rules.now depth point)) + 1
+        ≤ (leaving_at out.old (octant rules.now depth point)).room }
     ensures sent { HasSent rules.now depth mask result
         (joined losers.old (octant rules.now depth point) point) losers.new out.old out.new }
     ensures deepest { rules.now.cube.depth ≤ depth → result ≡ mask }

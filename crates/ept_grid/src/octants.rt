@@ -1,10 +1,11 @@
 //! The eight octants of a box: which one a point lies in, and sets of them as the bits of a byte.
 
-ghost use Rattle.std.specs.Prelude.{◌≡◌, ◌<◌, ◌≤◌, ℕ, ◌/◌, ◌^◌, ◌%◌, ◌==◌, ◌||◌};
+ghost use Rattle.std.specs.Prelude.{◌≡◌, ◌<◌, ◌≤◌, ℕ, ◌/◌, ◌^◌, ◌%◌, ◌==◌, ◌||◌, length, slice_index};
 ghost use Rattle.ept_space.specs.OctreeCube.{InCube};
-ghost use Rattle.ept_sample.specs.Place.{place};
+ghost use Rattle.ept_sample.specs.Place.{place, AllInCube};
 ghost use Rattle.ept_sample.specs.Arrivals.{octant};
 ghost use Rattle.ept_grid.specs.Mask.{opened};
+ghost use Rattle.ept_grid.specs.Node.{count_in};
 
 use ept_point::Point;
 use ept_sample::place_of;
@@ -25,6 +26,20 @@ pub(crate) fn octant_of(rules: &Rules, depth: u8, point: &Point) -> u8
     // Half a box has half the cells of the box.
     let shift = u32::from(rules.cube.s - 1);
     upper(cell[0], shift) + 2 * upper(cell[1], shift) + 4 * upper(cell[2], shift)
+}
+
+/// How many of the points lie in each octant of their box of that depth.
+pub(crate) fn by_octant(rules: &Rules, depth: u8, points: &[Point]) -> [usize; 8]
+    requires low { depth ≤ rules.now.cube.depth }
+    requires inside { AllInCube rules.now.cube points.now }
+    ensures counts { (o : ℕ) → o < 8 → slice_index result o ≡ count_in rules.now depth o points.now }
+    ensures eight { length result ≡ 8 }
+{
+    let mut counts = [0; 8];
+    for point in points {
+        counts[octant_of(rules, depth, point) as usize] += 1;
+    }
+    counts
 }
 
 // Bit `shift` of the index of a cell.

@@ -1,6 +1,7 @@
 //! The points that leave a node, by octant.
 
-ghost use Rattle.std.specs.Prelude.{◌≡◌, ◌≢◌, ◌<◌, ◌≤◌, ◌+◌, ◌∷◌, [], ◌++◌, ℕ, length, map, OnOk, IsPermutation};
+ghost use Rattle.std.specs.Prelude.{◌≡◌, ◌≢◌, ◌<◌, ◌≤◌, ◌+◌, ◌∷◌, [], ◌++◌, ℕ, List, length, map, OnOk, IsPermutation};
+ghost use Rattle.ept_point.specs.declared.point.Point as at;
 ghost use Rattle.ept_sample.specs.Ids.{HasDistinctIds, in_id_order};
 
 use ept_point::{Memory, Point, PointId};
@@ -140,7 +141,7 @@ impl Model for Outgoing {
 
 impl Outgoing {
     ghost use Rattle.ept_grid.specs.Outgoing.{leaving_at, points_at, all_points};
-    ghost use Rattle.ept_grid.specs.Node.{Node, spare};
+    ghost use Rattle.ept_grid.specs.Node.{Node, HasRoomFor};
 
     /// No points. It takes no memory.
     pub fn new(alloc: Global) -> Outgoing
@@ -200,7 +201,8 @@ impl Outgoing {
     /// How many points leave for an octant.
     pub(crate) fn count(&self, octant: u8) -> usize
         requires { octant < 8 }
-        ensures { result ≡ length (points_at self.now octant) }
+        ensures count { result ≡ length (points_at self.now octant) }
+        ensures small { result < 288230376151711744 }
     {
         self.lanes[octant as usize].count()
     }
@@ -272,16 +274,15 @@ impl Outgoing {
         self.lanes[octant as usize].give(&mut out.lanes[octant as usize]);
     }
 
-    /// Makes room in each list for so many more points. The points stay, whatever the answer.
-    pub(crate) fn reserve(&mut self, more: usize) -> Result<(), Memory>
-        ensures points { (o : ℕ) → points_at self.new o ≡ points_at self.old o }
+    /// Makes room in the list of an octant for so many more points. The points stay, whatever the answer.
+    pub(crate) fn reserve(&mut self, octant: u8, more: usize) -> Result<(), Memory>
+        requires one_of_eight { octant < 8 }
+        ensures points { points_at self.new octant ≡ points_at self.old octant }
+        ensures others { (o : ℕ) → o ≢ octant → leaving_at self.new o ≡ leaving_at self.old o }
         ensures eight { length self.new ≡ length self.old }
-        ensures room { OnOk result ((o : ℕ) → o < 8 → more ≤ (leaving_at self.new o).room) }
+        ensures room { OnOk result (more ≤ (leaving_at self.new octant).room) }
     {
-        for lane in self.lanes.iter_mut() {
-            lane.reserve(more)?;
-        }
-        Ok(())
+        self.lanes[octant as usize].reserve(more)
     }
 
     /// Takes the points that leave for an octant, with their place in memory. It takes no memory.
@@ -298,7 +299,8 @@ impl Outgoing {
     pub fn clear(&mut self)
         ensures points { (o : ℕ) → points_at self.new o ≡ [] }
         ensures all { all_points self.new ≡ [] }
-        ensures spare { (node : Node) → spare node self.old ≤ spare node self.new }
+        ensures room { (node : Node) (points : List at.Point) →
+            HasRoomFor node self.old points → HasRoomFor node self.new points }
     {
         for lane in self.lanes.iter_mut() {
             lane.clear();

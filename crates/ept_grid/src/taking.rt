@@ -1,11 +1,13 @@
 //! How a node takes in a point.
 
-ghost use Rattle.std.specs.Prelude.{◌≡◌, ◌<◌, ◌≤◌, ◌+◌, ℕ, length, vec_len, vec_capacity};
+ghost use Rattle.std.specs.Prelude.{◌≡◌, ◌<◌, ◌≤◌, ◌+◌, false, length, vec_len, vec_capacity};
 ghost use Rattle.ept_space.specs.OctreeCube.{InBox};
 ghost use Rattle.ept_sample.specs.Place.{place};
-ghost use Rattle.ept_grid.specs.Outgoing.{leaving_at};
+ghost use Rattle.ept_sample.specs.Arrivals.{octant};
+ghost use Rattle.ept_grid.specs.Mask.{opened};
+ghost use Rattle.ept_grid.specs.Outgoing.{leaving_at, points_at};
 ghost use Rattle.ept_grid.specs.Settling.{winners};
-ghost use Rattle.ept_grid.specs.Contents.{contents, HasTaken, IsNode};
+ghost use Rattle.ept_grid.specs.Contents.{HasTaken, IsNode};
 
 use crate::losing::lose;
 use crate::outgoing::Outgoing;
@@ -29,9 +31,10 @@ pub(crate) fn take_in(
     requires inside { InBox rules.now.cube key.now (place point) }
     requires room { vec_len cells.old < vec_capacity cells.old }
     requires few { length cells.old.items < 4294967295 }
-    requires places { (o : ℕ) → o < 8 → 0 < (leaving_at losers.old o).room }
-    requires lists { (o : ℕ) → o < 8 →
-        length (contents (winners cells.old.items) losers.old) + 1 ≤ (leaving_at out.old o).room }
+    requires place { opened mask (octant rules.now key.now.depth point) ≡ false →
+        0 < (leaving_at losers.old (octant rules.now key.now.depth point)).room }
+    requires list { length (points_at losers.old (octant rules.now key.now.depth point)) + 1
+        ≤ (leaving_at out.old (octant rules.now key.now.depth point)).room }
     ensures node { IsNode key.now rules.now heads.new.items cells.new.items (vec_capacity cells.new) losers.new result }
     ensures taken { HasTaken rules.now key.now.depth mask result point
         (winners cells.old.items) (winners cells.new.items) losers.old losers.new out.old out.new }

@@ -13,7 +13,8 @@ use Rattle.ept_las.proofs.RecordLaws.{point_once}
 use Rattle.ept_config.specs.Extents.{IsWithin}
 use Rattle.ept_scan.specs.declared.reading.Reading.{Reading}
 use Rattle.ept_scan.specs.Extents.{IsAllowed}
-use Rattle.ept_scan.specs.LasFile.{HasHeader, records_of, record_at, IsWhole, IsPointAt, AreFirstPoints, ArePointsOf, most_points}
+use Rattle.ept_scan.specs.LasFile.{HasHeader, records_of, record_at, IsWhole, IsPointAt, AreFirstPoints, ArePointsOf}
+use Rattle.ept_config.specs.Counts.{most_points}
 use Rattle.ept_known.proofs.Deciding.{Known, known_and, known_like, known_le, known_most_int}
 use Rattle.ept_known.proofs.Headers.{known_header, one_header}
 use Rattle.ept_known.proofs.Records.{known_point}

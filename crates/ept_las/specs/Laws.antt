@@ -26,5 +26,5 @@ IdentityIsInUnits = (shift : Shift) (bytes : List ℕ) → AreBytes bytes → Is
 abbrev pub PlaceHasPoint : Type 0
 PlaceHasPoint = (format : ℕ) (shift : Shift) (source number : ℕ) (bytes : List ℕ) (place : Place)
     → IsFormat format → record_length format ≤ length bytes → AreBytes bytes
-    → source < 2 ^ 32 → number < 2 ^ 32 → IsPlaceOf shift bytes place
+    → source < 2 ^ 32 → number < 2 ^ 64 → IsPlaceOf shift bytes place
     → (p : Point) × IsPointOf format shift source number bytes p × LiesAt place p

@@ -1,6 +1,6 @@
 //! Calls of `ept_class` and `ept_filter`: sets of classes, the texts of selections, and sifted points.
 
-use crate::notation::{bytes_of, list_of};
+use crate::notation::{bytes_of, classes_of};
 use crate::words::{Miss, Words};
 use crate::writing::{write_bytes, write_refusal};
 use ept_class::ClassSet;
@@ -25,10 +25,7 @@ pub(crate) fn answer(
 
 // `filter classes LIST`: the bytes of the set of these classes, and its members.
 fn classes(alloc: Global, words: &mut Words<'_>, out: &mut String) -> Result<(), Miss> {
-    let mut set = ClassSet::new();
-    for class in list_of(alloc, words.word()?)?.iter() {
-        set.insert(u8::try_from(*class).map_err(|_| Miss::Form)?);
-    }
+    let set = classes_of(alloc, words.word()?)?;
     write_bytes(alloc, &set.bytes, out)?;
     out.push_str(" |")?;
     write_members(&set, out)

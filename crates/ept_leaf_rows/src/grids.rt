@@ -7,7 +7,7 @@ use crate::sampling::rules_of;
 use crate::words::{Miss, Words, number, parted};
 use crate::writing::{part, write_ids, write_or_none, write_refusal};
 use ept_grid::{Grid, GridError, Lists, Outgoing, Steps};
-use ept_point::Point;
+use ept_point::{Point, PointNumber};
 use ept_sample::ids_ascend;
 use std::alloc::Global;
 use std::fmt::Write;
@@ -42,10 +42,10 @@ fn grid_of(alloc: Global, words: &mut Words<'_>) -> Result<Grid, Miss> {
 
 // Lets a point arrive.
 fn feed(grid: &mut Grid, point: Point, leaving: &mut Outgoing) -> Result<(), Miss> {
-    grid.reserve(1, leaving)?;
     if !grid.is_inside(&point) {
         return Err(Miss::Form);
     }
+    grid.reserve(&[point], leaving)?;
     grid.arrive(point, leaving);
     Ok(())
 }
@@ -193,7 +193,7 @@ fn cell_of(word: &str) -> Result<[u32; 3], Miss> {
 }
 
 // The number of the winner of a cell, where the cell lies in the node's box and has one.
-fn number_of_winner<L: Ledger>(grid: &Grid, cell: [u32; 3], blank: Blank) -> Option<u32>
+fn number_of_winner<L: Ledger>(grid: &Grid, cell: [u32; 3], blank: Blank) -> Option<PointNumber>
     requires name { blank.name ≡ L.name }
     requires parts { blank.parts ≡ L.parts }
     requires some { 0 < blank.parts }
@@ -209,6 +209,6 @@ fn number_of_winner<L: Ledger>(grid: &Grid, cell: [u32; 3], blank: Blank) -> Opt
     Some(grid.winner(cell, &mut steps)?.number)
 }
 
-fn number_in(grid: &Grid, cell: [u32; 3]) -> Option<u32> {
+fn number_in(grid: &Grid, cell: [u32; 3]) -> Option<PointNumber> {
     number_of_winner::<Brand>(grid, cell, Blank::new(1))
 }

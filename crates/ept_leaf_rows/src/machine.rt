@@ -6,7 +6,7 @@ use crate::words::{Miss, Words, number, parted};
 use crate::writing::{write_refusal, write_tiles};
 use ept_core::{Core, Event, StepError, run_events};
 use ept_num::lcg;
-use ept_point::Point;
+use ept_point::{Point, PointNumber};
 use ept_sample::{Tiles, are_in_cube, ids_ascend, sample};
 use ept_space::{Cube, Key, Rules};
 use std::alloc::Global;
@@ -160,7 +160,7 @@ impl Lot {
 
     fn point(&mut self, number: u32) -> Point {
         let place = [self.coordinate(), self.coordinate(), self.coordinate()];
-        point_at(0, number, place)
+        point_at(0, PointNumber::from(number), place)
     }
 
     fn key(&mut self) -> Key {
@@ -205,10 +205,7 @@ fn rules_by_lot(lot: &mut Lot) -> Rules {
         s: 1,
         depth: 4,
     };
-    Rules {
-        cube,
-        threshold: u64::from(lot.next() % 4),
-    }
+    Rules::plain(cube, u64::from(lot.next() % 4))
 }
 
 fn ends_in_the_sampling(alloc: Global, list: u64) -> Result<bool, Miss> {

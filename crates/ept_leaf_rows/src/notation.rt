@@ -1,9 +1,10 @@
 //! What words stand for: bytes, texts, lists, places, cubes, boxes, keys and points.
 
-ghost use Rattle.std.specs.Prelude.{◌≡◌, ◌∷◌, []};
+ghost use Rattle.std.specs.Prelude.{◌≡◌, ◌≤◌, ◌∷◌, []};
 
 use crate::words::{Miss, number, parted};
-use ept_point::Point;
+use ept_class::ClassSet;
+use ept_point::{MAX_CLASS_FLAGS, Point, PointId, PointNumber};
 use ept_space::{Bounds, Box3, Cube, Key, read_key};
 use hex::FromHexError;
 use std::alloc::Global;
@@ -102,11 +103,31 @@ pub(crate) fn key_of(word: &str) -> Result<Key, Miss> {
     read_key(word.as_bytes()).ok_or(Miss::Form)
 }
 
-/// `ORIGIN:NUMBER@X,Y,Z`: the point of that id at that place.
+/// The set of the classes of a list.
+pub(crate) fn classes_of(alloc: Global, word: &str) -> Result<ClassSet, Miss> {
+    let mut set = ClassSet::new();
+    for class in list_of(alloc, word)?.iter() {
+        set.insert(u8::try_from(*class).map_err(|_| Miss::Form)?);
+    }
+    Ok(set)
+}
+
+/// `ORIGIN:NUMBER@X,Y,Z`: the point of that id at that place; with `/CLASS/FLAGS` behind it, of that class and with those
+/// class flags.
 pub(crate) fn point_of(word: &str) -> Result<Point, Miss> {
     let (id, place) = parted(word, "@")?;
     let (origin, record) = parted(id, ":")?;
-    Ok(point_at(number(origin)?, number(record)?, place_of(place)?))
+    let (place, kind) = place.split_once("/").unwrap_or((place, "0/0"));
+    let (class, flags) = parted(kind, "/")?;
+    let flags = number::<u8>(flags)?;
+    if flags > MAX_CLASS_FLAGS {
+        return Err(Miss::Form);
+    }
+    let id = PointId {
+        origin: number(origin)?,
+        number: number(record)?,
+    };
+    Ok(point_of_class(id, place_of(place)?, number(class)?, flags))
 }
 
 /// Points, as many as there are words.
@@ -119,7 +140,15 @@ pub(crate) fn points_of(alloc: Global, words: &str) -> Result<Vec<Point>, Miss> 
 }
 
 /// The point of this id at this place: the only return of its pulse, and all else is 0.
-pub(crate) fn point_at(origin: u32, number: u32, place: [i32; 3]) -> Point
+pub(crate) fn point_at(origin: u32, number: PointNumber, place: [i32; 3]) -> Point
+    ensures { result.x ∷ result.y ∷ result.z ∷ [] ≡ place }
+{
+    point_of_class(PointId { origin, number }, place, 0, 0)
+}
+
+// The same of a point with this class and these class flags.
+fn point_of_class(id: PointId, place: [i32; 3], class: u8, class_flags: u8) -> Point
+    requires { class_flags ≤ 15 }
     ensures { result.x ∷ result.y ∷ result.z ∷ [] ≡ place }
 {
     Point {
@@ -131,8 +160,8 @@ pub(crate) fn point_at(origin: u32, number: u32, place: [i32; 3]) -> Point
         number_of_returns: 1,
         scan_direction: 0,
         edge: 0,
-        class: 0,
-        class_flags: 0,
+        class,
+        class_flags,
         channel: 0,
         angle_rank: 0,
         angle: 0,
@@ -142,7 +171,7 @@ pub(crate) fn point_at(origin: u32, number: u32, place: [i32; 3]) -> Point
         red: 0,
         green: 0,
         blue: 0,
-        origin,
-        number,
+        origin: id.origin,
+        number: id.number,
     }
 }

@@ -4,8 +4,8 @@ use crate::notation::{bytes_of, list_of, quoted};
 use crate::words::{Miss, Words};
 use crate::writing::{write_bytes, write_refusal};
 use ept_point::{
-    List, MAX_CHANNEL, MAX_CLASS_FLAGS, MAX_FLAG, MAX_RETURNS, PACKED_LENGTH, Point, Text,
-    TileError, pack, read_tile, tile_bytes, unpack,
+    Layout, List, MAX_CHANNEL, MAX_CLASS_FLAGS, MAX_FLAG, MAX_RETURNS, OLD_LENGTH, PACKED_LENGTH,
+    Point, Text, TileError, pack, read_old_tile, read_tile, tile_bytes, unpack, unpack_old,
 };
 use std::alloc::Global;
 use std::fmt::Write;
@@ -20,7 +20,9 @@ pub(crate) fn answer(
     match call {
         "pack" => write_bytes(alloc, &pack(&fields(alloc, words)?), out),
         "unpack" => unpacked(alloc, words, out),
-        "tile" => tile(alloc, words, out),
+        "unpackold" => unpacked_old(alloc, words, out),
+        "tile" => tile(alloc, Layout::New, words, out),
+        "oldtile" => tile(alloc, Layout::Old, words, out),
         "list" => list(alloc, words, out),
         "text" => text(alloc, words, out),
         _ => Err(Miss::Form),
@@ -69,6 +71,16 @@ fn unpacked(alloc: Global, words: &mut Words<'_>, out: &mut String) -> Result<()
     }
 }
 
+// `point unpackold HEX`: the fields of the point whose old packed form the bytes are.
+fn unpacked_old(alloc: Global, words: &mut Words<'_>, out: &mut String) -> Result<(), Miss> {
+    let bytes = bytes_of(alloc, words.word()?)?;
+    let packed = bytes.first_chunk::<OLD_LENGTH>().ok_or(Miss::Form)?;
+    match unpack_old(packed) {
+        Some(point) => write_point(alloc, &point, out),
+        None => Ok(out.push_str("none")?),
+    }
+}
+
 // The fields as `fields` reads them.
 fn write_point(alloc: Global, point: &Point, out: &mut String) -> Result<(), Miss> {
     write_pulse(point, out)?;
@@ -111,14 +123,18 @@ fn write_pulse(point: &Point, out: &mut String) -> Result<(), Miss> {
 }
 
 // `point tile HEX HEX ..`: how many points the bytes are the tile of, and the bytes of the tile of these; or why they are none,
-// and how many points are read then.
-fn tile(alloc: Global, words: &Words<'_>, out: &mut String) -> Result<(), Miss> {
+// and how many points are read then. `point oldtile HEX HEX ..`: the same of a tile in the old layout.
+fn tile(alloc: Global, layout: Layout, words: &Words<'_>, out: &mut String) -> Result<(), Miss> {
     let mut bytes = Vec::new(alloc);
     for word in words.rest().split_whitespace() {
         bytes.extend_from_slice(&bytes_of(alloc, word)?)?;
     }
     let mut points = Vec::new(alloc);
-    match read_tile(bytes.as_slice(), &mut points) {
+    let read = match layout {
+        Layout::Old => read_old_tile(bytes.as_slice(), &mut points),
+        Layout::New => read_tile(bytes.as_slice(), &mut points),
+    };
+    match read {
         Ok(()) => write_tile(alloc, points.as_slice(), out),
         Err(TileError::Memory) => Err(Miss::Memory),
         Err(refused) => {

@@ -36,7 +36,7 @@ fn slots(alloc: Global, words: &mut Words<'_>, out: &mut String) -> Result<(), M
     if slots < 1 {
         return Err(Miss::Form);
     }
-    let rules = Rules { cube, threshold: 0 };
+    let rules = Rules::plain(cube, 0);
     match Forest::new(alloc, &mut room, slots, &rules) {
         Ok(mut forest) => {
             let done = draw_all(slots, &mut forest, out);

@@ -17,6 +17,8 @@ pub(crate) fn range_of(key: ConfigKey) -> &'static str {
         ConfigKey::MinNodeSize => "a whole number from 0 to 2147483648",
         ConfigKey::MaxDepth | ConfigKey::HierarchyStep => "a whole number from 0 to 32",
         ConfigKey::Srs => "an object of texts, each of at most 65536 bytes",
+        ConfigKey::FirstClasses => "a list of classes, each a whole number from 0 to 255, none twice",
+        ConfigKey::WithheldLast => "`true` or `false`",
         ConfigKey::Threads => "a whole number from 1 to 64",
         ConfigKey::CacheSize | ConfigKey::MaxNodes => "a whole number from 1 to 1048576",
         ConfigKey::Checkpoint => "a whole number from 1 to 1099511627776",
@@ -24,7 +26,7 @@ pub(crate) fn range_of(key: ConfigKey) -> &'static str {
 }
 
 /// The keys of a configuration.
-pub(crate) const KEYS: [ConfigKey; 13] = [
+pub(crate) const KEYS: [ConfigKey; 15] = [
     ConfigKey::Input,
     ConfigKey::Scale,
     ConfigKey::Offset,
@@ -34,6 +36,8 @@ pub(crate) const KEYS: [ConfigKey; 13] = [
     ConfigKey::MaxDepth,
     ConfigKey::HierarchyStep,
     ConfigKey::Srs,
+    ConfigKey::FirstClasses,
+    ConfigKey::WithheldLast,
     ConfigKey::Threads,
     ConfigKey::CacheSize,
     ConfigKey::MaxNodes,
@@ -51,6 +55,8 @@ pub(crate) fn key_of(field: Field) -> ConfigKey {
         Field::MaxDepth => ConfigKey::MaxDepth,
         Field::HierarchyStep => ConfigKey::HierarchyStep,
         Field::Srs => ConfigKey::Srs,
+        Field::FirstClasses => ConfigKey::FirstClasses,
+        Field::WithheldLast => ConfigKey::WithheldLast,
         Field::Input => ConfigKey::Input,
     }
 }

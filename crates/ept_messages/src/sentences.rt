@@ -3,7 +3,7 @@
 use crate::keys::{key_of, range_of};
 use ept_check::{CheckError, Fault};
 use ept_ckpt::Letter;
-use ept_config::{ConfigError, ConfigKey, MAX_LENGTH};
+use ept_config::{ConfigError, ConfigKey, MAX_LENGTH, MAX_POINTS};
 use ept_las::LasError;
 use ept_meta::Field;
 use ept_point::PointNumber;
@@ -68,7 +68,7 @@ pub(crate) fn write_refusal(
         Refusal::OutOfBounds { number, .. } => write_bounds(text, number, names),
         Refusal::NoBounds => write!(text, "{config} has no `bounds`, and no input has a point"),
         Refusal::SourceChanged { number, .. } => write_changed(text, number, input),
-        Refusal::TooManyPoints { .. } => write!(text, "{input} states more than 4294967295 points"),
+        Refusal::TooManyPoints { .. } => write!(text, "{input} states more than {MAX_POINTS} points"),
         Refusal::TooManyNodes => {
             write!(
                 text,

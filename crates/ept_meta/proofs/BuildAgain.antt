@@ -2,6 +2,7 @@
 use Rattle.std.proofs.Common.{◌≡◌, ◌≢◌, ◌∙◌, ℕ, List, Some, None, sym, ap}
 use Rattle.std.proofs.Props.{props}
 use mathlib.Core.HLevel.{is_prop→PathP}
+use Rattle.ept_class.proofs.Bits.{members_make_the_set}
 use Rattle.ept_config.specs.declared.kept.Kept.{Kept}
 use Rattle.ept_config.specs.Ranges.{LayoutInRange, BoundsInRange}
 use Rattle.ept_config.proofs.FactsTell.{inputs_same, srs_same}
@@ -20,6 +21,8 @@ kept_same a b e = λ i. record {
   max_depth = (e i).max_depth;
   step = (e i).step;
   srs = reference i;
+  first = classes i;
+  withheld_last = (e i).withheld_last;
   inputs = list i;
   layout = is_prop→PathP (λ j. LayoutInRange (e j).scale (e j).offset (e j).s (e j).threshold (e j).max_depth (e j).step (list j)) (λ j. hlevel props) a.layout b.layout i;
   has_bounds = is_prop→PathP (λ j. BoundsInRange (e j).bounds) (λ j. hlevel props) a.has_bounds b.has_bounds i;
@@ -27,6 +30,9 @@ kept_same a b e = λ i. record {
   where
     reference : a.srs ≡ b.srs
     reference = srs_same a.srs b.srs (λ i. (e i).srs)
+
+    classes : a.first ≡ b.first
+    classes = members_make_the_set a.first b.first (λ class i. (e i).first class)
 
     list : a.inputs ≡ b.inputs
     list = inputs_same a.inputs b.inputs (λ i. (e i).inputs)

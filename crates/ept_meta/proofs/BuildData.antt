@@ -1,5 +1,5 @@
 -- The build file is the compact text of a JSON value.
-use Rattle.std.proofs.Common.{◌≡◌, ◌∙◌, ℕ, suc, ◌^◌, ◌/◌, ◌%◌, ◌<◌, ◌≤◌, ℤ, pos, negsuc, true, List, [], ◌∷◌, ◌++◌, codes, decimal, length, Option, Some, None, inl, inr, refl, sym, ap, ap₂, subst, arith, append_assoc, append-nil, unsigned_abs}
+use Rattle.std.proofs.Common.{◌≡◌, ◌∙◌, ℕ, suc, ◌^◌, ◌/◌, ◌%◌, ◌<◌, ◌≤◌, ℤ, pos, negsuc, Bool, true, false, List, [], ◌∷◌, ◌++◌, codes, decimal, length, Option, Some, None, inl, inr, refl, sym, ap, ap₂, subst, arith, append_assoc, append-nil, unsigned_abs}
 use Rattle.std.specs.Prelude.{⊤, FitsSigned, nat_lt, slice_index}
 use Rattle.std.specs.Option.{ForSome}
 use Rattle.std.specs.Int.{w32}
@@ -17,7 +17,7 @@ use Rattle.json.specs.Print.{escape, escape_byte}
 use Rattle.json.proofs.Printed.Strings.{escape_byte_plain}
 use Rattle.json.proofs.Printed.Utf8.{IsUtf8-are_ascii, are_ascii}
 use Rattle.hex.specs.Hex.{encode_lower, encode_with, lower_digits}
-use Rattle.serde_json.specs.Data.{Data, number, string, array, object, unsigned, Items, no_items, item, Members, no_members, member, depth, items_depth, members_depth}
+use Rattle.serde_json.specs.Data.{Data, boolean, number, string, array, object, unsigned, Items, no_items, item, Members, no_members, member, depth, items_depth, members_depth}
 use Rattle.serde_json.specs.Find.{of_integer}
 use Rattle.serde_json.specs.Written.{number_text, compact_text, items_text, members_text}
 use Rattle.ept_space.specs.declared.bounds.Bounds.{Bounds}
@@ -28,10 +28,12 @@ use Rattle.ept_config.specs.InputRanges.{AreThreeWithin, AreBytes}
 use Rattle.ept_config.specs.Ranges.{AreCoordinates}
 use Rattle.ept_config.specs.Texts.{is_shown, is_plain, is_path, is_srs_text}
 use Rattle.ept_config.specs.Inputs.{is_lower_digit}
-use Rattle.ept_meta.specs.Json.{escaped, quoted, number_member, wholes, wholes_text}
+use Rattle.ept_meta.specs.Classes.{members_of}
+use Rattle.ept_meta.specs.Json.{escaped, quoted, number_member, naturals_text, wholes, wholes_text}
 use Rattle.ept_meta.specs.SrsObject.{Member, member_text, given, members, srs_text}
-use Rattle.ept_meta.specs.BuildText.{expect_text, input_text, inputs_text, stored_bounds_text, units_text, octree_text, build_text}
+use Rattle.ept_meta.specs.BuildText.{first_member, last_member, expect_text, input_text, inputs_text, stored_bounds_text, units_text, octree_text, build_text}
 use Rattle.ept_json.specs.Document.{document}
+use Rattle.ept_meta.proofs.ClassMembers.{naturals, AreSmall, members_small}
 use Rattle.ept_meta.proofs.JsonTexts.{IsSpelled, AreSpelled, HaveSpelled, IsWhole, ordered, compact_document}
 
 -- ---- the value
@@ -70,8 +72,19 @@ abbrev pub inputs_value : List Input → Items
 inputs_value [] = no_items
 inputs_value (i ∷ is) = item (input_value i) (inputs_value is)
 
-abbrev pub build_value : Kept → Data
-build_value k =
+-- the classes that come first, where there are some, in front of other members
+abbrev pub first_value : List ℕ → Members → Members
+first_value [] rest = rest
+first_value (class ∷ classes) rest = member (codes "firstClasses") (array (naturals (class ∷ classes))) rest
+
+-- that withheld points come last, where they do, in front of other members
+abbrev pub last_value : Bool → Members → Members
+last_value true rest = member (codes "withheldLast") (boolean true) rest
+last_value false rest = rest
+
+-- what is kept, with these classes first, and withheld points last or not
+abbrev pub build_value_with : Kept → List ℕ → Bool → Data
+build_value_with k classes last =
     object
     (member (codes "scale") (natural_value k.scale)
     (member (codes "offset") (wholes_value k.offset)
@@ -81,7 +94,10 @@ build_value k =
     (member (codes "maxDepth") (natural_value k.max_depth)
     (member (codes "hierarchyStep") (natural_value k.step)
     (member (codes "srs") (srs_value k.srs)
-    (member (codes "input") (array (inputs_value k.inputs)) no_members)))))))))
+    (first_value classes (last_value last (member (codes "input") (array (inputs_value k.inputs)) no_members)))))))))))
+
+abbrev pub build_value : Kept → Data
+build_value k = build_value_with k (members_of k.first) k.withheld_last
 
 -- ---- strings
 
@@ -260,24 +276,61 @@ inputs_written (i ∷ is) =
 
 -- ---- all of it
 
-build_layout : (p1 p2 p3 p4 p5 comma colon k1 k2 k3 k4 closed ended scale offset box span threshold deep step reference list : List ℕ)
-    → p1 ++ (scale ++ (p2 ++ (offset ++ (p3 ++ (box ++ (comma ++ (k1 ++ (colon ++ (span ++ (comma ++ (k2 ++ (colon ++ (threshold ++ (comma ++ (k3 ++ (colon ++ (deep ++ (comma ++ (k4 ++ (colon ++ (step ++ (p4 ++ (reference ++ (p5 ++ (list ++ (closed ++ ended))))))))))))))))))))))))))
-    ≡ (p1 ++ scale ++ p2 ++ offset ++ p3 ++ box) ++ ((comma ++ k1 ++ colon ++ span) ++ (comma ++ k2 ++ colon ++ threshold) ++ (comma ++ k3 ++ colon ++ deep) ++ (comma ++ k4 ++ colon ++ step)) ++ p4 ++ reference ++ (p5 ++ list ++ closed) ++ ended
-build_layout p1 p2 p3 p4 p5 comma colon k1 k2 k3 k4 closed ended scale offset box span threshold deep step reference list = simp append_assoc
+build_layout : (p1 p2 p3 p4 comma colon k1 k2 k3 k4 scale offset box span threshold deep step reference first last list ended : List ℕ)
+    → p1 ++ (scale ++ (p2 ++ (offset ++ (p3 ++ (box ++ (comma ++ (k1 ++ (colon ++ (span ++ (comma ++ (k2 ++ (colon ++ (threshold ++ (comma ++ (k3 ++ (colon ++ (deep ++ (comma ++ (k4 ++ (colon ++ (step ++ (p4 ++ (reference ++ (first ++ (last ++ (list ++ ended))))))))))))))))))))))))))
+    ≡ (p1 ++ scale ++ p2 ++ offset ++ p3 ++ box) ++ ((comma ++ k1 ++ colon ++ span) ++ (comma ++ k2 ++ colon ++ threshold) ++ (comma ++ k3 ++ colon ++ deep) ++ (comma ++ k4 ++ colon ++ step)) ++ p4 ++ reference ++ first ++ last ++ list ++ ended
+build_layout p1 p2 p3 p4 comma colon k1 k2 k3 k4 scale offset box span threshold deep step reference first last list ended = simp append_assoc
 
-brackets : (list ended : List ℕ) → (codes "[" ++ list ++ codes "]") ++ ended ≡ codes "[" ++ (list ++ (codes "]" ++ ended))
-brackets list ended = append_assoc (codes "[" ++ list) (codes "]") ended
+-- numbers, with commas between them
+later_naturals : (ns : List ℕ) → items_text true (naturals ns) ≡ flat_map (λ n. codes "," ++ decimal n) ns ++ codes "]"
+later_naturals [] = refl
+later_naturals (n ∷ ns) =
+    ap (λ (w : List ℕ). 44 ∷ w) (ap (λ (w : List ℕ). decimal n ++ w) (later_naturals ns) ∙ sym (append_assoc (decimal n) (flat_map (λ x. codes "," ++ decimal x) ns) (codes "]")))
+
+naturals_written : (n : ℕ) (ns : List ℕ) → compact_text (array (naturals (n ∷ ns))) ≡ naturals_text (n ∷ ns)
+unfolding naturals_text
+naturals_written n ns =
+    ap (λ (w : List ℕ). 91 ∷ w) (ap (λ (w : List ℕ). decimal n ++ w) (later_naturals ns) ∙ sym (append_assoc (decimal n) (flat_map (λ x. codes "," ++ decimal x) ns) (codes "]")))
+
+-- the members that may be left out, in front of others
+first_layout : (key numbers rest : List ℕ) → key ++ (numbers ++ rest) ≡ (key ++ numbers) ++ rest
+first_layout key numbers rest = sym (append_assoc key numbers rest)
+
+first_written : (classes : List ℕ) (rest : Members) → members_text true (first_value classes rest) ≡ first_member classes ++ members_text true rest
+unfolding escape_byte
+first_written [] rest = refl
+first_written (n ∷ ns) rest =
+    ap (λ (w : List ℕ). 44 ∷ (print.quoted (codes "firstClasses") ++ 58 ∷ (w ++ members_text true rest))) (naturals_written n ns)
+    ∙ first_layout (codes ",\"firstClasses\":") (naturals_text (n ∷ ns)) (members_text true rest)
+
+last_written : (last : Bool) (rest : Members) → members_text true (last_value last rest) ≡ last_member last ++ members_text true rest
+unfolding escape_byte
+last_written true rest = refl
+last_written false rest = refl
+
+brackets : (list ended : List ℕ) → codes ",\"input\":" ++ ((codes "[" ++ list ++ codes "]") ++ ended) ≡ (codes ",\"input\":[" ++ list ++ codes "]") ++ ended
+brackets list ended = simp append_assoc
+
+list_written : (is : List Input) → members_text true (member (codes "input") (array (inputs_value is)) no_members) ≡ inputs_text is ++ codes "}"
+unfolding inputs_text escape_byte
+list_written is =
+    ap (λ (w : List ℕ). 44 ∷ (print.quoted (codes "input") ++ 58 ∷ (w ++ codes "}"))) (inputs_written is)
+    ∙ brackets (join_by input_text (codes ",") is) (codes "}")
+
+more_written : (k : Kept) → members_text true (first_value (members_of k.first) (last_value k.withheld_last (member (codes "input") (array (inputs_value k.inputs)) no_members))) ≡ first_member (members_of k.first) ++ (last_member k.withheld_last ++ (inputs_text k.inputs ++ codes "}"))
+more_written k =
+    first_written (members_of k.first) (last_value k.withheld_last (member (codes "input") (array (inputs_value k.inputs)) no_members))
+    ∙ ap (λ (w : List ℕ). first_member (members_of k.first) ++ w) (last_written k.withheld_last (member (codes "input") (array (inputs_value k.inputs)) no_members) ∙ ap (λ (w : List ℕ). last_member k.withheld_last ++ w) (list_written k.inputs))
 
 pub build_written : (k : Kept) → compact_text (build_value k) ≡ build_text k
-unfolding build_text units_text octree_text inputs_text number_member escape_byte
+unfolding build_text units_text octree_text number_member escape_byte
 build_written k =
     let offset = wholes_written k.offset k.layout.offset_within.three in
     let box = bounds_written k.bounds k.has_bounds.min_is.three k.has_bounds.max_is.three in
     let reference = srs_written k.srs in
-    let list = inputs_written k.inputs in
-    (λ j. 123 ∷ (print.quoted (codes "scale") ++ 58 ∷ (decimal k.scale ++ 44 ∷ (print.quoted (codes "offset") ++ 58 ∷ (offset j ++ 44 ∷ (print.quoted (codes "bounds") ++ 58 ∷ (box j ++ 44 ∷ (print.quoted (codes "span") ++ 58 ∷ (decimal (2 ^ k.s) ++ 44 ∷ (print.quoted (codes "minNodeSize") ++ 58 ∷ (decimal k.threshold ++ 44 ∷ (print.quoted (codes "maxDepth") ++ 58 ∷ (decimal k.max_depth ++ 44 ∷ (print.quoted (codes "hierarchyStep") ++ 58 ∷ (decimal k.step ++ 44 ∷ (print.quoted (codes "srs") ++ 58 ∷ (reference j ++ 44 ∷ (print.quoted (codes "input") ++ 58 ∷ (list j ++ codes "}")))))))))))))))))))
-    ∙ ap (λ (w : List ℕ). 123 ∷ (print.quoted (codes "scale") ++ 58 ∷ (decimal k.scale ++ 44 ∷ (print.quoted (codes "offset") ++ 58 ∷ (wholes_text k.offset ++ 44 ∷ (print.quoted (codes "bounds") ++ 58 ∷ (stored_bounds_text k.bounds ++ 44 ∷ (print.quoted (codes "span") ++ 58 ∷ (decimal (2 ^ k.s) ++ 44 ∷ (print.quoted (codes "minNodeSize") ++ 58 ∷ (decimal k.threshold ++ 44 ∷ (print.quoted (codes "maxDepth") ++ 58 ∷ (decimal k.max_depth ++ 44 ∷ (print.quoted (codes "hierarchyStep") ++ 58 ∷ (decimal k.step ++ 44 ∷ (print.quoted (codes "srs") ++ 58 ∷ (srs_text k.srs ++ 44 ∷ (print.quoted (codes "input") ++ 58 ∷ (w))))))))))))))))))) (brackets (join_by input_text (codes ",") k.inputs) (codes "}"))
-    ∙ build_layout (codes "{\"scale\":") (codes ",\"offset\":") (codes ",\"bounds\":") (codes ",\"srs\":") (codes ",\"input\":[") (codes ",\"") (codes "\":") (codes "span") (codes "minNodeSize") (codes "maxDepth") (codes "hierarchyStep") (codes "]") (codes "}") (decimal k.scale) (wholes_text k.offset) (stored_bounds_text k.bounds) (decimal (2 ^ k.s)) (decimal k.threshold) (decimal k.max_depth) (decimal k.step) (srs_text k.srs) (join_by input_text (codes ",") k.inputs)
+    let more = more_written k in
+    (λ j. 123 ∷ (print.quoted (codes "scale") ++ 58 ∷ (decimal k.scale ++ 44 ∷ (print.quoted (codes "offset") ++ 58 ∷ (offset j ++ 44 ∷ (print.quoted (codes "bounds") ++ 58 ∷ (box j ++ 44 ∷ (print.quoted (codes "span") ++ 58 ∷ (decimal (2 ^ k.s) ++ 44 ∷ (print.quoted (codes "minNodeSize") ++ 58 ∷ (decimal k.threshold ++ 44 ∷ (print.quoted (codes "maxDepth") ++ 58 ∷ (decimal k.max_depth ++ 44 ∷ (print.quoted (codes "hierarchyStep") ++ 58 ∷ (decimal k.step ++ 44 ∷ (print.quoted (codes "srs") ++ 58 ∷ (reference j ++ more j)))))))))))))))))
+    ∙ build_layout (codes "{\"scale\":") (codes ",\"offset\":") (codes ",\"bounds\":") (codes ",\"srs\":") (codes ",\"") (codes "\":") (codes "span") (codes "minNodeSize") (codes "maxDepth") (codes "hierarchyStep") (decimal k.scale) (wholes_text k.offset) (stored_bounds_text k.bounds) (decimal (2 ^ k.s)) (decimal k.threshold) (decimal k.max_depth) (decimal k.step) (srs_text k.srs) (first_member (members_of k.first)) (last_member k.withheld_last) (inputs_text k.inputs) (codes "}")
 
 -- ---- it is spelled as it is read
 
@@ -322,6 +375,19 @@ spelled_inputs : (is : List Input) → AreSpelled (inputs_value is)
 spelled_inputs [] = tt
 spelled_inputs (i ∷ is) = (spelled_input i, spelled_inputs is)
 
+-- the members that may be left out
+spelled_naturals : (ns : List ℕ) → AreSmall ns → AreSpelled (naturals ns)
+spelled_naturals [] small = tt
+spelled_naturals (n ∷ ns) small = (let few : n < 256 = small.0 in let fits : n < 2 ^ 63 = omega arith in fits, spelled_naturals ns small.1)
+
+spelled_first : (classes : List ℕ) (rest : Members) → AreSmall classes → HaveSpelled rest → HaveSpelled (first_value classes rest)
+spelled_first [] rest small others = others
+spelled_first (n ∷ ns) rest small others = (IsUtf8-are_ascii (codes "firstClasses") refl, spelled_naturals (n ∷ ns) small, others)
+
+spelled_last : (last : Bool) (rest : Members) → HaveSpelled rest → HaveSpelled (last_value last rest)
+spelled_last true rest others = (IsUtf8-are_ascii (codes "withheldLast") refl, tt, others)
+spelled_last false rest others = others
+
 pub span_most : (s : ℕ) → s ≤ 10 → 2 ^ s ≤ 1024
 span_most s high = let more : 2 ^ s ≤ 2 ^ 10 = pow_mono high in omega (arith, more)
 
@@ -340,7 +406,7 @@ build_spelled k =
     let step : k.step < 2 ^ 63 = omega arith in
     let offset : AreSpelled (numbers k.offset no_items) = spelled_three k.offset no_items (10 ^ 9) (omega arith) is.offset_within tt in
     let box : AreSpelled (numbers k.bounds.min (numbers k.bounds.max no_items)) = spelled_three k.bounds.min (numbers k.bounds.max no_items) (2 ^ 31) (omega arith) (coordinates_within k.bounds.min k.has_bounds.min_is) (spelled_three k.bounds.max no_items (2 ^ 31) (omega arith) (coordinates_within k.bounds.max k.has_bounds.max_is) tt) in
-    (IsUtf8-are_ascii (codes "scale") refl, scale, (IsUtf8-are_ascii (codes "offset") refl, offset, (IsUtf8-are_ascii (codes "bounds") refl, box, (IsUtf8-are_ascii (codes "span") refl, cells, (IsUtf8-are_ascii (codes "minNodeSize") refl, threshold, (IsUtf8-are_ascii (codes "maxDepth") refl, deep, (IsUtf8-are_ascii (codes "hierarchyStep") refl, step, (IsUtf8-are_ascii (codes "srs") refl, spelled_texts (members k.srs) (parts_plain k.srs), (IsUtf8-are_ascii (codes "input") refl, spelled_inputs k.inputs, tt)))))))))
+    (IsUtf8-are_ascii (codes "scale") refl, scale, (IsUtf8-are_ascii (codes "offset") refl, offset, (IsUtf8-are_ascii (codes "bounds") refl, box, (IsUtf8-are_ascii (codes "span") refl, cells, (IsUtf8-are_ascii (codes "minNodeSize") refl, threshold, (IsUtf8-are_ascii (codes "maxDepth") refl, deep, (IsUtf8-are_ascii (codes "hierarchyStep") refl, step, (IsUtf8-are_ascii (codes "srs") refl, spelled_texts (members k.srs) (parts_plain k.srs), spelled_first (members_of k.first) _ (members_small k.first) (spelled_last k.withheld_last _ (IsUtf8-are_ascii (codes "input") refl, spelled_inputs k.inputs, tt))))))))))
 
 -- ---- it does not nest deep
 
@@ -371,13 +437,25 @@ shallow_inputs : (is : List Input) → items_depth (inputs_value is) ≤ 2
 shallow_inputs [] = none 2
 shallow_inputs (i ∷ is) = max-le (shallow_input i) (shallow_inputs is)
 
+flat_naturals : (ns : List ℕ) → items_depth (naturals ns) ≤ 0
+flat_naturals [] = none 0
+flat_naturals (n ∷ ns) = max-le (none 0) (flat_naturals ns)
+
+shallow_first : (classes : List ℕ) (rest : Members) → members_depth rest ≤ 3 → members_depth (first_value classes rest) ≤ 3
+shallow_first [] rest shallow = shallow
+shallow_first (n ∷ ns) rest shallow = max-le (deeper (items_depth (naturals (n ∷ ns))) 0 3 (flat_naturals (n ∷ ns)) (omega arith)) shallow
+
+shallow_last : (last : Bool) (rest : Members) → members_depth rest ≤ 3 → members_depth (last_value last rest) ≤ 3
+shallow_last true rest shallow = max-le (none 3) shallow
+shallow_last false rest shallow = shallow
+
 pub build_shallow : (k : Kept) → depth (build_value k) ≤ 127
 build_shallow k =
     let offset = deeper (items_depth (numbers k.offset no_items)) 0 3 (flat_numbers k.offset no_items (none 0)) (omega arith) in
     let box = deeper (items_depth (numbers k.bounds.min (numbers k.bounds.max no_items))) 0 3 (flat_numbers k.bounds.min (numbers k.bounds.max no_items) (flat_numbers k.bounds.max no_items (none 0))) (omega arith) in
     let reference = deeper (members_depth (texts_value (members k.srs))) 0 3 (flat_texts (members k.srs)) (omega arith) in
     let list = deeper (items_depth (inputs_value k.inputs)) 2 3 (shallow_inputs k.inputs) (omega arith) in
-    deeper _ 3 127 (max-le (none 3) (max-le offset (max-le box (max-le (none 3) (max-le (none 3) (max-le (none 3) (max-le (none 3) (max-le reference (max-le list (none 3)))))))))) (omega arith)
+    deeper _ 3 127 (max-le (none 3) (max-le offset (max-le box (max-le (none 3) (max-le (none 3) (max-le (none 3) (max-le (none 3) (max-le reference (shallow_first (members_of k.first) _ (shallow_last k.withheld_last _ (max-le list (none 3)))))))))))) (omega arith)
 
 pub build_document : (k : Kept) → document (build_text k) ≡ Some (ordered (build_value k))
 build_document k = ap document (sym (build_written k)) ∙ compact_document (build_value k) (build_spelled k) (build_shallow k)

@@ -1,5 +1,5 @@
 -- The value of a build file is read as the configuration that it was made of.
-use Rattle.std.proofs.Common.{◌≡◌, ℕ, zero, suc, ◌^◌, ◌≤◌, ℤ, pos, negsuc, true, List, [], ◌∷◌, ◌++◌, codes, length, map, Option, Some, None, Ok, refl, ap, arith, le-leb}
+use Rattle.std.proofs.Common.{◌≡◌, ℕ, zero, suc, ◌^◌, ◌≤◌, ℤ, pos, negsuc, Bool, true, false, List, [], ◌∷◌, ◌++◌, codes, length, map, Option, Some, None, Ok, refl, ap, arith, le-leb}
 use Rattle.std.specs.Prelude.{◌≤ℤ◌, int_le, FitsSigned}
 use Rattle.std.specs.Option.{ForSome}
 use Rattle.std.specs.Int.{w32}
@@ -25,13 +25,16 @@ use Rattle.ept_config.specs.Json.{whole, wholes, array_items, has_only, list_of}
 use Rattle.ept_config.specs.Numbers.{natural_within, exponent_of, span_exponent, all_within, coordinate_of, place_of, is_ordered, bounds_between, bounds_within}
 use Rattle.ept_config.specs.Inputs.{expected_bytes, expect_of, path_member, scale_member, shift_member, expect_member, input_members, input_object, raw_input, input_scale, input_shift, input_within, input_items, is_input}
 use Rattle.ept_config.specs.SrsTexts.{srs_member, srs_members, raw_srs, fits_srs}
-use Rattle.ept_config.specs.Values.{natural, natural_at, span, span_at, offset, offset_at, bounds, bounds_at, srs_text, srs_texts, srs, srs_at, input, each_input, list_inputs, inputs}
+use Rattle.ept_config.specs.Values.{natural, natural_at, span, span_at, offset, offset_at, bounds, bounds_at, srs_text, srs_texts, srs, srs_at, first_classes_at, withheld_last_at, input, each_input, list_inputs, inputs}
+use Rattle.ept_config.specs.Classes.{is_listed}
 use Rattle.ept_config.specs.Configuration.{work_at, values, settings, object_reading, value_reading}
 use Rattle.ept_meta.specs.SrsObject.{given, members}
 use Rattle.ept_meta.specs.BuildText.{build_text}
-use Rattle.ept_meta.specs.BuildReading.{build_facts, told}
+use Rattle.ept_meta.specs.Classes.{members_of}
+use Rattle.ept_meta.specs.BuildReading.{build_facts, within, told}
+use Rattle.ept_meta.proofs.ClassMembers.{AreClasses, members_read, listed_members, first_read}
 use Rattle.ept_meta.proofs.JsonTexts.{ordered, items_ordered}
-use Rattle.ept_meta.proofs.BuildData.{numbers, natural_value, wholes_value, bounds_value, texts_value, srs_value, expect_value, input_value, inputs_value, build_value, digits_are, span_most, build_document}
+use Rattle.ept_meta.proofs.BuildData.{numbers, natural_value, wholes_value, bounds_value, texts_value, srs_value, expect_value, input_value, inputs_value, build_value_with, digits_are, span_most, build_document}
 
 -- ---- numbers
 
@@ -214,8 +217,8 @@ inputs_read k =
 
 -- ---- all of it
 
-abbrev told_facts : Kept → Facts
-told_facts k = record {
+abbrev told_facts : Kept → (ℕ → Bool) → Bool → Facts
+told_facts k first last = record {
   scale = k.scale;
   offset = k.offset;
   bounds = Some k.bounds;
@@ -224,6 +227,8 @@ told_facts k = record {
   max_depth = k.max_depth;
   step = k.step;
   srs = srs_facts k.srs;
+  first = first;
+  withheld_last = last;
   inputs = map input_facts k.inputs;
   threads = 4;
   cache = 64;
@@ -231,9 +236,9 @@ told_facts k = record {
   checkpoint = 10000000;
 }
 
-value_read : (k : Kept) → value_reading (ordered (build_value k)) ≡ Ok (told_facts k)
-unfolding value_reading object_reading settings values has_only natural_at span_at offset_at bounds_at srs_at work_at
-value_read k =
+value_read : (k : Kept) (classes : List ℕ) (last : Bool) → AreClasses classes → value_reading (ordered (build_value_with k classes last)) ≡ Ok (told_facts k (is_listed classes) last)
+unfolding value_reading object_reading settings values has_only natural_at span_at offset_at bounds_at srs_at first_classes_at withheld_last_at work_at
+value_read k [] true are =
     let is = k.layout in
     rw (
       natural_read key.Scale 0 9 k.scale (omega arith) is.scale_most,
@@ -247,7 +252,53 @@ value_read k =
       srs_read k.srs,
     )
     refl
+value_read k [] false are =
+    let is = k.layout in
+    rw (
+      natural_read key.Scale 0 9 k.scale (omega arith) is.scale_most,
+      inputs_read k,
+      offset_read k.offset is.offset_within,
+      bounds_read k.bounds k.has_bounds,
+      span_read k.s is.span_least is.span_most,
+      natural_read key.MinNodeSize 0 (2 ^ 31) k.threshold (omega arith) is.threshold_most,
+      natural_read key.MaxDepth 0 32 k.max_depth (omega arith) is.depth_most,
+      natural_read key.HierarchyStep 0 32 k.step (omega arith) is.step_most,
+      srs_read k.srs,
+    )
+    refl
+value_read k (n ∷ ns) true are =
+    let is = k.layout in
+    rw (
+      natural_read key.Scale 0 9 k.scale (omega arith) is.scale_most,
+      inputs_read k,
+      offset_read k.offset is.offset_within,
+      bounds_read k.bounds k.has_bounds,
+      span_read k.s is.span_least is.span_most,
+      natural_read key.MinNodeSize 0 (2 ^ 31) k.threshold (omega arith) is.threshold_most,
+      natural_read key.MaxDepth 0 32 k.max_depth (omega arith) is.depth_most,
+      natural_read key.HierarchyStep 0 32 k.step (omega arith) is.step_most,
+      srs_read k.srs,
+      first_read (n ∷ ns) are,
+    )
+    refl
+value_read k (n ∷ ns) false are =
+    let is = k.layout in
+    rw (
+      natural_read key.Scale 0 9 k.scale (omega arith) is.scale_most,
+      inputs_read k,
+      offset_read k.offset is.offset_within,
+      bounds_read k.bounds k.has_bounds,
+      span_read k.s is.span_least is.span_most,
+      natural_read key.MinNodeSize 0 (2 ^ 31) k.threshold (omega arith) is.threshold_most,
+      natural_read key.MaxDepth 0 32 k.max_depth (omega arith) is.depth_most,
+      natural_read key.HierarchyStep 0 32 k.step (omega arith) is.step_most,
+      srs_read k.srs,
+      first_read (n ∷ ns) are,
+    )
+    refl
 
 pub build_told : (k : Kept) → told (build_text k) ≡ Some (build_facts k)
 unfolding told
-build_told k = rw (build_document k, value_read k) refl
+build_told k =
+    rw (build_document k, value_read k (members_of k.first) k.withheld_last (members_read k.first))
+    (λ i. Some (within (told_facts k (λ class. listed_members k.first class i) k.withheld_last) k.bounds))

@@ -9,6 +9,7 @@ mod OneOutput
 mod InBounds
 mod OutputNames
 mod JsonTexts
+mod ClassMembers
 mod BuildData
 mod BuildRead
 mod BuildAgain

@@ -1,6 +1,7 @@
 -- What a build file is read as.
-use Rattle.std.specs.Prelude.{ℕ, ℤ, List, map, Option, option_map, option_and_then}
+use Rattle.std.specs.Prelude.{ℕ, ℤ, Bool, List, map, Option, option_map, option_and_then}
 use Rattle.std.specs.Result.{result_ok}
+use Rattle.ept_class.specs.ClassSet.{has_class}
 use Rattle.ept_space.specs.declared.bounds.Bounds.{Bounds}
 use Rattle.ept_json.specs.Document.{document}
 use Rattle.ept_json.specs.declared.json_error.JsonError.{JsonError}
@@ -23,6 +24,8 @@ pub record BuildFacts : Type 0 where
   pub max_depth : ℕ
   pub step : ℕ
   pub srs : SrsFacts
+  pub first : ℕ → Bool
+  pub withheld_last : Bool
   pub inputs : List InputFacts
 
 abbrev pub build_facts : Kept → BuildFacts
@@ -35,6 +38,8 @@ build_facts kept = record {
   max_depth = kept.max_depth;
   step = kept.step;
   srs = srs_facts kept.srs;
+  first = has_class kept.first;
+  withheld_last = kept.withheld_last;
   inputs = map input_facts kept.inputs;
 }
 
@@ -49,6 +54,8 @@ within facts bounds = record {
   max_depth = facts.max_depth;
   step = facts.step;
   srs = facts.srs;
+  first = facts.first;
+  withheld_last = facts.withheld_last;
   inputs = facts.inputs;
 }
 

@@ -1,5 +1,5 @@
 -- What a dataset was built with.
-use Rattle.std.specs.Prelude.{ℕ, ◌^◌, List, [], ◌++◌, codes, Option, Some, None}
+use Rattle.std.specs.Prelude.{ℕ, ◌^◌, Bool, true, false, List, [], ◌∷◌, ◌++◌, codes, Option, Some, None}
 use Rattle.std.specs.List.{join_by}
 use Rattle.std.specs.Fmt.{decimal}
 use Rattle.hex.specs.Hex.{encode_lower}
@@ -8,7 +8,8 @@ use Rattle.ept_config.specs.declared.input.Input.{Input}
 use Rattle.ept_config.specs.declared.kept.Kept.{Kept}
 use Rattle.ept_meta.specs.declared.fields.Field.{Field}
 use Rattle.ept_meta.specs.declared.fields.Field.TheVariants as field
-use Rattle.ept_meta.specs.Json.{number_member, quoted, wholes, wholes_text}
+use Rattle.ept_meta.specs.Classes.{members_of}
+use Rattle.ept_meta.specs.Json.{naturals_text, number_member, quoted, wholes, wholes_text}
 use Rattle.ept_meta.specs.SrsObject.{srs_text}
 
 -- the bytes that the header of a scan is to have, in hexadecimal, where they were given
@@ -43,10 +44,26 @@ octree_text kept =
     ++ number_member (codes "maxDepth") kept.max_depth
     ++ number_member (codes "hierarchyStep") kept.step
 
+-- true or false
+abbrev pub flag_text : Bool → List ℕ
+flag_text true = codes "true"
+flag_text false = codes "false"
+
+-- the member of the classes that come first, where there are some
+abbrev pub first_member : List ℕ → List ℕ
+first_member [] = []
+first_member (class ∷ classes) = codes ",\"firstClasses\":" ++ naturals_text (class ∷ classes)
+
+-- the member that withheld points come last, where they do
+abbrev pub last_member : Bool → List ℕ
+last_member true = codes ",\"withheldLast\":true"
+last_member false = []
+
 -- all of it
 unfoldable pub build_text : Kept → List ℕ
 build_text kept =
     units_text kept ++ octree_text kept ++ codes ",\"srs\":" ++ srs_text kept.srs
+    ++ first_member (members_of kept.first) ++ last_member kept.withheld_last
     ++ inputs_text kept.inputs ++ codes "}"
 
 -- ---- field by field
@@ -65,4 +82,6 @@ field_text field.MinNodeSize kept = decimal kept.threshold
 field_text field.MaxDepth kept = decimal kept.max_depth
 field_text field.HierarchyStep kept = decimal kept.step
 field_text field.Srs kept = srs_text kept.srs
+field_text field.FirstClasses kept = naturals_text (members_of kept.first)
+field_text field.WithheldLast kept = flag_text kept.withheld_last
 field_text field.Input kept = input_list_text kept.inputs

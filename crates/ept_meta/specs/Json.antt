@@ -22,3 +22,7 @@ wholes numbers = join_by signed_decimal (codes ",") numbers
 -- an array of whole numbers
 unfoldable pub wholes_text : List ℤ → List ℕ
 wholes_text numbers = codes "[" ++ wholes numbers ++ codes "]"
+
+-- an array of numbers
+unfoldable pub naturals_text : List ℕ → List ℕ
+naturals_text numbers = codes "[" ++ join_by decimal (codes ",") numbers ++ codes "]"

@@ -1,4 +1,5 @@
 pub mod Json
+pub mod Classes
 pub mod Units
 pub mod SrsObject
 pub mod Dimensions

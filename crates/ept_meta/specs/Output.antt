@@ -73,9 +73,14 @@ hierarchy_file f = (hierarchy_name f.key, f.text)
 abbrev pub counted : Tile → VoxelKey × ℕ
 counted t = (t.key, length t.points)
 
--- the rules of the sampling: the cube of the bounds, and the threshold
+-- the rules of the sampling: the cube of the bounds, the threshold, and which points come first and last
 abbrev pub rules_of : Kept → Rules
-rules_of kept = record { cube = cube_of kept.bounds kept.s kept.max_depth; threshold = kept.threshold }
+rules_of kept = record {
+  cube = cube_of kept.bounds kept.s kept.max_depth;
+  threshold = kept.threshold;
+  first = kept.first;
+  withheld_last = kept.withheld_last;
+}
 
 -- the files of these tiles, of so many points with this extent: each tile, the hierarchy, and three texts
 abbrev pub files_of : Kept → List SourceCount → Option Bounds → ℕ → List Tile → List File

@@ -7,6 +7,7 @@ ghost use Rattle.ept_meta.specs.Json.{quoted};
 ghost use Rattle.ept_meta.specs.BuildText.{build_text, units_text, stored_bounds_text, octree_text};
 ghost use Rattle.ept_meta.specs.BuildText.{inputs_text, input_list_text, input_text, expect_text};
 
+use crate::classes::{append_first, append_last};
 use crate::pieces::{
     append, append_comma, append_number, append_number_member, append_quoted, append_whole_items,
     append_wholes,
@@ -39,6 +40,8 @@ fn append_build(text: &mut Vec<u8>, kept: &Kept) -> Result<(), Memory>
     append_octree(text, kept)?;
     append(text, b",\"srs\":")?;
     append_srs(text, &kept.srs)?;
+    append_first(text, &kept.first)?;
+    append_last(text, kept.withheld_last)?;
     append_inputs(text, kept.inputs.as_slice())?;
     append(text, b"}")?;
     Ok(())

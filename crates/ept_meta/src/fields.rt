@@ -4,6 +4,7 @@ ghost use Rattle.std.specs.Prelude.{◌≡◌, ◌++◌, OnOk, OnErr};
 ghost use Rattle.ept_meta.specs.BuildText.{field_text, input_text};
 
 use crate::build::{append_input, append_input_list, append_stored_bounds};
+use crate::classes::{append_classes, append_flag};
 use crate::pieces::{append_number, append_wholes};
 use crate::srs_object::append_srs;
 use crate::units::span;
@@ -21,6 +22,8 @@ pub enum Field {
     MaxDepth,
     HierarchyStep,
     Srs,
+    FirstClasses,
+    WithheldLast,
     Input,
 }
 
@@ -58,6 +61,8 @@ fn append_field(text: &mut Vec<u8>, kept: &Kept, field: Field) -> Result<(), Mem
         Field::MaxDepth => append_number(text, u64::from(kept.max_depth)),
         Field::HierarchyStep => append_number(text, u64::from(kept.step)),
         Field::Srs => append_srs(text, &kept.srs),
+        Field::FirstClasses => append_classes(text, &kept.first),
+        Field::WithheldLast => append_flag(text, kept.withheld_last),
         Field::Input => append_input_list(text, kept.inputs.as_slice()),
     }
 }

@@ -7,6 +7,7 @@
 
 mod build;
 mod build_reader;
+mod classes;
 mod fields;
 mod laws;
 mod manifest;

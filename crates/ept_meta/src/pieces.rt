@@ -2,8 +2,8 @@
 
 ghost use Rattle.std.specs.Prelude.{◌≡◌, ◌++◌, [], OnOk, codes, if◌then◌else◌};
 ghost use Rattle.std.specs.Fmt.{decimal, signed_decimal};
-ghost use Rattle.std.specs.List.{flat_map};
-ghost use Rattle.ept_meta.specs.Json.{quoted, escaped, number_member, wholes, wholes_text};
+ghost use Rattle.std.specs.List.{flat_map, join_by};
+ghost use Rattle.ept_meta.specs.Json.{quoted, escaped, number_member, naturals_text, wholes, wholes_text};
 
 use ept_point::Memory;
 use itoa::Buffer;
@@ -77,6 +77,33 @@ pub(crate) fn append_whole_items(text: &mut Vec<u8>, numbers: &[i64]) -> Result<
         append_whole(text, number)?;
     }
     Ok(())
+}
+
+/// Appends an array of numbers.
+#[tactic(auto, unfolding(crate::specs::Json::naturals_text))]
+pub(crate) fn append_naturals(text: &mut Vec<u8>, numbers: &[u8]) -> Result<(), Memory>
+    ensures { OnOk result (text.new.items ≡ text.old.items ++ naturals_text numbers.now) }
+{
+    append(text, b"[")?;
+    append_natural_items(text, numbers)?;
+    append(text, b"]")?;
+    Ok(())
+}
+
+fn append_natural_items(text: &mut Vec<u8>, numbers: &[u8]) -> Result<(), Memory>
+    ensures { OnOk result (text.new.items ≡ text.old.items ++ join_by decimal (codes ",") numbers.now) }
+{
+    for (at, number) in numbers.iter().enumerate() {
+        append_comma(text, at > 0)?;
+        append_small(text, *number)?;
+    }
+    Ok(())
+}
+
+fn append_small(text: &mut Vec<u8>, number: u8) -> Result<(), Memory>
+    ensures { OnOk result (text.new.items ≡ text.old.items ++ decimal number) }
+{
+    append_number(text, u64::from(number))
 }
 
 /// Appends a string. A backslash stands before each of its quotation marks and backslashes.

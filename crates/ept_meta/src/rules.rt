@@ -8,7 +8,8 @@ ghost use Rattle.ept_meta.specs.Output.{rules_of};
 use ept_config::Kept;
 use ept_space::{Cube, Rules};
 
-/// The rules by which the points of an output are sampled: the cube over the bounds, and the threshold.
+/// The rules by which the points of an output are sampled: the cube over the bounds, the threshold, and
+/// which points come first and last.
 pub fn rules_of(kept: &Kept) -> Rules
     ensures value { result ≡ rules_of kept.now }
     ensures cube { IsCube result.cube }
@@ -19,5 +20,7 @@ pub fn rules_of(kept: &Kept) -> Rules
     Rules {
         cube,
         threshold: kept.threshold,
+        first: kept.first,
+        withheld_last: kept.withheld_last,
     }
 }

@@ -9,7 +9,8 @@ use Rattle.ept_point.specs.Dimensions.{packed_width}
 use Rattle.ept_point.specs.Laws.{EachTileHasLength, ReadInOneWay}
 use Rattle.ept_point.specs.Order.{IsAscending}
 use Rattle.ept_point.specs.Packed.{tile}
-use Rattle.ept_point.specs.Tile.{ReadsAs}
+use Rattle.ept_point.specs.declared.layout.Layout.TheVariants.{New}
+use Rattle.ept_point.specs.Tile.{ReadsIn}
 use Rattle.ept_space.specs.declared.cube.Rules.{Rules}
 use Rattle.ept_space.specs.VoxelKey.{VoxelKey}
 use Rattle.ept_space.specs.OctreeCube.{InBox}
@@ -20,10 +21,11 @@ use Rattle.ept_sample.proofs.IdLaws.{IsRising-IsAscending}
 use Rattle.ept_sample.proofs.Members.{All-members}
 use Rattle.ept_grid.specs.declared.error.GridError.{GridError}
 use Rattle.ept_grid.specs.declared.error.GridError.TheVariants.{Outside, OpenLoser, TooMany, Deep, Memory}
-use Rattle.ept_grid.specs.Node.{Node, IsNodeOf, IsInIdOrder}
+use Rattle.ept_grid.specs.Node.{Node, IsNodeOf, IsInIdOrder, no_room}
 use Rattle.ept_grid.specs.Tile.{IsTile, IsTileFault}
 use Rattle.ept_node.specs.declared.site.Filed.{Filed}
 use Rattle.ept_node.specs.declared.error.NodeError.{NodeError}
+use Rattle.ept_node.specs.declared.error.NodeError.TheVariants.{SpillDamaged}
 use Rattle.ept_node.specs.Told.{points_told}
 use Rattle.ept_node.specs.Shown.{bare, filed_node, IsAlike, IsTileOf}
 use Rattle.ept_node.specs.Filing.{IsLabelOf, FitsLabel, AppendsAlike}
@@ -61,7 +63,7 @@ shown-same filed bytes g label inside up is = λ i. record {
   rules = label.rules i;
   points = told-same filed bytes g label inside up is i;
   mask = label.mask i;
-  room = 0;
+  room = no_room;
 }
 
 -- the node shows what it shows in memory
@@ -150,9 +152,9 @@ added-none node points none = record {
 
 -- ---- what bytes make of a label
 
-module _ (filed : Filed) (bytes : List ℕ) (long : length bytes ≡ packed_width * filed.count) (lengths : EachTileHasLength) (read : List Point) (reads : ReadsAs bytes (Ok read)) where
+module _ (filed : Filed) (bytes : List ℕ) (long : length bytes ≡ packed_width * filed.count) (lengths : EachTileHasLength) (read : List Point) (reads : ReadsIn New bytes (Ok read)) where
   counted : filed.count ≡ length read
-  counted = let size : length bytes ≡ packed_width * length read = ap (λ (w : List ℕ). length w) reads.0 ∙ lengths read in omega (arith, size, long)
+  counted = let size : length bytes ≡ packed_width * length read = ap (λ (w : List ℕ). length w) reads.0 ∙ lengths New read in omega (arith, size, long)
 
   pub fits-label : (points : List Point) (g : Node) → points ≡ read → IsNodeOf filed.site.key filed.site.rules filed.mask points g → IsTile filed.site.key filed.site.rules filed.mask points → FitsLabel filed g
   fits-label points g is of fits =
@@ -172,8 +174,15 @@ module _ (filed : Filed) (bytes : List ℕ) (long : length bytes ≡ packed_widt
         place = ap (λ (w : List Point). place_of w fault) (sym is) ∙ place;
       }))
 
-  pub too-many-at : (points : List Point) → points ≡ read → length points ≡ filed.count
-  too-many-at points is = ap (λ (w : List Point). length w) is ∙ sym counted
+  -- a fault that no point has alone is at the end
+  pub unfit-together : (e : NodeError) (points : List Point) (fault : GridError) → points ≡ read → IsTileFault filed.site.key filed.site.rules filed.mask points fault → place_of points fault ≡ length points → e ≡ SpillDamaged (packed_width * filed.count) (packed_width * filed.count) filed.count
+      → (kept found at : ℕ) → e ≡ SpillDamaged kept found at → (kept ≡ length bytes) × (found ≡ kept) × ((told : Option (List ℕ)) → IsWrongAt (filed_node told filed) at bytes)
+  unfit-together e points fault is unfit place made kept found at named =
+      let same : SpillDamaged (packed_width * filed.count) (packed_width * filed.count) filed.count ≡ SpillDamaged kept found at = sym made ∙ named in
+      let all : packed_width * filed.count ≡ kept = cc in
+      let as_many : packed_width * filed.count ≡ found = cc in
+      let last : filed.count ≡ at = cc in
+      (sym all ∙ sym long, sym as_many ∙ all, λ told. unfit-at told points fault at is unfit (place ∙ (ap (λ (w : List Point). length w) is ∙ (sym counted ∙ last))))
 
 -- where the file told these bytes, what is wrong with them is wrong with what it holds
 pub damaged-told : (node : Node) (told : Option (List ℕ)) (bytes : List ℕ) (kept found at : ℕ) → Tells (λ held. held ≡ bytes) told → kept ≡ length bytes → found ≡ kept → IsWrongAt node at bytes → Tells (IsDamaged node kept found at) told
@@ -198,16 +207,16 @@ no-fault key rules mask points Deep fits fault = fault.4 (fits.not_deep fault.3)
 no-fault key rules mask points Memory fits fault = fault
 
 not-wrong : ReadInOneWay → (node : Node) (at : ℕ) → IsAscending node.points → IsTile node.key node.rules node.mask node.points → IsWrongAt node at (tile node.points) → ⊥
-not-wrong once node at up fits (inl field) = let e = once (tile node.points) (Ok node.points) (Err (reading.Field at)) (refl, up) field in cc
-not-wrong once node at up fits (inr (inl order)) = let e = once (tile node.points) (Ok node.points) (Err (reading.Order at)) (refl, up) order in cc
+not-wrong once node at up fits (inl field) = let e = once New (tile node.points) (Ok node.points) (Err (reading.Field at)) (refl, up) field in cc
+not-wrong once node at up fits (inr (inl order)) = let e = once New (tile node.points) (Ok node.points) (Err (reading.Order at)) (refl, up) order in cc
 not-wrong once node at up fits (inr (inr wrong)) =
-    let same : node.points ≡ wrong.points = (let e = once (tile node.points) (Ok node.points) (Ok wrong.points) (refl, up) wrong.reads in cc) in
+    let same : node.points ≡ wrong.points = (let e = once New (tile node.points) (Ok node.points) (Ok wrong.points) (refl, up) wrong.reads in cc) in
     no-fault node.key node.rules node.mask node.points wrong.fault fits (subst (λ (w : List Point). IsTileFault node.key node.rules node.mask w wrong.fault) (sym same) wrong.unfit)
 
 not-damaged : ReadInOneWay → EachTileHasLength → (node : Node) (bytes : List ℕ) (kept found at : ℕ) → IsAscending node.points → IsTile node.key node.rules node.mask node.points → bytes ≡ tile node.points → kept ≡ packed_width * length node.points → IsDamaged node kept found at bytes → ⊥
 not-damaged once lengths node bytes kept found at up fits is all damaged =
     elim damaged.wrong [
-      | inl other ↦ other.0 (damaged.found_all ∙ (ap (λ (w : List ℕ). length w) is ∙ (lengths node.points ∙ sym all)))
+      | inl other ↦ other.0 (damaged.found_all ∙ (ap (λ (w : List ℕ). length w) is ∙ (lengths New node.points ∙ sym all)))
       | inr wrong ↦ not-wrong once node at up fits (subst (λ (w : List ℕ). IsWrongAt node at w) is wrong.1)
     ]
 

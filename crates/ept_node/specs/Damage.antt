@@ -3,7 +3,8 @@ use Rattle.std.specs.Prelude.{ℕ, ◌≡◌, ◌≢◌, ◌/◌, ◌⊎◌, min
 use Rattle.ept_point.specs.declared.point.Point.{Point}
 use Rattle.ept_point.specs.declared.tile.TileError.TheVariants as reading
 use Rattle.ept_point.specs.Dimensions.{packed_width}
-use Rattle.ept_point.specs.Tile.{ReadsAs}
+use Rattle.ept_point.specs.declared.layout.Layout.TheVariants.{New}
+use Rattle.ept_point.specs.Tile.{ReadsIn}
 use Rattle.ept_grid.specs.Node.{Node}
 use Rattle.ept_grid.specs.declared.error.GridError.{GridError}
 use Rattle.ept_grid.specs.declared.error.GridError.TheVariants.{Outside, OpenLoser, TooMany, Deep, Memory}
@@ -20,7 +21,7 @@ place_of points Memory = length points
 -- the bytes are those of points, the first of which that do not fit the node has this number
 pub record AreUnfit (node : Node) (at : ℕ) (bytes : List ℕ) : Type 0 where
   pub points : List Point
-  pub reads : ReadsAs bytes (Ok points)
+  pub reads : ReadsIn New bytes (Ok points)
   pub fault : GridError
   pub unfit : IsTileFault node.key node.rules node.mask points fault
   pub place : place_of points fault ≡ at
@@ -28,7 +29,7 @@ pub record AreUnfit (node : Node) (at : ℕ) (bytes : List ℕ) : Type 0 where
 -- the point of this number is the first that is no point, does not come behind the one before it, or does not fit the node
 abbrev pub IsWrongAt : Node → ℕ → List ℕ → Type 0
 IsWrongAt node at bytes =
-    ReadsAs bytes (Err (reading.Field at)) ⊎ (ReadsAs bytes (Err (reading.Order at)) ⊎ AreUnfit node at bytes)
+    ReadsIn New bytes (Err (reading.Field at)) ⊎ (ReadsIn New bytes (Err (reading.Order at)) ⊎ AreUnfit node at bytes)
 
 -- Bytes are not those of the node's tile, of which so many were kept: so many were found. Where they are others, the first
 -- point that is not whole is told.

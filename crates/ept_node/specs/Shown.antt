@@ -4,6 +4,7 @@ use Rattle.ept_base.specs.Files.{Tells}
 use Rattle.ept_point.specs.Packed.{tile}
 use Rattle.ept_space.specs.declared.cube.Rules.{Rules}
 use Rattle.ept_space.specs.VoxelKey.{VoxelKey, root}
+use Rattle.ept_space.specs.Group.{plain_rules}
 use Rattle.ept_sample.specs.Ids.{HasDistinctIds}
 use Rattle.ept_grid.specs.Node as grid
 use Rattle.ept_grid.specs.Tile.{IsTile}
@@ -19,15 +20,15 @@ use Rattle.ept_node.specs.Told.{points_told}
 
 -- a node of the octree, whatever room it has for more
 abbrev pub bare : grid.Node → grid.Node
-bare g = record { key = g.key; rules = g.rules; points = g.points; mask = g.mask; room = 0 }
+bare g = record { key = g.key; rules = g.rules; points = g.points; mask = g.mask; room = grid.no_room }
 
 -- the node of a key without points, of which no octant is open
 abbrev pub empty_node : VoxelKey → Rules → grid.Node
-empty_node key rules = record { key = key; rules = rules; points = []; mask = 0; room = 0 }
+empty_node key rules = record { key = key; rules = rules; points = []; mask = 0; room = grid.no_room }
 
 -- what stands for a node where there is none
 abbrev pub no_node : grid.Node
-no_node = empty_node root (record { cube = record { corner = []; e = 0; s = 0; depth = 0 }; threshold = 0 })
+no_node = empty_node root (plain_rules (record { corner = []; e = 0; s = 0; depth = 0 }) 0)
 
 -- a node whose points are in its file, with those that the file tells
 abbrev pub filed_node : Option (List ℕ) → Filed → grid.Node
@@ -36,7 +37,7 @@ filed_node told filed = record {
   rules = filed.site.rules;
   points = points_told filed.site.rules.cube filed.site.key filed.count (unwrap_or told []);
   mask = filed.mask;
-  room = 0;
+  room = grid.no_room;
 }
 
 -- no child has a slot

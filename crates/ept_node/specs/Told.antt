@@ -116,7 +116,7 @@ point_told cube key bytes = record {
     green_fits = below_power _ 16;
     blue_fits = below_power _ 16;
     origin_fits = below_power _ 32;
-    number_fits = below_power _ 32;
+    number_fits = below_power _ 64;
   };
 }
 

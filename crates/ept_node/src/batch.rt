@@ -5,7 +5,7 @@ ghost use Rattle.ept_point.specs.declared.point.Point.{Point};
 ghost use Rattle.ept_sample.specs.Place.{AllInBox};
 ghost use Rattle.ept_sample.specs.Ids.{HasDistinctIds};
 ghost use Rattle.ept_grid.specs.Outgoing.{points_at, all_points};
-ghost use Rattle.ept_grid.specs.Node.{spare, SendsOn};
+ghost use Rattle.ept_grid.specs.Node.{HasRoomFor, SendsOn};
 ghost use Rattle.ept_node.specs.Shown.{bare};
 ghost use Rattle.ept_node.specs.Batch.{HasTaken, Arrives};
 
@@ -30,14 +30,14 @@ pub(crate) fn take_in(grid: &mut Grid, points: &[Point], out: &mut Outgoing) -> 
     ensures arrives { OnOk result (HasDistinctIds (points.now ++ grid.old.points) → 0 < length points.now →
         ((o : ℕ) → o < 8 → points_at out.old o ≡ []) → Arrives (bare grid.old) (bare grid.new) points.now out.new) }
 {
-    grid.reserve(points.len(), out)?;
+    grid.reserve(points, out)?;
     arrive_all(grid, points, out);
     Ok(())
 }
 
 // Lets points arrive for which there is room.
 fn arrive_all(grid: &mut Grid, points: &[Point], out: &mut Outgoing)
-    requires room { length points.now ≤ spare grid.old out.old }
+    requires room { HasRoomFor grid.old out.old points.now }
     requires inside { AllInBox grid.old.rules.cube grid.old.key points.now }
     ensures key { grid.new.key ≡ grid.old.key }
     ensures rules { grid.new.rules ≡ grid.old.rules }

@@ -19,7 +19,7 @@ use Rattle.ept_octree.specs.declared.error.AddError.TheVariants as errors
 
 -- the node of a key with these points and open octants
 abbrev pub filled : VoxelKey → Rules → ℕ → List Point → grid.Node
-filled key rules mask points = record { key = key; rules = rules; points = points; mask = mask; room = 0 }
+filled key rules mask points = record { key = key; rules = rules; points = points; mask = mask; room = grid.no_room }
 
 -- no node has the key, or it is the root and there is no other node, nor a point
 abbrev pub IsFree : VoxelKey → List Branch → Type 0

@@ -5,14 +5,16 @@ use Rattle.ept_base.specs.Files.{Files, SameFiles, SameBut, StepsBy, Tells}
 use Rattle.ept_base.specs.Moves.{Moves, SameImages}
 use Rattle.ept_base.proofs.Moving.{moves_weaker, moves_both}
 use Rattle.ept_point.specs.declared.point.Point.{Point}
-use Rattle.ept_point.specs.Packed.{tile}
+use Rattle.ept_point.specs.declared.layout.Layout.TheVariants.{Old, New}
 use Rattle.ept_space.specs.VoxelKey.{VoxelKey}
 use Rattle.ept_ckpt.specs.declared.node_line.NodeLine.{NodeLine}
+use Rattle.ept_ckpt.specs.Versions.{layout_of}
 use Rattle.ept_save.specs.Current.{Current, Keeps, tile_of_line}
 use Rattle.ept_save.specs.Loading.{current_line, HasLine, HasTile, AppendsFound}
+use Rattle.ept_save.specs.Tiles.{HasTileUnder, IsOfLayout}
 use Rattle.ept_save.proofs.Keeping.{keeps-same, keeps-both}
+use Rattle.ept_save.proofs.TileFiles.{one-file}
 use Rattle.ept_phase.specs.Saving.{IsTold}
-use Rattle.ept_phase.proofs.SavedNodes.{one-tile}
 use Rattle.ept_phase.proofs.SavedTo.{found-line, one_line, line-tile}
 
 -- ---- the points of its tile
@@ -26,12 +28,12 @@ module _ (current : Current) (key : VoxelKey) (files : Option Files) (old found 
   found-has same = subst (λ (w : List Point). Tells (HasTile current key w) files) (sym here ∙ same) are.has_tile
 
   -- and only there
-  pub found-has_not : shown ≢ points → (all : Files) → files ≡ Some all → ¬ HasTile current key points all
-  found-has_not differ all told has =
+  pub found-has_not : ¬ IsOfLayout Old current → shown ≢ points → (all : Files) → files ≡ Some all → ¬ HasTile current key points all
+  found-has_not newest differ all told has =
       let there : HasTile current key are.points all = subst (λ (o : Option Files). Tells (HasTile current key are.points) o) told are.has_tile in
-      let at = found-line current key (λ kept l. all (tile_of_line l) ≡ Some (tile are.points)) there in
+      let at = found-line current key (λ c l. HasTileUnder (layout_of c.version) (tile_of_line l) are.points all) there in
       let line : NodeLine = at.1 in
-      differ (here ∙ one-tile all (tile_of_line line) are.points points at.3 (line-tile current key line points all at.2 has))
+      differ (here ∙ one-file New (tile_of_line line) all are.points points (line-tile current key line are.points all newest at.2 there) (line-tile current key line points all newest at.2 has))
 
 -- ---- its line
 
@@ -49,13 +51,13 @@ line-told (Some (letter, c)) key mask points line is same_mask same_count =
 -- no node is told of where there is no line
 pub none-told : (current : Current) (key : VoxelKey) (mask : ℕ) (points : List Point) → current_line current key ≡ None → ¬ IsTold current key mask points
 none-told current key mask points none told =
-    let at = found-line current key (λ kept line. (line.mask ≡ mask) × (line.count ≡ length points)) told in
+    let at = found-line current key (λ c line. (line.mask ≡ mask) × (line.count ≡ length points)) told in
     none-some at.1 (sym none ∙ at.2)
 
 -- and none where the line tells otherwise
 pub other-told : (current : Current) (key : VoxelKey) (mask : ℕ) (points : List Point) (line : NodeLine) → current_line current key ≡ Some line → (line.mask ≢ mask) ⊎ (line.count ≢ length points) → ¬ IsTold current key mask points
 other-told current key mask points line is differs told =
-    let at = found-line current key (λ kept l. (l.mask ≡ mask) × (l.count ≡ length points)) told in
+    let at = found-line current key (λ c l. (l.mask ≡ mask) × (l.count ≡ length points)) told in
     let same : at.1 ≡ line = one_line (current_line current key) at.1 line at.2 is in
     elim differs [
       | inl mask_differs ↦ mask_differs (sym (ap (λ (l : NodeLine). l.mask) same) ∙ at.3.0)

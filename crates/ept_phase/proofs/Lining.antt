@@ -1,37 +1,33 @@
 -- The lines of the current checkpoint one after another, and entries that are put behind those before them.
-use Rattle.std.proofs.Common.{◌≡◌, ◌∙◌, inl, inr, ℕ, zero, suc, ◌+◌, ◌<◌, ◌≤◌, Bool, true, false, cond, List, [], ◌∷◌, ◌++◌, take, drop, length, get_or, refl, sym, ap, subst, arith, Option, Some, None, Ordering}
-use Rattle.std.specs.Prelude.{AllPairs, IsSome}
-use Rattle.std.proofs.Math.Seq.{take-suc}
+use Rattle.std.proofs.Common.{◌≡◌, ◌∙◌, inl, inr, ℕ, zero, suc, ◌+◌, ◌<◌, ◌≤◌, List, [], ◌∷◌, ◌++◌, take, length, get_or, refl, sym, ap, subst, arith, Option, Some, None, Ordering}
+use Rattle.std.specs.Prelude.{IsSome}
 use Rattle.std.specs.List.{AllZip}
 use Rattle.std.specs.Option.{option_map}
 use Rattle.std.specs.BTreeMap.{insert_entry}
-use Rattle.std.specs.declared.cmp.Ordering.TheVariants.{Less, Equal, Greater}
-use Rattle.std.specs.Ordering.{is_lt, match_ordering, ordering_reverse}
+use Rattle.std.specs.declared.cmp.Ordering.TheVariants.{Less, Greater}
+use Rattle.std.specs.Ordering.{match_ordering, ordering_reverse}
 use Rattle.ept_base.specs.Files.{Files, SameFiles, StepsBy, Tells}
 use Rattle.ept_point.specs.declared.point.Point.{Point}
-use Rattle.ept_point.specs.Packed.{tile}
-use Rattle.ept_space.specs.VoxelKey.{VoxelKey, same_key, key_cmp}
+use Rattle.ept_ckpt.specs.Versions.{layout_of}
+use Rattle.ept_space.specs.VoxelKey.{VoxelKey, key_cmp}
 use Rattle.ept_space.proofs.KeyOrder.{key_cmp_total}
-use Rattle.ept_space.proofs.Within.{same_key-true, same_key-same}
 use Rattle.ept_sample.specs.Members.{IsMember}
-use Rattle.ept_sample.proofs.Ascending.{IsRising}
-use Rattle.ept_sample.proofs.Members.{IsMember-map, all-member}
-use Rattle.ept_sample.proofs.KeyOrder.{key_before, key-self, IsRising-AllPairs}
+use Rattle.ept_sample.proofs.Members.{all-member}
 use Rattle.ept_ckpt.specs.declared.letter.Letter.{Letter}
 use Rattle.ept_ckpt.specs.declared.node_line.NodeLine.{NodeLine}
 use Rattle.ept_ckpt.specs.declared.checkpoint.Checkpoint.{Checkpoint}
-use Rattle.ept_ckpt.specs.Octree.{keys_of}
 use Rattle.ept_ckpt.specs.Valid.{IsNode, deepest}
 use Rattle.ept_ckpt.specs.Lookup.{line_of_key}
 use Rattle.ept_meta.specs.Output.{rules_of}
 use Rattle.ept_save.specs.Current.{Current, tile_of_line}
 use Rattle.ept_save.specs.Loading.{HasLine, AreFound, HasTile, AreOfLine}
+use Rattle.ept_save.specs.Tiles.{HasTileUnder}
 use Rattle.ept_save.proofs.LoadedLines.{at-line}
+use Rattle.ept_save.proofs.KeyLines.{DoAscend, do-ascend, line-here, before-next}
 use Rattle.ept_table.specs.Octree.{Branch}
 use Rattle.ept_phase.specs.LinesLaws.{HaveKeys}
 use Rattle.ept_phase.specs.Lines.{TellNodes}
-use Rattle.ept_phase.proofs.Telling.{either, node-line}
-use Rattle.ept_phase.proofs.Merging.{DoAscend}
+use Rattle.ept_phase.proofs.Telling.{node-line}
 
 -- ---- pairs, and files that are told
 
@@ -51,51 +47,6 @@ tells-back was is back None None same told = tt
 tells-back was is back None (Some new) same told = absurd same
 tells-back was is back (Some old) None same told = absurd same
 tells-back was is back (Some old) (Some new) same told = back old new same told
-
--- ---- the line of a key
-
-pub lt_less : (o : Ordering) → is_lt o ≡ true → o ≡ Less
-lt_less Less is = refl
-lt_less Equal is = absurd (cc)
-lt_less Greater is = absurd (cc)
-
-by_rising : (lines : List NodeLine) → IsRising key_before (keys_of lines) → DoAscend lines
-by_rising [] up = tt
-by_rising (l ∷ ls) up = (λ m is. lt_less (key_cmp l.key m.key) (up.0 m.key (IsMember-map (λ (x : NodeLine). x.key) m ls is)), by_rising ls up.1)
-
-pub do-ascend : (lines : List NodeLine) → AllPairs (λ a b. key_cmp a b ≡ Less) (keys_of lines) → DoAscend lines
-do-ascend lines all = by_rising lines (IsRising-AllPairs (keys_of lines) all)
-
-differ : (a b : VoxelKey) → key_cmp a b ≡ Less → same_key a b ≡ false
-differ a b less =
-    elim (either (same_key a b)) [
-      | inl same ↦
-          let equal : key_cmp a b ≡ Equal = ap (λ (k : VoxelKey). key_cmp k b) (same_key-true a b same) ∙ key-self b in
-          absurd (two_ways (key_cmp a b) less equal)
-      | inr other ↦ other
-    ]
-  where
-    two_ways : (o : Ordering) → o ≡ Less → o ≡ Equal → ⊥
-    two_ways o less equal = absurd (cc)
-
-pub line-here : (lines : List NodeLine) (line : NodeLine) → DoAscend lines → IsMember line lines → line_of_key lines line.key ≡ Some line
-line-here [] line up m = absurd m
-line-here (l ∷ ls) line up (inl is) =
-    ap (λ (b : Bool). cond b (Some l) (line_of_key ls line.key)) (same_key-same l.key line.key (ap (λ (x : NodeLine). x.key) is)) ∙ ap (λ (x : NodeLine). Some x) is
-line-here (l ∷ ls) line up (inr m) =
-    ap (λ (b : Bool). cond b (Some l) (line_of_key ls line.key)) (differ l.key line.key (up.0 line m)) ∙ line-here ls line up.1 m
-
-pub member-at : (lines : List NodeLine) (i : ℕ) (line : NodeLine) → i < length lines → get_or lines i line ≡ line → IsMember line lines
-member-at [] i line inside is = absurd (omega (arith, inside))
-member-at (l ∷ ls) zero line inside is = inl is
-member-at (l ∷ ls) (suc i) line inside is = inr (member-at ls i line (omega (arith, inside)) is)
-
--- those in front of a line stand before it
-pub before-next : (lines : List NodeLine) (i : ℕ) (line l : NodeLine) → DoAscend lines → i < length lines → get_or lines i line ≡ line → IsMember l (take i lines) → key_cmp l.key line.key ≡ Less
-before-next [] i line l up inside is m = absurd (omega (arith, inside))
-before-next (x ∷ xs) zero line l up inside is m = absurd m
-before-next (x ∷ xs) (suc i) line l up inside is (inl at) = ap (λ (w : NodeLine). key_cmp w.key line.key) (sym at) ∙ up.0 line (member-at xs i line (omega (arith, inside)) is)
-before-next (x ∷ xs) (suc i) line l up inside is (inr m) = before-next xs i line l up.1 (omega (arith, inside)) is m
 
 -- ---- an entry behind all others
 
@@ -150,30 +101,17 @@ module _ (current : Current) (c : Checkpoint) (is_current : option_map (λ (at :
     found_at = ap (λ (d : Checkpoint). line_of_key d.nodes line.key) at.2 ∙ found line m
 
     pub next-are : AreFound current line.key points → AreOfLine (rules_of c.kept) line points
-    next-are are = subst (λ (d : Checkpoint). AreOfLine (rules_of d.kept) line points) at.2 (at-line current line.key at.0 line (λ kept l. AreOfLine (rules_of kept) l points) at.1 found_at are)
+    next-are are = subst (λ (d : Checkpoint). AreOfLine (rules_of d.kept) line points) at.2 (at-line current line.key at.0 line (λ d l. AreOfLine (rules_of d.kept) l points) at.1 found_at are)
 
-    pub next-tile : (files : Files) → HasTile current line.key points files → files (tile_of_line line) ≡ Some (tile points)
-    next-tile files has = at-line current line.key at.0 line (λ kept l. files (tile_of_line l) ≡ Some (tile points)) at.1 found_at has
+    pub next-tile : (files : Files) → HasTile current line.key points files → HasTileUnder (layout_of c.version) (tile_of_line line) points files
+    next-tile files has =
+        subst (λ (d : Checkpoint). HasTileUnder (layout_of d.version) (tile_of_line line) points files) at.2 (at-line current line.key at.0 line (λ d l. HasTileUnder (layout_of d.version) (tile_of_line l) points files) at.1 found_at has)
 
 -- the entries before are those of lines in front, so the next one comes behind them
 pub entries-low : (entries : List Branch) (lines : List NodeLine) (i : ℕ) (line : NodeLine) → DoAscend lines → i < length lines → get_or lines i line ≡ line → TellNodes entries (take i lines) → (e : Branch) → IsMember e entries → key_cmp e.0 line.key ≡ Less
 entries-low entries lines i line up inside is told e m =
     let l = node-line entries (take i lines) e told m in
     ap (λ (k : VoxelKey). key_cmp k line.key) (sym l.2.key) ∙ before-next lines i line l.0 up inside is l.1
-
--- the first items, with the next one behind them
-pub take-next : {X : Type 0} (xs : List X) (i : ℕ) (x : X) → i < length xs → get_or xs i x ≡ x → take i xs ++ x ∷ [] ≡ take (i + 1) xs
-take-next {X} xs i x inside is =
-    ap (λ (y : X). take i xs ++ y ∷ []) (sym is) ∙ (sym (take-suc xs i x inside) ∙ ap (λ (n : ℕ). take n xs) (let after : suc i ≡ i + 1 = omega arith in after))
-
--- those from it on
-pub drop-next : {X : Type 0} (xs : List X) (i : ℕ) (x : X) → i < length xs → get_or xs i x ≡ x → drop i xs ≡ x ∷ drop (i + 1) xs
-drop-next {X} xs i x inside is = here xs i inside is ∙ ap (λ (n : ℕ). x ∷ drop n xs) (let after : suc i ≡ i + 1 = omega arith in after)
-  where
-    here : (ys : List X) (k : ℕ) → k < length ys → get_or ys k x ≡ x → drop k ys ≡ x ∷ drop (suc k) ys
-    here [] k low at = absurd (omega (arith, low))
-    here (y ∷ ys) zero low at = ap (λ (z : X). z ∷ ys) at
-    here (y ∷ ys) (suc k) low at = here ys k (omega (arith, low)) at
 
 -- where it is told of files, so is what follows
 pub tells-more : (one other : Files → Type 0) → ((all : Files) → one all → other all) → (files : Option Files) → Tells one files → Tells other files

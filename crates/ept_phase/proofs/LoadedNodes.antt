@@ -25,9 +25,12 @@ use Rattle.ept_octree.specs.Adding.{filled, IsFree, HasRoomFor}
 use Rattle.ept_octree.specs.declared.octree.Octree.{Octree}
 use Rattle.ept_octree.specs.Octree.{cache_of, residents_of, AreAlike}
 use Rattle.ept_phase.specs.Lines.{TellsNode, TellNodes, NamesTile, NameTiles}
+use Rattle.ept_point.specs.declared.layout.Layout.{Layout}
+use Rattle.ept_ckpt.specs.Versions.{layout_of}
+use Rattle.ept_save.proofs.TileFiles.{tile-same}
+use Rattle.ept_save.proofs.KeyLines.{DoAscend, do-ascend, before-next, take-next}
 use Rattle.ept_phase.proofs.Telling.{among-member}
-use Rattle.ept_phase.proofs.Merging.{DoAscend}
-use Rattle.ept_phase.proofs.Lining.{zip-more, tells-both, tells-back, do-ascend, insert-last, before-next, entries-low, take-next, told-few}
+use Rattle.ept_phase.proofs.Lining.{zip-more, tells-both, tells-back, insert-last, entries-low, told-few}
 
 -- points of a node have no fault
 pub no-fault : (key : VoxelKey) (rules : Rules) (mask : ℕ) (points : List Point) (fault : GridError) → IsTile key rules mask points → IsTileFault key rules mask points fault → ⊥
@@ -69,23 +72,23 @@ alone rules = (let b : Branch = (root, empty_node root rules) in b) ∷ []
 
 -- The nodes of these lines were added to the octree of no points, in which the root stands from the beginning; where spill
 -- files tell, the files that the lines name are their tiles.
-pub record AreLoaded (telling : Type 0) (rules : Rules) (lines : List NodeLine) (nodes : List Branch) (files : Option Files) : Type 0 where
+pub record AreLoaded (telling : Type 0) (layout : Layout) (rules : Rules) (lines : List NodeLine) (nodes : List Branch) (files : Option Files) : Type 0 where
   pub loaded : List Branch
   pub told : TellNodes loaded lines
-  pub tiles : telling → Tells (λ all. NameTiles all loaded lines) files
+  pub tiles : telling → Tells (λ all. NameTiles layout all loaded lines) files
   pub there : (nodes ≡ loaded) ⊎ ((loaded ≡ []) × (nodes ≡ alone rules))
 
 -- before the first line the root is in memory, and behind each there is room for one node more
 abbrev pub HasPlace : {F : Type 0} → ℕ → Octree F → Type 0
 HasPlace i tree = ((i ≡ 0) × (0 < residents_of tree)) ⊎ ((0 < i) × (residents_of tree < cache_of tree))
 
-none_named : (files : Option Files) → Tells (λ all. NameTiles all [] []) files
-none_named None = tt
-none_named (Some all) = tt
+none_named : (layout : Layout) (files : Option Files) → Tells (λ all. NameTiles layout all [] []) files
+none_named layout None = tt
+none_named layout (Some all) = tt
 
-pub loaded-none : (telling : Type 0) (rules : Rules) (nodes : List Branch) (files : Option Files) → nodes ≡ alone rules → AreLoaded telling rules [] nodes files
-loaded-none telling rules nodes files is =
-    record { loaded = []; told = tt; tiles = λ tell. none_named files; there = inr (refl, is) }
+pub loaded-none : (telling : Type 0) (layout : Layout) (rules : Rules) (nodes : List Branch) (files : Option Files) → nodes ≡ alone rules → AreLoaded telling layout rules [] nodes files
+loaded-none telling layout rules nodes files is =
+    record { loaded = []; told = tt; tiles = λ tell. none_named layout files; there = inr (refl, is) }
 
 -- where no node is told of there is no line
 first_taken : (lines : List NodeLine) (i : ℕ) → i < length lines → TellNodes [] (take i lines) → i ≡ 0
@@ -117,7 +120,7 @@ alike-told (b ∷ bs) (c ∷ cs) (l ∷ ls) alike told = (
   alike-told bs cs ls alike.1 told.1,
 )
 
-module _ (telling : Type 0) (rules : Rules) (c : Checkpoint) (items : List NodeLine) (same : items ≡ c.nodes) (i : ℕ) (line : NodeLine) (inside : i < length items) (is : get_or items i line ≡ line) (nodes : List Branch) (old : Option Files) (at : AreLoaded telling rules (take i items) nodes old) where
+module _ (telling : Type 0) (rules : Rules) (c : Checkpoint) (items : List NodeLine) (same : items ≡ c.nodes) (i : ℕ) (line : NodeLine) (inside : i < length items) (is : get_or items i line ≡ line) (nodes : List Branch) (old : Option Files) (at : AreLoaded telling (layout_of c.version) rules (take i items) nodes old) where
   octree : AreWholeOctree items
   octree = subst (λ (w : List NodeLine). AreWholeOctree w) (sym same) c.is_checkpoint.nodes_are.octree
 
@@ -204,6 +207,9 @@ module _ (telling : Type 0) (rules : Rules) (c : Checkpoint) (items : List NodeL
     abbrev next : Branch
     next = (line.key, node)
 
+    abbrev layout : Layout
+    layout = layout_of c.version
+
     last : insert_entry key_cmp nodes line.key node ≡ at.loaded ++ next ∷ []
     last = elim at.there [
       | inl all ↦ ap (λ (w : List Branch). insert_entry key_cmp w line.key node) all ∙ insert-last at.loaded line.key node low
@@ -217,15 +223,15 @@ module _ (telling : Type 0) (rules : Rules) (c : Checkpoint) (items : List NodeL
     taken : take i items ++ line ∷ [] ≡ take (i + 1) items
     taken = take-next items i line inside is
 
-    pub loaded-more : (mid : Option Files) → StepsBy SameFiles old mid → TellsNode next line → Tells (λ all. NamesTile all next line) mid → AreLoaded telling rules (take (i + 1) items) more old
+    pub loaded-more : (mid : Option Files) → StepsBy SameFiles old mid → TellsNode next line → Tells (λ all. NamesTile (layout_of c.version) all next line) mid → AreLoaded telling (layout_of c.version) rules (take (i + 1) items) more old
     loaded-more mid unchanged tells name = record {
       loaded = more;
       told = alike-told (at.loaded ++ next ∷ []) more (take (i + 1) items) (subst (λ (w : List Branch). AreAlike w more) last alike)
           (subst (λ (ls : List NodeLine). TellNodes (at.loaded ++ next ∷ []) ls) taken (zip-more TellsNode at.loaded (take i items) next line at.told tells));
-      tiles = λ tell. subst (λ (w : List Branch). Tells (λ all. NameTiles all w (take (i + 1) items)) old) (sym (inserted tell ∙ last))
-          (subst (λ (ls : List NodeLine). Tells (λ all. NameTiles all (at.loaded ++ next ∷ []) ls) old) taken
-          (tells-both (λ all. NameTiles all at.loaded (take i items)) (λ all. NamesTile all next line) (λ all. NameTiles all (at.loaded ++ next ∷ []) (take i items ++ line ∷ [])) (λ all names name. zip-more (NamesTile all) at.loaded (take i items) next line names name) old (at.tiles tell)
-          (tells-back (λ all. NamesTile all next line) (λ all. NamesTile all next line) (λ a b step here. sym (step (tile_of_line line)) ∙ here) old mid unchanged name)));
+      tiles = λ tell. subst (λ (w : List Branch). Tells (λ all. NameTiles layout all w (take (i + 1) items)) old) (sym (inserted tell ∙ last))
+          (subst (λ (ls : List NodeLine). Tells (λ all. NameTiles layout all (at.loaded ++ next ∷ []) ls) old) taken
+          (tells-both (λ all. NameTiles layout all at.loaded (take i items)) (λ all. NamesTile layout all next line) (λ all. NameTiles layout all (at.loaded ++ next ∷ []) (take i items ++ line ∷ [])) (λ all names name. zip-more (NamesTile layout all) at.loaded (take i items) next line names name) old (at.tiles tell)
+          (tells-back (λ all. NamesTile layout all next line) (λ all. NamesTile layout all next line) (λ a b step here. tile-same layout (tile_of_line line) (tile_of_line line) next.1.points b a (sym (step (tile_of_line line))) here) old mid unchanged name)));
       there = inl refl;
     }
 
@@ -234,11 +240,11 @@ pub tells-filled : (rules its : Rules) (line : NodeLine) (points : List Point) �
 tells-filled rules its line points are = record { key = refl; mask = refl; count = sym are.counted }
 
 -- with all lines, these are the octree's nodes
-pub all-loaded : (telling : Type 0) (rules : Rules) (c : Checkpoint) (nodes : List Branch) (files : Option Files) → AreLoaded telling rules c.nodes nodes files → TellNodes nodes c.nodes × (telling → Tells (λ all. NameTiles all nodes c.nodes) files)
+pub all-loaded : (telling : Type 0) (rules : Rules) (c : Checkpoint) (nodes : List Branch) (files : Option Files) → AreLoaded telling (layout_of c.version) rules c.nodes nodes files → TellNodes nodes c.nodes × (telling → Tells (λ all. NameTiles (layout_of c.version) all nodes c.nodes) files)
 all-loaded telling rules c nodes files at = elim at.there [
   | inl all ↦ (
     subst (λ (w : List Branch). TellNodes w c.nodes) (sym all) at.told,
-    λ tell. subst (λ (w : List Branch). Tells (λ here. NameTiles here w c.nodes) files) (sym all) (at.tiles tell),
+    λ tell. subst (λ (w : List Branch). Tells (λ here. NameTiles (layout_of c.version) here w c.nodes) files) (sym all) (at.tiles tell),
   )
   | inr first ↦ absurd (none_told c.nodes c.is_checkpoint.nodes_are.octree (subst (λ (w : List Branch). TellNodes w c.nodes) first.0 at.told))
 ]

@@ -2,10 +2,7 @@
 use Rattle.std.proofs.Common.{◌≡◌, ◌∙◌, Bool, true, false, cond, inl, inr, List, [], ◌∷◌, ◌++◌, refl, sym, ap, subst, Option, Some, None, Ordering}
 use Rattle.std.specs.Prelude.{◌||◌, filter}
 use Rattle.std.specs.List.{cons_option}
-use Rattle.std.specs.declared.cmp.Ordering.TheVariants.{Less, Equal, Greater}
-use Rattle.std.specs.Ordering.{is_lt}
-use Rattle.std.proofs.lemmas.List.{append-nil}
-use Rattle.std.proofs.lemmas.List.Elements.{filter-append}
+use Rattle.std.specs.declared.cmp.Ordering.TheVariants.{Less, Equal}
 use Rattle.ept_space.specs.VoxelKey.{VoxelKey, same_key, key_cmp}
 use Rattle.ept_space.proofs.Within.{same_key-true}
 use Rattle.ept_sample.specs.Members.{IsMember}
@@ -13,24 +10,12 @@ use Rattle.ept_sample.proofs.KeyOrder.{key-self, key-trans}
 use Rattle.ept_ckpt.specs.declared.node_line.NodeLine.{NodeLine}
 use Rattle.ept_ckpt.specs.Octree.{is_among}
 use Rattle.ept_ckpt.specs.Lookup.{line_of_key}
-use Rattle.ept_save.specs.Lines.{is_before, with_line}
+use Rattle.ept_save.proofs.KeyLines.{AreBehind, DoAscend}
 use Rattle.ept_phase.proofs.Telling.{either, among-member}
 
 -- of some lines those whose keys are among these
 abbrev pub lines_among : List VoxelKey → List NodeLine → List NodeLine
 lines_among keys lines = filter (λ (l : NodeLine). is_among keys l.key) lines
-
--- each line stands behind a key, or before it
-abbrev pub AreBehind : VoxelKey → List NodeLine → Type 0
-AreBehind key lines = (l : NodeLine) → IsMember l lines → key_cmp key l.key ≡ Less
-
-abbrev pub AreBefore : VoxelKey → List NodeLine → Type 0
-AreBefore key lines = (l : NodeLine) → IsMember l lines → key_cmp l.key key ≡ Less
-
--- each line stands before those behind it
-abbrev pub DoAscend : List NodeLine → Type 0
-DoAscend [] = Unit {0}
-DoAscend (l ∷ lines) = AreBehind l.key lines × DoAscend lines
 
 apart : (a b : VoxelKey) → key_cmp a b ≡ Less → same_key b a ≡ false
 apart a b less =
@@ -110,62 +95,3 @@ all-lines keys [] in_keys = refl
 all-lines keys (l ∷ lines) in_keys =
     ap (λ (b : Bool). cond b (l ∷ lines_among keys lines) (lines_among keys lines)) (in_keys l (inl refl))
     ∙ ap (λ (w : List NodeLine). l ∷ w) (all-lines keys lines (λ m i. in_keys m (inr i)))
-
--- ---- a line put between
-
-abbrev before : VoxelKey → List NodeLine → List NodeLine
-before key lines = filter (λ (l : NodeLine). is_before l.key key) lines
-
-abbrev behind : VoxelKey → List NodeLine → List NodeLine
-behind key lines = filter (λ (l : NodeLine). is_before key l.key) lines
-
-not_less : (a b : VoxelKey) → key_cmp a b ≡ Less → is_before b a ≡ false
-not_less a b less = at (key_cmp b a) refl
-  where
-    at : (o : Ordering) → key_cmp b a ≡ o → is_lt (key_cmp b a) ≡ false
-    at Less is =
-        let never : key_cmp a a ≡ Less = key-trans a b a less is in
-        let equal = key-self a in
-        absurd (cc)
-    at Equal is = ap is_lt is
-    at Greater is = ap is_lt is
-
-keep_before : (key : VoxelKey) (lines : List NodeLine) → AreBefore key lines → (before key lines ≡ lines) × (behind key lines ≡ [])
-keep_before key [] low = (refl, refl)
-keep_before key (l ∷ lines) low =
-    let rest = keep_before key lines (λ m i. low m (inr i)) in (
-      ap (λ (b : Bool). cond b (l ∷ before key lines) (before key lines)) (ap is_lt (low l (inl refl))) ∙ ap (λ (w : List NodeLine). l ∷ w) rest.0,
-      ap (λ (b : Bool). cond b (l ∷ behind key lines) (behind key lines)) (not_less l.key key (low l (inl refl))) ∙ rest.1,
-    )
-
-keep_behind : (key : VoxelKey) (lines : List NodeLine) → AreBehind key lines → (before key lines ≡ []) × (behind key lines ≡ lines)
-keep_behind key [] high = (refl, refl)
-keep_behind key (l ∷ lines) high =
-    let rest = keep_behind key lines (λ m i. high m (inr i)) in (
-      ap (λ (b : Bool). cond b (l ∷ before key lines) (before key lines)) (not_less key l.key (high l (inl refl))) ∙ rest.0,
-      ap (λ (b : Bool). cond b (l ∷ behind key lines) (behind key lines)) (ap is_lt (high l (inl refl))) ∙ ap (λ (w : List NodeLine). l ∷ w) rest.1,
-    )
-
-not_before_itself : (key : VoxelKey) → is_before key key ≡ false
-not_before_itself key = ap is_lt (key-self key)
-
-keep_at : (key : VoxelKey) (line : Option NodeLine) (lines : List NodeLine) → ((l : NodeLine) → line ≡ Some l → l.key ≡ key) → AreBehind key lines → (before key (cons_option line lines) ≡ []) × (behind key (cons_option line lines) ≡ lines)
-keep_at key None lines at high = keep_behind key lines high
-keep_at key (Some l) lines at high =
-    let rest = keep_behind key lines high in
-    let front : is_before l.key key ≡ false = ap (λ (k : VoxelKey). is_before k key) (at l refl) ∙ not_before_itself key in
-    let back : is_before key l.key ≡ false = ap (λ (k : VoxelKey). is_before key k) (at l refl) ∙ not_before_itself key in (
-      ap (λ (b : Bool). cond b (l ∷ before key lines) (before key lines)) front ∙ rest.0,
-      ap (λ (b : Bool). cond b (l ∷ behind key lines) (behind key lines)) back ∙ rest.1,
-    )
-
--- the line of a key comes in the place of the one before it, if there was one, behind those before the key
-pub line-between : (line : NodeLine) (done : List NodeLine) (old : Option NodeLine) (lines : List NodeLine) → AreBefore line.key done → ((l : NodeLine) → old ≡ Some l → l.key ≡ line.key) → AreBehind line.key lines → with_line line (done ++ cons_option old lines) ≡ done ++ line ∷ lines
-line-between line done old lines low at high =
-    let one = keep_before line.key done low in
-    let two = keep_at line.key old lines at high in
-    let front : before line.key (done ++ cons_option old lines) ≡ done =
-    filter-append (λ (l : NodeLine). is_before l.key line.key) done (cons_option old lines) ∙ (ap (λ (w : List NodeLine). w ++ before line.key (cons_option old lines)) one.0 ∙ (ap (λ (w : List NodeLine). done ++ w) two.0 ∙ append-nil done)) in
-    let back : behind line.key (done ++ cons_option old lines) ≡ lines =
-    filter-append (λ (l : NodeLine). is_before line.key l.key) done (cons_option old lines) ∙ (ap (λ (w : List NodeLine). w ++ behind line.key (cons_option old lines)) one.1 ∙ two.1) in
-    ap (λ (w : List NodeLine). w ++ line ∷ behind line.key (done ++ cons_option old lines)) front ∙ ap (λ (w : List NodeLine). done ++ line ∷ w) back

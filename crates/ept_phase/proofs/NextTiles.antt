@@ -2,6 +2,8 @@
 use Rattle.std.proofs.Common.{◌≡◌, ◌≢◌, inl, inr, ℕ, List, [], ◌∷◌, refl, sym, ap, subst, Option, Some, None}
 use Rattle.std.specs.Prelude.{IsSomeAnd}
 use Rattle.ept_base.specs.Files.{Files, StepsBy, Tells}
+use Rattle.ept_point.specs.declared.layout.Layout.{Layout}
+use Rattle.ept_point.specs.declared.layout.Layout.TheVariants.{New}
 use Rattle.ept_point.specs.declared.point.Point.{Point}
 use Rattle.ept_point.specs.Laws.{ReadInOneWay}
 use Rattle.ept_point.specs.Order.{IsAscending}
@@ -18,27 +20,28 @@ use Rattle.ept_grid.specs.Tile.{IsTile}
 use Rattle.ept_ckpt.specs.declared.letter.Letter.{Letter}
 use Rattle.ept_ckpt.specs.declared.node_line.NodeLine.{NodeLine}
 use Rattle.ept_ckpt.specs.declared.checkpoint.Checkpoint.{Checkpoint}
+use Rattle.ept_ckpt.specs.Versions.{layout_of}
 use Rattle.ept_ckpt.specs.Lookup.{line_of_key}
 use Rattle.ept_meta.specs.Output.{rules_of}
 use Rattle.ept_save.specs.Names.{gate_name, body_name}
 use Rattle.ept_save.specs.Current.{Current, tile_of_line}
-use Rattle.ept_save.specs.Loading.{AreOfLine, IsDamagedLine}
+use Rattle.ept_save.specs.Loading.{AreOfLine, IsDamagedLine, HasNoDamage}
 use Rattle.ept_save.specs.View.{View, next_letter}
 use Rattle.ept_save.proofs.LoadedLines.{not-damaged-line}
 use Rattle.ept_save.proofs.NamesDiffer.{gate-tile, body-tile}
 use Rattle.ept_table.specs.Octree.{Branch, AreSampled}
 use Rattle.ept_octree.proofs.Sampled.{node-points}
 use Rattle.ept_phase.specs.Lines.{TellsNode, TellNodes, NamesTile, NameTiles}
-use Rattle.ept_phase.specs.Loaded.{OfCurrent, HasNoDamage}
+use Rattle.ept_phase.specs.Loaded.{OfCurrent}
 use Rattle.ept_phase.specs.Phase.{IsSaved}
 use Rattle.ept_phase.specs.Saving.{AreKnown}
 use Rattle.ept_phase.proofs.Lining.{tells-more}
 use Rattle.ept_phase.proofs.Phasing.{named_tiles}
 use Rattle.ept_save.proofs.SampledTiles.{sampled-IsTile}
-use Rattle.ept_phase.proofs.Undamaged.{line-stands}
+use Rattle.ept_save.proofs.DamagedTiles.{line-stands}
 
 -- a commit puts no tile
-pub still-named : (letter : Letter) (nodes : List Branch) (lines : List NodeLine) (old new : Option Files) → StepsBy (λ (a : Files) (b : Files). (name : List ℕ) → name ≢ body_name letter → name ≢ gate_name letter → b name ≡ a name) old new → Tells (λ all. NameTiles all nodes lines) old → Tells (λ all. NameTiles all nodes lines) new
+pub still-named : (letter : Letter) (nodes : List Branch) (lines : List NodeLine) (old new : Option Files) → StepsBy (λ (a : Files) (b : Files). (name : List ℕ) → name ≢ body_name letter → name ≢ gate_name letter → b name ≡ a name) old new → Tells (λ all. NameTiles New all nodes lines) old → Tells (λ all. NameTiles New all nodes lines) new
 still-named letter nodes lines None None same names = tt
 still-named letter nodes lines None (Some b) same names = absurd same
 still-named letter nodes lines (Some a) None same names = absurd same
@@ -47,12 +50,12 @@ still-named letter nodes lines (Some a) (Some b) same names =
 
 -- ---- the node of a line
 
-both-at : (files : Files) (nodes : List Branch) (lines : List NodeLine) (line : NodeLine) → TellNodes nodes lines → NameTiles files nodes lines → IsMember line lines → (b : Branch) × IsMember b nodes × TellsNode b line × NamesTile files b line
+both-at : (files : Files) (nodes : List Branch) (lines : List NodeLine) (line : NodeLine) → TellNodes nodes lines → NameTiles New files nodes lines → IsMember line lines → (b : Branch) × IsMember b nodes × TellsNode b line × NamesTile New files b line
 both-at files [] [] line told names m = absurd m
 both-at files [] (l ∷ ls) line told names m = absurd told
 both-at files (b ∷ bs) [] line told names m = absurd told
 both-at files (b ∷ bs) (l ∷ ls) line told names (inl is) =
-    (b, inl refl, subst (λ (x : NodeLine). TellsNode b x) is told.0, subst (λ (x : NodeLine). NamesTile files b x) is names.0)
+    (b, inl refl, subst (λ (x : NodeLine). TellsNode b x) is told.0, subst (λ (x : NodeLine). NamesTile New files b x) is names.0)
 both-at files (b ∷ bs) (l ∷ ls) line told names (inr m) =
     let more = both-at files bs ls line told.1 names.1 m in
     (more.0, inr more.1, more.2, more.3)
@@ -74,28 +77,28 @@ module _ (once : ReadInOneWay) (rules : Rules) (points : List Point) (can : CanB
         fits = subst (λ (w : List Point). IsTile line.key rules line.mask w) (sym points_are) fits_line;
       }
 
-  line_intact : (files : Files) (lines : List NodeLine) (line : NodeLine) → TellNodes nodes lines → NameTiles files nodes lines → IsMember line lines → ¬ IsDamagedLine rules line files
+  line_intact : (files : Files) (lines : List NodeLine) (line : NodeLine) → TellNodes nodes lines → NameTiles New files nodes lines → IsMember line lines → ¬ IsDamagedLine New rules line files
   line_intact files lines line told names m =
       let at = both-at files nodes lines line told names m in
-      not-damaged-line once rules line at.0.1.points files (are_of_line at.0 line at.1 at.2) at.3
+      not-damaged-line once New rules line at.0.1.points files (are_of_line at.0 line at.1 at.2) at.3
 
-  next_undamaged : (files : Files) (letter : Letter) (next : Checkpoint) → rules_of next.kept ≡ rules → TellNodes nodes next.nodes → NameTiles files nodes next.nodes → HasNoDamage (Some (letter, next)) files
-  next_undamaged files letter next same told names key has damaged = at (line_of_key next.nodes key) refl damaged
+  next_undamaged : (files : Files) (letter : Letter) (next : Checkpoint) → rules_of next.kept ≡ rules → layout_of next.version ≡ New → TellNodes nodes next.nodes → NameTiles New files nodes next.nodes → HasNoDamage (Some (letter, next)) files
+  next_undamaged files letter next same newest told names key has damaged = at (line_of_key next.nodes key) refl damaged
     where
-      at : (found : Option NodeLine) → line_of_key next.nodes key ≡ found → IsSomeAnd found (λ line. IsDamagedLine (rules_of next.kept) line files) → ⊥
+      at : (found : Option NodeLine) → line_of_key next.nodes key ≡ found → IsSomeAnd found (λ line. IsDamagedLine (layout_of next.version) (rules_of next.kept) line files) → ⊥
       at None found is = is
       at (Some line) found is =
-          line_intact files next.nodes line told names (line-stands next.nodes key line found) (subst (λ (r : Rules). IsDamagedLine r line files) same is)
+          line_intact files next.nodes line told names (line-stands next.nodes key line found) (subst (λ (r : Rules). IsDamagedLine New r line files) same (subst (λ (w : Layout). IsDamagedLine w (rules_of next.kept) line files) newest is))
 
 -- of a sampling that was saved, no tile that the checkpoint names is damaged
 pub saved-undamaged : ReadInOneWay → (start new : View) (kept : Kept) (counts : List SourceCount) (inserted : ℕ) (nodes : List Branch) (points : List Point) → CanBeSampled (rules_of kept) points → AreSampled (rules_of kept) points nodes → AreKnown nodes → (files : Option Files) → IsSaved start new kept counts inserted nodes
-    → Tells (λ all. OfCurrent new.current (λ (c : Checkpoint). NameTiles all nodes c.nodes)) files → Tells (HasNoDamage new.current) files
+    → Tells (λ all. OfCurrent new.current (λ (c : Checkpoint). NameTiles New all nodes c.nodes)) files → Tells (HasNoDamage new.current) files
 saved-undamaged once start new kept counts inserted nodes points can are known files saved tiles =
     let next : Checkpoint = saved.next in
     let letter : Letter = next_letter start.current in
     let is : new.current ≡ Some (letter, next) = ap (λ (v : View). v.current) saved.view_is in
-    let names : Tells (λ all. NameTiles all nodes next.nodes) files =
-    subst (λ (current : Current). Tells (λ all. OfCurrent current (λ (c : Checkpoint). NameTiles all nodes c.nodes)) files) is tiles in
+    let names : Tells (λ all. NameTiles New all nodes next.nodes) files =
+    subst (λ (current : Current). Tells (λ all. OfCurrent current (λ (c : Checkpoint). NameTiles New all nodes c.nodes)) files) is tiles in
     subst (λ (current : Current). Tells (HasNoDamage current) files) (sym is)
-    (tells-more (λ all. NameTiles all nodes next.nodes) (HasNoDamage (Some (letter, next)))
-    (λ all named. next_undamaged once (rules_of kept) points can nodes are known all letter next (ap (λ (k : Kept). rules_of k) saved.is_next.kept_is) saved.is_next.told named) files names)
+    (tells-more (λ all. NameTiles New all nodes next.nodes) (HasNoDamage (Some (letter, next)))
+    (λ all named. next_undamaged once (rules_of kept) points can nodes are known all letter next (ap (λ (k : Kept). rules_of k) saved.is_next.kept_is) saved.is_next.newest saved.is_next.told named) files names)

@@ -1,33 +1,35 @@
 -- Which tiles are put while an octree is saved.
-use Rattle.std.proofs.Common.{◌≡◌, ◌∙◌, ◌⊎◌, inl, inr, ℕ, List, refl, sym, subst, Option, Some, None}
+use Rattle.std.proofs.Common.{◌≡◌, ◌∙◌, ◌⊎◌, inl, inr, ℕ, List, refl, subst, Option, Some, None}
 use Rattle.std.specs.Prelude.{IsSomeAnd}
 use Rattle.ept_base.specs.Files.{Files, SameFiles, SameBut}
 use Rattle.ept_base.specs.Moves.{Moves}
 use Rattle.ept_base.proofs.Moving.{moves_weaker, moves_both}
 use Rattle.ept_point.specs.declared.point.Point.{Point}
-use Rattle.ept_point.specs.Packed.{tile}
 use Rattle.ept_space.specs.VoxelKey.{VoxelKey}
 use Rattle.ept_sample.specs.Members.{IsMember}
 use Rattle.ept_ckpt.specs.declared.node_line.NodeLine.{NodeLine}
+use Rattle.ept_ckpt.specs.Versions.{layout_of}
 use Rattle.ept_ckpt.specs.Lookup.{line_of_key}
 use Rattle.ept_save.specs.Current.{Current, Keeps, tile_of_line}
 use Rattle.ept_save.specs.Lines.{free_letter}
 use Rattle.ept_save.specs.Loading.{HasTile}
 use Rattle.ept_save.specs.Names.{gate_name, body_name, work_tile_name}
+use Rattle.ept_save.specs.Tiles.{HasTileUnder}
 use Rattle.ept_save.specs.View.{next_letter}
+use Rattle.ept_save.proofs.TileFiles.{tile-same}
 use Rattle.ept_save.proofs.Standing.{stepped}
 use Rattle.ept_table.specs.Octree.{Branch}
 use Rattle.ept_phase.specs.Saving.{HasNode, PutsChanged, SavesChanged}
-use Rattle.ept_phase.proofs.Undamaged.{line-named}
+use Rattle.ept_save.proofs.DamagedTiles.{line-named}
 
 -- where the current checkpoint is kept, it has the node that it had
 tile_kept : (current : Current) (key : VoxelKey) (points : List Point) (old new : Files) → Keeps current old new → HasTile current key points old → HasTile current key points new
 tile_kept None key points old new keeps has = absurd has
 tile_kept (Some (letter, c)) key points old new keeps has = at (line_of_key c.nodes key) refl has
   where
-    at : (found : Option NodeLine) → line_of_key c.nodes key ≡ found → IsSomeAnd found (λ line. old (tile_of_line line) ≡ Some (tile points)) → IsSomeAnd found (λ line. new (tile_of_line line) ≡ Some (tile points))
+    at : (found : Option NodeLine) → line_of_key c.nodes key ≡ found → IsSomeAnd found (λ line. HasTileUnder (layout_of c.version) (tile_of_line line) points old) → IsSomeAnd found (λ line. HasTileUnder (layout_of c.version) (tile_of_line line) points new)
     at None is has = absurd has
-    at (Some line) is has = keeps.tiles (tile_of_line line) (line-named (Some (letter, c)) key line is) ∙ has
+    at (Some line) is has = tile-same (layout_of c.version) (tile_of_line line) (tile_of_line line) points old new (keeps.tiles (tile_of_line line) (line-named (Some (letter, c)) key line is)) has
 
 pub node-kept : (current : Current) (key : VoxelKey) (mask : ℕ) (points : List Point) (old new : Files) → Keeps current old new → HasNode current key mask points old → HasNode current key mask points new
 node-kept current key mask points old new keeps has = (has.0, tile_kept current key points old new keeps has.1)

@@ -4,6 +4,7 @@ use Rattle.std.specs.Prelude.{All, false}
 use Rattle.ept_base.specs.Files.{Files, Tells}
 use Rattle.ept_base.specs.Moves.{Moves}
 use Rattle.ept_base.proofs.Moving.{moves_weaker, moves_both}
+use Rattle.ept_point.specs.declared.layout.Layout.TheVariants.{New}
 use Rattle.ept_space.specs.VoxelKey.{VoxelKey, IsKey}
 use Rattle.ept_space.specs.declared.cube.Rules.{Rules}
 use Rattle.ept_config.specs.declared.kept.Kept.{Kept}
@@ -13,6 +14,9 @@ use Rattle.ept_sample.proofs.Members.{All-members}
 use Rattle.ept_ckpt.specs.declared.letter.Letter.{Letter}
 use Rattle.ept_ckpt.specs.declared.node_line.NodeLine.{NodeLine}
 use Rattle.ept_ckpt.specs.declared.checkpoint.Checkpoint.{Checkpoint}
+use Rattle.ept_ckpt.specs.declared.version.BodyVersion.{BodyVersion}
+use Rattle.ept_ckpt.specs.declared.version.BodyVersion.TheVariants.{V1, V2, V3}
+use Rattle.ept_ckpt.specs.Versions.{spare_of}
 use Rattle.ept_ckpt.specs.Facts.{facts}
 use Rattle.ept_ckpt.specs.Laws.{CheckpointByFacts}
 use Rattle.ept_ckpt.specs.Octree.{AreNodesOf}
@@ -37,9 +41,14 @@ generation_least : (current : Current) → 1 ≤ next_generation current
 generation_least None = omega arith
 generation_least (Some (letter, c)) = omega arith
 
-generation_most : (current : Current) (kept : Kept) (inserted : ℕ) → GoesFurther current inserted (length kept.inputs) → next_generation current ≤ inserted + length kept.inputs
+spare_few : (version : BodyVersion) → spare_of version ≤ 1
+spare_few V1 = omega arith
+spare_few V2 = omega arith
+spare_few V3 = omega arith
+
+generation_most : (current : Current) (kept : Kept) (inserted : ℕ) → GoesFurther current inserted (length kept.inputs) → next_generation current ≤ inserted + length kept.inputs + 1
 generation_most None kept inserted further = omega (arith, kept.layout.inputs_some)
-generation_most (Some (letter, c)) kept inserted further = omega (arith, further, c.is_checkpoint.generation_most)
+generation_most (Some (letter, c)) kept inserted further = omega (arith, further, c.is_checkpoint.generation_most, spare_few c.version)
 
 pub length-told : (nodes : List Branch) (lines : List NodeLine) → TellNodes nodes lines → length lines ≡ length nodes
 length-told [] [] told = refl
@@ -62,9 +71,11 @@ are_lines kept nodes lines told known own = All-members (IsNode (deepest kept.bo
     })
 
 pub next-valid : (current : Current) (kept : Kept) (counts : List SourceCount) (inserted : ℕ) (nodes : List Branch) (lines : List NodeLine) → AreGiven kept counts inserted → GoesFurther current inserted (length kept.inputs) → length nodes < 2 ^ 32 → TellNodes nodes lines → AreKnown nodes → AreNodes (rules_of kept) nodes
-    → AreNodesOf inserted lines → IsCheckpoint (next_generation current) kept counts inserted lines
+    → AreNodesOf inserted lines → IsCheckpoint V3 (next_generation current) kept counts inserted lines
 next-valid current kept counts inserted nodes lines given further few told known own are = record {
   each = given.each;
+  few = λ k d inside. (given.counted k d inside).few;
+  plain = λ other. absurd (other refl);
   counted = given.counted;
   extents = given.extents;
   inserted_most = given.inserted_most;
@@ -75,9 +86,10 @@ next-valid current kept counts inserted nodes lines given further few told known
   nodes_are = are;
 }
 
-module _ (by_facts : CheckpointByFacts) (view : View) (kept : Kept) (counts : List SourceCount) (inserted : ℕ) (nodes : List Branch) (valid : IsCheckpoint (next_generation view.current) kept counts inserted view.lines) (told : TellNodes nodes view.lines) where
+module _ (by_facts : CheckpointByFacts) (view : View) (kept : Kept) (counts : List SourceCount) (inserted : ℕ) (nodes : List Branch) (valid : IsCheckpoint V3 (next_generation view.current) kept counts inserted view.lines) (told : TellNodes nodes view.lines) where
   abbrev pub the-next : Checkpoint
   the-next = record {
+    version = V3;
     generation = next_generation view.current;
     kept = kept;
     counts = counts;
@@ -90,7 +102,7 @@ module _ (by_facts : CheckpointByFacts) (view : View) (kept : Kept) (counts : Li
   its-facts = refl
 
   is-the-next : IsNext view kept counts inserted nodes the-next
-  is-the-next = record { generation = refl; kept_is = refl; counts_are = refl; inserted_is = refl; told = told }
+  is-the-next = record { generation = refl; kept_is = refl; counts_are = refl; inserted_is = refl; told = told; newest = refl }
 
   pub next-is : (next : Checkpoint) → facts next ≡ next_facts view kept counts inserted → (next ≡ the-next) × IsNext view kept counts inserted nodes next
   next-is next are =
@@ -99,7 +111,7 @@ module _ (by_facts : CheckpointByFacts) (view : View) (kept : Kept) (counts : Li
 
 -- ---- the files go on
 
-pub named_tiles : (start now : Files) (nodes : List Branch) (lines : List NodeLine) → ((l : NodeLine) → IsMember l lines → now (tile_of_line l) ≡ start (tile_of_line l)) → NameTiles start nodes lines → NameTiles now nodes lines
+pub named_tiles : (start now : Files) (nodes : List Branch) (lines : List NodeLine) → ((l : NodeLine) → IsMember l lines → now (tile_of_line l) ≡ start (tile_of_line l)) → NameTiles New start nodes lines → NameTiles New now nodes lines
 named_tiles start now [] [] same names = tt
 named_tiles start now [] (l ∷ ls) same names = absurd names
 named_tiles start now (b ∷ bs) [] same names = absurd names
@@ -123,7 +135,7 @@ module _ (view : View) (kept : Kept) (counts : List SourceCount) (inserted : ℕ
     apart = λ name apart. on.apart name apart ∙ keeps.apart name apart;
   }
 
-  pub commits-on : (next : Checkpoint) (start a b : Files) → IsNext view kept counts inserted nodes next → NameTiles start nodes next.nodes → Commits view.current (next_letter view.current) next start a b → GoesOn view kept counts inserted nodes a b
+  pub commits-on : (next : Checkpoint) (start a b : Files) → IsNext view kept counts inserted nodes next → NameTiles New start nodes next.nodes → Commits view.current (next_letter view.current) next start a b → GoesOn view kept counts inserted nodes a b
   commits-on next start a b is_next names commits = record { either = ⊎_elim (λ keeps. inl keeps) (λ now. inr (has now)) commits.either; apart = commits.apart }
     where
       has : IsNow (next_letter view.current) next start b → HasNext view kept counts inserted nodes b
@@ -138,7 +150,7 @@ module _ (view : View) (kept : Kept) (counts : List SourceCount) (inserted : ℕ
 
 -- the nodes of a whole octree that were saved are those of a next checkpoint
 pub tree-valid : WholeIsTold → (view : View) (rules : Rules) (kept : Kept) (counts : List SourceCount) (inserted : ℕ) (nodes : List Branch) → AreGiven kept counts inserted → GoesFurther view.current inserted (length kept.inputs) → length nodes < 2 ^ 32 → TellNodes nodes view.lines → AreKnown nodes
-    → AreNodes rules nodes → rules ≡ rules_of kept → AreWhole (map entry_of nodes) → length (points_in nodes) ≡ inserted → IsCheckpoint (next_generation view.current) kept counts inserted view.lines
+    → AreNodes rules nodes → rules ≡ rules_of kept → AreWhole (map entry_of nodes) → length (points_in nodes) ≡ inserted → IsCheckpoint V3 (next_generation view.current) kept counts inserted view.lines
 tree-valid law view rules kept counts inserted nodes given further few told known own is whole holds =
     next-valid view.current kept counts inserted nodes view.lines given further few told known (subst (λ (r : Rules). AreNodes r nodes) is own)
     (subst (λ (n : ℕ). AreNodesOf n view.lines) holds (law nodes view.lines told whole))
@@ -148,7 +160,7 @@ pub stands-current : (view : View) (files : Option Files) (may_leave : Files →
 stands-current view files may_leave all stands told =
     subst (HasCurrent view.current) (some-same stands.all all (sym stands.told ∙ told)) stands.has_current
 
-module _ (by_facts : CheckpointByFacts) (start view : View) (same : view.current ≡ start.current) (kept : Kept) (counts : List SourceCount) (inserted : ℕ) (nodes : List Branch) (valid : IsCheckpoint (next_generation view.current) kept counts inserted view.lines) (told : TellNodes nodes view.lines) where
+module _ (by_facts : CheckpointByFacts) (start view : View) (same : view.current ≡ start.current) (kept : Kept) (counts : List SourceCount) (inserted : ℕ) (nodes : List Branch) (valid : IsCheckpoint V3 (next_generation view.current) kept counts inserted view.lines) (told : TellNodes nodes view.lines) where
   abbrev its : Checkpoint
   its = the-next by_facts view kept counts inserted nodes valid told
 
@@ -159,6 +171,7 @@ module _ (by_facts : CheckpointByFacts) (start view : View) (same : view.current
     counts_are = is.counts_are;
     inserted_is = is.inserted_is;
     told = is.told;
+    newest = is.newest;
   }
 
   pub is-saved : (new : View) → ((next : Checkpoint) × (facts next ≡ next_facts view kept counts inserted) × (new ≡ record view { current = Some (next_letter view.current, next); begun = false })) → IsSaved start new kept counts inserted nodes
@@ -174,21 +187,21 @@ module _ (by_facts : CheckpointByFacts) (start view : View) (same : view.current
       }
 
   -- and it names the tiles that the lines named
-  pub names-saved : (new : View) → ((next : Checkpoint) × (facts next ≡ next_facts view kept counts inserted) × (new ≡ record view { current = Some (next_letter view.current, next); begun = false })) → (files : Option Files) → Tells (λ all. NameTiles all nodes view.lines) files
-      → Tells (λ all. OfCurrent new.current (λ (c : Checkpoint). NameTiles all nodes c.nodes)) files
+  pub names-saved : (new : View) → ((next : Checkpoint) × (facts next ≡ next_facts view kept counts inserted) × (new ≡ record view { current = Some (next_letter view.current, next); begun = false })) → (files : Option Files) → Tells (λ all. NameTiles New all nodes view.lines) files
+      → Tells (λ all. OfCurrent new.current (λ (c : Checkpoint). NameTiles New all nodes c.nodes)) files
   names-saved new committed files tiles =
       let next : Checkpoint = committed.0 in
       let is = next-is by_facts view kept counts inserted nodes valid told next committed.1 in
-      subst (λ (current : Current). Tells (λ all. OfCurrent current (λ (c : Checkpoint). NameTiles all nodes c.nodes)) files) (sym (ap (λ (v : View). v.current) committed.2))
-      (subst (λ (c : Checkpoint). Tells (λ all. NameTiles all nodes c.nodes) files) (sym is.0) tiles)
+      subst (λ (current : Current). Tells (λ all. OfCurrent current (λ (c : Checkpoint). NameTiles New all nodes c.nodes)) files) (sym (ap (λ (v : View). v.current) committed.2))
+      (subst (λ (c : Checkpoint). Tells (λ all. NameTiles New all nodes c.nodes) files) (sym is.0) tiles)
 
   module _ {D : Type 0} (files : D → Option Files) (may_leave : D → Files → Type 0) (moment : D → ℕ) (image_since : D → ℕ → Files → Type 0) where
-    pub goes-all : (old mid new : D) → Moves files may_leave moment image_since (Keeps start.current) old mid → (stands : StandsFor view (files mid) (may_leave mid)) → Tells (λ all. NameTiles all nodes view.lines) (files mid)
+    pub goes-all : (old mid new : D) → Moves files may_leave moment image_since (Keeps start.current) old mid → (stands : StandsFor view (files mid) (may_leave mid)) → Tells (λ all. NameTiles New all nodes view.lines) (files mid)
         → ((next : Checkpoint) → facts next ≡ next_facts view kept counts inserted → (at : StandsFor view (files mid) (may_leave mid)) → Moves files may_leave moment image_since (Commits view.current (next_letter view.current) next at.all) mid new)
         → Moves files may_leave moment image_since (GoesOn start kept counts inserted nodes) old new
     goes-all old mid new keeps stands tiles commits =
         let is = next-is by_facts view kept counts inserted nodes valid told its (its-facts by_facts view kept counts inserted nodes valid told) in
-        let names : NameTiles stands.all nodes its.nodes = told_some (λ all. NameTiles all nodes view.lines) (files mid) stands.all stands.told tiles in
+        let names : NameTiles New stands.all nodes its.nodes = told_some (λ all. NameTiles New all nodes view.lines) (files mid) stands.all stands.told tiles in
         let moved = commits its (its-facts by_facts view kept counts inserted nodes valid told) stands in
         moves_both files may_leave moment image_since (Keeps start.current) (Commits start.current (next_letter start.current) its stands.all) (GoesOn start kept counts inserted nodes)
         (λ a b c k m. behind-on start kept counts inserted nodes a b c k (commits-on start kept counts inserted nodes its stands.all b c (from_start its is.1) names m))

@@ -4,6 +4,7 @@ use Rattle.std.specs.Prelude.{Result, Ok, Err, IfErr, IsSomeAnd}
 use Rattle.ept_base.specs.Files.{Files, SameFiles, StepsBy, Tells}
 use Rattle.ept_space.specs.VoxelKey.{VoxelKey}
 use Rattle.ept_ckpt.specs.declared.node_line.NodeLine.{NodeLine}
+use Rattle.ept_ckpt.specs.Versions.{layout_of}
 use Rattle.ept_ckpt.specs.Lookup.{line_of_key}
 use Rattle.ept_meta.specs.Output.{rules_of}
 use Rattle.ept_node.specs.declared.error.NodeError.{NodeError}
@@ -48,7 +49,7 @@ damaged-back : (current : Current) (key : VoxelKey) (old new : Files) → SameFi
 damaged-back None key old new same is = absurd is
 damaged-back (Some (letter, c)) key old new same is = at (line_of_key c.nodes key) is
   where
-    at : (found : Option NodeLine) → IsSomeAnd found (λ line. IsDamagedLine (rules_of c.kept) line new) → IsSomeAnd found (λ line. IsDamagedLine (rules_of c.kept) line old)
+    at : (found : Option NodeLine) → IsSomeAnd found (λ line. IsDamagedLine (layout_of c.version) (rules_of c.kept) line new) → IsSomeAnd found (λ line. IsDamagedLine (layout_of c.version) (rules_of c.kept) line old)
     at None is = absurd is
     at (Some line) is = elim is [
       | inl absent ↦ inl (sym (same (tile_of_line line)) ∙ absent)

@@ -1,12 +1,10 @@
 -- Nodes and their tiles: those of a sampling where the lines that tell of them are.
-use Rattle.std.proofs.Common.{◌≡◌, ◌∙◌, ℕ, ◌<◌, ◌==◌, List, [], ◌∷◌, Some, map, refl, sym, ap, subst, arith, length}
+use Rattle.std.proofs.Common.{◌≡◌, ◌∙◌, ℕ, ◌<◌, ◌==◌, List, [], ◌∷◌, map, refl, sym, ap, subst}
 use Rattle.std.specs.List.{AllZip}
 use Rattle.std.specs.Int.{bit_at}
-use Rattle.std.proofs.lemmas.List.{length-append}
 use Rattle.ept_base.specs.Files.{Files}
 use Rattle.ept_point.specs.declared.point.Point.{Point}
-use Rattle.ept_point.specs.Packed.{packed, tile}
-use Rattle.ept_point.proofs.PackedLaws.{length-packed, append_same, packed_one}
+use Rattle.ept_point.specs.declared.layout.Layout.{Layout}
 use Rattle.ept_space.specs.declared.cube.Rules.{Rules}
 use Rattle.ept_space.specs.VoxelKey.{VoxelKey, child}
 use Rattle.ept_sample.specs.declared.tiles.Tile.{Tile}
@@ -24,51 +22,38 @@ use Rattle.ept_save.proofs.SoundTiles.{keys-same, keys-sampled, among-node, open
 use Rattle.ept_table.specs.Octree.{Branch, tile_of, AreSampled}
 use Rattle.ept_phase.specs.Lines.{TellsNode, TellNodes, NamesTile, NameTiles}
 use Rattle.ept_phase.proofs.Telling.{node-line}
-use Rattle.ept_phase.proofs.Lining.{some-same}
-
--- ---- a tile is that of one list of points
-
-pub same-tile : (a b : List Point) → tile a ≡ tile b → a ≡ b
-same-tile [] [] e = refl
-same-tile [] (q ∷ b) e = absurd (omega (arith, ap length e, length-packed q, length-append (packed q) (tile b)))
-same-tile (p ∷ a) [] e = absurd (omega (arith, ap length e, length-packed p, length-append (packed p) (tile a)))
-same-tile (p ∷ a) (q ∷ b) e =
-    let parts = append_same (packed p) (packed q) (tile a) (tile b) (length-packed p ∙ sym (length-packed q)) e in
-    ap (λ (w : Point). w ∷ a) (packed_one p q parts.0) ∙ ap (λ (w : List Point). q ∷ w) (same-tile a b parts.1)
-
-pub one-tile : (files : Files) (name : List ℕ) (a b : List Point) → files name ≡ Some (tile a) → files name ≡ Some (tile b) → a ≡ b
-one-tile files name a b is also = same-tile a b (some-same (tile a) (tile b) (sym is ∙ also))
+use Rattle.ept_save.proofs.TileFiles.{one-file}
 
 -- ---- from the lines to the nodes
 
-same_node : (files : Files) (b : Branch) (t : Tile) (l : NodeLine) → TellsNode b l → NamesTile files b l → IsSavedAs files t l → tile_of b ≡ t
-same_node files b t l told names saved =
+same_node : (layout : Layout) (files : Files) (b : Branch) (t : Tile) (l : NodeLine) → TellsNode b l → NamesTile layout files b l → IsSavedAs layout files t l → tile_of b ≡ t
+same_node layout files b t l told names saved =
     let key : b.0 ≡ t.key = sym told.key ∙ saved.key in
-    let points : b.1.points ≡ t.points = one-tile files (tile_of_line l) b.1.points t.points names saved.has_tile in
+    let points : b.1.points ≡ t.points = one-file layout (tile_of_line l) files b.1.points t.points names saved.has_tile in
     λ i. record { key = key i; points = points i }
 
-pub same-nodes : (files : Files) (nodes : List Branch) (tiles : List Tile) (lines : List NodeLine) → TellNodes nodes lines → NameTiles files nodes lines → AllZip (IsSavedAs files) tiles lines → map tile_of nodes ≡ tiles
-same-nodes files [] [] [] told names saved = refl
-same-nodes files [] (t ∷ ts) [] told names saved = absurd saved
-same-nodes files [] tiles (l ∷ ls) told names saved = absurd told
-same-nodes files (b ∷ bs) tiles [] told names saved = absurd told
-same-nodes files (b ∷ bs) [] (l ∷ ls) told names saved = absurd saved
-same-nodes files (b ∷ bs) (t ∷ ts) (l ∷ ls) told names saved =
-    ap (λ (w : Tile). w ∷ map tile_of bs) (same_node files b t l told.0 names.0 saved.0) ∙ ap (λ (w : List Tile). t ∷ w) (same-nodes files bs ts ls told.1 names.1 saved.1)
+pub same-nodes : (layout : Layout) (files : Files) (nodes : List Branch) (tiles : List Tile) (lines : List NodeLine) → TellNodes nodes lines → NameTiles layout files nodes lines → AllZip (IsSavedAs layout files) tiles lines → map tile_of nodes ≡ tiles
+same-nodes layout files [] [] [] told names saved = refl
+same-nodes layout files [] (t ∷ ts) [] told names saved = absurd saved
+same-nodes layout files [] tiles (l ∷ ls) told names saved = absurd told
+same-nodes layout files (b ∷ bs) tiles [] told names saved = absurd told
+same-nodes layout files (b ∷ bs) [] (l ∷ ls) told names saved = absurd saved
+same-nodes layout files (b ∷ bs) (t ∷ ts) (l ∷ ls) told names saved =
+    ap (λ (w : Tile). w ∷ map tile_of bs) (same_node layout files b t l told.0 names.0 saved.0) ∙ ap (λ (w : List Tile). t ∷ w) (same-nodes layout files bs ts ls told.1 names.1 saved.1)
 
 -- ---- and back
 
-pub saved-as : (files : Files) (nodes : List Branch) (lines : List NodeLine) → TellNodes nodes lines → NameTiles files nodes lines → AllZip (IsSavedAs files) (map tile_of nodes) lines
-saved-as files [] [] told names = tt
-saved-as files [] (l ∷ ls) told names = absurd told
-saved-as files (b ∷ bs) [] told names = absurd told
-saved-as files (b ∷ bs) (l ∷ ls) told names = (record { key = told.0.key; count = told.0.count; has_tile = names.0 }, saved-as files bs ls told.1 names.1)
+pub saved-as : (layout : Layout) (files : Files) (nodes : List Branch) (lines : List NodeLine) → TellNodes nodes lines → NameTiles layout files nodes lines → AllZip (IsSavedAs layout files) (map tile_of nodes) lines
+saved-as layout files [] [] told names = tt
+saved-as layout files [] (l ∷ ls) told names = absurd told
+saved-as layout files (b ∷ bs) [] told names = absurd told
+saved-as layout files (b ∷ bs) (l ∷ ls) told names = (record { key = told.0.key; count = told.0.count; has_tile = names.0 }, saved-as layout files bs ls told.1 names.1)
 
 -- ---- the octants that are open
 
-module _ (rules : Rules) (files : Files) (first : List Point) (can : CanBeSampled rules first) (nodes : List Branch) (lines : List NodeLine) (told : TellNodes nodes lines) (names : NameTiles files nodes lines) (octree : AreWholeOctree lines) (saved : AllZip (IsSavedAs files) (sampled rules first) lines) where
+module _ (layout : Layout) (rules : Rules) (files : Files) (first : List Point) (can : CanBeSampled rules first) (nodes : List Branch) (lines : List NodeLine) (told : TellNodes nodes lines) (names : NameTiles layout files nodes lines) (octree : AreWholeOctree lines) (saved : AllZip (IsSavedAs layout files) (sampled rules first) lines) where
   keys : keys_of lines ≡ node_keys rules first
-  keys = keys-same files (sampled rules first) lines saved ∙ keys-sampled rules first
+  keys = keys-same layout files (sampled rules first) lines saved ∙ keys-sampled rules first
 
   opens : (b : Branch) (o : ℕ) → IsMember b nodes → o < 8 → opened b.1.mask o ≡ is_node rules first (child b.0 o)
   opens b o m low =
@@ -81,7 +66,7 @@ module _ (rules : Rules) (files : Files) (first : List Point) (can : CanBeSample
       ∙ (among-node rules first can (child l.0.key o) ∙ ap (λ (k : VoxelKey). is_node rules first (child k o)) l.2.key))))
 
   pub loaded-sampled : AreSampled rules first nodes
-  loaded-sampled = record { tiles = same-nodes files nodes (sampled rules first) lines told names saved; opens = opens }
+  loaded-sampled = record { tiles = same-nodes layout files nodes (sampled rules first) lines told names saved; opens = opens }
 
-pub sampled-saved : (rules : Rules) (files : Files) (points : List Point) (nodes : List Branch) (lines : List NodeLine) → AreSampled rules points nodes → TellNodes nodes lines → NameTiles files nodes lines → AllZip (IsSavedAs files) (sampled rules points) lines
-sampled-saved rules files points nodes lines are told names = subst (λ (w : List Tile). AllZip (IsSavedAs files) w lines) are.tiles (saved-as files nodes lines told names)
+pub sampled-saved : (layout : Layout) (rules : Rules) (files : Files) (points : List Point) (nodes : List Branch) (lines : List NodeLine) → AreSampled rules points nodes → TellNodes nodes lines → NameTiles layout files nodes lines → AllZip (IsSavedAs layout files) (sampled rules points) lines
+sampled-saved layout rules files points nodes lines are told names = subst (λ (w : List Tile). AllZip (IsSavedAs layout files) w lines) are.tiles (saved-as layout files nodes lines told names)

@@ -7,15 +7,18 @@ use Rattle.std.specs.declared.cmp.Ordering.TheVariants.{Less}
 use Rattle.ept_base.specs.Files.{Files, SameFiles, SameBut, Puts, StepsBy, Tells}
 use Rattle.ept_base.proofs.Changing.{changed_same}
 use Rattle.ept_point.specs.declared.point.Point.{Point}
+use Rattle.ept_point.specs.declared.layout.Layout.{Layout}
+use Rattle.ept_point.specs.declared.layout.Layout.TheVariants.{Old, New}
 use Rattle.ept_point.specs.Packed.{tile}
 use Rattle.ept_space.specs.VoxelKey.{VoxelKey, IsKey, key_cmp}
-use Rattle.ept_config.specs.declared.kept.Kept.{Kept}
 use Rattle.ept_sample.specs.Members.{IsMember}
 use Rattle.ept_sample.proofs.Ascending.{IsRising}
 use Rattle.ept_sample.proofs.Members.{IsMember-filter, all-member}
 use Rattle.ept_sample.proofs.KeyOrder.{key_before, key-self, IsRising-AllPairs}
 use Rattle.ept_ckpt.specs.declared.letter.Letter.{Letter}
 use Rattle.ept_ckpt.specs.declared.node_line.NodeLine.{NodeLine}
+use Rattle.ept_ckpt.specs.declared.checkpoint.Checkpoint.{Checkpoint}
+use Rattle.ept_ckpt.specs.Versions.{layout_of}
 use Rattle.ept_ckpt.specs.Octree.{is_among}
 use Rattle.ept_ckpt.specs.Lookup.{line_of_key}
 use Rattle.ept_save.specs.Names.{work_tile_name}
@@ -23,15 +26,18 @@ use Rattle.ept_save.specs.Current.{Current, tile_of_line}
 use Rattle.ept_save.specs.Lines.{with_line}
 use Rattle.ept_save.specs.Loading.{current_line, OfLine, HasTile}
 use Rattle.ept_save.specs.Opening.{lines_of}
+use Rattle.ept_save.specs.Tiles.{HasTileUnder, IsOfLayout}
 use Rattle.ept_save.specs.View.{View}
+use Rattle.ept_save.proofs.TileFiles.{new-layout}
 use Rattle.ept_save.proofs.NamesDiffer.{tile-key}
 use Rattle.ept_save.proofs.LoadedLines.{line-key}
+use Rattle.ept_save.proofs.KeyLines.{AreBehind, AreBefore, DoAscend, line-between, do-ascend, lt_less}
 use Rattle.ept_table.specs.Octree.{Branch}
 use Rattle.ept_phase.specs.Lines.{TellsNode, TellNodes, NamesTile, NameTiles}
 use Rattle.ept_phase.specs.Saving.{IsTold, HasNode, StaysLine, ComesLine, SavesNode, keys_in, AreKnown, HasEachNodeOf}
 use Rattle.ept_phase.proofs.Telling.{among-member}
-use Rattle.ept_phase.proofs.Merging.{lines_among, AreBehind, AreBefore, DoAscend, next-lines, all-lines, line-between}
-use Rattle.ept_phase.proofs.Lining.{zip-more, do-ascend, lt_less, some-same}
+use Rattle.ept_phase.proofs.Merging.{lines_among, next-lines, all-lines}
+use Rattle.ept_phase.proofs.Lining.{zip-more, some-same}
 
 -- ---- keys that rise
 
@@ -71,24 +77,26 @@ lines-ascend None = tt
 lines-ascend (Some (letter, c)) = do-ascend c.nodes c.is_checkpoint.nodes_are.octree.ascend
 
 -- of the line of which a fact is told, it is so
-some_line : (kept : Kept) (found : Option NodeLine) (fact : Kept → NodeLine → Type 0) → IsSomeAnd found (fact kept) → (line : NodeLine) × (found ≡ Some line) × fact kept line
-some_line kept None fact is = absurd is
-some_line kept (Some line) fact is = (line, refl, is)
+some_line : (c : Checkpoint) (found : Option NodeLine) (fact : Checkpoint → NodeLine → Type 0) → IsSomeAnd found (fact c) → (line : NodeLine) × (found ≡ Some line) × fact c line
+some_line c None fact is = absurd is
+some_line c (Some line) fact is = (line, refl, is)
 
-pub found-line : (current : Current) (key : VoxelKey) (fact : Kept → NodeLine → Type 0) → OfLine current key fact → (kept : Kept) × (line : NodeLine) × (current_line current key ≡ Some line) × fact kept line
+pub found-line : (current : Current) (key : VoxelKey) (fact : Checkpoint → NodeLine → Type 0) → OfLine current key fact → (c : Checkpoint) × (line : NodeLine) × (current_line current key ≡ Some line) × fact c line
 found-line None key fact is = absurd is
 found-line (Some (letter, c)) key fact is =
-    let at = some_line c.kept (line_of_key c.nodes key) fact is in
-    (c.kept, at.0, at.1, at.2)
+    let at = some_line c (line_of_key c.nodes key) fact is in
+    (c, at.0, at.1, at.2)
 
 pub one_line : (found : Option NodeLine) (a b : NodeLine) → found ≡ Some a → found ≡ Some b → a ≡ b
 one_line found a b is also = some-same a b (sym is ∙ also)
 
--- the tile of the line that was found
-pub line-tile : (current : Current) (key : VoxelKey) (line : NodeLine) (points : List Point) (files : Files) → current_line current key ≡ Some line → HasTile current key points files → files (tile_of_line line) ≡ Some (tile points)
-line-tile current key line points files is has =
-    let at = found-line current key (λ kept l. files (tile_of_line l) ≡ Some (tile points)) has in
-    subst (λ (l : NodeLine). files (tile_of_line l) ≡ Some (tile points)) (one_line (current_line current key) at.1 line at.2 is) at.3
+-- the tile of the line that was found, where the current checkpoint has no old tiles
+pub line-tile : (current : Current) (key : VoxelKey) (line : NodeLine) (points : List Point) (files : Files) → ¬ IsOfLayout Old current → current_line current key ≡ Some line → HasTile current key points files → files (tile_of_line line) ≡ Some (tile points)
+line-tile None key line points files newest is has = absurd has
+line-tile (Some (letter, c)) key line points files newest is has =
+    let at = some_line c (line_of_key c.nodes key) (λ d l. HasTileUnder (layout_of d.version) (tile_of_line l) points files) has in
+    let here : HasTileUnder (layout_of c.version) (tile_of_line line) points files = subst (λ (l : NodeLine). HasTileUnder (layout_of c.version) (tile_of_line l) points files) (one_line (line_of_key c.nodes key) at.0 line at.1 is) at.2 in
+    subst (λ (layout : Layout). HasTileUnder layout (tile_of_line line) points files) (new-layout letter c newest) here
 
 pub line-is : (current : Current) (key : VoxelKey) (line : NodeLine) → current_line current key ≡ Some line → line.key ≡ key
 line-is None key line is = absurd (cc)
@@ -103,9 +111,9 @@ told_on (Some old) None was is on same told = absurd same
 told_on (Some old) (Some new) was is on same told = on old new same told
 
 -- where the current checkpoint has the node, its line stays
-pub stays : (view : View) (key : VoxelKey) (mask : ℕ) (points : List Point) (old new : Option Files) → IsTold view.current key mask points → Tells (HasNode view.current key mask points) old → StepsBy SameFiles old new → SavesNode view view key mask points new
-stays view key mask points old new told has same =
-    let at = found-line view.current key (λ kept line. (line.mask ≡ mask) × (line.count ≡ length points)) told in
+pub stays : (view : View) (key : VoxelKey) (mask : ℕ) (points : List Point) (old new : Option Files) → ¬ IsOfLayout Old view.current → IsTold view.current key mask points → Tells (HasNode view.current key mask points) old → StepsBy SameFiles old new → SavesNode view view key mask points new
+stays view key mask points old new newest told has same =
+    let at = found-line view.current key (λ c line. (line.mask ≡ mask) × (line.count ≡ length points)) told in
     let line : NodeLine = at.1 in
     let is_key : line.key ≡ key = line-is view.current key line at.2 in
     record {
@@ -114,7 +122,7 @@ stays view key mask points old new told has same =
       is_mask = at.3.0;
       is_count = at.3.1;
       comes = inl (refl, ap (current_line view.current) is_key ∙ at.2);
-      has_tile = told_on old new (HasNode view.current key mask points) (λ (all : Files). all (tile_of_line line) ≡ Some (tile points)) (λ a b is node. is (tile_of_line line) ∙ line-tile view.current key line points a at.2 node.1) same has;
+      has_tile = told_on old new (HasNode view.current key mask points) (λ (all : Files). all (tile_of_line line) ≡ Some (tile points)) (λ a b is node. is (tile_of_line line) ∙ line-tile view.current key line points a newest at.2 node.1) same has;
     }
 
 put_told : (old new : Option Files) (name bytes : List ℕ) → StepsBy (Puts name bytes) old new → Tells (λ (all : Files). all name ≡ Some bytes) new
@@ -148,10 +156,10 @@ pub record IsSavedTo (telling : Type 0) (start now : View) (done rest : List Bra
   pub lines : List NodeLine
   pub view_is : now ≡ record start { lines = lines ++ lines_among (keys_in rest) (lines_of start.current) }
   pub told : TellNodes done lines
-  pub tiles : telling → Tells (λ all. NameTiles all done lines) files
+  pub tiles : telling → Tells (λ all. NameTiles New all done lines) files
   pub known : AreKnown done
 
-tells_nothing : (files : Option Files) → Tells (λ all. NameTiles all [] []) files
+tells_nothing : (files : Option Files) → Tells (λ all. NameTiles New all [] []) files
 tells_nothing None = tt
 tells_nothing (Some all) = tt
 
@@ -175,10 +183,10 @@ pub lines-only : (start now : View) (lines : List NodeLine) → now ≡ record s
 lines-only start now lines is = is ∙ ap (λ (w : List NodeLine). record start { lines = w }) (sym (ap (λ (v : View). v.lines) is))
 
 -- in the end all lines are those of the nodes
-pub saved-all : (telling : Type 0) (start now : View) (nodes : List Branch) (files : Option Files) → IsSavedTo telling start now nodes [] files → TellNodes nodes now.lines × (telling → Tells (λ all. NameTiles all nodes now.lines) files)
+pub saved-all : (telling : Type 0) (start now : View) (nodes : List Branch) (files : Option Files) → IsSavedTo telling start now nodes [] files → TellNodes nodes now.lines × (telling → Tells (λ all. NameTiles New all nodes now.lines) files)
 saved-all telling start now nodes files at = (
   subst (TellNodes nodes) lines at.told,
-  λ tell. subst (λ (w : List NodeLine). Tells (λ all. NameTiles all nodes w) files) lines (at.tiles tell),
+  λ tell. subst (λ (w : List NodeLine). Tells (λ all. NameTiles New all nodes w) files) lines (at.tiles tell),
 )
   where
     none : (ls : List NodeLine) → lines_among [] ls ≡ []
@@ -256,7 +264,7 @@ module _ (telling : Type 0) (start now new : View) (done rest : List Branch) (b 
       come ∙ (ap (λ (v : View). record v { lines = with_line saves.line now.lines }) at.view_is ∙ ap (λ (w : List NodeLine). record start { lines = w }) between)
 
   -- what was put is no tile of those before
-  others : (all then : Files) → SameBut (work_tile_name letter key) all then → (nodes : List Branch) (ls : List NodeLine) → TellNodes nodes ls → AreKnown nodes → AreBefore key ls → NameTiles all nodes ls → NameTiles then nodes ls
+  others : (all then : Files) → SameBut (work_tile_name letter key) all then → (nodes : List Branch) (ls : List NodeLine) → TellNodes nodes ls → AreKnown nodes → AreBefore key ls → NameTiles New all nodes ls → NameTiles New then nodes ls
   others all then same [] [] told are less names = tt
   others all then same [] (y ∷ ys) told are less names = absurd told
   others all then same (n ∷ ns) [] told are less names = absurd told
@@ -271,12 +279,12 @@ module _ (telling : Type 0) (start now new : View) (done rest : List Branch) (b 
           let equal = ap (λ (k : VoxelKey). key_cmp k key) is ∙ key-self key in
           absurd (cc)
 
-  tell_tiles : telling → (old new : Option Files) → StepsBy (SameBut (work_tile_name letter key)) old new → Tells (λ all. NameTiles all done lines) old → Tells (λ (all : Files). all (tile_of_line saves.line) ≡ Some (tile points)) new → Tells (λ all. NameTiles all (done ++ b ∷ []) (lines ++ saves.line ∷ [])) new
+  tell_tiles : telling → (old new : Option Files) → StepsBy (SameBut (work_tile_name letter key)) old new → Tells (λ all. NameTiles New all done lines) old → Tells (λ (all : Files). all (tile_of_line saves.line) ≡ Some (tile points)) new → Tells (λ all. NameTiles New all (done ++ b ∷ []) (lines ++ saves.line ∷ [])) new
   tell_tiles tell None None step names has = tt
   tell_tiles tell None (Some then) step names has = absurd step
   tell_tiles tell (Some all) None step names has = absurd step
   tell_tiles tell (Some all) (Some then) step names has =
-      zip-more (NamesTile then) done lines b saves.line (others all then step done lines at.told at.known low names)
+      zip-more (NamesTile New then) done lines b saves.line (others all then step done lines at.told at.known low names)
       (has ∙ ap (λ (w : List Point). Some (tile w)) (points_are tell))
 
   known_more : (nodes : List Branch) → AreKnown nodes → AreKnown (nodes ++ b ∷ [])

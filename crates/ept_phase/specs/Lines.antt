@@ -1,10 +1,11 @@
 -- The nodes of an octree, and the lines of a checkpoint that tell of them.
-use Rattle.std.specs.Prelude.{◌≡◌, List, length, Some}
+use Rattle.std.specs.Prelude.{◌≡◌, List, length}
 use Rattle.std.specs.List.{AllZip}
 use Rattle.ept_base.specs.Files.{Files}
-use Rattle.ept_point.specs.Packed.{tile}
+use Rattle.ept_point.specs.declared.layout.Layout.{Layout}
 use Rattle.ept_ckpt.specs.declared.node_line.NodeLine.{NodeLine}
 use Rattle.ept_save.specs.Current.{tile_of_line}
+use Rattle.ept_save.specs.Tiles.{HasTileUnder}
 use Rattle.ept_table.specs.Octree.{Branch}
 
 -- a line tells of a node: its key, its open octants, and how many points it has
@@ -17,10 +18,10 @@ pub record TellsNode (b : Branch) (line : NodeLine) : Type 0 where
 abbrev pub TellNodes : List Branch → List NodeLine → Type 0
 TellNodes nodes lines = AllZip TellsNode nodes lines
 
--- the file that a line names is the tile of a node
-abbrev pub NamesTile : Files → Branch → NodeLine → Type 0
-NamesTile files b line = files (tile_of_line line) ≡ Some (tile b.1.points)
+-- the file that a line names is the tile of a node, in a layout
+abbrev pub NamesTile : Layout → Files → Branch → NodeLine → Type 0
+NamesTile layout files b line = HasTileUnder layout (tile_of_line line) b.1.points files
 
 -- each line names the tile of its node
-abbrev pub NameTiles : Files → List Branch → List NodeLine → Type 0
-NameTiles files nodes lines = AllZip (NamesTile files) nodes lines
+abbrev pub NameTiles : Layout → Files → List Branch → List NodeLine → Type 0
+NameTiles layout files nodes lines = AllZip (NamesTile layout files) nodes lines

@@ -7,7 +7,7 @@ use Rattle.ept_ckpt.specs.declared.node_line.NodeLine.{NodeLine}
 use Rattle.ept_ckpt.specs.declared.checkpoint.Checkpoint.{Checkpoint}
 use Rattle.ept_save.specs.declared.error.SaveError.TheVariants.{StoreFault, TileDamaged, Memory}
 use Rattle.ept_save.specs.Current.{Current}
-use Rattle.ept_save.specs.Loading.{HasLine, IsDamaged}
+use Rattle.ept_save.specs.Loading.{IsDamaged}
 use Rattle.ept_save.specs.Opening.{lines_of}
 use Rattle.ept_phase.specs.declared.error.PhaseError.{PhaseError}
 use Rattle.ept_phase.specs.declared.error.PhaseError.TheVariants.{Save, TooManyNodes, SpillFault}
@@ -16,10 +16,6 @@ use Rattle.ept_phase.specs.declared.error.PhaseError.TheVariants.{Save, TooManyN
 abbrev pub OfCurrent : Current → (Checkpoint → Type 0) → Type 0
 OfCurrent None fact = ⊤
 OfCurrent (Some (letter, c)) fact = fact c
-
--- no tile that the current checkpoint names is damaged
-abbrev pub HasNoDamage : Current → Files → Type 0
-HasNoDamage current files = (key : VoxelKey) → HasLine current key → ¬ IsDamaged current key files
 
 -- no tile of these lines is damaged
 abbrev pub AreIntact : Current → List NodeLine → Files → Type 0

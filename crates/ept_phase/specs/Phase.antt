@@ -1,11 +1,13 @@
 -- A phase of a build: an octree becomes the next checkpoint.
 use Rattle.std.specs.Prelude.{◌≡◌, ◌⊎◌, ℕ, ◌+◌, ◌<◌, ◌≤◌, false, List, length, Some, None, ⊤, All}
 use Rattle.ept_base.specs.Files.{Files}
+use Rattle.ept_point.specs.declared.layout.Layout.TheVariants.{New}
 use Rattle.ept_config.specs.declared.kept.Kept.{Kept}
 use Rattle.ept_config.specs.declared.source_count.SourceCount.{SourceCount}
 use Rattle.ept_config.specs.Counts.{total, IsCount}
 use Rattle.ept_ckpt.specs.declared.checkpoint.Checkpoint.{Checkpoint}
 use Rattle.ept_ckpt.specs.Valid.{ExtentInRange}
+use Rattle.ept_ckpt.specs.Versions.{layout_of}
 use Rattle.ept_save.specs.Names.{IsSavedName}
 use Rattle.ept_save.specs.Current.{Current, IsCurrent, Keeps}
 use Rattle.ept_save.specs.View.{View, next_letter, next_generation}
@@ -24,20 +26,21 @@ abbrev pub GoesFurther : Current → ℕ → ℕ → Type 0
 GoesFurther None inserted inputs = ⊤
 GoesFurther (Some (letter, c)) inserted inputs = c.inserted + length c.kept.inputs < inserted + inputs
 
--- the next checkpoint: what is given of the inputs, so many points inserted, and lines that tell of these nodes
+-- the next checkpoint: what is given of the inputs, so many points inserted, lines that tell of these nodes, and the newest layout of tiles
 pub record IsNext (view : View) (kept : Kept) (counts : List SourceCount) (inserted : ℕ) (nodes : List Branch) (next : Checkpoint) : Type 0 where
   pub generation : next.generation ≡ next_generation view.current
   pub kept_is : next.kept ≡ kept
   pub counts_are : next.counts ≡ counts
   pub inserted_is : next.inserted ≡ inserted
   pub told : TellNodes nodes next.nodes
+  pub newest : layout_of next.version ≡ New
 
 -- the files have it as their current one, and it names the nodes' tiles
 pub record HasNext (view : View) (kept : Kept) (counts : List SourceCount) (inserted : ℕ) (nodes : List Branch) (files : Files) : Type 0 where
   pub next : Checkpoint
   pub is_next : IsNext view kept counts inserted nodes next
   pub is_current : IsCurrent files (next_letter view.current) next
-  pub tiles : NameTiles files nodes next.nodes
+  pub tiles : NameTiles New files nodes next.nodes
 
 -- The current checkpoint is kept, with its tiles, or the next one is the current one. What is no checkpoint's stays.
 pub record GoesOn (view : View) (kept : Kept) (counts : List SourceCount) (inserted : ℕ) (nodes : List Branch) (old new : Files) : Type 0 where

@@ -2,6 +2,7 @@
 use Rattle.std.specs.Prelude.{List}
 use Rattle.std.specs.List.{AllZip}
 use Rattle.ept_base.specs.Files.{Files}
+use Rattle.ept_point.specs.declared.layout.Layout.{Layout}
 use Rattle.ept_point.specs.declared.point.Point.{Point}
 use Rattle.ept_space.specs.declared.cube.Rules.{Rules}
 use Rattle.ept_sample.specs.Nodes.{sampled}
@@ -15,9 +16,9 @@ use Rattle.ept_phase.specs.Lines.{TellNodes, NameTiles}
 -- nodes of which the lines of some points' sampling tell, with the tiles that they name, are those of the sampling
 abbrev pub LoadedIsSampled : Type 0
 LoadedIsSampled =
-    (rules : Rules) (files : Files) (points : List Point) (nodes : List Branch) (lines : List NodeLine) → CanBeSampled rules points → TellNodes nodes lines → NameTiles files nodes lines → AreWholeOctree lines → AllZip (IsSavedAs files) (sampled rules points) lines → AreSampled rules points nodes
+    (layout : Layout) (rules : Rules) (files : Files) (points : List Point) (nodes : List Branch) (lines : List NodeLine) → CanBeSampled rules points → TellNodes nodes lines → NameTiles layout files nodes lines → AreWholeOctree lines → AllZip (IsSavedAs layout files) (sampled rules points) lines → AreSampled rules points nodes
 
 -- and lines that tell of the nodes of some points' sampling, and name their tiles, are those of the sampling
 abbrev pub SampledIsSaved : Type 0
 SampledIsSaved =
-    (rules : Rules) (files : Files) (points : List Point) (nodes : List Branch) (lines : List NodeLine) → AreSampled rules points nodes → TellNodes nodes lines → NameTiles files nodes lines → AllZip (IsSavedAs files) (sampled rules points) lines
+    (layout : Layout) (rules : Rules) (files : Files) (points : List Point) (nodes : List Branch) (lines : List NodeLine) → AreSampled rules points nodes → TellNodes nodes lines → NameTiles layout files nodes lines → AllZip (IsSavedAs layout files) (sampled rules points) lines

@@ -21,7 +21,7 @@ use Rattle.ept_phase.specs.Errors.{IsDevices}
 
 -- the current checkpoint tells of a node of the key with these open octants and so many points
 abbrev pub IsTold : Current → VoxelKey → ℕ → List Point → Type 0
-IsTold current key mask points = OfLine current key (λ kept line. (line.mask ≡ mask) × (line.count ≡ length points))
+IsTold current key mask points = OfLine current key (λ c line. (line.mask ≡ mask) × (line.count ≡ length points))
 
 -- the current checkpoint has the node as it is: it tells of it, and the tile that it names has these points
 abbrev pub HasNode : Current → VoxelKey → ℕ → List Point → Files → Type 0

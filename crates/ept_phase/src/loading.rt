@@ -9,19 +9,20 @@ ghost use Rattle.ept_base.specs.Moves.{Moves, SameImages};
 ghost use Rattle.ept_space.specs.VoxelKey.{VoxelKey, root, key_cmp};
 ghost use Rattle.ept_ckpt.specs.declared.letter.Letter as l;
 ghost use Rattle.ept_ckpt.specs.declared.checkpoint.Checkpoint as c;
+ghost use Rattle.ept_ckpt.specs.Versions.{layout_of};
 ghost use Rattle.ept_forest.specs.Slots as trees;
 ghost use Rattle.ept_meta.specs.Output as meta;
 ghost use Rattle.ept_node.specs.Shown.{empty_node, IsTelling};
 ghost use Rattle.ept_save.specs.declared.error.SaveError.TheVariants as save;
 ghost use Rattle.ept_save.specs.Current.{HasCurrent};
-ghost use Rattle.ept_save.specs.Loading.{HasLine, AreOfLine};
+ghost use Rattle.ept_save.specs.Loading.{HasLine, AreOfLine, HasNoDamage};
 ghost use Rattle.ept_save.specs.Opening.{lines_of};
 ghost use Rattle.ept_save.specs.Sound.{IsSound};
 ghost use Rattle.ept_save.specs.View as view;
 ghost use Rattle.ept_save.specs.View.{StandsFor};
 ghost use Rattle.ept_octree.specs.Adding.{filled, IsFree, HasRoomFor};
 ghost use Rattle.ept_octree.specs.Octree.{forest_of, rules_of, most_of, cache_of, residents_of, nodes_of, IsWhole, IsLinked, IsUnbroken, AgreesWithFiles, AreAlike};
-ghost use Rattle.ept_phase.specs.Loaded.{OfCurrent, HasNoDamage, AreIntact, IsFirstDamaged, IsLoadFault};
+ghost use Rattle.ept_phase.specs.Loaded.{OfCurrent, AreIntact, IsFirstDamaged, IsLoadFault};
 ghost use Rattle.ept_phase.specs.Lines.{TellNodes, NameTiles};
 
 use crate::error::PhaseError;
@@ -62,11 +63,12 @@ pub fn load_octree<T: Store, F: SpillFile>(
     ensures agrees { AgreesWithFiles F.held F.faults F.keeps octree.new }
     ensures unbroken { OnOk result (IsUnbroken octree.new) }
 
-    // Whatever the store and the spill files tell, the lines tell of the nodes; where both tell, they name their tiles.
+    // Whatever the store and the spill files tell, the lines tell of the nodes; where both tell, they name their tiles, in the
+    // layout of the checkpoint.
     ensures told { OnOk result (OfCurrent saved.now.current
         (λ (c : c.Checkpoint). TellNodes (nodes_of F.held octree.new) c.nodes)) }
     ensures tiles { IsTelling F.held → OnOk result (OfCurrent saved.now.current
-        (λ (c : c.Checkpoint). Tells (λ all. NameTiles all (nodes_of F.held octree.new) c.nodes) (T.files store.old))) }
+        (λ (c : c.Checkpoint). Tells (λ all. NameTiles (layout_of c.version) all (nodes_of F.held octree.new) c.nodes) (T.files store.old))) }
     ensures begun { saved.now.current ≡ None → OnOk result (nodes_of F.held octree.new ≡ nodes_of F.held octree.old) }
 
     // At Ok each line has a slot, and no tile is damaged. A tile is reported as damaged only where, of the lines that
@@ -129,7 +131,7 @@ fn add_nodes<T: Store, F: SpillFile>(
     ensures unbroken { OnOk result (IsUnbroken octree.new) }
     ensures told { OnOk result (TellNodes (nodes_of F.held octree.new) checkpoint.now.nodes) }
     ensures tiles { OnOk result (IsTelling F.held → Tells
-        (λ all. NameTiles all (nodes_of F.held octree.new) checkpoint.now.nodes) (T.files store.old)) }
+        (λ all. NameTiles (layout_of checkpoint.now.version) all (nodes_of F.held octree.new) checkpoint.now.nodes) (T.files store.old)) }
     ensures few { OnOk result (length checkpoint.now.nodes ≤ most_of octree.old) }
     ensures too_many { result ≡ Err PhaseError.TooManyNodes → (most_of octree.old < length checkpoint.now.nodes)
         × Tells (AreIntact saved.now.current (take (most_of octree.old) checkpoint.now.nodes)) (T.files store.old) }

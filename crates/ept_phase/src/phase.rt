@@ -8,20 +8,22 @@ ghost use Rattle.ept_ckpt.specs.declared.checkpoint.Checkpoint as c;
 ghost use Rattle.ept_forest.specs.Slots as trees;
 ghost use Rattle.ept_meta.specs.Output as meta;
 ghost use Rattle.ept_node.specs.Shown.{IsTelling};
+ghost use Rattle.ept_point.specs.declared.layout.Layout.TheVariants.{Old, New};
 ghost use Rattle.ept_point.specs.declared.point.Point as p;
 ghost use Rattle.ept_sample.specs.SamplingLaws.{CanBeSampled};
 ghost use Rattle.ept_space.specs.VoxelKey.{VoxelKey};
 ghost use Rattle.ept_save.specs.declared.error.SaveError.TheVariants as save;
 ghost use Rattle.ept_save.specs.Current.{Keeps};
-ghost use Rattle.ept_save.specs.Loading.{HasLine, IsDamaged};
+ghost use Rattle.ept_save.specs.Loading.{HasLine, IsDamaged, HasNoDamage};
 ghost use Rattle.ept_save.specs.Opening.{lines_of};
 ghost use Rattle.ept_save.specs.Sound as sound;
+ghost use Rattle.ept_save.specs.Tiles.{IsOfLayout};
 ghost use Rattle.ept_save.specs.View.{StandsFor};
 ghost use Rattle.ept_table.specs.Octree.{AreSampled};
 ghost use Rattle.ept_octree.specs.Octree.{forest_of, rules_of, most_of, cache_of, nodes_of, points_of, IsWhole, IsLinked, IsUnbroken, AgreesWithFiles};
 ghost use Rattle.ept_phase.specs.Errors.{IsDevices};
 ghost use Rattle.ept_phase.specs.Lines.{NameTiles};
-ghost use Rattle.ept_phase.specs.Loaded.{OfCurrent, HasNoDamage};
+ghost use Rattle.ept_phase.specs.Loaded.{OfCurrent};
 ghost use Rattle.ept_phase.specs.Phase.{AreGiven, GoesFurther, GoesOn, IsSaved};
 ghost use Rattle.ept_phase.specs.Saving.{HasEachNodeOf, SavesChanged, IsSaveFault};
 
@@ -55,6 +57,7 @@ pub fn save_octree<T: Store, F: SpillFile>(
     inserted: u64,
 ) -> Result<(), PhaseError>
     requires fresh { saved.old.lines ≡ lines_of saved.old.current }
+    requires newest { ¬ IsOfLayout Old saved.old.current }
     requires each { HasEachNodeOf saved.old.current (nodes_of F.held octree.old) }
     requires whole { IsWhole F.held octree.old }
     requires agrees { AgreesWithFiles F.held F.faults F.keeps octree.old }
@@ -69,7 +72,7 @@ pub fn save_octree<T: Store, F: SpillFile>(
     // At Ok, where spill files tell, the checkpoint names the tiles of the octree's nodes; and where these are the nodes
     // of some points' sampling, none of its tiles is damaged.
     ensures tiles { IsTelling F.held → OnOk result (Tells (λ all. OfCurrent saved.new.current
-        (λ (c : c.Checkpoint). NameTiles all (nodes_of F.held octree.old) c.nodes)) (T.files store.new)) }
+        (λ (c : c.Checkpoint). NameTiles New all (nodes_of F.held octree.old) c.nodes)) (T.files store.new)) }
     ensures intact { IsTelling F.held → (points : List p.Point) → CanBeSampled (meta.rules_of kept.now) points
         → AreSampled (meta.rules_of kept.now) points (nodes_of F.held octree.old)
         → OnOk result (Tells (HasNoDamage saved.new.current) (T.files store.new)) }

@@ -13,13 +13,14 @@ ghost use Rattle.ept_save.specs.Names.{work_tile_name};
 ghost use Rattle.ept_save.specs.Current.{HasCurrent, Keeps};
 ghost use Rattle.ept_save.specs.Errors.{IsStores};
 ghost use Rattle.ept_save.specs.Lines.{free_letter};
-ghost use Rattle.ept_save.specs.Loading.{HasLine, HasTile, IsDamaged};
+ghost use Rattle.ept_point.specs.declared.layout.Layout.TheVariants.{Old, New};
+ghost use Rattle.ept_save.specs.Tiles.{IsOfLayout};
+ghost use Rattle.ept_save.specs.Loading.{HasLine, HasTile, IsDamaged, HasNoDamage};
 ghost use Rattle.ept_save.specs.Opening.{lines_of};
 ghost use Rattle.ept_save.specs.Sound.{IsSound};
 ghost use Rattle.ept_save.specs.View as view;
 ghost use Rattle.ept_save.specs.View.{StandsFor};
 ghost use Rattle.ept_phase.specs.Lines.{TellNodes, NameTiles};
-ghost use Rattle.ept_phase.specs.Loaded.{HasNoDamage};
 ghost use Rattle.ept_forest.specs.Slots as trees;
 ghost use Rattle.ept_table.specs.Octree.{AreSampled};
 ghost use Rattle.ept_octree.specs.Octree.{forest_of, rules_of, most_of, cache_of, nodes_of, IsLinked, IsUnbroken, AgreesWithFiles};
@@ -49,6 +50,7 @@ pub fn save_node<T: Store>(
     mask: u8,
     points: &[Point],
 ) -> Result<(), SaveError>
+    requires newest { ¬ IsOfLayout Old saved.old.current }
     ensures node { OnOk result (SavesNode saved.old saved.new key mask points.now (T.files store.new)) }
     ensures unchanged { OnErr result (saved.new ≡ saved.old) }
 
@@ -91,6 +93,7 @@ fn has_node<T: Store>(
     mask: u8,
     points: &[Point],
 ) -> Result<bool, SaveError>
+    requires newest { ¬ IsOfLayout Old saved.now.current }
     ensures told { result ≡ Ok true → IsTold saved.now.current key mask points.now }
     ensures has { result ≡ Ok true → Tells (HasNode saved.now.current key mask points.now) (T.files store.old) }
     ensures has_not { result ≡ Ok false → (all : Files) → T.files store.old ≡ Some all
@@ -126,6 +129,7 @@ fn has_points<T: Store>(
     points: &[Point],
 ) -> Result<bool, SaveError>
     requires line { HasLine saved.now.current key }
+    requires newest { ¬ IsOfLayout Old saved.now.current }
     ensures has { result ≡ Ok true → Tells (HasTile saved.now.current key points.now) (T.files store.old) }
     ensures has_not { result ≡ Ok false → (all : Files) → T.files store.old ≡ Some all
         → ¬ HasTile saved.now.current key points.now all }
@@ -155,11 +159,12 @@ pub(crate) fn save_nodes<T: Store, F: SpillFile>(
     octree: &mut Octree<F>,
 ) -> Result<(), PhaseError>
     requires fresh { saved.old.lines ≡ lines_of saved.old.current }
+    requires newest { ¬ IsOfLayout Old saved.old.current }
     requires each { HasEachNodeOf saved.old.current (nodes_of F.held octree.old) }
     requires agrees { AgreesWithFiles F.held F.faults F.keeps octree.old }
     ensures told { OnOk result (TellNodes (nodes_of F.held octree.old) saved.new.lines) }
     ensures tiles { IsTelling F.held → OnOk result (Tells
-        (λ all. NameTiles all (nodes_of F.held octree.old) saved.new.lines) (T.files store.new)) }
+        (λ all. NameTiles New all (nodes_of F.held octree.old) saved.new.lines) (T.files store.new)) }
     ensures known { OnOk result (AreKnown (nodes_of F.held octree.old)) }
     ensures lines { saved.new ≡ record saved.old { lines = saved.new.lines } }
     ensures only_changed { IsTelling F.held → (all : Files) → T.files store.old ≡ Some all

@@ -33,6 +33,8 @@ as-given config bounds kept a b of_a of_b field.MinNodeSize is = of_b.threshold_
 as-given config bounds kept a b of_a of_b field.MaxDepth is = of_b.max_depth_is ∙ (sym of_a.max_depth_is ∙ is)
 as-given config bounds kept a b of_a of_b field.HierarchyStep is = of_b.step_is ∙ (sym of_a.step_is ∙ is)
 as-given config bounds kept a b of_a of_b field.Srs is = of_b.srs_is ∙ (sym of_a.srs_is ∙ is)
+as-given config bounds kept a b of_a of_b field.FirstClasses is = of_b.first_is ∙ (sym of_a.first_is ∙ is)
+as-given config bounds kept a b of_a of_b field.WithheldLast is = of_b.withheld_last_is ∙ (sym of_a.withheld_last_is ∙ is)
 as-given config bounds kept a b of_a of_b field.Input is = (is.0, of_b.inputs_is ∙ (sym of_a.inputs_is ∙ is.1))
 
 -- what goes on does not differ
@@ -46,8 +48,8 @@ pub nothing : {X : Type 0} (xs : List X) → length xs ≡ 0 → xs ≡ []
 nothing [] none = refl
 nothing (x ∷ xs) none = absurd (omega (arith, none))
 
-fields-same : (a b : Kept) → a.scale ≡ b.scale → a.offset ≡ b.offset → a.bounds ≡ b.bounds → a.s ≡ b.s → a.threshold ≡ b.threshold → a.max_depth ≡ b.max_depth → a.step ≡ b.step → a.srs ≡ b.srs → a.inputs ≡ b.inputs → a ≡ b
-fields-same a b scale offset bounds s threshold depth step srs inputs = λ i. record {
+fields-same : (a b : Kept) → a.scale ≡ b.scale → a.offset ≡ b.offset → a.bounds ≡ b.bounds → a.s ≡ b.s → a.threshold ≡ b.threshold → a.max_depth ≡ b.max_depth → a.step ≡ b.step → a.srs ≡ b.srs → a.first ≡ b.first → a.withheld_last ≡ b.withheld_last → a.inputs ≡ b.inputs → a ≡ b
+fields-same a b scale offset bounds s threshold depth step srs classes last inputs = λ i. record {
   scale = scale i;
   offset = offset i;
   bounds = bounds i;
@@ -56,6 +58,8 @@ fields-same a b scale offset bounds s threshold depth step srs inputs = λ i. re
   max_depth = depth i;
   step = step i;
   srs = srs i;
+  first = classes i;
+  withheld_last = last i;
   inputs = inputs i;
   layout = is_prop→PathP (λ j. LayoutInRange (scale j) (offset j) (s j) (threshold j) (depth j) (step j) (inputs j)) (λ j. hlevel props) a.layout b.layout i;
   has_bounds = is_prop→PathP (λ j. BoundsInRange (bounds j)) (λ j. hlevel props) a.has_bounds b.has_bounds i;
@@ -64,7 +68,7 @@ fields-same a b scale offset bounds s threshold depth step srs inputs = λ i. re
 -- with the same bounds the same is kept of a configuration
 pub kept-once : (config : Config) (bounds : Bounds) (a b : Kept) → IsKeptOf config bounds a → IsKeptOf config bounds b → a ≡ b
 kept-once config bounds a b of_a of_b =
-    fields-same a b (of_a.scale_is ∙ sym of_b.scale_is) (of_a.offset_is ∙ sym of_b.offset_is) (of_a.bounds_is ∙ sym of_b.bounds_is) (of_a.s_is ∙ sym of_b.s_is) (of_a.threshold_is ∙ sym of_b.threshold_is) (of_a.max_depth_is ∙ sym of_b.max_depth_is) (of_a.step_is ∙ sym of_b.step_is) (of_a.srs_is ∙ sym of_b.srs_is) (of_a.inputs_is ∙ sym of_b.inputs_is)
+    fields-same a b (of_a.scale_is ∙ sym of_b.scale_is) (of_a.offset_is ∙ sym of_b.offset_is) (of_a.bounds_is ∙ sym of_b.bounds_is) (of_a.s_is ∙ sym of_b.s_is) (of_a.threshold_is ∙ sym of_b.threshold_is) (of_a.max_depth_is ∙ sym of_b.max_depth_is) (of_a.step_is ∙ sym of_b.step_is) (of_a.srs_is ∙ sym of_b.srs_is) (of_a.first_is ∙ sym of_b.first_is) (of_a.withheld_last_is ∙ sym of_b.withheld_last_is) (of_a.inputs_is ∙ sym of_b.inputs_is)
 
 module _ (config : Config) (kept given : Kept) (is : IsGiven config kept given) (on : GoesOnFrom kept given) where
   -- the scale and the bounds are those that are kept, and the kept inputs are the first ones
@@ -76,7 +80,7 @@ module _ (config : Config) (kept given : Kept) (is : IsGiven config kept given) 
 
   pub inputs-kept : ArePrefix kept.inputs config.inputs
   inputs-kept =
-      let first : ArePrefix kept.inputs given.inputs = on 8 field.Scale (omega arith) in
+      let first : ArePrefix kept.inputs given.inputs = on 10 field.Scale (omega arith) in
       (first.0, sym is.inputs_is ∙ first.1)
 
   pub step-kept : given.step ≡ kept.step
@@ -88,12 +92,14 @@ module _ (config : Config) (kept given : Kept) (is : IsGiven config kept given) 
       let cube : cube_of given.bounds given.s given.max_depth ≡ cube_of kept.bounds kept.s kept.max_depth =
       ap (λ (b : Bounds). cube_of b given.s given.max_depth) bounds-kept ∙ (ap (λ (k : ℕ). cube_of kept.bounds k given.max_depth) (on 3 field.Scale (omega arith)) ∙ ap (λ (k : ℕ). cube_of kept.bounds kept.s k) (on 5 field.Scale (omega arith))) in
       let threshold : given.threshold ≡ kept.threshold = on 4 field.Scale (omega arith) in
-      λ i. record { cube = cube i; threshold = threshold i }
+      let classes : given.first ≡ kept.first = on 8 field.Scale (omega arith) in
+      let last : given.withheld_last ≡ kept.withheld_last = on 9 field.Scale (omega arith) in
+      λ i. record { cube = cube i; threshold = threshold i; first = classes i; withheld_last = last i }
 
   -- where no input is added, all is kept
   pub same-kept : length kept.inputs ≡ length given.inputs → given ≡ kept
   same-kept number =
-      let first : ArePrefix kept.inputs given.inputs = on 8 field.Scale (omega arith) in
+      let first : ArePrefix kept.inputs given.inputs = on 10 field.Scale (omega arith) in
       let none : first.0 ≡ [] = nothing first.0 (omega (arith, number, ap length first.1, length-append kept.inputs first.0)) in
       let inputs : given.inputs ≡ kept.inputs = first.1 ∙ (ap (λ (l : List Input). kept.inputs ++ l) none ∙ append-nil kept.inputs) in
-      fields-same given kept (on 0 field.Scale (omega arith)) (on 1 field.Scale (omega arith)) bounds-kept (on 3 field.Scale (omega arith)) (on 4 field.Scale (omega arith)) (on 5 field.Scale (omega arith)) step-kept (on 7 field.Scale (omega arith)) inputs
+      fields-same given kept (on 0 field.Scale (omega arith)) (on 1 field.Scale (omega arith)) bounds-kept (on 3 field.Scale (omega arith)) (on 4 field.Scale (omega arith)) (on 5 field.Scale (omega arith)) step-kept (on 7 field.Scale (omega arith)) (on 8 field.Scale (omega arith)) (on 9 field.Scale (omega arith)) inputs

@@ -1,9 +1,9 @@
 -- What holds of a packed point: its length, its bounds, and that it is the packed form of one point only.
 use Rattle.std.proofs.Common.{◌+◌, append_assoc, ◌%◌, take, drop, subst, zero, suc, ◌≡◌, ℕ, ℤ, ◌<◌, ◌^◌, List, [], ◌∷◌, ◌++◌, length, get_or, map, refl, sym, ap, ◌∙◌, arith, length-append, FitsSigned}
-use Rattle.std.specs.Int.{Width, w8, w16, w32, cast_unsigned, cast_signed, from_le_bytes}
+use Rattle.std.specs.Int.{Width, w8, w16, w32, w64, cast_unsigned, cast_signed, from_le_bytes}
 use Rattle.std.specs.List.{concat, AllByRecursion, Any}
 use Rattle.std.proofs.lemmas.Int.{to_z-of_z, ints}
-use Rattle.std.proofs.lemmas.Nat.{from_le_bytes-to_le_bytes_2, from_le_bytes-to_le_bytes_4}
+use Rattle.std.proofs.lemmas.Nat.{from_le_bytes-to_le_bytes_2, from_le_bytes-to_le_bytes_4, from_le_bytes-to_le_bytes_8}
 use Rattle.std.proofs.Math.Seq.{take-append_seam, drop-append_seam}
 use denote.Struct.Record.{values_one}
 use Rattle.ept_point.specs.contracts.point.Point.{struct, the_propositions}
@@ -46,6 +46,10 @@ read_2 n h = omega arith
 read_4 : (n : ℕ) → n < 2 ^ 32 → number_in (little_endian 4 n) ≡ n
 unfolding little_endian
 read_4 n h = omega arith
+
+read_8 : (n : ℕ) → n < 2 ^ 64 → number_in (little_endian 8 n) ≡ n
+unfolding little_endian
+read_8 n h = omega arith
 
 read_signed_1 : (z : ℤ) → FitsSigned w8 z → cast_signed w8 (number_in (little_endian 1 (cast_unsigned w8 z))) ≡ z
 read_signed_1 z h = rw (read_1 (cast_unsigned w8 z) (omega (arith, ints))) (to_z-of_z w8 z h)
@@ -98,7 +102,7 @@ each_reads p = (
                                       (
                                         ap (λ (n : ℕ). (OriginId, Natural n)) (read_4 p.origin p.widths.origin_fits),
                                         (
-                                          ap (λ (n : ℕ). (PointId, Natural n)) (read_4 p.number p.widths.number_fits),
+                                          ap (λ (n : ℕ). (PointId, Natural n)) (read_8 p.number p.widths.number_fits),
                                           tt,
                                         ),
                                       ),
@@ -247,6 +251,10 @@ same_4 : (m n : ℕ) → m < 2 ^ 32 → n < 2 ^ 32 → little_endian 4 m ≡ lit
 unfolding little_endian
 same_4 m n hm hn e = sym (from_le_bytes-to_le_bytes_4 m hm) ∙ ap (from_le_bytes w32) e ∙ from_le_bytes-to_le_bytes_4 n hn
 
+same_8 : (m n : ℕ) → m < 2 ^ 64 → n < 2 ^ 64 → little_endian 8 m ≡ little_endian 8 n → m ≡ n
+unfolding little_endian
+same_8 m n hm hn e = sym (from_le_bytes-to_le_bytes_8 m hm) ∙ ap (from_le_bytes w64) e ∙ from_le_bytes-to_le_bytes_8 n hn
+
 -- a signed number is the only one with its bits
 same_bits : (w : Width) (y z : ℤ) → FitsSigned w y → FitsSigned w z → cast_unsigned w y ≡ cast_unsigned w z → y ≡ z
 same_bits w y z hy hz e = sym (to_z-of_z w y hy) ∙ ap (cast_signed w) e ∙ to_z-of_z w z hz
@@ -289,7 +297,7 @@ same_fields p q e =
     let same_green : p.green ≡ q.green = same_2 p.green q.green p.widths.green_fits q.widths.green_fits (ap (λ (xs : List (List ℕ)). get_or xs 17 []) e) in
     let same_blue : p.blue ≡ q.blue = same_2 p.blue q.blue p.widths.blue_fits q.widths.blue_fits (ap (λ (xs : List (List ℕ)). get_or xs 18 []) e) in
     let same_origin : p.origin ≡ q.origin = same_4 p.origin q.origin p.widths.origin_fits q.widths.origin_fits (ap (λ (xs : List (List ℕ)). get_or xs 19 []) e) in
-    let same_number : p.number ≡ q.number = same_4 p.number q.number p.widths.number_fits q.widths.number_fits (ap (λ (xs : List (List ℕ)). get_or xs 20 []) e) in
+    let same_number : p.number ≡ q.number = same_8 p.number q.number p.widths.number_fits q.widths.number_fits (ap (λ (xs : List (List ℕ)). get_or xs 20 []) e) in
     values_one struct the_propositions p q (λ i. (same_x i, (same_y i, (same_z i, (same_intensity i, (same_return_number i, (same_number_of_returns i, (same_scan_direction i, (same_edge i, (same_class i, (same_class_flags i, (same_channel i, (same_angle_rank i, (same_angle i, (same_user i, (same_source_id i, (same_gps i, (same_red i, (same_green i, (same_blue i, (same_origin i, (same_number i, tt))))))))))))))))))))))
 
 -- two points with the same packed form are the same

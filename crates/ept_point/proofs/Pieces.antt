@@ -2,9 +2,9 @@
 use Rattle.std.proofs.Common.{subst, Bool, Option, leb, true, false, ◌^◌, ◌%◌, ◌≡◌, ℕ, ◌+◌, ◌<◌, List, [], ◌∷◌, ◌++◌, length, get_or, take, drop, refl, ap, ◌∙◌, arith, take-append-drop, drop-drop, ℤ, FitsSigned}
 use Rattle.std.specs.Bool.{then_some}
 use Rattle.std.specs.Option.{IfSome, IsNone}
-use Rattle.std.specs.Int.{Width, w8, w16, w32, to_le_bytes, from_le_bytes, cast_signed, cast_unsigned}
+use Rattle.std.specs.Int.{Width, w8, w16, w32, w64, to_le_bytes, from_le_bytes, cast_signed, cast_unsigned}
 use Rattle.std.proofs.lemmas.List.{drop_more}
-use Rattle.std.proofs.lemmas.Nat.{le_bytes_2, le_bytes_4}
+use Rattle.std.proofs.lemmas.Nat.{le_bytes_2, le_bytes_4, le_bytes_8}
 use Rattle.std.proofs.lemmas.Int.{to_z-of_z}
 use Rattle.std.proofs.lemmas.Bool.Decides.{nat_tests}
 use Rattle.ept_point.specs.Packed.{little_endian, number_in}
@@ -24,6 +24,10 @@ pub cells_4 : (n : ℕ) (x : List ℕ) {rest tail : List ℕ} → x ≡ to_le_by
 unfolding little_endian
 cells_4 n x {rest} {tail} e t = rw (e, t) refl
 
+pub cells_of_8 : (n : ℕ) (x : List ℕ) {rest tail : List ℕ} → x ≡ to_le_bytes w64 n → rest ≡ tail → get_or x 0 0 ∷ get_or x 1 0 ∷ get_or x 2 0 ∷ get_or x 3 0 ∷ get_or x 4 0 ∷ get_or x 5 0 ∷ get_or x 6 0 ∷ get_or x 7 0 ∷ rest ≡ little_endian 8 n ++ tail
+unfolding little_endian
+cells_of_8 n x {rest} {tail} e t = rw (e, t) refl
+
 -- eight cells are the list of length eight that they are read from
 pub cells_8 : (x : List ℕ) {rest tail : List ℕ} → length x ≡ 8 → rest ≡ tail → get_or x 0 0 ∷ get_or x 1 0 ∷ get_or x 2 0 ∷ get_or x 3 0 ∷ get_or x 4 0 ∷ get_or x 5 0 ∷ get_or x 6 0 ∷ get_or x 7 0 ∷ rest ≡ x ++ tail
 cells_8 (a ∷ b ∷ c ∷ d ∷ e ∷ f ∷ g ∷ h ∷ []) len t = rw t refl
@@ -41,7 +45,7 @@ cells_8 (a ∷ b ∷ c ∷ d ∷ e ∷ f ∷ g ∷ h ∷ i ∷ s) len t = absurd
 pub cut : (b : List ℕ) (at n : ℕ) {piece rest : List ℕ} → piece ≡ take n (drop at b) → rest ≡ drop (at + n) b → piece ++ rest ≡ drop at b
 cut b at n {piece} {rest} p r = rw (p, r, ← drop-drop n at b) (take-append-drop n (drop at b))
 
--- the number in one byte, in two, and in four
+-- the number in one byte, in two, in four, and in eight
 pub word_1 : (b : List ℕ) (at : ℕ) → at < length b → ((i : ℕ) → get_or b i 0 < 2 ^ 8) → little_endian 1 (get_or b at 0) ≡ take 1 (drop at b)
 unfolding little_endian
 word_1 b at h bytes =
@@ -75,6 +79,10 @@ word_2 x n len bytes e = le_bytes_2 x n len bytes e
 pub word_4 : (x : List ℕ) (n : ℕ) → length x ≡ 4 → ((i : ℕ) → get_or x i 0 < 2 ^ 8) → n ≡ from_le_bytes w32 x → little_endian 4 n ≡ x
 unfolding little_endian
 word_4 x n len bytes e = le_bytes_4 x n len bytes e
+
+pub word_8 : (x : List ℕ) (n : ℕ) → length x ≡ 8 → ((i : ℕ) → get_or x i 0 < 2 ^ 8) → n ≡ from_le_bytes w64 x → little_endian 8 n ≡ x
+unfolding little_endian
+word_8 x n len bytes e = le_bytes_8 x n len bytes e
 
 -- a signed number is what is read of its bits
 pub signed : (w : Width) (z : ℤ) (x : List ℕ) → FitsSigned w z → x ≡ to_le_bytes w (cast_unsigned w (cast_signed w (cast_unsigned w z))) → x ≡ to_le_bytes w (cast_unsigned w z)

@@ -31,7 +31,7 @@ pub record IsReadFrom (b : List ℕ) (p : Point) : Type 0 where
   pub at_green : little_endian 2 p.green ≡ take 2 (drop 37 b)
   pub at_blue : little_endian 2 p.blue ≡ take 2 (drop 39 b)
   pub at_origin : little_endian 4 p.origin ≡ take 4 (drop 41 b)
-  pub at_number : little_endian 4 p.number ≡ take 4 (drop 45 b)
+  pub at_number : little_endian 8 p.number ≡ take 8 (drop 45 b)
 
 pub packed_of_read : (b : List ℕ) (p : Point) → length b ≡ packed_width → IsReadFrom b p → packed p ≡ b
 unfolding packed field_bytes
@@ -56,7 +56,7 @@ packed_of_read b p len r =
     (cut b 37 2 r.at_green
     (cut b 39 2 r.at_blue
     (cut b 41 4 r.at_origin
-    (cut b 45 4 r.at_number
+    (cut b 45 8 r.at_number
     (sym (drop_all packed_width b (omega (arith, len)))))))))))))))))))))))))
 
 -- the number of one byte at a place

@@ -1,5 +1,5 @@
 -- The dimensions of a point (LAS 1.4 R15, and where the point came from), in the order of its packed form.
-use Rattle.std.specs.Prelude.{ℕ, ℤ, ◌+◌, ◌*◌, ◌^◌, ◌<◌, ◌≤◌, List, [], ◌∷◌, codes, Option, Some, None, IfSome, FitsSigned, take, drop, if◌then◌else◌, ◌==◌}
+use Rattle.std.specs.Prelude.{ℕ, ℤ, ◌+◌, ◌-◌, ◌*◌, ◌^◌, ◌<◌, ◌≤◌, List, [], ◌∷◌, codes, Option, Some, None, IfSome, FitsSigned, take, drop, if◌then◌else◌, ◌==◌}
 use Rattle.std.specs.Int.{Width, w8, w16, w32, w64}
 use Rattle.std.specs.List.{sum_by}
 
@@ -87,7 +87,11 @@ OriginId = whole (codes "OriginId") Unsigned 4
 
 -- the number of the record in its scan
 abbrev pub PointId : Dimension
-PointId = whole (codes "PointId") Unsigned 4
+PointId = whole (codes "PointId") Unsigned 8
+
+-- the same number as the old layout has it
+abbrev pub OldPointId : Dimension
+OldPointId = whole (codes "PointId") Unsigned 4
 
 -- the rows in order
 abbrev pub dimensions : List Dimension
@@ -101,6 +105,10 @@ dimensions =
 -- how many bytes all of them take
 abbrev pub packed_width : ℕ
 packed_width = sum_by (λ dimension. dimension.width) dimensions
+
+-- and in the old layout
+abbrev pub old_width : ℕ
+old_width = packed_width - PointId.width + OldPointId.width
 
 -- a number fits the bytes of a dimension, and a signed one
 abbrev pub Fits : Dimension → ℕ → Type 0

@@ -1,11 +1,14 @@
-use Rattle.std.specs.Prelude.{ℕ, ◌≡◌, ◌*◌, ◌⊎◌, List, length, map, Result}
+use Rattle.std.specs.Prelude.{ℕ, ◌≡◌, ◌*◌, ◌++◌, ◌⊎◌, List, length, map, Result}
 use Rattle.ept_point.specs.declared.point.Point.{Point}
 use Rattle.ept_point.specs.declared.id.PointId.{PointId}
+use Rattle.ept_point.specs.declared.layout.Layout.{Layout}
+use Rattle.ept_point.specs.declared.layout.Layout.TheVariants.{Old}
 use Rattle.ept_point.specs.declared.tile.TileError.{TileError}
 use Rattle.ept_point.specs.Dimensions.{dimensions, packed_width, pieces}
-use Rattle.ept_point.specs.Packed.{fields, bytes_of, read, packed, tile, HasFieldAboveBound}
+use Rattle.ept_point.specs.Packed.{fields, bytes_of, read, packed, old_packed, HasFieldAboveBound}
+use Rattle.ept_point.specs.Layout.{width_of, packed_in, tile_in, FitsIn, no_high_bytes}
 use Rattle.ept_point.specs.Order.{IsBefore}
-use Rattle.ept_point.specs.Tile.{ReadsAs}
+use Rattle.ept_point.specs.Tile.{ReadsIn}
 
 -- the pieces of a packed point, cut by the widths of the dimensions alone, are the bytes of its fields
 abbrev pub EachPieceIsItsField : Type 0
@@ -27,13 +30,24 @@ EachIsWithinBounds = (p : Point) → ¬ HasFieldAboveBound (packed p)
 abbrev pub IsPackedFormOfOne : Type 0
 IsPackedFormOfOne = (p q : Point) → packed p ≡ packed q → p ≡ q
 
--- a tile has the packed length for each point
+-- a tile has the width of its layout for each point
 abbrev pub EachTileHasLength : Type 0
-EachTileHasLength = (points : List Point) → length (tile points) ≡ packed_width * length points
+EachTileHasLength =
+    (layout : Layout) (points : List Point) → length (tile_in layout points) ≡ width_of layout * length points
 
 -- bytes read in one way only
 abbrev pub ReadInOneWay : Type 0
-ReadInOneWay = (bytes : List ℕ) (r s : Result (List Point) TileError) → ReadsAs bytes r → ReadsAs bytes s → r ≡ s
+ReadInOneWay =
+    (layout : Layout) (bytes : List ℕ) (r s : Result (List Point) TileError) → ReadsIn layout bytes r → ReadsIn layout bytes s → r ≡ s
+
+-- the old form of a point that it has is the packed one without its last four bytes, which are 0
+abbrev pub OldFormLacksZeros : Type 0
+OldFormLacksZeros = (p : Point) → FitsIn Old p → packed p ≡ old_packed p ++ no_high_bytes
+
+-- two points that a layout has, with the same bytes there, are the same
+abbrev pub EachLayoutIsOfOne : Type 0
+EachLayoutIsOfOne =
+    (layout : Layout) (p q : Point) → FitsIn layout p → FitsIn layout q → packed_in layout p ≡ packed_in layout q → p ≡ q
 
 -- no id is before itself
 abbrev pub NoneIsBeforeItself : Type 0

@@ -1,8 +1,8 @@
-use Rattle.std.specs.Prelude.{ℕ, ℤ, ◌+◌, ◌*◌, ◌<◌, List, [], ◌∷◌, map, IsSomeAnd}
+use Rattle.std.specs.Prelude.{ℕ, ℤ, ◌+◌, ◌*◌, ◌<◌, List, [], ◌∷◌, ◌++◌, map, IsSomeAnd}
 use Rattle.std.specs.Int.{Width, cast_unsigned, cast_signed, bytes_low_first}
 use Rattle.std.specs.List.{concat, flat_map, Any}
 use Rattle.ept_point.specs.declared.point.Point.{Point}
-use Rattle.ept_point.specs.Dimensions.{Kind, Signed, Unsigned, Float, Dimension, dimensions, pieces, word, X, Y, Z, Intensity, ReturnNumber, NumberOfReturns, ScanDirectionFlag, EdgeOfFlightLine, Classification, ClassFlags, ScanChannel, ScanAngleRank, ScanAngle, UserData, PointSourceId, GpsTime, Red, Green, Blue, OriginId, PointId}
+use Rattle.ept_point.specs.Dimensions.{Kind, Signed, Unsigned, Float, Dimension, dimensions, pieces, word, X, Y, Z, Intensity, ReturnNumber, NumberOfReturns, ScanDirectionFlag, EdgeOfFlightLine, Classification, ClassFlags, ScanChannel, ScanAngleRank, ScanAngle, UserData, PointSourceId, GpsTime, Red, Green, Blue, OriginId, PointId, OldPointId}
 
 -- a number in so many bytes, the lowest byte first
 unfoldable pub little_endian : ℕ → ℕ → List ℕ
@@ -20,9 +20,9 @@ bytes_of dimension (Whole z) = little_endian dimension.width (cast_unsigned (wor
 bytes_of dimension (Natural n) = little_endian dimension.width n
 bytes_of dimension (Bytes bytes) = bytes
 
--- what a point has of each dimension
-abbrev pub fields : Point → List (Dimension × Value)
-fields p =
+-- what a point has of each dimension but the last
+abbrev pub front_fields : Point → List (Dimension × Value)
+front_fields p =
     (X, Whole p.x)
     ∷ (Y, Whole p.y)
     ∷ (Z, Whole p.z)
@@ -43,8 +43,11 @@ fields p =
     ∷ (Green, Natural p.green)
     ∷ (Blue, Natural p.blue)
     ∷ (OriginId, Natural p.origin)
-    ∷ (PointId, Natural p.number)
     ∷ []
+
+-- what a point has of each dimension
+abbrev pub fields : Point → List (Dimension × Value)
+fields p = front_fields p ++ (PointId, Natural p.number) ∷ []
 
 -- the bytes of each
 unfoldable pub field_bytes : Point → List (List ℕ)
@@ -57,6 +60,14 @@ packed p = concat (field_bytes p)
 -- the bytes of a tile: its packed points, one after another
 abbrev pub tile : List Point → List ℕ
 tile points = flat_map packed points
+
+-- the point as the old layout has it: the number of its record in four bytes
+unfoldable pub old_packed : Point → List ℕ
+old_packed p = concat (map (λ field. bytes_of field.0 field.1) (front_fields p ++ (OldPointId, Natural p.number) ∷ []))
+
+-- the bytes of a tile of the old layout
+abbrev pub old_tile : List Point → List ℕ
+old_tile points = flat_map old_packed points
 
 -- the number in some bytes, the lowest byte first
 abbrev pub number_in : List ℕ → ℕ

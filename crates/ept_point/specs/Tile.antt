@@ -1,31 +1,37 @@
 use Rattle.std.specs.Prelude.{ℕ, ◌≡◌, ◌≢◌, ◌%◌, List, [], ◌∷◌, ◌++◌, length, Option, IfSome, Result, Ok, Err}
 use Rattle.ept_point.specs.declared.point.Point.{Point}
 use Rattle.ept_point.specs.declared.id.PointId.{PointId}
-use Rattle.ept_point.specs.Dimensions.{packed_width}
+use Rattle.ept_point.specs.declared.layout.Layout.{Layout}
 use Rattle.ept_point.specs.declared.tile.TileError.{TileError}
 use Rattle.ept_point.specs.declared.tile.TileError.TheVariants.{Length, Field, Order, Memory}
-use Rattle.ept_point.specs.Packed.{packed, tile, HasFieldAboveBound}
+use Rattle.ept_point.specs.Layout.{width_of, HasFieldAboveIn, IsPackedIn, IsTileIn}
 use Rattle.ept_point.specs.Order.{id, IsBefore, IsAscending}
 
 -- In bytes of whole points, the points before the place `at` ascend, and this holds of them and of the bytes there.
-pub record HasFaultAt (bytes : List ℕ) (at : ℕ) (IsFaulty : List Point → List ℕ → Type 0) : Type 0 where
+pub record HasFaultAt (layout : Layout) (bytes : List ℕ) (at : ℕ) (IsFaulty : List Point → List ℕ → Type 0) : Type 0 where
   pub before : List Point
+  pub front : List ℕ
   pub piece : List ℕ
   pub rest : List ℕ
-  pub is_whole : length bytes % packed_width ≡ 0
-  pub parts : bytes ≡ tile before ++ (piece ++ rest)
+  pub is_whole : length bytes % width_of layout ≡ 0
+  pub parts : bytes ≡ front ++ (piece ++ rest)
+  pub is_front : IsTileIn layout front before
   pub place : length before ≡ at
   pub ascends : IsAscending before
-  pub piece_length : length piece ≡ packed_width
+  pub piece_length : length piece ≡ width_of layout
   pub is_faulty : IsFaulty before piece
 
+-- the piece behind these points is that of a point whose id does not come after theirs
+abbrev pub IsOutOfOrder : Layout → List Point → List ℕ → Type 0
+IsOutOfOrder layout before piece = (p : Point) × IsPackedIn layout piece p × ¬ IsAscending (before ++ p ∷ [])
+
 -- Bytes read as the points of a tile, or as the first fault. They never read as want of memory.
-abbrev pub ReadsAs : List ℕ → Result (List Point) TileError → Type 0
-ReadsAs bytes (Ok points) = (bytes ≡ tile points) × IsAscending points
-ReadsAs bytes (Err Length) = length bytes % packed_width ≢ 0
-ReadsAs bytes (Err (Field at)) = HasFaultAt bytes at (λ before piece. HasFieldAboveBound piece)
-ReadsAs bytes (Err (Order at)) = HasFaultAt bytes at (λ before piece. (p : Point) × (piece ≡ packed p) × ¬ IsAscending (before ++ p ∷ []))
-ReadsAs bytes (Err Memory) = ⊥
+abbrev pub ReadsIn : Layout → List ℕ → Result (List Point) TileError → Type 0
+ReadsIn layout bytes (Ok points) = IsTileIn layout bytes points × IsAscending points
+ReadsIn layout bytes (Err Length) = length bytes % width_of layout ≢ 0
+ReadsIn layout bytes (Err (Field at)) = HasFaultAt layout bytes at (λ before piece. HasFieldAboveIn layout piece)
+ReadsIn layout bytes (Err (Order at)) = HasFaultAt layout bytes at (IsOutOfOrder layout)
+ReadsIn layout bytes (Err Memory) = ⊥
 
 -- What a call answered, that found this reading and appends the points, unless memory ran out.
 abbrev pub AppendsReading : Result (Unit {0}) TileError → List Point → List Point → Result (List Point) TileError → Type 0
@@ -34,8 +40,8 @@ AppendsReading (Err Memory) old new reading = new ≡ old
 AppendsReading (Err fault) old new reading = (reading ≡ Err fault) × (new ≡ old)
 
 -- what is wrong with the bytes of a point at this place, behind the point whose id is last
-abbrev pub IsPointFault : List ℕ → Option PointId → ℕ → TileError → Type 0
-IsPointFault bytes last at Length = ⊥
-IsPointFault bytes last at (Field k) = (k ≡ at) × HasFieldAboveBound bytes
-IsPointFault bytes last at (Order k) = (k ≡ at) × ((p : Point) × (packed p ≡ bytes) × ¬ IfSome last (λ a. IsBefore a (id p)))
-IsPointFault bytes last at Memory = ⊥
+abbrev pub IsPointFault : Layout → List ℕ → Option PointId → ℕ → TileError → Type 0
+IsPointFault layout bytes last at Length = ⊥
+IsPointFault layout bytes last at (Field k) = (k ≡ at) × HasFieldAboveIn layout bytes
+IsPointFault layout bytes last at (Order k) = (k ≡ at) × ((p : Point) × IsPackedIn layout bytes p × ¬ IfSome last (λ a. IsBefore a (id p)))
+IsPointFault layout bytes last at Memory = ⊥

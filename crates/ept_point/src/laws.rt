@@ -2,10 +2,10 @@
 //! nothing.
 
 ghost use Rattle.std.specs.Prelude.{◌≡◌};
-ghost use Rattle.ept_point.specs.Dimensions.{packed_width};
-ghost use Rattle.ept_point.specs.Laws.{EachPieceIsItsField, EachPieceReadsAsItsField, EachHasPackedLength, EachIsWithinBounds, IsPackedFormOfOne, EachTileHasLength, ReadInOneWay, NoneIsBeforeItself, BeforeIsTransitive, EitherIsBefore};
+ghost use Rattle.ept_point.specs.Dimensions.{packed_width, old_width};
+ghost use Rattle.ept_point.specs.Laws.{EachPieceIsItsField, EachPieceReadsAsItsField, EachHasPackedLength, EachIsWithinBounds, IsPackedFormOfOne, EachTileHasLength, ReadInOneWay, OldFormLacksZeros, EachLayoutIsOfOne, NoneIsBeforeItself, BeforeIsTransitive, EitherIsBefore};
 
-use crate::packed::PACKED_LENGTH;
+use crate::packed::{OLD_LENGTH, PACKED_LENGTH};
 
 /// Who has the table of dimensions alone can read a packed point: each piece stands behind those of
 /// the dimensions before it, is as wide as its dimension, and reads as what the point has of it.
@@ -30,7 +30,7 @@ pub fn packed_once_law()
     ensures once { IsPackedFormOfOne }
 {}
 
-/// The length of a tile is the packed length for each of its points.
+/// The length of a tile is the width of its layout for each of its points.
 pub fn tile_length_law()
     ensures length { EachTileHasLength }
 {}
@@ -38,6 +38,13 @@ pub fn tile_length_law()
 /// Bytes read as one tile, or as one first fault.
 pub fn tile_once_law()
     ensures once { ReadInOneWay }
+{}
+
+/// The old form of a point is the packed form without the high half of the number, and of one point.
+pub fn old_layout_law()
+    ensures width { old_width ≡ OLD_LENGTH }
+    ensures zeros { OldFormLacksZeros }
+    ensures once { EachLayoutIsOfOne }
 {}
 
 /// The order of ids is strict, and of two different ids one comes first.

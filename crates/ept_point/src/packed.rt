@@ -1,14 +1,22 @@
 //! The packed point: its fields as little-endian bytes, one after another.
 
-ghost use Rattle.std.specs.Prelude.{◌≡◌, ◌+◌, ◌≤◌, ◌<◌, ◌^◌, ℕ, length, slice_index, IsNone, IfSome, Some, ◌↔◌, take, drop};
+ghost use Rattle.std.specs.Prelude.{◌≡◌, ◌++◌, ◌+◌, ◌≤◌, ◌<◌, ◌^◌, ℕ, length, slice_index, IsNone, IfSome, Some, ◌↔◌, take, drop};
 ghost use Rattle.std.specs.Int.{cast_unsigned, w8, w16, w32};
-ghost use Rattle.ept_point.specs.Packed.{little_endian, number_in, packed, HasFieldAboveBound};
+ghost use Rattle.ept_point.specs.Packed.{little_endian, number_in, packed, old_packed, HasFieldAboveBound};
+ghost use Rattle.ept_point.specs.Layout.{FitsIn, HasFieldAboveIn};
+ghost use Rattle.ept_point.specs.declared.layout.Layout.TheVariants.{Old};
 ghost use Rattle.ept_point.specs.declared.point.Point.{Point};
 
 use crate::point::{MAX_CHANNEL, MAX_CLASS_FLAGS, MAX_FLAG, MAX_RETURNS, NUMBER_WIDTH, Point};
 
+// The bytes of a packed point before the number of its record.
+const FRONT_LENGTH: usize = 45;
+
 /// The length of a packed point, in bytes.
-pub const PACKED_LENGTH: usize = 45 + NUMBER_WIDTH;
+pub const PACKED_LENGTH: usize = FRONT_LENGTH + NUMBER_WIDTH;
+
+/// The length of a point in the old layout, in bytes: the number of its record has four.
+pub const OLD_LENGTH: usize = FRONT_LENGTH + 4;
 
 // The bytes at a place.
 fn chunk_at<const N: usize>(bytes: &[u8], at: usize) -> [u8; N]
@@ -67,6 +75,13 @@ fn u32_at(bytes: &[u8], at: usize) -> u32
     u32::from_le_bytes(chunk_at(bytes, at))
 }
 
+fn u64_at(bytes: &[u8], at: usize) -> u64
+    requires { at + 8 ≤ length bytes.now }
+    ensures { little_endian 8 result ≡ take 8 (drop at bytes.now) }
+{
+    u64::from_le_bytes(chunk_at(bytes, at))
+}
+
 fn i32_at(bytes: &[u8], at: usize) -> i32
     requires { at + 4 ≤ length bytes.now }
     ensures { little_endian 4 (cast_unsigned w32 result) ≡ take 4 (drop at bytes.now) }
@@ -102,8 +117,29 @@ pub fn unpack(bytes: &[u8; PACKED_LENGTH]) -> Option<Point>
         green: u16_at(bytes, 37),
         blue: u16_at(bytes, 39),
         origin: u32_at(bytes, 41),
-        number: u32_at(bytes, 45),
+        number: u64_at(bytes, 45),
     })
+}
+
+// Puts bytes in front of what is behind them.
+fn put_front(into: &mut [u8], bytes: &[u8])
+    requires { length bytes.now ≤ length into.old }
+    ensures { into.new ≡ bytes.now ++ drop (length bytes.now) into.old }
+{
+    into[..bytes.len()].copy_from_slice(bytes);
+}
+
+/// The point that these bytes are the old packed form of. `None` exactly where one of the six bounded
+/// fields has more than its greatest value. It takes no memory.
+pub fn unpack_old(bytes: &[u8; OLD_LENGTH]) -> Option<Point>
+    ensures point { IfSome result (λ p. old_packed p ≡ bytes.now) }
+    ensures fits { IfSome result (FitsIn Old) }
+    ensures none { IsNone result ↔ HasFieldAboveIn Old bytes.now }
+    ensures inverse { (p : Point) → FitsIn Old p → old_packed p ≡ bytes.now → result ≡ Some p }
+{
+    let mut packed = [0; PACKED_LENGTH];
+    put_front(&mut packed, bytes);
+    unpack(&packed)
 }
 
 /// The packed point. It takes no memory.
@@ -172,5 +208,9 @@ pub fn pack(point: &Point) -> [u8; PACKED_LENGTH]
         number[1],
         number[2],
         number[3],
+        number[4],
+        number[5],
+        number[6],
+        number[7],
     ]
 }

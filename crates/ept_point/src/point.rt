@@ -6,10 +6,10 @@ ghost use Rattle.ept_point.specs.Widths.{FitWidths};
 use crate::id::PointId;
 
 /// The number of a record in its scan, from 0.
-pub type PointNumber = u32;
+pub type PointNumber = u64;
 
 /// How many bytes the number of a record takes.
-pub const NUMBER_WIDTH: usize = 4;
+pub const NUMBER_WIDTH: usize = 8;
 
 /// How many bytes the GPS time takes.
 pub const GPS_WIDTH: usize = 8;

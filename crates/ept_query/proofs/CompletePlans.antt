@@ -31,6 +31,7 @@ use Rattle.ept_query.proofs.Readings.{some-is}
 use Rattle.ept_query.proofs.Laid.{IsLaid, nodes_of, node-at, at-node, each-laid, planned-laid, laid-planned, tile-laid}
 use Rattle.ept_query.proofs.Asked.{tile-once, parts-whole}
 use Rattle.ept_query.proofs.Whole.{plan-tiles}
+use Rattle.ept_query.proofs.FewPoints.{few-of-inputs}
 use Rattle.ept_query.proofs.Completing.{output-laid}
 use Rattle.ept_query.proofs.Meeting.{is_so, holds, passes, asked-decided}
 
@@ -72,7 +73,7 @@ module _ (kept : Kept) (points : List Point) where
 
 module _ (read-back : FilesAreReadBack) (can-sample : PointsCanBeSampled) (kept : Kept) (points : List Point) (files : Files) (whole : IsComplete kept points files) where
   laid : IsLaid kept points files
-  laid = output-laid read-back can-sample kept points files whole.output whole.is_output whole.there whole.points_are.ascend whole.points_are.inside whole.points_are.origins
+  laid = output-laid read-back can-sample kept points files whole.output whole.is_output whole.there whole.points_are.ascend whole.points_are.inside (few-of-inputs kept points whole.points_are)
 
   module _ (area : Box3) (first last : ℕ) where
     search : Search

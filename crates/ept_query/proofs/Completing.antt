@@ -1,27 +1,22 @@
 -- A folder with the whole output of some points has all that a query reads.
-use Rattle.std.proofs.Common.{◌≡◌, ◌∙◌, ◌+◌, ◌*◌, ◌^◌, ◌<◌, ◌≤◌, ℕ, List, [], ◌∷◌, ◌++◌, length, map, filter, refl, sym, ap, subst, inl, inr, arith, append_assoc, Some, Less, true}
-use Rattle.std.specs.List.{All, AllByRecursion}
-use Rattle.std.specs.List.Sorted.{IsStrictlySortedBy}
-use Rattle.std.specs.Ordering.{nat_cmp}
-use Rattle.std.proofs.lemmas.Bool.Decides.{nat_tests}
-use Rattle.std.proofs.lemmas.List.{length-map}
-use Rattle.std.proofs.lemmas.Map.Views.{length-le_from_below}
+use Rattle.std.proofs.Common.{◌≡◌, ◌∙◌, ◌^◌, ◌<◌, ℕ, List, [], ◌∷◌, ◌++◌, length, map, filter, refl, sym, ap, subst, inl, inr, arith, append_assoc, Some, true}
+use Rattle.std.specs.List.{All}
 use Rattle.ept_base.specs.Files.{Files}
 use Rattle.ept_point.specs.declared.point.Point.{Point}
 use Rattle.ept_point.specs.Packed.{tile}
-use Rattle.ept_point.specs.Order.{id, IsBefore, IsAscending}
+use Rattle.ept_point.specs.Order.{IsAscending}
 use Rattle.ept_space.specs.VoxelKey.{VoxelKey, IsKey}
 use Rattle.ept_sample.specs.declared.tiles.Tile.{Tile}
 use Rattle.ept_sample.specs.Sampling.{sampling, is_node}
 use Rattle.ept_sample.specs.Nodes.{node_keys, tile_at, sampled}
 use Rattle.ept_sample.specs.Members.{IsMember}
 use Rattle.ept_sample.specs.SamplingLaws.{CanBeSampled}
-use Rattle.ept_sample.proofs.IdLaws.{HasDistinctIds-IsAscending, IsAscending-IsRising}
+use Rattle.ept_sample.proofs.IdLaws.{HasDistinctIds-IsAscending}
 use Rattle.ept_sample.proofs.Ascending.{IsRising}
 use Rattle.ept_sample.proofs.KeyOrder.{key_before, AllPairs-IsRising}
-use Rattle.ept_sample.proofs.Members.{IsMember-left, IsMember-right, IsMember-map, IsMember-kept, member-map, all-member, All-members}
+use Rattle.ept_sample.proofs.Members.{IsMember-left, IsMember-right, IsMember-map, IsMember-kept, all-member, All-members}
 use Rattle.ept_sample.proofs.NodeLaws.{IsMember-node_keys, node_keys-IsMember, IsRising-node_keys}
-use Rattle.ept_sample.proofs.SamplingLaws.{node-IsKey, IsMember-sampling, given-IsMember, IsRising-sampling}
+use Rattle.ept_sample.proofs.SamplingLaws.{node-IsKey}
 use Rattle.ept_config.specs.declared.kept.Kept.{Kept}
 use Rattle.ept_config.specs.Extents.{IsWithin}
 use Rattle.ept_hier.specs.declared.file.HierFile.{HierFile}
@@ -33,57 +28,12 @@ use Rattle.ept_meta.specs.EptText.{ept_text}
 use Rattle.ept_meta.specs.ManifestText.{manifest_text}
 use Rattle.ept_meta.specs.Output.{File, IsOutput, rules_of, counted, tile_file, hierarchy_file, tile_name, hierarchy_name, metadata_name, manifest_name, build_file_name}
 use Rattle.ept_meta.specs.OutputLaws.{PointsCanBeSampled}
+use Rattle.ept_query.proofs.FewPoints.{sampling-le}
 use Rattle.ept_query.proofs.Laid.{IsLaid, nodes_of, size-at, node-at, at-node}
-
--- ---- how many points there may be
-
--- the id of a point as one number
-code : Point → ℕ
-code p = p.origin * 2 ^ 32 + p.number
-
-less-cmp : (m n : ℕ) → m < n → nat_cmp m n ≡ Less
-less-cmp m n less = grind (arith, nat_tests)
-
-cmp-less : (m n : ℕ) → nat_cmp m n ≡ Less → m < n
-cmp-less m n is = grind (arith, nat_tests)
-
-code-before : (p q : Point) → IsBefore (id p) (id q) → code p < code q
-unfolding code
-code-before p q (inl less) = (let fits : p.number < 2 ^ 32 = p.widths.number_fits in omega (arith, less, fits))
-code-before p q (inr same) = (let one = same.0 in let two = same.1 in omega (arith, one, two))
-
-behind-on : (m n : ℕ) (codes : List ℕ) → m < n → AllByRecursion (λ k. nat_cmp n k ≡ Less) codes → AllByRecursion (λ k. nat_cmp m k ≡ Less) codes
-behind-on m n [] less each = tt
-behind-on m n (k ∷ codes) less each =
-    (let next = cmp-less n k each.0 in less-cmp m k (omega (arith, less, next)), behind-on m n codes less each.1)
-
-codes-behind : (p : Point) (points : List Point) → IsAscending (p ∷ points) → AllByRecursion (λ k. nat_cmp (code p) k ≡ Less) (map code points)
-codes-behind p [] ascend = tt
-codes-behind p (q ∷ points) ascend =
-    let less = code-before p q ascend.0 in
-    (less-cmp (code p) (code q) less, behind-on (code p) (code q) (map code points) less (codes-behind q points ascend.1))
-
-codes-rise : (points : List Point) → IsAscending points → IsStrictlySortedBy nat_cmp (map code points)
-unfolding IsStrictlySortedBy
-codes-rise [] ascend = tt
-codes-rise (p ∷ points) ascend = (codes-behind p points ascend, codes-rise points ascend.1)
-
-pub few-points : (points : List Point) (inputs : ℕ) → inputs ≤ 65535 → IsAscending points → ((p : Point) → IsMember p points → p.origin < inputs) → length points < 2 ^ 63
-unfolding code
-few-points points inputs most ascend origins =
-    let low : All (λ (n : ℕ). n < 65535 * 2 ^ 32) (map code points) = All-members (λ (n : ℕ). n < 65535 * 2 ^ 32) (map code points) (λ n m. (
-    let found = member-map code n points m in
-    subst (λ (k : ℕ). k < 65535 * 2 ^ 32) found.2 (small found.0 (origins found.0 found.1)))) in
-    let few : length (map code points) ≤ 65535 * 2 ^ 32 = length-le_from_below (65535 * 2 ^ 32) (map code points) (codes-rise points ascend) low in
-    let size = length-map points code in
-    omega (arith, few, size)
-  where
-    small : (p : Point) → p.origin < inputs → code p < 65535 * 2 ^ 32
-    small p less = (let fits : p.number < 2 ^ 32 = p.widths.number_fits in omega (arith, less, fits, most))
 
 -- ---- what is there
 
-module _ (read-back : FilesAreReadBack) (can-sample : PointsCanBeSampled) (kept : Kept) (points : List Point) (files : Files) (output : List File) (is : IsOutput kept points output) (there : All (λ (f : File). files f.0 ≡ Some f.1) output) (ascend : IsAscending points) (inside : All (IsWithin kept.bounds) points) (origins : All (λ (p : Point). p.origin < length kept.inputs) points) where
+module _ (read-back : FilesAreReadBack) (can-sample : PointsCanBeSampled) (kept : Kept) (points : List Point) (files : Files) (output : List File) (is : IsOutput kept points output) (there : All (λ (f : File). files f.0 ≡ Some f.1) output) (ascend : IsAscending points) (inside : All (IsWithin kept.bounds) points) (few : length points < 2 ^ 63) where
   abbrev IsNode : VoxelKey → Type 0
   IsNode key = is_node (rules_of kept) points key ≡ true
 
@@ -143,7 +93,7 @@ module _ (read-back : FilesAreReadBack) (can-sample : PointsCanBeSampled) (kept 
 
   size-small : (key : VoxelKey) → size-at kept points key < 2 ^ 63
   unfolding size-at
-  size-small key = few-points (sampling (rules_of kept) points key) (length kept.inputs) kept.layout.inputs_most (IsAscending-IsRising (sampling (rules_of kept) points key) (IsRising-sampling (rules_of kept) points key can.distinct)) (λ p m. all-member (λ (q : Point). q.origin < length kept.inputs) p points origins (given-IsMember (rules_of kept) points key p (IsMember-sampling (rules_of kept) points key p m).0))
+  size-small key = (let size = sampling-le (rules_of kept) points key in omega (arith, size, few))
 
   sizes-small : All (λ (n : Node). n.1 < 2 ^ 63) (nodes_of kept points)
   sizes-small = All-members (λ (n : Node). n.1 < 2 ^ 63) (nodes_of kept points) (λ n m. (

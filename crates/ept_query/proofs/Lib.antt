@@ -14,6 +14,7 @@ mod Querying
 mod Laid
 mod Asked
 mod Calling
+mod FewPoints
 mod Completing
 mod Whole
 mod Meeting

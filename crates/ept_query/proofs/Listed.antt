@@ -1,8 +1,8 @@
 -- All nodes of a folder: they are of one list, the root is there, and those of a complete folder are the sampling's.
-use Rattle.std.proofs.Common.{◌≡◌, ◌≢◌, ◌∙◌, ◌+◌, ◌-◌, ◌*◌, ◌^◌, ◌<◌, ◌≤◌, ℕ, zero, suc, ℤ, pos, negsuc, ◌+ℤ◌, List, [], ◌∷◌, length, get_or, map, refl, sym, ap, subst, inl, inr, ◌⊎◌, ⊎_elim, arith, Option, Some, None, Result, Ok, Err, Bool, true, false}
-use Rattle.std.specs.Prelude.{IfOk, IfErr, IsSome, FitsSigned, if◌then◌else◌}
+use Rattle.std.proofs.Common.{◌≡◌, ◌≢◌, ◌∙◌, ◌-◌, ◌*◌, ◌^◌, ◌<◌, ◌≤◌, ℕ, zero, suc, ℤ, pos, negsuc, ◌+ℤ◌, List, [], ◌∷◌, length, get_or, map, refl, sym, ap, subst, inl, inr, arith, Option, Some, None, Result, Ok, Err, Bool, true, false}
+use Rattle.std.specs.Prelude.{IfOk, IfErr, FitsSigned, if◌then◌else◌}
 use Rattle.std.specs.Int.Signed.{lt_z}
-use Rattle.std.specs.List.{All, AllZip, Any, Contains}
+use Rattle.std.specs.List.{All, Any, Contains}
 use Rattle.std.specs.Int.{w32}
 use Rattle.std.proofs.lemmas.Bool.Decides.{nat_tests}
 use Rattle.std.proofs.lemmas.Int.{ints}
@@ -16,12 +16,11 @@ use Rattle.ept_base.specs.Files.{Files, Tells}
 use Rattle.ept_point.specs.declared.point.Point.{Point}
 use Rattle.ept_space.specs.declared.cube.Rules.{Rules}
 use Rattle.ept_space.specs.Place.{Place, coordinate}
-use Rattle.ept_space.specs.VoxelKey.{VoxelKey, IsKey, root, key_cmp, AreAscending}
-use Rattle.ept_space.specs.OctreeCube.{OctreeCube, IsCube, IsFrom, InBox, box_side}
+use Rattle.ept_space.specs.VoxelKey.{VoxelKey, IsKey, root}
+use Rattle.ept_space.specs.OctreeCube.{IsCube, IsFrom, InBox, box_side}
 use Rattle.ept_space.specs.ClosedBox.{IsBetween}
 use Rattle.ept_space.proofs.Extents.{IsCube-cube_of}
 use Rattle.ept_space.proofs.Intervals.{near-code}
-use Rattle.ept_sample.specs.declared.tiles.Tile.{Tile}
 use Rattle.ept_sample.specs.Members.{IsMember}
 use Rattle.ept_sample.specs.Sampling.{sampling, is_node}
 use Rattle.ept_sample.specs.Nodes.{node_keys, tile_at, sampled}
@@ -30,33 +29,29 @@ use Rattle.ept_sample.proofs.KeyOrder.{key_before, key_order, IsRising-AllPairs}
 use Rattle.ept_sample.proofs.Members.{IsMember-contains, contains-IsMember, IsMember-map, member-map, All-members}
 use Rattle.ept_sample.proofs.NodeLaws.{node_keys-is}
 use Rattle.ept_sample.proofs.SamplingLaws.{IsKey-root, node-IsKey, node-depth}
-use Rattle.ept_config.specs.declared.kept.Kept.{Kept}
 use Rattle.ept_hier.specs.Hierarchy.{Entry, Node, keys_of}
 use Rattle.ept_hier.specs.Reading.{IsReading, IsEntryOf, Member, number_in}
 use Rattle.ept_hier.specs.ReadingLaws.{FilesAreReadBack}
 use Rattle.ept_meta.specs.Output.{rules_of}
 use Rattle.ept_meta.specs.OutputLaws.{PointsCanBeSampled}
-use Rattle.ept_save.specs.Complete.{IsComplete}
 use Rattle.ept_query.specs.declared.search.Search.{Search}
 use Rattle.ept_query.specs.declared.listing.AllNodes.{AllNodes}
 use Rattle.ept_query.specs.declared.listing.TheConstants.{EVERYWHERE}
 use Rattle.ept_query.specs.declared.query_error.QueryError.{QueryError}
-use Rattle.ept_query.specs.Search.{search_of, rules_in, MeetsArea}
-use Rattle.ept_query.specs.Hierarchies.{HasHierarchy, IsEntryIn, IsOwn}
-use Rattle.ept_query.specs.Plan.{IsBuiltWith, IsNeeded, at_root, EachIsThere, IsPlanned, IsPlan}
+use Rattle.ept_query.specs.Search.{rules_in}
+use Rattle.ept_query.specs.Hierarchies.{IsEntryIn, IsOwn}
+use Rattle.ept_query.specs.Plan.{IsNeeded, at_root, IsPlanned, IsPlan}
 use Rattle.ept_query.specs.Damage.{HasTile}
-use Rattle.ept_query.specs.Parts.{Plan}
 use Rattle.ept_query.specs.Planning.{IsSearchFor, IsPlanFor}
 use Rattle.ept_query.specs.Refusals.{RefusesPlan, CallsOfPlan, RefusesAsCalled}
-use Rattle.ept_query.specs.Complete.{IsWholePlan}
 use Rattle.ept_query.specs.Listed.{search_all, HasNodes, HasTilesOf, EverywhereIsMet, NodesAreOfOne, RootIsThere, NodesAreInOctree, PlanIsUncalled, PlanIsCalledOnce, NodesAreGot, CompleteHasNodes}
-use Rattle.ept_query.proofs.Readings.{some-is, then-is, zip-at, zip-length, each-key}
+use Rattle.ept_query.proofs.Readings.{some-is, then-is, zip-at, each-key}
 use Rattle.ept_query.proofs.Told.{tells-from, told}
-use Rattle.ept_query.proofs.Walking.{planned-once}
 use Rattle.ept_query.proofs.Querying.{plan-query, gets-tiles}
 use Rattle.ept_query.proofs.Calling.{plan-uncalled, called-once, of-plan, refusal-as}
+use Rattle.ept_query.proofs.FewPoints.{few-of-inputs}
 use Rattle.ept_query.proofs.Completing.{output-laid}
-use Rattle.ept_query.proofs.CompletePlans.{node_before, keys-rise, plans-whole, has-tiles}
+use Rattle.ept_query.proofs.CompletePlans.{node_before, plans-whole, has-tiles}
 
 -- ---- wherever a node lies
 
@@ -198,7 +193,7 @@ tiled rules points files (n ∷ nodes) each = ((refl, each n (inl refl)), tiled 
 pub complete-nodes : FilesAreReadBack → PointsCanBeSampled → CompleteHasNodes
 unfolding sampled
 complete-nodes read-back can-sample kept points files whole rules nodes has =
-    let laid = output-laid read-back can-sample kept points files whole.output whole.is_output whole.there whole.points_are.ascend whole.points_are.inside whole.points_are.origins in
+    let laid = output-laid read-back can-sample kept points files whole.output whole.is_output whole.there whole.points_are.ascend whole.points_are.inside (few-of-inputs kept points whole.points_are) in
     let planned = plans-whole read-back can-sample kept points files whole EVERYWHERE 0 32 (record { area = EVERYWHERE; tiles = nodes }) has.plan in
     let rules' = rules_of kept in
     let same : keys_of nodes ≡ node_keys rules' points = node_keys-is rules' points (keys_of nodes) laid.can.cube laid.can.inside (IsRising-AllPairs (keys_of nodes) planned.ascend)

@@ -1,10 +1,10 @@
 -- Runs of packed points: the points in an area are copied from the bytes of a tile, as many at once as stand one after another.
-use Rattle.std.proofs.Common.{◌≡◌, ◌∙◌, ◌+◌, ◌-◌, ◌*◌, ◌<◌, ◌≤◌, ℕ, zero, suc, List, [], ◌∷◌, ◌++◌, length, get_or, take, drop, filter, Bool, true, false, cond, refl, sym, ap, arith, append-nil, append_assoc, length-take-le, length-drop}
-use Rattle.std.specs.List.{flat_map}
+use Rattle.std.proofs.Common.{◌≡◌, ◌∙◌, ◌+◌, ◌-◌, ◌*◌, ◌<◌, ◌≤◌, ℕ, zero, suc, List, [], ◌∷◌, ◌++◌, length, get_or, take, drop, Bool, true, false, cond, refl, sym, ap, arith, append-nil, append_assoc, length-take-le, length-drop}
 use Rattle.std.proofs.lemmas.List.{take_at, drop_at, take_all, take_more, take-append-drop, get_or_past, length_push}
 use Rattle.std.proofs.lemmas.List.Concat.{flat_map-append}
 use Rattle.std.proofs.lemmas.List.Elements.{filter_more}
 use Rattle.ept_point.specs.declared.point.Point.{Point}
+use Rattle.ept_point.specs.declared.layout.Layout.TheVariants.{New}
 use Rattle.ept_point.specs.Dimensions.{packed_width}
 use Rattle.ept_point.specs.Packed.{packed, tile}
 use Rattle.ept_point.specs.Laws.{EachTileHasLength}
@@ -27,14 +27,14 @@ module _ (tiles : EachTileHasLength) where
       let split : bytes ≡ tile before ++ (tile run ++ tile behind) =
       is ∙ ap (λ (w : List Point). tile w) (sym (take-append-drop start points)) ∙ flat_map-append packed before rest
       ∙ ap (λ (w : List ℕ). tile before ++ w) (ap (λ (w : List Point). tile w) (sym (take-append-drop (end - start) rest)) ∙ flat_map-append packed run behind) in
-      let from : length (tile before) ≡ start * packed_width = omega (arith, tiles before, length-take-le start points (omega arith)) in
-      let long : length (tile run) ≡ end * packed_width - start * packed_width = omega (arith, tiles run, length-take-le (end - start) rest (omega (arith, length-drop start points)), length-drop start points) in
+      let from : length (tile before) ≡ start * packed_width = omega (arith, tiles New before, length-take-le start points (omega arith)) in
+      let long : length (tile run) ≡ end * packed_width - start * packed_width = omega (arith, tiles New run, length-take-le (end - start) rest (omega (arith, length-drop start points)), length-drop start points) in
       ap (λ (w : List ℕ). take (end * packed_width - start * packed_width) (drop (start * packed_width) w)) split
       ∙ ap (take (end * packed_width - start * packed_width)) (drop_at (tile before) (tile run ++ tile behind) (start * packed_width) from)
       ∙ take_at (tile run) (tile behind) (end * packed_width - start * packed_width) long
 
   pub length-bytes : (bytes : List ℕ) (points : List Point) → bytes ≡ tile points → length bytes ≡ length points * packed_width
-  length-bytes bytes points is = omega (arith, ap length is, tiles points)
+  length-bytes bytes points is = omega (arith, ap length is, tiles New points)
 
 -- Of the points before `at` those in the area were copied, but for the run from `start` on, of which each is in the area.
 pub record HasCopied (area : Box3) (points : List Point) (old now : List ℕ) (start at count : ℕ) : Type 0 where

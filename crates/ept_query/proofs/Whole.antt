@@ -1,5 +1,5 @@
 -- What a query gives of a folder with the whole output of some points.
-use Rattle.std.proofs.Common.{◌≡◌, ◌∙◌, ◌+◌, ◌^◌, ◌<◌, ◌≤◌, ℕ, suc, List, [], ◌∷◌, ◌++◌, length, map, filter, refl, sym, ap, subst, inl, inr, ◌⊎◌, ⊎_elim, arith, Option, Some, None, Result, Ok, Err, Bool, true, false, cond, length-append}
+use Rattle.std.proofs.Common.{◌≡◌, ◌∙◌, ◌+◌, ◌^◌, ◌<◌, ◌≤◌, ℕ, List, [], ◌∷◌, ◌++◌, length, map, refl, sym, ap, subst, inl, inr, ◌⊎◌, ⊎_elim, arith, Option, Some, None, Result, Ok, Err, length-append}
 use Rattle.std.specs.Prelude.{IfOk, IfErr}
 use Rattle.std.specs.List.{AllZip, flat_map}
 use Rattle.std.specs.Io.KnownBytes.{Appends}
@@ -13,7 +13,6 @@ use Rattle.ept_space.specs.declared.box3.Box3.{Box3}
 use Rattle.ept_sample.specs.declared.tiles.Tile.{Tile}
 use Rattle.ept_sample.specs.Sampling.{sampling}
 use Rattle.ept_sample.specs.Nodes.{sampled}
-use Rattle.ept_sample.proofs.Members.{all-member}
 use Rattle.ept_sample.proofs.NodeLaws.{IsPermutation-sampled}
 use Rattle.ept_config.specs.declared.kept.Kept.{Kept}
 use Rattle.ept_hier.specs.Hierarchy.{Node}
@@ -42,7 +41,8 @@ use Rattle.ept_query.proofs.Calling.{refusal-called}
 use Rattle.ept_query.proofs.Laid.{IsLaid, size-at, each-laid, planned-laid, laid-planned, tile-laid}
 use Rattle.ept_query.proofs.Asked.{parts-whole, parts-front}
 use Rattle.ept_query.proofs.Written.{kept-append}
-use Rattle.ept_query.proofs.Completing.{few-points, output-laid}
+use Rattle.ept_query.proofs.FewPoints.{few-of-inputs, length-filter_le}
+use Rattle.ept_query.proofs.Completing.{output-laid}
 
 -- ---- fronts of bytes
 
@@ -55,14 +55,6 @@ prefix-more old new first second some = (
   (let size = length-append first second in let short = some.1 in omega (arith, size, short)),
   subst (λ (w : List ℕ). Appends old new w) (sym (take-append-le some.0 first second some.1)) some.2,
 )
-
-length-filter_le : {X : Type 0} (test : X → Bool) (xs : List X) → length (filter test xs) ≤ length xs
-length-filter_le test [] = omega arith
-length-filter_le test (x ∷ xs) = by_test (test x) (length-filter_le test xs)
-  where
-    by_test : (b : Bool) → length (filter test xs) ≤ length xs → length (cond b (x ∷ filter test xs) (filter test xs)) ≤ suc (length xs)
-    by_test true rest = omega (arith, rest)
-    by_test false rest = omega (arith, rest)
 
 count-le : (sift : Option Sift) (ps : List Point) → kept_count sift ps ≤ length ps
 count-le None ps = omega arith
@@ -79,7 +71,7 @@ length-rows (t ∷ tiles) =
 
 module _ (read-back : FilesAreReadBack) (can-sample : PointsCanBeSampled) (kept : Kept) (points : List Point) (area : Box3) (first last : ℕ) (all : Files) (whole : IsComplete kept points all) where
   laid : IsLaid kept points all
-  laid = output-laid read-back can-sample kept points all whole.output whole.is_output whole.there whole.points_are.ascend whole.points_are.inside whole.points_are.origins
+  laid = output-laid read-back can-sample kept points all whole.output whole.is_output whole.there whole.points_are.ascend whole.points_are.inside (few-of-inputs kept points whole.points_are)
 
   uncalled : (error : QueryError) → CallsOfQuery area first last error all → ⊥
   uncalled NotComplete called = called whole.done
@@ -128,7 +120,7 @@ module _ (read-back : FilesAreReadBack) (can-sample : PointsCanBeSampled) (kept 
       let some = length-filter_le (is_asked area first last) (rows_of (sampled (rules_of kept) points)) in
       let rows = length-rows (sampled (rules_of kept) points) in
       let same = length_permutation points (flat_map (λ (t : Tile). t.points) (sampled (rules_of kept) points)) (IsPermutation-sampled (rules_of kept) points laid.can.cube laid.can.inside laid.can.distinct) in
-      let most = few-points points (length kept.inputs) kept.layout.inputs_most whole.points_are.ascend (λ p m. all-member (λ (q : Point). q.origin < length kept.inputs) p points whole.points_are.origins m) in
+      let most = few-of-inputs kept points whole.points_are in
       omega (arith, some, rows, same, most)
 
   -- what is kept of the points that are asked for

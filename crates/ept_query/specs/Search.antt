@@ -15,6 +15,8 @@ abbrev pub search_of : Kept → Box3 → ℕ → ℕ → Search
 search_of kept area first last = record {
   cube = cube_of kept.bounds kept.s kept.max_depth;
   threshold = kept.threshold;
+  first_classes = kept.first;
+  withheld_last = kept.withheld_last;
   step = kept.step;
   area = area;
   first = first;
@@ -23,7 +25,12 @@ search_of kept area first last = record {
 
 -- the rules of that octree
 abbrev pub rules_in : Search → Rules
-rules_in search = record { cube = search.cube; threshold = search.threshold }
+rules_in search = record {
+  cube = search.cube;
+  threshold = search.threshold;
+  first = search.first_classes;
+  withheld_last = search.withheld_last;
+}
 
 -- the box of a key has a place in the area
 abbrev pub MeetsArea : Search → VoxelKey → Type 0

@@ -3,15 +3,18 @@
 ghost use Rattle.std.specs.Prelude.{◌≡◌, ◌≤◌, ◌↔◌, IsTrue};
 ghost use Rattle.ept_query.specs.Search.{search_of, rules_in, MeetsArea, HasDepth};
 
+use ept_class::ClassSet;
 use ept_config::Kept;
 use ept_space::{Box3, Cube, Key, Rules, meets, node_box};
 
 /// What a query looks for: the points of an area, in the nodes from one depth to another of an octree, of
-/// whose depths `step` stand in one hierarchy file. The cube and the threshold are the rules of the octree.
+/// whose depths `step` stand in one hierarchy file. The first four fields are the rules of the octree.
 #[derive(Clone, Copy)]
 pub(crate) struct Search {
     pub(crate) cube: Cube,
     pub(crate) threshold: u64,
+    pub(crate) first_classes: ClassSet,
+    pub(crate) withheld_last: bool,
     pub(crate) step: u8,
     pub(crate) area: Box3,
     pub(crate) first: u8,
@@ -26,6 +29,8 @@ impl Search {
         Search {
             cube: Cube::over(&kept.bounds, kept.s, kept.max_depth),
             threshold: kept.threshold,
+            first_classes: kept.first,
+            withheld_last: kept.withheld_last,
             step: kept.step,
             area: *area,
             first: depths.0,
@@ -40,6 +45,8 @@ impl Search {
         Rules {
             cube: self.cube,
             threshold: self.threshold,
+            first: self.first_classes,
+            withheld_last: self.withheld_last,
         }
     }
 

@@ -245,7 +245,7 @@ pub(crate) enum Role {
 pub(crate) fn role_of(folder: &str, path: &str) -> Role {
     match name_in(folder, path) {
         None => Role::Input,
-        Some("ept-work/done") => Role::Done,
+        Some("ept-work/done-2") => Role::Done,
         Some("ept-work/body-a" | "ept-work/body-b") => Role::Body,
         Some(name) if name.starts_with("ept-work/") => Role::Work,
         Some(_) => Role::Output,

@@ -102,6 +102,8 @@ name_of field.MinNodeSize = codes "minNodeSize"
 name_of field.MaxDepth = codes "maxDepth"
 name_of field.HierarchyStep = codes "hierarchyStep"
 name_of field.Srs = codes "srs"
+name_of field.FirstClasses = codes "firstClasses"
+name_of field.WithheldLast = codes "withheldLast"
 name_of field.Input = codes "input"
 
 -- a letter in the name of a checkpoint

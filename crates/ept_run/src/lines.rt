@@ -251,6 +251,8 @@ fn name_of(field: Field) -> &'static [u8]
         Field::MaxDepth => b"maxDepth",
         Field::HierarchyStep => b"hierarchyStep",
         Field::Srs => b"srs",
+        Field::FirstClasses => b"firstClasses",
+        Field::WithheldLast => b"withheldLast",
         Field::Input => b"input",
     }
 }

@@ -119,6 +119,8 @@ fn field_of(word: &str) -> Result<Field, Miss> {
         "bounds" => Ok(Field::Bounds),
         "span" => Ok(Field::Span),
         "srs" => Ok(Field::Srs),
+        "firstClasses" => Ok(Field::FirstClasses),
+        "withheldLast" => Ok(Field::WithheldLast),
         "input" => Ok(Field::Input),
         _ => Err(Miss::Form),
     }

@@ -1,22 +1,23 @@
 -- The order of ranks, and beating.
-use Rattle.std.proofs.Common.{◌≡◌, ◌∙◌, ℕ, Bool, true, false, ◌&&◌, ◌||◌, ◌==◌, nat_lt, ◌⊎◌, inl, inr, sym, arith, eq-eqb, eqb, List}
+use Rattle.std.proofs.Common.{◌≡◌, ◌∙◌, refl, ℕ, ◌<◌, Bool, true, false, ◌&&◌, ◌||◌, ◌==◌, nat_lt, ◌⊎◌, inl, inr, sym, arith, eq-eqb, eqb, List}
 use Rattle.std.proofs.lemmas.Bool.{false≢true}
 use Rattle.std.proofs.lemmas.Bool.Decides.{nat_tests, same_from_decides, Decides-like, Decides-eqb}
 use Rattle.std.proofs.lemmas.Slice.Eq.{slice_eq-Decides}
 use lib.Pointwise.{pointwise}
 use Rattle.ept_point.specs.declared.point.Point.{Point}
 use Rattle.ept_space.specs.declared.cube.Rules.{Rules}
-use Rattle.ept_space.specs.OctreeCube.{OctreeCube, same_cell, cell_at}
+use Rattle.ept_space.specs.OctreeCube.{OctreeCube, same_cell, cell_at, distance_at}
+use Rattle.ept_space.specs.Group.{group_of, HaveNoGroups}
 use Rattle.ept_space.specs.Place.{Place}
 use Rattle.ept_space.proofs.Cells.{same_cell-sym, same_cell-trans, cell_at-same, same_cell-cell_at}
 use Rattle.ept_sample.specs.Place.{place}
-use Rattle.ept_sample.specs.Ids.{same_id}
+use Rattle.ept_sample.specs.Ids.{same_id, is_first}
 use Rattle.ept_sample.specs.declared.rank.Rank.{Rank}
-use Rattle.ept_sample.specs.Rank.{rank_at, is_better, beats}
+use Rattle.ept_sample.specs.Rank.{rank_at, is_nearer, is_better, beats}
 use Rattle.ept_sample.proofs.Best.{IsContest}
 use Rattle.ept_sample.proofs.Choices.{either, and_left, and_right, and_both}
 
--- the three parts of a rank, in order
+-- the three parts of a rank behind its group, in order
 lexicographic : ℕ → ℕ → ℕ → ℕ → ℕ → ℕ → Bool
 lexicographic a b c x y z = nat_lt a x || ((a == x) && (nat_lt b y || ((b == y) && nat_lt c z)))
 
@@ -32,19 +33,38 @@ lex-total : (a b c x y z : ℕ) → lexicographic a b c x y z ≡ false → lexi
 unfolding lexicographic
 lex-total a b c x y z e f = (grind (arith, nat_tests), grind (arith, nat_tests), grind (arith, nat_tests))
 
+-- the group, and then the other parts
+grouped : ℕ → ℕ → Bool → Bool
+grouped g h later = nat_lt g h || ((g == h) && later)
+
+grouped-self : (g : ℕ) (later : Bool) → later ≡ false → grouped g g later ≡ false
+unfolding grouped
+grouped-self g later none = grind (arith, nat_tests)
+
+grouped-trans : (g h k : ℕ) (first second both : Bool) → (first ≡ true → second ≡ true → both ≡ true) → grouped g h first ≡ true → grouped h k second ≡ true → grouped g k both ≡ true
+unfolding grouped
+grouped-trans g h k first second both on e f = grind (arith, nat_tests)
+
+grouped-total : (g h : ℕ) (first second : Bool) → grouped g h first ≡ false → grouped h g second ≡ false → (g ≡ h) × (first ≡ false) × (second ≡ false)
+unfolding grouped
+grouped-total g h first second e f = (grind (arith, nat_tests), grind (arith, nat_tests), grind (arith, nat_tests))
+
 pub is_better-self : (a : Rank) → is_better a a ≡ false
-unfolding lexicographic
-is_better-self a = lex-self a.distance a.origin a.number
+unfolding lexicographic grouped
+is_better-self a = grouped-self a.group (is_nearer a a) (lex-self a.distance a.origin a.number)
 
 pub is_better-trans : (a b c : Rank) → is_better a b ≡ true → is_better b c ≡ true → is_better a c ≡ true
-unfolding lexicographic
+unfolding lexicographic grouped
 is_better-trans a b c e f =
-    lex-trans a.distance a.origin a.number b.distance b.origin b.number c.distance c.origin c.number e f
+    grouped-trans a.group b.group c.group (is_nearer a b) (is_nearer b c) (is_nearer a c) (lex-trans a.distance a.origin a.number b.distance b.origin b.number c.distance c.origin c.number) e f
 
 -- ranks of which neither is better are equal
-pub is_better-total : (a b : Rank) → is_better a b ≡ false → is_better b a ≡ false → (a.distance ≡ b.distance) × (a.origin ≡ b.origin) × (a.number ≡ b.number)
-unfolding lexicographic
-is_better-total a b e f = lex-total a.distance a.origin a.number b.distance b.origin b.number e f
+pub is_better-total : (a b : Rank) → is_better a b ≡ false → is_better b a ≡ false → (a.group ≡ b.group) × (a.distance ≡ b.distance) × (a.origin ≡ b.origin) × (a.number ≡ b.number)
+unfolding lexicographic grouped
+is_better-total a b e f =
+    let level = grouped-total a.group b.group (is_nearer a b) (is_nearer b a) e f in
+    let later = lex-total a.distance a.origin a.number b.distance b.origin b.number level.1 level.2 in
+    (level.0, later.0, later.1, later.2)
 
 -- ---- two tests at once
 
@@ -92,9 +112,24 @@ beats-total rules depth q p cell different =
             | inl second ↦ inr (beats-from rules depth p q (same_cell-sym rules.cube depth (place q) (place p) cell) second)
             | inr not_second ↦
                 let e = is_better-total (rank_at rules depth q) (rank_at rules depth p) not_first not_second in
-                absurd (false≢true (sym different ∙ and_both _ _ (eq-eqb q.origin p.origin e.1) (eq-eqb q.number p.number e.2)))
+                absurd (false≢true (sym different ∙ and_both _ _ (eq-eqb q.origin p.origin e.2) (eq-eqb q.number p.number e.3)))
           ]
     ]
+
+-- by a lower group, and by a less distance where there are no groups
+pub lower-beats : (rules : Rules) (depth : ℕ) (p q : Point) → same_cell rules.cube depth (place p) (place q) ≡ true → group_of rules p.class p.class_flags < group_of rules q.class q.class_flags → beats rules depth p q ≡ true
+lower-beats rules depth p q cell lower = beats-from rules depth p q cell (grind (arith, nat_tests))
+
+no_groups : (rules : Rules) (p : Point) → HaveNoGroups rules → group_of rules p.class p.class_flags ≡ 0
+unfolding group_of
+no_groups rules p none = rw (none.0, none.1) refl
+
+by-distance : (g h d e i j k l : ℕ) → g ≡ h → d < e → (nat_lt g h || ((g == h) && (nat_lt d e || ((d == e) && is_first i j k l)))) ≡ true
+by-distance g h d e i j k l same near = grind (arith, nat_tests)
+
+pub nearest-beats : (rules : Rules) (depth : ℕ) (p q : Point) → HaveNoGroups rules → same_cell rules.cube depth (place p) (place q) ≡ true → distance_at rules.cube depth (place p) < distance_at rules.cube depth (place q) → beats rules depth p q ≡ true
+nearest-beats rules depth p q none cell near =
+    beats-from rules depth p q cell (by-distance _ _ _ _ p.origin p.number q.origin q.number (no_groups rules p none ∙ sym (no_groups rules q none)) near)
 
 -- so points contest a depth
 pub contest : (rules : Rules) (depth : ℕ) → IsContest (beats rules depth)

@@ -1,8 +1,9 @@
 -- The three laws of beating. Each statement stands on the contract of a function of `laws`.
-use Rattle.std.specs.Prelude.{ℕ, IsTrue, ◌⊎◌}
+use Rattle.std.specs.Prelude.{ℕ, ◌<◌, IsTrue, ◌⊎◌}
 use Rattle.ept_point.specs.declared.point.Point.{Point}
 use Rattle.ept_space.specs.declared.cube.Rules.{Rules}
-use Rattle.ept_space.specs.OctreeCube.{same_cell}
+use Rattle.ept_space.specs.OctreeCube.{same_cell, distance_at}
+use Rattle.ept_space.specs.Group.{group_of, HaveNoGroups}
 use Rattle.ept_sample.specs.Place.{place}
 use Rattle.ept_sample.specs.Ids.{same_id}
 use Rattle.ept_sample.specs.Rank.{beats}
@@ -25,3 +26,13 @@ OneOfTwoBeats =
 abbrev pub BeatingIsInOneCell : Type 0
 BeatingIsInOneCell =
     (rules : Rules) (depth : ℕ) (p q : Point) → IsTrue (beats rules depth p q) → IsTrue (same_cell rules.cube depth (place p) (place q))
+
+-- the nearest to the centre wins, where no class comes first and withheld points are as others
+abbrev pub TheNearestBeats : Type 0
+TheNearestBeats =
+    (rules : Rules) (depth : ℕ) (p q : Point) → HaveNoGroups rules → IsTrue (same_cell rules.cube depth (place p) (place q)) → distance_at rules.cube depth (place p) < distance_at rules.cube depth (place q) → IsTrue (beats rules depth p q)
+
+-- a point of a lower group beats one of a higher group, however far it is
+abbrev pub ALowerGroupBeats : Type 0
+ALowerGroupBeats =
+    (rules : Rules) (depth : ℕ) (p q : Point) → IsTrue (same_cell rules.cube depth (place p) (place q)) → group_of rules p.class p.class_flags < group_of rules q.class q.class_flags → IsTrue (beats rules depth p q)

@@ -2,7 +2,7 @@
 //! nothing.
 
 ghost use Rattle.ept_sample.specs.IdLaws.{TestsAreOfIds, OrderKeepsPoints, OrderAscends, AscendingIsOrdered};
-ghost use Rattle.ept_sample.specs.BeatLaws.{NoneBeatsItself, BeatingGoesOn, OneOfTwoBeats, BeatingIsInOneCell};
+ghost use Rattle.ept_sample.specs.BeatLaws.{NoneBeatsItself, BeatingGoesOn, OneOfTwoBeats, BeatingIsInOneCell, TheNearestBeats, ALowerGroupBeats};
 ghost use Rattle.ept_sample.specs.ArrivalLaws.{WinnersBeatLosers, SameOnesLose, OpenSendsItsLosers, EachStaysOrLeaves, ArrivalsHaveNoOrder, BatchesJoin};
 ghost use Rattle.ept_sample.specs.SamplingLaws.{EachPointIsInOneNode, PointsHaveNoOrder, KeysAreTheNodes, KeysAscend, RootIsNode, ParentsAreNodes, NodesHavePoints, NodesHaveKeys, NodesAreShallow, MorePointsKeepNodes, MorePointsHaveMoreNodes, PointsLieInBoxes, PointsAscend};
 
@@ -14,12 +14,15 @@ pub fn id_law()
     ensures ordered { AscendingIsOrdered }
 {}
 
-/// Beating is a strict order of the points of each cell.
+/// Beating is a strict order of the points of each cell: by group, and then by the distance from its
+/// centre.
 pub fn beat_law()
     ensures none_itself { NoneBeatsItself }
     ensures goes_on { BeatingGoesOn }
     ensures one_of_two { OneOfTwoBeats }
     ensures one_cell { BeatingIsInOneCell }
+    ensures nearest { TheNearestBeats }
+    ensures lower_group { ALowerGroupBeats }
 {}
 
 /// Of the points given to a node, who loses is beaten by one that stays, the losers of open octants

@@ -7,11 +7,13 @@ ghost use Rattle.ept_sample.specs.Rank.{rank_at, is_better, beats};
 
 use crate::place::place_of;
 use ept_point::{Point, PointNumber};
-use ept_space::{Rules, cell, centre_distance};
+use ept_space::{Rules, cell, centre_distance, group};
 
 /// The rank of a point at a depth. The less one is the better one.
 #[derive(Clone, Copy, Debug, PartialEq, Eq, PartialOrd, Ord)]
 pub struct Rank {
+    /// The group of the point, which comes before its place.
+    pub group: u8,
     /// How far the point is from the centre of its cell.
     pub distance: u64,
     /// The place of its scan in the list of scans.
@@ -36,6 +38,7 @@ pub fn rank_of(rules: &Rules, depth: u8, point: &Point) -> Rank
     ensures { result ≡ rank_at rules.now depth point.now }
 {
     Rank {
+        group: group(rules, point.class, point.class_flags),
         distance: centre_distance(&rules.cube, depth, place_of(point)),
         origin: point.origin,
         number: point.number,

@@ -6,6 +6,8 @@ use Rattle.ept_base.proofs.Changing.{changed_same}
 use Rattle.ept_base.proofs.Moving.{moves_weaker, moves_both}
 use Rattle.ept_ckpt.specs.declared.letter.Letter.{Letter}
 use Rattle.ept_ckpt.specs.declared.checkpoint.Checkpoint.{Checkpoint}
+use Rattle.ept_point.specs.declared.layout.Layout.TheVariants.{New}
+use Rattle.ept_ckpt.specs.Versions.{layout_of}
 use Rattle.ept_ckpt.specs.Body.{body}
 use Rattle.ept_ckpt.specs.Facts.{facts}
 use Rattle.ept_save.specs.Names.{other, gate_name, body_name}
@@ -14,7 +16,7 @@ use Rattle.ept_save.specs.Current.{Current, HasBody, HasOlder, IsCurrent, HasCur
 use Rattle.ept_save.specs.View.{View, StandsFor, next_letter, IsNewer}
 use Rattle.ept_save.proofs.NamesDiffer.{gates-differ, gate-body, body-tile, other-other, one_of_two}
 use Rattle.ept_save.proofs.Moving.{moves_where}
-use Rattle.ept_save.proofs.Keeping.{keeps-both, keeps-body, gate-saved, named-gate}
+use Rattle.ept_save.proofs.Keeping.{body-moved, keeps-both, keeps-body, gate-saved, named-gate}
 use Rattle.ept_save.proofs.Standing.{open_or_not, stepped, tells_some, settled_some, settled-stands}
 
 -- a step that keeps the last checkpoint is one of a commit
@@ -44,7 +46,7 @@ module _ (current : Current) (next : Checkpoint) (newer : IsNewer current next) 
   older_of (Some (letter, c)) newer has b same counts =
       subst (λ (l : Letter). HasOlder b l next) (sym (other-other letter)) (record {
         older = c;
-        has_body = same (body_name letter) (λ e. gate-body (other letter) letter (sym e)) ∙ has.has_body;
+        has_body = body-moved letter c ready b (same (body_name letter) (λ e. gate-body (other letter) letter (sym e))) has.has_body;
         before = newer;
       })
 
@@ -55,7 +57,7 @@ module _ (current : Current) (next : Checkpoint) (newer : IsNewer current next) 
       record {
         is_current = record {
           counts = is_open;
-          has_body = rest (body_name (next_letter current)) (λ e. gate-body (next_letter current) (next_letter current) (sym e)) ∙ is_ready.has_body;
+          has_body = body-moved (next_letter current) next ready b (rest (body_name (next_letter current)) (λ e. gate-body (next_letter current) (next_letter current) (sym e))) is_ready.has_body;
           newest = older_of current newer is_ready.has_current b rest;
         };
         tiles = λ name named. rest name (named-gate (Some (next_letter current, next)) (next_letter current) name named) ∙ is_ready.tiles name (λ e. body-tile (next_letter current) named.1.letter named.1.key (sym e ∙ named.4));
@@ -76,7 +78,7 @@ module _ (current : Current) (next : Checkpoint) (newer : IsNewer current next) 
       ]
       stays (Some (letter, c)) shut same was = record {
         counts = same (gate_name letter) (gates-differ letter) ∙ was.counts;
-        has_body = same (body_name letter) (λ e. gate-body (other letter) letter (sym e)) ∙ was.has_body;
+        has_body = body-moved letter c a b (same (body_name letter) (λ e. gate-body (other letter) letter (sym e))) was.has_body;
         newest = λ counts. absurd (shut counts);
       }
 
@@ -87,7 +89,7 @@ module _ (current : Current) (next : Checkpoint) (newer : IsNewer current next) 
   }
 
 module _ {D : Type 0} (files : D → Option Files) (may_leave : D → Files → Type 0) (moment : D → ℕ) (image_since : D → ℕ → Files → Type 0) where
-  module _ (view : View) (next : Checkpoint) (letter : Letter) (begun : view.begun ≡ true) (is : letter ≡ next_letter view.current) (newer : IsNewer view.current next)
+  module _ (view : View) (next : Checkpoint) (letter : Letter) (newest : layout_of next.version ≡ New) (begun : view.begun ≡ true) (is : letter ≡ next_letter view.current) (newer : IsNewer view.current next)
       (old mid : D) (stands : StandsFor view (files old) (may_leave old)) (first : Moves files may_leave moment image_since (SameBut (body_name letter)) old mid) where
     abbrev next_body : List ℕ
     next_body = body_name (next_letter view.current)
@@ -120,7 +122,7 @@ module _ {D : Type 0} (files : D → Option Files) (may_leave : D → Files → 
 
       pub is_ready : IsReady view.current next stands.all ready.0
       is_ready = record {
-        has_body = subst (λ (l : Letter). HasBody ready.0 l next) is (ready.2 (body_name letter) ∙ changed_same stands.all (body_name letter) (Some (body (facts next))));
+        has_body = subst (λ (l : Letter). HasBody ready.0 l next) is (ready.2 (body_name letter) ∙ changed_same stands.all (body_name letter) (Some (body (facts next))), newest);
         has_current = subst (λ (f : Files). HasCurrent view.current f) same_now (kept_now.2.same stands.has_current);
         tiles = λ name apart. (
             let moved = stepped (SameBut next_body) (files old) (files mid) stands.all stands.told put-body.reads in

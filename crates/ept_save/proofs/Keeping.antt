@@ -3,9 +3,10 @@ use Rattle.std.proofs.Common.{◌≡◌, ◌≢◌, ◌∙◌, inl, inr, ℕ, Li
 use Rattle.ept_base.specs.Files.{Files, SameFiles, SameBut}
 use Rattle.ept_space.specs.VoxelKey.{VoxelKey}
 use Rattle.ept_ckpt.specs.declared.letter.Letter.{Letter}
+use Rattle.ept_ckpt.specs.declared.checkpoint.Checkpoint.{Checkpoint}
 use Rattle.ept_save.specs.Names.{other, gate_name, body_name, work_tile_name, IsSavedName}
 use Rattle.ept_save.specs.Gates.{IsOpen, Counts}
-use Rattle.ept_save.specs.Current.{Current, HasCurrent, IsNamed, Keeps}
+use Rattle.ept_save.specs.Current.{Current, HasBody, HasCurrent, IsNamed, Keeps}
 use Rattle.ept_save.specs.View.{next_letter}
 use Rattle.ept_save.proofs.NamesDiffer.{gates-differ, bodies-differ, gate-body, gate-tile, body-tile}
 
@@ -35,14 +36,18 @@ tile-saved letter key name apart same = apart (inr (inr (letter, key, same)))
 
 -- ---- which checkpoint is current depends on gates and bodies alone
 
+-- a body that stands in other files too
+pub body-moved : (letter : Letter) (c : Checkpoint) (one two : Files) → two (body_name letter) ≡ one (body_name letter) → HasBody one letter c → HasBody two letter c
+body-moved letter c one two same has = (same ∙ has.0, has.1)
+
 pub has_current-same : (current : Current) (old new : Files) → ((letter : Letter) → new (gate_name letter) ≡ old (gate_name letter)) → ((letter : Letter) → new (body_name letter) ≡ old (body_name letter)) → HasCurrent current old → HasCurrent current new
 has_current-same None old new gates bodies none = λ letter counts. none letter (sym (gates letter) ∙ counts)
 has_current-same (Some (letter, c)) old new gates bodies was = record {
   counts = gates letter ∙ was.counts;
-  has_body = bodies letter ∙ was.has_body;
+  has_body = body-moved letter c old new (bodies letter) was.has_body;
   newest = λ counts. (
       let older = was.newest (sym (gates (other letter)) ∙ counts) in
-      record { older = older.older; has_body = bodies (other letter) ∙ older.has_body; before = older.before });
+      record { older = older.older; has_body = body-moved (other letter) older.older old new (bodies (other letter)) older.has_body; before = older.before });
 }
 
 -- ---- steps that keep it
@@ -75,8 +80,8 @@ keeps-gate current old new was_open same = record {
         let older = was.newest was_open in
         record {
           counts = same (gate_name letter) (gates-differ letter) ∙ was.counts;
-          has_body = same (body_name letter) (λ e. gate-body (other letter) letter (sym e)) ∙ was.has_body;
-          newest = λ counts. record { older = older.older; has_body = same (body_name (other letter)) (λ e. gate-body (other letter) (other letter) (sym e)) ∙ older.has_body; before = older.before };
+          has_body = body-moved letter c old new (same (body_name letter) (λ e. gate-body (other letter) letter (sym e))) was.has_body;
+          newest = λ counts. record { older = older.older; has_body = body-moved (other letter) older.older old new (same (body_name (other letter)) (λ e. gate-body (other letter) (other letter) (sym e))) older.has_body; before = older.before };
         }
 
 -- a tile is put that the current checkpoint does not name
@@ -99,6 +104,6 @@ keeps-body current old new shut same = record {
     stays None shut same none = λ letter counts. none letter (sym (same (gate_name letter) (gate-body letter (next_letter None))) ∙ counts)
     stays (Some (letter, c)) shut same was = record {
       counts = same (gate_name letter) (gate-body letter (other letter)) ∙ was.counts;
-      has_body = same (body_name letter) (bodies-differ letter) ∙ was.has_body;
+      has_body = body-moved letter c old new (same (body_name letter) (bodies-differ letter)) was.has_body;
       newest = λ counts. absurd (shut (sym (same (gate_name (other letter)) (gate-body (other letter) (other letter))) ∙ counts));
     }

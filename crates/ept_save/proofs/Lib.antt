@@ -2,6 +2,8 @@ pub mod NamesDiffer
 pub mod Moving
 pub mod Keeping
 pub mod Standing
+pub mod TileFiles
+pub mod KeyLines
 mod Inserting
 mod Free
 mod CommitSteps
@@ -9,10 +11,15 @@ mod Next
 mod Newer
 mod Guarding
 pub mod LoadedLines
+pub mod DamagedTiles
 pub mod WorkNames
 pub mod SoundFiles
 pub mod SampledTiles
 pub mod SoundTiles
 pub mod ScanCounts
 mod DoneFiles
+mod TurnedLines
+mod Turning
+mod PuttingAgain
+pub mod Migration
 mod OtherShelf

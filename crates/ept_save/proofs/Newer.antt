@@ -17,6 +17,7 @@ use Rattle.ept_save.specs.Gates.{Counts}
 use Rattle.ept_save.specs.Current.{Current, HasBody, IsCurrent, HasCurrent}
 use Rattle.ept_save.specs.Opening.{IsBroken, IsBad, IsFound, AreAlike}
 use Rattle.ept_save.proofs.NamesDiffer.{one_of_two}
+use Rattle.ept_save.proofs.Keeping.{body-moved}
 
 pub newer_a : (files : Files) (a b : Checkpoint) → b.generation < a.generation → IsFound files A (Some a) → IsFound files B (Some b) → IsCurrent files A a
 newer_a files a b before found other = record {
@@ -47,7 +48,7 @@ not-broken (Some (at, c)) files letter is broken = elim (one_of_two at letter) [
 
 one-body : (files : Files) (letter : Letter) (c d : Checkpoint) → HasBody files letter c → HasBody files letter d → c ≡ d
 one-body files letter c d first second =
-    let same : body (facts c) ≡ body (facts d) = some_same (body (facts c)) (body (facts d)) (sym first ∙ second) in
+    let same : body (facts c) ≡ body (facts d) = some_same (body (facts c)) (body (facts d)) (sym first.0 ∙ second.0) in
     body_once c d same
   where
     some_same : (one two : List ℕ) → Some one ≡ Some two → one ≡ two
@@ -107,4 +108,4 @@ only-stores (Err Memory) files current all told has bad no_tile = inr refl
 -- what is found does not change where the files do not
 pub found-back : (files mid : Files) (letter : Letter) (found : Option Checkpoint) → SameFiles files mid → IsFound mid letter found → IsFound files letter found
 found-back files mid letter None same none = λ counts. none (same (gate_name letter) ∙ counts)
-found-back files mid letter (Some c) same found = (sym (same (gate_name letter)) ∙ found.0, sym (same (body_name letter)) ∙ found.1)
+found-back files mid letter (Some c) same found = (sym (same (gate_name letter)) ∙ found.0, body-moved letter c mid files (sym (same (body_name letter))) found.1)

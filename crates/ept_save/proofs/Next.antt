@@ -4,6 +4,7 @@ use Rattle.std.proofs.lemmas.List.Sums.{sum_by-le}
 use Rattle.ept_config.specs.declared.kept.Kept.{Kept}
 use Rattle.ept_config.specs.declared.source_count.SourceCount.{SourceCount}
 use Rattle.ept_config.specs.Counts.{total}
+use Rattle.ept_ckpt.specs.declared.version.BodyVersion.TheVariants.{V3}
 use Rattle.ept_ckpt.specs.Facts.{CheckpointFacts, facts}
 use Rattle.ept_ckpt.specs.Valid.{IsCheckpoint}
 use Rattle.ept_ckpt.specs.declared.node_line.NodeLine.{NodeLine}
@@ -21,8 +22,8 @@ is-newer view kept counts inserted next is =
     newer_generation view.current next generation
 
 -- a generation fits its width
-pub generation-fits : (generation : ℕ) (kept : Kept) (counts : List SourceCount) (inserted : ℕ) (lines : List NodeLine) → IsCheckpoint generation kept counts inserted lines → generation < 2 ^ 64
+pub generation-fits : (generation : ℕ) (kept : Kept) (counts : List SourceCount) (inserted : ℕ) (lines : List NodeLine) → IsCheckpoint V3 generation kept counts inserted lines → generation < 2 ^ 64
 generation-fits generation kept counts inserted lines is =
-    let most : total counts ≤ length counts * 2 ^ 32 = sum_by-le (λ (count : SourceCount). count.points) (2 ^ 32) counts (λ k d inside. let few = (is.counted k d inside).few in omega (arith, few)) in
+    let most : total counts ≤ length counts * 2 ^ 40 = sum_by-le (λ (count : SourceCount). count.points) (2 ^ 40) counts (λ k d inside. let few = (is.counted k d inside).few in omega (arith, few)) in
     let inputs = kept.layout.inputs_most in
     omega (arith, most, inputs, is.each, is.inserted_most, is.generation_most)

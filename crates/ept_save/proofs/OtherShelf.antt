@@ -1,14 +1,14 @@
 -- Files are sound for each shelf that has the inputs of the current checkpoint.
-use Rattle.std.proofs.Common.{◌≡◌, ◌∙◌, ◌+◌, ℕ, List, Some, None, subst, length}
+use Rattle.std.proofs.Common.{◌≡◌, ◌∙◌, ◌+◌, ℕ, List, Some, None, subst}
 use Rattle.std.specs.Prelude.{Option, slice_get}
 use Rattle.ept_base.specs.Files.{Files}
 use Rattle.ept_point.specs.declared.point.Point.{Point}
 use Rattle.ept_space.specs.declared.bounds.Bounds.{Bounds}
 use Rattle.ept_config.specs.declared.input.Input.{Input}
 use Rattle.ept_scan.specs.declared.scan_done.ScanDone.{ScanDone}
-use Rattle.ept_scan.specs.Scans.{HasPointsAt, ArePointsFrom, IsScan}
-use Rattle.ept_save.specs.Current.{Current, HasCurrent}
-use Rattle.ept_save.specs.Sound.{IsSoundFor, IsSound}
+use Rattle.ept_scan.specs.Scans.{HasPointsAt, IsScan}
+use Rattle.ept_save.specs.Current.{Current}
+use Rattle.ept_save.specs.Sound.{IsSoundFor}
 use Rattle.ept_save.specs.SoundLaws.{HaveSameInputs, InputsAreEnough}
 use Rattle.ept_save.proofs.Newer.{current-one}
 

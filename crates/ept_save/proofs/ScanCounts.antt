@@ -109,8 +109,8 @@ module _ (shelf : Files) (scale : ℕ) (limits : Option Bounds) (inputs : List I
       in
       subst (λ (w : List Point). IsCountOf w (get_or done.counts source none)) (sym list) (zip_at IsCountOf scan.lists done.counts source [] none scan.counts_are lt)
 
-  -- where each count is below 2 ^ 32, no input has more points
-  pub scan_few : (bounds : Bounds) → All (IsCount bounds) done.counts → All (λ p. p.origin < length inputs) points → (source : ℕ) → length (points_from source points) < 2 ^ 32
+  -- where each count is below 2 ^ 40, no input has more points
+  pub scan_few : (bounds : Bounds) → All (IsCount bounds) done.counts → All (λ p. p.origin < length inputs) points → (source : ℕ) → length (points_from source points) < 2 ^ 40
   scan_few bounds counts origins source = elim (cases_lt source (length done.counts)) [
     | inl lt ↦ omega (arith, (scan_counted source no_count lt).number, (counts source no_count lt).few)
     | inr past ↦ (

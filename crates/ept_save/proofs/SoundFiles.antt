@@ -4,6 +4,7 @@ use Rattle.std.specs.Prelude.{Contains}
 use Rattle.std.specs.List.{AllZip}
 use Rattle.std.proofs.lemmas.List.{get_or-map, length-map}
 use Rattle.ept_base.specs.Files.{Files, SameFiles}
+use Rattle.ept_point.specs.declared.layout.Layout.{Layout}
 use Rattle.ept_point.specs.declared.point.Point.{Point}
 use Rattle.ept_sample.specs.declared.tiles.Tile.{Tile}
 use Rattle.ept_config.specs.declared.kept.Kept.{Kept}
@@ -11,6 +12,7 @@ use Rattle.ept_scan.specs.Laws.{ScanInOneWay}
 use Rattle.ept_ckpt.specs.declared.letter.Letter.{Letter}
 use Rattle.ept_ckpt.specs.declared.node_line.NodeLine.{NodeLine}
 use Rattle.ept_ckpt.specs.declared.checkpoint.Checkpoint.{Checkpoint}
+use Rattle.ept_ckpt.specs.Versions.{layout_of}
 use Rattle.ept_meta.specs.Output.{File, IsOutput, IsOutputName, IsOutsideWork, EachIsOutsideWork, names_of}
 use Rattle.ept_meta.specs.OutputLaws.{OutputIsOne, FilesHaveOutputNames}
 use Rattle.ept_save.specs.Names.{gate_name, body_name, done_name, IsSavedName}
@@ -23,6 +25,7 @@ use Rattle.ept_save.proofs.NamesDiffer.{done-gate, done-body, done-apart}
 use Rattle.ept_save.proofs.WorkNames.{outside-saved, outside-done}
 use Rattle.ept_save.proofs.Keeping.{has_current-same, named-saved, keeps-same}
 use Rattle.ept_save.proofs.Newer.{current-one}
+use Rattle.ept_save.proofs.TileFiles.{tile-same}
 
 -- ---- the current checkpoint of sound files
 
@@ -38,19 +41,19 @@ empty-sound shelf = record {
 
 -- ---- tiles
 
-tiles-same : (one two : Files) (tiles : List Tile) (lines : List NodeLine) → ((k : ℕ) (line : NodeLine) → k < length lines → get_or lines k line ≡ line → two (tile_of_line line) ≡ one (tile_of_line line)) → AllZip (IsSavedAs one) tiles lines → AllZip (IsSavedAs two) tiles lines
-tiles-same one two [] [] same all = tt
-tiles-same one two [] (l ∷ ls) same all = absurd all
-tiles-same one two (t ∷ ts) [] same all = absurd all
-tiles-same one two (t ∷ ts) (l ∷ ls) same all = (
-  record { key = all.0.key; count = all.0.count; has_tile = same 0 l (omega arith) refl ∙ all.0.has_tile },
-  tiles-same one two ts ls (λ k line lt is. same (suc k) line (omega (arith, lt)) is) all.1,
+tiles-same : (layout : Layout) (one two : Files) (tiles : List Tile) (lines : List NodeLine) → ((k : ℕ) (line : NodeLine) → k < length lines → get_or lines k line ≡ line → two (tile_of_line line) ≡ one (tile_of_line line)) → AllZip (IsSavedAs layout one) tiles lines → AllZip (IsSavedAs layout two) tiles lines
+tiles-same layout one two [] [] same all = tt
+tiles-same layout one two [] (l ∷ ls) same all = absurd all
+tiles-same layout one two (t ∷ ts) [] same all = absurd all
+tiles-same layout one two (t ∷ ts) (l ∷ ls) same all = (
+  record { key = all.0.key; count = all.0.count; has_tile = tile-same layout (tile_of_line l) (tile_of_line l) t.points one two (same 0 l (omega arith) refl) all.0.has_tile },
+  tiles-same layout one two ts ls (λ k line lt is. same (suc k) line (omega (arith, lt)) is) all.1,
 )
 
 saved-same : (shelf one two : Files) (letter : Letter) (c : Checkpoint) (points : List Point) → ((name : List ℕ) → IsNamed (Some (letter, c)) name → two name ≡ one name) → IsSaved shelf one c points → IsSaved shelf two c points
 saved-same shelf one two letter c points same saved = record {
   scan = saved.scan;
-  nodes = tiles-same one two _ c.nodes (λ k line lt is. same (tile_of_line line) (k, line, lt, is, refl)) saved.nodes;
+  nodes = tiles-same (layout_of c.version) one two _ c.nodes (λ k line lt is. same (tile_of_line line) (k, line, lt, is, refl)) saved.nodes;
 }
 
 -- ---- the done gate
@@ -95,7 +98,7 @@ module _ (has_names : FilesHaveOutputNames) (each_outside : EachIsOutsideWork) w
           no_other = λ name apart not. outside name apart ∙ most.no_other name apart not;
           whole = λ done. (
               let was : IsWhole c sound.0 most.output one = most.whole (sym gate ∙ done) in
-              record { inserted = was.inserted; there = all-same c.kept sound.0 most.output most.is_output one two outside was.there });
+              record { inserted = was.inserted; newest = was.newest; there = all-same c.kept sound.0 most.output most.is_output one two outside was.there });
         },
       )
 
@@ -124,6 +127,7 @@ module _ (has_names : FilesHaveOutputNames) (each_outside : EachIsOutsideWork) w
         let its : IsOutput c.kept points published.1 = subst (λ (w : List Point). IsOutput c.kept w published.1) same published.3 in
         record {
           inserted = published.4.inserted ∙ ap (λ (w : List Point). length w) same;
+          newest = published.4.newest;
           there = subst (λ (w : List File). HasAllOf w files) (one_output c.kept points published.1 output its is) published.4.there;
         }
 
@@ -139,7 +143,7 @@ module _ (has_names : FilesHaveOutputNames) (each_outside : EachIsOutsideWork) w
             no_other = λ name apart not. guards.others name (outside-done name apart) ∙ most.no_other name apart not;
             whole = λ done. (
                 let was : IsWhole c sound.0 most.output start = same-whole shelf start letter c sound.0 most.output sound.1.scan most.is_output published in
-                record { inserted = was.inserted; there = all-same c.kept sound.0 most.output most.is_output start new (guards.output done) was.there });
+                record { inserted = was.inserted; newest = was.newest; there = all-same c.kept sound.0 most.output most.is_output start new (guards.output done) was.there });
           },
         )
 

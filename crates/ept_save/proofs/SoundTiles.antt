@@ -8,7 +8,7 @@ use Rattle.ept_base.specs.Files.{Files}
 use Rattle.ept_point.specs.Laws.{ReadInOneWay}
 use Rattle.ept_point.specs.declared.point.Point.{Point}
 use Rattle.ept_point.specs.Order.{IsAscending}
-use Rattle.ept_point.specs.Packed.{tile}
+use Rattle.ept_point.specs.declared.layout.Layout.{Layout}
 use Rattle.ept_space.specs.declared.cube.Rules.{Rules}
 use Rattle.ept_space.specs.VoxelKey.{VoxelKey, child, same_key}
 use Rattle.ept_space.proofs.Within.{same_key-true, same_key-same}
@@ -31,11 +31,13 @@ use Rattle.ept_grid.specs.Mask.{opened}
 use Rattle.ept_ckpt.specs.declared.letter.Letter.{Letter}
 use Rattle.ept_ckpt.specs.declared.node_line.NodeLine.{NodeLine}
 use Rattle.ept_ckpt.specs.declared.checkpoint.Checkpoint.{Checkpoint}
+use Rattle.ept_ckpt.specs.Versions.{layout_of}
 use Rattle.ept_ckpt.specs.Lookup.{line_of_key}
 use Rattle.ept_ckpt.specs.Octree.{keys_of, is_among}
 use Rattle.ept_meta.specs.Output.{rules_of}
 use Rattle.ept_meta.specs.OutputLaws.{PointsCanBeSampled}
-use Rattle.ept_save.specs.Current.{Current, HasCurrent}
+use Rattle.ept_save.specs.Current.{Current, HasCurrent, tile_of_line}
+use Rattle.ept_save.specs.Tiles.{HasTileUnder}
 use Rattle.ept_save.specs.Loading.{AreOfLine, IsDamagedLine, IsDamaged}
 use Rattle.ept_save.specs.Sound.{HasPointsOf, IsSavedAs, IsSaved, IsSoundFor, IsSound}
 use Rattle.ept_save.proofs.LoadedLines.{found_stands, not-damaged-line, at-line}
@@ -43,21 +45,21 @@ use Rattle.ept_save.proofs.SampledTiles.{sampled-IsTile}
 use Rattle.ept_save.proofs.SoundFiles.{sound-at}
 
 -- the node of a line
-node-of : (files : Files) (tiles : List Tile) (lines : List NodeLine) (k : ℕ) (line : NodeLine) → AllZip (IsSavedAs files) tiles lines → k < length lines → get_or lines k line ≡ line → (t : Tile) × IsMember t tiles × IsSavedAs files t line
-node-of files [] [] k line all lt is = absurd (omega (arith, lt))
-node-of files [] (l ∷ ls) k line all lt is = absurd all
-node-of files (t ∷ ts) [] k line all lt is = absurd all
-node-of files (t ∷ ts) (l ∷ ls) zero line all lt is = (t, inl refl, subst (IsSavedAs files t) is all.0)
-node-of files (t ∷ ts) (l ∷ ls) (suc k) line all lt is =
-    let more = node-of files ts ls k line all.1 (omega (arith, lt)) is in (more.0, inr more.1, more.2)
+node-of : (layout : Layout) (files : Files) (tiles : List Tile) (lines : List NodeLine) (k : ℕ) (line : NodeLine) → AllZip (IsSavedAs layout files) tiles lines → k < length lines → get_or lines k line ≡ line → (t : Tile) × IsMember t tiles × IsSavedAs layout files t line
+node-of layout files [] [] k line all lt is = absurd (omega (arith, lt))
+node-of layout files [] (l ∷ ls) k line all lt is = absurd all
+node-of layout files (t ∷ ts) [] k line all lt is = absurd all
+node-of layout files (t ∷ ts) (l ∷ ls) zero line all lt is = (t, inl refl, subst (IsSavedAs layout files t) is all.0)
+node-of layout files (t ∷ ts) (l ∷ ls) (suc k) line all lt is =
+    let more = node-of layout files ts ls k line all.1 (omega (arith, lt)) is in (more.0, inr more.1, more.2)
 
 -- the lines have the nodes' keys
-pub keys-same : (files : Files) (tiles : List Tile) (lines : List NodeLine) → AllZip (IsSavedAs files) tiles lines → keys_of lines ≡ map (λ (t : Tile). t.key) tiles
-keys-same files [] [] all = refl
-keys-same files [] (l ∷ ls) all = absurd all
-keys-same files (t ∷ ts) [] all = absurd all
-keys-same files (t ∷ ts) (l ∷ ls) all =
-    ap (λ (w : VoxelKey). w ∷ keys_of ls) all.0.key ∙ ap (λ (w : List VoxelKey). t.key ∷ w) (keys-same files ts ls all.1)
+pub keys-same : (layout : Layout) (files : Files) (tiles : List Tile) (lines : List NodeLine) → AllZip (IsSavedAs layout files) tiles lines → keys_of lines ≡ map (λ (t : Tile). t.key) tiles
+keys-same layout files [] [] all = refl
+keys-same layout files [] (l ∷ ls) all = absurd all
+keys-same layout files (t ∷ ts) [] all = absurd all
+keys-same layout files (t ∷ ts) (l ∷ ls) all =
+    ap (λ (w : VoxelKey). w ∷ keys_of ls) all.0.key ∙ ap (λ (w : List VoxelKey). t.key ∷ w) (keys-same layout files ts ls all.1)
 
 keys-at : (rules : Rules) (points : List Point) (keys : List VoxelKey) → map (λ (t : Tile). t.key) (map (tile_at rules points) keys) ≡ keys
 keys-at rules points [] = refl
@@ -98,17 +100,18 @@ module _ (once : ReadInOneWay) (can_be : PointsCanBeSampled) where
       let distinct : HasDistinctIds (take c.inserted points) = HasDistinctIds-left (take c.inserted points) (drop c.inserted points) (subst HasDistinctIds (sym (take-append-drop c.inserted points)) (HasDistinctIds-IsAscending points up)) in
       can_be c.kept (take c.inserted points) (All-take (IsWithin c.kept.bounds) c.inserted points (scan_placed shelf c.kept.scale c.kept.inputs (Some c.kept.bounds) 0 points _ scan)) distinct
 
-  line-intact : (shelf files : Files) (letter : Letter) (c : Checkpoint) (key : VoxelKey) (line : NodeLine) → IsSoundFor shelf files (Some (letter, c)) → line_of_key c.nodes key ≡ Some line → line.mask < 2 ^ 8 → ¬ IsDamagedLine (rules_of c.kept) line files
+  line-intact : (shelf files : Files) (letter : Letter) (c : Checkpoint) (key : VoxelKey) (line : NodeLine) → IsSoundFor shelf files (Some (letter, c)) → line_of_key c.nodes key ≡ Some line → line.mask < 2 ^ 8 → ¬ IsDamagedLine (layout_of c.version) (rules_of c.kept) line files
   line-intact shelf files letter c key line sound found byte =
       let rules : Rules = rules_of c.kept in
+      let layout : Layout = layout_of c.version in
       let first : List Point = take c.inserted sound.0 in
       let saved : IsSaved shelf files c sound.0 = sound.1 in
       let can : CanBeSampled rules first = can-first shelf c sound.0 saved.scan in
       let stands = found_stands (λ (l : NodeLine). same_key l.key key) c.nodes line found in
-      let node = node-of files (sampled rules first) c.nodes stands.0 line saved.nodes stands.1 stands.2 in
-      let is : IsSavedAs files node.0 line = node.2 in
+      let node = node-of layout files (sampled rules first) c.nodes stands.0 line saved.nodes stands.1 stands.2 in
+      let is : IsSavedAs layout files node.0 line = node.2 in
       let points_are : node.0.points ≡ sampling rules first line.key = member-sampled rules first node.0 node.1 ∙ ap (λ (k : VoxelKey). sampling rules first k) (sym is.key) in
-      let keys : keys_of c.nodes ≡ node_keys rules first = keys-same files (sampled rules first) c.nodes saved.nodes ∙ keys-sampled rules first in
+      let keys : keys_of c.nodes ≡ node_keys rules first = keys-same layout files (sampled rules first) c.nodes saved.nodes ∙ keys-sampled rules first in
       let told = c.is_checkpoint.nodes_are.octree.children stands.0 line stands.1 in
       let children : (o : ℕ) → o < 8 → opened line.mask o ≡ is_node rules first (child line.key o) = λ o low.
       opened_bit line.mask o
@@ -120,9 +123,9 @@ module _ (once : ReadInOneWay) (can_be : PointsCanBeSampled) where
         ascend = IsAscending-IsRising (sampling rules first line.key) (IsRising-sampling rules first line.key can.distinct);
         fits = sampled-IsTile rules first can line.key line.mask byte children;
       } in
-      not-damaged-line once rules line (sampling rules first line.key) files are (is.has_tile ∙ ap (λ (w : List Point). Some (tile w)) points_are)
+      not-damaged-line once layout rules line (sampling rules first line.key) files are (subst (λ (w : List Point). HasTileUnder layout (tile_of_line line) w files) points_are is.has_tile)
 
   pub sound-intact : (shelf files : Files) (current : Current) (key : VoxelKey) (at : Letter × Checkpoint) (line : NodeLine) → current ≡ Some at → line_of_key at.1.nodes key ≡ Some line → line.mask < 2 ^ 8 → IsSound shelf files → HasCurrent current files → ¬ IsDamaged current key files
   sound-intact shelf files current key at line is found byte sound has damaged =
       line-intact shelf files at.0 at.1 key line (subst (IsSoundFor shelf files) is (sound-at shelf files current has sound)) found byte
-      (at-line current key at line (λ kept l. IsDamagedLine (rules_of kept) l files) is found damaged)
+      (at-line current key at line (λ c l. IsDamagedLine (layout_of c.version) (rules_of c.kept) l files) is found damaged)

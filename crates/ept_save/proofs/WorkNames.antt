@@ -34,4 +34,4 @@ pub outside-saved : (name : List ℕ) → IsOutsideWork name → ¬ IsSavedName 
 outside-saved name outside saved = outside.0 (saved_in name saved)
 
 pub outside-done : (name : List ℕ) → IsOutsideWork name → name ≢ done_name
-outside-done name outside same = outside.0 (subst InWork (sym same) (codes "done", refl))
+outside-done name outside same = outside.0 (subst InWork (sym same) (codes "done-2", refl))

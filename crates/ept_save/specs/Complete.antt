@@ -13,7 +13,7 @@ pub record AreOfInputs (kept : Kept) (points : List Point) : Type 0 where
   pub ascend : IsAscending points
   pub inside : All (IsWithin kept.bounds) points
   pub origins : All (λ p. p.origin < length kept.inputs) points
-  pub few : (source : ℕ) → length (points_from source points) < 2 ^ 32
+  pub few : (source : ℕ) → length (points_from source points) < 2 ^ 40
 
 -- the files of an output are there
 abbrev pub HasAllOf : List File → Files → Type 0

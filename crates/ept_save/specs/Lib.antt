@@ -1,12 +1,14 @@
 pub mod Names
 pub mod Gates
 pub mod Current
+pub mod Tiles
 pub mod View
 pub mod Errors
 pub mod Lines
 pub mod Stored
 pub mod Opening
 pub mod Done
+pub mod Migrating
 pub mod Loading
 pub mod Complete
 pub mod Sound

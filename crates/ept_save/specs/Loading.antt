@@ -4,18 +4,20 @@ use Rattle.ept_base.specs.Files.{Files, Tells}
 use Rattle.ept_point.specs.declared.point.Point.{Point}
 use Rattle.ept_point.specs.declared.tile.TileError.{TileError}
 use Rattle.ept_point.specs.Order.{IsAscending}
-use Rattle.ept_point.specs.Packed.{tile}
-use Rattle.ept_point.specs.Tile.{ReadsAs}
+use Rattle.ept_point.specs.declared.layout.Layout.{Layout}
+use Rattle.ept_point.specs.Tile.{ReadsIn}
 use Rattle.ept_space.specs.VoxelKey.{VoxelKey}
 use Rattle.ept_space.specs.declared.cube.Rules.{Rules}
-use Rattle.ept_config.specs.declared.kept.Kept.{Kept}
 use Rattle.ept_grid.specs.declared.error.GridError.{GridError}
 use Rattle.ept_grid.specs.Tile.{IsTile, IsTileFault}
 use Rattle.ept_grid.specs.Node.{Node, IsNodeOf}
 use Rattle.ept_ckpt.specs.declared.node_line.NodeLine.{NodeLine}
+use Rattle.ept_ckpt.specs.declared.checkpoint.Checkpoint.{Checkpoint}
+use Rattle.ept_ckpt.specs.Versions.{layout_of}
 use Rattle.ept_ckpt.specs.Lookup.{line_of_key}
 use Rattle.ept_meta.specs.Output.{rules_of}
 use Rattle.ept_save.specs.Current.{Current, tile_of_line}
+use Rattle.ept_save.specs.Tiles.{HasTileUnder}
 
 -- ---- the line of a key
 
@@ -28,10 +30,10 @@ current_line (Some (letter, c)) key = line_of_key c.nodes key
 abbrev pub HasLine : Current → VoxelKey → Type 0
 HasLine current key = IsSome (current_line current key)
 
--- of that line, with what the checkpoint keeps of the configuration, this holds
-abbrev pub OfLine : Current → VoxelKey → (Kept → NodeLine → Type 0) → Type 0
+-- of the checkpoint and that line of it this holds
+abbrev pub OfLine : Current → VoxelKey → (Checkpoint → NodeLine → Type 0) → Type 0
 OfLine None key fact = ⊥
-OfLine (Some (letter, c)) key fact = IsSomeAnd (line_of_key c.nodes key) (fact c.kept)
+OfLine (Some (letter, c)) key fact = IsSomeAnd (line_of_key c.nodes key) (fact c)
 
 -- ---- what is found
 
@@ -43,15 +45,15 @@ pub record AreOfLine (rules : Rules) (line : NodeLine) (points : List Point) : T
 
 -- whatever the files are, such are the points that are found
 abbrev pub AreFound : Current → VoxelKey → List Point → Type 0
-AreFound current key points = OfLine current key (λ kept line. AreOfLine (rules_of kept) line points)
+AreFound current key points = OfLine current key (λ c line. AreOfLine (rules_of c.kept) line points)
 
--- the file that the line names is the tile of these points
+-- the file that the line names is the tile of these points, in the layout of the checkpoint
 abbrev pub HasTile : Current → VoxelKey → List Point → Files → Type 0
-HasTile current key points files = OfLine current key (λ kept line. files (tile_of_line line) ≡ Some (tile points))
+HasTile current key points files = OfLine current key (λ c line. HasTileUnder (layout_of c.version) (tile_of_line line) points files)
 
 -- the node has the line's key and open octants, and the rules that are kept
 abbrev pub IsNodeFound : Current → VoxelKey → Node → Type 0
-IsNodeFound current key node = OfLine current key (λ kept line. IsNodeOf key (rules_of kept) line.mask node.points node)
+IsNodeFound current key node = OfLine current key (λ c line. IsNodeOf key (rules_of c.kept) line.mask node.points node)
 
 -- points are appended, and are those that were found; of files that are told they are the tile's
 pub record AppendsFound (current : Current) (key : VoxelKey) (files : Option Files) (old new : List Point) : Type 0 where
@@ -62,22 +64,26 @@ pub record AppendsFound (current : Current) (key : VoxelKey) (files : Option Fil
 
 -- ---- why it is damaged
 
--- The bytes are no tile, or one with another number of points, or its points are those of no node with this key and these open octants.
-abbrev pub IsWrong : Rules → NodeLine → List ℕ → Type 0
-IsWrong rules line bytes =
-    ((fault : TileError) × ReadsAs bytes (Err fault))
-    ⊎ ((points : List Point) × ReadsAs bytes (Ok points) × (length points ≢ line.count))
-    ⊎ ((points : List Point) × ReadsAs bytes (Ok points) × ((fault : GridError) × IsTileFault line.key rules line.mask points fault))
+-- The bytes are no tile of the layout, or one with another number of points, or its points are those of no node with this key and these open octants.
+abbrev pub IsWrong : Layout → Rules → NodeLine → List ℕ → Type 0
+IsWrong layout rules line bytes =
+    ((fault : TileError) × ReadsIn layout bytes (Err fault))
+    ⊎ ((points : List Point) × ReadsIn layout bytes (Ok points) × (length points ≢ line.count))
+    ⊎ ((points : List Point) × ReadsIn layout bytes (Ok points) × ((fault : GridError) × IsTileFault line.key rules line.mask points fault))
 
 -- the file of this name, which is to be the tile of the line, is absent, or wrong
-abbrev pub IsDamagedUnder : Rules → List ℕ → NodeLine → Files → Type 0
-IsDamagedUnder rules name line files =
-    (files name ≡ None) ⊎ ((bytes : List ℕ) × (files name ≡ Some bytes) × IsWrong rules line bytes)
+abbrev pub IsDamagedUnder : Layout → Rules → List ℕ → NodeLine → Files → Type 0
+IsDamagedUnder layout rules name line files =
+    (files name ≡ None) ⊎ ((bytes : List ℕ) × (files name ≡ Some bytes) × IsWrong layout rules line bytes)
 
 -- the file that the line names is absent, or wrong
-abbrev pub IsDamagedLine : Rules → NodeLine → Files → Type 0
-IsDamagedLine rules line files = IsDamagedUnder rules (tile_of_line line) line files
+abbrev pub IsDamagedLine : Layout → Rules → NodeLine → Files → Type 0
+IsDamagedLine layout rules line files = IsDamagedUnder layout rules (tile_of_line line) line files
 
--- so it is with the line of the key
+-- so it is with the line of the key, by the layout and the rules of the checkpoint
 abbrev pub IsDamaged : Current → VoxelKey → Files → Type 0
-IsDamaged current key files = OfLine current key (λ kept line. IsDamagedLine (rules_of kept) line files)
+IsDamaged current key files = OfLine current key (λ c line. IsDamagedLine (layout_of c.version) (rules_of c.kept) line files)
+
+-- no tile that the current checkpoint names is damaged
+abbrev pub HasNoDamage : Current → Files → Type 0
+HasNoDamage current files = (key : VoxelKey) → HasLine current key → ¬ IsDamaged current key files

@@ -31,7 +31,7 @@ work_tile_name letter key = folder letter ++ key_text key ++ codes ".bin"
 
 -- the done gate
 abbrev pub done_name : List ℕ
-done_name = codes "ept-work/done"
+done_name = codes "ept-work/done-2"
 
 -- the name is that of a gate, a body or a tile of a checkpoint
 abbrev pub IsSavedName : List ℕ → Type 0

@@ -2,13 +2,16 @@
 use Rattle.std.specs.Prelude.{◌≡◌, ◌⊎◌, ℕ, List, length, Some, None, ⊤, Contains, slice_get}
 use Rattle.ept_base.specs.Files.{Files, SameFiles}
 use Rattle.ept_point.specs.declared.point.Point.{Point}
+use Rattle.ept_point.specs.declared.layout.Layout.TheVariants.{Old}
 use Rattle.ept_config.specs.declared.input.Input.{Input}
 use Rattle.ept_ckpt.specs.declared.letter.Letter.{Letter}
 use Rattle.ept_ckpt.specs.declared.checkpoint.Checkpoint.{Checkpoint}
+use Rattle.ept_ckpt.specs.Versions.{layout_of}
 use Rattle.ept_meta.specs.Output.{File, IsOutput, IsOutsideWork, names_of}
 use Rattle.ept_save.specs.Names.{done_name, IsSavedName}
 use Rattle.ept_save.specs.Current.{Current, HasCurrent, Keeps, Commits}
 use Rattle.ept_save.specs.Done.{IsDone, Guards}
+use Rattle.ept_save.specs.Migrating.{IsTurnOf, Migrates}
 use Rattle.ept_save.specs.Opening.{IsBad}
 use Rattle.ept_save.specs.Complete.{IsComplete}
 use Rattle.ept_save.specs.Sound.{HasPointsOf, IsSaved, IsWhole, IsSound}
@@ -107,3 +110,9 @@ abbrev pub CommittingKeepsSound : Type 0
 CommittingKeepsSound =
     (shelf start old new : Files) (current : Current) (letter : Letter) (next : Checkpoint) (points : List Point) (output : List File) → HasCurrent current old → ¬ IsDone old → IsSaved shelf start next points → IsOutput next.kept points output → HasNamesOf shelf current (names_of output)
     → Commits current letter next start old new → IsSound shelf old → IsSound shelf new
+
+-- where the done gate is not open, a migration of the checkpoint that was current in sound files of the start
+abbrev pub MigratingKeepsSound : Type 0
+MigratingKeepsSound =
+    (shelf start old new : Files) (letter : Letter) (c next : Checkpoint) → layout_of c.version ≡ Old → IsTurnOf c next → HasCurrent (Some (letter, c)) start → IsSound shelf start → HasCurrent (Some (letter, c)) old → ¬ IsDone old
+    → Migrates letter c next start old new → IsSound shelf old → IsSound shelf new

@@ -3,7 +3,8 @@ use Rattle.std.specs.Prelude.{◌≡◌, ℕ, ◌+◌, ◌<◌, Bool, true, List
 use Rattle.ept_base.specs.Files.{Files}
 use Rattle.ept_config.specs.declared.kept.Kept.{Kept}
 use Rattle.ept_config.specs.declared.source_count.SourceCount.{SourceCount}
-use Rattle.ept_ckpt.specs.Facts.{CheckpointFacts, kept_facts, sources_of}
+use Rattle.ept_ckpt.specs.declared.version.BodyVersion.TheVariants.{V3}
+use Rattle.ept_ckpt.specs.Facts.{CheckpointFacts, kept_facts, precedence_of, sources_of}
 use Rattle.ept_ckpt.specs.declared.letter.Letter.{Letter}
 use Rattle.ept_ckpt.specs.declared.letter.Letter.TheVariants.{A}
 use Rattle.ept_ckpt.specs.declared.node_line.NodeLine.{NodeLine}
@@ -37,11 +38,13 @@ pub record StandsFor (view : View) (files : Option Files) (may_leave : Files →
   pub agrees : (image : Files) → may_leave image → Agrees view.current all image
   pub shut : view.begun ≡ true → ¬ Counts all (next_letter view.current)
 
--- the next checkpoint: its lines, and what is given of the inputs
+-- the next checkpoint, of the newest version: its lines, and what is given of the inputs
 abbrev pub next_facts : View → Kept → List SourceCount → ℕ → CheckpointFacts
 next_facts view kept counts inserted = record {
+  version = V3;
   generation = next_generation view.current;
   kept = kept_facts kept;
+  precedence = precedence_of kept;
   sources = sources_of kept.inputs counts;
   inserted = inserted;
   nodes = view.lines;

@@ -8,9 +8,13 @@ ghost use Rattle.ept_base.specs.Moves.{Moves, IsSettled};
 ghost use Rattle.ept_ckpt.specs.declared.checkpoint.Checkpoint as c;
 ghost use Rattle.ept_ckpt.specs.Facts.{facts};
 ghost use Rattle.ept_ckpt.specs.Valid.{IsCheckpoint};
+ghost use Rattle.ept_ckpt.specs.declared.version.BodyVersion.TheVariants.{V3};
+ghost use Rattle.ept_ckpt.specs.Versions.{layout_of};
+ghost use Rattle.ept_point.specs.declared.layout.Layout.TheVariants.{Old, New};
 ghost use Rattle.ept_save.specs.Names.{body_name, gate_name};
 ghost use Rattle.ept_save.specs.Current.{Commits, HasCurrent};
 ghost use Rattle.ept_save.specs.View.{View, StandsFor, IsNewer, next_letter, next_generation, next_facts};
+ghost use Rattle.ept_save.specs.Tiles.{IsOfLayout};
 ghost use Rattle.ept_save.specs.Errors.{IsStores};
 
 use crate::error::SaveError;
@@ -22,7 +26,7 @@ use ept_config::{Kept, SourceCount};
 use std::alloc::Global;
 
 /// Makes the next checkpoint the current one: puts its body, and opens its gate once the body is stable.
-/// Its nodes are the saved lines, and its generation is one more than that of the current one.
+/// Its nodes are the saved lines, its version is the newest, and its generation is one more than that of the current one.
 pub fn commit<T: Store>(
     alloc: Global,
     store: &mut T,
@@ -32,7 +36,8 @@ pub fn commit<T: Store>(
     inserted: u64,
 ) -> Result<(), SaveError>
     requires begun { saved.old.begun ≡ true }
-    requires valid { IsCheckpoint (next_generation saved.old.current) kept.now counts.now inserted saved.old.lines }
+    requires newest { ¬ IsOfLayout Old saved.old.current }
+    requires valid { IsCheckpoint V3 (next_generation saved.old.current) kept.now counts.now inserted saved.old.lines }
     ensures current { OnOk result ((next : c.Checkpoint)
         × (facts next ≡ next_facts saved.old kept.now counts.now inserted)
         × (saved.new ≡ record saved.old { current = Some (next_letter saved.old.current, next); begun = false })) }
@@ -56,6 +61,34 @@ pub fn commit<T: Store>(
     ensures cause { HasCauseOf SaveError.StoreFault (T.faults store.old) (T.faults store.new) result }
 {
     let checkpoint = saved.next(alloc, kept, counts, inserted)?;
+    commit_checkpoint(alloc, store, saved, checkpoint)
+}
+
+/// Makes this checkpoint, of a greater generation, the current one, as [`commit`] does.
+pub(crate) fn commit_checkpoint<T: Store>(
+    alloc: Global,
+    store: &mut T,
+    saved: &mut Saved,
+    checkpoint: Checkpoint,
+) -> Result<(), SaveError>
+    requires begun { saved.old.begun ≡ true }
+    requires newest { layout_of checkpoint.version ≡ New }
+    requires newer { IsNewer saved.old.current checkpoint }
+    ensures current { OnOk result (saved.new
+        ≡ record saved.old { current = Some (next_letter saved.old.current, checkpoint); begun = false }) }
+    ensures unchanged { OnErr result (saved.new ≡ saved.old) }
+    ensures names { Moves T.files T.may_leave T.moment T.image_since (λ (old : Files) (new : Files). (name : List ℕ)
+        → name ≢ body_name (next_letter saved.old.current) → name ≢ gate_name (next_letter saved.old.current)
+        → new name ≡ old name) store.old store.new }
+    ensures commits { (stands : StandsFor saved.old (T.files store.old) (T.may_leave store.old))
+        → Moves T.files T.may_leave T.moment T.image_since
+        (Commits saved.old.current (next_letter saved.old.current) checkpoint stands.all) store.old store.new }
+    ensures stands { OnOk result (StandsFor saved.old (T.files store.old) (T.may_leave store.old)
+        → StandsFor saved.new (T.files store.new) (T.may_leave store.new)) }
+    ensures settled { OnOk result (IsSettled (T.files store.new) (T.may_leave store.new)) }
+    ensures only { IfErr result IsStores }
+    ensures cause { HasCauseOf SaveError.StoreFault (T.faults store.old) (T.faults store.new) result }
+{
     let letter = saved.next_letter();
     put_checkpoint(alloc, store, letter, &checkpoint)?;
     saved.current = Some((letter, checkpoint));
@@ -70,6 +103,7 @@ fn put_checkpoint<T: Store>(
     letter: Letter,
     checkpoint: &Checkpoint,
 ) -> Result<(), SaveError>
+    requires newest { layout_of checkpoint.now.version ≡ New }
     ensures names { Moves T.files T.may_leave T.moment T.image_since (λ (old : Files) (new : Files). (name : List ℕ)
         → name ≢ body_name letter → name ≢ gate_name letter → new name ≡ old name) store.old store.new }
     ensures commits { (view : View) → view.begun ≡ true → letter ≡ next_letter view.current

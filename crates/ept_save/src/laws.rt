@@ -1,7 +1,7 @@
 //! What holds of sound files, and of a store that stands for a [`Saved`]. Each law is the contract of a function that does nothing.
 
 ghost use Rattle.ept_save.specs.View.{StandsFor, IsInEachImage};
-ghost use Rattle.ept_save.specs.SoundLaws.{EmptyIsSound, CurrentIsOne, CurrentIsNotBad, SoundHasNoBad, DoneIsComplete, KeepingKeepsSound, SameIsSound, BesideKeepsSound, InputsAreEnough, DoneIsPublished, GuardingKeepsSound, PuttingKeepsSound, CommittingKeepsSound};
+ghost use Rattle.ept_save.specs.SoundLaws.{EmptyIsSound, CurrentIsOne, CurrentIsNotBad, SoundHasNoBad, DoneIsComplete, KeepingKeepsSound, SameIsSound, BesideKeepsSound, InputsAreEnough, DoneIsPublished, GuardingKeepsSound, PuttingKeepsSound, CommittingKeepsSound, MigratingKeepsSound};
 
 use crate::saved::Saved;
 use ept_base::Store;
@@ -20,7 +20,8 @@ pub fn sound_law()
 
 /// Sound files stay sound if what is current is kept. Of the shelf only the inputs of the current checkpoint matter, and
 /// of names only a build's. They also stay sound if the done gate is closed, or opened with the output all there. So they
-/// do if files of the output change while it is closed, and if the next checkpoint is committed with its tiles.
+/// do if files of the output change while it is closed, if the next checkpoint is committed with its tiles, and if one with
+/// tiles of the old layout is migrated.
 pub fn sound_steps_law()
     ensures same { SameIsSound }
     ensures shelf { InputsAreEnough }
@@ -29,6 +30,7 @@ pub fn sound_steps_law()
     ensures guarding { GuardingKeepsSound }
     ensures putting { PuttingKeepsSound }
     ensures committing { CommittingKeepsSound }
+    ensures migrating { MigratingKeepsSound }
 {
     output_once_law();
     output_names_law();

@@ -5,13 +5,15 @@ ghost use Rattle.ept_base.specs.Causes.{HasCauseOf};
 ghost use Rattle.ept_base.specs.Files.{Files, SameFiles, Tells};
 ghost use Rattle.ept_base.specs.Moves.{Moves, SameImages};
 ghost use Rattle.ept_point.specs.Order.{IsAscending};
-ghost use Rattle.ept_point.specs.Packed.{tile};
+ghost use Rattle.ept_point.specs.Layout.{IsTileIn};
+ghost use Rattle.ept_ckpt.specs.Versions.{layout_of};
 ghost use Rattle.ept_grid.specs.Node.{IsNodeOf};
 ghost use Rattle.ept_grid.specs.declared.error.GridError.{GridError};
 ghost use Rattle.ept_grid.specs.Tile.{IsTileFault};
 ghost use Rattle.ept_meta.specs.Output.{rules_of};
 ghost use Rattle.ept_save.specs.Errors.{IsStores};
 ghost use Rattle.ept_save.specs.Current.{HasCurrent, tile_of_line};
+ghost use Rattle.ept_save.specs.Tiles.{HasTileUnder};
 ghost use Rattle.ept_save.specs.Sound.{IsSound};
 ghost use Rattle.ept_save.specs.Loading.{HasLine, AreOfLine, AreFound, HasTile, IsNodeFound, AppendsFound, IsWrong, IsDamaged, IsDamagedUnder, IsDamagedLine};
 ghost use Rattle.ept_save.specs.View as view;
@@ -21,11 +23,10 @@ use crate::error::SaveError;
 use crate::names::work_tile_name;
 use crate::saved::Saved;
 use ept_base::Store;
-use ept_ckpt::NodeLine;
-use ept_config::Kept;
+use ept_ckpt::{Checkpoint, NodeLine};
 use ept_grid::{Grid, GridError, Lists};
 use ept_meta::{output_once_law, rules_of};
-use ept_point::{Point, TileError, read_tile, tile_once_law};
+use ept_point::{Layout, Point, TileError, read_tile_in, tile_once_law};
 use ept_space::{Key, Rules};
 use std::alloc::Global;
 
@@ -136,7 +137,7 @@ fn load<T: Store>(
     mask_known(line);
     tile_once_law();
     output_once_law();
-    load_saved(alloc, store, &checkpoint.kept, line, out)
+    load_saved(alloc, store, checkpoint, line, out)
 }
 
 // Tells a proof that a mask is a byte.
@@ -150,30 +151,30 @@ fn mask_known(line: &NodeLine)
 fn load_saved<T: Store>(
     alloc: Global,
     store: &mut T,
-    kept: &Kept,
+    checkpoint: &Checkpoint,
     line: &NodeLine,
     out: &mut Vec<Point>,
 ) -> Result<Grid, SaveError>
-    requires low { line.now.key.depth ≤ (rules_of kept.now).cube.depth }
+    requires low { line.now.key.depth ≤ (rules_of checkpoint.now.kept).cube.depth }
     ensures appended { IfOk result (λ node. out.new.items ≡ out.old.items ++ node.points) }
     ensures unchanged { OnErr result (out.new.items ≡ out.old.items) }
-    ensures node { IfOk result (λ node. IsNodeOf line.now.key (rules_of kept.now) line.now.mask node.points node) }
-    ensures points { IfOk result (λ node. AreOfLine (rules_of kept.now) line.now node.points) }
+    ensures node { IfOk result (λ node. IsNodeOf line.now.key (rules_of checkpoint.now.kept) line.now.mask node.points node) }
+    ensures points { IfOk result (λ node. AreOfLine (rules_of checkpoint.now.kept) line.now node.points) }
     ensures tile { IfOk result (λ node.
-        Tells (λ all. all (tile_of_line line.now) ≡ Some (tile node.points)) (T.files store.old)) }
+        Tells (HasTileUnder (layout_of checkpoint.now.version) (tile_of_line line.now) node.points) (T.files store.old)) }
     ensures refused { result ≡ Err (SaveError.TileDamaged line.now.key)
-        → Tells (IsDamagedLine (rules_of kept.now) line.now) (T.files store.old) }
+        → Tells (IsDamagedLine (layout_of checkpoint.now.version) (rules_of checkpoint.now.kept) line.now) (T.files store.old) }
     ensures only { IfErr result (λ e. (e ≡ SaveError.TileDamaged line.now.key) ⊎ IsStores e) }
     ensures images { SameImages (T.may_leave store.old) (T.may_leave store.new) }
     ensures any_moment { Moves T.files T.may_leave T.moment T.image_since SameFiles store.old store.new }
     ensures cause { HasCauseOf SaveError.StoreFault (T.faults store.old) (T.faults store.new) result }
 {
     let name = work_tile_name(alloc, line.letter, &line.key)?;
-    read_line(alloc, store, name.as_str(), kept, line, out)
+    read_line(alloc, store, name.as_str(), checkpoint, line, out)
 }
 
-/// The node of a line, by the rules that are kept, from the file of this name. Its points are appended. One file is
-/// read, and nothing is put.
+/// The node of a line of a checkpoint, by its rules, from the file of this name, in the layout of its tiles. Its points are
+/// appended. One file is read, and nothing is put.
 ///
 /// # Errors
 ///
@@ -184,21 +185,21 @@ pub fn load_line<T: Store>(
     alloc: Global,
     store: &mut T,
     name: &str,
-    kept: &Kept,
+    checkpoint: &Checkpoint,
     line: &NodeLine,
     out: &mut Vec<Point>,
 ) -> Result<Grid, SaveError>
-    requires low { line.now.key.depth ≤ (rules_of kept.now).cube.depth }
+    requires low { line.now.key.depth ≤ (rules_of checkpoint.now.kept).cube.depth }
     ensures appended { IfOk result (λ node. out.new.items ≡ out.old.items ++ node.points) }
     ensures unchanged { OnErr result (out.new.items ≡ out.old.items) }
-    ensures node { IfOk result (λ node. IsNodeOf line.now.key (rules_of kept.now) line.now.mask node.points node) }
-    ensures points { IfOk result (λ node. AreOfLine (rules_of kept.now) line.now node.points) }
-    ensures tile { IfOk result (λ node. Tells (λ all. all name.now ≡ Some (tile node.points)) (T.files store.old)) }
+    ensures node { IfOk result (λ node. IsNodeOf line.now.key (rules_of checkpoint.now.kept) line.now.mask node.points node) }
+    ensures points { IfOk result (λ node. AreOfLine (rules_of checkpoint.now.kept) line.now node.points) }
+    ensures tile { IfOk result (λ node. Tells (HasTileUnder (layout_of checkpoint.now.version) name.now node.points) (T.files store.old)) }
 
     // A damaged tile is reported exactly if it is one, unless the store fails or memory runs out.
     ensures refused { result ≡ Err (SaveError.TileDamaged line.now.key)
-        → Tells (IsDamagedUnder (rules_of kept.now) name.now line.now) (T.files store.old) }
-    ensures intact { OnOk result (Tells (λ all. ¬ IsDamagedUnder (rules_of kept.now) name.now line.now all)
+        → Tells (IsDamagedUnder (layout_of checkpoint.now.version) (rules_of checkpoint.now.kept) name.now line.now) (T.files store.old) }
+    ensures intact { OnOk result (Tells (λ all. ¬ IsDamagedUnder (layout_of checkpoint.now.version) (rules_of checkpoint.now.kept) name.now line.now all)
         (T.files store.old)) }
     ensures only { IfErr result (λ e. (e ≡ SaveError.TileDamaged line.now.key) ⊎ IsStores e) }
     ensures images { SameImages (T.may_leave store.old) (T.may_leave store.new) }
@@ -206,7 +207,7 @@ pub fn load_line<T: Store>(
     ensures cause { HasCauseOf SaveError.StoreFault (T.faults store.old) (T.faults store.new) result }
 {
     tile_once_law();
-    read_line(alloc, store, name, kept, line, out)
+    read_line(alloc, store, name, checkpoint, line, out)
 }
 
 // The node of a line, from the file of this name, as `load_line` says.
@@ -214,34 +215,42 @@ fn read_line<T: Store>(
     alloc: Global,
     store: &mut T,
     name: &str,
-    kept: &Kept,
+    checkpoint: &Checkpoint,
     line: &NodeLine,
     out: &mut Vec<Point>,
 ) -> Result<Grid, SaveError>
-    requires low { line.now.key.depth ≤ (rules_of kept.now).cube.depth }
+    requires low { line.now.key.depth ≤ (rules_of checkpoint.now.kept).cube.depth }
     ensures appended { IfOk result (λ node. out.new.items ≡ out.old.items ++ node.points) }
     ensures unchanged { OnErr result (out.new.items ≡ out.old.items) }
-    ensures node { IfOk result (λ node. IsNodeOf line.now.key (rules_of kept.now) line.now.mask node.points node) }
-    ensures points { IfOk result (λ node. AreOfLine (rules_of kept.now) line.now node.points) }
-    ensures tile { IfOk result (λ node. Tells (λ all. all name.now ≡ Some (tile node.points)) (T.files store.old)) }
+    ensures node { IfOk result (λ node. IsNodeOf line.now.key (rules_of checkpoint.now.kept) line.now.mask node.points node) }
+    ensures points { IfOk result (λ node. AreOfLine (rules_of checkpoint.now.kept) line.now node.points) }
+    ensures tile { IfOk result (λ node. Tells (HasTileUnder (layout_of checkpoint.now.version) name.now node.points) (T.files store.old)) }
     ensures refused { result ≡ Err (SaveError.TileDamaged line.now.key)
-        → Tells (IsDamagedUnder (rules_of kept.now) name.now line.now) (T.files store.old) }
+        → Tells (IsDamagedUnder (layout_of checkpoint.now.version) (rules_of checkpoint.now.kept) name.now line.now) (T.files store.old) }
     ensures only { IfErr result (λ e. (e ≡ SaveError.TileDamaged line.now.key) ⊎ IsStores e) }
     ensures images { SameImages (T.may_leave store.old) (T.may_leave store.new) }
     ensures any_moment { Moves T.files T.may_leave T.moment T.image_since SameFiles store.old store.new }
     ensures cause { HasCauseOf SaveError.StoreFault (T.faults store.old) (T.faults store.new) result }
 {
-    let rules = rules_of(kept);
+    let rules = rules_of(&checkpoint.kept);
     let mut bytes = Vec::new(alloc);
     if !store.get(name, &mut bytes)? {
         return Err(SaveError::TileDamaged { key: line.key });
     }
-    node_of_bytes(alloc, &rules, line, &bytes, out)
+    node_of_bytes(
+        alloc,
+        checkpoint.version.layout(),
+        &rules,
+        line,
+        &bytes,
+        out,
+    )
 }
 
 // The node that a line tells of, from the bytes of its tile. Its points are appended.
 fn node_of_bytes(
     alloc: Global,
+    layout: Layout,
     rules: &Rules,
     line: &NodeLine,
     bytes: &[u8],
@@ -252,12 +261,12 @@ fn node_of_bytes(
     ensures unchanged { OnErr result (out.new.items ≡ out.old.items) }
     ensures node { IfOk result (λ node. IsNodeOf line.now.key rules.now line.now.mask node.points node) }
     ensures points { IfOk result (λ node. AreOfLine rules.now line.now node.points) }
-    ensures tile { IfOk result (λ node. bytes.now ≡ tile node.points) }
-    ensures refused { result ≡ Err (SaveError.TileDamaged line.now.key) → IsWrong rules.now line.now bytes.now }
+    ensures tile { IfOk result (λ node. IsTileIn layout bytes.now node.points) }
+    ensures refused { result ≡ Err (SaveError.TileDamaged line.now.key) → IsWrong layout rules.now line.now bytes.now }
     ensures only { IfErr result (λ e. (e ≡ SaveError.TileDamaged line.now.key) ⊎ (e ≡ SaveError.Memory)) }
 {
     let kept = out.len();
-    match read_tile(bytes, out) {
+    match read_tile_in(layout, bytes, out) {
         Ok(()) => {}
         Err(TileError::Memory) => return Err(SaveError::Memory),
         Err(_) => return Err(SaveError::TileDamaged { key: line.key }),

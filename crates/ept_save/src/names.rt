@@ -8,7 +8,7 @@ use ept_space::Key;
 use std::alloc::{AllocError, Global};
 
 /// The gate that is open where the output is whole.
-pub(crate) const DONE: &str = "ept-work/done";
+pub(crate) const DONE: &str = "ept-work/done-2";
 
 /// The other one of the two letters.
 pub(crate) fn other(letter: Letter) -> Letter

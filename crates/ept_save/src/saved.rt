@@ -1,17 +1,23 @@
 //! What is known of a store's checkpoints.
 
-ghost use Rattle.std.specs.Prelude.{◌≡◌, ◌<◌, ◌^◌, [], map, false, option_map, OnOk, OnErr, IfOk};
+ghost use Rattle.std.specs.Prelude.{◌≡◌, ◌<◌, ◌^◌, [], map, false, Some, option_map, OnOk, OnErr, IfOk};
 ghost use Rattle.std.specs.Option.{option_copied};
 ghost use Rattle.ept_ckpt.specs.Facts.{facts};
+ghost use Rattle.ept_ckpt.specs.declared.letter.Letter as letters;
+ghost use Rattle.ept_ckpt.specs.declared.checkpoint.Checkpoint as kept;
+ghost use Rattle.ept_point.specs.declared.layout.Layout.TheVariants.{Old};
 ghost use Rattle.ept_ckpt.specs.Valid.{IsCheckpoint};
+ghost use Rattle.ept_ckpt.specs.declared.version.BodyVersion.TheVariants.{V3};
 ghost use Rattle.ept_save.specs.View.{next_letter, next_generation, next_facts};
 ghost use Rattle.ept_save.specs.Lines.{free_letter, with_line};
 ghost use Rattle.ept_save.specs.Loading.{current_line};
+ghost use Rattle.ept_save.specs.Migrating.{turned, IsTurnOf};
 ghost use Rattle.ept_save.specs.Opening.{lines_of};
 ghost use Rattle.ept_save.specs.Stored.{line_of};
+ghost use Rattle.ept_save.specs.Tiles.{IsOfLayout};
 
 use crate::names::other;
-use ept_ckpt::{Checkpoint, Letter, NodeLine};
+use ept_ckpt::{BodyVersion, Checkpoint, Letter, NodeLine};
 use ept_config::{Kept, SourceCount};
 use ept_point::{List, Memory};
 use ept_space::Key;
@@ -131,7 +137,7 @@ impl Saved {
         Ok(())
     }
 
-    /// The next checkpoint.
+    /// The next checkpoint, of the newest version.
     pub(crate) fn next(
         &self,
         alloc: Global,
@@ -139,16 +145,33 @@ impl Saved {
         counts: &[SourceCount],
         inserted: u64,
     ) -> Result<Checkpoint, Memory>
-        requires { IsCheckpoint (next_generation self.now.current) kept.now counts.now inserted self.now.lines }
+        requires { IsCheckpoint V3 (next_generation self.now.current) kept.now counts.now inserted self.now.lines }
         ensures { IfOk result (λ next. facts next ≡ next_facts self.now kept.now counts.now inserted) }
     {
         Ok(Checkpoint {
+            version: BodyVersion::NEWEST,
             generation: self.next_generation(),
             kept: kept.copy(alloc)?,
             counts: List::of(Vec::from_slice(alloc, counts)?),
             inserted,
             nodes: List::of(self.nodes(alloc)?),
         })
+    }
+
+    /// The next checkpoint of a migration, whose nodes are the lines: of the same points as the current one.
+    pub(crate) fn next_turned(&self, alloc: Global) -> Result<Checkpoint, Memory>
+        requires old { IsOfLayout Old self.now.current }
+        requires turned { self.now.lines ≡ map turned (lines_of self.now.current) }
+        ensures { IfOk result (λ next. (letter : letters.Letter) (c : kept.Checkpoint) → self.now.current ≡ Some (letter, c)
+            → IsTurnOf c next) }
+    {
+        let (_, checkpoint) = self.current.as_ref().unwrap();
+        self.next(
+            alloc,
+            &checkpoint.kept,
+            checkpoint.counts.as_slice(),
+            checkpoint.inserted,
+        )
     }
 
     // The generation of the next checkpoint.
@@ -162,8 +185,8 @@ impl Saved {
         }
     }
 
-    // The lines as a list.
-    fn nodes(&self, alloc: Global) -> Result<Vec<NodeLine>, Memory>
+    /// The lines as a list.
+    pub(crate) fn nodes(&self, alloc: Global) -> Result<Vec<NodeLine>, Memory>
         ensures { IfOk result (λ nodes. nodes.items ≡ self.now.lines) }
     {
         let mut nodes = Vec::with_capacity(alloc, self.lines.len())?;

@@ -4,6 +4,7 @@ ghost use Rattle.std.specs.Prelude.{◌≡◌, true, List, length, IfErr, OnOk, 
 ghost use Rattle.ept_base.specs.Causes.{HasCauseOf};
 ghost use Rattle.ept_base.specs.Files.{SameBut, Puts, StepsBy};
 ghost use Rattle.ept_base.specs.Moves.{Moves, IsSettled};
+ghost use Rattle.ept_point.specs.declared.layout.Layout.TheVariants.{Old};
 ghost use Rattle.ept_point.specs.Packed.{tile};
 ghost use Rattle.ept_ckpt.specs.declared.node_line.NodeLine.{NodeLine};
 ghost use Rattle.ept_save.specs.Names.{gate_name, work_tile_name};
@@ -11,6 +12,7 @@ ghost use Rattle.ept_save.specs.Gates.{Closes};
 ghost use Rattle.ept_save.specs.Current.{Keeps};
 ghost use Rattle.ept_save.specs.View.{StandsFor, next_letter};
 ghost use Rattle.ept_save.specs.Lines.{free_letter, with_line};
+ghost use Rattle.ept_save.specs.Tiles.{IsOfLayout};
 ghost use Rattle.ept_save.specs.Errors.{IsStores};
 
 use crate::error::SaveError;
@@ -58,6 +60,7 @@ pub fn save_tile<T: Store>(
     mask: u8,
     points: &[Point],
 ) -> Result<(), SaveError>
+    requires newest { ¬ IsOfLayout Old saved.old.current }
     ensures line { OnOk result (saved.new ≡ record saved.old {
       lines = with_line
           (record { key = key; count = length points.now; mask = mask; letter = free_letter saved.old.current key })
@@ -69,6 +72,36 @@ pub fn save_tile<T: Store>(
     ensures unchanged { OnErr result (saved.new ≡ saved.old) }
 
     // Whatever the moment, no name but this tile changes, and the current checkpoint stays.
+    ensures one_tile { Moves T.files T.may_leave T.moment T.image_since
+        (SameBut (work_tile_name (free_letter saved.old.current key) key)) store.old store.new }
+    ensures keeps { Moves T.files T.may_leave T.moment T.image_since
+        (Keeps saved.old.current) store.old store.new }
+    ensures stands { StandsFor saved.old (T.files store.old) (T.may_leave store.old)
+        → StandsFor saved.new (T.files store.new) (T.may_leave store.new) }
+    ensures only { IfErr result IsStores }
+    ensures cause { HasCauseOf SaveError.StoreFault (T.faults store.old) (T.faults store.new) result }
+{
+    save_points(alloc, store, saved, key, mask, points)
+}
+
+/// Puts the tile of a node, as [`save_tile`] does, whatever the layout of the current checkpoint's tiles.
+pub(crate) fn save_points<T: Store>(
+    alloc: Global,
+    store: &mut T,
+    saved: &mut Saved,
+    key: Key,
+    mask: u8,
+    points: &[Point],
+) -> Result<(), SaveError>
+    ensures line { OnOk result (saved.new ≡ record saved.old {
+      lines = with_line
+          (record { key = key; count = length points.now; mask = mask; letter = free_letter saved.old.current key })
+          saved.old.lines;
+    }) }
+    ensures puts { OnOk result (StepsBy
+        (Puts (work_tile_name (free_letter saved.old.current key) key) (tile points.now))
+        (T.files store.old) (T.files store.new)) }
+    ensures unchanged { OnErr result (saved.new ≡ saved.old) }
     ensures one_tile { Moves T.files T.may_leave T.moment T.image_since
         (SameBut (work_tile_name (free_letter saved.old.current key) key)) store.old store.new }
     ensures keeps { Moves T.files T.may_leave T.moment T.image_since

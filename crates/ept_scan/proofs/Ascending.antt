@@ -1,8 +1,9 @@
 -- The points of a scan stand in the order of their ids, and no two have one id.
 use Rattle.std.proofs.Common.{◌≡◌, ⊎_elim, ℕ, zero, suc, ◌+◌, ◌<◌, ◌≤◌, List, [], ◌∷◌, ◌++◌, Option, length, get_or, sym, ◌∙◌, subst, arith, inl, inr}
 use Rattle.std.specs.Prelude.{All}
+use Rattle.std.specs.List.{AllZip}
 use Rattle.std.proofs.lemmas.Bool.{cases_lt}
-use Rattle.std.proofs.lemmas.List.Elements.{All-nil, All-append, All-weaker}
+use Rattle.std.proofs.lemmas.List.Elements.{All-nil, All-head, All-tail, All-append, All-weaker}
 use Rattle.ept_base.specs.Files.{Files}
 use Rattle.ept_point.specs.declared.id.PointId.{PointId}
 use Rattle.ept_point.specs.declared.point.Point.{Point}
@@ -10,6 +11,8 @@ use Rattle.ept_point.specs.Order.{id, IsBefore, FollowedBy, IsAscending}
 use Rattle.ept_point.proofs.OrderLaws.{not_before_itself, before_trans}
 use Rattle.ept_space.specs.declared.bounds.Bounds.{Bounds}
 use Rattle.ept_config.specs.declared.input.Input.{Input}
+use Rattle.ept_config.specs.declared.source_count.SourceCount.{SourceCount}
+use Rattle.ept_config.specs.Counts.{IsCountOf}
 use Rattle.ept_scan.specs.declared.scan_done.ScanDone.{ScanDone}
 use Rattle.ept_scan.specs.Laws.{HaveDistinctIds}
 use Rattle.ept_scan.specs.Scans.{in_order, HasPointsAt, IsScan}
@@ -47,6 +50,16 @@ lists_ascend i (l ∷ lists) each =
       All-append (λ p. i ≤ p.origin) l (in_order lists) (λ k d lt. omega (arith, (here k d lt).0)) (All-weaker (λ p. i + 1 ≤ p.origin) (λ p. i ≤ p.origin) (λ p h. omega (arith, h)) (in_order lists) others.1),
     )
 
+-- where no input has more points than that, they have numbers below it
+numbers_below : (i most : ℕ) (lists : List (List Point)) (counts : List SourceCount) → AllZip IsCountOf lists counts → All (λ count. count.points ≤ most) counts
+    → ((k : ℕ) (d : List Point) → k < length lists → AreNumbered (i + k) 0 (get_or lists k d)) → All (λ p. p.number < most) (in_order lists)
+numbers_below i most [] counts zip few each = All-nil (λ p. p.number < most)
+numbers_below i most (l ∷ lists) [] zip few each = absurd zip
+numbers_below i most (l ∷ lists) (c ∷ counts) zip few each =
+    let here : c.points ≤ most = All-head (λ (count : SourceCount). count.points ≤ most) c counts few in
+    All-append (λ p. p.number < most) l (in_order lists) (λ k d lt. omega (arith, (each 0 l (omega arith) k d lt).1, lt, zip.0.number, here))
+    (numbers_below (i + 1) most lists counts zip.1 (All-tail (λ (count : SourceCount). count.points ≤ most) c counts few) (λ k d lt j e inside. let at = each (suc k) d (omega (arith, lt)) j e inside in (omega (arith, at.0), at.1)))
+
 -- the first of ascending points comes before each other
 first_before : (p : Point) (points : List Point) (k : ℕ) (d : Point) → IsAscending (p ∷ points) → k < length points → IsBefore (id p) (id (get_or points k d))
 first_before p [] k d up lt = absurd (omega (arith, lt))
@@ -79,6 +92,10 @@ module _ (all : Files) (scale : ℕ) (limits : Option Bounds) (inputs : List Inp
 
   pub scan_distinct : (from : ℕ) (points : List Point) (done : ScanDone) → IsScan all scale limits inputs from points done → HaveDistinctIds points
   scan_distinct from points done scan = distinct points (scan_ascends from points done scan)
+
+  pub scan_numbered : (from : ℕ) (points : List Point) (done : ScanDone) (most : ℕ) → IsScan all scale limits inputs from points done → All (λ count. count.points ≤ most) done.counts → All (λ p. p.number < most) points
+  scan_numbered from points done most scan few =
+      subst (All (λ p. p.number < most)) (sym scan.points_are) (numbers_below from most scan.lists done.counts scan.counts_are few (λ k d lt. numbered (from + k) (get_or scan.lists k d) (scan.are.each k d lt)))
 
   pub scan_origins : (from : ℕ) (points : List Point) (done : ScanDone) → IsScan all scale limits inputs from points done → All (λ p. p.origin < length inputs) points
   scan_origins from points done scan =

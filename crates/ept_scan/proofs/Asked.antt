@@ -1,8 +1,8 @@
 -- Paths that a shelf is asked for one after the other.
-use Rattle.std.proofs.Common.{◌≡◌, ℕ, zero, suc, ◌+◌, ◌-◌, ◌<◌, ◌≤◌, List, [], ◌∷◌, ◌++◌, Option, Some, None, Result, Ok, Err, length, take, drop, get_or, refl, sym, ◌∙◌, ap, subst, arith, append_assoc}
-use Rattle.std.specs.Prelude.{Bool, cond, map, slice_get}
+use Rattle.std.proofs.Common.{◌≡◌, ℕ, zero, suc, ◌+◌, ◌-◌, ◌<◌, ◌≤◌, List, [], ◌∷◌, ◌++◌, Option, Some, None, Result, Ok, Err, length, take, drop, get_or, refl, sym, ◌∙◌, ap, subst, arith, append_assoc, length-append, length-drop}
+use Rattle.std.specs.Prelude.{Bool, IfErr, cond, map, slice_get}
 use Rattle.std.proofs.lemmas.Bool.{lt-ltb, le-ltb}
-use Rattle.std.proofs.lemmas.List.{append-nil, take_at, take-append-drop, drop_more, drop_all}
+use Rattle.std.proofs.lemmas.List.{append-nil, length-map, take_at, take-append-drop, drop_more, drop_all}
 use Rattle.std.proofs.lemmas.List.Sums.{sum_by-cons}
 use Rattle.std.proofs.lemmas.Option.{get_or_from_slice_get, slice_get_within}
 use Rattle.ept_base.specs.Files.{StepsBy}
@@ -12,7 +12,12 @@ use Rattle.ept_base.specs.declared.errors.GetError.TheVariants as get
 use Rattle.ept_config.specs.declared.input.Input.{Input}
 use Rattle.ept_config.specs.declared.source_count.SourceCount.{SourceCount}
 use Rattle.ept_config.specs.Counts.{total}
-use Rattle.ept_scan.specs.Asking.{AsksFor, OpensThese, paths_from, path_left, paths_left}
+use Rattle.ept_scan.specs.declared.scan_error.ScanError.{ScanError}
+use Rattle.ept_scan.specs.declared.scan_error.ScanError.TheVariants.{SourceFault, BadLas, OutOfBounds, TooManyPoints, NoBounds, Memory}
+use Rattle.ept_scan.specs.Refusals.{NamesInput, scan_error_of}
+use Rattle.ept_scan.specs.Scans.{Blames}
+use Rattle.ept_scan.specs.Asking.{AsksFor, OpensThese, OpensUpTo, StopsAt, paths_from, path_left, paths_left}
+use Rattle.ept_scan.proofs.OneScan.{blames}
 
 -- the front of these paths was asked for, and these are left
 abbrev pub HasAsked : List (List ℕ) → List (List ℕ) → Option (List (List ℕ)) → Option (List (List ℕ)) → Type 0
@@ -67,6 +72,15 @@ opens_refused T path get.Memory old new asks = (0, same old new asks)
     same (Some a) None asks = absurd asks
     same (Some a) (Some b) asks = asks ∙ sym (append-nil a)
 
+-- so many were asked for
+asked_count : (all rest : List (List ℕ)) (n : ℕ) (old now : Option (List (List ℕ))) → length all ≡ n + length rest → HasAsked all rest old now → AsksFor (take n all) old now
+asked_count all rest n None None size has = tt
+asked_count all rest n None (Some b) size has = absurd has
+asked_count all rest n (Some a) None size has = absurd has
+asked_count all rest n (Some a) (Some b) size has =
+    let mine : length has.0 ≡ n = omega (arith, size, ap length has.2, length-append has.0 rest) in
+    has.1 ∙ ap (λ (l : List (List ℕ)). a ++ l) (sym (ap (λ (l : List (List ℕ)). take n l) has.2 ∙ take_at has.0 rest n mine))
+
 -- the inputs from one on
 ahead : (inputs : List Input) (i : ℕ) (input : Input) → slice_get inputs i ≡ Some input → drop i inputs ≡ input ∷ drop (i + 1) inputs
 ahead inputs i input is =
@@ -77,6 +91,44 @@ paths_more inputs i input is = ap (λ (l : List Input). map (λ (q : Input). q.p
 
 pub paths_none : (inputs : List Input) (i : ℕ) → length inputs ≤ i → paths_from inputs i ≡ []
 paths_none inputs i past = ap (λ (l : List Input). map (λ (q : Input). q.path) l) (drop_all i inputs past)
+
+paths_length : (inputs : List Input) (i : ℕ) → length (paths_from inputs i) ≡ length inputs - i
+paths_length inputs i = length-map (drop i inputs) (λ (q : Input). q.path) ∙ length-drop i inputs
+
+-- a scan that is refused by the file of an input
+module _ (inputs : List Input) (from i : ℕ) (input : Input) (is : slice_get inputs i ≡ Some input) (le : from ≤ i) (lt : i < length inputs) (old now new : Option (List (List ℕ))) (has : HasAsked (paths_from inputs from) (paths_from inputs i) old now) where
+  up_to_here : AsksFor (input.path ∷ []) now new → OpensUpTo inputs from i old new
+  up_to_here asks =
+      let front : HasAsked (paths_from inputs from) (paths_from inputs (i + 1)) old new = asked_more (paths_from inputs from) (input.path ∷ []) (paths_from inputs (i + 1)) old now new (subst (λ (l : List (List ℕ)). HasAsked (paths_from inputs from) l old now) (paths_more inputs i input is) has) asks in
+      record {
+        behind = le;
+        within = lt;
+        asked = asked_count (paths_from inputs from) (paths_from inputs (i + 1)) (i + 1 - from) old new (omega (arith, le, lt, paths_length inputs from, paths_length inputs (i + 1))) front;
+      }
+
+  at_input : (source : ℕ) → source ≡ i → AsksFor (input.path ∷ []) now new → OpensUpTo inputs from source old new
+  at_input source same asks = subst (λ (n : ℕ). OpensUpTo inputs from n old new) (sym same) (up_to_here asks)
+
+  pub stops_here : (origin : ℕ) (e : ScanError) → origin ≡ i → NamesInput origin e → Blames e (AsksFor (input.path ∷ []) now new) → StopsAt inputs from old new e
+  stops_here origin SourceFault here named asks = tt
+  stops_here origin Memory here named asks = tt
+  stops_here origin NoBounds here named asks = absurd named
+  stops_here origin (BadLas source fault) here named asks = at_input source (named ∙ here) asks
+  stops_here origin (OutOfBounds source number) here named asks = at_input source (named ∙ here) asks
+  stops_here origin (TooManyPoints source) here named asks = at_input source (named ∙ here) asks
+
+-- what a source that cannot be had says of an input
+pub names_none : (origin : ℕ) (e : GetError) → NamesInput origin (scan_error_of e)
+names_none origin get.Failed = tt
+names_none origin get.Memory = tt
+
+pub blames_none : (fact : Type 0) (e : GetError) → Blames (scan_error_of e) fact
+blames_none fact get.Failed = tt
+blames_none fact get.Memory = tt
+
+pub refused_blames : {T : Type 0} (r : Result T ScanError) (fact : Type 0) → fact → IfErr r (λ e. Blames e fact)
+refused_blames (Ok v) fact is = tt
+refused_blames (Err e) fact is = blames e fact is
 
 -- those of which records are left
 left_at : (inputs : List Input) (counts : List SourceCount) (input : Input) (count : SourceCount) → paths_left (input ∷ inputs) (count ∷ counts) 0 ≡ path_left input count 0 ++ paths_left inputs counts 0

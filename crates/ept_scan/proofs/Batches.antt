@@ -1,5 +1,5 @@
 -- Records that are drawn one after the other are a batch.
-use Rattle.std.proofs.Common.{◌≡◌, ⊎_elim, ℕ, ◌+◌, ◌-◌, ◌<◌, ◌≤◌, List, [], ◌∷◌, ◌++◌, Option, length, take, drop, get_or, refl, sym, ◌∙◌, ap, subst, arith, append_assoc, length-append, length-drop}
+use Rattle.std.proofs.Common.{◌≡◌, ⊎_elim, ℕ, ◌+◌, ◌-◌, ◌<◌, ◌≤◌, List, [], ◌∷◌, ◌++◌, Option, Some, length, take, drop, get_or, refl, sym, ◌∙◌, ap, subst, arith, append_assoc, length-append, length-drop}
 use Rattle.std.specs.Prelude.{All, sum_by}
 use Rattle.std.proofs.lemmas.Bool.{cases_lt}
 use Rattle.std.proofs.lemmas.List.{append-nil, take_at, take_more, get_or-drop, drop-drop, get_or_append_left}
@@ -30,6 +30,20 @@ are_more files n points p are is = λ k d lt.
     newest k d same =
         let read : get_or (points ++ p ∷ []) k d ≡ p = ap (λ (i : ℕ). get_or (points ++ p ∷ []) i d) same ∙ get_or-append_seam points p [] d in
         subst (λ (q : Point). IsDrawn files (n - k) q) (sym read) (subst (λ (i : ℕ). IsDrawn files (n - i) p) (sym same) is)
+
+-- a change that is kept, of the records that are left
+pub kept_change : (files : List Held) (at left most : ℕ) → at ≡ left → most ≤ left → (source n : ℕ) (e : ReadError) → Some e ≡ Some (SourceChanged source n) → IfChanged (IsFirstChanged files at most) e → IsFirstChanged files left left source n
+kept_change files at left most same within source n e is change =
+    let first : IsFirstChanged files at most source n = subst (IfChanged (IsFirstChanged files at most)) (one e (SourceChanged source n) is) change in
+    record {
+      before = first.before;
+      few = omega (arith, first.few, within);
+      drawn = subst (λ (i : ℕ). AreDrawn files i first.before) same first.drawn;
+      changed = subst (λ (i : ℕ). HasChanged files (i - length first.before) source n) same first.changed;
+    }
+  where
+    one : (a b : ReadError) → Some a ≡ Some b → a ≡ b
+    one a b same = cc
 
 module _ {S : Type 0} (queue : Queue S) where
   none_left : length queue.parts.items ≤ queue.at → records_left queue ≡ 0

@@ -21,7 +21,7 @@ use Rattle.ept_scan.specs.Places.{StandsAt, GivenAt}
 use Rattle.ept_scan.specs.Reach.{ReadsNoFurther, TakesOfFile}
 use Rattle.ept_scan.specs.Scans.{in_order, ArePointsFrom}
 use Rattle.ept_scan.specs.Queue.{HoldsPoints, held, RestOf, records_left, IsUnread, StandsBefore, IsQueue, AreNear, GiveNoMore}
-use Rattle.ept_scan.specs.Opening.{IsKeptScan, StartsAt, AreHeld, IsFileOf, HasOpened}
+use Rattle.ept_scan.specs.Opening.{IsKeptScan, StartsAt, AreHeld, IsFileOf, HasBytesOf, HasOpened}
 use Rattle.ept_scan.proofs.Listing.{zip_length}
 use Rattle.ept_scan.proofs.Asked.{some_of}
 use Rattle.ept_scan.proofs.Taking.{taken_none}
@@ -106,6 +106,13 @@ module _ {S : Type 0} (whole left : S → Option (List ℕ)) (given : S → ℕ)
 
   pub begun_files : All (IsFileOf kept counts) (map (held whole) queue.parts.items)
   begun_files = All-map (IsFileOf kept counts) (held whole) queue.parts.items opened.known
+
+  pub begun_bytes : Tells (λ all. All (HasBytesOf all kept.inputs) (map (held whole) queue.parts.items)) files
+  begun_bytes = told files opened.bytes
+    where
+      told : (files : Option Files) → Tells (λ all. All (λ part. HasBytesOf all kept.inputs (held whole part)) queue.parts.items) files → Tells (λ all. All (HasBytesOf all kept.inputs) (map (held whole) queue.parts.items)) files
+      told None known = tt
+      told (Some all) known = All-map (HasBytesOf all kept.inputs) (held whole) queue.parts.items known
 
   rest_told : (all : Files) → ((lists : List (List Point)) → ArePointsFrom all kept.scale (Some kept.bounds) kept.inputs 0 (length kept.inputs) lists → AllZip IsCountOf lists counts → AreHeld whole queue.parts.items (drop index (take (length counts) lists)))
       → (points : List Point) → IsKeptScan all kept counts points → RestOf whole queue (drop drawn points)

@@ -11,7 +11,7 @@ use Rattle.ept_las.specs.declared.header.TheConstants.{HEAD_LENGTH}
 use Rattle.ept_las.specs.Format.{IsFormat, record_length}
 use Rattle.ept_las.proofs.Formats.{least_length}
 use Rattle.ept_scan.specs.declared.reading.Reading.{Reading}
-use Rattle.ept_scan.specs.declared.reading.TheConstants.{MAX_POINTS}
+use Rattle.ept_config.specs.Counts.{most_points}
 use Rattle.ept_scan.specs.declared.scan_error.ScanError.{ScanError}
 use Rattle.ept_scan.specs.declared.scan_error.ScanError.TheVariants as scan
 use Rattle.ept_scan.specs.declared.record.Found.{Found}
@@ -27,7 +27,7 @@ use Rattle.ept_scan.proofs.SoFar.{IsAtRecord, point_is, outside_is, early_is}
 use Rattle.ept_scan.proofs.Reaching.{split_product}
 
 -- a refused header is told as a fault of the source, or as a change
-pub header_changed : (reading : Reading) (points next : ℕ) (whole left : Option (List ℕ)) (e : ScanError) → left ≡ whole → points ≤ MAX_POINTS → e ≢ scan.Memory → Tells (λ file. HeaderIsRefused reading file e) left → IsChange reading points next whole (change_of e reading.origin)
+pub header_changed : (reading : Reading) (points next : ℕ) (whole left : Option (List ℕ)) (e : ScanError) → left ≡ whole → points ≤ most_points → e ≢ scan.Memory → Tells (λ file. HeaderIsRefused reading file e) left → IsChange reading points next whole (change_of e reading.origin)
 header_changed reading points next whole left scan.SourceFault start few enough refused = tt
 header_changed reading points next whole left scan.Memory start few enough refused = absurd (enough refl)
 header_changed reading points next whole left scan.NoBounds start few enough refused = (refl, inl (refl, subst (Tells (HeaderDiffers reading points)) start (told left refused)))

@@ -21,6 +21,7 @@ mod Begun
 pub mod OneScan
 pub mod OneRefusal
 mod Taking
+mod ChangedInput
 pub mod Scanned
 pub mod Ascending
 pub mod Joined

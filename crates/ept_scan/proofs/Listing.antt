@@ -13,7 +13,7 @@ use Rattle.ept_space.specs.declared.bounds.Bounds.{Bounds}
 use Rattle.ept_config.specs.declared.input.Input.{Input}
 use Rattle.ept_config.specs.declared.source_count.SourceCount.{SourceCount}
 use Rattle.ept_scan.specs.declared.reading.Reading.{Reading}
-use Rattle.ept_scan.specs.declared.reading.TheConstants.{MAX_POINTS}
+use Rattle.ept_config.specs.Counts.{most_points}
 use Rattle.ept_scan.specs.declared.scan_error.ScanError.{ScanError}
 use Rattle.ept_scan.specs.declared.scan_error.ScanError.TheVariants.{SourceFault, BadLas, OutOfBounds, TooManyPoints, NoBounds, Memory}
 use Rattle.ept_config.specs.Extents.{HasExtent}
@@ -68,7 +68,7 @@ module _ (files : Option Files) (scale : ℕ) (limits : Option Bounds) (inputs :
   told_none (Some all) = record { count = omega arith; each = λ k d lt. absurd (omega (arith, lt)) }
 
   pub found_none : FindsLists files scale limits inputs from from []
-  found_none = record { lists = []; size = omega arith; counts_are = tt; few = All-nil (λ points. length points ≤ MAX_POINTS); allowed = All-nil (All (IsAllowed limits)); are = told_none files }
+  found_none = record { lists = []; size = omega arith; counts_are = tt; few = All-nil (λ points. length points ≤ most_points); allowed = All-nil (All (IsAllowed limits)); are = told_none files }
 
   module _ (i : ℕ) (input : Input) (reading : Reading) (is : slice_get inputs i ≡ Some input) (reading_is : IsReadingOf scale limits i input reading) where
     more : (all : Files) (lists : List (List Point)) (points : List Point) → ArePointsFrom all scale limits inputs from i lists → HasPoints all input.path reading points → ArePointsFrom all scale limits inputs from (i + 1) (lists ++ points ∷ [])
@@ -96,7 +96,7 @@ module _ (files : Option Files) (scale : ℕ) (limits : Option Bounds) (inputs :
       lists = so_far.lists ++ found.points ∷ [];
       size = omega (arith, so_far.size, length-append so_far.lists (found.points ∷ []));
       counts_are = zip_push IsCountOf so_far.lists counts found.points count so_far.counts_are found.is_count;
-      few = All-push (λ points. length points ≤ MAX_POINTS) so_far.lists found.points so_far.few found.few;
+      few = All-push (λ points. length points ≤ most_points) so_far.lists found.points so_far.few found.few;
       allowed = All-push (All (IsAllowed limits)) so_far.lists found.points so_far.allowed (subst (λ (o : Option Bounds). All (IsAllowed o) found.points) reading_is.limits_are found.allowed);
       are = told_more files so_far.lists found.points so_far.are found.are;
     }

@@ -10,7 +10,7 @@ use Rattle.ept_las.specs.declared.header.Header.{Header}
 use Rattle.ept_las.specs.LasHeader.{HeaderReadsAs}
 use Rattle.ept_las.specs.PointRecord.{IsPointOf, IsOutOfUnits}
 use Rattle.ept_scan.specs.declared.reading.Reading.{Reading}
-use Rattle.ept_scan.specs.declared.reading.TheConstants.{MAX_POINTS}
+use Rattle.ept_config.specs.Counts.{most_points}
 use Rattle.ept_scan.specs.declared.scan_error.ScanError.{ScanError}
 use Rattle.ept_scan.specs.declared.scan_error.ScanError.TheVariants.{SourceFault, BadLas, OutOfBounds, TooManyPoints, NoBounds, Memory}
 use Rattle.ept_scan.specs.Extents.{IsAllowed}
@@ -80,7 +80,7 @@ module _ (first second : Reading) (factor : second.shift.factor ≡ first.shift.
   refused_again : (file : List ℕ) (e : ScanError) → FileIsRefused first file e → FileIsRefused second file e
   refused_again file e refused =
       ⊎_elim (λ (header : HeaderIsRefused first file e). inl (header_again file e header))
-      (λ (records : (h : Header) × HasHeader first file h × (h.points ≤ MAX_POINTS) × RecordsAreRefused first h (records_of h file) e).
+      (λ (records : (h : Header) × HasHeader first file h × (h.points ≤ most_points) × RecordsAreRefused first h (records_of h file) e).
       inr (records.0, has_again file records.0 records.1, records.2, records_again records.0 (records_of records.0 file) e records.3)) refused
 
 module _ (all : Files) (scale : ℕ) (limits : Option Bounds) (inputs : List Input) (from : ℕ) where

@@ -12,7 +12,7 @@ use Rattle.ept_las.specs.declared.las_error.LasError.{LasError}
 use Rattle.ept_las.specs.declared.las_error.LasError.TheVariants.{Truncated}
 use Rattle.ept_las.proofs.HeaderLaws.{header_once}
 use Rattle.ept_scan.specs.declared.reading.Reading.{Reading}
-use Rattle.ept_scan.specs.declared.reading.TheConstants.{MAX_POINTS}
+use Rattle.ept_config.specs.Counts.{most_points}
 use Rattle.ept_scan.specs.declared.scan_done.ScanDone.{ScanDone}
 use Rattle.ept_scan.specs.declared.scan_error.ScanError.{ScanError}
 use Rattle.ept_scan.specs.declared.scan_error.ScanError.TheVariants.{SourceFault, BadLas, OutOfBounds, TooManyPoints, NoBounds, Memory}
@@ -53,7 +53,7 @@ module _ (reading : Reading) (header : Header) (records : List ℕ) where
       not_outside reading header records n (get_or points n d) (are.each n d lt) bad
 
 -- the header of a file that reads as points is not refused
-header_fine : (reading : Reading) (file : List ℕ) (header : Header) (e : ScanError) → HasHeader reading file header → header.points ≤ MAX_POINTS → HeaderIsRefused reading file e → Blames e ⊥
+header_fine : (reading : Reading) (file : List ℕ) (header : Header) (e : ScanError) → HasHeader reading file header → header.points ≤ most_points → HeaderIsRefused reading file e → Blames e ⊥
 header_fine reading file header SourceFault has few refused = tt
 header_fine reading file header Memory has few refused = tt
 header_fine reading file header NoBounds has few refused = refused
@@ -74,7 +74,7 @@ records_fine reading header records points (OutOfBounds source number) are refus
 pub file_or_refusal : (reading : Reading) (file : List ℕ) (xs : List Point) (e : ScanError) → ArePointsOf reading file xs → FileIsRefused reading file e → Blames e ⊥
 file_or_refusal reading file xs e are refused =
     ⊎_elim (λ header. header_fine reading file are.header e are.has_header are.few header)
-    (λ (records : (h : Header) × HasHeader reading file h × (h.points ≤ MAX_POINTS) × RecordsAreRefused reading h (records_of h file) e).
+    (λ (records : (h : Header) × HasHeader reading file h × (h.points ≤ most_points) × RecordsAreRefused reading h (records_of h file) e).
     let same : records.0 ≡ are.header = one_header reading file records.0 are.header records.1 are.has_header in
     records_fine reading are.header (records_of are.header file) xs e are.are (subst (λ (h : Header). RecordsAreRefused reading h (records_of h file) e) same records.3)) refused
 
@@ -164,10 +164,10 @@ pub one_cause : (reading : Reading) (file : List ℕ) (e f : ScanError) → File
 one_cause reading file e f is_e is_f =
     ⊎_elim
     (λ header_e. ⊎_elim (λ header_f. header_once_refused reading file e f header_e header_f)
-    (λ (records_f : (h : Header) × HasHeader reading file h × (h.points ≤ MAX_POINTS) × RecordsAreRefused reading h (records_of h file) f). from_blame e f (header_fine reading file records_f.0 e records_f.1 records_f.2 header_e)) is_f)
-    (λ (records_e : (h : Header) × HasHeader reading file h × (h.points ≤ MAX_POINTS) × RecordsAreRefused reading h (records_of h file) e).
+    (λ (records_f : (h : Header) × HasHeader reading file h × (h.points ≤ most_points) × RecordsAreRefused reading h (records_of h file) f). from_blame e f (header_fine reading file records_f.0 e records_f.1 records_f.2 header_e)) is_f)
+    (λ (records_e : (h : Header) × HasHeader reading file h × (h.points ≤ most_points) × RecordsAreRefused reading h (records_of h file) e).
     ⊎_elim (λ header_f. from_second e f (header_fine reading file records_e.0 f records_e.1 records_e.2 header_f))
-    (λ (records_f : (h : Header) × HasHeader reading file h × (h.points ≤ MAX_POINTS) × RecordsAreRefused reading h (records_of h file) f).
+    (λ (records_f : (h : Header) × HasHeader reading file h × (h.points ≤ most_points) × RecordsAreRefused reading h (records_of h file) f).
     let same : records_f.0 ≡ records_e.0 = one_header reading file records_f.0 records_e.0 records_f.1 records_e.1 in
     records_once reading records_e.0 (records_of records_e.0 file) e f records_e.3 (subst (λ (h : Header). RecordsAreRefused reading h (records_of h file) f) same records_f.3)) is_f)
     is_e

@@ -18,7 +18,7 @@ use Rattle.ept_scan.specs.declared.part.Part.{Part}
 use Rattle.ept_config.specs.Counts.{IsCountOf, total, IsCount}
 use Rattle.ept_scan.specs.Scans.{in_order, IsReadingOf, HasPointsAt, ArePointsFrom}
 use Rattle.ept_scan.specs.Queue.{Held, HoldsPoints, held, IsUnread, IsLimited}
-use Rattle.ept_scan.specs.Opening.{AreHeld, IsFileOf, HasOpened, AddsInput}
+use Rattle.ept_scan.specs.Opening.{AreHeld, IsFileOf, HasBytesOf, HasOpened, AddsInput}
 use Rattle.ept_scan.proofs.Listing.{zip_push, zip_at, zip_length, in_order_push}
 use Rattle.ept_scan.proofs.Spans.{extent_none}
 use Rattle.ept_scan.proofs.Rereading.{part_holds}
@@ -48,11 +48,16 @@ module _ {S : Type 0} (whole left : S → Option (List ℕ)) (given : S → ℕ)
   lists_none None = tt
   lists_none (Some all) = λ lists are zip. record { mine = []; hold = tt; same = sym (part_none lists from) }
 
+  bytes_none : (files : Option Files) → Tells (λ all. All (λ part. HasBytesOf all kept.inputs (held whole part)) []) files
+  bytes_none None = tt
+  bytes_none (Some all) = All-nil (λ part. HasBytesOf all kept.inputs (held whole part))
+
   pub opened_none : HasOpened whole left given faults files kept counts from from []
   opened_none = record {
     unread = All-nil (IsUnread whole left given);
     limited = All-nil IsLimited;
     known = All-nil (λ part. IsFileOf kept counts (held whole part));
+    bytes = bytes_none files;
     fresh = All-nil (λ part. faults part.source ≡ 0);
     sum = omega arith;
     none = λ same. refl;
@@ -86,6 +91,7 @@ module _ {S : Type 0} (whole left : S → Option (List ℕ)) (given : S → ℕ)
         unread = so_far.unread;
         limited = so_far.limited;
         known = so_far.known;
+        bytes = so_far.bytes;
         fresh = so_far.fresh;
         sum = omega (arith, so_far.sum, total_more counts i d lt, zero);
         none = λ same. absurd (omega (arith, same, le));
@@ -133,11 +139,18 @@ module _ {S : Type 0} (whole left : S → Option (List ℕ)) (given : S → ℕ)
             points_are = points;
           }
 
+      more_bytes : (files : Option Files) → Opens files input.path (whole p.source) (left p.source) → Tells (λ all. All (λ part. HasBytesOf all kept.inputs (held whole part)) parts) files
+          → Tells (λ all. All (λ part. HasBytesOf all kept.inputs (held whole part)) (parts ++ p ∷ [])) files
+      more_bytes None opened before = tt
+      more_bytes (Some all) opened before =
+          All-push (λ part. HasBytesOf all kept.inputs (held whole part)) parts p before (record { input = input; is_input = ap (λ (n : ℕ). slice_get kept.inputs n) reads.origin_is ∙ is; there = opened.content.0; bytes = opened.content.1 })
+
       pub opened_more : HasOpened whole left given faults files kept counts from (i + 1) (parts ++ p ∷ [])
       opened_more = record {
         unread = All-push (IsUnread whole left given) parts p so_far.unread (record { some = omega (arith, some, points); front = opens.at_start; unread = unread });
         limited = All-push IsLimited parts p so_far.limited (extent, reads.limits_are);
         known = All-push (λ part. IsFileOf kept counts (held whole part)) parts p so_far.known is_file;
+        bytes = more_bytes files opens so_far.bytes;
         fresh = All-push (λ part. faults part.source ≡ 0) parts p so_far.fresh fresh;
         sum = omega (arith, so_far.sum, total_more counts i d lt, points, sum_by_push (λ (part : Part S). part.points) parts p);
         none = λ same. absurd (omega (arith, same, le));

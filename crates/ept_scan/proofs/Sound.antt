@@ -11,7 +11,7 @@ use Rattle.ept_config.specs.declared.input.Input.{Input}
 use Rattle.ept_config.specs.declared.source_count.SourceCount.{SourceCount}
 use Rattle.ept_config.specs.Extents.{IsWithin, IsSpanOf, IsExtentOf, HasExtent}
 use Rattle.ept_scan.specs.Extents.{IsAllowed}
-use Rattle.ept_config.specs.Counts.{IsCountOf, IsCount}
+use Rattle.ept_config.specs.Counts.{IsCountOf, IsCount, most_points}
 use Rattle.ept_scan.specs.Scans.{in_order, AreBounds, ArePointsFrom, IsScan}
 use Rattle.std.specs.Prelude.{IfSome}
 use Rattle.std.specs.Option.{ForSome}
@@ -86,7 +86,7 @@ there points None has = ((λ some. absurd (nothing (sym some))), (λ some. absur
     nothing e = cc
 there points (Some extent) has = ((λ some. omega (arith, has.x.least_is.2)), (λ some. refl))
 
-sound_one : (bounds : Bounds) (points : List Point) (count : SourceCount) → IsCountOf points count → length points ≤ 4294967295 → All (IsWithin bounds) points → IsCount bounds count
+sound_one : (bounds : Bounds) (points : List Point) (count : SourceCount) → IsCountOf points count → length points ≤ most_points → All (IsWithin bounds) points → IsCount bounds count
 sound_one bounds points count is few all = record {
   few = omega (arith, is.number, few);
   there = subst (λ (n : ℕ). IsSome count.extent ↔ (0 < n)) (sym is.number) (there points count.extent is.has_extent);

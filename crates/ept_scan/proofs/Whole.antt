@@ -8,7 +8,7 @@ use Rattle.ept_space.specs.declared.bounds.Bounds.{Bounds}
 use Rattle.ept_las.specs.declared.header.Header.{Header}
 use Rattle.ept_las.specs.declared.header.TheConstants.{HEAD_LENGTH}
 use Rattle.ept_scan.specs.declared.reading.Reading.{Reading}
-use Rattle.ept_scan.specs.declared.reading.TheConstants.{MAX_POINTS}
+use Rattle.ept_config.specs.Counts.{most_points}
 use Rattle.ept_scan.specs.declared.scan_error.ScanError.{ScanError}
 use Rattle.ept_scan.specs.LasFile.{HasHeader, records_of, AreFirstPoints, ArePointsOf}
 use Rattle.ept_scan.specs.Reach.{HasLeftOf, Skips, ReadsNoFurther, IsWithinRecords}
@@ -21,7 +21,7 @@ records_told header file None at keeps skips = absurd keeps
 records_told header file (Some front) None keeps skips = absurd skips
 records_told header file (Some front) (Some at) keeps skips = ap (λ (l : List ℕ). Some l) (skips ∙ ap (λ (l : List ℕ). drop header.offset l) keeps)
 
-module _ (reading : Reading) (header : Header) (few : header.points ≤ MAX_POINTS) where
+module _ (reading : Reading) (header : Header) (few : header.points ≤ most_points) where
   points_are : (left front at : Option (List ℕ)) (points : List Point) → Tells (λ file. HasHeader reading file header) left → Keeps left front → Skips front at header.offset → Tells (λ records. AreFirstPoints reading header records header.points points) at
       → Tells (λ file. ArePointsOf reading file points) left
   points_are None front at points has keeps skips are = tt

@@ -1,8 +1,10 @@
 -- Which paths a shelf is asked to open.
-use Rattle.std.specs.Prelude.{◌≡◌, ℕ, ◌-◌, nat_lt, List, [], ◌∷◌, ◌++◌, Option, Result, MatchResult, if◌then◌else◌, take, drop, map}
+use Rattle.std.specs.Prelude.{◌≡◌, ℕ, ◌+◌, ◌-◌, ◌<◌, ◌≤◌, ⊤, length, nat_lt, List, [], ◌∷◌, ◌++◌, Option, Result, MatchResult, if◌then◌else◌, take, drop, map}
 use Rattle.ept_base.specs.Files.{StepsBy}
 use Rattle.ept_config.specs.declared.input.Input.{Input}
 use Rattle.ept_config.specs.declared.source_count.SourceCount.{SourceCount}
+use Rattle.ept_scan.specs.declared.scan_error.ScanError.{ScanError}
+use Rattle.ept_scan.specs.declared.scan_error.ScanError.TheVariants.{SourceFault, BadLas, OutOfBounds, TooManyPoints, NoBounds, Memory}
 
 -- A shelf that tells was asked for these paths, in order and each once, behind those that it was asked for before.
 abbrev pub AsksFor : List (List ℕ) → Option (List (List ℕ)) → Option (List (List ℕ)) → Type 0
@@ -16,6 +18,21 @@ OpensThese paths result old new = MatchResult result (λ _. AsksFor paths old ne
 -- the paths of the inputs from one on
 abbrev pub paths_from : List Input → ℕ → List (List ℕ)
 paths_from inputs from = map (λ input. input.path) (drop from inputs)
+
+-- the inputs from one on and up to this one, and no other, were opened
+pub record OpensUpTo (inputs : List Input) (from last : ℕ) (old new : Option (List (List ℕ))) : Type 0 where
+  pub behind : from ≤ last
+  pub within : last < length inputs
+  pub asked : AsksFor (take (last + 1 - from) (paths_from inputs from)) old new
+
+-- How far a scan from one input on had come that is refused: to the input that the refusal names, or to the last where there are no bounds. A fault of a source and want of memory may come at any.
+abbrev pub StopsAt : List Input → ℕ → Option (List (List ℕ)) → Option (List (List ℕ)) → ScanError → Type 0
+StopsAt inputs from old new (BadLas source fault) = OpensUpTo inputs from source old new
+StopsAt inputs from old new (OutOfBounds source number) = OpensUpTo inputs from source old new
+StopsAt inputs from old new (TooManyPoints source) = OpensUpTo inputs from source old new
+StopsAt inputs from old new NoBounds = AsksFor (paths_from inputs from) old new
+StopsAt inputs from old new SourceFault = ⊤
+StopsAt inputs from old new Memory = ⊤
 
 -- the path of an input that has more records than so many
 abbrev pub path_left : Input → SourceCount → ℕ → List (List ℕ)

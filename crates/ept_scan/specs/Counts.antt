@@ -7,9 +7,9 @@ use Rattle.ept_las.specs.declared.header.Header.{Header}
 use Rattle.ept_config.specs.declared.source_count.SourceCount.{SourceCount}
 use Rattle.ept_scan.specs.declared.reading.Reading.{Reading}
 use Rattle.ept_config.specs.Extents.{HasExtent}
-use Rattle.ept_config.specs.Counts.{IsCountOf}
+use Rattle.ept_config.specs.Counts.{IsCountOf, most_points}
 use Rattle.ept_scan.specs.Extents.{IsAllowed}
-use Rattle.ept_scan.specs.LasFile.{most_points, AreFirstPoints}
+use Rattle.ept_scan.specs.LasFile.{AreFirstPoints}
 
 -- so many records were found to have an extent: that of their points, which lie where points may lie
 pub record FindsExtent (reading : Reading) (header : Header) (records : Option (List ℕ))

@@ -7,8 +7,7 @@ use Rattle.ept_space.specs.declared.bounds.Bounds.{Bounds}
 use Rattle.ept_config.specs.declared.input.Input.{Input}
 use Rattle.ept_config.specs.declared.source_count.SourceCount.{SourceCount}
 use Rattle.ept_scan.specs.Extents.{IsAllowed}
-use Rattle.ept_scan.specs.LasFile.{most_points}
-use Rattle.ept_config.specs.Counts.{IsCountOf}
+use Rattle.ept_config.specs.Counts.{IsCountOf, most_points}
 use Rattle.ept_scan.specs.Scans.{ArePointsFrom}
 
 -- where points may lie: within the bounds that were kept, else within those that are given

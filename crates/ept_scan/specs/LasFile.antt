@@ -1,6 +1,7 @@
 -- A LAS file as a list of points (LAS 1.4 R15, sections 2.4 and 2.6): a function of the whole file.
 use Rattle.std.specs.Prelude.{◌≡◌, ◌⊎◌, ℕ, ◌+◌, ◌*◌, ◌<◌, ◌≤◌, List, Ok, length, take, drop, slice_index_or}
 use Rattle.ept_point.specs.declared.point.Point.{Point}
+use Rattle.ept_config.specs.Counts.{most_points}
 use Rattle.ept_las.specs.declared.header.Header.{Header}
 use Rattle.ept_las.specs.LasHeader.{HeaderReadsAs}
 use Rattle.ept_las.specs.PointRecord.{IsPointOf, IsOutOfUnits}
@@ -10,10 +11,6 @@ use Rattle.ept_scan.specs.Extents.{IsAllowed}
 -- the longest header, in bytes: that of LAS 1.4
 abbrev pub longest_header : ℕ
 longest_header = 375
-
--- the most points of a file: its records are numbered in 32 bits
-abbrev pub most_points : ℕ
-most_points = 4294967295
 
 -- the bytes that may belong to the header
 abbrev pub head_of : List ℕ → List ℕ

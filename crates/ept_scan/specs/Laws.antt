@@ -5,6 +5,8 @@ use Rattle.ept_point.specs.declared.point.Point.{Point}
 use Rattle.ept_point.specs.Order.{id, IsAscending}
 use Rattle.ept_space.specs.declared.bounds.Bounds.{Bounds}
 use Rattle.ept_config.specs.declared.input.Input.{Input}
+use Rattle.ept_config.specs.declared.kept.Kept.{Kept}
+use Rattle.ept_config.specs.declared.source_count.SourceCount.{SourceCount}
 use Rattle.ept_scan.specs.declared.reading.Reading.{Reading}
 use Rattle.ept_scan.specs.declared.scan_error.ScanError.{ScanError}
 use Rattle.ept_scan.specs.declared.scan_done.ScanDone.{ScanDone}
@@ -13,7 +15,9 @@ use Rattle.ept_config.specs.Counts.{total}
 use Rattle.ept_scan.specs.LasFile.{ArePointsOf}
 use Rattle.ept_scan.specs.Refusals.{FileIsRefused}
 use Rattle.ept_scan.specs.Scans.{Blames, IsScan, ScanIsRefused}
-use Rattle.std.specs.Prelude.{◌<◌, ◌++◌, Some, length, take, drop, slice_index_or, All}
+use Rattle.ept_scan.specs.Queue.{Held, IsFirstChanged}
+use Rattle.ept_scan.specs.Opening.{IsFileOf, HasBytesOf, InputDiffers}
+use Rattle.std.specs.Prelude.{◌<◌, ◌≤◌, ◌++◌, Some, length, take, drop, slice_index_or, All}
 
 -- a file reads as one list of points
 abbrev pub FileInOneWay : Type 0
@@ -83,6 +87,19 @@ abbrev pub ScanComesFromInputs : Type 0
 ScanComesFromInputs = (all : Files) (scale : ℕ) (limits : Option Bounds) (inputs : List Input)
     (from : ℕ) (points : List Point) (done : ScanDone)
     → IsScan all scale limits inputs from points done → All (λ p. p.origin < length inputs) points
+
+-- where no input has more points than that, each point has a number below it
+abbrev pub ScanIsNumbered : Type 0
+ScanIsNumbered = (all : Files) (scale : ℕ) (limits : Option Bounds) (inputs : List Input)
+    (from : ℕ) (points : List Point) (done : ScanDone) (most : ℕ)
+    → IsScan all scale limits inputs from points done → All (λ count. count.points ≤ most) done.counts
+    → All (λ p. p.number < most) points
+
+-- of files that a shelf has under the paths of the inputs, and that are read as they were counted, a change is one of these inputs
+abbrev pub ChangeIsOfInput : Type 0
+ChangeIsOfInput = (all : Files) (kept : Kept) (counts : List SourceCount) (files : List Held)
+    (left most source n : ℕ) → All (IsFileOf kept counts) files → All (HasBytesOf all kept.inputs) files
+    → IsFirstChanged files left most source n → InputDiffers all kept counts source n
 
 -- the first inputs and those behind them, scanned within the same bounds, are the scan of all: the points and the counts of both, in order
 abbrev pub ScansJoin : Type 0

@@ -1,5 +1,5 @@
 -- Where the second reading begins, and which files it has.
-use Rattle.std.specs.Prelude.{◌≡◌, ◌≢◌, ℕ, ◌+◌, ◌<◌, ◌≤◌, List, [], ◌∷◌, ◌++◌, Option, Some, None, length, take, drop, map, sum_by, slice_get, All, Any}
+use Rattle.std.specs.Prelude.{◌≡◌, ◌≢◌, ◌⊎◌, ℕ, ◌+◌, ◌<◌, ◌≤◌, List, [], ◌∷◌, ◌++◌, Option, Some, None, length, take, drop, map, sum_by, IsSome, slice_get, All, Any}
 use Rattle.std.specs.List.{AllZip}
 use Rattle.ept_base.specs.Files.{Files, Tells}
 use Rattle.ept_base.specs.Devices.{Opens}
@@ -10,6 +10,8 @@ use Rattle.ept_config.specs.declared.kept.Kept.{Kept}
 use Rattle.ept_config.specs.declared.source_count.SourceCount.{SourceCount}
 use Rattle.ept_config.specs.Counts.{total, IsCountOf}
 use Rattle.ept_scan.specs.declared.part.Part.{Part}
+use Rattle.ept_scan.specs.declared.reading.Reading.{Reading}
+use Rattle.ept_scan.specs.Changes.{HeaderDiffers, RecordDiffers}
 use Rattle.ept_scan.specs.Scans.{in_order, IsReadingOf, ArePointsFrom, IsScan}
 use Rattle.ept_scan.specs.Queue.{Held, HoldsPoints, held, IsUnread, IsLimited}
 
@@ -63,6 +65,26 @@ pub record IsFileOf (kept : Kept) (counts : List SourceCount) (file : Held) : Ty
   pub reads : IsReadingOf kept.scale count.extent file.reading.origin input file.reading
   pub points_are : file.points ≡ count.points
 
+-- a file has the bytes that a shelf has under the path of its input
+pub record HasBytesOf (all : Files) (inputs : List Input) (file : Held) : Type 0 where
+  pub input : Input
+  pub is_input : slice_get inputs file.reading.origin ≡ Some input
+  pub there : IsSome file.file
+  pub bytes : file.file ≡ all input.path
+
+-- Input `source` of a shelf is not as it was counted: in its header, which is told by the number 0, or in this record.
+pub record InputDiffers (all : Files) (kept : Kept) (counts : List SourceCount) (source n : ℕ) : Type 0 where
+  pub input : Input
+  pub is_input : slice_get kept.inputs source ≡ Some input
+  pub count : SourceCount
+  pub is_count : slice_get counts source ≡ Some count
+  pub reading : Reading
+  pub reads : IsReadingOf kept.scale count.extent source input reading
+  pub file : List ℕ
+  pub content : all input.path ≡ Some file
+  pub differs : ((n ≡ 0) × HeaderDiffers reading count.points file)
+      ⊎ RecordDiffers reading count.points file n
+
 -- the inputs from one on and up to another that have points were opened
 pub record HasOpened {S : Type 0} (whole left : S → Option (List ℕ)) (given : S → ℕ) (faults : S → ℕ)
     (files : Option Files) (kept : Kept) (counts : List SourceCount) (from end : ℕ)
@@ -70,6 +92,7 @@ pub record HasOpened {S : Type 0} (whole left : S → Option (List ℕ)) (given 
   pub unread : All (IsUnread whole left given) parts
   pub limited : All IsLimited parts
   pub known : All (λ part. IsFileOf kept counts (held whole part)) parts
+  pub bytes : Tells (λ all. All (λ part. HasBytesOf all kept.inputs (held whole part)) parts) files
   pub fresh : All (λ part. faults part.source ≡ 0) parts
   pub sum : sum_by (λ part. part.points) parts + total (take from counts) ≡ total (take end counts)
   pub none : end ≡ from → parts ≡ []

@@ -2,7 +2,7 @@
 use Rattle.std.specs.Prelude.{◌≡◌, ◌≢◌, ℕ, ◌+◌, ◌^◌, ◌<◌, min, List, Option, Some, None}
 use Rattle.ept_point.specs.declared.point.Point.{Point}
 use Rattle.ept_scan.specs.declared.read_error.ReadError.{ReadError}
-use Rattle.ept_scan.specs.declared.read_error.ReadError.TheVariants.{SourceFault, Memory}
+use Rattle.ept_scan.specs.declared.read_error.ReadError.TheVariants.{SourceFault, SourceChanged, Memory}
 use Rattle.ept_scan.specs.declared.second_reading.Reader.{Reader}
 use Rattle.ept_scan.specs.Queue as queue
 
@@ -39,6 +39,11 @@ module _ {S : Type 0} (whole : S → Option (List ℕ)) where
   abbrev pub IsRest : Reader S → List Point → Type 0
   IsRest reader points = queue.RestOf whole reader.queue points
 
+  -- Of the records that are left, the first that differs from what was found: those before it have points, and the input and the number are those of the difference.
+  abbrev pub IsNextChange : Reader S → ℕ → ℕ → Type 0
+  IsNextChange reader source n =
+      queue.IsFirstChanged (files_of reader) (left_of reader) (left_of reader) source n
+
 -- no source was read further than the last record that its header states
 abbrev pub ReadsNoFurther : {S : Type 0} → (S → Option (List ℕ)) → (S → Option (List ℕ)) → Reader S → Type 0
 ReadsNoFurther whole left reader = queue.AreNear whole left reader.queue
@@ -51,7 +56,7 @@ GivesNoMore whole given reader = queue.GiveNoMore whole given reader.queue
 abbrev pub AreRewound : {S : Type 0} → (S → Option (List ℕ)) → (S → Option (List ℕ)) → Reader S → Type 0
 AreRewound whole left reader = queue.AreRewound whole left reader.queue
 
--- A reader stands before the record that is next, or has a refusal: that it may be a fault of a source, one has failed.
+-- A reader stands before the record that is next, or has a refusal: if that is a fault of a source, one has failed; if it is a change, its numbers are those of the next record that differs.
 pub record IsReader {S : Type 0} (whole left : S → Option (List ℕ)) (given : S → ℕ) (faults : S → ℕ)
     (reader : Reader S) : Type 0 where
   pub stands : refusal_of reader ≡ None → queue.IsQueue whole left given reader.queue
@@ -59,4 +64,5 @@ pub record IsReader {S : Type 0} (whole left : S → Option (List ℕ)) (given :
   pub rewound : AreRewound whole left reader
   pub fits : drawn_of reader + left_of reader < 2 ^ 64
   pub fault : refusal_of reader ≡ Some SourceFault → HasFault faults reader
+  pub changed : (source n : ℕ) → refusal_of reader ≡ Some (SourceChanged source n) → IsNextChange whole reader source n
   pub memory : refusal_of reader ≢ Some Memory

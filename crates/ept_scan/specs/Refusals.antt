@@ -9,7 +9,8 @@ use Rattle.ept_base.specs.declared.errors.GetError.TheVariants as get
 use Rattle.ept_scan.specs.declared.reading.Reading.{Reading}
 use Rattle.ept_scan.specs.declared.scan_error.ScanError.{ScanError}
 use Rattle.ept_scan.specs.declared.scan_error.ScanError.TheVariants.{SourceFault, BadLas, OutOfBounds, TooManyPoints, NoBounds, Memory}
-use Rattle.ept_scan.specs.LasFile.{most_points, head_of, HasHeader, records_of, IsTruncated, IsOutsideAt, AreFirstPoints}
+use Rattle.ept_config.specs.Counts.{most_points}
+use Rattle.ept_scan.specs.LasFile.{head_of, HasHeader, records_of, IsTruncated, IsOutsideAt, AreFirstPoints}
 
 -- Why a header is refused. A fault of the device and want of memory say nothing of the file.
 abbrev pub HeaderIsRefused : Reading → List ℕ → ScanError → Type 0
@@ -48,6 +49,15 @@ FileIsRefused reading file error =
     HeaderIsRefused reading file error
     ⊎ ((header : Header) × HasHeader reading file header × (header.points ≤ most_points)
     × RecordsAreRefused reading header (records_of header file) error)
+
+-- the refusal of a file names the place of its input; a fault of the device and want of memory name none
+abbrev pub NamesInput : ℕ → ScanError → Type 0
+NamesInput origin (BadLas source fault) = source ≡ origin
+NamesInput origin (OutOfBounds source number) = source ≡ origin
+NamesInput origin (TooManyPoints source) = source ≡ origin
+NamesInput origin NoBounds = ⊥
+NamesInput origin SourceFault = ⊤
+NamesInput origin Memory = ⊤
 
 -- what it answers where a source cannot be had
 abbrev pub scan_error_of : GetError → ScanError

@@ -3,6 +3,7 @@
 ghost use Rattle.std.specs.Prelude.{◌≡◌, ◌≢◌, ◌<◌, ◌≤◌, ◌+◌, ◌*◌, Err, IfOk, IfErr, OnOk, OnErr, length};
 ghost use Rattle.ept_base.specs.Causes.{HasCauseOf};
 ghost use Rattle.ept_base.specs.Files.{Tells};
+ghost use Rattle.ept_config.specs.Counts.{most_points};
 ghost use Rattle.ept_scan.specs.Extents.{IsAllowed};
 ghost use Rattle.ept_scan.specs.Changes.{IsChange, HasRecord, change_of};
 ghost use Rattle.ept_scan.specs.Places.{IsWithinFile, StandsAt, GivenAt};
@@ -80,11 +81,12 @@ fn header_at<S: Source>(
     window: &mut Window,
     source: &mut S,
     reading: &Reading,
-    points: u32,
+    points: u64,
     header: Option<Header>,
     number: PointNumber,
 ) -> Result<Header, ReadError>
     requires more { number < points }
+    requires few { points ≤ most_points }
     requires at { StandsAt reading.now points (S.whole source.old)
         (S.left source.old) window.old number header }
     requires given_at { GivenAt (S.given source.old) window.old number header }
@@ -112,10 +114,11 @@ fn start<S: Source>(
     window: &mut Window,
     source: &mut S,
     reading: &Reading,
-    points: u32,
+    points: u64,
     number: PointNumber,
 ) -> Result<Header, ReadError>
     requires more { number < points }
+    requires few { points ≤ most_points }
     requires front { S.left source.old ≡ S.whole source.old }
     requires unread { S.given source.old ≡ 0 }
     ensures at { IfOk result (IsWithinFile reading.now points (S.whole source.old)
@@ -135,13 +138,13 @@ fn start<S: Source>(
         Ok(header) => header,
         Err(refused) => return Err(change_of(refused, origin)),
     };
-    if header.points != u64::from(points) {
+    if header.points != points {
         return Err(ReadError::SourceChanged {
             source: origin,
             number: 0,
         });
     }
-    let before = u64::from(header.length) * u64::from(number);
+    let before = u64::from(header.length) * number;
     skip(window, source, u64::from(header.offset) + before)?;
     Ok(header)
 }

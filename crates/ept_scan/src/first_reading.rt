@@ -12,7 +12,8 @@ ghost use Rattle.ept_scan.specs.Counts.{FindsCount};
 ghost use Rattle.ept_scan.specs.Scans.{in_order, Blames, HasPoints, PathIsRefused, AreBounds, IsScan, ScanIsRefused};
 ghost use Rattle.ept_scan.specs.Found.{limits_of, FindsLists};
 ghost use Rattle.ept_scan.specs.Reach.{TakesOfPath, ReadsWithin};
-ghost use Rattle.ept_scan.specs.Asking.{OpensThese, paths_from};
+ghost use Rattle.ept_scan.specs.Asking.{AsksFor, OpensThese, StopsAt, paths_from};
+ghost use Rattle.ept_scan.specs.Refusals.{NamesInput};
 
 use crate::extent::united;
 use crate::inputs::reading_of;
@@ -29,8 +30,9 @@ use std::alloc::Global;
 
 /// Reads the inputs from the place `from` on, each from its front to its last record, and answers how
 /// many points each has and where they lie. Points are to lie within the kept bounds, or where there
-/// are none within the given ones. The inputs are opened in their order, each once, and none before `from`. In all no more bytes are read than of each file the first 375, or
-/// those up to the end of the last record where its header is accepted and states one.
+/// are none within the given ones. The inputs are opened in their order, each once, and none before `from`
+/// or after one that is refused. In all no more bytes are read than of each file the first 375, or those up
+/// to the end of the last record where its header is accepted and states one.
 ///
 /// # Errors
 ///
@@ -62,6 +64,8 @@ pub fn scan<H: Shelf>(
         (H.files shelf.old) }
     ensures asked { OpensThese (paths_from config.now.inputs from) result (H.asked shelf.old)
         (H.asked shelf.new) }
+    ensures stopped { IfErr result (StopsAt config.now.inputs from (H.asked shelf.old)
+        (H.asked shelf.new)) }
     ensures files { H.files shelf.new ≡ H.files shelf.old }
     ensures cause { HasCauseOf ScanError.SourceFault (H.faults shelf.old) (H.faults shelf.new) result }
 {
@@ -105,6 +109,8 @@ fn scan_inputs<H: Shelf>(
         (H.given shelf.new)) (H.files shelf.old) }
     ensures asked { OpensThese (paths_from config.now.inputs from) result (H.asked shelf.old)
         (H.asked shelf.new) }
+    ensures stopped { IfErr result (StopsAt config.now.inputs from (H.asked shelf.old)
+        (H.asked shelf.new)) }
     ensures files { H.files shelf.new ≡ H.files shelf.old }
     ensures cause { HasCauseOf ScanError.SourceFault (H.faults shelf.old) (H.faults shelf.new) result }
 {
@@ -133,7 +139,9 @@ fn scan_path<H: Shelf>(
     ensures far { Tells
         (λ all. TakesOfPath all path.now reading.now (H.given shelf.old) (H.given shelf.new))
         (H.files shelf.old) }
+    ensures named { IfErr result (NamesInput reading.now.origin) }
     ensures asked { OpensThese (path.now ∷ []) result (H.asked shelf.old) (H.asked shelf.new) }
+    ensures opened { IfErr result (λ e. Blames e (AsksFor (path.now ∷ []) (H.asked shelf.old) (H.asked shelf.new))) }
     ensures files { H.files shelf.new ≡ H.files shelf.old }
     ensures cause { HasCauseOf ScanError.SourceFault (H.faults shelf.old) (H.faults shelf.new) result }
 {

@@ -6,20 +6,20 @@ ghost use Rattle.ept_base.specs.Causes.{HasCause, HasCauseOf};
 ghost use Rattle.ept_base.specs.Files.{Tells};
 ghost use Rattle.ept_las.specs.Format.{IsFormat, record_length};
 ghost use Rattle.ept_las.specs.LasHeader.{HeaderReadsAs};
+ghost use Rattle.ept_config.specs.Counts.{most_points};
 ghost use Rattle.ept_scan.specs.Counts.{FindsExtent, FindsCount};
 ghost use Rattle.ept_scan.specs.LasFile.{HasHeader, ArePointsOf};
 ghost use Rattle.ept_scan.specs.Reach.{HasLeftOf, Skips, ReadsNoFurther, TakesOfFile};
-ghost use Rattle.ept_scan.specs.Refusals.{HeaderIsRefused, RecordsAreRefused, FileIsRefused};
+ghost use Rattle.ept_scan.specs.Refusals.{HeaderIsRefused, RecordsAreRefused, FileIsRefused, NamesInput};
 
 use crate::extent::grown;
-use crate::reading::{MAX_POINTS, Reading};
+use crate::reading::Reading;
 use crate::record::{Found, next_place};
 use crate::scan_error::ScanError;
 use crate::window::{PIECE, Window};
 use ept_base::{Failed, Source};
-use ept_config::SourceCount;
+use ept_config::{MAX_POINTS, SourceCount};
 use ept_las::{HEAD_LENGTH, Header, LasError, SCALE_WIDTH, read_header};
-use ept_point::PointNumber;
 use ept_space::Bounds;
 
 /// Reads a file from its front to its last record.
@@ -33,6 +33,7 @@ pub(crate) fn scan_file<S: Source>(
         (λ points. Tells (λ file. ArePointsOf reading.now file points) (S.whole source.old))) }
     ensures refused { IfErr result (λ e. Tells (λ file. FileIsRefused reading.now file e)
         (S.whole source.old)) }
+    ensures named { IfErr result (NamesInput reading.now.origin) }
     ensures far { ReadsNoFurther reading.now (S.whole source.old) (S.left source.new) }
     ensures given { Tells (λ file. TakesOfFile reading.now file (S.given source.old) (S.given source.new))
         (S.whole source.old) }
@@ -70,6 +71,7 @@ pub(crate) fn begin<S: Source>(
     ensures size { IfOk result (λ h. record_length h.format ≤ h.length) }
     ensures refused { IfErr result (λ e. Tells (λ file. HeaderIsRefused reading.now file e)
         (S.left source.old)) }
+    ensures named { IfErr result (NamesInput reading.now.origin) }
     ensures enough { result ≢ Err ScanError.Memory }
     ensures ahead { OnOk result (Keeps (S.left source.old) (prepend_known window.new (S.left source.new))) }
     ensures reach { OnOk result (length window.new ≤ HEAD_LENGTH) }
@@ -135,12 +137,13 @@ fn scan_records<S: Source>(
 ) -> Result<Option<Bounds>, ScanError>
     requires format { IsFormat header.now.format }
     requires size { record_length header.now.format ≤ header.now.length }
-    requires few { header.now.points ≤ MAX_POINTS }
+    requires few { header.now.points ≤ most_points }
     ensures extent { IfOk result (FindsExtent reading.now header.now
         (prepend_known window.old (S.left source.old))) }
     ensures refused { IfErr result (λ e. Tells
         (λ records. RecordsAreRefused reading.now header.now records e)
         (prepend_known window.old (S.left source.old))) }
+    ensures named { IfErr result (NamesInput reading.now.origin) }
     ensures left { HasLeftOf (S.left source.old) (S.left source.new)
         (header.now.length * header.now.points - length window.old) }
     ensures given { S.given source.new ≤ S.given source.old
@@ -149,7 +152,7 @@ fn scan_records<S: Source>(
     ensures cause { HasCauseOf ScanError.SourceFault (S.faults source.old) (S.faults source.new) result }
 {
     let mut extent = None;
-    for number in 0..header.points as PointNumber {
+    for number in 0..header.points {
         match next_place(window, source, reading, header, number)? {
             Found::At(place) => extent = Some(grown(extent, place)),
             Found::Outside => {

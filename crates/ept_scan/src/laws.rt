@@ -1,8 +1,8 @@
 //! What holds of all scans. Each law is the contract of a function that does nothing.
 
 ghost use Rattle.ept_scan.specs.Laws.{FileInOneWay, FileOrRefusal, FileForOneCause, ScanInOneWay, ScanOrRefusal, ScanForOneCause};
-ghost use Rattle.ept_scan.specs.Laws.{ScanIsKept, ScanLiesWithin, ScanAscends, ScanHasDistinctIds, ScanComesFromInputs};
-ghost use Rattle.ept_scan.specs.Laws.{ScansJoin, ScanFront, ScanBack, RefusedBehind};
+ghost use Rattle.ept_scan.specs.Laws.{ScanIsKept, ScanLiesWithin, ScanAscends, ScanHasDistinctIds, ScanIsNumbered, ScanComesFromInputs};
+ghost use Rattle.ept_scan.specs.Laws.{ScansJoin, ScanFront, ScanBack, RefusedBehind, ChangeIsOfInput};
 
 /// A file reads as one list of points.
 pub fn file_once_law()
@@ -54,6 +54,11 @@ pub fn ascending_law()
     ensures distinct { ScanHasDistinctIds }
 {}
 
+/// Each point that was scanned has a number below the greatest count of an input.
+pub fn numbered_law()
+    ensures { ScanIsNumbered }
+{}
+
 /// Each point that was scanned carries the place of one of the inputs.
 pub fn origin_law()
     ensures { ScanComesFromInputs }
@@ -73,4 +78,10 @@ pub fn joined_law()
 /// are refused within these bounds.
 pub fn refused_behind_law()
     ensures { RefusedBehind }
+{}
+
+/// A change that a [`Reader`](crate::Reader) tells is one of the inputs that it was opened on: that input
+/// is not as it was counted, in its header or in the record that is told.
+pub fn changed_law()
+    ensures { ChangeIsOfInput }
 {}

@@ -20,9 +20,9 @@ mod window;
 
 pub use first_reading::{scan, whole_extent};
 pub use laws::{
-    ascending_law, file_once_law, file_or_refusal_law, joined_law, kept_law, one_cause_law,
-    one_refusal_law, origin_law, placed_law, refused_behind_law, scan_once_law,
-    scan_or_refusal_law,
+    ascending_law, changed_law, file_once_law, file_or_refusal_law, joined_law, kept_law,
+    numbered_law, one_cause_law, one_refusal_law, origin_law, placed_law, refused_behind_law,
+    scan_once_law, scan_or_refusal_law,
 };
 pub use open::reader;
 pub use read_error::ReadError;

@@ -6,7 +6,7 @@ ghost use Rattle.ept_base.specs.Files.{Tells};
 ghost use Rattle.ept_point.specs.declared.point.Point as at;
 ghost use Rattle.ept_config.specs.Counts.{IsCount, total};
 ghost use Rattle.ept_config.specs.declared.input.Input as config;
-ghost use Rattle.ept_scan.specs.Opening.{IsKeptScan, StartsAt, HasFailed, AddsInput, IsFileOf, HasOpened};
+ghost use Rattle.ept_scan.specs.Opening.{IsKeptScan, StartsAt, HasFailed, AddsInput, IsFileOf, HasBytesOf, HasOpened};
 ghost use Rattle.ept_scan.specs.Reader.{drawn_of, allowed_of, left_of, refusal_of, files_of, HasFault, IsRest, ReadsNoFurther, GivesNoMore, IsReader};
 ghost use Rattle.ept_scan.specs.Asking.{OpensThese, path_left, paths_left};
 
@@ -43,6 +43,8 @@ pub fn reader<S: Source, H: Shelf<Source = S>>(
     ensures allowed { IfOk result (λ r. allowed_of r ≡ 0) }
     ensures refusal { IfOk result (λ r. refusal_of r ≡ None) }
     ensures inputs { IfOk result (λ r. All (IsFileOf kept.now counts.now) (files_of S.whole r)) }
+    ensures bytes { IfOk result (λ r. Tells
+        (λ all. All (HasBytesOf all kept.now.inputs) (files_of S.whole r)) (H.files shelf.old)) }
     ensures rest { IfOk result (λ r. Tells
         (λ all. (points : List at.Point) → IsKeptScan all kept.now counts.now points
         → IsRest S.whole r (drop drawn points)) (H.files shelf.old)) }
@@ -132,7 +134,6 @@ struct Start {
 }
 
 fn start_of(counts: &[SourceCount], drawn: u64) -> Start
-    requires few { All (λ count. count.points < 2 ^ 32) counts.now }
     requires drawn { drawn ≤ total counts.now }
     ensures { StartsAt counts.now drawn result.index result.number }
 {
@@ -142,7 +143,7 @@ fn start_of(counts: &[SourceCount], drawn: u64) -> Start
         if passed < points {
             return Start {
                 index,
-                number: passed as PointNumber,
+                number: passed,
             };
         }
         passed -= points;
@@ -212,7 +213,7 @@ fn open_input<S: Source, H: Shelf<Source = S>>(
     parts.push_reserved(Part {
         source,
         reading,
-        points: count.points as u32,
+        points: count.points,
     });
     Ok(())
 }

@@ -1,5 +1,8 @@
 //! A file of which records are left.
 
+ghost use Rattle.std.specs.Prelude.{◌≤◌};
+ghost use Rattle.ept_config.specs.Counts.{most_points};
+
 use crate::reading::Reading;
 use ept_las::Header;
 use ept_point::PointNumber;
@@ -11,7 +14,8 @@ pub(crate) struct Part<S> {
     /// How it is read. Its points are to lie within the extent that was found.
     pub(crate) reading: Reading,
     /// The number of its points that was found.
-    pub(crate) points: u32,
+    pub(crate) points: u64,
+    pub(crate) ghost few: { points ≤ most_points },
 }
 
 /// The place of the second reading in a file.

@@ -5,9 +5,6 @@ ghost use Rattle.std.specs.Prelude.{◌<◌, ◌^◌};
 use ept_las::{SCALE_WIDTH, Shift};
 use ept_space::Bounds;
 
-/// The greatest number of points of an input: its records are numbered in 32 bits.
-pub const MAX_POINTS: u64 = 4_294_967_295;
-
 /// How the records of one file become points.
 #[derive(Clone, Copy, Debug)]
 pub struct Reading {

@@ -106,7 +106,7 @@ fn piece_of(header: &Header, number: PointNumber) -> usize
     ensures one { header.now.length ≤ result }
     ensures all { result ≤ header.now.length * (header.now.points - number) }
 {
-    let left = u64::from(header.length).saturating_mul(header.points - u64::from(number));
+    let left = u64::from(header.length).saturating_mul(header.points - number);
     left.min(PIECE as u64) as usize
 }
 
@@ -133,7 +133,7 @@ fn point_of(reading: &Reading, format: u8, bytes: &[u8], number: PointNumber) ->
 #[inline(always)]
 fn place_of(reading: &Reading, bytes: &[u8]) -> Found<Place>
     requires { 20 ≤ length bytes.now }
-    ensures { (format n : ℕ) → IsFormat format → record_length format ≤ length bytes.now → n < 2 ^ 32
+    ensures { (format n : ℕ) → IsFormat format → record_length format ≤ length bytes.now → n < 2 ^ 64
         → PlaceIs reading.now format n bytes.now result }
 {
     let Ok(place) = read_place(bytes, &reading.shift) else {

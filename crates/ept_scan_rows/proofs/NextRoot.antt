@@ -1,5 +1,5 @@
 -- A checkpoint with the root alone can be followed by one with another tile of the root.
-use Rattle.std.proofs.Common.{◌≡◌, ◌∙◌, ℕ, zero, suc, ◌+◌, ◌≤◌, Bool, false, cond, List, [], ◌∷◌, ◌++◌, Some, None, sym, ap, subst, arith}
+use Rattle.std.proofs.Common.{◌≡◌, ◌∙◌, ℕ, zero, suc, ◌+◌, ◌≤◌, Bool, false, cond, List, [], ◌∷◌, ◌++◌, Some, None, refl, sym, ap, subst, arith}
 use Rattle.std.specs.Prelude.{All, option_map}
 use Rattle.std.specs.Ordering.{is_lt}
 use Rattle.ept_space.specs.VoxelKey.{VoxelKey, IsKey}
@@ -9,6 +9,7 @@ use Rattle.ept_config.specs.declared.source_count.SourceCount.{SourceCount}
 use Rattle.ept_ckpt.specs.declared.letter.Letter.{Letter}
 use Rattle.ept_ckpt.specs.declared.node_line.NodeLine.{NodeLine}
 use Rattle.ept_ckpt.specs.declared.checkpoint.Checkpoint.{Checkpoint}
+use Rattle.ept_ckpt.specs.declared.version.BodyVersion.TheVariants.{V3}
 use Rattle.ept_ckpt.specs.Octree.{TellsChildren, keys_of, AreNodesOf}
 use Rattle.ept_ckpt.specs.Valid.{IsNode, IsCheckpoint, deepest}
 use Rattle.ept_save.specs.Current.{Current}
@@ -57,12 +58,14 @@ one-line most line new key are zero d lt =
     record { is_key = subst IsKey (sym key) was.is_key; depth_most = low }
 one-line most line new key are (suc k) d lt = absurd (omega (arith, lt))
 
-next : (c : Checkpoint) (line new : NodeLine) → c.nodes ≡ line ∷ [] → c.generation ≤ c.inserted → new.key ≡ line.key → new.count ≡ line.count → new.mask ≡ line.mask → IsCheckpoint (c.generation + 1) c.kept c.counts c.inserted (with_line new c.nodes)
+next : (c : Checkpoint) (line new : NodeLine) → c.nodes ≡ line ∷ [] → c.generation ≤ c.inserted → new.key ≡ line.key → new.count ≡ line.count → new.mask ≡ line.mask → IsCheckpoint V3 (c.generation + 1) c.kept c.counts c.inserted (with_line new c.nodes)
 next c line new only ripe key count mask =
     let nodes : with_line new c.nodes ≡ new ∷ [] = ap (with_line new) only ∙ in-place line new key in
-    let was : IsCheckpoint c.generation c.kept c.counts c.inserted (line ∷ []) = subst (λ (w : List NodeLine). IsCheckpoint c.generation c.kept c.counts c.inserted w) only c.is_checkpoint in
-    subst (λ (w : List NodeLine). IsCheckpoint (c.generation + 1) c.kept c.counts c.inserted w) (sym nodes) (record {
+    let was : IsCheckpoint c.version c.generation c.kept c.counts c.inserted (line ∷ []) = subst (λ (w : List NodeLine). IsCheckpoint c.version c.generation c.kept c.counts c.inserted w) only c.is_checkpoint in
+    subst (λ (w : List NodeLine). IsCheckpoint V3 (c.generation + 1) c.kept c.counts c.inserted w) (sym nodes) (record {
       each = was.each;
+      few = λ k d inside. (was.counted k d inside).few;
+      plain = λ other. absurd (other refl);
       counted = was.counted;
       extents = was.extents;
       inserted_most = was.inserted_most;
@@ -80,17 +83,17 @@ one_of : (letter : Letter) (c d : Checkpoint) (lines : List NodeLine) → d ≡ 
 one_of letter c d lines same lines_are = (ap (λ (e : Checkpoint). e.generation + 1) same, lines_are ∙ ap (λ (e : Checkpoint). e.nodes) same)
 
 pub next-valid : (current : Current) (c : Checkpoint) (line new : NodeLine) (lines : List NodeLine) → option_map (λ (a : Letter × Checkpoint). a.1) current ≡ Some c → lines ≡ lines_of current → c.nodes ≡ line ∷ [] → c.generation ≤ c.inserted → new.key ≡ line.key → new.count ≡ line.count → new.mask ≡ line.mask
-    → IsCheckpoint (next_generation current) c.kept c.counts c.inserted (with_line new lines)
+    → IsCheckpoint V3 (next_generation current) c.kept c.counts c.inserted (with_line new lines)
 next-valid None c line new lines is lines_are only ripe key count mask = cc
 next-valid (Some (letter, d)) c line new lines is lines_are only ripe key count mask =
     let one = one_of letter c d lines (some_same d c is) lines_are in
-    subst (λ (n : ℕ). IsCheckpoint n c.kept c.counts c.inserted (with_line new lines)) (sym one.0)
-    (subst (λ (w : List NodeLine). IsCheckpoint (c.generation + 1) c.kept c.counts c.inserted (with_line new w)) (sym one.1) (next c line new only ripe key count mask))
+    subst (λ (n : ℕ). IsCheckpoint V3 n c.kept c.counts c.inserted (with_line new lines)) (sym one.0)
+    (subst (λ (w : List NodeLine). IsCheckpoint V3 (c.generation + 1) c.kept c.counts c.inserted (with_line new w)) (sym one.1) (next c line new only ripe key count mask))
 
 -- it is the same of what is the same
-pub valid-same : (current current' : Current) (kept kept' : Kept) (counts counts' : List SourceCount) (inserted : ℕ) (lines lines' : List NodeLine) → current' ≡ current → kept' ≡ kept → counts' ≡ counts → lines' ≡ lines → IsCheckpoint (next_generation current) kept counts inserted lines → IsCheckpoint (next_generation current') kept' counts' inserted lines'
+pub valid-same : (current current' : Current) (kept kept' : Kept) (counts counts' : List SourceCount) (inserted : ℕ) (lines lines' : List NodeLine) → current' ≡ current → kept' ≡ kept → counts' ≡ counts → lines' ≡ lines → IsCheckpoint V3 (next_generation current) kept counts inserted lines → IsCheckpoint V3 (next_generation current') kept' counts' inserted lines'
 valid-same current current' kept kept' counts counts' inserted lines lines' a b c d valid =
-    subst (λ (w : Current). IsCheckpoint (next_generation w) kept' counts' inserted lines') (sym a)
-    (subst (λ (k : Kept). IsCheckpoint (next_generation current) k counts' inserted lines') (sym b)
-    (subst (λ (w : List SourceCount). IsCheckpoint (next_generation current) kept w inserted lines') (sym c)
-    (subst (λ (w : List NodeLine). IsCheckpoint (next_generation current) kept counts inserted w) (sym d) valid)))
+    subst (λ (w : Current). IsCheckpoint V3 (next_generation w) kept' counts' inserted lines') (sym a)
+    (subst (λ (k : Kept). IsCheckpoint V3 (next_generation current) k counts' inserted lines') (sym b)
+    (subst (λ (w : List SourceCount). IsCheckpoint V3 (next_generation current) kept w inserted lines') (sym c)
+    (subst (λ (w : List NodeLine). IsCheckpoint V3 (next_generation current) kept counts inserted w) (sym d) valid)))

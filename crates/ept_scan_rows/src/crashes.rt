@@ -3,7 +3,9 @@
 ghost use Rattle.std.specs.Prelude.{◌≡◌, ◌≤◌, ◌∷◌, []};
 ghost use Rattle.std.specs.Option.{ForSome};
 ghost use Rattle.ept_space.specs.VoxelKey.{root};
+ghost use Rattle.ept_point.specs.declared.layout.Layout.TheVariants.{Old};
 ghost use Rattle.ept_save.specs.Opening.{lines_of};
+ghost use Rattle.ept_save.specs.Tiles.{IsOfLayout};
 
 use crate::files::store_of;
 use crate::numbers::count;
@@ -74,7 +76,8 @@ fn commit_root(
     saved: &mut Saved,
     points: &[Point],
 ) -> Result<(), SaveError>
-    requires { saved.old.lines ≡ lines_of saved.old.current }
+    requires fresh { saved.old.lines ≡ lines_of saved.old.current }
+    requires newest { ¬ IsOfLayout Old saved.old.current }
 {
     let Some(checkpoint) = saved.current() else {
         return Ok(());

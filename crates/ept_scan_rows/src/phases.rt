@@ -8,7 +8,9 @@ ghost use Rattle.ept_meta.specs.Output as meta;
 ghost use Rattle.ept_node.specs.Shown.{empty_node};
 ghost use Rattle.ept_octree.specs.Octree.{rules_of, residents_of, nodes_of, IsUnbroken, AgreesWithFiles};
 ghost use Rattle.ept_phase.specs.Loaded.{OfCurrent};
+ghost use Rattle.ept_point.specs.declared.layout.Layout.TheVariants.{Old};
 ghost use Rattle.ept_save.specs.Opening.{lines_of};
+ghost use Rattle.ept_save.specs.Tiles.{IsOfLayout};
 
 use crate::files::{compare_files, room_of, store_of};
 use crate::row::Row;
@@ -129,6 +131,7 @@ fn save_later<F: SpillFile>(
     octree: &mut Octree<F>,
 ) -> Result<bool, PhaseError>
     requires fresh { saved.old.lines ≡ lines_of saved.old.current }
+    requires newest { ¬ IsOfLayout Old saved.old.current }
     requires new { nodes_of F.held octree.old ≡ (root, empty_node root (rules_of octree.old)) ∷ [] }
     requires rules { OfCurrent next.now.current (λ (c : c.Checkpoint). rules_of octree.old ≡ meta.rules_of c.kept) }
     requires agrees { AgreesWithFiles F.held F.faults F.keeps octree.old }

@@ -2,7 +2,9 @@
 
 ghost use Rattle.std.specs.Prelude.{◌≢◌, None};
 ghost use Rattle.ept_space.specs.VoxelKey.{root};
+ghost use Rattle.ept_point.specs.declared.layout.Layout.TheVariants.{Old};
 ghost use Rattle.ept_save.specs.Loading.{HasLine};
+ghost use Rattle.ept_save.specs.Tiles.{IsOfLayout};
 
 use crate::files::store_of;
 use crate::row::Row;
@@ -68,22 +70,23 @@ pub(crate) fn save(row: Row<'_>, out: &mut String) -> Answered {
     }
 }
 
-fn save_root(alloc: Global, store: &mut MemStore, saved: &mut Saved, out: &mut String) -> Answered {
-    let saves = begin(alloc, store, saved).and_then(|()| save_tile(
-        alloc,
-        store,
-        saved,
-        Key::ROOT,
-        0,
-        &[],
-    ));
-    if let Err(refusal) = saves {
+fn save_root(alloc: Global, store: &mut MemStore, saved: &mut Saved, out: &mut String) -> Answered
+    requires { ¬ IsOfLayout Old saved.old.current }
+{
+    if let Err(refusal) = save_empty(alloc, store, saved) {
         return refuse(refusal, out);
     }
     for name in ["ept-work/a/0-0-0-0.bin", "ept-work/b/0-0-0-0.bin"] {
         show_length(store, name, out)?;
     }
     show_generation(saved, out)
+}
+
+fn save_empty(alloc: Global, store: &mut MemStore, saved: &mut Saved) -> Result<(), SaveError>
+    requires { ¬ IsOfLayout Old saved.old.current }
+{
+    begin(alloc, store, saved)?;
+    save_tile(alloc, store, saved, Key::ROOT, 0, &[])
 }
 
 fn show_length(store: &MemStore, name: &str, out: &mut String) -> Answered {
@@ -114,7 +117,7 @@ fn tell(outcome: Result<(), SaveError>, out: &mut String) -> Answered {
 }
 
 fn show_done(alloc: Global, store: &mut MemStore, out: &mut String) -> Answered {
-    show_length(store, "ept-work/done", out)?;
+    show_length(store, "ept-work/done-2", out)?;
     match is_done(alloc, store) {
         Ok(done) => Ok(out.push_str(if done { "done" } else { "open" })?),
         Err(refusal) => refuse(refusal, out),

@@ -114,7 +114,7 @@ fn is_open(host: &HostRuntime, gate: &str) -> bool {
 
 fn gate_of(host: &HostRuntime, out: &str) -> Result<String, AllocError> {
     let folder = if out.is_empty() { "." } else { out };
-    format!(in host.alloc(); "{folder}/ept-work/done")
+    format!(in host.alloc(); "{folder}/ept-work/done-2")
 }
 
 // Says what failed, and answers the status.

@@ -11,7 +11,7 @@ fn make_folder(rt: &HostRuntime) -> Result<(), Fail> {
     let _absent = fs::remove_dir_all(rt, "out/tests/served");
     fs::create_dir_all(rt, "out/tests/served/ept-work")?;
     fs::create_dir_all(rt, "out/tests/served/ept-data")?;
-    fs::write(rt, "out/tests/served/ept-work/done", [1])?;
+    fs::write(rt, "out/tests/served/ept-work/done-2", [1])?;
     fs::write(rt, "out/tests/served/ept.json", "{}")?;
     fs::write(rt, "out/tests/served/ept-data/0-0-0-0.bin", [7; 49])?;
     Ok(())

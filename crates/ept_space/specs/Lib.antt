@@ -7,3 +7,5 @@ pub mod KeyText
 pub mod KeyLaws
 pub mod BoxLaws
 pub mod CellLaws
+pub mod Group
+pub mod GroupLaws

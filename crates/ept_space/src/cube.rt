@@ -5,6 +5,7 @@ ghost use Rattle.ept_space.specs.OctreeCube.{IsCube};
 ghost use Rattle.ept_space.specs.CubeOfBounds.{HasCube, HasPlace, IsCubeOf, cube_of, longest, bit_length};
 
 use crate::bounds::Bounds;
+use ept_class::ClassSet;
 use std::marker::Model;
 
 /// The cube that an octree divides: the corner of its least places, the exponents of its side 2^e and of
@@ -102,10 +103,31 @@ fn extent_bits(bounds: &Bounds) -> u8
     (u32::BITS - x.max(y.max(z)).leading_zeros()) as u8
 }
 
-/// The rules of a sampling: the cube, and the number of points that an octant keeps in its node before
-/// they go down to a child.
+/// The rules of a sampling.
 #[derive(Clone, Copy, Debug, PartialEq, Eq)]
 pub struct Rules {
     pub cube: Cube,
+    /// The number of points that an octant keeps in its node before they go down to a child.
     pub threshold: u64,
+    /// The classes whose points come before all others. Without a member all classes are alike.
+    pub first: ClassSet,
+    /// Whether withheld points come after all others.
+    pub withheld_last: bool,
+}
+
+impl Rules {
+    ghost use Rattle.std.specs.Prelude.{◌≡◌};
+    ghost use Rattle.ept_space.specs.Group.{plain_rules};
+
+    /// The rules of a cube and a threshold alone: all classes are alike, and withheld points as others.
+    pub fn plain(cube: Cube, threshold: u64) -> Rules
+        ensures { result ≡ plain_rules cube threshold }
+    {
+        Rules {
+            cube,
+            threshold,
+            first: ClassSet::new(),
+            withheld_last: false,
+        }
+    }
 }

@@ -1,9 +1,10 @@
-//! The laws of keys, boxes and cells, each on the contract of a function that does nothing.
+//! The laws of keys, boxes, cells and groups, each on the contract of a function that does nothing.
 
 ghost use Rattle.ept_space.specs.KeyLaws.{ChildHasParent, ChildHasOctant, ParentHasChild, EightOctants, ChildIsDeeper, ChildIsKey, ParentIsKey, OneRoot, WithinByParents, BelowIsDeeper, WithinItself, WithinAndOn, WithinInOrder, OneOfEachDepth, RootHasAll, BelowIsInAChild, ChildrenAreApart, BelowByParent, SameKeyTells, KeysAreOrdered, LessIsBefore, EqualIsSame, ParentIsBefore, OneSpelling};
 ghost use Rattle.ept_space.specs.CubeOfBounds.{InsideByPlaces, BoundsAreInCube, BoundsHaveOneCube, FunctionGivesCube};
 ghost use Rattle.ept_space.specs.BoxLaws.{PlaceHasKey, PlaceHasOneKey, PlaceHasRoot, NextKeyIsChild, NextKeyHasParent, NextKeyHasOctant, PlaceHasOctant, KeysOfPlaceNest, AboveIsKeyOfPlace, BelowIsInItsOctant, RootBoxIsCube, BoxIsInCube, BoxesNest, ChildBoxIsInParent, PlaceHasChild, PlaceHasOneChild, ChildBoxesAreApart};
 ghost use Rattle.ept_space.specs.CellLaws.{PlaceHasCell, PlaceHasOneCell, SameCellTells, CellsNest, CellIsInOneBox, CellIsInOneOctant, DistanceIsSmall};
+ghost use Rattle.ept_space.specs.GroupLaws.{AllAreOfGroupZero, PlainRulesHaveNoGroups};
 
 /// Parents and children undo each other, and keys have keys as parents and children.
 pub fn family_law()
@@ -89,4 +90,10 @@ pub fn cell_law()
     ensures in_one_box { CellIsInOneBox }
     ensures in_one_octant { CellIsInOneOctant }
     ensures small { DistanceIsSmall }
+{}
+
+/// All points are of one group where no class comes first and withheld points are as others.
+pub fn group_law()
+    ensures zero { AllAreOfGroupZero }
+    ensures plain { PlainRulesHaveNoGroups }
 {}

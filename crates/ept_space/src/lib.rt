@@ -10,6 +10,7 @@
 mod bounds;
 mod box3;
 mod cube;
+mod groups;
 mod key;
 mod laws;
 mod places;
@@ -18,9 +19,11 @@ mod text;
 pub use bounds::Bounds;
 pub use box3::{Box3, contains, meets, node_box};
 pub use cube::{Cube, Rules};
+pub use groups::group;
 pub use key::{Key, child};
 pub use laws::{
-    bounds_law, box_law, cell_law, family_law, order_law, place_law, text_law, within_law,
+    bounds_law, box_law, cell_law, family_law, group_law, order_law, place_law, text_law,
+    within_law,
 };
 pub use places::{cell, centre_distance, octant};
 pub use text::{key_text, read_key};

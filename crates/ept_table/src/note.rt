@@ -9,7 +9,7 @@ use ept_space::{Bounds, Key, Rules};
 /// and where they lie.
 pub struct Counted {
     pub origin: u32,
-    pub points: u32,
+    pub points: u64,
     pub limits: Option<Bounds>,
 }
 

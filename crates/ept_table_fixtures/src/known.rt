@@ -64,6 +64,8 @@ pub fn read_known(
     let rules = Rules {
         cube,
         threshold: kept.threshold,
+        first: kept.first,
+        withheld_last: kept.withheld_last,
     };
     Some(Known {
         rules,

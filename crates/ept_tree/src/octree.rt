@@ -219,7 +219,7 @@ fn take_in(node: &mut Grid, point: Point, leaving: &mut Outgoing) -> Result<(), 
 {
     node.known();
     node.rules().cube.known();
-    node.reserve(1, leaving)?;
+    node.reserve(&[point], leaving)?;
     node.arrive(point, leaving);
     Ok(())
 }

@@ -1,6 +1,6 @@
 -- Of a trial a build is refused for want of memory alone, where no device fails; and the rules of its sampling.
 use Rattle.std.proofs.Common.{◌≡◌, ◌∙◌, ◌⊎◌, ⊎_elim, ℕ, ◌≤◌, List, Option, Some, None, length, refl, sym, subst, arith}
-use Rattle.std.specs.Prelude.{All}
+use Rattle.std.specs.Prelude.{All, false}
 use lib.Count.{count_leading_zeros}
 use Rattle.ept_base.specs.Files.{Files}
 use Rattle.ept_point.specs.declared.point.Point.{Point}
@@ -8,6 +8,8 @@ use Rattle.ept_point.specs.Order.{IsAscending}
 use Rattle.ept_space.specs.declared.bounds.Bounds.{Bounds}
 use Rattle.ept_space.specs.declared.cube.Rules.{Rules}
 use Rattle.ept_space.specs.CubeOfBounds.{cube_of}
+use Rattle.ept_space.specs.Group.{plain_rules}
+use Rattle.ept_class.specs.NoClass.{no_class}
 use Rattle.ept_sample.specs.IdLaws.{AscendingIsOrdered}
 use Rattle.ept_sample.specs.Nodes.{sampled}
 use Rattle.ept_config.specs.declared.config.Config.{Config}
@@ -41,8 +43,8 @@ same-bounds : (limits : Option Bounds) (points : List Point) (bounds : Bounds) �
 same-bounds None points bounds is are = absurd cc
 same-bounds (Some limits) points bounds is are = are ∙ (let e : limits ≡ trial_bounds = cc in e)
 
-rules-same : (kept : Kept) (bounds : Bounds) (s depth threshold : ℕ) → kept.bounds ≡ bounds → kept.s ≡ s → kept.max_depth ≡ depth → kept.threshold ≡ threshold → rules_of kept ≡ record { cube = cube_of bounds s depth; threshold = threshold }
-rules-same kept bounds s depth threshold b e d t = λ i. record { cube = cube_of (b i) (e i) (d i); threshold = t i }
+rules-same : (kept : Kept) (bounds : Bounds) (s depth threshold : ℕ) → kept.bounds ≡ bounds → kept.s ≡ s → kept.max_depth ≡ depth → kept.threshold ≡ threshold → kept.first ≡ no_class → kept.withheld_last ≡ false → rules_of kept ≡ plain_rules (cube_of bounds s depth) threshold
+rules-same kept bounds s depth threshold b e d t classes last = λ i. record { cube = cube_of (b i) (e i) (d i); threshold = t i; first = classes i; withheld_last = last i }
 
 module _ (count : ℕ) (few : count ≤ 10000000) (all : Files) (scans : HasScans count all) (config : Config) (is : IsTrialConfig config) where
   pub rules-are : (kept : Kept) (points : List Point) (done : ScanDone) → IsScan all config.scale config.bounds config.inputs 0 points done → IsKeptOf config done.bounds kept → rules_of kept ≡ trial_rules
@@ -50,6 +52,7 @@ module _ (count : ℕ) (few : count ≤ 10000000) (all : Files) (scans : HasScan
       rules-same kept trial_bounds 7 32 4096
       (keeps.bounds_is ∙ same-bounds config.bounds points done.bounds is.bounds_is scan.bounds_are)
       (keeps.s_is ∙ is.s_is) (keeps.max_depth_is ∙ is.max_depth_is) (keeps.threshold_is ∙ is.threshold_is)
+      (keeps.first_is ∙ is.first_is) (keeps.withheld_last_is ∙ is.withheld_last_is)
 
   pub points-of : (points : List Point) (done : ScanDone) → IsScan all config.scale config.bounds config.inputs 0 points done → IsAscending points → AreTrialPoints count points
   points-of points done scan ascend = scan-are count few all scans config.scale is.scale_is config.bounds is.bounds_is config.inputs is.inputs_are points done scan ascend

@@ -1,6 +1,7 @@
 -- The configuration of a trial.
-use Rattle.std.specs.Prelude.{◌≡◌, ℕ, pos, List, [], ◌∷◌, Some, None}
+use Rattle.std.specs.Prelude.{◌≡◌, ℕ, false, pos, List, [], ◌∷◌, Some, None}
 use Rattle.std.specs.List.{AllZip}
+use Rattle.ept_class.specs.NoClass.{no_class}
 use Rattle.ept_config.specs.declared.config.Config.{Config}
 use Rattle.ept_config.specs.declared.input.Input.{Input}
 use Rattle.ept_trial.specs.Trials.{trial_bounds}
@@ -24,5 +25,7 @@ pub record IsTrialConfig (config : Config) : Type 0 where
   pub s_is : config.s ≡ 7
   pub threshold_is : config.threshold ≡ 4096
   pub max_depth_is : config.max_depth ≡ 32
+  pub first_is : config.first ≡ no_class
+  pub withheld_last_is : config.withheld_last ≡ false
   pub inputs_are : AreTrialInputs config.inputs
   pub nodes_is : config.max_nodes ≡ 65536

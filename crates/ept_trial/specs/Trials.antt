@@ -8,6 +8,7 @@ use Rattle.ept_point.specs.Packed.{tile}
 use Rattle.ept_space.specs.declared.bounds.Bounds.{Bounds}
 use Rattle.ept_space.specs.declared.cube.Rules.{Rules}
 use Rattle.ept_space.specs.CubeOfBounds.{cube_of}
+use Rattle.ept_space.specs.Group.{plain_rules}
 use Rattle.ept_sample.specs.Nodes.{node_keys, sampled}
 use Rattle.ept_trial.specs.declared.trial.Trial.{Trial}
 
@@ -69,7 +70,7 @@ trial_bounds = record { min = pos 0 ∷ pos 0 ∷ pos 0 ∷ []; max = pos 99999 
 
 -- the rules of their sampling: a span of 2^7 cells, depths up to 32, and 4096 losers that an octant keeps
 abbrev pub trial_rules : Rules
-trial_rules = record { cube = cube_of trial_bounds 7 32; threshold = 4096 }
+trial_rules = plain_rules (cube_of trial_bounds 7 32) 4096
 
 -- the greatest of some numbers, or 0 where there is none
 abbrev pub greatest : List ℕ → ℕ

@@ -8,6 +8,7 @@ ghost use Rattle.ept_trial.specs.Scans.{HasScans, scan_bytes};
 ghost use Rattle.ept_trial.specs.Settings.{IsTrialInput, AreTrialInputs, IsTrialConfig};
 
 use crate::scans::scan_of;
+use ept_class::ClassSet;
 use ept_config::{Config, Input, Srs};
 use ept_point::{List, Memory, Text};
 use ept_space::Bounds;
@@ -40,6 +41,8 @@ pub(crate) fn config_of(alloc: Global, workers: u32, cache: u32) -> Result<Confi
             vertical: None,
             wkt: None,
         },
+        first: ClassSet::new(),
+        withheld_last: false,
         inputs,
         threads: workers,
         cache,

@@ -15,7 +15,8 @@ use Rattle.ept_save.specs.Current.{HasCurrent}
 use Rattle.ept_save.specs.View.{View}
 use Rattle.ept_save.proofs.Standing.{stepped, told_some}
 use Rattle.ept_save.specs.Opening.{lines_of}
-use Rattle.ept_phase.specs.Loaded.{HasNoDamage, AreIntact, IsFirstDamaged}
+use Rattle.ept_save.specs.Loading.{HasNoDamage}
+use Rattle.ept_phase.specs.Loaded.{AreIntact, IsFirstDamaged}
 use Rattle.ept_plan.specs.Plans.{inserted_by}
 use Rattle.ept_build.specs.declared.error.BuildError.{BuildError}
 use Rattle.ept_build.specs.declared.error.BuildError.TheVariants.{TileDamaged, SourceChanged, SpillDamaged, TooManyNodes}

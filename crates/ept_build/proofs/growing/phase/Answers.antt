@@ -60,6 +60,9 @@ pub save_octree-requires-clause-each : goal.save_octree-requires-clause-each
 save_octree-requires-clause-each g c =
     each-stays c.args.at.saved.current (tree.nodes_of g.F.SpillFile.held c.args.at.octree) (tree.nodes_of g.F.SpillFile.held c.in-Ok.grown.0) c.in-Ok.ensures.kept c.requires.tree.each
 
+pub save_octree-requires-clause-newest : goal.save_octree-requires-clause-newest
+save_octree-requires-clause-newest g c = c.requires.tree.newest
+
 pub save_octree-requires-clause-given : goal.save_octree-requires-clause-given
 save_octree-requires-clause-given g c =
     subst (λ (w : List SourceCount). AreGiven c.args.plan.now.kept w (c.args.at.inserted + c.args.count)) (sym c.as_slice-counts.ensures) (given-fit c.args.plan.now (c.args.at.inserted + c.args.count) c.requires.fit c.requires.count)

@@ -97,7 +97,7 @@ returns-clause-on_way g c = λ all start output starts names.
 pub returns-clause-tree : goal.returns-clause-tree
 returns-clause-tree g c =
     let own = c.in_ok-load_octree.ensures in
-    tree-loaded g.F.SpillFile.held g.F.SpillFile.faults g.F.SpillFile.keeps c.args.plan.now c.args.at.now.inserted c.args.at.now.saved c.args.at.now.octree c.load_octree.new.octree c.requires.begun own.rules own.whole own.linked own.agrees own.unbroken own.told own.begun
+    tree-loaded g.F.SpillFile.held g.F.SpillFile.faults g.F.SpillFile.keeps c.args.plan.now c.args.at.now.inserted c.args.at.now.saved c.args.at.now.octree c.load_octree.new.octree c.requires.newest c.requires.begun own.rules own.whole own.linked own.agrees own.unbroken own.told own.begun
 
 pub returns-clause-stands : goal.returns-clause-stands
 returns-clause-stands g c = λ stands.

@@ -5,5 +5,5 @@ use Rattle.ept_config.proofs.source_count.total_of.Given as goal
 abbrev pub invariant-loop-count : goal.invariant-loop-count
 invariant-loop-count l = record {
   sum : l.sum ≡ total (take l.count-index l.counts);
-  bound : l.sum ≤ 4294967295 * l.count-index;
+  bound : l.sum ≤ 1099511627775 * l.count-index;
 }

@@ -1,4 +1,5 @@
 use Rattle.std.proofs.Common.{◌≡◌, ◌∙◌, ℕ, ◌*◌, List, sym, ap, subst, arith, length}
+use Rattle.ept_point.specs.declared.layout.Layout.TheVariants.{New}
 use Rattle.ept_space.specs.declared.cube.Rules.{Rules}
 use Rattle.ept_space.specs.VoxelKey.{VoxelKey}
 use Rattle.ept_space.specs.OctreeCube.{IsCube}
@@ -12,7 +13,7 @@ invariant_of-result-2-clause-deepest c = λ e. (
 
 pub invariant_of-result-2-clause-fits : goal.invariant_of-result-2-clause-fits
 invariant_of-result-2-clause-fits c =
-    let long : length c.args.bytes.now ≡ 49 * length c.args.grid.now.points = ap (λ (w : List ℕ). length w) c.requires.bytes ∙ c.tile_length_law.ensures.length c.args.grid.now.points in
+    let long : length c.args.bytes.now ≡ 53 * length c.args.grid.now.points = ap (λ (w : List ℕ). length w) c.requires.bytes ∙ c.tile_length_law.ensures.length New c.args.grid.now.points in
     let counted : c.args.count ≡ length c.args.grid.now.points = c.requires.count in
     omega (arith, long, counted)
 

@@ -1,10 +1,10 @@
-use Rattle.std.proofs.Common.{◌≡◌, ◌∙◌, ℕ, ◌+◌, ◌<◌, ◌≤◌, inr, List, ◌++◌, length, get_or, take, sym, ap, subst, arith, rules, Option, Some}
+use Rattle.std.proofs.Common.{◌≡◌, ◌∙◌, ℕ, ◌+◌, ◌<◌, ◌≤◌, inr, List, ◌++◌, length, get_or, take, sym, ap, subst, arith, rules, Option}
 use Rattle.std.specs.Prelude.{Err}
 use Rattle.std.proofs.lemmas.List.{take_all}
 use Rattle.std.proofs.lemmas.Result.{err_from_is_err_and}
 use Rattle.ept_base.specs.Files.{Files, Tells}
 use Rattle.ept_point.specs.declared.point.Point.{Point}
-use Rattle.ept_point.specs.Packed.{tile}
+use Rattle.ept_ckpt.specs.Versions.{layout_of}
 use Rattle.ept_sample.specs.Members.{IsMember}
 use Rattle.ept_space.specs.declared.cube.Rules.{Rules}
 use Rattle.ept_ckpt.specs.declared.node_line.NodeLine.{NodeLine}
@@ -13,20 +13,23 @@ use Rattle.ept_meta.specs.Output as meta
 use Rattle.ept_node.specs.Shown.{IsTelling}
 use Rattle.ept_save.specs.declared.error.SaveError.{SaveError}
 use Rattle.ept_save.specs.declared.error.SaveError.TheVariants.{TileDamaged}
-use Rattle.ept_save.specs.Current.{Current}
-use Rattle.ept_save.specs.Loading.{HasLine, HasTile, IsDamaged, AreOfLine}
+use Rattle.ept_save.specs.Current.{Current, tile_of_line}
+use Rattle.ept_save.specs.Tiles.{HasTileUnder}
+use Rattle.ept_save.specs.Loading.{HasLine, HasTile, IsDamaged, AreOfLine, HasNoDamage}
 use Rattle.ept_save.proofs.Standing.{same_twice}
+use Rattle.ept_save.proofs.KeyLines.{member-at}
 use Rattle.ept_table.specs.Octree.{Branch}
 use Rattle.ept_octree.specs.Adding.{filled}
 use Rattle.ept_octree.specs.Octree.{rules_of, most_of, nodes_of}
 use Rattle.ept_phase.specs.Lines.{NamesTile}
 use Rattle.ept_phase.specs.declared.error.PhaseError.{PhaseError}
 use Rattle.ept_phase.specs.declared.error.PhaseError.TheVariants.{TooManyNodes}
-use Rattle.ept_phase.specs.Loaded.{HasNoDamage, AreIntact, IsFirstDamaged}
-use Rattle.ept_phase.proofs.Lining.{member-at, line-there, line-depth, next-are, next-tile, tells-more, tells-both}
+use Rattle.ept_phase.specs.Loaded.{AreIntact, IsFirstDamaged}
+use Rattle.ept_phase.proofs.Lining.{line-there, line-depth, next-are, next-tile, tells-more, tells-both}
 use Rattle.ept_phase.proofs.LoadedNodes.{next-free, next-room, next-here, next-slot, next-last, next-full, loaded-more, tells-filled}
 use Rattle.ept_phase.proofs.Compared.{images-then}
-use Rattle.ept_phase.proofs.Undamaged.{intact-next, loaded-whole, all-intact, one-tile, first-damaged, front-intact}
+use Rattle.ept_phase.proofs.Undamaged.{intact-next, all-intact, first-damaged, front-intact}
+use Rattle.ept_save.proofs.DamagedTiles.{loaded-whole, one-tile}
 use Rattle.ept_phase.proofs.Refusing.{was-save, damaged-told, none-damaged, load-fault, stays-sound}
 use Rattle.ept_phase.proofs.loading.add_nodes.Goals as goal
 
@@ -94,7 +97,7 @@ loop-line-preserved g c =
       few = omega (arith, low, invariant.most);
       place = inr (let more : 0 < i + 1 = omega arith in more, c.in_ok-add_node.ensures.room);
       far = loaded-more (IsTelling g.F.SpillFile.held) (rules_of c.args.octree.now) at items same i line inside is (nodes_of g.F.SpillFile.held c.loop-line.octree) files invariant.far next.1 (nodes_of g.F.SpillFile.held c.add_node.new.octree) c.in_ok-add_node.ensures.ok c.in_ok-add_node.ensures.told mid invariant.moves.reads (tells-filled rules (meta.rules_of at.kept) line here are)
-          (tells-more (HasTile current line.key found.points) (λ all. NamesTile all next line) (λ all has. next-tile current at c.requires.current line there found.points all has ∙ ap (λ (w : List Point). Some (tile w)) (sym points)) mid found.has_tile);
+          (tells-more (HasTile current line.key found.points) (λ all. NamesTile (layout_of at.version) all next line) (λ all has. subst (λ (w : List Point). HasTileUnder (layout_of at.version) (tile_of_line line) w all) (sym points) (next-tile current at c.requires.current line there found.points all has)) mid found.has_tile);
       intact = intact-next current items i line inside is files mid invariant.moves.reads invariant.intact (loaded-whole c.load_tile.result c.in_ok-load_tile.field-0 c.in_ok-load_tile.was current line.key mid c.load_tile.ensures.refusal_comes);
     }
 

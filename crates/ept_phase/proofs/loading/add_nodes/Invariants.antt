@@ -1,6 +1,7 @@
 use Rattle.std.proofs.Common.{◌≡◌, ◌≤◌, take}
 use Rattle.ept_base.specs.Files.{SameFiles, Tells}
 use Rattle.ept_base.specs.Moves.{Moves, SameImages}
+use Rattle.ept_ckpt.specs.Versions.{layout_of}
 use Rattle.ept_node.specs.Shown.{IsTelling}
 use Rattle.ept_octree.specs.Octree.{rules_of, most_of, cache_of, nodes_of, IsUnbroken, AgreesWithFiles}
 use Rattle.ept_phase.proofs.LoadedNodes.{AreLoaded, HasPlace}
@@ -21,6 +22,6 @@ invariant-loop-line g l =
       unbroken : IsUnbroken l.octree;
       few : l.line-index ≤ most_of l.initial.octree;
       place : HasPlace l.line-index l.octree;
-      far : AreLoaded (IsTelling held) (rules_of l.initial.octree) (take l.line-index l.line-items) (nodes_of held l.octree) (g.T.Store.files l.initial.store);
+      far : AreLoaded (IsTelling held) (layout_of l.checkpoint.version) (rules_of l.initial.octree) (take l.line-index l.line-items) (nodes_of held l.octree) (g.T.Store.files l.initial.store);
       intact : Tells (AreIntact l.saved.current (take l.line-index l.line-items)) (g.T.Store.files l.initial.store);
     }

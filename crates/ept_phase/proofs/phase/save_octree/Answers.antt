@@ -2,7 +2,10 @@ use Rattle.std.proofs.Common.{◌≡◌, ◌≢◌, ◌∙◌, ℕ, ◌<◌, ◌
 use Rattle.std.specs.Prelude.{Err}
 use Rattle.ept_base.specs.Files.{Files, Tells}
 use Rattle.ept_base.specs.Moves.{Moves}
+use Rattle.ept_point.specs.declared.layout.Layout.TheVariants.{Old, New}
+use Rattle.ept_ckpt.specs.declared.version.BodyVersion.TheVariants.{V3}
 use Rattle.ept_ckpt.specs.Valid.{IsCheckpoint}
+use Rattle.ept_save.specs.Tiles.{IsOfLayout}
 use Rattle.ept_save.specs.Current.{Current, HasCurrent, Keeps}
 use Rattle.ept_save.specs.Opening.{lines_of}
 use Rattle.ept_save.specs.View.{View, next_letter, next_generation}
@@ -19,19 +22,19 @@ use Rattle.ept_phase.specs.Saving.{AreKnown, HasEachNodeOf, PutsChanged}
 use Rattle.ept_phase.proofs.OnlyChanged.{saves-begin, saves-nodes, saves-commit}
 use Rattle.ept_phase.proofs.Phasing.{tree-valid, is-saved, names-saved, goes-all, keeps-goes, stands-current}
 use Rattle.ept_phase.proofs.Compared.{keeps-then}
-use Rattle.ept_phase.specs.Loaded.{HasNoDamage}
 use Rattle.ept_phase.proofs.NextTiles.{still-named, saved-undamaged}
 use Rattle.ept_phase.proofs.Refusing.{keeps-sound, store-devices, store-refusal, store-no-spill, store-no-damage, devices-fault, same-refusal, one-phase-refusal}
 use Rattle.ept_phase.proofs.Undamaged.{gate-undamaged}
 use Rattle.ept_save.specs.declared.error.SaveError.TheVariants.{TileDamaged}
-use Rattle.ept_save.specs.Loading.{HasLine, IsDamaged}
-use Rattle.ept_phase.proofs.Undamaged.{stores-no-tile}
+use Rattle.ept_save.specs.Loading.{HasLine, IsDamaged, HasNoDamage}
+use Rattle.ept_save.proofs.DamagedTiles.{stores-no-tile}
 use Rattle.ept_phase.proofs.phase.save_octree.Goals as goal
 
 pub save_nodes-requires : goal.save_nodes-requires
 save_nodes-requires g c =
     let begun = c.in_ok-begin.ensures.begun in
     record {
+      newest = subst (λ (w : Current). ¬ IsOfLayout Old w) (sym (ap (λ (v : View). v.current) begun)) c.requires.newest;
       fresh = ap (λ (v : View). v.lines) begun ∙ (c.requires.fresh ∙ sym (ap (λ (v : View). lines_of v.current) begun));
       each = subst (λ (w : Current). HasEachNodeOf w (nodes_of g.F.SpillFile.held c.args.octree.now)) (sym (ap (λ (v : View). v.current) begun)) c.requires.each;
       agrees = c.requires.agrees;
@@ -47,10 +50,11 @@ commit-requires g c =
     let known : AreKnown nodes = c.in_ok-save_nodes.ensures.known in
     let further : GoesFurther now.current c.args.inserted (length c.args.kept.now.inputs) = subst (λ (w : Current). GoesFurther w c.args.inserted (length c.args.kept.now.inputs)) (sym same) c.requires.further in
     let few : length nodes < 2 ^ 32 = omega (arith, c.len.ensures.few, c.len.ensures.small) in
-    let valid : IsCheckpoint (next_generation now.current) c.args.kept.now c.args.counts.now c.args.inserted now.lines =
+    let valid : IsCheckpoint V3 (next_generation now.current) c.args.kept.now c.args.counts.now c.args.inserted now.lines =
     tree-valid c.lines_law.ensures.told now (rules_of c.args.octree.now) c.args.kept.now c.args.counts.now c.args.inserted nodes c.requires.given further few told known c.len.ensures.own c.requires.rules c.requires.whole c.requires.holds in
     record {
       begun = ap (λ (v : View). v.begun) c.save_nodes.ensures.lines ∙ ap (λ (v : View). v.begun) c.in_ok-begin.ensures.begun;
+      newest = subst (λ (w : Current). ¬ IsOfLayout Old w) (sym same) c.requires.newest;
       valid = valid;
     }
 
@@ -92,11 +96,11 @@ returns-clause-goes_on g c = λ tell stands.
     let known : AreKnown nodes = c.in_ok-save_nodes.ensures.known in
     let further : GoesFurther now.current c.args.inserted (length c.args.kept.now.inputs) = subst (λ (w : Current). GoesFurther w c.args.inserted (length c.args.kept.now.inputs)) (sym same) c.requires.further in
     let few : length nodes < 2 ^ 32 = omega (arith, c.len.ensures.few, c.len.ensures.small) in
-    let valid : IsCheckpoint (next_generation now.current) c.args.kept.now c.args.counts.now c.args.inserted now.lines =
+    let valid : IsCheckpoint V3 (next_generation now.current) c.args.kept.now c.args.counts.now c.args.inserted now.lines =
     tree-valid c.lines_law.ensures.told now (rules_of c.args.octree.now) c.args.kept.now c.args.counts.now c.args.inserted nodes c.requires.given further few told known c.len.ensures.own c.requires.rules c.requires.whole c.requires.holds in
     let keeps = keeps-then g.T.Store.files g.T.Store.may_leave g.T.Store.moment g.T.Store.image_since start.current c.args.store.now c.begin.new.store c.save_nodes.new.store (c.begin.ensures.keeps stands)
     (subst (λ (w : Current). Moves g.T.Store.files g.T.Store.may_leave g.T.Store.moment g.T.Store.image_since (Keeps w) c.begin.new.store c.save_nodes.new.store) (ap (λ (v : View). v.current) c.in_ok-begin.ensures.begun) c.save_nodes.ensures.keeps) in
-    let tiles : Tells (λ all. NameTiles all nodes now.lines) (g.T.Store.files c.save_nodes.new.store) =
+    let tiles : Tells (λ all. NameTiles New all nodes now.lines) (g.T.Store.files c.save_nodes.new.store) =
     c.in_ok-save_nodes.ensures.tiles tell in
     goes-all c.body_once_law.ensures.facts start now same c.args.kept.now c.args.counts.now c.args.inserted nodes valid told g.T.Store.files g.T.Store.may_leave g.T.Store.moment g.T.Store.image_since c.args.store.now c.save_nodes.new.store c.commit.new.store keeps (c.save_nodes.ensures.stands (c.in_ok-begin.ensures.stands stands)) tiles c.commit.ensures.commits
 
@@ -110,11 +114,11 @@ returns-in_err-commit-clause-goes_on g c = λ tell stands.
     let known : AreKnown nodes = c.in_ok-save_nodes.ensures.known in
     let further : GoesFurther now.current c.args.inserted (length c.args.kept.now.inputs) = subst (λ (w : Current). GoesFurther w c.args.inserted (length c.args.kept.now.inputs)) (sym same) c.requires.further in
     let few : length nodes < 2 ^ 32 = omega (arith, c.len.ensures.few, c.len.ensures.small) in
-    let valid : IsCheckpoint (next_generation now.current) c.args.kept.now c.args.counts.now c.args.inserted now.lines =
+    let valid : IsCheckpoint V3 (next_generation now.current) c.args.kept.now c.args.counts.now c.args.inserted now.lines =
     tree-valid c.lines_law.ensures.told now (rules_of c.args.octree.now) c.args.kept.now c.args.counts.now c.args.inserted nodes c.requires.given further few told known c.len.ensures.own c.requires.rules c.requires.whole c.requires.holds in
     let keeps = keeps-then g.T.Store.files g.T.Store.may_leave g.T.Store.moment g.T.Store.image_since start.current c.args.store.now c.begin.new.store c.save_nodes.new.store (c.begin.ensures.keeps stands)
     (subst (λ (w : Current). Moves g.T.Store.files g.T.Store.may_leave g.T.Store.moment g.T.Store.image_since (Keeps w) c.begin.new.store c.save_nodes.new.store) (ap (λ (v : View). v.current) c.in_ok-begin.ensures.begun) c.save_nodes.ensures.keeps) in
-    let tiles : Tells (λ all. NameTiles all nodes now.lines) (g.T.Store.files c.save_nodes.new.store) =
+    let tiles : Tells (λ all. NameTiles New all nodes now.lines) (g.T.Store.files c.save_nodes.new.store) =
     c.in_ok-save_nodes.ensures.tiles tell in
     goes-all c.body_once_law.ensures.facts start now same c.args.kept.now c.args.counts.now c.args.inserted nodes valid told g.T.Store.files g.T.Store.may_leave g.T.Store.moment g.T.Store.image_since c.args.store.now c.save_nodes.new.store c.commit.new.store keeps (c.save_nodes.ensures.stands (c.in_ok-begin.ensures.stands stands)) tiles c.commit.ensures.commits
 
@@ -128,7 +132,7 @@ returns-clause-saved g c =
     let known : AreKnown nodes = c.in_ok-save_nodes.ensures.known in
     let further : GoesFurther now.current c.args.inserted (length c.args.kept.now.inputs) = subst (λ (w : Current). GoesFurther w c.args.inserted (length c.args.kept.now.inputs)) (sym same) c.requires.further in
     let few : length nodes < 2 ^ 32 = omega (arith, c.len.ensures.few, c.len.ensures.small) in
-    let valid : IsCheckpoint (next_generation now.current) c.args.kept.now c.args.counts.now c.args.inserted now.lines =
+    let valid : IsCheckpoint V3 (next_generation now.current) c.args.kept.now c.args.counts.now c.args.inserted now.lines =
     tree-valid c.lines_law.ensures.told now (rules_of c.args.octree.now) c.args.kept.now c.args.counts.now c.args.inserted nodes c.requires.given further few told known c.len.ensures.own c.requires.rules c.requires.whole c.requires.holds in
     is-saved c.body_once_law.ensures.facts start now same c.args.kept.now c.args.counts.now c.args.inserted nodes valid told c.commit.new.saved c.in_ok-commit.ensures.current
 
@@ -142,14 +146,14 @@ returns-clause-tiles g c = λ tell.
     let known : AreKnown nodes = c.in_ok-save_nodes.ensures.known in
     let further : GoesFurther now.current c.args.inserted (length c.args.kept.now.inputs) = subst (λ (w : Current). GoesFurther w c.args.inserted (length c.args.kept.now.inputs)) (sym same) c.requires.further in
     let few : length nodes < 2 ^ 32 = omega (arith, c.len.ensures.few, c.len.ensures.small) in
-    let valid : IsCheckpoint (next_generation now.current) c.args.kept.now c.args.counts.now c.args.inserted now.lines =
+    let valid : IsCheckpoint V3 (next_generation now.current) c.args.kept.now c.args.counts.now c.args.inserted now.lines =
     tree-valid c.lines_law.ensures.told now (rules_of c.args.octree.now) c.args.kept.now c.args.counts.now c.args.inserted nodes c.requires.given further few told known c.len.ensures.own c.requires.rules c.requires.whole c.requires.holds in
     let mid : Option Files = g.T.Store.files c.save_nodes.new.store in
     let after : Option Files = g.T.Store.files c.commit.new.store in
     let new : View = c.commit.new.saved in
-    let tiles : Tells (λ all. NameTiles all nodes now.lines) mid =
+    let tiles : Tells (λ all. NameTiles New all nodes now.lines) mid =
     c.in_ok-save_nodes.ensures.tiles tell in
-    let still : Tells (λ all. NameTiles all nodes now.lines) after = still-named (next_letter now.current) nodes now.lines mid after c.commit.ensures.names.reads tiles in
+    let still : Tells (λ all. NameTiles New all nodes now.lines) after = still-named (next_letter now.current) nodes now.lines mid after c.commit.ensures.names.reads tiles in
     names-saved c.body_once_law.ensures.facts start now same c.args.kept.now c.args.counts.now c.args.inserted nodes valid told new c.in_ok-commit.ensures.current after still
 
 pub returns-clause-intact : goal.returns-clause-intact
@@ -162,14 +166,14 @@ returns-clause-intact g c = λ tell points can are.
     let known : AreKnown nodes = c.in_ok-save_nodes.ensures.known in
     let further : GoesFurther now.current c.args.inserted (length c.args.kept.now.inputs) = subst (λ (w : Current). GoesFurther w c.args.inserted (length c.args.kept.now.inputs)) (sym same) c.requires.further in
     let few : length nodes < 2 ^ 32 = omega (arith, c.len.ensures.few, c.len.ensures.small) in
-    let valid : IsCheckpoint (next_generation now.current) c.args.kept.now c.args.counts.now c.args.inserted now.lines =
+    let valid : IsCheckpoint V3 (next_generation now.current) c.args.kept.now c.args.counts.now c.args.inserted now.lines =
     tree-valid c.lines_law.ensures.told now (rules_of c.args.octree.now) c.args.kept.now c.args.counts.now c.args.inserted nodes c.requires.given further few told known c.len.ensures.own c.requires.rules c.requires.whole c.requires.holds in
     let mid : Option Files = g.T.Store.files c.save_nodes.new.store in
     let after : Option Files = g.T.Store.files c.commit.new.store in
     let new : View = c.commit.new.saved in
-    let tiles : Tells (λ all. NameTiles all nodes now.lines) mid =
+    let tiles : Tells (λ all. NameTiles New all nodes now.lines) mid =
     c.in_ok-save_nodes.ensures.tiles tell in
-    let still : Tells (λ all. NameTiles all nodes now.lines) after = still-named (next_letter now.current) nodes now.lines mid after c.commit.ensures.names.reads tiles in
+    let still : Tells (λ all. NameTiles New all nodes now.lines) after = still-named (next_letter now.current) nodes now.lines mid after c.commit.ensures.names.reads tiles in
     saved-undamaged c.tile_once_law.ensures.once start new c.args.kept.now c.args.counts.now c.args.inserted nodes points can are known after
     (is-saved c.body_once_law.ensures.facts start now same c.args.kept.now c.args.counts.now c.args.inserted nodes valid told new c.in_ok-commit.ensures.current)
     (names-saved c.body_once_law.ensures.facts start now same c.args.kept.now c.args.counts.now c.args.inserted nodes valid told new c.in_ok-commit.ensures.current after still)

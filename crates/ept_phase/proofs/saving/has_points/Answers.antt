@@ -5,7 +5,7 @@ use Rattle.ept_save.proofs.LoadedLines.{handed-on, sound-only}
 use Rattle.ept_phase.proofs.SamePoint.{same-point}
 use Rattle.ept_phase.proofs.Compared.{found-has, found-has_not}
 use Rattle.ept_save.specs.declared.error.SaveError.TheVariants.{TileDamaged}
-use Rattle.ept_phase.proofs.Undamaged.{one-refusal}
+use Rattle.ept_save.proofs.DamagedTiles.{one-refusal}
 use Rattle.ept_phase.proofs.saving.has_points.Goals as goal
 
 pub returns-in_err-load_tile-clause-sound : goal.returns-in_err-load_tile-clause-sound
@@ -31,7 +31,7 @@ returns-clause-has_not g c = λ is.
     let not_same : c.eq.result ≡ false = search (rules, is) in
     let wrong : true ≡ false = sym also ∙ not_same in
     cc) in
-    found-has_not c.args.saved.now.current c.args.key (g.T.Store.files c.args.store.now) c.new-found.result.items c.load_tile.new.out.items c.as_slice.result.now c.args.points.now c.new-found.ensures.items c.as_slice.ensures.value c.in_ok-load_tile.ensures.appended differ
+    found-has_not c.args.saved.now.current c.args.key (g.T.Store.files c.args.store.now) c.new-found.result.items c.load_tile.new.out.items c.as_slice.result.now c.args.points.now c.new-found.ensures.items c.as_slice.ensures.value c.in_ok-load_tile.ensures.appended c.requires.newest differ
 
 pub returns-in_err-load_tile-clause-damaged : goal.returns-in_err-load_tile-clause-damaged
 returns-in_err-load_tile-clause-damaged g c = λ is.

@@ -6,7 +6,7 @@ use Rattle.ept_save.proofs.LoadedLines.{handed-on}
 use Rattle.ept_phase.proofs.Compared.{same-but, same-keeps, but-then, keeps-then}
 use Rattle.ept_phase.proofs.SavedTo.{stays, saved-tile}
 use Rattle.ept_save.specs.declared.error.SaveError.TheVariants.{TileDamaged}
-use Rattle.ept_phase.proofs.Undamaged.{one-refusal, stores-no-tile}
+use Rattle.ept_save.proofs.DamagedTiles.{one-refusal, stores-no-tile}
 use Rattle.ept_phase.proofs.saving.save_node.Goals as goal
 
 pub returns-in_err-has_node-clause-one_tile : goal.returns-in_err-has_node-clause-one_tile
@@ -33,7 +33,7 @@ returns-in_err-has_node-clause-undamaged g c = λ all told none.
 pub returns-then-branch-clause-node : goal.returns-then-branch-clause-node
 returns-then-branch-clause-node g c =
     let is : c.has_node.result ≡ Ok true = search rules in
-    stays c.args.saved.now c.args.key c.args.mask c.args.points.now (g.T.Store.files c.args.store.now) (g.T.Store.files c.has_node.new.store) (c.has_node.ensures.told is) (c.has_node.ensures.has is) c.has_node.ensures.any_moment.reads
+    stays c.args.saved.now c.args.key c.args.mask c.args.points.now (g.T.Store.files c.args.store.now) (g.T.Store.files c.has_node.new.store) c.requires.newest (c.has_node.ensures.told is) (c.has_node.ensures.has is) c.has_node.ensures.any_moment.reads
 
 pub returns-then-branch-clause-one_tile : goal.returns-then-branch-clause-one_tile
 returns-then-branch-clause-one_tile g c =

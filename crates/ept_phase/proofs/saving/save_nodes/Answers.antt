@@ -4,6 +4,7 @@ use Rattle.std.proofs.lemmas.List.{length-map, take-append-drop}
 use Rattle.std.proofs.lemmas.Result.{err_from_is_err_and}
 use Rattle.ept_base.specs.Files.{Files, SameBut, StepsBy, Tells}
 use Rattle.ept_base.specs.Moves.{Moves}
+use Rattle.ept_point.specs.declared.layout.Layout.TheVariants.{Old}
 use Rattle.ept_point.specs.declared.point.Point.{Point}
 use Rattle.ept_sample.specs.Members.{IsMember}
 use Rattle.ept_space.specs.declared.cube.Rules.{Rules}
@@ -12,24 +13,25 @@ use Rattle.ept_save.specs.declared.error.SaveError.TheVariants.{TileDamaged}
 use Rattle.ept_save.specs.Names.{work_tile_name}
 use Rattle.ept_save.specs.Current.{Current, HasCurrent, Keeps}
 use Rattle.ept_save.specs.Lines.{free_letter}
-use Rattle.ept_save.specs.Loading.{HasLine, IsDamaged}
+use Rattle.ept_save.specs.Loading.{HasLine, IsDamaged, HasNoDamage}
+use Rattle.ept_save.specs.Tiles.{IsOfLayout}
 use Rattle.ept_save.specs.View.{View}
+use Rattle.ept_save.proofs.KeyLines.{take-next, drop-next}
+use Rattle.ept_save.proofs.DamagedTiles.{one-tile}
 use Rattle.ept_table.specs.Octree.{Branch, key_of}
 use Rattle.ept_node.specs.Shown.{IsTelling}
 use Rattle.ept_octree.specs.Octree.{rules_of, nodes_of}
 use Rattle.ept_octree.proofs.Walked.{node-at}
-use Rattle.ept_phase.specs.Loaded.{HasNoDamage}
 use Rattle.ept_phase.specs.declared.error.PhaseError.TheVariants.{Save}
 use Rattle.ept_phase.specs.Errors.{of_node}
 use Rattle.ept_phase.specs.Saving.{SavesNode, keys_in}
 use Rattle.ept_phase.proofs.Compared.{keeps-none, keeps-then, same-none}
 use Rattle.ept_phase.proofs.OnlyChanged.{puts-same, puts-more, puts-again}
-use Rattle.ept_phase.proofs.Lining.{take-next, drop-next}
 use Rattle.ept_octree.proofs.Sampled.{node-distinct}
 use Rattle.ept_phase.proofs.Refusing.{keeps-sound, save-fault, store-devices, store-refusal, store-no-spill, store-no-damage, devices-fault, node-devices, node-fault, node-damaged, node-tile, node-store}
 use Rattle.ept_phase.proofs.SameForest.{still-linked, still-agrees, still-unbroken, still-most}
 use Rattle.ept_phase.proofs.SavedTo.{IsSavedTo, Rise, keys-rise, saved-none, saved-more, saved-all, saved-end}
-use Rattle.ept_phase.proofs.Undamaged.{keeps-undamaged, one-tile, damaged-kept}
+use Rattle.ept_phase.proofs.Undamaged.{keeps-undamaged, damaged-kept}
 use Rattle.ept_phase.proofs.saving.save_nodes.Goals as goal
 
 pub loop-key-init : goal.loop-key-init
@@ -64,6 +66,9 @@ open_mask-mask-requires g c =
     let all : c.deref-key-items.result.now ≡ map key_of nodes = c.deref-key-items.ensures.value ∙ c.in_ok-keys.ensures.keys in
     let at = node-at nodes c.deref-key-items.result.now c.loop-key.key-index c.key-item.result all c.loop-key-test.true c.key-item.is in
     (at.0, subst (λ (w : List Branch). IsMember at.0 w) (sym (c.points_into.ensures.same ∙ c.loop-key.invariant.same)) at.3, at.4)
+
+pub save_node-requires : goal.save_node-requires
+save_node-requires g c = record { newest = subst (λ (w : Current). ¬ IsOfLayout Old w) (sym (ap (λ (v : View). v.current) c.loop-key.invariant.far.view_is)) c.requires.newest }
 
 pub loop-key-preserved : goal.loop-key-preserved
 loop-key-preserved g c =

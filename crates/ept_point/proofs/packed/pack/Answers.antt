@@ -2,7 +2,7 @@ use Rattle.std.proofs.Common.{refl, arith}
 use Rattle.std.specs.Int.{cast_unsigned, w8, w16, w32}
 use Rattle.std.proofs.lemmas.Int.{ints}
 use Rattle.ept_point.specs.Packed.{packed, field_bytes}
-use Rattle.ept_point.proofs.Pieces.{cells_1, cells_2, cells_4, cells_8, signed, signed_byte}
+use Rattle.ept_point.proofs.Pieces.{cells_1, cells_2, cells_4, cells_8, cells_of_8, signed, signed_byte}
 use Rattle.ept_point.proofs.packed.pack.Goals as goal
 
 pub returns : goal.returns
@@ -31,5 +31,5 @@ returns c =
           (cells_2 p.green _ c.to_le_bytes-green.ensures
           (cells_2 p.blue _ c.to_le_bytes-blue.ensures
           (cells_4 p.origin _ c.to_le_bytes-origin.ensures
-          (cells_4 p.number _ c.to_le_bytes-number.ensures refl))))))))))))))))))));
+          (cells_of_8 p.number _ c.to_le_bytes-number.ensures refl))))))))))))))))))));
     }

@@ -57,7 +57,7 @@ returns-in_err-bounded_at-6-clause-inverse c =
 pub returns-clause-point : goal.returns-clause-point
 returns-clause-point c =
     let b : List ℕ = c.args.bytes.now in
-    let len : length b ≡ 49 = search rules in
+    let len : length b ≡ 53 = search rules in
     packed_of_read b _ len record {
       at_x = signed_piece w32 c.i32_at.result 4 (search rules) c.i32_at.ensures;
       at_y = signed_piece w32 c.i32_at-2.result 4 (search rules) c.i32_at-2.ensures;
@@ -79,7 +79,7 @@ returns-clause-point c =
       at_green = c.u16_at-4.ensures;
       at_blue = c.u16_at-5.ensures;
       at_origin = c.u32_at.ensures;
-      at_number = c.u32_at-2.ensures;
+      at_number = c.u64_at.ensures;
     }
 
 pub returns-clause-none : goal.returns-clause-none

@@ -1,8 +1,30 @@
 use Rattle.std.proofs.Common.{◌≡◌, ◌∙◌, ◌*◌, ◌-◌, ◌<◌, ◌++◌, ℕ, List, length, take, drop, sym, ap, subst, arith}
+use Rattle.ept_point.specs.declared.point.Point.{Point}
 use Rattle.ept_point.specs.Dimensions.{packed_width}
+use Rattle.ept_point.specs.Packed.{tile}
+use Rattle.ept_point.specs.Laws.{EachTileHasLength}
 use Rattle.ept_query.proofs.Runs.{HasCopied, bytes-between, length-bytes, copied-on, copied-off, all-copied}
 use Rattle.ept_query.proofs.tile.append_inside.Goals as goal
 use Rattle.ept_query.proofs.tile.append_inside.Goals.{then-is_inside, else-is_inside+in_ok-extend_from_slice}
+
+-- the runs lie within the bytes
+long : (points : List Point) (bytes : List ℕ) → EachTileHasLength → bytes ≡ tile points → length bytes ≡ length points * 53
+long points bytes tiles is = length-bytes tiles bytes points is
+
+pub slice_bounds-extend_from_slice-end : goal.slice_bounds-extend_from_slice-end
+slice_bounds-extend_from_slice-end c =
+    let all = long c.args.points.now c.args.bytes.now c.tile_length_law.ensures.length c.requires in
+    omega (arith, all, c.loop-at.invariant.within, c.loop-at.invariant.order, c.loop-at-test.true)
+
+pub slice_bounds-extend_from_slice-count-2 : goal.slice_bounds-extend_from_slice-count-2
+slice_bounds-extend_from_slice-count-2 c =
+    let all = long c.args.points.now c.args.bytes.now c.tile_length_law.ensures.length c.requires in
+    omega (arith, all, c.loop-at.invariant.within, c.loop-at.invariant.order)
+
+pub slice_bounds-extend_from_slice-start-2 : goal.slice_bounds-extend_from_slice-start-2
+slice_bounds-extend_from_slice-start-2 c =
+    let all = long c.args.points.now c.args.bytes.now c.tile_length_law.ensures.length c.requires in
+    omega (arith, all, c.loop-at.invariant.within, c.loop-at.invariant.order)
 
 pub loop-at-preserved : goal.loop-at-preserved
 loop-at-preserved c =

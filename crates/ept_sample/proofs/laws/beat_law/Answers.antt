@@ -1,6 +1,6 @@
 use Rattle.ept_sample.specs.Ids.{same_id}
 use Rattle.ept_sample.specs.Rank.{beats}
-use Rattle.ept_sample.proofs.RankLaws.{beats-self, beats-trans, beats-total, beats-cell}
+use Rattle.ept_sample.proofs.RankLaws.{beats-self, beats-trans, beats-total, beats-cell, nearest-beats, lower-beats}
 use Rattle.ept_sample.proofs.laws.beat_law.Goals as goal
 use Rattle.ept_sample.proofs.Choices.{not_both, is_false}
 
@@ -16,3 +16,9 @@ returns-clause-one_of_two c =
 
 pub returns-clause-one_cell : goal.returns-clause-one_cell
 returns-clause-one_cell c = beats-cell
+
+pub returns-clause-nearest : goal.returns-clause-nearest
+returns-clause-nearest c = nearest-beats
+
+pub returns-clause-lower_group : goal.returns-clause-lower_group
+returns-clause-lower_group c = lower-beats

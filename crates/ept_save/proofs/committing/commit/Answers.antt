@@ -1,57 +1,33 @@
-use Rattle.std.proofs.Common.{◌≡◌, ◌≢◌, ◌∙◌, ℕ, List, map, Some, false, sym, ap, subst}
-use Rattle.ept_base.specs.Files.{Files}
+use Rattle.std.proofs.Common.{◌≡◌, ◌∙◌, sym, ap, subst}
+use Rattle.std.proofs.lemmas.Result.{on_ok_weaker}
 use Rattle.ept_base.specs.Moves.{Moves}
-use Rattle.ept_ckpt.specs.declared.letter.Letter.{Letter}
+use Rattle.ept_ckpt.specs.Facts.{CheckpointFacts}
+use Rattle.ept_ckpt.specs.Versions.{layout_of}
 use Rattle.ept_ckpt.specs.declared.checkpoint.Checkpoint.{Checkpoint}
 use Rattle.ept_ckpt.proofs.FactsTell.{checkpoint_same}
-use Rattle.ept_save.specs.Names.{gate_name, body_name}
 use Rattle.ept_save.specs.Current.{Commits}
-use Rattle.ept_save.specs.Stored.{line_of}
-use Rattle.ept_save.specs.View.{View, StandsFor, next_letter}
+use Rattle.ept_save.specs.View.{View, next_letter}
 use Rattle.ept_save.proofs.Next.{is-newer}
 use Rattle.ept_save.proofs.Standing.{in-images}
 use Rattle.ept_save.proofs.committing.commit.Goals as goal
 
-pub returns-in_err-put_checkpoint-clause-names : goal.returns-in_err-put_checkpoint-clause-names
-returns-in_err-put_checkpoint-clause-names g c =
-    subst (λ (l : Letter). Moves g.T.Store.files g.T.Store.may_leave g.T.Store.moment g.T.Store.image_since (λ (a : Files) (b : Files). (name : List ℕ) → name ≢ body_name l → name ≢ gate_name l → b name ≡ a name) c.args.store.now c.put_checkpoint.new.store)
-    c.next_letter-letter.ensures c.put_checkpoint.ensures.names
-
-pub returns-in_err-put_checkpoint-clause-commits : goal.returns-in_err-put_checkpoint-clause-commits
-returns-in_err-put_checkpoint-clause-commits g c = λ next is stands.
-    let view : View = c.args.saved.now in
-    let same : c.in_ok-checkpoint.checkpoint ≡ next = checkpoint_same c.in_ok-checkpoint.checkpoint next (c.in_ok-checkpoint.ensures ∙ sym is) in
-    subst (λ (n : Checkpoint). Moves g.T.Store.files g.T.Store.may_leave g.T.Store.moment g.T.Store.image_since (Commits view.current (next_letter view.current) n stands.all) c.args.store.now c.put_checkpoint.new.store) same
-    (c.put_checkpoint.ensures.commits view c.requires.begun c.next_letter-letter.ensures (is-newer view c.args.kept.now c.args.counts.now c.args.inserted c.in_ok-checkpoint.checkpoint c.in_ok-checkpoint.ensures) stands)
+pub commit_checkpoint-requires : goal.commit_checkpoint-requires
+commit_checkpoint-requires g c = record {
+  begun = c.requires.begun;
+  newest = ap (λ (f : CheckpointFacts). layout_of f.version) c.in_ok-checkpoint.ensures;
+  newer = is-newer c.args.saved.now c.args.kept.now c.args.counts.now c.args.inserted c.in_ok-checkpoint.checkpoint c.in_ok-checkpoint.ensures;
+}
 
 pub returns-clause-current : goal.returns-clause-current
-returns-clause-current g c = (
-  c.in_ok-checkpoint.checkpoint,
-  c.in_ok-checkpoint.ensures,
-  ap (λ (l : Letter). let v : View = record { current = Some (l, c.in_ok-checkpoint.checkpoint); lines = map line_of c.saved.inside.lines.entries; begun = false } in v) c.next_letter-letter.ensures
-      ∙ ap (λ (w : View). let v : View = record { current = Some (next_letter c.args.saved.now.current, c.in_ok-checkpoint.checkpoint); lines = w.lines; begun = false } in v) c.saved.view_is,
-)
-
-pub returns-clause-names : goal.returns-clause-names
-returns-clause-names g c =
-    subst (λ (l : Letter). Moves g.T.Store.files g.T.Store.may_leave g.T.Store.moment g.T.Store.image_since (λ (a : Files) (b : Files). (name : List ℕ) → name ≢ body_name l → name ≢ gate_name l → b name ≡ a name) c.args.store.now c.put_checkpoint.new.store)
-    c.next_letter-letter.ensures c.put_checkpoint.ensures.names
+returns-clause-current g c = on_ok_weaker c.commit_checkpoint.result (λ now. (c.in_ok-checkpoint.checkpoint, c.in_ok-checkpoint.ensures, now)) c.commit_checkpoint.ensures.current
 
 pub returns-clause-commits : goal.returns-clause-commits
 returns-clause-commits g c = λ next is stands.
     let view : View = c.args.saved.now in
     let same : c.in_ok-checkpoint.checkpoint ≡ next = checkpoint_same c.in_ok-checkpoint.checkpoint next (c.in_ok-checkpoint.ensures ∙ sym is) in
-    subst (λ (n : Checkpoint). Moves g.T.Store.files g.T.Store.may_leave g.T.Store.moment g.T.Store.image_since (Commits view.current (next_letter view.current) n stands.all) c.args.store.now c.put_checkpoint.new.store) same
-    (c.put_checkpoint.ensures.commits view c.requires.begun c.next_letter-letter.ensures (is-newer view c.args.kept.now c.args.counts.now c.args.inserted c.in_ok-checkpoint.checkpoint c.in_ok-checkpoint.ensures) stands)
-
-pub returns-clause-stands : goal.returns-clause-stands
-returns-clause-stands g c = λ stands.
-    let view : View = c.args.saved.now in
-    let next : Checkpoint = c.in_ok-checkpoint.checkpoint in
-    let then : StandsFor (record view { current = Some (c.next_letter-letter.result, next); begun = false }) (g.T.Store.files c.put_checkpoint.new.store) (g.T.Store.may_leave c.put_checkpoint.new.store) =
-    c.in_ok-put_checkpoint.ensures.stands view c.requires.begun c.next_letter-letter.ensures (is-newer view c.args.kept.now c.args.counts.now c.args.inserted next c.in_ok-checkpoint.ensures) stands in
-    subst (λ (v : View). StandsFor (record v { current = Some (c.next_letter-letter.result, next); begun = false }) (g.T.Store.files c.put_checkpoint.new.store) (g.T.Store.may_leave c.put_checkpoint.new.store)) (sym c.saved.view_is) then
+    subst (λ (n : Checkpoint). Moves g.T.Store.files g.T.Store.may_leave g.T.Store.moment g.T.Store.image_since (Commits view.current (next_letter view.current) n stands.all) c.args.store.now c.commit_checkpoint.new.store) same
+    (c.commit_checkpoint.ensures.commits stands)
 
 pub returns-clause-each_image : goal.returns-clause-each_image
-returns-clause-each_image g c = λ stands.
-    (in-images _ (g.T.Store.files c.put_checkpoint.new.store) (g.T.Store.may_leave c.put_checkpoint.new.store) (returns-clause-stands g c stands)).current
+returns-clause-each_image g c =
+    on_ok_weaker c.commit_checkpoint.result (λ then stands. (in-images _ (g.T.Store.files c.commit_checkpoint.new.store) (g.T.Store.may_leave c.commit_checkpoint.new.store) (then stands)).current) c.commit_checkpoint.ensures.stands

@@ -1,4 +1,5 @@
 use Rattle.ept_scan.proofs.OneScan.{scan_once}
+use Rattle.ept_save.proofs.Migration.{migrating-sound}
 use Rattle.ept_save.proofs.OtherShelf.{inputs-enough}
 use Rattle.ept_save.proofs.SoundFiles.{same-sound, keeping-sound, beside-sound, guarding-sound, putting-sound, committing-sound}
 use Rattle.ept_save.proofs.laws.sound_steps_law.Goals as goal
@@ -25,3 +26,6 @@ returns-clause-committing c = committing-sound c.output_names_law.ensures.names 
 
 pub returns-clause-shelf : goal.returns-clause-shelf
 returns-clause-shelf c = inputs-enough
+
+pub returns-clause-migrating : goal.returns-clause-migrating
+returns-clause-migrating c = migrating-sound c.output_names_law.ensures.names c.output_names_law.ensures.outside scan_once

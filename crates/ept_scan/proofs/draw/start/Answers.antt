@@ -21,7 +21,7 @@ pub returns-in_err-skip-clause-far : goal.returns-in_err-skip-clause-far
 returns-in_err-skip-clause-far g c =
     let p = err_from_is_err_and c.from_residual.result c.from_residual.ensures.1 in
     subst (λ (r : Result Header ReadError). OnErr r (ReadsNoFurther c.args.reading.now (g.S.Source.whole c.args.source.now) (g.S.Source.left c.skip.new.source))) (sym p.1)
-    (far_start c.args.reading.now c.in-Ok.header c.args.number _ (g.S.Source.whole c.args.source.now) (g.S.Source.left c.args.source.now) (g.S.Source.left c.begin.new.source) (g.S.Source.left c.skip.new.source) c.begin.new.window (omega arith) (same_place c.from-4.result c.from-2.result c.from-3.result c.in-Ok.header.offset c.in-Ok.header.length c.args.number c.from-4.ensures c.from-2.ensures c.from-3.ensures) c.requires.front c.in-Ok.ensures.header c.in-Ok.ensures.ahead c.in-Ok.ensures.reach c.in_err-skip.ensures.left)
+    (far_start c.args.reading.now c.in-Ok.header c.args.number _ (g.S.Source.whole c.args.source.now) (g.S.Source.left c.args.source.now) (g.S.Source.left c.begin.new.source) (g.S.Source.left c.skip.new.source) c.begin.new.window (omega arith) (same_place c.from-2.result c.from.result c.args.number c.in-Ok.header.offset c.in-Ok.header.length c.args.number c.from-2.ensures c.from.ensures refl) c.requires.front c.in-Ok.ensures.header c.in-Ok.ensures.ahead c.in-Ok.ensures.reach c.in_err-skip.ensures.left)
 
 pub returns-in-Err-clause-given : goal.returns-in-Err-clause-given
 returns-in-Err-clause-given g c = taken_head c.args.reading.now (g.S.Source.whole c.args.source.now) 0 (g.S.Source.given c.begin.new.source) (omega (arith, c.begin.ensures.given, c.requires.unread))
@@ -29,10 +29,10 @@ returns-in-Err-clause-given g c = taken_head c.args.reading.now (g.S.Source.whol
 pub returns-in_err-skip-clause-given : goal.returns-in_err-skip-clause-given
 returns-in_err-skip-clause-given g c =
     let p = err_from_is_err_and c.from_residual.result c.from_residual.ensures.1 in
-    let place = same_place c.from-4.result c.from-2.result c.from-3.result c.in-Ok.header.offset c.in-Ok.header.length c.args.number c.from-4.ensures c.from-2.ensures c.from-3.ensures in
+    let place = same_place c.from-2.result c.from.result c.args.number c.in-Ok.header.offset c.in-Ok.header.length c.args.number c.from-2.ensures c.from.ensures refl in
     subst (λ (r : Result Header ReadError). OnErr r (Tells (λ file. TakesOfFile c.args.reading.now file 0 (g.S.Source.given c.skip.new.source)) (g.S.Source.whole c.args.source.now))) (sym p.1)
     (taken_records c.args.reading.now c.in-Ok.header (omega arith) (g.S.Source.whole c.args.source.now) (g.S.Source.left c.args.source.now) 0 (g.S.Source.given c.skip.new.source) c.requires.front c.in-Ok.ensures.header
     (given_start c.in-Ok.header c.args.number _ (g.S.Source.given c.args.source.now) (length c.begin.new.window) (g.S.Source.given c.begin.new.source) (g.S.Source.given c.skip.new.source) (omega arith) place c.requires.unread c.in-Ok.ensures.gained c.in-Ok.ensures.reach c.skip.ensures.given))
 
-pub returns-then-header-from-clause-given : goal.returns-then-header-from-clause-given
-returns-then-header-from-clause-given g c = taken_head c.args.reading.now (g.S.Source.whole c.args.source.now) 0 (g.S.Source.given c.begin.new.source) (omega (arith, c.begin.ensures.given, c.requires.unread))
+pub returns-then-header-points-clause-given : goal.returns-then-header-points-clause-given
+returns-then-header-points-clause-given g c = taken_head c.args.reading.now (g.S.Source.whole c.args.source.now) 0 (g.S.Source.given c.begin.new.source) (omega (arith, c.begin.ensures.given, c.requires.unread))

@@ -8,7 +8,6 @@ use Rattle.ept_config.specs.declared.source_count.SourceCount.{SourceCount}
 use Rattle.ept_space.specs.declared.bounds.Bounds.{Bounds}
 use Rattle.ept_space.specs.CubeOfBounds.{HasPlace}
 use Rattle.ept_scan.specs.Scans.{in_order, AreBounds}
-use Rattle.ept_scan.specs.Found.{limits_of}
 use Rattle.ept_config.specs.Counts.{IsCountOf, IsCount}
 use Rattle.ept_scan.proofs.Listing.{zip_length}
 use Rattle.ept_scan.proofs.Sound.{all_sound, scan_found, bounds_ordered, limits_ordered}

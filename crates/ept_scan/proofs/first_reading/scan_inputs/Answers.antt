@@ -9,8 +9,9 @@ use Rattle.ept_scan.specs.declared.scan_error.ScanError.{ScanError}
 use Rattle.ept_scan.specs.Scans.{ScanIsRefused}
 use Rattle.ept_scan.specs.Found.{FindsLists}
 use Rattle.ept_scan.proofs.Listing.{found_none, found_more, found_refused, found_at, refused_at}
-use Rattle.ept_scan.specs.Asking.{AsksFor, OpensThese, paths_from}
-use Rattle.ept_scan.proofs.Asked.{HasAsked, asked_none, asked_more, asked_all, asked_front, asked_failed, paths_more, paths_none}
+use Rattle.ept_scan.specs.Scans.{Blames}
+use Rattle.ept_scan.specs.Asking.{AsksFor, OpensThese, StopsAt, paths_from}
+use Rattle.ept_scan.proofs.Asked.{HasAsked, asked_none, asked_more, asked_all, asked_front, asked_failed, paths_more, paths_none, stops_here}
 use Rattle.ept_scan.proofs.Taking.{path_at, reads_none, reads_more, reads_last, reads_end}
 use Rattle.ept_scan.proofs.first_reading.scan_inputs.Goals as goal
 
@@ -96,3 +97,28 @@ returns-clause-asked g c =
     let all : List (List ℕ) = paths_from c.args.config.now.inputs c.args.from in
     asked_all all (g.H.Shelf.asked c.args.shelf.now) (g.H.Shelf.asked c.loop-index.shelf)
     (subst (λ (l : List (List ℕ)). HasAsked all l (g.H.Shelf.asked c.args.shelf.now) (g.H.Shelf.asked c.loop-index.shelf)) (paths_none c.args.config.now.inputs c.loop-index.index (omega (arith, ap length c.as_slice.ensures))) c.loop-index.invariant.asked)
+
+pub returns-in_err-count-clause-stopped : goal.returns-in_err-count-clause-stopped
+returns-in_err-count-clause-stopped g c =
+    let p = err_from_is_err_and c.from_residual-in_err-count.result c.from_residual-in_err-count.ensures.1 in
+    let inputs = c.args.config.now.inputs in
+    let path : List ℕ = c.input-input.result.now.path in
+    let opened : Blames c.in_err-count.field-0.0 (AsksFor (path ∷ []) (g.H.Shelf.asked c.loop-index.shelf) (g.H.Shelf.asked c.scan_path.new.shelf)) =
+    subst (λ (l : List ℕ). Blames c.in_err-count.field-0.0 (AsksFor (l ∷ []) (g.H.Shelf.asked c.loop-index.shelf) (g.H.Shelf.asked c.scan_path.new.shelf))) c.as_str.ensures c.in_err-count.ensures.opened
+    in
+    subst (λ (r : Result (Vec SourceCount Global) ScanError). IfErr r (StopsAt c.args.config.now.inputs c.args.from (g.H.Shelf.asked c.args.shelf.now) (g.H.Shelf.asked c.scan_path.new.shelf))) (sym p.1)
+    (subst (StopsAt c.args.config.now.inputs c.args.from (g.H.Shelf.asked c.args.shelf.now) (g.H.Shelf.asked c.scan_path.new.shelf)) (sym p.2)
+    (stops_here inputs c.args.from c.loop-index.index c.input-input.result.now c.input-input.ensures.input (omega arith) (slice_get_within inputs c.loop-index.index c.input-input.result.now c.input-input.ensures.input) (g.H.Shelf.asked c.args.shelf.now) (g.H.Shelf.asked c.loop-index.shelf) (g.H.Shelf.asked c.scan_path.new.shelf) c.loop-index.invariant.asked
+    c.reading_of-reading.result.origin c.in_err-count.field-0.0 c.reading_of-reading.ensures.origin_is c.in_err-count.ensures.named opened))
+
+pub returns-in_err-window-clause-stopped : goal.returns-in_err-window-clause-stopped
+returns-in_err-window-clause-stopped g c =
+    let p = err_from_is_err_and c.from_residual.result c.from_residual.ensures.1 in
+    subst (λ (r : Result (Vec SourceCount Global) ScanError). IfErr r (StopsAt c.args.config.now.inputs c.args.from (g.H.Shelf.asked c.args.shelf.now) (g.H.Shelf.asked c.args.shelf.now))) (sym p.1)
+    (subst (StopsAt c.args.config.now.inputs c.args.from (g.H.Shelf.asked c.args.shelf.now) (g.H.Shelf.asked c.args.shelf.now)) (sym p.2) tt)
+
+pub returns-in_err-push-clause-stopped : goal.returns-in_err-push-clause-stopped
+returns-in_err-push-clause-stopped g c =
+    let p = err_from_is_err_and c.from_residual-in_err-push.result c.from_residual-in_err-push.ensures.1 in
+    subst (λ (r : Result (Vec SourceCount Global) ScanError). IfErr r (StopsAt c.args.config.now.inputs c.args.from (g.H.Shelf.asked c.args.shelf.now) (g.H.Shelf.asked c.scan_path.new.shelf))) (sym p.1)
+    (subst (StopsAt c.args.config.now.inputs c.args.from (g.H.Shelf.asked c.args.shelf.now) (g.H.Shelf.asked c.scan_path.new.shelf)) (sym p.2) tt)

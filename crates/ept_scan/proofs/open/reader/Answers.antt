@@ -5,7 +5,7 @@ use Rattle.ept_scan.specs.declared.read_error.ReadError.{ReadError}
 use Rattle.ept_scan.specs.Asking.{AsksFor, OpensThese, paths_left}
 use Rattle.ept_scan.proofs.Asked.{asked_none, asked_front, starts_paths}
 use Rattle.ept_scan.specs.Opening.{StartsAt}
-use Rattle.ept_scan.proofs.Begun.{begun_queue, begun_near, begun_given, begun_count, begun_files, begun_rest}
+use Rattle.ept_scan.proofs.Begun.{begun_queue, begun_near, begun_given, begun_count, begun_files, begun_bytes, begun_rest}
 use Rattle.ept_scan.proofs.open.reader.Goals as goal
 
 pub returns-in-Ok-clause-far : goal.returns-in-Ok-clause-far
@@ -21,6 +21,7 @@ returns-in-Ok-clause-reader g c = record {
   rewound = λ k d lt. absurd (omega (arith, lt, length-take 0 c.open_parts.new.parts.items));
   fits = omega (arith, c.total_of.type_inv, c.total_of.ensures, c.requires.drawn);
   fault = λ wrong. cc;
+  changed = λ source n wrong. cc;
   memory = λ wrong. cc;
 }
 
@@ -52,3 +53,7 @@ returns-in-Err-clause-asked g c =
 pub returns-in-Ok-clause-given : goal.returns-in-Ok-clause-given
 returns-in-Ok-clause-given g c =
     begun_given g.S.Source.whole g.S.Source.left g.S.Source.given g.S.Source.faults (g.H.Shelf.files c.args.shelf.now) c.args.kept.now c.args.counts.now c.args.drawn c.start_of-start.result.index (record { parts = c.open_parts.new.parts; at = 0; cursor = c.before-in-Ok.result; window = c.in_ok-window.window }) refl c.before-in-Ok.ensures.header (subst (StartsAt c.args.counts.now c.args.drawn c.start_of-start.result.index) (sym c.before-in-Ok.ensures.number) c.start_of-start.ensures) c.in-Ok.ensures.opened
+
+pub returns-in-Ok-clause-bytes : goal.returns-in-Ok-clause-bytes
+returns-in-Ok-clause-bytes g c =
+    begun_bytes g.S.Source.whole g.S.Source.left g.S.Source.given g.S.Source.faults (g.H.Shelf.files c.args.shelf.now) c.args.kept.now c.args.counts.now c.args.drawn c.start_of-start.result.index (record { parts = c.open_parts.new.parts; at = 0; cursor = c.before-in-Ok.result; window = c.in_ok-window.window }) refl c.before-in-Ok.ensures.header (subst (StartsAt c.args.counts.now c.args.drawn c.start_of-start.result.index) (sym c.before-in-Ok.ensures.number) c.start_of-start.ensures) c.in-Ok.ensures.opened

@@ -1,11 +1,14 @@
-use Rattle.std.proofs.Common.{◌≡◌, ◌∙◌, Some, refl, sym, ap, length}
+use Rattle.std.proofs.Common.{◌≡◌, ◌∙◌, Some, refl, sym, ap, subst, length}
 use Rattle.std.specs.Prelude.{option_map}
 use Rattle.std.specs.Option.{option_copied}
 use Rattle.ept_space.specs.VoxelKey.{root}
 use Rattle.ept_ckpt.specs.declared.letter.Letter.{Letter}
 use Rattle.ept_ckpt.specs.declared.node_line.NodeLine.{NodeLine}
 use Rattle.ept_ckpt.specs.declared.checkpoint.Checkpoint.{Checkpoint}
+use Rattle.ept_point.specs.declared.layout.Layout.TheVariants.{Old}
+use Rattle.ept_save.specs.Current.{Current}
 use Rattle.ept_save.specs.Lines.{free_letter, with_line}
+use Rattle.ept_save.specs.Tiles.{IsOfLayout}
 use Rattle.ept_save.specs.View.{View}
 use Rattle.ept_scan_rows.proofs.NextRoot.{next-valid, valid-same}
 use Rattle.ept_scan_rows.proofs.crashes.commit_root.Goals as goal
@@ -25,4 +28,12 @@ commit-requires-clause-valid c =
     c.in_ok-kept.ensures.same
     (c.deref.ensures.value ∙ (c.in_ok-counts.ensures.items ∙ c.as_slice.ensures))
     (ap (λ (v : View). v.lines) saved ∙ ap (λ (v : View). with_line new v.lines) begun)
-    (next-valid now.current last line new now.lines is c.requires only.0 only.1 (sym only.2) (sym only.3) refl)
+    (next-valid now.current last line new now.lines is c.requires.fresh only.0 only.1 (sym only.2) (sym only.3) refl)
+
+pub save_tile-requires : goal.save_tile-requires
+save_tile-requires c =
+    subst (λ (w : Current). ¬ IsOfLayout Old w) (sym (ap (λ (v : View). v.current) c.in_ok-begin.ensures.begun)) c.requires.newest
+
+pub commit-requires-clause-newest : goal.commit-requires-clause-newest
+commit-requires-clause-newest c =
+    subst (λ (w : Current). ¬ IsOfLayout Old w) (sym (ap (λ (v : View). v.current) c.in_ok-save_tile.ensures.line ∙ ap (λ (v : View). v.current) c.in_ok-begin.ensures.begun)) c.requires.newest

@@ -1,11 +1,19 @@
-use Rattle.std.proofs.Common.{◌∙◌, ◌+◌, ◌++◌, List, ℕ, sym, ap}
+use Rattle.std.proofs.Common.{◌∙◌, ◌+◌, ◌++◌, List, ℕ, arith, length, sym, ap}
+use Rattle.ept_point.specs.declared.layout.Layout.TheVariants.{New}
 use Rattle.ept_conn.specs.Wanted.{kept_of}
 use Rattle.ept_conn.specs.Answers.{chunk}
 use Rattle.ept_conn.specs.Works.{end_at}
-use Rattle.ept_query.specs.Parts.{node_at}
+use Rattle.ept_query.specs.Parts.{node_at, points_in}
 use Rattle.ept_conn.proofs.Plans.{part-served}
 use Rattle.ept_conn.proofs.Undamaged.{part-has-tile}
 use Rattle.ept_conn.proofs.session.Session.get_tile.Goals as goal
+
+-- the bytes of a part are those of its points, each of the packed length
+pub put_kept-requires-clause-whole : goal.put_kept-requires-clause-whole
+put_kept-requires-clause-whole g c =
+    let part = c.in-Ok.ensures.part in
+    let size = c.tile_length_law.ensures.length New (points_in c.args.plan.area part.points) in
+    omega (arith, ap length part.bytes_are, size)
 
 pub returns-in-Ok-clause-works : goal.returns-in-Ok-clause-works
 returns-in-Ok-clause-works g c = λ going files told served is planned.

@@ -88,6 +88,9 @@ returns-then-not-drawn-clause-rest g c points rest =
 pub returns-then-not-drawn-clause-near : goal.returns-then-not-drawn-clause-near
 returns-then-not-drawn-clause-near g c near = near_same g.S.Source.whole g.S.Source.left g.S.Source.given c.args.self.now.parts.items c.args.self.now.at c.index_mut.result.now c.draw_on.new.part c.requires.more c.index_mut.ensures.value c.draw_on.ensures.reading c.draw_on.ensures.points c.draw_on.ensures.same c.draw_on.ensures.far near
 
+pub returns-in_err-drawn-clause-near : goal.returns-in_err-drawn-clause-near
+returns-in_err-drawn-clause-near g c near = near_same g.S.Source.whole g.S.Source.left g.S.Source.given c.args.self.now.parts.items c.args.self.now.at c.index_mut.result.now c.draw_on.new.part c.requires.more c.index_mut.ensures.value c.draw_on.ensures.reading c.draw_on.ensures.points c.draw_on.ensures.same c.draw_on.ensures.far near
+
 pub returns-then-not-drawn-clause-faults : goal.returns-then-not-drawn-clause-faults
 returns-then-not-drawn-clause-faults g c any = faults_kept g.S.Source.whole g.S.Source.left g.S.Source.given c.args.self.now.parts.items c.args.self.now.at c.index_mut.result.now c.draw_on.new.part c.requires.more c.index_mut.ensures.value g.S.Source.faults c.draw_on.ensures.cause.later any
 
