@@ -13,7 +13,7 @@ use Rattle.ept_phase.specs.Phase.{HasNext, GoesOn}
 use Rattle.ept_plan.specs.declared.plan.Plan.{Plan}
 use Rattle.ept_plan.specs.Plans.{IsOf, inputs_by, inserted_by}
 use Rattle.ept_build.specs.Phases.{HasAll}
-use Rattle.ept_build.specs.Reached.{generation_by, IsAfter, HasReached, IsThrough, HasThisOrNext, KeepsAs}
+use Rattle.ept_build.specs.Reached.{generation_by, IsAfter, HasGone, IsThrough, HasThisOrNext, KeepsAs}
 use Rattle.ept_build.proofs.Phased.{of-inputs}
 
 -- the next generation is one more
@@ -46,10 +46,10 @@ module _ (from now : Current) (kept : Kept) (step all phases : ℕ) (after : IsA
     keeps = λ some. keeps;
   }
 
-  pub reached-now : (files : Files) → HasCurrent now files → HasReached from kept step all files
+  pub reached-now : (files : Files) → HasCurrent now files → HasGone from kept step all files
   reached-now files has = record { now = now; has_now = has; phases = phases; after = after }
 
-  pub reached-then : (inserted count : ℕ) → inserted_by now ≡ inserted → count ≡ min step (all - inserted) → (files : Files) → HasThisOrNext now kept (inserted + count) files → HasReached from kept step all files
+  pub reached-then : (inserted count : ℕ) → inserted_by now ≡ inserted → count ≡ min step (all - inserted) → (files : Files) → HasThisOrNext now kept (inserted + count) files → HasGone from kept step all files
   reached-then inserted count by is files (inl has) = reached-now files has
   reached-then inserted count by is files (inr next) = record {
     now = next.0;

@@ -1,7 +1,7 @@
 -- Which tiles of the current checkpoint are damaged, from call to call.
 use Rattle.std.proofs.Common.{◌≡◌, ◌≢◌, ◌∙◌, ◌⊎◌, inl, inr, ℕ, zero, suc, ◌<◌, ◌≤◌, List, [], ◌∷◌, ◌++◌, take, length, refl, sym, ap, subst, arith, Option, Some, None}
 use Rattle.std.specs.Prelude.{Result, Err, IsSome, IsSomeAnd}
-use Rattle.ept_base.specs.Files.{Files, SameFiles, StepsBy, Tells}
+use Rattle.ept_base.specs.Files.{Files, SameFiles, SameBut, StepsBy, Tells}
 use Rattle.ept_space.specs.VoxelKey.{VoxelKey}
 use Rattle.ept_sample.specs.Members.{IsMember}
 use Rattle.ept_ckpt.specs.declared.node_line.NodeLine.{NodeLine}
@@ -11,7 +11,8 @@ use Rattle.ept_ckpt.specs.Versions.{layout_of}
 use Rattle.ept_save.specs.Current.{Current, HasCurrent, Keeps, tile_of_line}
 use Rattle.ept_config.specs.declared.config.Config.{Config}
 use Rattle.ept_save.specs.Done.{IsDone}
-use Rattle.ept_save.specs.Loading.{HasLine, IsDamaged, IsDamagedLine}
+use Rattle.ept_save.specs.Names.{done_name}
+use Rattle.ept_save.specs.Loading.{HasLine, HasNoDamage, IsDamaged, IsDamagedLine}
 use Rattle.ept_save.specs.Opening.{lines_of}
 use Rattle.ept_save.specs.Errors.{IsStores}
 use Rattle.ept_save.specs.View.{View, StandsFor}
@@ -19,6 +20,7 @@ use Rattle.ept_save.specs.declared.error.SaveError.{SaveError}
 use Rattle.ept_save.specs.declared.error.SaveError.TheVariants as save
 use Rattle.ept_phase.specs.Loaded.{AreIntact, HasSlot, IsFirstDamaged}
 use Rattle.ept_save.proofs.DamagedTiles.{damaged-before}
+use Rattle.ept_save.proofs.NamesDiffer.{done-apart}
 use Rattle.ept_plan.specs.Plans.{inputs_by}
 use Rattle.ept_build.specs.declared.error.BuildError.{BuildError}
 use Rattle.ept_build.specs.declared.error.BuildError.TheVariants.{StoreFault, BadCheckpoint, TileDamaged, Differs, SourceFault, BadLas, OutOfBounds, TooManyPoints, NoBounds, SourceChanged, SpillFault, SpillDamaged, TooManyNodes, Memory}
@@ -86,6 +88,25 @@ kept-damage view key (Some a) (Some b) stands keeps line damaged = (line, (keeps
   where
     some-one : {x y : Files} → Some x ≡ Some y → x ≡ y
     some-one is = cc
+
+-- no tile is damaged where nothing but the done gate changes
+no_damage_kept : (current : Current) (old mid new : Files) → HasNoDamage current old → SameFiles old mid → SameBut done_name mid new → HasNoDamage current new
+no_damage_kept current old mid new whole same but = λ key line damaged. whole key line (damaged-before current key old new (λ l found. but (tile_of_line l) (λ is. done-apart (inr (inr (l.letter, l.key, sym is)))) ∙ same (tile_of_line l)) damaged)
+
+pub still-whole : (current : Current) (old mid new : Option Files) → Tells (HasNoDamage current) old → StepsBy SameFiles old mid → StepsBy (SameBut done_name) mid new → Tells (HasNoDamage current) new
+still-whole current old mid None whole same but = tt
+still-whole current old None (Some c) whole same but = absurd but
+still-whole current None (Some b) (Some c) whole same but = absurd same
+still-whole current (Some a) (Some b) (Some c) whole same but = no_damage_kept current a b c whole same but
+
+-- nothing but the done gate changes
+pub gate-steps : (old mid new : Option Files) → StepsBy SameFiles old mid → StepsBy (SameBut done_name) mid new → StepsBy (SameBut done_name) old new
+gate-steps None None None same but = tt
+gate-steps None None (Some c) same but = absurd but
+gate-steps None (Some b) new same but = absurd same
+gate-steps (Some a) None new same but = absurd same
+gate-steps (Some a) (Some b) None same but = absurd but
+gate-steps (Some a) (Some b) (Some c) same but = λ name other. but name other ∙ same name
 
 -- and where the files are as they were
 pub same-damage : (view : View) (key : VoxelKey) (old new : Option Files) {may : Files → Type 0} → StandsFor view new may → StepsBy SameFiles old new → HasLine view.current key → Tells (IsDamaged view.current key) old → HasDamage view.current key new

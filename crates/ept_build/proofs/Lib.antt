@@ -14,7 +14,9 @@ pub mod Found
 mod Judging
 mod Roomy
 mod Running
+pub mod TakenUp
 mod UnderWay
 mod Damage
+mod Renewed
 mod Finished
 mod Spilled

@@ -1,5 +1,5 @@
 -- What is left of a build: the nodes are loaded, the done gate is closed, and all points of the inputs are brought in.
-use Rattle.std.proofs.Common.{◌≡◌, ◌∙◌, ◌⊎◌, inl, inr, ℕ, true, ◌<◌, ◌≤◌, List, length, refl, sym, ap, arith, Option, Some, None}
+use Rattle.std.proofs.Common.{◌≡◌, ◌∙◌, ◌⊎◌, inl, inr, ℕ, true, ◌<◌, ◌≤◌, List, length, refl, sym, ap, subst, arith, Option, Some, None}
 use Rattle.std.proofs.lemmas.List.Elements.{All-nil}
 use Rattle.ept_base.specs.Files.{Files, SameFiles, Tells}
 use Rattle.ept_base.specs.Moves.{IsSettled, Moves}
@@ -25,12 +25,13 @@ use Rattle.ept_phase.specs.Loaded.{OfCurrent}
 use Rattle.ept_phase.specs.Saving.{HasEachNodeOf, keys_in}
 use Rattle.ept_plan.specs.declared.plan.Plan.{Plan}
 use Rattle.ept_plan.specs.Plans.{inserted_by}
-use Rattle.ept_build.specs.Phases.{IsBegun, IsTreeOf, IsSoundUndone, IsSoundAt}
+use Rattle.ept_build.specs.Phases.{IsBegun, IsTreeOf, IsSoundUndone, IsSoundAt, TakesUp}
 use Rattle.ept_build.proofs.Moved.{AllAre, all-settled, all-after, moves-after}
 use Rattle.ept_build.proofs.Numbers.{told-number}
 use Rattle.ept_build.proofs.Phased.{each-told}
+use Rattle.ept_build.proofs.TakenUp.{taken-each, taken-inserted, taken-inputs}
 
-sound-same : SameIsSound → (shelf : Files) (current : Current) (a b : Files) → IsSoundAt shelf current a → SameFiles a b → IsSoundAt shelf current b
+pub sound-same : SameIsSound → (shelf : Files) (current : Current) (a b : Files) → IsSoundAt shelf current a → SameFiles a b → IsSoundAt shelf current b
 sound-same same_sound shelf current a b at same = record {
   sound = same_sound shelf a b same at.sound;
   has = has_current-same current a b (λ l. same (gate_name l)) (λ l. same (body_name l)) at.has;
@@ -101,20 +102,20 @@ settled-on start now image settled same is name = settled image is name ∙ sym 
 pub few-lines : (max slots lines nodes : ℕ) → (slots < lines → slots ≡ max) → slots < lines → lines ≤ nodes → max < nodes
 few-lines max slots lines nodes all many few = omega (arith, all many, many, few)
 
--- the octree that was loaded is that of the plan
-pub tree-loaded : {F : Type 0} (held : F → Option (List ℕ)) (faults keeps : F → ℕ) (plan : Plan) (inserted : ℕ) (view : View) (old new : Octree F) → ¬ IsOfLayout Old view.current → IsBegun held faults keeps plan inserted old view → tree.rules_of new ≡ tree.rules_of old → tree.IsWhole held new → tree.IsLinked held new → tree.AgreesWithFiles held faults keeps new → tree.IsUnbroken new → OfCurrent view.current (λ (c : Checkpoint). TellNodes (tree.nodes_of held new) c.nodes) → (view.current ≡ None → tree.nodes_of held new ≡ tree.nodes_of held old) → IsTreeOf held faults keeps plan inserted new view
-tree-loaded held faults keeps plan inserted view old new newest is own whole linked agrees unbroken told begun = record {
+-- the octree that was loaded is that of the plan, for what is taken up
+pub tree-loaded : {F : Type 0} (held : F → Option (List ℕ)) (faults keeps : F → ℕ) (plan : Plan) (inserted : ℕ) (view : View) (old new : Octree F) → IsBegun held faults keeps plan inserted old view → tree.rules_of new ≡ tree.rules_of old → tree.IsWhole held new → tree.IsLinked held new → tree.AgreesWithFiles held faults keeps new → tree.IsUnbroken new → OfCurrent view.current (λ (c : Checkpoint). TellNodes (tree.nodes_of held new) c.nodes) → (view.current ≡ None → tree.nodes_of held new ≡ tree.nodes_of held old) → (next : View) → TakesUp view next → ¬ IsOfLayout Old next.current → IsTreeOf held faults keeps plan inserted new next
+tree-loaded held faults keeps plan inserted view old new is own whole linked agrees unbroken told begun next takes newest = record {
   rules = own ∙ is.rules;
   whole = whole;
   linked = linked;
   agrees = agrees;
   unbroken = unbroken;
   number = number view.current refl told;
-  fresh = is.fresh;
+  fresh = takes.fresh is.fresh;
   newest = newest;
-  each = each view.current told;
-  by_checkpoint = is.by_checkpoint;
-  inputs_least = is.inputs_least;
+  each = taken-each (tree.nodes_of held new) view.current next.current takes.taken (each view.current told);
+  by_checkpoint = taken-inserted view.current next.current takes.taken ∙ is.by_checkpoint;
+  inputs_least = subst (λ (n : ℕ). n ≤ length plan.kept.inputs) (sym (taken-inputs view.current next.current takes.taken)) is.inputs_least;
 }
   where
     number : (now : Current) → view.current ≡ now → OfCurrent now (λ (c : Checkpoint). TellNodes (tree.nodes_of held new) c.nodes) → length (tree.points_of held new) ≡ inserted

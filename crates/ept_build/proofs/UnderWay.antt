@@ -1,5 +1,5 @@
 -- What lies on the way of a build: sound files, some phases behind the start.
-use Rattle.std.proofs.Common.{◌≡◌, ◌∙◌, inl, inr, ℕ, ◌<◌, length, take, sym, subst, Option, Some, None}
+use Rattle.std.proofs.Common.{◌≡◌, ◌∙◌, ◌⊎◌, inl, inr, ℕ, ◌+◌, ◌*◌, ◌<◌, ◌≤◌, min, length, take, refl, sym, subst, arith, Option, Some, None}
 use Rattle.ept_base.specs.Files.{Files, SameFiles, StepsBy, Tells}
 use Rattle.ept_base.specs.Moves.{IsSettled, Moves, SameImages}
 use Rattle.ept_space.specs.declared.bounds.Bounds.{Bounds}
@@ -15,11 +15,12 @@ use Rattle.ept_save.proofs.Standing.{tells_some, settled_some}
 use Rattle.ept_plan.specs.declared.plan.Plan.{Plan}
 use Rattle.ept_plan.specs.Plans.{inserted_by}
 use Rattle.ept_build.specs.Building.{IsUnderWay, IsBuilt, IsStopped, HasTooManyAlready, node_count}
-use Rattle.ept_build.specs.Phases.{IsSoundUndone, IsSoundAt, AreMany}
-use Rattle.ept_build.specs.Reached.{IsAfter, HasReached, IsThrough}
+use Rattle.ept_build.specs.Phases.{IsSoundUndone, IsSoundAt, IsSoundTaken, AreMany}
+use Rattle.ept_build.specs.Reached.{IsAfter, HasGone, HasTurned, IsTakenUp, IsThrough}
 use Rattle.ept_build.proofs.Ground.{IsGround}
 use Rattle.ept_build.proofs.Moved.{moves-two, moves-wider}
 use Rattle.ept_build.proofs.Running.{sound-settled, same-moves}
+use Rattle.ept_build.proofs.TakenUp.{taken-inserted}
 
 -- the checkpoint of the start
 pub under-way-at : (all : Files) (config : Config) (start : Files) (current : Current) → HasCurrent current start → (files : Files) → IsSoundAt all current files → IsUnderWay all config start files
@@ -32,10 +33,14 @@ early-moves same_sound published guarding all config start files may_leave momen
     moves-wider files may_leave moment image_since (IsSoundAt all current) (IsUnderWay all config start) (under-way-at all config start current sound.has_current) old new
     (same-moves same_sound published guarding all current files may_leave moment image_since old new (sound-settled same_sound published guarding all current files may_leave moment image_since old start told settled sound sound.has_current) moved)
 
+-- no phase inserts nothing
+no_phase : (all n step : ℕ) → n ≤ all → n ≡ min all (n + 0 * step)
+no_phase all n step le = omega (arith, le)
+
 module _ (all start : Files) (config : Config) (current : Current) (plan : Plan) (extent : Option Bounds) (ground : IsGround all start config current plan extent) (has : HasCurrent current start) where
   -- one that was reached
-  pub under-way-reached : (files : Files) → IsSound all files → HasReached current plan.kept config.checkpoint plan.points files → IsUnderWay all config start files
-  under-way-reached files sound reached = record {
+  pub under-way-reached : (base : Current) → IsTakenUp current base → (files : Files) → IsSound all files → HasGone base plan.kept config.checkpoint plan.points files → IsUnderWay all config start files
+  under-way-reached base taken files sound gone = record {
     sound = sound;
     current = current;
     has_current = has;
@@ -44,34 +49,54 @@ module _ (all start : Files) (config : Config) (current : Current) (plan : Plan)
       kept = plan.kept;
       points = ground.points;
       has_points = ground.has_points;
-      reached = subst (λ (n : ℕ). HasReached current plan.kept config.checkpoint n files) (sym ground.number) reached;
+      reached = record { base = base; taken_up = taken; gone = subst (λ (n : ℕ). HasGone base plan.kept config.checkpoint n files) (sym ground.number) gone };
     });
   }
+
+  -- the next one of the same points, where that is taken up
+  pub under-way-taken : inserted_by current ≤ plan.points → (files : Files) → IsSoundTaken all current files → IsUnderWay all config start files
+  under-way-taken most files at = by at.taken
+    where
+      by : (at.now ≡ current) ⊎ HasTurned current at.now → IsUnderWay all config start files
+      by (inl same) = under-way-at all config start current has files (record { sound = at.sound; has = subst (λ (w : Current). HasCurrent w files) same at.has_now })
+      by (inr turned) =
+          let inserted : inserted_by at.now ≡ inserted_by current = taken-inserted current at.now (inr turned) in
+          under-way-reached at.now (inr turned) files at.sound (record {
+            now = at.now;
+            has_now = at.has_now;
+            phases = 0;
+            after = record {
+              generation = omega arith;
+              inserted = no_phase plan.points (inserted_by at.now) config.checkpoint (omega (arith, inserted, most));
+              unchanged = λ none. refl;
+              keeps = λ some. absurd (omega (arith, some));
+            };
+          })
 
   module _ {D : Type 0} (files : D → Option Files) (may_leave : D → Files → Type 0) (moment : D → ℕ) (image_since : D → ℕ → Files → Type 0) (old new : D) where
     abbrev pub MovesTo : (Files → Type 0) → Type 0
     MovesTo Has = Moves files may_leave moment image_since (λ (a b : Files). Has b) old new
 
-    pub first-moves : MovesTo (IsSoundAt all current) → MovesTo (IsUnderWay all config start)
-    first-moves = moves-wider files may_leave moment image_since (IsSoundAt all current) (IsUnderWay all config start) (under-way-at all config start current has) old new
+    pub first-moves : inserted_by current ≤ plan.points → MovesTo (IsSoundTaken all current) → MovesTo (IsUnderWay all config start)
+    first-moves most = moves-wider files may_leave moment image_since (IsSoundTaken all current) (IsUnderWay all config start) (under-way-taken most) old new
 
-    pub grow-moves : MovesTo (IsSoundUndone all) → MovesTo (HasReached current plan.kept config.checkpoint plan.points) → MovesTo (IsUnderWay all config start)
-    grow-moves sound reached =
-        moves-wider files may_leave moment image_since (λ (b : Files). IsSoundUndone all b × HasReached current plan.kept config.checkpoint plan.points b) (IsUnderWay all config start) (λ b both. under-way-reached b both.0.sound both.1) old new
-        (moves-two files may_leave moment image_since (IsSoundUndone all) (HasReached current plan.kept config.checkpoint plan.points) old new sound reached)
+    pub grow-moves : (base : Current) → IsTakenUp current base → MovesTo (IsSoundUndone all) → MovesTo (HasGone base plan.kept config.checkpoint plan.points) → MovesTo (IsUnderWay all config start)
+    grow-moves base taken sound gone =
+        moves-wider files may_leave moment image_since (λ (b : Files). IsSoundUndone all b × HasGone base plan.kept config.checkpoint plan.points b) (IsUnderWay all config start) (λ b both. under-way-reached base taken b both.0.sound both.1) old new
+        (moves-two files may_leave moment image_since (IsSoundUndone all) (HasGone base plan.kept config.checkpoint plan.points) old new sound gone)
 
-    pub end-moves : (inputs : ℕ) (now : Current) → IsThrough current plan.kept config.checkpoint plan.points inputs now → MovesTo (IsSoundAt all now) → MovesTo (IsUnderWay all config start)
-    end-moves inputs now through =
-        moves-wider files may_leave moment image_since (IsSoundAt all now) (IsUnderWay all config start) (λ b at. under-way-reached b at.sound (record { now = now; has_now = at.has; phases = through.phases; after = through.after })) old new
+    pub end-moves : (base : Current) → IsTakenUp current base → (inputs : ℕ) (now : Current) → IsThrough base plan.kept config.checkpoint plan.points inputs now → MovesTo (IsSoundAt all now) → MovesTo (IsUnderWay all config start)
+    end-moves base taken inputs now through =
+        moves-wider files may_leave moment image_since (IsSoundAt all now) (IsUnderWay all config start) (λ b at. under-way-reached base taken b at.sound (record { now = now; has_now = at.has; phases = through.phases; after = through.after })) old new
 
   -- ---- the end
 
   -- complete files, as many phases later as were needed
-  pub complete-end : (now : Current) → IsThrough current plan.kept config.checkpoint plan.points (length config.inputs) now → (nodes : ℕ) → nodes ≡ node_count plan.kept ground.points → (old new : Option Files) → StepsBy (λ (a b : Files). IsSoundAt all now b) old new → Tells (IsComplete plan.kept ground.points) new → Tells (IsBuilt all config start (record { points = plan.points; nodes = nodes })) new
-  complete-end now through nodes counted None None moved complete = tt
-  complete-end now through nodes counted None (Some b) moved complete = absurd moved
-  complete-end now through nodes counted (Some a) None moved complete = absurd moved
-  complete-end now through nodes counted (Some a) (Some b) at complete = record {
+  pub complete-end : (base : Current) → IsTakenUp current base → (now : Current) → IsThrough base plan.kept config.checkpoint plan.points (length config.inputs) now → (nodes : ℕ) → nodes ≡ node_count plan.kept ground.points → (old new : Option Files) → StepsBy (λ (a b : Files). IsSoundAt all now b) old new → Tells (IsComplete plan.kept ground.points) new → Tells (IsBuilt all config start (record { points = plan.points; nodes = nodes })) new
+  complete-end base taken now through nodes counted None None moved complete = tt
+  complete-end base taken now through nodes counted None (Some b) moved complete = absurd moved
+  complete-end base taken now through nodes counted (Some a) None moved complete = absurd moved
+  complete-end base taken now through nodes counted (Some a) (Some b) at complete = record {
     current = current;
     has_current = has;
     goes_on = ground.goes_on;
@@ -79,15 +104,15 @@ module _ (all start : Files) (config : Config) (current : Current) (plan : Plan)
     points = ground.points;
     has_points = ground.has_points;
     complete = complete;
-    through = record { now = now; has_now = at.has; through = subst (λ (n : ℕ). IsThrough current plan.kept config.checkpoint n (length config.inputs) now) (sym ground.number) through };
+    through = record { base = base; taken_up = taken; now = now; has_now = at.has; through = subst (λ (n : ℕ). IsThrough base plan.kept config.checkpoint n (length config.inputs) now) (sym ground.number) through };
     points_are = sym ground.number;
     nodes_are = counted;
   }
 
   -- ---- too many nodes
 
-  pub stopped-at : (view : View) (files : Option Files) (may_leave : Files → Type 0) → StandsFor view files may_leave → AreMany plan current config.checkpoint config.max_nodes ground.points view.current → Tells (IsStopped all config start) files
-  stopped-at view files may_leave stands many =
+  pub stopped-at : (base : Current) → IsTakenUp current base → (view : View) (files : Option Files) (may_leave : Files → Type 0) → StandsFor view files may_leave → AreMany plan base config.checkpoint config.max_nodes ground.points view.current → Tells (IsStopped all config start) files
+  stopped-at base taken view files may_leave stands many =
       tells_some (IsStopped all config start) files stands.all stands.told (record {
         current = current;
         has_current = has;
@@ -96,10 +121,14 @@ module _ (all start : Files) (config : Config) (current : Current) (plan : Plan)
         points = ground.points;
         has_points = ground.has_points;
         reached = record {
-          now = view.current;
-          has_now = stands.has_current;
-          phases = many.phases;
-          after = subst (λ (n : ℕ). IsAfter current plan.kept config.checkpoint n many.phases view.current) (sym ground.number) many.after;
+          base = base;
+          taken_up = taken;
+          gone = record {
+            now = view.current;
+            has_now = stands.has_current;
+            phases = many.phases;
+            after = subst (λ (n : ℕ). IsAfter base plan.kept config.checkpoint n many.phases view.current) (sym ground.number) many.after;
+          };
         };
         few = many.few;
         many = many.many;

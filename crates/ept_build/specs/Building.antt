@@ -155,8 +155,8 @@ pub record IsStopped (all : Files) (config : Config) (start files : Files) : Typ
   pub points : List Point
   pub has_points : HasPoints all config current kept points
   pub reached : HasReached current kept config.checkpoint (length points) files
-  pub few : node_count kept (take (inserted_by reached.now) points) ≤ config.max_nodes
-  pub many : config.max_nodes < node_count kept (take (inserted_by reached.now + config.checkpoint) points)
+  pub few : node_count kept (take (inserted_by reached.gone.now) points) ≤ config.max_nodes
+  pub many : config.max_nodes < node_count kept (take (inserted_by reached.gone.now + config.checkpoint) points)
 
 -- The build comes to the octree of the current checkpoint: this goes on, and the inputs are accepted; the done gate is not open, or an input is new. Of the nodes for which there are slots, the tile of a key is damaged.
 pub record ComesToDamage (all : Files) (config : Config) (start : Files) (current : Current) : Type 0 where

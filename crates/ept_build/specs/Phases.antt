@@ -1,6 +1,6 @@
 -- Where a build stands between two phases.
 use Rattle.std.specs.Prelude.{◌≡◌, ◌⊎◌, ℕ, ◌+◌, ◌<◌, ◌≤◌, List, [], ◌∷◌, length, take, drop, Option, Some, None, ⊤, All}
-use Rattle.ept_base.specs.Files.{Files, Tells}
+use Rattle.ept_base.specs.Files.{Files, SameFiles, Tells}
 use Rattle.ept_base.specs.Moves.{IsSettled}
 use Rattle.ept_point.specs.declared.point.Point.{Point}
 use Rattle.ept_space.specs.OctreeCube.{InCube}
@@ -24,6 +24,7 @@ use Rattle.ept_meta.specs.Output.{File, IsOutput, rules_of, names_of}
 use Rattle.ept_save.specs.Current.{Current, HasCurrent}
 use Rattle.ept_save.specs.Done.{IsDone}
 use Rattle.ept_save.specs.Loading.{HasLine, IsDamaged}
+use Rattle.ept_save.specs.Migrating.{IsTurnOf, Migrates}
 use Rattle.ept_save.specs.Opening.{lines_of}
 use Rattle.ept_save.specs.Sound.{IsSound}
 use Rattle.ept_save.specs.SoundLaws.{HasNamesOf}
@@ -37,7 +38,7 @@ use Rattle.ept_phase.specs.Loaded.{OfCurrent}
 use Rattle.ept_phase.specs.Saving.{HasEachNodeOf}
 use Rattle.ept_plan.specs.declared.plan.Plan.{Plan}
 use Rattle.ept_plan.specs.Plans.{inputs_by, inserted_by, RulesStay}
-use Rattle.ept_build.specs.Reached.{IsAfter}
+use Rattle.ept_build.specs.Reached.{IsAfter, HasTurned, IsTakenUp}
 use Rattle.ept_build.specs.declared.error.BuildError.{BuildError}
 use Rattle.ept_build.specs.declared.error.BuildError.TheVariants.{StoreFault, BadCheckpoint, TileDamaged, Differs, SourceFault, BadLas, OutOfBounds, TooManyPoints, NoBounds, SourceChanged, SpillFault, SpillDamaged, TooManyNodes, Memory}
 
@@ -121,6 +122,11 @@ pub record HasInserted {F S : Type 0} (held : F → Option (List ℕ)) (whole : 
   pub sampled : AreSampled (rules_of plan.kept) (take inserted points) (tree.nodes_of held octree)
   pub rest : IsRest whole reader (drop inserted points)
 
+-- What is known of the checkpoints is as it was, or, if the tiles of the current one were of the old layout, of the next one.
+pub record TakesUp (old new : View) : Type 0 where
+  pub taken : IsTakenUp old.current new.current
+  pub fresh : old.lines ≡ lines_of old.current → new.lines ≡ lines_of new.current
+
 -- files are sound, and their done gate is closed
 pub record IsSoundUndone (shelf files : Files) : Type 0 where
   pub sound : IsSound shelf files
@@ -130,6 +136,19 @@ pub record IsSoundUndone (shelf files : Files) : Type 0 where
 pub record IsSoundAt (shelf : Files) (current : Current) (files : Files) : Type 0 where
   pub sound : IsSound shelf files
   pub has : HasCurrent current files
+
+-- Nothing changes, or the current checkpoint, whose tiles are of the old layout, is being migrated.
+abbrev pub Renews : Current → Files → Files → Files → Type 0
+Renews None start old new = SameFiles old new
+Renews (Some (letter, c)) start old new =
+    SameFiles old new ⊎ ((layout_of c.version ≡ Old) × ((next : Checkpoint) → IsTurnOf c next → Migrates letter c next start old new))
+
+-- files are sound, and this is their current checkpoint, or the next one of the same points
+pub record IsSoundTaken (shelf : Files) (from : Current) (files : Files) : Type 0 where
+  pub sound : IsSound shelf files
+  pub now : Current
+  pub has_now : HasCurrent now files
+  pub taken : (now ≡ from) ⊎ HasTurned from now
 
 -- ---- a shelf and a store that tell
 

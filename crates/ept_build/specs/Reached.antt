@@ -1,14 +1,35 @@
 -- How far a build comes, phase by phase, behind the checkpoint that it began with.
 use Rattle.std.specs.Prelude.{◌≡◌, ◌⊎◌, ℕ, ◌+◌, ◌-◌, ◌*◌, ◌<◌, ◌≤◌, min, Some, None}
 use Rattle.ept_base.specs.Files.{Files}
+use Rattle.ept_point.specs.declared.layout.Layout.TheVariants.{Old}
 use Rattle.ept_config.specs.declared.kept.Kept.{Kept}
+use Rattle.ept_ckpt.specs.declared.letter.Letter.{Letter}
+use Rattle.ept_ckpt.specs.declared.checkpoint.Checkpoint.{Checkpoint}
+use Rattle.ept_ckpt.specs.Versions.{layout_of}
+use Rattle.ept_save.specs.Names.{other}
 use Rattle.ept_save.specs.Current.{Current, HasCurrent}
+use Rattle.ept_save.specs.Migrating.{IsTurnOf}
+use Rattle.ept_save.specs.Tiles.{IsOfLayout}
 use Rattle.ept_plan.specs.Plans.{inputs_by, inserted_by}
 
 -- how many checkpoints there were, with this one
 abbrev pub generation_by : Current → ℕ
 generation_by None = 0
 generation_by (Some (letter, c)) = c.generation
+
+-- the tiles of the one are of the old layout, and the other is the next one, of the same points
+pub record HasTurned (from base : Current) : Type 0 where
+  pub letter : Letter
+  pub c : Checkpoint
+  pub was : from ≡ Some (letter, c)
+  pub old : layout_of c.version ≡ Old
+  pub next : Checkpoint
+  pub turns : IsTurnOf c next
+  pub is : base ≡ Some (other letter, next)
+
+-- what a build continues from: the checkpoint that it begins with, or, if the tiles of that are of the old layout, the next one
+abbrev pub IsTakenUp : Current → Current → Type 0
+IsTakenUp from base = (¬ IsOfLayout Old from × (base ≡ from)) ⊎ HasTurned from base
 
 -- this is what the checkpoint keeps of a configuration
 abbrev pub KeepsAs : Kept → Current → Type 0
@@ -23,11 +44,17 @@ pub record IsAfter (from : Current) (kept : Kept) (step all phases : ℕ) (now :
   pub keeps : 0 < phases → KeepsAs kept now
 
 -- the current checkpoint of the files is one some phases later
-pub record HasReached (from : Current) (kept : Kept) (step all : ℕ) (files : Files) : Type 0 where
+pub record HasGone (from : Current) (kept : Kept) (step all : ℕ) (files : Files) : Type 0 where
   pub now : Current
   pub has_now : HasCurrent now files
   pub phases : ℕ
   pub after : IsAfter from kept step all phases now
+
+-- it is some phases later than what the build continues from
+pub record HasReached (from : Current) (kept : Kept) (step all : ℕ) (files : Files) : Type 0 where
+  pub base : Current
+  pub taken_up : IsTakenUp from base
+  pub gone : HasGone base kept step all files
 
 -- So many phases are needed for so many points that are left, and new inputs: the fewest that bring all points in, and one at least where an input is new.
 pub record AreNeeded (left inputs step phases : ℕ) : Type 0 where
@@ -41,11 +68,13 @@ pub record IsThrough (from : Current) (kept : Kept) (step all inputs : ℕ) (now
   pub after : IsAfter from kept step all phases now
   pub needed : AreNeeded (all - inserted_by from) (inputs - inputs_by from) step phases
 
--- the current checkpoint of the files is that one
+-- the current checkpoint of the files is that one, behind what the build continues from
 pub record HasGoneThrough (from : Current) (kept : Kept) (step all inputs : ℕ) (files : Files) : Type 0 where
+  pub base : Current
+  pub taken_up : IsTakenUp from base
   pub now : Current
   pub has_now : HasCurrent now files
-  pub through : IsThrough from kept step all inputs now
+  pub through : IsThrough base kept step all inputs now
 
 -- the current checkpoint of the files is this one, or the next one, which keeps this of the configuration, with this number of points inserted
 abbrev pub HasThisOrNext : Current → Kept → ℕ → Files → Type 0

@@ -15,8 +15,6 @@ ghost use Rattle.ept_save.specs.Current.{Current, HasCurrent};
 ghost use Rattle.ept_save.specs.Done.{IsDone};
 ghost use Rattle.ept_save.specs.Loading.{IsDamaged};
 ghost use Rattle.ept_save.specs.Opening.{IsBad};
-ghost use Rattle.ept_point.specs.declared.layout.Layout.TheVariants.{Old};
-ghost use Rattle.ept_save.specs.Tiles.{IsOfLayout};
 ghost use Rattle.ept_save.specs.View.{StandsFor};
 ghost use Rattle.ept_phase.specs.Loaded.{HasSlot, IsFirstDamaged};
 ghost use Rattle.ept_meta.specs.declared.fields.Field.{Field};
@@ -208,7 +206,6 @@ where
     R: Threads + Wait + Sync,
     requires plan { IsPlan config.now at.saved.current plan.now }
     requires begun { IsBegun F.held F.faults F.keeps plan.now at.inserted at.octree at.saved }
-    requires newest { ¬ IsOfLayout Old at.saved.current }
     requires room { HasRoom plan.now at.saved.current config.now.max_nodes (most_of at.octree) }
     ensures built { (all start : Files) → H.files shelf.old ≡ Some all
         → Starts F.held all config.now at.saved plan.now start (T.files store.old) (T.may_leave store.old)

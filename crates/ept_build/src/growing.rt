@@ -21,7 +21,7 @@ ghost use Rattle.ept_save.specs.Current.{Current};
 ghost use Rattle.ept_save.specs.View.{StandsFor};
 ghost use Rattle.ept_plan.specs.Plans.{IsOf, inputs_by, inserted_by};
 ghost use Rattle.ept_build.specs.Errors.{of_insert};
-ghost use Rattle.ept_build.specs.Reached.{IsThrough, HasReached, HasThisOrNext, generation_by};
+ghost use Rattle.ept_build.specs.Reached.{IsThrough, HasGone, HasThisOrNext, generation_by};
 ghost use Rattle.ept_build.specs.Phases.{IsFit, IsTreeOf, ReadsRest, HasAll, HasInserted, IsSoundUndone, AreOfShelf, IsOnWay, HasDamage, IsPhaseFault, AreMany};
 
 use crate::crew::Crew;
@@ -83,7 +83,7 @@ where
         IsThrough at.saved.current plan.now.kept step plan.now.points (length plan.now.kept.inputs) end.saved.current) }
     ensures reached { IsTelling F.held → StandsFor at.saved (T.files store.old) (T.may_leave store.old)
         → Moves T.files T.may_leave T.moment T.image_since
-        (λ (a b : Files). HasReached at.saved.current plan.now.kept step plan.now.points b) store.old store.new }
+        (λ (a b : Files). HasGone at.saved.current plan.now.kept step plan.now.points b) store.old store.new }
 
     // Of devices and spill files that tell: the octree is then that of all points, and each image is sound meanwhile.
     ensures sampled { IsTelling F.held → IfOk result (λ end. Tells (λ all. (points : List Point)
@@ -192,7 +192,7 @@ where
         IsThrough at.saved.current plan.now.kept step plan.now.points (length plan.now.kept.inputs) r.0.saved.current) }
     ensures reached { IsTelling F.held → StandsFor at.saved (T.files store.old) (T.may_leave store.old)
         → Moves T.files T.may_leave T.moment T.image_since
-        (λ (a b : Files). HasReached at.saved.current plan.now.kept step plan.now.points b) store.old store.new }
+        (λ (a b : Files). HasGone at.saved.current plan.now.kept step plan.now.points b) store.old store.new }
     ensures sampled { IfOk result (λ r. (points : List Point) → CanBeSampled (rules_of plan.now.kept) points
         → length points ≡ plan.now.points → HasInserted F.held S.whole plan.now points at.inserted reader at.octree
         → AreSampled (rules_of plan.now.kept) points (nodes_of F.held r.0.octree)) }

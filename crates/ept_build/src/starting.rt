@@ -1,8 +1,8 @@
 //! The beginning of what is left to be done: the nodes of the current checkpoint, behind a closed done gate.
 
-ghost use Rattle.std.specs.Prelude.{◌≡◌, ◌≢◌, ◌<◌, ◌≤◌, ℕ, List, Err, IfOk, IfErr, OnOk, take, length};
+ghost use Rattle.std.specs.Prelude.{◌≡◌, ◌≢◌, ◌<◌, ◌≤◌, ◌↔◌, ℕ, List, Some, Err, IsTrue, IfOk, IfErr, OnOk, take, length};
 ghost use Rattle.ept_base.specs.Causes.{HasCauseOf};
-ghost use Rattle.ept_base.specs.Files.{Files, SameFiles, Tells};
+ghost use Rattle.ept_base.specs.Files.{Files, SameFiles, SameBut, StepsBy, Tells};
 ghost use Rattle.ept_base.specs.Moves.{IsSettled, Moves, SameImages};
 ghost use Rattle.ept_space.specs.VoxelKey.{VoxelKey};
 ghost use Rattle.ept_meta.specs.Output as meta;
@@ -10,15 +10,17 @@ ghost use Rattle.ept_meta.specs.Output.{File, names_of};
 ghost use Rattle.ept_node.specs.Shown.{IsTelling};
 ghost use Rattle.ept_forest.specs.Slots as trees;
 ghost use Rattle.ept_octree.specs.Octree.{forest_of, nodes_of, most_of, cache_of};
+ghost use Rattle.ept_save.specs.Done.{IsDone};
+ghost use Rattle.ept_save.specs.Names.{done_name};
 ghost use Rattle.ept_save.specs.Opening.{lines_of};
 ghost use Rattle.ept_save.specs.SoundLaws.{HasNamesOf};
 ghost use Rattle.ept_point.specs.declared.layout.Layout.TheVariants.{Old};
 ghost use Rattle.ept_save.specs.Tiles.{IsOfLayout};
-ghost use Rattle.ept_save.specs.View.{StandsFor};
+ghost use Rattle.ept_save.specs.View.{View, StandsFor};
 ghost use Rattle.ept_save.specs.Loading.{HasNoDamage};
 ghost use Rattle.ept_phase.specs.Loaded.{AreIntact, IsFirstDamaged};
 ghost use Rattle.ept_plan.specs.Plans.{IsPlan};
-ghost use Rattle.ept_build.specs.Phases.{IsBegun, HasRoom, IsTreeOf, AreLoaded, IsReady, IsOnWay, IsSoundAt, HasDamage, IsPhaseFault, IsRoomFault};
+ghost use Rattle.ept_build.specs.Phases.{IsBegun, HasRoom, IsTreeOf, AreLoaded, IsReady, IsOnWay, IsSoundAt, IsSoundTaken, TakesUp, Renews, HasDamage, IsPhaseFault, IsRoomFault, IsStoreFault};
 
 use crate::error::BuildError;
 use crate::progress::Progress;
@@ -28,7 +30,8 @@ use ept_meta::rules_of;
 use ept_octree::Octree;
 use ept_phase::load_octree;
 use ept_plan::Plan;
-use ept_save::{Saved, close_done, sound_law, sound_steps_law};
+use ept_point::Layout;
+use ept_save::{Saved, close_done, migrate, sound_law, sound_steps_law};
 use ept_space::Rules;
 use std::alloc::Global;
 
@@ -89,7 +92,8 @@ pub(crate) fn lines_in(saved: &Saved) -> u32
     }
 }
 
-/// Takes up the work where the current checkpoint stands: its nodes are loaded, and the done gate is closed.
+/// Takes up the work where the current checkpoint stands: its nodes are loaded, the done gate is closed, and if its tiles are of
+/// the old layout it is migrated.
 pub(crate) fn take_up<F: SpillFile, T: Store>(
     alloc: Global,
     store: &mut T,
@@ -97,20 +101,78 @@ pub(crate) fn take_up<F: SpillFile, T: Store>(
     plan: &Plan,
 ) -> Result<(), BuildError>
     requires begun { IsBegun F.held F.faults F.keeps plan.now at.old.inserted at.old.octree at.old.saved }
-    requires newest { ¬ IsOfLayout Old at.old.saved.current }
-    ensures saved { at.new.saved ≡ at.old.saved }
+    ensures taken_up { OnOk result (TakesUp at.old.saved at.new.saved) }
     ensures inserted { at.new.inserted ≡ at.old.inserted }
     ensures most { most_of at.new.octree ≡ most_of at.old.octree }
     ensures cache { cache_of at.new.octree ≡ cache_of at.old.octree }
     ensures tree { OnOk result (IsTreeOf F.held F.faults F.keeps plan.now at.new.inserted at.new.octree at.new.saved) }
     ensures loaded { IsTelling F.held
-        → OnOk result (AreLoaded plan.now at.new.saved.current (nodes_of F.held at.new.octree) (T.files store.old)) }
+        → OnOk result (AreLoaded plan.now at.old.saved.current (nodes_of F.held at.new.octree) (T.files store.old)) }
     ensures on_way { OnOk result ((shelf start : Files) (output : List File)
         → IsReady shelf start at.old.saved (T.files store.old) (T.may_leave store.old)
-        → HasNamesOf shelf at.new.saved.current (names_of output)
+        → HasNamesOf shelf at.old.saved.current (names_of output)
         → IsOnWay shelf output at.new.saved (T.files store.new) (T.may_leave store.new)) }
     ensures stands { OnOk result (StandsFor at.old.saved (T.files store.old) (T.may_leave store.old)
         → StandsFor at.new.saved (T.files store.new) (T.may_leave store.new)) }
+    ensures settled { OnOk result (IsSettled (T.files store.new) (T.may_leave store.new)) }
+    ensures sound { (shelf start : Files)
+        → IsReady shelf start at.old.saved (T.files store.old) (T.may_leave store.old)
+        → Moves T.files T.may_leave T.moment T.image_since
+        (λ (a b : Files). IsSoundTaken shelf at.old.saved.current b) store.old store.new }
+
+    // Why it is refused.
+    ensures only { IfErr result IsPhaseFault }
+    ensures too_many { result ≡ Err BuildError.TooManyNodes → most_of at.old.octree < length (lines_of at.old.saved.current) }
+    ensures untouched { result ≡ Err BuildError.TooManyNodes
+        → Moves T.files T.may_leave T.moment T.image_since SameFiles store.old store.new
+        × SameImages (T.may_leave store.old) (T.may_leave store.new) }
+    ensures damaged { (key : VoxelKey) → result ≡ Err (BuildError.TileDamaged key)
+        → StandsFor at.old.saved (T.files store.old) (T.may_leave store.old)
+        → HasDamage at.old.saved.current key (T.files store.new) }
+    ensures first_damaged { (key : VoxelKey) (start : Files) → T.files store.old ≡ Some start
+        → result ≡ Err (BuildError.TileDamaged key)
+        → IsFirstDamaged at.old.saved.current (most_of at.old.octree) key start
+        × Moves T.files T.may_leave T.moment T.image_since SameFiles store.old store.new }
+    ensures too_many_intact { result ≡ Err BuildError.TooManyNodes
+        → Tells (AreIntact at.old.saved.current (take (most_of at.old.octree) (lines_of at.old.saved.current))) (T.files store.old) }
+    ensures damaged_comes { OnOk result (Tells (HasNoDamage at.old.saved.current) (T.files store.old)) }
+    ensures undamaged { (shelf start : Files)
+        → IsReady shelf start at.old.saved (T.files store.old) (T.may_leave store.old)
+        → (key : VoxelKey) → result ≢ Err (BuildError.TileDamaged key) }
+    ensures no_change { (source number : ℕ) → result ≢ Err (BuildError.SourceChanged source number) }
+    ensures no_source { result ≢ Err BuildError.SourceFault }
+    ensures spill { result ≡ Err BuildError.SpillFault
+        → 0 < trees.faults_of F.faults (trees.nodes_of (forest_of at.new.octree)) }
+    ensures no_damage { (kept found number : ℕ) → result ≢ Err (BuildError.SpillDamaged kept found number) }
+    ensures stores { HasCauseOf BuildError.StoreFault (T.faults store.old) (T.faults store.new) result }
+{
+    sound_steps_law();
+    load(alloc, store, at, plan)?;
+    renew(alloc, store, &mut at.saved)?;
+    Ok(())
+}
+
+// Loads the nodes of the current checkpoint, and closes the done gate.
+fn load<F: SpillFile, T: Store>(
+    alloc: Global,
+    store: &mut T,
+    at: &mut Progress<F>,
+    plan: &Plan,
+) -> Result<(), BuildError>
+    requires begun { IsBegun F.held F.faults F.keeps plan.now at.old.inserted at.old.octree at.old.saved }
+    ensures saved { at.new.saved ≡ at.old.saved }
+    ensures inserted { at.new.inserted ≡ at.old.inserted }
+    ensures most { most_of at.new.octree ≡ most_of at.old.octree }
+    ensures cache { cache_of at.new.octree ≡ cache_of at.old.octree }
+    ensures tree { OnOk result ((view : View) → TakesUp at.old.saved view → ¬ IsOfLayout Old view.current
+        → IsTreeOf F.held F.faults F.keeps plan.now at.new.inserted at.new.octree view) }
+    ensures loaded { IsTelling F.held
+        → OnOk result (AreLoaded plan.now at.old.saved.current (nodes_of F.held at.new.octree) (T.files store.old)) }
+    ensures gate { OnOk result (StepsBy (SameBut done_name) (T.files store.old) (T.files store.new)) }
+    ensures shut { OnOk result (Tells (λ all. ¬ IsDone all) (T.files store.new)) }
+    ensures nodes { OnOk result (Tells (HasNoDamage at.old.saved.current) (T.files store.new)) }
+    ensures stands { OnOk result (StandsFor at.old.saved (T.files store.old) (T.may_leave store.old)
+        → StandsFor at.old.saved (T.files store.new) (T.may_leave store.new)) }
     ensures settled { OnOk result (IsSettled (T.files store.new) (T.may_leave store.new)) }
     ensures sound { (shelf start : Files)
         → IsReady shelf start at.old.saved (T.files store.old) (T.may_leave store.old)
@@ -126,8 +188,9 @@ pub(crate) fn take_up<F: SpillFile, T: Store>(
     ensures damaged { (key : VoxelKey) → result ≡ Err (BuildError.TileDamaged key)
         → StandsFor at.old.saved (T.files store.old) (T.may_leave store.old)
         → HasDamage at.old.saved.current key (T.files store.new) }
-    ensures first_damaged { (key : VoxelKey) → result ≡ Err (BuildError.TileDamaged key)
-        → Tells (IsFirstDamaged at.old.saved.current (most_of at.old.octree) key) (T.files store.old)
+    ensures first_damaged { (key : VoxelKey) (start : Files) → T.files store.old ≡ Some start
+        → result ≡ Err (BuildError.TileDamaged key)
+        → IsFirstDamaged at.old.saved.current (most_of at.old.octree) key start
         × Moves T.files T.may_leave T.moment T.image_since SameFiles store.old store.new }
     ensures too_many_intact { result ≡ Err BuildError.TooManyNodes
         → Tells (AreIntact at.old.saved.current (take (most_of at.old.octree) (lines_of at.old.saved.current))) (T.files store.old) }
@@ -147,4 +210,42 @@ pub(crate) fn take_up<F: SpillFile, T: Store>(
     load_octree(alloc, store, &at.saved, &mut at.octree)?;
     close_done(alloc, store)?;
     Ok(())
+}
+
+// Migrates the current checkpoint, if its tiles are of the old layout.
+fn renew<T: Store>(alloc: Global, store: &mut T, saved: &mut Saved) -> Result<(), BuildError>
+    requires fresh { saved.old.lines ≡ lines_of saved.old.current }
+    ensures taken_up { OnOk result (TakesUp saved.old saved.new) }
+    ensures newest { OnOk result (¬ IsOfLayout Old saved.new.current) }
+    ensures renews { (stands : StandsFor saved.old (T.files store.old) (T.may_leave store.old))
+        → Moves T.files T.may_leave T.moment T.image_since (Renews saved.old.current stands.all) store.old store.new }
+    ensures stands { OnOk result (StandsFor saved.old (T.files store.old) (T.may_leave store.old)
+        → StandsFor saved.new (T.files store.new) (T.may_leave store.new)) }
+    ensures settled { OnOk result (IsSettled (T.files store.old) (T.may_leave store.old)
+        → IsSettled (T.files store.new) (T.may_leave store.new)) }
+    ensures only { IfErr result IsPhaseFault }
+    ensures undamaged { (all : Files) → T.files store.old ≡ Some all → HasNoDamage saved.old.current all
+        → IfErr result IsStoreFault }
+    ensures not_many { result ≢ Err BuildError.TooManyNodes }
+    ensures no_change { (source number : ℕ) → result ≢ Err (BuildError.SourceChanged source number) }
+    ensures no_source { result ≢ Err BuildError.SourceFault }
+    ensures no_spill { result ≢ Err BuildError.SpillFault }
+    ensures no_damage { (kept found number : ℕ) → result ≢ Err (BuildError.SpillDamaged kept found number) }
+    ensures stores { HasCauseOf BuildError.StoreFault (T.faults store.old) (T.faults store.new) result }
+{
+    if !is_old(saved) {
+        return Ok(());
+    }
+    migrate(alloc, store, saved)?;
+    Ok(())
+}
+
+// Whether the tiles of the current checkpoint are of the old layout.
+fn is_old(saved: &Saved) -> bool
+    ensures { IsTrue result ↔ IsOfLayout Old saved.now.current }
+{
+    match saved.current() {
+        Some(checkpoint) => checkpoint.version.layout() == Layout::Old,
+        None => false,
+    }
 }

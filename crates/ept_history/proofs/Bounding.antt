@@ -24,6 +24,8 @@ use Rattle.ept_save.specs.SoundLaws.{CurrentIsOne, HaveSameInputs}
 use Rattle.ept_plan.specs.Plans.{GoesOn}
 use Rattle.ept_plan.proofs.Fields.{scale-kept, inputs-kept}
 use Rattle.ept_build.specs.Building.{HasPoints}
+use Rattle.ept_build.specs.Reached.{HasTurned}
+use Rattle.ept_build.proofs.TakenUp.{points-on}
 use Rattle.ept_history.proofs.Scanning.{scan-there, points-alike}
 
 -- ---- more points within the extent of the first ones
@@ -57,6 +59,13 @@ pub extent-there : (one two : Files) (current : Current) → HaveSameInputs one 
 extent-there one two None same keeps = tt
 extent-there one two (Some (letter, c)) same keeps =
     (keeps.0, scan-there one two c.kept.scale (Some c.kept.bounds) c.kept.inputs same 0 keeps.0 _ keeps.1, keeps.2)
+
+-- and those of a checkpoint that is taken up
+pub extent-turned : (shelf : Files) (from base : Current) → HasTurned from base → KeepsExtent shelf from → KeepsExtent shelf base
+extent-turned shelf from base t keeps =
+    let its : KeepsExtent shelf (Some (t.letter, t.c)) = subst (KeepsExtent shelf) t.was keeps in
+    subst (KeepsExtent shelf) (sym t.is)
+    (its.0, points-on shelf t.c t.next its.0 t.turns its.1, subst (λ (k : Kept). IsExtentOf its.0 k.bounds) (sym t.turns.kept_is) its.2)
 
 module _ (once : ScanInOneWay) (kept_law : ScanIsKept) (placed : ScanLiesWithin) (front : ScanFront) where
   -- if the configuration continues from it, they are the extent of all points

@@ -12,7 +12,7 @@ use Rattle.ept_save.specs.Current.{Current, HasCurrent}
 use Rattle.ept_save.specs.Sound.{IsSound}
 use Rattle.ept_save.specs.SoundLaws.{no_files, EmptyIsSound, CurrentIsOne, InputsAreEnough, HaveSameInputs}
 use Rattle.ept_build.specs.Building.{HasContinued, IsUnderWay}
-use Rattle.ept_build.specs.Reached.{KeepsAs}
+use Rattle.ept_build.specs.Reached.{KeepsAs, HasTurned, IsTakenUp}
 use Rattle.ept_history.specs.Histories.{Step, IsStepFrom, AreStepsFrom, left_from, FindsScansOf}
 
 -- ---- shelves and lists
@@ -20,6 +20,12 @@ use Rattle.ept_history.specs.Histories.{Step, IsStepFrom, AreStepsFrom, left_fro
 same-between : (one two three : Files) (current : Current) → HaveSameInputs one two current → HaveSameInputs one three current → HaveSameInputs two three current
 same-between one two three None first second = tt
 same-between one two three (Some (letter, c)) first second = λ i input is. second i input is ∙ sym (first i input is)
+
+-- a checkpoint that is taken up has the inputs of the one before
+turned-inputs : (one two : Files) (from base : Current) → HasTurned from base → HaveSameInputs one two from → HaveSameInputs one two base
+turned-inputs one two from base t same =
+    let its : HaveSameInputs one two (Some (t.letter, t.c)) = subst (λ (w : Current). HaveSameInputs one two w) t.was same in
+    subst (λ (w : Current). HaveSameInputs one two w) (sym t.is) (λ i input at. its i input (subst (λ (k : Kept). slice_get k.inputs i ≡ Some input) t.turns.kept_is at))
 
 later-finds : (step : Step) (later : List Step) → AllPairs FindsScansOf (step ∷ later) → All (FindsScansOf step) later
 later-finds step later pairs = λ k d lt. pairs 0 (suc k) d (omega arith) (omega (arith, lt))
@@ -64,7 +70,7 @@ abbrev pub HoldsOfNext : (Files → Current → Type 0) → (Step → Type 0) �
 HoldsOfNext Holds Among =
     (step : Step) (current : Current) (letter : Letter) (c : Checkpoint) → Among step → Holds step.shelf current → IsSound step.shelf step.left → (on : HasContinued step.shelf step.config current step.left) → HasCurrent (Some (letter, c)) step.left → c.kept ≡ on.kept → Holds step.shelf (Some (letter, c))
 
-module _ (Holds : Files → Current → Type 0) (Among : Step → Type 0) (enough : InputsAreEnough) (one : CurrentIsOne) (there : (one two : Files) (current : Current) → HaveSameInputs one two current → Holds one current → Holds two current) (next : HoldsOfNext Holds Among) where
+module _ (Holds : Files → Current → Type 0) (Among : Step → Type 0) (enough : InputsAreEnough) (one : CurrentIsOne) (there : (one two : Files) (current : Current) → HaveSameInputs one two current → Holds one current → Holds two current) (next : HoldsOfNext Holds Among) (turn : (shelf : Files) (from base : Current) → HasTurned from base → Holds shelf from → Holds shelf base) where
   safe-then : (files : Files) (step : Step) (later : List Step) → IsSafe Holds files (step ∷ later) → Among step → IsStepFrom files step → AllPairs FindsScansOf (step ∷ later) → IsSafe Holds step.left later
   safe-then files step later safe among is pairs = by under.either
     where
@@ -89,6 +95,22 @@ module _ (Holds : Files → Current → Type 0) (Among : Step → Type 0) (enoug
         holds = known;
       }
 
+      turned_over : (base : Current) → HasTurned safe.current base → HasCurrent base step.left → IsSafe Holds step.left later
+      turned_over base t has = record {
+        current = base;
+        has_current = has;
+        shelf = step.shelf;
+        sound = under.sound;
+        same = λ k d lt. turned-inputs step.shelf (get_or later k d).shelf safe.current base t
+            (same-between safe.shelf step.shelf (get_or later k d).shelf safe.current (All-head (λ (s : Step). HaveSameInputs safe.shelf s.shelf safe.current) step later safe.same)
+            (All-tail (λ (s : Step). HaveSameInputs safe.shelf s.shelf safe.current) step later safe.same k d lt));
+        holds = turn step.shelf safe.current base t known;
+      }
+
+      as_taken : (base : Current) → IsTakenUp safe.current base → HasCurrent base step.left → IsSafe Holds step.left later
+      as_taken base (inl same) has = unchanged (subst (λ (w : Current). HasCurrent w step.left) same.1 has)
+      as_taken base (inr t) has = turned_over base t has
+
       changed : (on : HasContinued step.shelf step.config safe.current step.left) (now : Current) → HasCurrent now step.left → KeepsAs on.kept now → IsSafe Holds step.left later
       changed on None has keeps = absurd keeps
       changed on (Some (letter, c)) has keeps =
@@ -103,9 +125,9 @@ module _ (Holds : Files → Current → Type 0) (Among : Step → Type 0) (enoug
           }
 
       gone : HasContinued step.shelf step.config safe.current step.left → IsSafe Holds step.left later
-      gone on = elim (cases_lt 0 on.reached.phases) [
-        | inl some ↦ changed on on.reached.now on.reached.has_now (on.reached.after.keeps some)
-        | inr none ↦ unchanged (subst (λ (w : Current). HasCurrent w step.left) (on.reached.after.unchanged (omega (arith, none))) on.reached.has_now)
+      gone on = elim (cases_lt 0 on.reached.gone.phases) [
+        | inl some ↦ changed on on.reached.gone.now on.reached.gone.has_now (on.reached.gone.after.keeps some)
+        | inr none ↦ as_taken on.reached.base on.reached.taken_up (subst (λ (w : Current). HasCurrent w step.left) (on.reached.gone.after.unchanged (omega (arith, none))) on.reached.gone.has_now)
       ]
 
       by : HasCurrent under.current step.left ⊎ HasContinued step.shelf step.config under.current step.left → IsSafe Holds step.left later

@@ -6,8 +6,6 @@ use Rattle.ept_base.proofs.Changing.{changed_same}
 use Rattle.ept_base.proofs.Moving.{moves_weaker, moves_both}
 use Rattle.ept_ckpt.specs.declared.letter.Letter.{Letter}
 use Rattle.ept_ckpt.specs.declared.checkpoint.Checkpoint.{Checkpoint}
-use Rattle.ept_point.specs.declared.layout.Layout.TheVariants.{New}
-use Rattle.ept_ckpt.specs.Versions.{layout_of}
 use Rattle.ept_ckpt.specs.Body.{body}
 use Rattle.ept_ckpt.specs.Facts.{facts}
 use Rattle.ept_save.specs.Names.{other, gate_name, body_name}
@@ -89,7 +87,7 @@ module _ (current : Current) (next : Checkpoint) (newer : IsNewer current next) 
   }
 
 module _ {D : Type 0} (files : D → Option Files) (may_leave : D → Files → Type 0) (moment : D → ℕ) (image_since : D → ℕ → Files → Type 0) where
-  module _ (view : View) (next : Checkpoint) (letter : Letter) (newest : layout_of next.version ≡ New) (begun : view.begun ≡ true) (is : letter ≡ next_letter view.current) (newer : IsNewer view.current next)
+  module _ (view : View) (next : Checkpoint) (letter : Letter) (begun : view.begun ≡ true) (is : letter ≡ next_letter view.current) (newer : IsNewer view.current next)
       (old mid : D) (stands : StandsFor view (files old) (may_leave old)) (first : Moves files may_leave moment image_since (SameBut (body_name letter)) old mid) where
     abbrev next_body : List ℕ
     next_body = body_name (next_letter view.current)
@@ -122,7 +120,7 @@ module _ {D : Type 0} (files : D → Option Files) (may_leave : D → Files → 
 
       pub is_ready : IsReady view.current next stands.all ready.0
       is_ready = record {
-        has_body = subst (λ (l : Letter). HasBody ready.0 l next) is (ready.2 (body_name letter) ∙ changed_same stands.all (body_name letter) (Some (body (facts next))), newest);
+        has_body = subst (λ (l : Letter). HasBody ready.0 l next) is (ready.2 (body_name letter) ∙ changed_same stands.all (body_name letter) (Some (body (facts next))));
         has_current = subst (λ (f : Files). HasCurrent view.current f) same_now (kept_now.2.same stands.has_current);
         tiles = λ name apart. (
             let moved = stepped (SameBut next_body) (files old) (files mid) stands.all stands.told put-body.reads in

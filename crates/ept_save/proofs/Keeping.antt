@@ -38,7 +38,7 @@ tile-saved letter key name apart same = apart (inr (inr (letter, key, same)))
 
 -- a body that stands in other files too
 pub body-moved : (letter : Letter) (c : Checkpoint) (one two : Files) → two (body_name letter) ≡ one (body_name letter) → HasBody one letter c → HasBody two letter c
-body-moved letter c one two same has = (same ∙ has.0, has.1)
+body-moved letter c one two same has = same ∙ has
 
 pub has_current-same : (current : Current) (old new : Files) → ((letter : Letter) → new (gate_name letter) ≡ old (gate_name letter)) → ((letter : Letter) → new (body_name letter) ≡ old (body_name letter)) → HasCurrent current old → HasCurrent current new
 has_current-same None old new gates bodies none = λ letter counts. none letter (sym (gates letter) ∙ counts)

@@ -18,8 +18,9 @@ pub mod SampledTiles
 pub mod SoundTiles
 pub mod ScanCounts
 mod DoneFiles
-mod TurnedLines
-mod Turning
+mod Before
+pub mod TurnedLines
+pub mod Turning
 mod PuttingAgain
 pub mod Migration
 mod OtherShelf

@@ -48,7 +48,7 @@ not-broken (Some (at, c)) files letter is broken = elim (one_of_two at letter) [
 
 one-body : (files : Files) (letter : Letter) (c d : Checkpoint) → HasBody files letter c → HasBody files letter d → c ≡ d
 one-body files letter c d first second =
-    let same : body (facts c) ≡ body (facts d) = some_same (body (facts c)) (body (facts d)) (sym first.0 ∙ second.0) in
+    let same : body (facts c) ≡ body (facts d) = some_same (body (facts c)) (body (facts d)) (sym first ∙ second) in
     body_once c d same
   where
     some_same : (one two : List ℕ) → Some one ≡ Some two → one ≡ two

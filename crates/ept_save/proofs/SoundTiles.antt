@@ -69,7 +69,7 @@ pub keys-sampled : (rules : Rules) (points : List Point) → map (λ (t : Tile).
 unfolding sampled
 keys-sampled rules points = keys-at rules points (node_keys rules points)
 
-member-sampled : (rules : Rules) (points : List Point) (t : Tile) → IsMember t (sampled rules points) → t.points ≡ sampling rules points t.key
+pub member-sampled : (rules : Rules) (points : List Point) (t : Tile) → IsMember t (sampled rules points) → t.points ≡ sampling rules points t.key
 unfolding sampled
 member-sampled rules points t m =
     let at = member-map (tile_at rules points) t (node_keys rules points) m in

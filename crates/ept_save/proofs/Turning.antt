@@ -89,6 +89,10 @@ module _ (c : Checkpoint) (old : layout_of c.version ≡ Old) where
     pub is-turn : (next : Checkpoint) → facts next ≡ next_facts view c.kept c.counts c.inserted → IsTurnOf c next
     is-turn next are = subst (IsTurnOf c) (sym (checkpoint_same next the_turn (are ∙ sym turn_facts))) turn_is
 
+-- a checkpoint with tiles of the old layout has a turn
+pub has-turn : (c : Checkpoint) → layout_of c.version ≡ Old → (next : Checkpoint) × IsTurnOf c next
+has-turn c old = (the_turn c old, turn_is c old)
+
 -- two checkpoints that are the turn of one are the same
 pub same-turn : (c : Checkpoint) → layout_of c.version ≡ Old → (a b : Checkpoint) → IsTurnOf c a → IsTurnOf c b → a ≡ b
 same-turn c old a b is also = one_turn c old a is ∙ sym (one_turn c old b also)

@@ -4,16 +4,14 @@ use Rattle.ept_base.specs.Files.{Files}
 use Rattle.ept_ckpt.specs.declared.letter.Letter.{Letter}
 use Rattle.ept_ckpt.specs.declared.node_line.NodeLine.{NodeLine}
 use Rattle.ept_ckpt.specs.declared.checkpoint.Checkpoint.{Checkpoint}
-use Rattle.ept_point.specs.declared.layout.Layout.TheVariants.{New}
-use Rattle.ept_ckpt.specs.Versions.{layout_of}
 use Rattle.ept_ckpt.specs.Body.{body}
 use Rattle.ept_ckpt.specs.Facts.{facts}
 use Rattle.ept_save.specs.Names.{other, gate_name, body_name, work_tile_name, IsSavedName}
 use Rattle.ept_save.specs.Gates.{Counts}
 
--- the body of the letter is that of this checkpoint, whose tiles are of the newest layout
+-- the body of the letter is that of this checkpoint
 abbrev pub HasBody : Files → Letter → Checkpoint → Type 0
-HasBody files letter c = (files (body_name letter) ≡ Some (body (facts c))) × (layout_of c.version ≡ New)
+HasBody files letter c = files (body_name letter) ≡ Some (body (facts c))
 
 -- the body of the letter is that of a checkpoint with a smaller generation
 pub record HasOlder (files : Files) (letter : Letter) (c : Checkpoint) : Type 0 where

@@ -12,4 +12,5 @@ pub mod Migrating
 pub mod Loading
 pub mod Complete
 pub mod Sound
+pub mod Before
 pub mod SoundLaws

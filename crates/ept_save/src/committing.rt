@@ -9,8 +9,7 @@ ghost use Rattle.ept_ckpt.specs.declared.checkpoint.Checkpoint as c;
 ghost use Rattle.ept_ckpt.specs.Facts.{facts};
 ghost use Rattle.ept_ckpt.specs.Valid.{IsCheckpoint};
 ghost use Rattle.ept_ckpt.specs.declared.version.BodyVersion.TheVariants.{V3};
-ghost use Rattle.ept_ckpt.specs.Versions.{layout_of};
-ghost use Rattle.ept_point.specs.declared.layout.Layout.TheVariants.{Old, New};
+ghost use Rattle.ept_point.specs.declared.layout.Layout.TheVariants.{Old};
 ghost use Rattle.ept_save.specs.Names.{body_name, gate_name};
 ghost use Rattle.ept_save.specs.Current.{Commits, HasCurrent};
 ghost use Rattle.ept_save.specs.View.{View, StandsFor, IsNewer, next_letter, next_generation, next_facts};
@@ -72,7 +71,6 @@ pub(crate) fn commit_checkpoint<T: Store>(
     checkpoint: Checkpoint,
 ) -> Result<(), SaveError>
     requires begun { saved.old.begun ≡ true }
-    requires newest { layout_of checkpoint.version ≡ New }
     requires newer { IsNewer saved.old.current checkpoint }
     ensures current { OnOk result (saved.new
         ≡ record saved.old { current = Some (next_letter saved.old.current, checkpoint); begun = false }) }
@@ -103,7 +101,6 @@ fn put_checkpoint<T: Store>(
     letter: Letter,
     checkpoint: &Checkpoint,
 ) -> Result<(), SaveError>
-    requires newest { layout_of checkpoint.now.version ≡ New }
     ensures names { Moves T.files T.may_leave T.moment T.image_since (λ (old : Files) (new : Files). (name : List ℕ)
         → name ≢ body_name letter → name ≢ gate_name letter → new name ≡ old name) store.old store.new }
     ensures commits { (view : View) → view.begun ≡ true → letter ≡ next_letter view.current

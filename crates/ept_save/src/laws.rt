@@ -1,14 +1,16 @@
 //! What holds of sound files, and of a store that stands for a [`Saved`]. Each law is the contract of a function that does nothing.
 
 ghost use Rattle.ept_save.specs.View.{StandsFor, IsInEachImage};
+ghost use Rattle.ept_save.specs.Before.{BeforeIsSound};
 ghost use Rattle.ept_save.specs.SoundLaws.{EmptyIsSound, CurrentIsOne, CurrentIsNotBad, SoundHasNoBad, DoneIsComplete, KeepingKeepsSound, SameIsSound, BesideKeepsSound, InputsAreEnough, DoneIsPublished, GuardingKeepsSound, PuttingKeepsSound, CommittingKeepsSound, MigratingKeepsSound};
 
 use crate::saved::Saved;
 use ept_base::Store;
 use ept_meta::{output_names_law, output_once_law};
+use ept_scan::numbered_law;
 
 /// A folder without files is sound. Files have one current checkpoint, and no bad one where they have that. Sound files have
-/// one, and are complete where their done gate is open.
+/// one, and are complete where their done gate is open. So is a folder that a build of the old layout left.
 pub fn sound_law()
     ensures empty { EmptyIsSound }
     ensures one { CurrentIsOne }
@@ -16,7 +18,10 @@ pub fn sound_law()
     ensures none_bad { SoundHasNoBad }
     ensures complete { DoneIsComplete }
     ensures published { DoneIsPublished }
-{}
+    ensures before { BeforeIsSound }
+{
+    numbered_law();
+}
 
 /// Sound files stay sound if what is current is kept. Of the shelf only the inputs of the current checkpoint matter, and
 /// of names only a build's. They also stay sound if the done gate is closed, or opened with the output all there. So they

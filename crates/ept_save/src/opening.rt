@@ -1,20 +1,14 @@
 //! Opening the checkpoints of a store.
 
-ghost use Rattle.std.specs.Prelude.{◌≡◌, ◌≢◌, ◌⊎◌, Some, Err, IfOk, IfErr, IfSome, false};
+ghost use Rattle.std.specs.Prelude.{◌≡◌, ◌≢◌, ◌⊎◌, Some, Err, IfOk, IfErr, false};
 ghost use Rattle.ept_base.specs.Causes.{HasCauseOf};
 ghost use Rattle.ept_base.specs.Files.{Files, SameFiles, Tells, StepsBy};
 ghost use Rattle.ept_base.specs.Moves.{Elapses, Moves, SameImages, IsSettled};
 ghost use Rattle.ept_ckpt.specs.declared.letter.Letter.TheVariants as letter;
 ghost use Rattle.ept_ckpt.specs.declared.letter.Letter as l;
-ghost use Rattle.ept_ckpt.specs.declared.checkpoint.Checkpoint as kept;
-ghost use Rattle.ept_ckpt.specs.Versions.{layout_of};
-ghost use Rattle.ept_ckpt.specs.Body.{body};
-ghost use Rattle.ept_ckpt.specs.Facts.{facts};
-ghost use Rattle.ept_point.specs.declared.layout.Layout.TheVariants.{Old, New};
 ghost use Rattle.ept_save.specs.Current.{Current, HasCurrent};
 ghost use Rattle.ept_save.specs.Opening.{IsBroken, IsBad, IsFound, AreAlike, lines_of};
 ghost use Rattle.ept_save.specs.Errors.{IsStores};
-ghost use Rattle.ept_save.specs.Tiles.{IsOfLayout};
 ghost use Rattle.ept_save.specs.View.{StandsFor};
 ghost use Rattle.ept_space.specs.VoxelKey.{VoxelKey};
 
@@ -24,7 +18,6 @@ use crate::names::{body_name, gate_name};
 use crate::saved::Saved;
 use ept_base::Store;
 use ept_ckpt::{Checkpoint, CkptError, Letter, read_ckpt};
-use ept_point::Layout;
 use std::alloc::Global;
 
 /// Finds the current checkpoint of a store: of the letters whose gates are open, the one whose checkpoint has
@@ -32,13 +25,12 @@ use std::alloc::Global;
 ///
 /// # Errors
 ///
-/// `BadCheckpoint` where the body of a letter that counts is absent, that of no checkpoint, or of one with tiles of the old layout,
-/// or where both count and have one generation; letter a is looked at first.
+/// `BadCheckpoint` where the body of a letter that counts is absent or that of no checkpoint, or where both
+/// count and have one generation; letter a is looked at first.
 pub fn open<T: Store>(alloc: Global, store: &mut T) -> Result<Saved, SaveError>
     ensures current { IfOk result (λ saved. Tells (HasCurrent saved.current) (T.files store.old)) }
     ensures lines { IfOk result (λ saved. saved.lines ≡ lines_of saved.current) }
     ensures begun { IfOk result (λ saved. saved.begun ≡ false) }
-    ensures newest { IfOk result (λ saved. ¬ IsOfLayout Old saved.current) }
 
     // A bad checkpoint is told exactly where there is one, unless the store fails or memory runs out; and so none
     // of files of which it is known which one is current, or that none is, as of sound ones.
@@ -66,7 +58,6 @@ fn opened<T: Store>(alloc: Global, store: &mut T) -> Result<Saved, SaveError>
     ensures current { IfOk result (λ saved. Tells (HasCurrent saved.current) (T.files store.old)) }
     ensures lines { IfOk result (λ saved. saved.lines ≡ lines_of saved.current) }
     ensures begun { IfOk result (λ saved. saved.begun ≡ false) }
-    ensures newest { IfOk result (λ saved. ¬ IsOfLayout Old saved.current) }
     ensures refused { (which : l.Letter) → result ≡ Err (SaveError.BadCheckpoint which)
         → Tells (λ all. IsBad all which) (T.files store.old) }
     ensures refusal_comes { (which : l.Letter) → (all : Files) → T.files store.old ≡ Some all → IsBad all which
@@ -92,7 +83,6 @@ fn checkpoint_of<T: Store>(
     letter: Letter,
 ) -> Result<Option<Checkpoint>, SaveError>
     ensures found { IfOk result (λ found. Tells (λ all. IsFound all letter found) (T.files store.old)) }
-    ensures newest { IfOk result (λ found. IfSome found (λ c. layout_of c.version ≡ New)) }
     ensures refused { IfErr result (λ e. (which : l.Letter) → e ≡ SaveError.BadCheckpoint which
         → (which ≡ letter) × Tells (λ all. IsBroken all letter) (T.files store.old)) }
     ensures no_tile { IfErr result (λ e. (key : VoxelKey) → e ≢ SaveError.TileDamaged key) }
@@ -109,23 +99,10 @@ fn checkpoint_of<T: Store>(
     if !store.get(body_name(letter), &mut body)? {
         return Err(SaveError::BadCheckpoint { letter });
     }
-    match read_newest(alloc, &body) {
+    match read_ckpt(alloc, &body) {
         Ok(checkpoint) => Ok(Some(checkpoint)),
         Err(CkptError::Memory) => Err(SaveError::Memory),
         Err(_) => Err(SaveError::BadCheckpoint { letter }),
-    }
-}
-
-// Reads the checkpoint of a body, if its tiles are of the newest layout.
-fn read_newest(alloc: Global, bytes: &[u8]) -> Result<Checkpoint, CkptError>
-    ensures read { IfOk result (λ c. (bytes.now ≡ body (facts c)) × (layout_of c.version ≡ New)) }
-    ensures comes { (c : kept.Checkpoint) → bytes.now ≡ body (facts c) → layout_of c.version ≡ New
-        → IfErr result (λ e. e ≡ CkptError.Memory) }
-{
-    let checkpoint = read_ckpt(alloc, bytes)?;
-    match checkpoint.version.layout() {
-        Layout::Old => Err(CkptError::Version),
-        Layout::New => Ok(checkpoint),
     }
 }
 
@@ -136,8 +113,6 @@ fn current_of(
 ) -> Result<Option<(Letter, Checkpoint)>, SaveError>
     ensures current { IfOk result (λ current. (files : Files) → IsFound files letter.A a
         → IsFound files letter.B b → HasCurrent current files) }
-    ensures newest { IfSome a (λ c. layout_of c.version ≡ New) → IfSome b (λ c. layout_of c.version ≡ New)
-        → IfOk result (λ current. ¬ IsOfLayout Old current) }
     ensures alike { IfErr result (λ e. (e ≡ SaveError.BadCheckpoint letter.B)
         × ((files : Files) → IsFound files letter.A a → IsFound files letter.B b → AreAlike files)) }
 {
@@ -156,7 +131,6 @@ fn current_of(
 fn newer(a: Checkpoint, b: Checkpoint) -> Result<(Letter, Checkpoint), SaveError>
     ensures current { IfOk result (λ current. (files : Files) → IsFound files letter.A (Some a)
         → IsFound files letter.B (Some b) → HasCurrent (Some current) files) }
-    ensures newest { layout_of a.version ≡ New → layout_of b.version ≡ New → IfOk result (λ current. layout_of current.1.version ≡ New) }
     ensures alike { IfErr result (λ e. (e ≡ SaveError.BadCheckpoint letter.B) × (a.generation ≡ b.generation)) }
 {
     if a.generation == b.generation {

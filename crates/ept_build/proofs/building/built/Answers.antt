@@ -16,30 +16,38 @@ use Rattle.ept_save.specs.View.{View}
 use Rattle.ept_save.proofs.Standing.{stepped, told_some}
 use Rattle.ept_save.specs.Opening.{lines_of}
 use Rattle.ept_save.specs.Loading.{HasNoDamage}
-use Rattle.ept_phase.specs.Loaded.{AreIntact, IsFirstDamaged}
+use Rattle.ept_phase.specs.Loaded.{AreIntact}
 use Rattle.ept_plan.specs.Plans.{inserted_by}
 use Rattle.ept_build.specs.declared.error.BuildError.{BuildError}
 use Rattle.ept_build.specs.declared.error.BuildError.TheVariants.{TileDamaged, SourceChanged, SpillDamaged, TooManyNodes}
 use Rattle.ept_build.specs.Building.{IsUnderWay, HasTooManyNodes, IsRefusedAt}
 use Rattle.ept_build.specs.Reached.{IsThrough}
-use Rattle.ept_build.specs.Phases.{IsSoundAt, AreMany}
+use Rattle.ept_build.specs.Phases.{AreMany}
 use Rattle.ept_build.proofs.Causes.{tells-some}
 use Rattle.ept_build.proofs.Ground.{IsGround, ground as ground-of, extent-found, many-at}
 use Rattle.ept_build.proofs.Damage.{loading-tells, end-no-tile, first-more, damaged-line, slot-intact}
 use Rattle.ept_build.proofs.Judging.{err-one, end-refused, end-not-many, end-no-source}
-use Rattle.ept_build.proofs.Moved.{moves-then, moves-wider}
+use Rattle.ept_build.proofs.Moved.{moves-then}
 use Rattle.ept_build.proofs.Numbers.{nodes-number}
 use Rattle.ept_build.proofs.Refusals.{phase-refused, end-phase}
 use Rattle.ept_build.proofs.Roomy.{many-front, many-phases}
 use Rattle.ept_build.proofs.Running.{few-lines}
-use Rattle.ept_build.proofs.UnderWay.{under-way-at, first-moves, grow-moves, end-moves, stopped-at, too-many-already, settled-stays, complete-end}
+use Rattle.ept_build.proofs.TakenUp.{inserted-few, taken-inputs, taken-of}
+use Rattle.ept_build.proofs.UnderWay.{first-moves, grow-moves, end-moves, stopped-at, too-many-already, settled-stays, complete-end}
 use Rattle.ept_build.proofs.building.built.Goals as goal
+
+pub grow-requires-clause-same : goal.grow-requires-clause-same
+grow-requires-clause-same g c = λ all.
+    let taken = c.in_default.ensures.taken_up.taken in
+    taken-of c.args.plan.now c.args.at.saved.current c.take_up.new.at.saved.current taken (c.requires.plan.same (sym (taken-inputs c.args.at.saved.current c.take_up.new.at.saved.current taken) ∙ all))
 
 -- ---- the nodes are not loaded
 
 pub returns-in-Err-clause-sound : goal.returns-in-Err-clause-sound
 returns-in-Err-clause-sound g c = λ all start shelf_told starts.
-    moves-wider g.T.Store.files g.T.Store.may_leave g.T.Store.moment g.T.Store.image_since (IsSoundAt all c.args.at.saved.current) (IsUnderWay all c.args.config.now start) (under-way-at all c.args.config.now start c.args.at.saved.current starts.ready.has_current) c.args.store.now c.take_up.new.store (c.take_up.ensures.sound all start starts.ready)
+    let ground : IsGround all start c.args.config.now c.args.at.saved.current c.args.plan.now c.whole_extent-extent.result =
+    ground-of c.output_once_law.ensures.one c.output_once_law.ensures.sampled c.output_names_law.ensures.grow c.saved_law.ensures.loaded all start c.args.config.now c.args.at.saved.current c.args.plan.now c.requires.plan starts.scans starts.ready.has_current starts.ready.sound c.whole_extent-extent.result (extent-found c.args.plan.now.counts c.as_slice.result.now c.whole_extent-extent.result c.as_slice.ensures c.whole_extent-extent.ensures) in
+    first-moves all start c.args.config.now c.args.at.saved.current c.args.plan.now c.whole_extent-extent.result ground starts.ready.has_current g.T.Store.files g.T.Store.may_leave g.T.Store.moment g.T.Store.image_since c.args.store.now c.take_up.new.store (inserted-few c.args.config.now c.args.at.saved.current c.args.plan.now c.requires.plan) (c.take_up.ensures.sound all start starts.ready)
 
 pub returns-in-Err-clause-refused : goal.returns-in-Err-clause-refused
 returns-in-Err-clause-refused g c = λ all start shelf_told starts.
@@ -77,8 +85,8 @@ returns-in-Err-clause-damaged_comes g c = λ start key told slot damaged.
 pub returns-in-Err-clause-damaged_first : goal.returns-in-Err-clause-damaged_first
 returns-in-Err-clause-damaged_first g c = λ start key other told damaged is.
     let current = c.args.at.saved.current in
-    let first = c.in-Err.ensures.first_damaged other (ap (λ (w : BuildError). Err w) (err-one is)) in
-    (first-more current (most_of c.args.at.octree) c.args.config.now.max_nodes other start c.requires.room.few (told_some (IsFirstDamaged current (most_of c.args.at.octree) other) (g.T.Store.files c.args.store.now) start told first.0), first.1)
+    let first = c.in-Err.ensures.first_damaged other start told (ap (λ (w : BuildError). Err w) (err-one is)) in
+    (first-more current (most_of c.args.at.octree) c.args.config.now.max_nodes other start c.requires.room.few first.0, first.1)
 
 pub returns-in-Err-clause-stores : goal.returns-in-Err-clause-stores
 returns-in-Err-clause-stores g c =
@@ -98,49 +106,48 @@ returns-in-Err-grow-clause-spill g c = λ is. c.in-Err-grow.ensures.spill (err-o
 
 pub returns-in-Err-grow-clause-sound : goal.returns-in-Err-grow-clause-sound
 returns-in-Err-grow-clause-sound g c = λ all start shelf_told starts.
-    let it : IsGround all start c.args.config.now c.take_up.new.at.saved.current c.args.plan.now c.whole_extent-extent.result =
-    subst (λ (v : View). IsGround all start c.args.config.now v.current c.args.plan.now c.whole_extent-extent.result) (sym c.take_up.ensures.saved)
-    (ground-of c.output_once_law.ensures.one c.output_once_law.ensures.sampled c.output_names_law.ensures.grow c.saved_law.ensures.loaded all start c.args.config.now c.args.at.saved.current c.args.plan.now c.requires.plan starts.scans starts.ready.has_current starts.ready.sound c.whole_extent-extent.result (extent-found c.args.plan.now.counts c.as_slice.result.now c.whole_extent-extent.result c.as_slice.ensures c.whole_extent-extent.ensures)) in
-    let has : HasCurrent c.take_up.new.at.saved.current start = subst (λ (v : View). HasCurrent v.current start) (sym c.take_up.ensures.saved) starts.ready.has_current in
+    let it : IsGround all start c.args.config.now c.args.at.saved.current c.args.plan.now c.whole_extent-extent.result =
+    ground-of c.output_once_law.ensures.one c.output_once_law.ensures.sampled c.output_names_law.ensures.grow c.saved_law.ensures.loaded all start c.args.config.now c.args.at.saved.current c.args.plan.now c.requires.plan starts.scans starts.ready.has_current starts.ready.sound c.whole_extent-extent.result (extent-found c.args.plan.now.counts c.as_slice.result.now c.whole_extent-extent.result c.as_slice.ensures c.whole_extent-extent.ensures) in
+    let has : HasCurrent c.args.at.saved.current start = starts.ready.has_current in
+    let taken = c.in_default.ensures.taken_up.taken in
     let inserted : c.take_up.new.at.inserted ≡ c.args.plan.now.inserted = c.take_up.ensures.inserted ∙ (sym c.requires.begun.by_checkpoint ∙ sym c.requires.plan.inserted_is) in
     let sampled = it.loaded (nodes_of g.F.SpillFile.held c.take_up.new.at.octree) (g.T.Store.files c.args.store.now) c.take_up.new.at.inserted inserted starts.ready.told (c.in_default.ensures.loaded starts.spills) in
     let way = c.in_default.ensures.on_way all start it.out starts.ready it.names in
-    let first = first-moves all start c.args.config.now c.take_up.new.at.saved.current c.args.plan.now c.whole_extent-extent.result it has g.T.Store.files g.T.Store.may_leave g.T.Store.moment g.T.Store.image_since c.args.store.now c.take_up.new.store (subst (λ (v : View). Moves g.T.Store.files g.T.Store.may_leave g.T.Store.moment g.T.Store.image_since (λ (a b : Files). IsSoundAt all v.current b) c.args.store.now c.take_up.new.store) (sym c.take_up.ensures.saved) (c.take_up.ensures.sound all start starts.ready)) in
-    let second = grow-moves all start c.args.config.now c.take_up.new.at.saved.current c.args.plan.now c.whole_extent-extent.result it has g.T.Store.files g.T.Store.may_leave g.T.Store.moment g.T.Store.image_since c.take_up.new.store c.grow.new.store
+    let first = first-moves all start c.args.config.now c.args.at.saved.current c.args.plan.now c.whole_extent-extent.result it has g.T.Store.files g.T.Store.may_leave g.T.Store.moment g.T.Store.image_since c.args.store.now c.take_up.new.store (inserted-few c.args.config.now c.args.at.saved.current c.args.plan.now c.requires.plan) (c.take_up.ensures.sound all start starts.ready) in
+    let second = grow-moves all start c.args.config.now c.args.at.saved.current c.args.plan.now c.whole_extent-extent.result it has g.T.Store.files g.T.Store.may_leave g.T.Store.moment g.T.Store.image_since c.take_up.new.store c.grow.new.store c.take_up.new.at.saved.current taken
     (tells-some _ (g.H.Shelf.files c.args.shelf.now) all shelf_told (c.grow.ensures.sound starts.spills) it.points it.out it.are sampled way) (c.grow.ensures.reached starts.spills way.stands) in
     let both = moves-then g.T.Store.files g.T.Store.may_leave g.T.Store.moment g.T.Store.image_since (IsUnderWay all c.args.config.now start) c.args.store.now c.take_up.new.store c.grow.new.store first second in
     both
 
 pub returns-in-Err-grow-clause-refused : goal.returns-in-Err-grow-clause-refused
 returns-in-Err-grow-clause-refused g c = λ all start shelf_told starts.
-    let it : IsGround all start c.args.config.now c.take_up.new.at.saved.current c.args.plan.now c.whole_extent-extent.result =
-    subst (λ (v : View). IsGround all start c.args.config.now v.current c.args.plan.now c.whole_extent-extent.result) (sym c.take_up.ensures.saved)
-    (ground-of c.output_once_law.ensures.one c.output_once_law.ensures.sampled c.output_names_law.ensures.grow c.saved_law.ensures.loaded all start c.args.config.now c.args.at.saved.current c.args.plan.now c.requires.plan starts.scans starts.ready.has_current starts.ready.sound c.whole_extent-extent.result (extent-found c.args.plan.now.counts c.as_slice.result.now c.whole_extent-extent.result c.as_slice.ensures c.whole_extent-extent.ensures)) in
-    let has : HasCurrent c.take_up.new.at.saved.current start = subst (λ (v : View). HasCurrent v.current start) (sym c.take_up.ensures.saved) starts.ready.has_current in
+    let it : IsGround all start c.args.config.now c.args.at.saved.current c.args.plan.now c.whole_extent-extent.result =
+    ground-of c.output_once_law.ensures.one c.output_once_law.ensures.sampled c.output_names_law.ensures.grow c.saved_law.ensures.loaded all start c.args.config.now c.args.at.saved.current c.args.plan.now c.requires.plan starts.scans starts.ready.has_current starts.ready.sound c.whole_extent-extent.result (extent-found c.args.plan.now.counts c.as_slice.result.now c.whole_extent-extent.result c.as_slice.ensures c.whole_extent-extent.ensures) in
+    let has : HasCurrent c.args.at.saved.current start = starts.ready.has_current in
+    let taken = c.in_default.ensures.taken_up.taken in
     let inserted : c.take_up.new.at.inserted ≡ c.args.plan.now.inserted = c.take_up.ensures.inserted ∙ (sym c.requires.begun.by_checkpoint ∙ sym c.requires.plan.inserted_is) in
     let sampled = it.loaded (nodes_of g.F.SpillFile.held c.take_up.new.at.octree) (g.T.Store.files c.args.store.now) c.take_up.new.at.inserted inserted starts.ready.told (c.in_default.ensures.loaded starts.spills) in
     let way = c.in_default.ensures.on_way all start it.out starts.ready it.names in
     let damaged : (key : VoxelKey) → c.in-Err-grow.stopped.error ≢ TileDamaged key = λ key same. tells-some _ (g.H.Shelf.files c.args.shelf.now) all shelf_told (c.in-Err-grow.ensures.undamaged starts.spills) it.points it.out it.are sampled way key same in
     let changed : (source number : ℕ) → c.in-Err-grow.stopped.error ≢ SourceChanged source number = λ source number same. tells-some _ (g.H.Shelf.files c.args.shelf.now) all shelf_told (c.in-Err-grow.ensures.no_change starts.spills source number same) it.points it.are.scan it.are.can sampled in
     let whole : (kept found number : ℕ) → c.in-Err-grow.stopped.error ≢ SpillDamaged kept found number = λ kept found number same. tells-some _ (g.H.Shelf.files c.args.shelf.now) all shelf_told (c.in-Err-grow.ensures.no_damage starts.spills kept found number same) it.points it.are.scan it.are.can sampled in
-    let many : c.in-Err-grow.stopped.error ≡ TooManyNodes → HasTooManyNodes all c.args.config.now c.take_up.new.at.saved.current =
-    λ same. (let some = tells-some _ (g.H.Shelf.files c.args.shelf.now) all shelf_told (c.in-Err-grow.ensures.too_many starts.spills same) it.points it.are.scan it.are.can sampled in many-at c.node_law.ensures.more_nodes all start c.args.config.now c.take_up.new.at.saved.current c.args.plan.now c.whole_extent-extent.result it _ (many-front c.room_law.ensures c.args.plan.now c.args.at.saved.current c.args.config.now.max_nodes (most_of c.args.at.octree) c.requires.room it.points it.are.can it.number (inserted_by c.in-Err-grow.stopped.saved.current + c.args.config.now.checkpoint) (subst (λ (n : ℕ). n < length (sampled-nodes (rules_of c.args.plan.now.kept) (take (inserted_by c.in-Err-grow.stopped.saved.current + c.args.config.now.checkpoint) it.points))) c.take_up.ensures.most some.many))) in
-    subst (λ (v : View). IsRefusedAt all c.args.config.now v.current c.in-Err-grow.stopped.error) c.take_up.ensures.saved
-    (phase-refused all c.args.config.now c.take_up.new.at.saved.current c.in-Err-grow.stopped.error c.in-Err-grow.ensures.only damaged changed whole many)
+    let many : c.in-Err-grow.stopped.error ≡ TooManyNodes → HasTooManyNodes all c.args.config.now c.args.at.saved.current =
+    λ same. (let some = tells-some _ (g.H.Shelf.files c.args.shelf.now) all shelf_told (c.in-Err-grow.ensures.too_many starts.spills same) it.points it.are.scan it.are.can sampled in many-at c.node_law.ensures.more_nodes all start c.args.config.now c.args.at.saved.current c.args.plan.now c.whole_extent-extent.result it _ (many-front c.room_law.ensures c.args.plan.now c.args.at.saved.current c.args.config.now.max_nodes (most_of c.args.at.octree) c.requires.room it.points it.are.can it.number (inserted_by c.in-Err-grow.stopped.saved.current + c.args.config.now.checkpoint) (subst (λ (n : ℕ). n < length (sampled-nodes (rules_of c.args.plan.now.kept) (take (inserted_by c.in-Err-grow.stopped.saved.current + c.args.config.now.checkpoint) it.points))) c.take_up.ensures.most some.many))) in
+    phase-refused all c.args.config.now c.args.at.saved.current c.in-Err-grow.stopped.error c.in-Err-grow.ensures.only damaged changed whole many
 
 pub returns-in-Err-grow-clause-stops : goal.returns-in-Err-grow-clause-stops
 returns-in-Err-grow-clause-stops g c = λ is all start shelf_told starts.
-    let it : IsGround all start c.args.config.now c.take_up.new.at.saved.current c.args.plan.now c.whole_extent-extent.result =
-    subst (λ (v : View). IsGround all start c.args.config.now v.current c.args.plan.now c.whole_extent-extent.result) (sym c.take_up.ensures.saved)
-    (ground-of c.output_once_law.ensures.one c.output_once_law.ensures.sampled c.output_names_law.ensures.grow c.saved_law.ensures.loaded all start c.args.config.now c.args.at.saved.current c.args.plan.now c.requires.plan starts.scans starts.ready.has_current starts.ready.sound c.whole_extent-extent.result (extent-found c.args.plan.now.counts c.as_slice.result.now c.whole_extent-extent.result c.as_slice.ensures c.whole_extent-extent.ensures)) in
-    let has : HasCurrent c.take_up.new.at.saved.current start = subst (λ (v : View). HasCurrent v.current start) (sym c.take_up.ensures.saved) starts.ready.has_current in
+    let it : IsGround all start c.args.config.now c.args.at.saved.current c.args.plan.now c.whole_extent-extent.result =
+    ground-of c.output_once_law.ensures.one c.output_once_law.ensures.sampled c.output_names_law.ensures.grow c.saved_law.ensures.loaded all start c.args.config.now c.args.at.saved.current c.args.plan.now c.requires.plan starts.scans starts.ready.has_current starts.ready.sound c.whole_extent-extent.result (extent-found c.args.plan.now.counts c.as_slice.result.now c.whole_extent-extent.result c.as_slice.ensures c.whole_extent-extent.ensures) in
+    let has : HasCurrent c.args.at.saved.current start = starts.ready.has_current in
+    let taken = c.in_default.ensures.taken_up.taken in
     let inserted : c.take_up.new.at.inserted ≡ c.args.plan.now.inserted = c.take_up.ensures.inserted ∙ (sym c.requires.begun.by_checkpoint ∙ sym c.requires.plan.inserted_is) in
     let sampled = it.loaded (nodes_of g.F.SpillFile.held c.take_up.new.at.octree) (g.T.Store.files c.args.store.now) c.take_up.new.at.inserted inserted starts.ready.told (c.in_default.ensures.loaded starts.spills) in
     let way = c.in_default.ensures.on_way all start it.out starts.ready it.names in
     let its = err-one is in
     let some = tells-some _ (g.H.Shelf.files c.args.shelf.now) all shelf_told (c.in-Err-grow.ensures.too_many starts.spills its) it.points it.are.scan it.are.can sampled in
     let many = many-phases c.room_law.ensures c.args.plan.now c.args.at.saved.current c.args.config.now.max_nodes (most_of c.args.at.octree) c.requires.room it.points it.are.can it.number c.take_up.new.at.saved.current c.in-Err-grow.stopped.saved.current c.args.config.now.checkpoint (subst (λ (n : ℕ). AreMany c.args.plan.now c.take_up.new.at.saved.current c.args.config.now.checkpoint n it.points c.in-Err-grow.stopped.saved.current) c.take_up.ensures.most some) in
-    (c.in-Err-grow.ensures.settled its c.in_default.ensures.settled, inr (stopped-at all start c.args.config.now c.take_up.new.at.saved.current c.args.plan.now c.whole_extent-extent.result it has c.in-Err-grow.stopped.saved (g.T.Store.files c.grow.new.store) (g.T.Store.may_leave c.grow.new.store) (c.in-Err-grow.ensures.stands its way.stands) many))
+    (c.in-Err-grow.ensures.settled its c.in_default.ensures.settled, inr (stopped-at all start c.args.config.now c.args.at.saved.current c.args.plan.now c.whole_extent-extent.result it has c.take_up.new.at.saved.current taken c.in-Err-grow.stopped.saved (g.T.Store.files c.grow.new.store) (g.T.Store.may_leave c.grow.new.store) (c.in-Err-grow.ensures.stands its way.stands) many))
 
 pub returns-in-Err-grow-clause-damaged : goal.returns-in-Err-grow-clause-damaged
 returns-in-Err-grow-clause-damaged g c = λ key is stands. c.in-Err-grow.ensures.damaged key (err-one is) (c.in_default.ensures.stands stands)
@@ -168,21 +175,21 @@ returns-in-Err-grow-clause-stores g c =
 
 pub returns-in-Err-finish-clause-sound : goal.returns-in-Err-finish-clause-sound
 returns-in-Err-finish-clause-sound g c = λ all start shelf_told starts.
-    let it : IsGround all start c.args.config.now c.take_up.new.at.saved.current c.args.plan.now c.whole_extent-extent.result =
-    subst (λ (v : View). IsGround all start c.args.config.now v.current c.args.plan.now c.whole_extent-extent.result) (sym c.take_up.ensures.saved)
-    (ground-of c.output_once_law.ensures.one c.output_once_law.ensures.sampled c.output_names_law.ensures.grow c.saved_law.ensures.loaded all start c.args.config.now c.args.at.saved.current c.args.plan.now c.requires.plan starts.scans starts.ready.has_current starts.ready.sound c.whole_extent-extent.result (extent-found c.args.plan.now.counts c.as_slice.result.now c.whole_extent-extent.result c.as_slice.ensures c.whole_extent-extent.ensures)) in
-    let has : HasCurrent c.take_up.new.at.saved.current start = subst (λ (v : View). HasCurrent v.current start) (sym c.take_up.ensures.saved) starts.ready.has_current in
+    let it : IsGround all start c.args.config.now c.args.at.saved.current c.args.plan.now c.whole_extent-extent.result =
+    ground-of c.output_once_law.ensures.one c.output_once_law.ensures.sampled c.output_names_law.ensures.grow c.saved_law.ensures.loaded all start c.args.config.now c.args.at.saved.current c.args.plan.now c.requires.plan starts.scans starts.ready.has_current starts.ready.sound c.whole_extent-extent.result (extent-found c.args.plan.now.counts c.as_slice.result.now c.whole_extent-extent.result c.as_slice.ensures c.whole_extent-extent.ensures) in
+    let has : HasCurrent c.args.at.saved.current start = starts.ready.has_current in
+    let taken = c.in_default.ensures.taken_up.taken in
     let inserted : c.take_up.new.at.inserted ≡ c.args.plan.now.inserted = c.take_up.ensures.inserted ∙ (sym c.requires.begun.by_checkpoint ∙ sym c.requires.plan.inserted_is) in
     let sampled = it.loaded (nodes_of g.F.SpillFile.held c.take_up.new.at.octree) (g.T.Store.files c.args.store.now) c.take_up.new.at.inserted inserted starts.ready.told (c.in_default.ensures.loaded starts.spills) in
     let way = c.in_default.ensures.on_way all start it.out starts.ready it.names in
-    let first = first-moves all start c.args.config.now c.take_up.new.at.saved.current c.args.plan.now c.whole_extent-extent.result it has g.T.Store.files g.T.Store.may_leave g.T.Store.moment g.T.Store.image_since c.args.store.now c.take_up.new.store (subst (λ (v : View). Moves g.T.Store.files g.T.Store.may_leave g.T.Store.moment g.T.Store.image_since (λ (a b : Files). IsSoundAt all v.current b) c.args.store.now c.take_up.new.store) (sym c.take_up.ensures.saved) (c.take_up.ensures.sound all start starts.ready)) in
-    let second = grow-moves all start c.args.config.now c.take_up.new.at.saved.current c.args.plan.now c.whole_extent-extent.result it has g.T.Store.files g.T.Store.may_leave g.T.Store.moment g.T.Store.image_since c.take_up.new.store c.grow.new.store
+    let first = first-moves all start c.args.config.now c.args.at.saved.current c.args.plan.now c.whole_extent-extent.result it has g.T.Store.files g.T.Store.may_leave g.T.Store.moment g.T.Store.image_since c.args.store.now c.take_up.new.store (inserted-few c.args.config.now c.args.at.saved.current c.args.plan.now c.requires.plan) (c.take_up.ensures.sound all start starts.ready) in
+    let second = grow-moves all start c.args.config.now c.args.at.saved.current c.args.plan.now c.whole_extent-extent.result it has g.T.Store.files g.T.Store.may_leave g.T.Store.moment g.T.Store.image_since c.take_up.new.store c.grow.new.store c.take_up.new.at.saved.current taken
     (tells-some _ (g.H.Shelf.files c.args.shelf.now) all shelf_told (c.grow.ensures.sound starts.spills) it.points it.out it.are sampled way) (c.grow.ensures.reached starts.spills way.stands) in
     let both = moves-then g.T.Store.files g.T.Store.may_leave g.T.Store.moment g.T.Store.image_since (IsUnderWay all c.args.config.now start) c.args.store.now c.take_up.new.store c.grow.new.store first second in
     let way_on = tells-some _ (g.H.Shelf.files c.args.shelf.now) all shelf_told (c.in-Ok.ensures.on_way starts.spills) it.points it.out it.are sampled way in
     let grown = tells-some _ (g.H.Shelf.files c.args.shelf.now) all shelf_told (c.in-Ok.ensures.sampled starts.spills) it.points it.are.scan it.are.can sampled in
     moves-then g.T.Store.files g.T.Store.may_leave g.T.Store.moment g.T.Store.image_since (IsUnderWay all c.args.config.now start) c.args.store.now c.grow.new.store c.finish.new.store both
-    (end-moves all start c.args.config.now c.take_up.new.at.saved.current c.args.plan.now c.whole_extent-extent.result it has g.T.Store.files g.T.Store.may_leave g.T.Store.moment g.T.Store.image_since c.grow.new.store c.finish.new.store (length c.args.plan.now.kept.inputs) c.in-Ok.end.saved.current c.in-Ok.ensures.through
+    (end-moves all start c.args.config.now c.args.at.saved.current c.args.plan.now c.whole_extent-extent.result it has g.T.Store.files g.T.Store.may_leave g.T.Store.moment g.T.Store.image_since c.grow.new.store c.finish.new.store c.take_up.new.at.saved.current taken (length c.args.plan.now.kept.inputs) c.in-Ok.end.saved.current c.in-Ok.ensures.through
     (c.finish.ensures.sound starts.spills all it.points it.out it.are it.number it.has_extent grown way_on))
 
 pub returns-in-Err-finish-clause-stops : goal.returns-in-Err-finish-clause-stops
@@ -207,9 +214,8 @@ returns-in-Err-finish-clause-damaged_first g c = λ start key other told damaged
 
 pub returns-in-Err-finish-clause-refused : goal.returns-in-Err-finish-clause-refused
 returns-in-Err-finish-clause-refused g c = λ all start shelf_told starts.
-    let it : IsGround all start c.args.config.now c.take_up.new.at.saved.current c.args.plan.now c.whole_extent-extent.result =
-    subst (λ (v : View). IsGround all start c.args.config.now v.current c.args.plan.now c.whole_extent-extent.result) (sym c.take_up.ensures.saved)
-    (ground-of c.output_once_law.ensures.one c.output_once_law.ensures.sampled c.output_names_law.ensures.grow c.saved_law.ensures.loaded all start c.args.config.now c.args.at.saved.current c.args.plan.now c.requires.plan starts.scans starts.ready.has_current starts.ready.sound c.whole_extent-extent.result (extent-found c.args.plan.now.counts c.as_slice.result.now c.whole_extent-extent.result c.as_slice.ensures c.whole_extent-extent.ensures)) in
+    let it : IsGround all start c.args.config.now c.args.at.saved.current c.args.plan.now c.whole_extent-extent.result =
+    ground-of c.output_once_law.ensures.one c.output_once_law.ensures.sampled c.output_names_law.ensures.grow c.saved_law.ensures.loaded all start c.args.config.now c.args.at.saved.current c.args.plan.now c.requires.plan starts.scans starts.ready.has_current starts.ready.sound c.whole_extent-extent.result (extent-found c.args.plan.now.counts c.as_slice.result.now c.whole_extent-extent.result c.as_slice.ensures c.whole_extent-extent.ensures) in
     let inserted : c.take_up.new.at.inserted ≡ c.args.plan.now.inserted = c.take_up.ensures.inserted ∙ (sym c.requires.begun.by_checkpoint ∙ sym c.requires.plan.inserted_is) in
     let sampled = it.loaded (nodes_of g.F.SpillFile.held c.take_up.new.at.octree) (g.T.Store.files c.args.store.now) c.take_up.new.at.inserted inserted starts.ready.told (c.in_default.ensures.loaded starts.spills) in
     let grown = tells-some _ (g.H.Shelf.files c.args.shelf.now) all shelf_told (c.in-Ok.ensures.sampled starts.spills) it.points it.are.scan it.are.can sampled in
@@ -245,29 +251,29 @@ returns-in-Ok-finish-clause-kept g c =
 
 pub returns-in-Ok-finish-clause-sound : goal.returns-in-Ok-finish-clause-sound
 returns-in-Ok-finish-clause-sound g c = λ all start shelf_told starts.
-    let it : IsGround all start c.args.config.now c.take_up.new.at.saved.current c.args.plan.now c.whole_extent-extent.result =
-    subst (λ (v : View). IsGround all start c.args.config.now v.current c.args.plan.now c.whole_extent-extent.result) (sym c.take_up.ensures.saved)
-    (ground-of c.output_once_law.ensures.one c.output_once_law.ensures.sampled c.output_names_law.ensures.grow c.saved_law.ensures.loaded all start c.args.config.now c.args.at.saved.current c.args.plan.now c.requires.plan starts.scans starts.ready.has_current starts.ready.sound c.whole_extent-extent.result (extent-found c.args.plan.now.counts c.as_slice.result.now c.whole_extent-extent.result c.as_slice.ensures c.whole_extent-extent.ensures)) in
-    let has : HasCurrent c.take_up.new.at.saved.current start = subst (λ (v : View). HasCurrent v.current start) (sym c.take_up.ensures.saved) starts.ready.has_current in
+    let it : IsGround all start c.args.config.now c.args.at.saved.current c.args.plan.now c.whole_extent-extent.result =
+    ground-of c.output_once_law.ensures.one c.output_once_law.ensures.sampled c.output_names_law.ensures.grow c.saved_law.ensures.loaded all start c.args.config.now c.args.at.saved.current c.args.plan.now c.requires.plan starts.scans starts.ready.has_current starts.ready.sound c.whole_extent-extent.result (extent-found c.args.plan.now.counts c.as_slice.result.now c.whole_extent-extent.result c.as_slice.ensures c.whole_extent-extent.ensures) in
+    let has : HasCurrent c.args.at.saved.current start = starts.ready.has_current in
+    let taken = c.in_default.ensures.taken_up.taken in
     let inserted : c.take_up.new.at.inserted ≡ c.args.plan.now.inserted = c.take_up.ensures.inserted ∙ (sym c.requires.begun.by_checkpoint ∙ sym c.requires.plan.inserted_is) in
     let sampled = it.loaded (nodes_of g.F.SpillFile.held c.take_up.new.at.octree) (g.T.Store.files c.args.store.now) c.take_up.new.at.inserted inserted starts.ready.told (c.in_default.ensures.loaded starts.spills) in
     let way = c.in_default.ensures.on_way all start it.out starts.ready it.names in
-    let first = first-moves all start c.args.config.now c.take_up.new.at.saved.current c.args.plan.now c.whole_extent-extent.result it has g.T.Store.files g.T.Store.may_leave g.T.Store.moment g.T.Store.image_since c.args.store.now c.take_up.new.store (subst (λ (v : View). Moves g.T.Store.files g.T.Store.may_leave g.T.Store.moment g.T.Store.image_since (λ (a b : Files). IsSoundAt all v.current b) c.args.store.now c.take_up.new.store) (sym c.take_up.ensures.saved) (c.take_up.ensures.sound all start starts.ready)) in
-    let second = grow-moves all start c.args.config.now c.take_up.new.at.saved.current c.args.plan.now c.whole_extent-extent.result it has g.T.Store.files g.T.Store.may_leave g.T.Store.moment g.T.Store.image_since c.take_up.new.store c.grow.new.store
+    let first = first-moves all start c.args.config.now c.args.at.saved.current c.args.plan.now c.whole_extent-extent.result it has g.T.Store.files g.T.Store.may_leave g.T.Store.moment g.T.Store.image_since c.args.store.now c.take_up.new.store (inserted-few c.args.config.now c.args.at.saved.current c.args.plan.now c.requires.plan) (c.take_up.ensures.sound all start starts.ready) in
+    let second = grow-moves all start c.args.config.now c.args.at.saved.current c.args.plan.now c.whole_extent-extent.result it has g.T.Store.files g.T.Store.may_leave g.T.Store.moment g.T.Store.image_since c.take_up.new.store c.grow.new.store c.take_up.new.at.saved.current taken
     (tells-some _ (g.H.Shelf.files c.args.shelf.now) all shelf_told (c.grow.ensures.sound starts.spills) it.points it.out it.are sampled way) (c.grow.ensures.reached starts.spills way.stands) in
     let both = moves-then g.T.Store.files g.T.Store.may_leave g.T.Store.moment g.T.Store.image_since (IsUnderWay all c.args.config.now start) c.args.store.now c.take_up.new.store c.grow.new.store first second in
     let way_on = tells-some _ (g.H.Shelf.files c.args.shelf.now) all shelf_told (c.in-Ok.ensures.on_way starts.spills) it.points it.out it.are sampled way in
     let grown = tells-some _ (g.H.Shelf.files c.args.shelf.now) all shelf_told (c.in-Ok.ensures.sampled starts.spills) it.points it.are.scan it.are.can sampled in
     moves-then g.T.Store.files g.T.Store.may_leave g.T.Store.moment g.T.Store.image_since (IsUnderWay all c.args.config.now start) c.args.store.now c.grow.new.store c.finish.new.store both
-    (end-moves all start c.args.config.now c.take_up.new.at.saved.current c.args.plan.now c.whole_extent-extent.result it has g.T.Store.files g.T.Store.may_leave g.T.Store.moment g.T.Store.image_since c.grow.new.store c.finish.new.store (length c.args.plan.now.kept.inputs) c.in-Ok.end.saved.current c.in-Ok.ensures.through
+    (end-moves all start c.args.config.now c.args.at.saved.current c.args.plan.now c.whole_extent-extent.result it has g.T.Store.files g.T.Store.may_leave g.T.Store.moment g.T.Store.image_since c.grow.new.store c.finish.new.store c.take_up.new.at.saved.current taken (length c.args.plan.now.kept.inputs) c.in-Ok.end.saved.current c.in-Ok.ensures.through
     (c.finish.ensures.sound starts.spills all it.points it.out it.are it.number it.has_extent grown way_on))
 
 pub returns-in-Ok-finish-clause-built : goal.returns-in-Ok-finish-clause-built
 returns-in-Ok-finish-clause-built g c = λ all start shelf_told starts.
-    let it : IsGround all start c.args.config.now c.take_up.new.at.saved.current c.args.plan.now c.whole_extent-extent.result =
-    subst (λ (v : View). IsGround all start c.args.config.now v.current c.args.plan.now c.whole_extent-extent.result) (sym c.take_up.ensures.saved)
-    (ground-of c.output_once_law.ensures.one c.output_once_law.ensures.sampled c.output_names_law.ensures.grow c.saved_law.ensures.loaded all start c.args.config.now c.args.at.saved.current c.args.plan.now c.requires.plan starts.scans starts.ready.has_current starts.ready.sound c.whole_extent-extent.result (extent-found c.args.plan.now.counts c.as_slice.result.now c.whole_extent-extent.result c.as_slice.ensures c.whole_extent-extent.ensures)) in
-    let has : HasCurrent c.take_up.new.at.saved.current start = subst (λ (v : View). HasCurrent v.current start) (sym c.take_up.ensures.saved) starts.ready.has_current in
+    let it : IsGround all start c.args.config.now c.args.at.saved.current c.args.plan.now c.whole_extent-extent.result =
+    ground-of c.output_once_law.ensures.one c.output_once_law.ensures.sampled c.output_names_law.ensures.grow c.saved_law.ensures.loaded all start c.args.config.now c.args.at.saved.current c.args.plan.now c.requires.plan starts.scans starts.ready.has_current starts.ready.sound c.whole_extent-extent.result (extent-found c.args.plan.now.counts c.as_slice.result.now c.whole_extent-extent.result c.as_slice.ensures c.whole_extent-extent.ensures) in
+    let has : HasCurrent c.args.at.saved.current start = starts.ready.has_current in
+    let taken = c.in_default.ensures.taken_up.taken in
     let inserted : c.take_up.new.at.inserted ≡ c.args.plan.now.inserted = c.take_up.ensures.inserted ∙ (sym c.requires.begun.by_checkpoint ∙ sym c.requires.plan.inserted_is) in
     let sampled = it.loaded (nodes_of g.F.SpillFile.held c.take_up.new.at.octree) (g.T.Store.files c.args.store.now) c.take_up.new.at.inserted inserted starts.ready.told (c.in_default.ensures.loaded starts.spills) in
     let way = c.in_default.ensures.on_way all start it.out starts.ready it.names in
@@ -275,7 +281,7 @@ returns-in-Ok-finish-clause-built g c = λ all start shelf_told starts.
     let grown = tells-some _ (g.H.Shelf.files c.args.shelf.now) all shelf_told (c.in-Ok.ensures.sampled starts.spills) it.points it.are.scan it.are.can sampled in
     let complete = c.in-Ok-finish.ensures.complete starts.spills all it.points it.out it.are it.number it.has_extent grown way_on in
     let nodes_are = nodes-number (rules_of c.args.plan.now.kept) it.points (nodes_of g.F.SpillFile.held c.in-Ok.end.octree) grown in
-    complete-end all start c.args.config.now c.take_up.new.at.saved.current c.args.plan.now c.whole_extent-extent.result it has c.in-Ok.end.saved.current (subst (λ (w : List Input). IsThrough c.take_up.new.at.saved.current c.args.plan.now.kept c.args.config.now.checkpoint c.args.plan.now.points (length w) c.in-Ok.end.saved.current) c.requires.plan.kept_is.inputs_is c.in-Ok.ensures.through) c.len.result (omega (arith, c.len.ensures.number, ap (λ (w : List Branch). length w) c.finish.ensures.same, nodes_are))
+    complete-end all start c.args.config.now c.args.at.saved.current c.args.plan.now c.whole_extent-extent.result it has c.take_up.new.at.saved.current taken c.in-Ok.end.saved.current (subst (λ (w : List Input). IsThrough c.take_up.new.at.saved.current c.args.plan.now.kept c.args.config.now.checkpoint c.args.plan.now.points (length w) c.in-Ok.end.saved.current) c.requires.plan.kept_is.inputs_is c.in-Ok.ensures.through) c.len.result (omega (arith, c.len.ensures.number, ap (λ (w : List Branch). length w) c.finish.ensures.same, nodes_are))
     (g.T.Store.files c.grow.new.store) (g.T.Store.files c.finish.new.store) (c.in-Ok-finish.ensures.sound starts.spills all it.points it.out it.are it.number it.has_extent grown way_on).reads complete
 
 pub returns-in-Ok-finish-clause-damaged_comes : goal.returns-in-Ok-finish-clause-damaged_comes

@@ -13,7 +13,7 @@ use Rattle.ept_build.proofs.Causes.{read-changed, read-no-spill, read-no-damage,
 use Rattle.ept_build.proofs.Ground.{kept-number}
 use Rattle.ept_build.proofs.Inside.{lies-in-cube}
 use Rattle.ept_scan.specs.Asking.{paths_left}
-use Rattle.ept_build.specs.Reached.{HasReached}
+use Rattle.ept_build.specs.Reached.{HasGone}
 use Rattle.ept_build.proofs.Asking.{AsksFront, opens-front}
 use Rattle.ept_build.proofs.Counting.{after-none, reached-now}
 use Rattle.ept_build.proofs.PhaseSound.{none-moves}
@@ -111,7 +111,7 @@ returns-in-Err-clause-sound g c = λ telling.
 
 pub returns-in-Err-clause-reached : goal.returns-in-Err-clause-reached
 returns-in-Err-clause-reached g c = λ telling stands.
-    none-moves g.T.Store.files g.T.Store.may_leave g.T.Store.moment g.T.Store.image_since c.args.at.saved c.args.store.now (g.met.T.Store.reads_an_image c.args.store.now) stands (HasReached c.args.at.saved.current c.args.plan.now.kept c.args.step c.args.plan.now.points)
+    none-moves g.T.Store.files g.T.Store.may_leave g.T.Store.moment g.T.Store.image_since c.args.at.saved c.args.store.now (g.met.T.Store.reads_an_image c.args.store.now) stands (HasGone c.args.at.saved.current c.args.plan.now.kept c.args.step c.args.plan.now.points)
     (reached-now c.args.at.saved.current c.args.at.saved.current c.args.plan.now.kept c.args.step c.args.plan.now.points 0 (after-none c.args.at.saved.current c.args.plan.now.kept c.args.step c.args.plan.now.points (omega (arith, c.requires.tree.by_checkpoint, c.requires.inserted))))
 
 pub returns-in-Err-clause-no_change : goal.returns-in-Err-clause-no_change

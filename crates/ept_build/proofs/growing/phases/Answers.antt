@@ -12,7 +12,7 @@ use Rattle.ept_plan.specs.Plans.{inserted_by}
 use Rattle.ept_build.specs.Phases.{IsTreeOf, IsSoundUndone, AreMany}
 use Rattle.ept_build.proofs.Causes.{if-refused}
 use Rattle.ept_build.proofs.Fronts.{all-front}
-use Rattle.ept_build.specs.Reached.{HasReached, HasThisOrNext}
+use Rattle.ept_build.specs.Reached.{HasGone, HasThisOrNext}
 use Rattle.ept_build.proofs.Counting.{keeps-of, after-none, after-next, reached-now, reached-then, no-fewer-none, no-fewer-next, through, take-most}
 use Rattle.ept_build.proofs.Numbers.{nodes-number}
 use Rattle.ept_build.proofs.PhaseSound.{none-moves}
@@ -40,7 +40,7 @@ loop-alloc-init g c = record {
   stands = λ stands. stands;
   settled = λ settled. settled;
   reached = λ telling stands.
-      none-moves g.T.Store.files g.T.Store.may_leave g.T.Store.moment g.T.Store.image_since c.args.at.saved c.args.store.now (g.met.T.Store.reads_an_image c.args.store.now) stands (HasReached c.args.at.saved.current c.args.plan.now.kept c.args.step c.args.plan.now.points)
+      none-moves g.T.Store.files g.T.Store.may_leave g.T.Store.moment g.T.Store.image_since c.args.at.saved c.args.store.now (g.met.T.Store.reads_an_image c.args.store.now) stands (HasGone c.args.at.saved.current c.args.plan.now.kept c.args.step c.args.plan.now.points)
       (reached-now c.args.at.saved.current c.args.at.saved.current c.args.plan.now.kept c.args.step c.args.plan.now.points 0 (after-none c.args.at.saved.current c.args.plan.now.kept c.args.step c.args.plan.now.points (omega (arith, c.requires.tree.by_checkpoint, c.requires.reader.to_come))));
 }
 
@@ -93,8 +93,8 @@ loop-alloc-preserved g c =
       stands = λ stands. c.in_ok-at.ensures.stands (i.invariant.stands stands);
       settled = λ settled. c.in_ok-at.ensures.settled;
       reached = λ telling stands.
-          moves-then g.T.Store.files g.T.Store.may_leave g.T.Store.moment g.T.Store.image_since (HasReached c.args.at.saved.current c.args.plan.now.kept c.args.step c.args.plan.now.points) c.args.store.now i.store c.phase.new.store (i.invariant.reached telling stands)
-          (moves-wider g.T.Store.files g.T.Store.may_leave g.T.Store.moment g.T.Store.image_since (HasThisOrNext i.at.saved.current c.args.plan.now.kept (i.at.inserted + c.min-count.result)) (HasReached c.args.at.saved.current c.args.plan.now.kept c.args.step c.args.plan.now.points)
+          moves-then g.T.Store.files g.T.Store.may_leave g.T.Store.moment g.T.Store.image_since (HasGone c.args.at.saved.current c.args.plan.now.kept c.args.step c.args.plan.now.points) c.args.store.now i.store c.phase.new.store (i.invariant.reached telling stands)
+          (moves-wider g.T.Store.files g.T.Store.may_leave g.T.Store.moment g.T.Store.image_since (HasThisOrNext i.at.saved.current c.args.plan.now.kept (i.at.inserted + c.min-count.result)) (HasGone c.args.at.saved.current c.args.plan.now.kept c.args.step c.args.plan.now.points)
           (reached-then c.args.at.saved.current i.at.saved.current c.args.plan.now.kept c.args.step c.args.plan.now.points i.invariant.phases i.invariant.after i.at.inserted c.min-count.result i.invariant.tree.by_checkpoint c.min-count.ensures) i.store c.phase.new.store (c.in_ok-at.ensures.either telling (i.invariant.stands stands)));
     }
 
@@ -107,8 +107,8 @@ returns-in_err-at-clause-sound g c = λ shelf points output are has way.
 pub returns-in_err-at-clause-reached : goal.returns-in_err-at-clause-reached
 returns-in_err-at-clause-reached g c = λ telling stands.
     let i = c.loop-alloc in
-    moves-then g.T.Store.files g.T.Store.may_leave g.T.Store.moment g.T.Store.image_since (HasReached c.args.at.saved.current c.args.plan.now.kept c.args.step c.args.plan.now.points) c.args.store.now i.store c.phase.new.store (i.invariant.reached telling stands)
-    (moves-wider g.T.Store.files g.T.Store.may_leave g.T.Store.moment g.T.Store.image_since (HasThisOrNext i.at.saved.current c.args.plan.now.kept (i.at.inserted + c.min-count.result)) (HasReached c.args.at.saved.current c.args.plan.now.kept c.args.step c.args.plan.now.points)
+    moves-then g.T.Store.files g.T.Store.may_leave g.T.Store.moment g.T.Store.image_since (HasGone c.args.at.saved.current c.args.plan.now.kept c.args.step c.args.plan.now.points) c.args.store.now i.store c.phase.new.store (i.invariant.reached telling stands)
+    (moves-wider g.T.Store.files g.T.Store.may_leave g.T.Store.moment g.T.Store.image_since (HasThisOrNext i.at.saved.current c.args.plan.now.kept (i.at.inserted + c.min-count.result)) (HasGone c.args.at.saved.current c.args.plan.now.kept c.args.step c.args.plan.now.points)
     (reached-then c.args.at.saved.current i.at.saved.current c.args.plan.now.kept c.args.step c.args.plan.now.points i.invariant.phases i.invariant.after i.at.inserted c.min-count.result i.invariant.tree.by_checkpoint c.min-count.ensures) i.store c.phase.new.store (c.in_err-at.ensures.either telling (i.invariant.stands stands)))
 
 pub returns-clause-tree : goal.returns-clause-tree

@@ -9,7 +9,7 @@ use Rattle.ept_meta.specs.Output.{File, rules_of}
 use Rattle.ept_plan.specs.Plans.{IsOf, inputs_by, inserted_by}
 use Rattle.ept_build.specs.Phases.{IsTreeOf, ReadsRest, HasInserted, IsSoundUndone, AreOfShelf, IsOnWay}
 use Rattle.ept_save.specs.View.{StandsFor}
-use Rattle.ept_build.specs.Reached.{IsAfter, HasReached}
+use Rattle.ept_build.specs.Reached.{IsAfter, HasGone}
 use Rattle.ept_build.proofs.Counting.{NoFewer}
 use Rattle.ept_build.proofs.growing.phases.Given as goal
 
@@ -33,7 +33,7 @@ invariant-loop-alloc g l = record {
   stands : StandsFor l.initial.at.saved (g.T.Store.files l.initial.store) (g.T.Store.may_leave l.initial.store) → StandsFor l.at.saved (g.T.Store.files l.store) (g.T.Store.may_leave l.store);
   settled : IsSettled (g.T.Store.files l.initial.store) (g.T.Store.may_leave l.initial.store) → IsSettled (g.T.Store.files l.store) (g.T.Store.may_leave l.store);
   reached : IsTelling g.F.SpillFile.held → StandsFor l.initial.at.saved (g.T.Store.files l.initial.store) (g.T.Store.may_leave l.initial.store)
-      → Moves g.T.Store.files g.T.Store.may_leave g.T.Store.moment g.T.Store.image_since (λ (a b : Files). HasReached l.initial.at.saved.current l.plan.kept l.step l.plan.points b) l.initial.store l.store;
+      → Moves g.T.Store.files g.T.Store.may_leave g.T.Store.moment g.T.Store.image_since (λ (a b : Files). HasGone l.initial.at.saved.current l.plan.kept l.step l.plan.points b) l.initial.store l.store;
 }
 
 abbrev pub decreases-loop-alloc : goal.decreases-loop-alloc

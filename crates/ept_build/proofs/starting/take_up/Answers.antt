@@ -1,104 +1,107 @@
-use Rattle.std.proofs.Common.{rules, ◌≡◌, ◌∙◌, sym, ap}
+use Rattle.std.proofs.Common.{rules, ◌≡◌, ◌∙◌, sym, subst}
 use Rattle.std.specs.Prelude.{Err}
-use Rattle.ept_base.specs.Files.{Files, SameFiles}
-use Rattle.ept_octree.specs.Octree.{most_of}
-use Rattle.ept_save.proofs.Standing.{stepped, settled_some}
-use Rattle.ept_phase.specs.declared.error.PhaseError.{PhaseError}
-use Rattle.ept_build.specs.Errors.{of_phase}
-use Rattle.ept_build.specs.Phases.{IsSoundAt}
-use Rattle.ept_build.proofs.Causes.{phase-damaged, phase-many, phase-spill, phase-damage}
-use Rattle.ept_build.proofs.Damage.{same-damage, first-damage}
+use Rattle.ept_base.specs.Files.{SameBut}
+use Rattle.ept_base.specs.Moves.{Moves}
+use Rattle.ept_meta.specs.Output.{names_of}
+use Rattle.ept_save.specs.Done.{IsDone}
+use Rattle.ept_save.specs.Loading.{HasNoDamage}
+use Rattle.ept_save.specs.Opening.{lines_of}
+use Rattle.ept_save.specs.View.{View, StandsFor}
+use Rattle.ept_save.specs.Names.{done_name}
+use Rattle.ept_save.proofs.Standing.{stepped, told_some}
+use Rattle.ept_build.specs.Phases.{IsSoundAt, IsSoundTaken, Renews, TakesUp}
+use Rattle.ept_build.proofs.Damage.{store-no-tile}
 use Rattle.ept_build.proofs.Judging.{err-one}
 use Rattle.ept_build.proofs.Moved.{moves-then}
-use Rattle.ept_build.proofs.Running.{sound-settled, same-moves, same-all, close-all, close-moves, closed-images, settled-on, tree-loaded}
+use Rattle.ept_build.proofs.Renewed.{load-at, load-taken, renew-moves, renew-images}
+use Rattle.ept_build.proofs.TakenUp.{taken-names}
 use Rattle.ept_build.proofs.starting.take_up.Goals as goal
 
-pub returns-in_err-load_octree-clause-sound : goal.returns-in_err-load_octree-clause-sound
-returns-in_err-load_octree-clause-sound g c = λ all start starts.
-    same-moves c.sound_steps_law.ensures.same c.sound_law.ensures.published c.sound_steps_law.ensures.guarding all c.args.at.now.saved.current g.T.Store.files g.T.Store.may_leave g.T.Store.moment g.T.Store.image_since c.args.store.now c.load_octree.new.store (sound-settled c.sound_steps_law.ensures.same c.sound_law.ensures.published c.sound_steps_law.ensures.guarding all c.args.at.now.saved.current g.T.Store.files g.T.Store.may_leave g.T.Store.moment g.T.Store.image_since c.args.store.now start starts.told starts.settled starts.sound starts.has_current) c.load_octree.ensures.any_moment
+pub renew-requires : goal.renew-requires
+renew-requires g c =
+    subst (λ (v : View). v.lines ≡ lines_of v.current) (sym c.load.ensures.saved) c.requires.begun.fresh
 
-pub returns-in_err-load_octree-clause-damaged : goal.returns-in_err-load_octree-clause-damaged
-returns-in_err-load_octree-clause-damaged g c = λ key is stands.
-    let e = c.in_err-load_octree.field-0.0 in
-    let its : c.from_residual.result ≡ Err (of_phase e) = search rules in
-    let damaged = c.in_err-load_octree.ensures.damaged key (ap (λ (w : PhaseError). Err w) (phase-damaged e key (err-one (sym its ∙ is)))) in
-    same-damage c.args.at.now.saved key (g.T.Store.files c.args.store.now) (g.T.Store.files c.load_octree.new.store) (c.load_octree.ensures.stands c.args.at.now.saved stands) c.load_octree.ensures.any_moment.reads damaged.0 (first-damage c.args.at.now.saved.current (most_of c.args.at.now.octree) key (g.T.Store.files c.args.store.now) damaged.1)
+-- ---- the nodes are not loaded
 
-pub returns-in_err-load_octree-clause-first_damaged : goal.returns-in_err-load_octree-clause-first_damaged
-returns-in_err-load_octree-clause-first_damaged g c = λ key is.
-    let e = c.in_err-load_octree.field-0.0 in
-    let its : c.from_residual.result ≡ Err (of_phase e) = search rules in
-    ((c.in_err-load_octree.ensures.damaged key (ap (λ (w : PhaseError). Err w) (phase-damaged e key (err-one (sym its ∙ is))))).1, c.load_octree.ensures.any_moment)
+pub returns-in_err-load-clause-sound : goal.returns-in_err-load-clause-sound
+returns-in_err-load-clause-sound g c = λ shelf start starts.
+    load-taken shelf c.args.at.now.saved.current g.T.Store.files g.T.Store.may_leave g.T.Store.moment g.T.Store.image_since c.args.store.now c.load.new.store (c.load.ensures.sound shelf start starts)
 
-pub returns-in_err-load_octree-clause-too_many : goal.returns-in_err-load_octree-clause-too_many
-returns-in_err-load_octree-clause-too_many g c = λ is.
-    let e = c.in_err-load_octree.field-0.0 in
-    let its : c.from_residual.result ≡ Err (of_phase e) = search rules in
-    (c.in_err-load_octree.ensures.too_many (ap (λ (w : PhaseError). Err w) (phase-many e (err-one (sym its ∙ is))))).0
+-- ---- the checkpoint is not migrated
 
-pub returns-in_err-load_octree-clause-too_many_intact : goal.returns-in_err-load_octree-clause-too_many_intact
-returns-in_err-load_octree-clause-too_many_intact g c = λ is.
-    let e = c.in_err-load_octree.field-0.0 in
-    let its : c.from_residual.result ≡ Err (of_phase e) = search rules in
-    (c.in_err-load_octree.ensures.too_many (ap (λ (w : PhaseError). Err w) (phase-many e (err-one (sym its ∙ is))))).1
+pub returns-in_err-renew-clause-sound : goal.returns-in_err-renew-clause-sound
+returns-in_err-renew-clause-sound g c = λ shelf start starts.
+    let from = c.args.at.now.saved.current in
+    let stands : StandsFor c.args.at.now.saved (g.T.Store.files c.load.new.store) (g.T.Store.may_leave c.load.new.store) = c.in_ok-load.ensures.stands starts.stands in
+    let at : IsSoundAt shelf from stands.all = load-at shelf from g.T.Store.files g.T.Store.may_leave g.T.Store.moment g.T.Store.image_since c.args.store.now c.load.new.store (c.load.ensures.sound shelf start starts) stands.all stands.told in
+    let undone : ¬ IsDone stands.all = told_some (λ all. ¬ IsDone all) (g.T.Store.files c.load.new.store) stands.all stands.told c.in_ok-load.ensures.shut in
+    let renews = subst (λ (v : View). (s : StandsFor v (g.T.Store.files c.load.new.store) (g.T.Store.may_leave c.load.new.store)) → Moves g.T.Store.files g.T.Store.may_leave g.T.Store.moment g.T.Store.image_since (Renews v.current s.all) c.load.new.store c.renew.new.store) c.load.ensures.saved c.renew.ensures.renews stands in
+    moves-then g.T.Store.files g.T.Store.may_leave g.T.Store.moment g.T.Store.image_since (IsSoundTaken shelf from) c.args.store.now c.load.new.store c.renew.new.store
+    (load-taken shelf from g.T.Store.files g.T.Store.may_leave g.T.Store.moment g.T.Store.image_since c.args.store.now c.load.new.store (c.load.ensures.sound shelf start starts))
+    (renew-moves c.sound_steps_law.ensures.same c.sound_steps_law.ensures.migrating shelf stands.all from g.T.Store.files g.T.Store.may_leave g.T.Store.moment g.T.Store.image_since c.load.new.store c.renew.new.store stands.told c.in_ok-load.ensures.settled at undone renews)
 
-pub returns-in_err-load_octree-clause-undamaged : goal.returns-in_err-load_octree-clause-undamaged
-returns-in_err-load_octree-clause-undamaged g c = λ all start starts key is.
-    let e = c.in_err-load_octree.field-0.0 in
-    let its : c.from_residual.result ≡ Err (of_phase e) = search rules in
-    c.in_err-load_octree.ensures.sound all start starts.told starts.sound starts.has_current key (ap (λ (w : PhaseError). Err w) (phase-damaged e key (err-one (sym its ∙ is))))
+pub returns-in_err-renew-clause-damaged : goal.returns-in_err-renew-clause-damaged
+returns-in_err-renew-clause-damaged g c = λ key is stands.
+    let e = c.in_err-renew.field-0.0 in
+    let its : c.from_residual-in_err-renew.result ≡ Err e = search rules in
+    let mid : StandsFor c.args.at.now.saved (g.T.Store.files c.load.new.store) (g.T.Store.may_leave c.load.new.store) = c.in_ok-load.ensures.stands stands in
+    let whole : HasNoDamage c.args.at.now.saved.current mid.all = told_some (HasNoDamage c.args.at.now.saved.current) (g.T.Store.files c.load.new.store) mid.all mid.told c.in_ok-load.ensures.nodes in
+    absurd (store-no-tile e key (c.in_err-renew.ensures.undamaged mid.all mid.told (subst (λ (v : View). HasNoDamage v.current mid.all) (sym c.load.ensures.saved) whole)) (err-one (sym its ∙ is)))
 
-pub returns-in_err-load_octree-clause-spill : goal.returns-in_err-load_octree-clause-spill
-returns-in_err-load_octree-clause-spill g c = λ is.
-    let e = c.in_err-load_octree.field-0.0 in
-    let its : c.from_residual.result ≡ Err (of_phase e) = search rules in
-    c.in_err-load_octree.ensures.spill (ap (λ (w : PhaseError). Err w) (phase-spill e (err-one (sym its ∙ is))))
+pub returns-in_err-renew-clause-undamaged : goal.returns-in_err-renew-clause-undamaged
+returns-in_err-renew-clause-undamaged g c = λ shelf start starts key is.
+    let e = c.in_err-renew.field-0.0 in
+    let its : c.from_residual-in_err-renew.result ≡ Err e = search rules in
+    let mid : StandsFor c.args.at.now.saved (g.T.Store.files c.load.new.store) (g.T.Store.may_leave c.load.new.store) = c.in_ok-load.ensures.stands starts.stands in
+    let whole : HasNoDamage c.args.at.now.saved.current mid.all = told_some (HasNoDamage c.args.at.now.saved.current) (g.T.Store.files c.load.new.store) mid.all mid.told c.in_ok-load.ensures.nodes in
+    store-no-tile e key (c.in_err-renew.ensures.undamaged mid.all mid.told (subst (λ (v : View). HasNoDamage v.current mid.all) (sym c.load.ensures.saved) whole)) (err-one (sym its ∙ is))
 
-pub returns-in_err-load_octree-clause-no_damage : goal.returns-in_err-load_octree-clause-no_damage
-returns-in_err-load_octree-clause-no_damage g c = λ kept found number is.
-    let e = c.in_err-load_octree.field-0.0 in
-    let its : c.from_residual.result ≡ Err (of_phase e) = search rules in
-    c.in_err-load_octree.ensures.no_damage kept found number (ap (λ (w : PhaseError). Err w) (phase-damage e kept found number (err-one (sym its ∙ is))))
+pub returns-in_err-renew-clause-first_damaged : goal.returns-in_err-renew-clause-first_damaged
+returns-in_err-renew-clause-first_damaged g c = λ key start told is.
+    let e = c.in_err-renew.field-0.0 in
+    let its : c.from_residual-in_err-renew.result ≡ Err e = search rules in
+    let mid = stepped (SameBut done_name) (g.T.Store.files c.args.store.now) (g.T.Store.files c.load.new.store) start told c.in_ok-load.ensures.gate in
+    let whole : HasNoDamage c.args.at.now.saved.current mid.0 = told_some (HasNoDamage c.args.at.now.saved.current) (g.T.Store.files c.load.new.store) mid.0 mid.1 c.in_ok-load.ensures.nodes in
+    absurd (store-no-tile e key (c.in_err-renew.ensures.undamaged mid.0 mid.1 (subst (λ (v : View). HasNoDamage v.current mid.0) (sym c.load.ensures.saved) whole)) (err-one (sym its ∙ is)))
 
-pub returns-in_err-close_done-clause-sound : goal.returns-in_err-close_done-clause-sound
-returns-in_err-close_done-clause-sound g c = λ all start starts.
-    let zero = sound-settled c.sound_steps_law.ensures.same c.sound_law.ensures.published c.sound_steps_law.ensures.guarding all c.args.at.now.saved.current g.T.Store.files g.T.Store.may_leave g.T.Store.moment g.T.Store.image_since c.args.store.now start starts.told starts.settled starts.sound starts.has_current in
-    let one = same-all c.sound_steps_law.ensures.same c.sound_law.ensures.published c.sound_steps_law.ensures.guarding all c.args.at.now.saved.current g.T.Store.files g.T.Store.may_leave g.T.Store.moment g.T.Store.image_since c.args.store.now c.load_octree.new.store zero c.load_octree.ensures.any_moment in
-    let at_one = stepped SameFiles (g.T.Store.files c.args.store.now) (g.T.Store.files c.load_octree.new.store) start starts.told c.load_octree.ensures.any_moment.reads in
-    let alike : (image : Files) → g.T.Store.may_leave c.load_octree.new.store image → SameFiles at_one.0 image = λ image may. settled-on start at_one.0 image (settled_some (g.T.Store.files c.args.store.now) (g.T.Store.may_leave c.args.store.now) start starts.told starts.settled) at_one.2 (c.load_octree.ensures.images.0 image may) in
-    moves-then g.T.Store.files g.T.Store.may_leave g.T.Store.moment g.T.Store.image_since (IsSoundAt all c.args.at.now.saved.current) c.args.store.now c.load_octree.new.store c.close_done.new.store
-    (same-moves c.sound_steps_law.ensures.same c.sound_law.ensures.published c.sound_steps_law.ensures.guarding all c.args.at.now.saved.current g.T.Store.files g.T.Store.may_leave g.T.Store.moment g.T.Store.image_since c.args.store.now c.load_octree.new.store zero c.load_octree.ensures.any_moment)
-    (close-moves c.sound_steps_law.ensures.same c.sound_law.ensures.published c.sound_steps_law.ensures.guarding all c.args.at.now.saved.current g.T.Store.files g.T.Store.may_leave g.T.Store.moment g.T.Store.image_since c.load_octree.new.store c.close_done.new.store one at_one.0 at_one.1 alike c.close_done.ensures.stood_shut c.close_done.ensures.guards)
+-- ---- it is taken up
 
 pub returns-clause-sound : goal.returns-clause-sound
-returns-clause-sound g c = λ all start starts.
-    let zero = sound-settled c.sound_steps_law.ensures.same c.sound_law.ensures.published c.sound_steps_law.ensures.guarding all c.args.at.now.saved.current g.T.Store.files g.T.Store.may_leave g.T.Store.moment g.T.Store.image_since c.args.store.now start starts.told starts.settled starts.sound starts.has_current in
-    let one = same-all c.sound_steps_law.ensures.same c.sound_law.ensures.published c.sound_steps_law.ensures.guarding all c.args.at.now.saved.current g.T.Store.files g.T.Store.may_leave g.T.Store.moment g.T.Store.image_since c.args.store.now c.load_octree.new.store zero c.load_octree.ensures.any_moment in
-    let at_one = stepped SameFiles (g.T.Store.files c.args.store.now) (g.T.Store.files c.load_octree.new.store) start starts.told c.load_octree.ensures.any_moment.reads in
-    let alike : (image : Files) → g.T.Store.may_leave c.load_octree.new.store image → SameFiles at_one.0 image = λ image may. settled-on start at_one.0 image (settled_some (g.T.Store.files c.args.store.now) (g.T.Store.may_leave c.args.store.now) start starts.told starts.settled) at_one.2 (c.load_octree.ensures.images.0 image may) in
-    moves-then g.T.Store.files g.T.Store.may_leave g.T.Store.moment g.T.Store.image_since (IsSoundAt all c.args.at.now.saved.current) c.args.store.now c.load_octree.new.store c.close_done.new.store
-    (same-moves c.sound_steps_law.ensures.same c.sound_law.ensures.published c.sound_steps_law.ensures.guarding all c.args.at.now.saved.current g.T.Store.files g.T.Store.may_leave g.T.Store.moment g.T.Store.image_since c.args.store.now c.load_octree.new.store zero c.load_octree.ensures.any_moment)
-    (close-moves c.sound_steps_law.ensures.same c.sound_law.ensures.published c.sound_steps_law.ensures.guarding all c.args.at.now.saved.current g.T.Store.files g.T.Store.may_leave g.T.Store.moment g.T.Store.image_since c.load_octree.new.store c.close_done.new.store one at_one.0 at_one.1 alike c.close_done.ensures.stood_shut c.close_done.ensures.guards)
+returns-clause-sound g c = λ shelf start starts.
+    let from = c.args.at.now.saved.current in
+    let stands : StandsFor c.args.at.now.saved (g.T.Store.files c.load.new.store) (g.T.Store.may_leave c.load.new.store) = c.in_ok-load.ensures.stands starts.stands in
+    let at : IsSoundAt shelf from stands.all = load-at shelf from g.T.Store.files g.T.Store.may_leave g.T.Store.moment g.T.Store.image_since c.args.store.now c.load.new.store (c.load.ensures.sound shelf start starts) stands.all stands.told in
+    let undone : ¬ IsDone stands.all = told_some (λ all. ¬ IsDone all) (g.T.Store.files c.load.new.store) stands.all stands.told c.in_ok-load.ensures.shut in
+    let renews = subst (λ (v : View). (s : StandsFor v (g.T.Store.files c.load.new.store) (g.T.Store.may_leave c.load.new.store)) → Moves g.T.Store.files g.T.Store.may_leave g.T.Store.moment g.T.Store.image_since (Renews v.current s.all) c.load.new.store c.renew.new.store) c.load.ensures.saved c.renew.ensures.renews stands in
+    moves-then g.T.Store.files g.T.Store.may_leave g.T.Store.moment g.T.Store.image_since (IsSoundTaken shelf from) c.args.store.now c.load.new.store c.renew.new.store
+    (load-taken shelf from g.T.Store.files g.T.Store.may_leave g.T.Store.moment g.T.Store.image_since c.args.store.now c.load.new.store (c.load.ensures.sound shelf start starts))
+    (renew-moves c.sound_steps_law.ensures.same c.sound_steps_law.ensures.migrating shelf stands.all from g.T.Store.files g.T.Store.may_leave g.T.Store.moment g.T.Store.image_since c.load.new.store c.renew.new.store stands.told c.in_ok-load.ensures.settled at undone renews)
 
 pub returns-clause-on_way : goal.returns-clause-on_way
-returns-clause-on_way g c = λ all start output starts names.
-    let zero = sound-settled c.sound_steps_law.ensures.same c.sound_law.ensures.published c.sound_steps_law.ensures.guarding all c.args.at.now.saved.current g.T.Store.files g.T.Store.may_leave g.T.Store.moment g.T.Store.image_since c.args.store.now start starts.told starts.settled starts.sound starts.has_current in
-    let one = same-all c.sound_steps_law.ensures.same c.sound_law.ensures.published c.sound_steps_law.ensures.guarding all c.args.at.now.saved.current g.T.Store.files g.T.Store.may_leave g.T.Store.moment g.T.Store.image_since c.args.store.now c.load_octree.new.store zero c.load_octree.ensures.any_moment in
-    let at_one = stepped SameFiles (g.T.Store.files c.args.store.now) (g.T.Store.files c.load_octree.new.store) start starts.told c.load_octree.ensures.any_moment.reads in
-    let alike : (image : Files) → g.T.Store.may_leave c.load_octree.new.store image → SameFiles at_one.0 image = λ image may. settled-on start at_one.0 image (settled_some (g.T.Store.files c.args.store.now) (g.T.Store.may_leave c.args.store.now) start starts.told starts.settled) at_one.2 (c.load_octree.ensures.images.0 image may) in
-    let two = close-all c.sound_steps_law.ensures.same c.sound_law.ensures.published c.sound_steps_law.ensures.guarding all c.args.at.now.saved.current g.T.Store.files g.T.Store.may_leave g.T.Store.moment g.T.Store.image_since c.load_octree.new.store c.close_done.new.store one at_one.0 at_one.1 alike c.close_done.ensures.stood_shut c.close_done.ensures.guards in
-    let stands = c.in_ok-close_done.ensures.stands c.args.at.now.saved (c.load_octree.ensures.stands c.args.at.now.saved starts.stands) in
+returns-clause-on_way g c = λ shelf start output starts names.
+    let from = c.args.at.now.saved.current in
+    let stands : StandsFor c.args.at.now.saved (g.T.Store.files c.load.new.store) (g.T.Store.may_leave c.load.new.store) = c.in_ok-load.ensures.stands starts.stands in
+    let at : IsSoundAt shelf from stands.all = load-at shelf from g.T.Store.files g.T.Store.may_leave g.T.Store.moment g.T.Store.image_since c.args.store.now c.load.new.store (c.load.ensures.sound shelf start starts) stands.all stands.told in
+    let undone : ¬ IsDone stands.all = told_some (λ all. ¬ IsDone all) (g.T.Store.files c.load.new.store) stands.all stands.told c.in_ok-load.ensures.shut in
+    let renews = subst (λ (v : View). (s : StandsFor v (g.T.Store.files c.load.new.store) (g.T.Store.may_leave c.load.new.store)) → Moves g.T.Store.files g.T.Store.may_leave g.T.Store.moment g.T.Store.image_since (Renews v.current s.all) c.load.new.store c.renew.new.store) c.load.ensures.saved c.renew.ensures.renews stands in
+    let takes : TakesUp c.args.at.now.saved c.renew.new.saved = subst (λ (v : View). TakesUp v c.renew.new.saved) c.load.ensures.saved c.in_ok-renew.ensures.taken_up in
     record {
-      names = names;
-      stands = stands;
-      sound = closed-images c.sound_steps_law.ensures.same c.sound_law.ensures.published c.sound_steps_law.ensures.guarding all c.args.at.now.saved.current g.T.Store.files g.T.Store.may_leave g.T.Store.moment g.T.Store.image_since c.close_done.new.store two stands.all stands.told c.in_ok-close_done.ensures.closed c.in_ok-close_done.ensures.settled;
+      names = taken-names shelf (names_of output) from c.renew.new.saved.current takes.taken names;
+      stands = c.in_ok-renew.ensures.stands (subst (λ (v : View). StandsFor v (g.T.Store.files c.load.new.store) (g.T.Store.may_leave c.load.new.store)) (sym c.load.ensures.saved) stands);
+      sound = renew-images c.sound_steps_law.ensures.same c.sound_steps_law.ensures.migrating shelf stands.all from g.T.Store.files g.T.Store.may_leave g.T.Store.moment g.T.Store.image_since c.load.new.store c.renew.new.store stands.told c.in_ok-load.ensures.settled at undone renews;
     }
+
+pub returns-clause-taken_up : goal.returns-clause-taken_up
+returns-clause-taken_up g c =
+    subst (λ (v : View). TakesUp v c.renew.new.saved) c.load.ensures.saved c.in_ok-renew.ensures.taken_up
 
 pub returns-clause-tree : goal.returns-clause-tree
 returns-clause-tree g c =
-    let own = c.in_ok-load_octree.ensures in
-    tree-loaded g.F.SpillFile.held g.F.SpillFile.faults g.F.SpillFile.keeps c.args.plan.now c.args.at.now.inserted c.args.at.now.saved c.args.at.now.octree c.load_octree.new.octree c.requires.newest c.requires.begun own.rules own.whole own.linked own.agrees own.unbroken own.told own.begun
+    c.in_ok-load.ensures.tree c.renew.new.saved (subst (λ (v : View). TakesUp v c.renew.new.saved) c.load.ensures.saved c.in_ok-renew.ensures.taken_up) c.in_ok-renew.ensures.newest
 
 pub returns-clause-stands : goal.returns-clause-stands
 returns-clause-stands g c = λ stands.
-    c.in_ok-close_done.ensures.stands c.args.at.now.saved (c.load_octree.ensures.stands c.args.at.now.saved stands)
+    c.in_ok-renew.ensures.stands (subst (λ (v : View). StandsFor v (g.T.Store.files c.load.new.store) (g.T.Store.may_leave c.load.new.store)) (sym c.load.ensures.saved) (c.in_ok-load.ensures.stands stands))
+
+pub returns-clause-settled : goal.returns-clause-settled
+returns-clause-settled g c = c.in_ok-renew.ensures.settled c.in_ok-load.ensures.settled

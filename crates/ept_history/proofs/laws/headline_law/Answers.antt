@@ -8,7 +8,7 @@ use Rattle.ept_save.specs.SoundLaws.{EmptyIsSound, CurrentIsOne, InputsAreEnough
 use Rattle.ept_build.specs.declared.summary.Summary.{Summary}
 use Rattle.ept_build.specs.Building.{HasPoints}
 use Rattle.ept_history.specs.Histories.{Step, IsHistory, left_by, ScansStay, IsBuiltAfter}
-use Rattle.ept_history.proofs.Bounding.{KeepsExtent, extent-there, next-extent}
+use Rattle.ept_history.proofs.Bounding.{KeepsExtent, extent-there, extent-turned, next-extent}
 use Rattle.ept_history.proofs.Safe.{IsSafe, safe-first, safe-last, safe-next, holds-next}
 use Rattle.ept_history.proofs.OneBuild.{as-one-build, one-build}
 use Rattle.ept_history.proofs.laws.headline_law.Goals as goal
@@ -18,7 +18,7 @@ returns-clause-sound c = λ steps next are stay.
     let enough = c.sound_steps_law.ensures.shelf in
     let Known : Files → Current → Type 0 = λ shelf current. ⊤ in
     let safe : IsSafe Known (left_by steps) (next ∷ []) =
-    safe-last Known (λ (step : Step). ⊤) enough c.sound_law.ensures.one (λ one two current same known. tt) (λ step current letter it among known sound on has keeps. tt) _ steps next (safe-first Known c.sound_law.ensures.empty tt (steps ++ next ∷ [])) (λ k d lt. tt) are stay in
+    safe-last Known (λ (step : Step). ⊤) enough c.sound_law.ensures.one (λ one two current same known. tt) (λ step current letter it among known sound on has keeps. tt) (λ shelf from base turned known. tt) _ steps next (safe-first Known c.sound_law.ensures.empty tt (steps ++ next ∷ [])) (λ k d lt. tt) are stay in
     safe-next Known enough (left_by steps) next [] safe
 
 -- where no build of the history states its bounds, those of the current checkpoint are the extent of its points
@@ -27,6 +27,7 @@ extent-left once kept placed front empty one enough steps last are stay none cur
     let safe : IsSafe KeepsExtent (left_by steps) (last ∷ []) =
     safe-last KeepsExtent (λ (step : Step). step.config.bounds ≡ None) enough one extent-there
     (λ step current letter it none keeps sound on has same. next-extent once kept placed front one step.shelf step.left step.config current on.kept on.points letter it none on.goes_on keeps on.has_points sound has same)
+    extent-turned
     _ steps last (safe-first KeepsExtent empty tt (steps ++ last ∷ [])) none are stay in
     subst (λ (w : Current). KeepsExtent last.shelf w) (one (left_by steps) safe.current current safe.has_current has) (holds-next KeepsExtent extent-there (left_by steps) last [] safe)
 

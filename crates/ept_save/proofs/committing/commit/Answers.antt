@@ -1,8 +1,6 @@
-use Rattle.std.proofs.Common.{◌≡◌, ◌∙◌, sym, ap, subst}
+use Rattle.std.proofs.Common.{◌≡◌, ◌∙◌, sym, subst}
 use Rattle.std.proofs.lemmas.Result.{on_ok_weaker}
 use Rattle.ept_base.specs.Moves.{Moves}
-use Rattle.ept_ckpt.specs.Facts.{CheckpointFacts}
-use Rattle.ept_ckpt.specs.Versions.{layout_of}
 use Rattle.ept_ckpt.specs.declared.checkpoint.Checkpoint.{Checkpoint}
 use Rattle.ept_ckpt.proofs.FactsTell.{checkpoint_same}
 use Rattle.ept_save.specs.Current.{Commits}
@@ -14,7 +12,6 @@ use Rattle.ept_save.proofs.committing.commit.Goals as goal
 pub commit_checkpoint-requires : goal.commit_checkpoint-requires
 commit_checkpoint-requires g c = record {
   begun = c.requires.begun;
-  newest = ap (λ (f : CheckpointFacts). layout_of f.version) c.in_ok-checkpoint.ensures;
   newer = is-newer c.args.saved.now c.args.kept.now c.args.counts.now c.args.inserted c.in_ok-checkpoint.checkpoint c.in_ok-checkpoint.ensures;
 }
 

@@ -1,5 +1,6 @@
 use Rattle.ept_save.proofs.Newer.{current-one, not-bad}
 use Rattle.ept_save.proofs.SoundFiles.{empty-sound, done-published}
+use Rattle.ept_save.proofs.Before.{before_is_sound}
 use Rattle.ept_save.proofs.DoneFiles.{done-complete}
 use Rattle.ept_save.proofs.laws.sound_law.Goals as goal
 
@@ -20,3 +21,6 @@ returns-clause-complete c = done-complete
 
 pub returns-clause-published : goal.returns-clause-published
 returns-clause-published c = done-published
+
+pub returns-clause-before : goal.returns-clause-before
+returns-clause-before c = before_is_sound c.numbered_law.ensures

@@ -1,8 +1,7 @@
-use Rattle.std.proofs.Common.{◌≡◌, ap, subst}
+use Rattle.std.proofs.Common.{◌≡◌, subst}
 use Rattle.std.proofs.lemmas.Result.{on_ok_weaker}
 use Rattle.ept_base.specs.Moves.{Moves}
 use Rattle.ept_ckpt.specs.declared.checkpoint.Checkpoint.{Checkpoint}
-use Rattle.ept_ckpt.specs.Versions.{layout_of}
 use Rattle.ept_save.specs.Names.{other}
 use Rattle.ept_save.specs.Current.{Current, Commits}
 use Rattle.ept_save.specs.Migrating.{IsTurnOf}
@@ -15,7 +14,7 @@ pub commit_checkpoint-requires : goal.commit_checkpoint-requires
 commit_checkpoint-requires g c =
     let at = the-old c.args.saved.now.current c.requires.old in
     let turn : IsTurnOf at.0.1 c.in_ok-checkpoint.checkpoint = c.in_ok-checkpoint.ensures at.0.0 at.0.1 at.1 in
-    record { begun = c.requires.begun; newest = ap layout_of turn.version; newer = turn-newer c.args.saved.now.current at.0 at.1 c.in_ok-checkpoint.checkpoint turn }
+    record { begun = c.requires.begun; newer = turn-newer c.args.saved.now.current at.0 at.1 c.in_ok-checkpoint.checkpoint turn }
 
 pub returns-clause-migrated : goal.returns-clause-migrated
 returns-clause-migrated g c =

@@ -3,8 +3,6 @@ use Rattle.ept_base.specs.Files.{SameFiles}
 use Rattle.ept_ckpt.specs.declared.letter.Letter.TheVariants.{A, B}
 use Rattle.ept_save.specs.Current.{HasCurrent}
 use Rattle.ept_save.specs.Opening.{IsFound}
-use Rattle.ept_point.specs.declared.layout.Layout.TheVariants.{Old}
-use Rattle.ept_save.specs.Tiles.{IsOfLayout}
 use Rattle.ept_save.specs.View.{View}
 use Rattle.ept_save.proofs.Standing.{same_twice, opened-stands, stepped, told_some}
 use Rattle.ept_save.proofs.Newer.{not-bad, found-back}
@@ -31,7 +29,3 @@ returns-clause-stands g c = λ all told settled.
     opened-stands g.T.Store.files g.T.Store.may_leave g.T.Store.moment g.T.Store.image_since c.in_ok-of.field-0 c.args.store.now c.checkpoint_of-2.new.store all told
     (subst (λ (v : View). HasCurrent v.current all) (sym c.in_ok-of.ensures) has) (ap (λ (v : View). v.begun) c.in_ok-of.ensures) settled
     (same_twice g.T.Store.files g.T.Store.may_leave g.T.Store.moment g.T.Store.image_since c.args.store.now c.checkpoint_of.new.store c.checkpoint_of-2.new.store c.checkpoint_of.ensures.any_moment c.checkpoint_of-2.ensures.any_moment)
-
-pub returns-clause-newest : goal.returns-clause-newest
-returns-clause-newest g c =
-    subst (λ (v : View). ¬ IsOfLayout Old v.current) (sym c.in_ok-of.ensures) (c.in_ok-current.ensures.newest c.in_ok-a.ensures.newest c.in_ok-b.ensures.newest)
