@@ -125,7 +125,7 @@ phase-no-source phase.SpillFault is = cc
 phase-no-source (phase.SpillDamaged a b d) is = cc
 
 -- a refusal of devices tells of no tile
-stores-undamaged : (e : SaveError) (key : VoxelKey) → IsStores e → of_save e ≡ TileDamaged key → ⊥
+pub stores-undamaged : (e : SaveError) (key : VoxelKey) → IsStores e → of_save e ≡ TileDamaged key → ⊥
 stores-undamaged e key (inl fault) is = let told : of_save save.StoreFault ≡ TileDamaged key = sym (ap of_save fault) ∙ is in cc
 stores-undamaged e key (inr memory) is = let told : of_save save.Memory ≡ TileDamaged key = sym (ap of_save memory) ∙ is in cc
 

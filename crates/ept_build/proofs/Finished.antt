@@ -1,7 +1,8 @@
 -- Where nothing is to be done, and where the rest of a build begins.
-use Rattle.std.proofs.Common.{◌≡◌, ◌∙◌, ◌⊎◌, inl, inr, ℕ, List, length, take, sym, ap, subst, Option, Some, None}
+use Rattle.std.proofs.Common.{◌≡◌, ◌∙◌, ◌⊎◌, inl, inr, ℕ, List, length, take, refl, sym, ap, subst, Option, Some, None}
 use Rattle.ept_base.specs.Files.{Files, SameFiles, Tells}
 use Rattle.ept_base.specs.Moves.{IsSettled, Moves}
+use Rattle.ept_point.specs.declared.layout.Layout.TheVariants.{Old}
 use Rattle.ept_point.specs.declared.point.Point.{Point}
 use Rattle.ept_sample.specs.Nodes.{sampled}
 use Rattle.ept_config.specs.declared.config.Config.{Config}
@@ -23,10 +24,12 @@ use Rattle.ept_save.specs.Done.{IsDone}
 use Rattle.ept_save.specs.Opening.{lines_of}
 use Rattle.ept_save.specs.Sound.{HasPointsOf, IsSavedAs, IsSound}
 use Rattle.ept_save.specs.SoundLaws.{CurrentIsOne, SameIsSound, DoneIsComplete, DoneIsPublished, IsPublished}
+use Rattle.ept_save.specs.Tiles.{IsOfLayout}
 use Rattle.ept_save.specs.View.{View, StandsFor}
 use Rattle.ept_save.proofs.Keeping.{has_current-same}
 use Rattle.ept_save.proofs.SoundFiles.{sound-at}
 use Rattle.ept_save.proofs.Standing.{settled_some, same_twice}
+use Rattle.ept_save.proofs.TileFiles.{not-old}
 use Rattle.ept_plan.specs.declared.plan.Plan.{Plan}
 use Rattle.ept_plan.specs.Plans.{IsPlan, IsOf, ScansAll, GoesOn, bounds_or, limits_by, inputs_by, inserted_by}
 use Rattle.ept_plan.proofs.Fields.{same-kept}
@@ -56,6 +59,7 @@ module _ (same_sound : SameIsSound) (complete : DoneIsComplete) (all start now :
       let same : its.0 ≡ points = scan_once all c.kept.scale (Some c.kept.bounds) c.kept.inputs 0 its.0 points _ _ its.1.scan scan in
       let whole : take c.inserted its.0 ≡ points = ap (take c.inserted) same ∙ all-front points c.inserted (sym it.2) in
       let lines : length c.nodes ≡ length (sampled (rules_of c.kept) (take c.inserted its.0)) = lines-number (IsSavedAs (layout_of c.version) now) (sampled (rules_of c.kept) (take c.inserted its.0)) c.nodes its.1.nodes in
+      let newest : ¬ IsOfLayout Old (Some (letter, c)) = not-old (layout_of c.version) (its.2.whole done).newest in
       record {
         current = Some (letter, c);
         has_current = has;
@@ -64,7 +68,7 @@ module _ (same_sound : SameIsSound) (complete : DoneIsComplete) (all start now :
         points = points;
         has_points = record { done = found; scan = at_inputs; kept_is = kept_is };
         complete = it.3;
-        through = record { now = Some (letter, c); has_now = has_now; through = nothing-needed (Some (letter, c)) c.kept config.checkpoint (length points) (length config.inputs) it.2 (ap (λ (w : List Input). length w) kept_is.inputs_is) };
+        through = record { base = Some (letter, c); taken_up = inl (newest, refl); now = Some (letter, c); has_now = has_now; through = nothing-needed (Some (letter, c)) c.kept config.checkpoint (length points) (length config.inputs) it.2 (ap (λ (w : List Input). length w) kept_is.inputs_is) };
         points_are = sym inserted ∙ it.2;
         nodes_are = counted ∙ (lines ∙ ap (λ (w : List Point). length (sampled (rules_of c.kept) w)) whole);
       }

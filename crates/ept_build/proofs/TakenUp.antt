@@ -1,5 +1,5 @@
 -- What a checkpoint that is taken up has in common with the one before it.
-use Rattle.std.proofs.Common.{◌≡◌, ◌∙◌, inl, inr, ℕ, ◌≤◌, true, List, map, length, refl, sym, ap, subst, arith, Some, None}
+use Rattle.std.proofs.Common.{◌≡◌, ◌∙◌, inl, inr, ℕ, ◌≤◌, true, List, length, refl, sym, ap, subst, arith, Some}
 use Rattle.std.specs.Prelude.{All}
 use Rattle.ept_base.specs.Files.{Files}
 use Rattle.ept_point.specs.declared.layout.Layout.TheVariants.{Old}
@@ -11,10 +11,9 @@ use Rattle.ept_scan.specs.Scans.{IsScan}
 use Rattle.ept_ckpt.specs.declared.node_line.NodeLine.{NodeLine}
 use Rattle.ept_ckpt.specs.declared.checkpoint.Checkpoint.{Checkpoint}
 use Rattle.ept_ckpt.specs.Octree.{is_among}
-use Rattle.ept_ckpt.specs.Versions.{layout_of}
 use Rattle.ept_meta.specs.Output.{IsOutput}
 use Rattle.ept_save.specs.Current.{Current}
-use Rattle.ept_save.specs.Migrating.{turned, IsTurnOf, HasMigrated}
+use Rattle.ept_save.specs.Migrating.{IsTurnOf, HasMigrated}
 use Rattle.ept_save.specs.Opening.{lines_of}
 use Rattle.ept_save.specs.Sound.{HasPointsOf}
 use Rattle.ept_save.specs.SoundLaws.{HasNamesOf}

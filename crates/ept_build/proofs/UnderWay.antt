@@ -1,5 +1,5 @@
 -- What lies on the way of a build: sound files, some phases behind the start.
-use Rattle.std.proofs.Common.{◌≡◌, ◌∙◌, ◌⊎◌, inl, inr, ℕ, ◌+◌, ◌*◌, ◌<◌, ◌≤◌, min, length, take, refl, sym, subst, arith, Option, Some, None}
+use Rattle.std.proofs.Common.{◌≡◌, ◌∙◌, ◌⊎◌, inl, inr, ℕ, ◌<◌, ◌≤◌, length, take, sym, subst, arith, Option, Some, None}
 use Rattle.ept_base.specs.Files.{Files, SameFiles, StepsBy, Tells}
 use Rattle.ept_base.specs.Moves.{IsSettled, Moves, SameImages}
 use Rattle.ept_space.specs.declared.bounds.Bounds.{Bounds}
@@ -17,6 +17,7 @@ use Rattle.ept_plan.specs.Plans.{inserted_by}
 use Rattle.ept_build.specs.Building.{IsUnderWay, IsBuilt, IsStopped, HasTooManyAlready, node_count}
 use Rattle.ept_build.specs.Phases.{IsSoundUndone, IsSoundAt, IsSoundTaken, AreMany}
 use Rattle.ept_build.specs.Reached.{IsAfter, HasGone, HasTurned, IsTakenUp, IsThrough}
+use Rattle.ept_build.proofs.Counting.{after-none}
 use Rattle.ept_build.proofs.Ground.{IsGround}
 use Rattle.ept_build.proofs.Moved.{moves-two, moves-wider}
 use Rattle.ept_build.proofs.Running.{sound-settled, same-moves}
@@ -32,10 +33,6 @@ early-moves same_sound published guarding all config start files may_leave momen
     let current = sound.current in
     moves-wider files may_leave moment image_since (IsSoundAt all current) (IsUnderWay all config start) (under-way-at all config start current sound.has_current) old new
     (same-moves same_sound published guarding all current files may_leave moment image_since old new (sound-settled same_sound published guarding all current files may_leave moment image_since old start told settled sound sound.has_current) moved)
-
--- no phase inserts nothing
-no_phase : (all n step : ℕ) → n ≤ all → n ≡ min all (n + 0 * step)
-no_phase all n step le = omega (arith, le)
 
 module _ (all start : Files) (config : Config) (current : Current) (plan : Plan) (extent : Option Bounds) (ground : IsGround all start config current plan extent) (has : HasCurrent current start) where
   -- one that was reached
@@ -65,12 +62,7 @@ module _ (all start : Files) (config : Config) (current : Current) (plan : Plan)
             now = at.now;
             has_now = at.has_now;
             phases = 0;
-            after = record {
-              generation = omega arith;
-              inserted = no_phase plan.points (inserted_by at.now) config.checkpoint (omega (arith, inserted, most));
-              unchanged = λ none. refl;
-              keeps = λ some. absurd (omega (arith, some));
-            };
+            after = after-none at.now plan.kept config.checkpoint plan.points (omega (arith, inserted, most));
           })
 
   module _ {D : Type 0} (files : D → Option Files) (may_leave : D → Files → Type 0) (moment : D → ℕ) (image_since : D → ℕ → Files → Type 0) (old new : D) where

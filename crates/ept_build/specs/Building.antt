@@ -77,7 +77,7 @@ pub record IsBuilt (all : Files) (config : Config) (start : Files) (summary : Su
   pub points_are : summary.points ≡ length points
   pub nodes_are : summary.nodes ≡ node_count kept points
 
--- The configuration continues from the checkpoint that was current when the build began, and its inputs have points. The current one of the files is some phases later, and keeps what is kept of the configuration.
+-- The configuration continues from the checkpoint that was current when the build began, and its inputs have points. The current one of the files is one that the build reaches by phases.
 pub record HasContinued (all : Files) (config : Config) (current : Current) (files : Files) : Type 0 where
   pub goes_on : GoesOn config current
   pub kept : Kept
@@ -85,7 +85,7 @@ pub record HasContinued (all : Files) (config : Config) (current : Current) (fil
   pub has_points : HasPoints all config current kept points
   pub reached : HasReached current kept config.checkpoint (length points) files
 
--- The files are sound, and their current checkpoint is the one that the build began with, or one some phases later.
+-- The files are sound, and their current checkpoint is the one that the build began with, or one that it reaches.
 pub record IsUnderWay (all : Files) (config : Config) (start files : Files) : Type 0 where
   pub sound : IsSound all files
   pub current : Current

@@ -55,6 +55,9 @@ use std::thread::Threads;
 /// done gate is closed meanwhile, and opened once all files of the output are stable. Where the current checkpoint
 /// has all inputs and the gate is open, nothing is put.
 ///
+/// If the tiles of the current checkpoint are of the old layout, the first checkpoint of the build has the same points in
+/// tiles of the new one.
+///
 /// # Errors
 ///
 /// The first cause in the order in which [`BuildError`] tells. At any refusal the store can be opened anew and

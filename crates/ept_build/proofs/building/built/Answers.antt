@@ -1,7 +1,6 @@
 use Rattle.std.proofs.Common.{◌≡◌, ◌≢◌, ◌∙◌, inl, inr, ℕ, ◌+◌, ◌<◌, List, length, take, refl, sym, ap, subst, arith}
 use Rattle.std.specs.Prelude.{Err}
-use Rattle.ept_base.specs.Files.{Files, SameFiles}
-use Rattle.ept_base.specs.Moves.{Moves}
+use Rattle.ept_base.specs.Files.{SameFiles}
 use Rattle.ept_space.specs.VoxelKey.{VoxelKey}
 use Rattle.ept_sample.specs.Nodes.{sampled as sampled-nodes}
 use Rattle.ept_table.specs.Octree.{Branch}
@@ -12,7 +11,6 @@ use Rattle.ept_octree.specs.Octree.{forest_of, nodes_of, most_of}
 use Rattle.ept_config.specs.declared.input.Input.{Input}
 use Rattle.ept_meta.specs.Output.{rules_of}
 use Rattle.ept_save.specs.Current.{HasCurrent}
-use Rattle.ept_save.specs.View.{View}
 use Rattle.ept_save.proofs.Standing.{stepped, told_some}
 use Rattle.ept_save.specs.Opening.{lines_of}
 use Rattle.ept_save.specs.Loading.{HasNoDamage}
@@ -20,7 +18,7 @@ use Rattle.ept_phase.specs.Loaded.{AreIntact}
 use Rattle.ept_plan.specs.Plans.{inserted_by}
 use Rattle.ept_build.specs.declared.error.BuildError.{BuildError}
 use Rattle.ept_build.specs.declared.error.BuildError.TheVariants.{TileDamaged, SourceChanged, SpillDamaged, TooManyNodes}
-use Rattle.ept_build.specs.Building.{IsUnderWay, HasTooManyNodes, IsRefusedAt}
+use Rattle.ept_build.specs.Building.{IsUnderWay, HasTooManyNodes}
 use Rattle.ept_build.specs.Reached.{IsThrough}
 use Rattle.ept_build.specs.Phases.{AreMany}
 use Rattle.ept_build.proofs.Causes.{tells-some}

@@ -5,9 +5,9 @@ use Rattle.ept_octree.specs.Octree.{most_of}
 use Rattle.ept_save.proofs.Standing.{stepped, settled_some, told_some}
 use Rattle.ept_phase.specs.Loaded.{IsFirstDamaged}
 use Rattle.ept_phase.specs.declared.error.PhaseError.{PhaseError}
-use Rattle.ept_build.specs.Errors.{of_phase}
+use Rattle.ept_build.specs.Errors.{of_phase, of_save}
 use Rattle.ept_build.specs.Phases.{IsSoundAt}
-use Rattle.ept_build.proofs.Causes.{phase-damaged, phase-many, phase-spill, phase-damage}
+use Rattle.ept_build.proofs.Causes.{phase-damaged, phase-many, phase-spill, phase-damage, stores-undamaged}
 use Rattle.ept_build.proofs.Judging.{err-one}
 use Rattle.ept_build.proofs.Moved.{moves-then}
 use Rattle.ept_build.proofs.Running.{sound-settled, same-moves, same-all, close-moves, settled-on, tree-loaded}
@@ -71,6 +71,12 @@ returns-in_err-close_done-clause-sound g c = λ all start starts.
     (same-moves c.sound_steps_law.ensures.same c.sound_law.ensures.published c.sound_steps_law.ensures.guarding all c.args.at.now.saved.current g.T.Store.files g.T.Store.may_leave g.T.Store.moment g.T.Store.image_since c.args.store.now c.load_octree.new.store zero c.load_octree.ensures.any_moment)
     (close-moves c.sound_steps_law.ensures.same c.sound_law.ensures.published c.sound_steps_law.ensures.guarding all c.args.at.now.saved.current g.T.Store.files g.T.Store.may_leave g.T.Store.moment g.T.Store.image_since c.load_octree.new.store c.close_done.new.store one at_one.0 at_one.1 alike c.close_done.ensures.stood_shut c.close_done.ensures.guards)
 
+pub returns-in_err-close_done-clause-first_damaged : goal.returns-in_err-close_done-clause-first_damaged
+returns-in_err-close_done-clause-first_damaged g c = λ key start told is.
+    let e = c.in_err-close_done.field-0.0 in
+    let its : c.from_residual-in_err-close_done.result ≡ Err (of_save e) = search rules in
+    absurd (stores-undamaged e key c.in_err-close_done.ensures.only (err-one (sym its ∙ is)))
+
 pub returns-clause-sound : goal.returns-clause-sound
 returns-clause-sound g c = λ all start starts.
     let zero = sound-settled c.sound_steps_law.ensures.same c.sound_law.ensures.published c.sound_steps_law.ensures.guarding all c.args.at.now.saved.current g.T.Store.files g.T.Store.may_leave g.T.Store.moment g.T.Store.image_since c.args.store.now start starts.told starts.settled starts.sound starts.has_current in
@@ -84,6 +90,9 @@ returns-clause-sound g c = λ all start starts.
 pub returns-clause-gate : goal.returns-clause-gate
 returns-clause-gate g c =
     gate-steps (g.T.Store.files c.args.store.now) (g.T.Store.files c.load_octree.new.store) (g.T.Store.files c.close_done.new.store) c.load_octree.ensures.any_moment.reads c.close_done.ensures.gate.reads
+
+pub returns-clause-shut : goal.returns-clause-shut
+returns-clause-shut g c = c.in_ok-close_done.ensures.closed
 
 pub returns-clause-nodes : goal.returns-clause-nodes
 returns-clause-nodes g c =
