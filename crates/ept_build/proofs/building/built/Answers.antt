@@ -35,7 +35,7 @@ use Rattle.ept_build.proofs.UnderWay.{first-moves, grow-moves, end-moves, stoppe
 use Rattle.ept_build.proofs.building.built.Goals as goal
 
 pub grow-requires-clause-same : goal.grow-requires-clause-same
-grow-requires-clause-same g c = λ all.
+grow-requires-clause-same g c lives within = λ all.
     let taken = c.in_default.ensures.taken_up.taken in
     taken-of c.args.plan.now c.args.at.saved.current c.take_up.new.at.saved.current taken (c.requires.plan.same (sym (taken-inputs c.args.at.saved.current c.take_up.new.at.saved.current taken) ∙ all))
 
