@@ -2,7 +2,8 @@
 
 It follows docs/FORMATS.md ("The work files", "The body of a checkpoint"). A folder is a dictionary from names to
 bytes. `current` finds the current checkpoint, `soundness` tells what of a folder can't be, `build_on` tells what a
-build on a sound folder answers and leaves.
+build on a sound folder answers and leaves. A body of version 1 names tiles of the old layout, in which the number of a
+record has four bytes; a build takes such a checkpoint over before its first phase.
 """
 
 import struct
@@ -11,9 +12,9 @@ from collections import defaultdict
 import model
 from model import Refused
 
-NEWEST = 3
-MARKS = {b"EPTW" + struct.pack("<I", version): version for version in (1, 2, NEWEST)}
-MOST_POINTS = {1: 2 ** 32 - 1, 2: 2 ** 40 - 1, NEWEST: 2 ** 40 - 1}
+OLD, NEWEST = 1, 3
+MARKS = {b"EPTW" + struct.pack("<I", version): version for version in (OLD, 2, NEWEST)}
+MOST_POINTS = {OLD: 2 ** 32 - 1, 2: 2 ** 40 - 1, NEWEST: 2 ** 40 - 1}
 SRS_BITS = {"authority": 0, "horizontal": 1, "vertical": 2, "wkt": 3}
 FIELDS = ["scale", "offset", "bounds", "span", "minNodeSize", "maxDepth", "hierarchyStep", "srs", "firstClasses", "withheldLast"]
 LETTERS = "ab"
@@ -111,7 +112,7 @@ def read_body(data):
     lines = [read_node(fields, deepest) for _ in range(fields.number(4))]
     if fields.at != len(data):
         raise Fault("Length")
-    if not 1 <= generation <= inserted + len(counts) + (version > 1):
+    if not 1 <= generation <= inserted + len(counts) + (version > OLD):
         raise Fault("Field", 8)
     if not is_tree(lines, inserted):
         raise Fault("Tree")
@@ -173,26 +174,40 @@ def has_checkpoints(names):
 
 
 def current(files):
-    """The letter and the current checkpoint, or None; a counted body that is none, or has tiles of the old layout, is refused."""
+    """The letter and the current checkpoint, or None; a counted body that is none is refused."""
     found = []
     for letter in LETTERS:
         if files.get("ept-work/gate-" + letter) == b"\1":
             try:
-                checkpoint = read_body(files.get("ept-work/body-" + letter, b""))
+                found.append((read_body(files.get("ept-work/body-" + letter, b"")), letter))
             except Fault:
-                checkpoint = None
-            if checkpoint is None or checkpoint["version"] == 1:
-                raise Refused("error 8 checkpoint " + letter)
-            found.append((checkpoint, letter))
+                raise Refused("error 8 checkpoint " + letter) from None
     if len(found) == 2 and found[0][0]["generation"] == found[1][0]["generation"]:
         raise Refused("error 8 checkpoint b")
     return max(found, key=lambda one: one[0]["generation"])[::-1] if found else None
+
+
+def old_tile(points):
+    """The tile of these points in the old layout: the number of a record in four bytes, the last ones of the point."""
+    return b"".join(model.packed(point)[:-8] + struct.pack("<I", point["id"][1]) for point in points)
+
+
+def widened(data):
+    """The tile in the new layout of the same points as one in the old; None where its length is no multiple of 49."""
+    return None if len(data) % 49 else b"".join(data[at:at + 49] + bytes(4) for at in range(0, len(data), 49))
+
+
+def saved_tile(checkpoint, points):
+    """The tile of these points as a checkpoint of this version has it."""
+    return old_tile(points) if checkpoint["version"] == OLD else b"".join(map(model.packed, points))
 
 
 def tile_points(files, checkpoint, key):
     """The points of the tile that a checkpoint names for a key; a tile that can't be is refused."""
     count, mask, letter = checkpoint["nodes"][key]
     data = files.get(work_tile(letter, key))
+    if data is not None and checkpoint["version"] == OLD:
+        data = widened(data)
     points = model.read_tile(data) if data is not None else None
     if points is None or len(points) != count or not is_grid(points, checkpoint["kept"], key, mask):
         raise Refused("error 8 tile " + model.key_text(key))
@@ -272,7 +287,7 @@ def checkpoint_faults(files, checkpoint, nodes):
     lines = {key: line[:2] for key, line in checkpoint["nodes"].items()}
     faults = [] if lines == lines_of(nodes) else ["its lines are not those of the sampling of %d points" % checkpoint["inserted"]]
     for key, (_, _, letter) in checkpoint["nodes"].items():
-        if key in nodes and files.get(work_tile(letter, key)) != b"".join(map(model.packed, nodes[key])):
+        if key in nodes and files.get(work_tile(letter, key)) != saved_tile(checkpoint, nodes[key]):
             faults.append("%s is not the tile of its node" % work_tile(letter, key))
     return faults
 
@@ -284,6 +299,8 @@ def output_faults(files, checkpoint, points, names):
     wanted = model.output(kept, checkpoint["counts"], kept["bounds"], nodes, cube)
     faults = ["%s is no file of the output" % name for name in sorted(names - set(wanted))]
     if files.get(DONE) == b"\1":
+        if checkpoint["version"] == OLD:
+            faults.append("the done gate is open over tiles of the old layout")
         if checkpoint["inserted"] != len(points):
             faults.append("the done gate is open before all is inserted")
         faults += ["%s is not as it has to be" % name for name, data in wanted.items() if files.get(name) != data]
@@ -338,13 +355,21 @@ def build_on(files, text, shelf):
         sources, bounds = new_points(given["input"], given, shelf, first, before["kept"]["bounds"] if before else given["bounds"])
         counts = (before["counts"] if before else []) + list(map(model.count_of, sources))
         start, total = before["inserted"] if before else 0, sum(points for points, _ in counts)
-        if start == total and len(counts) == first and files.get(DONE) == b"\1":
+        if start == total and len(counts) == first and before["version"] != OLD and files.get(DONE) == b"\1":
             return "points %d nodes %d" % (total, len(before["nodes"])), 0, None
         kept = dict(given, bounds=bounds)
         points = (loaded(files, before, kept["maxNodes"]) if before else []) + left_points(kept, before, sources, shelf)
     except Refused as refused:
         return refused.line, refused.status, None
-    return phases(kept, counts, points, every, start, before, len(counts) > first)
+    return phases(kept, counts, points, every, start, taken_over(before), len(counts) > first)
+
+
+def taken_over(before):
+    """The checkpoint from which the phases go on: the next one of the same points, if this one's tiles are of the old layout."""
+    if before is None or before["version"] != OLD:
+        return before
+    turned = {key: (count, mask, 1 - letter) for key, (count, mask, letter) in before["nodes"].items()}
+    return before | {"version": NEWEST, "generation": before["generation"] + 1, "nodes": turned}
 
 
 def left_points(kept, before, sources, shelf):
@@ -368,7 +393,7 @@ def phases(kept, counts, points, every, start, before, is_new):
         if len(nodes) > kept["maxNodes"]:
             return "error 5 nodes", 5, {"checkpoint": left, "output": None, "done": False}
         generation += 1
-        left = {"generation": generation, "kept": kept, "counts": counts, "inserted": at, "nodes": lines_of(nodes)}
+        left = {"version": NEWEST, "generation": generation, "kept": kept, "counts": counts, "inserted": at, "nodes": lines_of(nodes)}
     return "points %d nodes %d" % (total, len(nodes)), 0, {
         "checkpoint": left, "output": model.output(kept, counts, kept["bounds"], nodes, cube), "done": True}
 
@@ -377,6 +402,6 @@ def same_checkpoint(one, other):
     """Whether two checkpoints say the same, but for the letters of their tiles."""
     if one is None or other is None:
         return one is other
-    plain = lambda c: (c["generation"], model.build_text(c["kept"], c["kept"]["bounds"]), c["counts"], c["inserted"],
+    plain = lambda c: (c["version"], c["generation"], model.build_text(c["kept"], c["kept"]["bounds"]), c["counts"], c["inserted"],
                        {key: tuple(line[:2]) for key, line in c["nodes"].items()})
     return plain(one) == plain(other)
