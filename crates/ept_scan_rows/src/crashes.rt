@@ -11,20 +11,23 @@ use crate::files::store_of;
 use crate::numbers::count;
 use crate::points::points_of;
 use crate::row::Row;
+use crate::saves::is_old;
 use crate::stop::{Answered, Stop};
 use ept_ckpt::{Checkpoint, NodeLine};
 use ept_mem::{Crash, MemStore};
 use ept_point::Point;
 use ept_save::{
-    SaveError, Saved, begin, close_done, commit, is_done, load_tile, open, open_done, save_tile,
+    SaveError, Saved, begin, close_done, commit, is_done, load_tile, migrate, open, open_done,
+    save_tile,
 };
 use ept_space::Key;
 use std::alloc::Global;
 
 /// `crash PASSES | STORE | OLD | NEW`: the next checkpoint is committed over a store that passes PASSES calls, with
-/// the points NEW in its root, between closing and opening the done gate. It reports the result, and then for
-/// each kind of crash the generation of the checkpoint that is opened, whether its root has the points OLD or NEW,
-/// and whether the output is done.
+/// the points NEW in its root, between closing and opening the done gate. A checkpoint with tiles of the old layout is
+/// only taken over, after the done gate is closed. It reports the result, and then for each kind of crash the
+/// generation of the checkpoint that is opened, whether its root has the points OLD or NEW, and whether the output is
+/// done.
 pub(crate) fn crash(row: Row<'_>, out: &mut String) -> Answered {
     let passes = count(row.part(0)?)?;
     let old = points_of(row, row.part(2)?)?;
@@ -59,11 +62,14 @@ fn show_end(ended: Result<(), SaveError>, out: &mut String) -> Answered {
     }
 }
 
-// Each call, in the order of a build.
+// Each call, in the order of a build. If the tiles are of the old layout, they are taken over, and no more.
 fn every_call(alloc: Global, store: &mut MemStore, points: &[Point]) -> Result<(), SaveError> {
     let mut saved = open(alloc, store)?;
     is_done(alloc, store)?;
     close_done(alloc, store)?;
+    if is_old(&saved) {
+        return migrate(alloc, store, &mut saved);
+    }
     commit_root(alloc, store, &mut saved, points)?;
     open_done(store)
 }

@@ -84,6 +84,7 @@ fn answer(row: Row<'_>, call: &str, out: &mut String) -> Answered {
         "open" => saves::open_store(row, out),
         "load" => saves::load(row, out),
         "save" => saves::save(row, out),
+        "migrate" => saves::take_over(row, out),
         "done" => saves::done(row, out),
         "crash" => crashes::crash(row, out),
         "phase-load" => phases::load(row, out),

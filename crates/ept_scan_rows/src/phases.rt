@@ -14,6 +14,7 @@ ghost use Rattle.ept_save.specs.Tiles.{IsOfLayout};
 
 use crate::files::{compare_files, room_of, store_of};
 use crate::row::Row;
+use crate::saves::is_old;
 use crate::stop::{Answered, Stop};
 use ept_base::SpillFile;
 use ept_ckpt::NodeLine;
@@ -99,7 +100,7 @@ fn save_over(row: Row<'_>, store: &mut MemStore, out: &mut String) -> Answered {
 }
 
 // What comes of it, and how many nodes are in memory then; none where a store has no checkpoint that can be opened, or
-// memory ran out.
+// one with tiles of the old layout to save over, or memory ran out.
 fn save_next(
     alloc: Global,
     store: &mut MemStore,
@@ -109,7 +110,7 @@ fn save_next(
 ) -> Option<(Result<bool, PhaseError>, u64)> {
     let mut saved = open(alloc, store).ok()?;
     let next = open(alloc, later).ok()?;
-    if cache == 0 {
+    if cache == 0 || is_old(&saved) {
         return None;
     }
     let mut octree = Octree::new(alloc, room, 2, cache, &rules_for(&next)).ok()?;

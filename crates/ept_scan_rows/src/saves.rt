@@ -1,17 +1,20 @@
 //! Checkpoints of stores.
 
-ghost use Rattle.std.specs.Prelude.{◌≢◌, None};
+ghost use Rattle.std.specs.Prelude.{◌≡◌, ◌≢◌, ◌↔◌, None, IsTrue};
 ghost use Rattle.ept_space.specs.VoxelKey.{root};
 ghost use Rattle.ept_point.specs.declared.layout.Layout.TheVariants.{Old};
 ghost use Rattle.ept_save.specs.Loading.{HasLine};
+ghost use Rattle.ept_save.specs.Opening.{lines_of};
 ghost use Rattle.ept_save.specs.Tiles.{IsOfLayout};
 
-use crate::files::store_of;
+use crate::files::{compare_files, store_of};
 use crate::row::Row;
-use crate::stop::Answered;
+use crate::stop::{Answered, Stop};
 use ept_mem::MemStore;
+use ept_point::Layout;
 use ept_save::{
-    SaveError, Saved, begin, close_done, is_done, load_node, load_tile, open, open_done, save_tile,
+    SaveError, Saved, begin, close_done, is_done, load_node, load_tile, migrate, open, open_done,
+    save_tile,
 };
 use ept_space::Key;
 use std::alloc::Global;
@@ -60,8 +63,18 @@ fn load_root(alloc: Global, store: &mut MemStore, saved: &Saved, out: &mut Strin
     }
 }
 
+/// Whether the tiles of the current checkpoint are of the old layout.
+pub(crate) fn is_old(saved: &Saved) -> bool
+    ensures { IsTrue result ↔ IsOfLayout Old saved.now.current }
+{
+    match saved.current() {
+        Some(checkpoint) => checkpoint.version.layout() == Layout::Old,
+        None => false,
+    }
+}
+
 /// `save STORE`: begins the next checkpoint and saves an empty root; then which versions of its tile there are, and
-/// the generation that is current.
+/// the generation that is current. Its tiles may not be of the old layout.
 pub(crate) fn save(row: Row<'_>, out: &mut String) -> Answered {
     let mut store = store_of(row, row.rest)?;
     match open(row.alloc, &mut store) {
@@ -70,9 +83,15 @@ pub(crate) fn save(row: Row<'_>, out: &mut String) -> Answered {
     }
 }
 
-fn save_root(alloc: Global, store: &mut MemStore, saved: &mut Saved, out: &mut String) -> Answered
-    requires { ¬ IsOfLayout Old saved.old.current }
-{
+fn save_root(
+    alloc: Global,
+    store: &mut MemStore,
+    saved: &mut Saved,
+    out: &mut String,
+) -> Answered {
+    if is_old(saved) {
+        return Err(Stop::BadLine);
+    }
     if let Err(refusal) = save_empty(alloc, store, saved) {
         return refuse(refusal, out);
     }
@@ -94,6 +113,41 @@ fn show_length(store: &MemStore, name: &str, out: &mut String) -> Answered {
         Some(bytes) => Ok(write!(out, "{name} {} ", bytes.len())?),
         None => Ok(write!(out, "{name} absent ")?),
     }
+}
+
+/// `migrate STORE | FILES`: takes over the current checkpoint, whose tiles have to be of the old layout. It reports the
+/// result, the version and the generation of the one that is current then, and whether the store has these files.
+pub(crate) fn take_over(row: Row<'_>, out: &mut String) -> Answered {
+    let mut store = store_of(row, row.part(0)?)?;
+    match open(row.alloc, &mut store) {
+        Ok(mut saved) => migrate_saved(row.alloc, &mut store, &mut saved, out)?,
+        Err(refusal) => refuse(refusal, out)?,
+    }
+    compare_files(row, &store, row.part(1)?, out)
+}
+
+fn migrate_saved(
+    alloc: Global,
+    store: &mut MemStore,
+    saved: &mut Saved,
+    out: &mut String,
+) -> Answered
+    requires { saved.old.lines ≡ lines_of saved.old.current }
+{
+    if !is_old(saved) {
+        return Err(Stop::BadLine);
+    }
+    match migrate(alloc, store, saved) {
+        Ok(()) => show_version(saved, out),
+        Err(refusal) => refuse(refusal, out),
+    }
+}
+
+fn show_version(saved: &Saved, out: &mut String) -> Answered {
+    if let Some(checkpoint) = saved.current() {
+        write!(out, "{:?}, ", checkpoint.version)?;
+    }
+    show_generation(saved, out)
 }
 
 /// `done STORE`: whether the output is done, first, after the gate is closed, after it is opened and after it is
