@@ -54,6 +54,8 @@ pub(crate) struct Left {
 pub(crate) struct Bench {
     pub(crate) alloc: Global,
     pub(crate) files: Vec<(String, Vec<u8>)>,
+    /// What a new store has beside the file `other`.
+    pub(crate) base: Vec<(String, Vec<u8>)>,
     pub(crate) store: MemStore,
     pub(crate) kept: MemStore,
     pub(crate) before: MemStore,
@@ -68,6 +70,7 @@ impl Bench {
         Bench {
             alloc,
             files: Vec::new(alloc),
+            base: Vec::new(alloc),
             store: empty_store(alloc),
             kept: empty_store(alloc),
             before: empty_store(alloc),
@@ -81,6 +84,11 @@ impl Bench {
                 keeps: 0,
             },
         }
+    }
+
+    /// A new store, whose call of this number fails.
+    pub(crate) fn new_store(&self, failing: Option<u64>) -> Result<MemStore, AllocError> {
+        store_with(self.alloc, &self.base, failing)
     }
 
     /// Puts another store in the place of the present one, and returns that.
@@ -143,13 +151,17 @@ impl Bench {
     }
 }
 
-/// A store with one file, `other`, which no build touches.
-pub(crate) fn store_with_other(
+// A store with these files and one more, `other`, which no build touches.
+fn store_with(
     alloc: Global,
+    base: &[(String, Vec<u8>)],
     failing: Option<u64>,
 ) -> Result<MemStore, AllocError> {
     let mut files = Vec::new(alloc);
     files.push(file(alloc, "other", b"kept")?)?;
+    for (name, bytes) in base {
+        files.push(file(alloc, name.as_str(), bytes)?)?;
+    }
     Ok(MemStore::new(alloc, files, calls(alloc, failing)?))
 }
 

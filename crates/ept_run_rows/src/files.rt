@@ -1,6 +1,7 @@
 //! Lines that make the files of the shelf.
 
-use crate::bench::{Bench, Faults, file, store_with_other};
+use crate::bench::{Bench, Faults, file};
+use crate::stores::renew;
 use crate::words::{Miss, first_word, number, size};
 use std::alloc::Global;
 
@@ -27,12 +28,12 @@ pub(crate) fn change(bench: &mut Bench, call: &str, rest: &str) -> Result<(), Mi
     }
 }
 
-// `new`: no file is on the shelf, the store has the file `other` alone, and nothing fails.
+// `new`: no file is on the shelf, a store has the file `other` alone, and nothing fails.
 fn begin(bench: &mut Bench) -> Result<(), Miss> {
     bench.files.clear();
+    bench.base.clear();
     bench.faults = Faults::NONE;
-    bench.replace_store(store_with_other(bench.alloc, None)?);
-    Ok(())
+    renew(bench)
 }
 
 // Puts a file on the shelf, in place of one of its name.

@@ -63,6 +63,7 @@ fn answer<R: Threads + Wait + Sync>(
         | "sink"
         | "store"
         | "keep"
+        | "base"
         | "put"
         | "damage"
         | "remove"

@@ -1,6 +1,6 @@
 //! Lines that stop a build at each call of a device in turn, or spoil a file that it left, and run it again.
 
-use crate::bench::{Bench, store_with_other};
+use crate::bench::Bench;
 use crate::looks::{current, is_as_before, is_same, is_same_output};
 use crate::runs::append_end;
 use crate::stores::{crash, fail_at, fuse, renew, spoil};
@@ -173,7 +173,7 @@ fn spoils<R: Threads + Wait + Sync>(
     out: &mut String,
 ) -> Result<(), Miss> {
     build_and_spoil(rt, bench, how, name)?;
-    let fresh = store_with_other(bench.alloc, None)?;
+    let fresh = bench.new_store(None)?;
     bench.before = bench.replace_store(fresh);
     build_and_spoil(rt, bench, how, name)?;
     bench.carry_out(rt, MORE)?;

@@ -1,6 +1,6 @@
 //! Lines that say which calls fail, and that change the store.
 
-use crate::bench::{Bench, Faults, store_with_other};
+use crate::bench::{Bench, Faults, file};
 use crate::words::{Miss, first_word, number, size};
 use ept_base::{PutError, Store};
 use ept_mem::Crash;
@@ -20,6 +20,7 @@ pub(crate) fn change(bench: &mut Bench, call: &str, rest: &str) -> Result<(), Mi
         }
         "store" => renew(bench),
         "keep" => keep(bench),
+        "base" => base(bench),
         "put" => put(bench, name, text),
         "damage" => damage(bench, name),
         "remove" => spoil(bench, "remove", name),
@@ -52,7 +53,8 @@ pub(crate) fn fail_at(bench: &mut Bench, device: &str, call: u64) -> Result<(), 
         "spill" => bench.faults.spill = call,
         "write" => bench.faults.write = call,
         "store" => {
-            bench.replace_store(store_with_other(bench.alloc, call)?);
+            let fresh = bench.new_store(call)?;
+            bench.replace_store(fresh);
         }
         _ => return Err(Miss::Form),
     }
@@ -61,15 +63,27 @@ pub(crate) fn fail_at(bench: &mut Bench, device: &str, call: u64) -> Result<(), 
 
 /// `store`: begins with a new store.
 pub(crate) fn renew(bench: &mut Bench) -> Result<(), Miss> {
-    let fresh = store_with_other(bench.alloc, None)?;
+    let fresh = bench.new_store(None)?;
     bench.replace_store(fresh);
     Ok(())
 }
 
 // `keep`: keeps the store to compare with, and begins with a new one.
 fn keep(bench: &mut Bench) -> Result<(), Miss> {
-    let fresh = store_with_other(bench.alloc, None)?;
+    let fresh = bench.new_store(None)?;
     bench.kept = bench.replace_store(fresh);
+    Ok(())
+}
+
+// `base`: from now on a new store has the files that are to be compared, as the store has them now.
+fn base(bench: &mut Bench) -> Result<(), Miss> {
+    let mut files = Vec::new(bench.alloc);
+    for name in &bench.names {
+        if let Some(bytes) = bench.store.file(name.as_str()) {
+            files.push(file(bench.alloc, name.as_str(), bytes)?)?;
+        }
+    }
+    bench.base = files;
     Ok(())
 }
 
@@ -134,7 +148,7 @@ fn of_put(error: PutError) -> Miss {
 
 /// `fuse CALLS`: the store passes so many calls, and fails each one after them.
 pub(crate) fn fuse(bench: &mut Bench, calls: u64) -> Result<(), Miss> {
-    let fresh = store_with_other(bench.alloc, None)?;
+    let fresh = bench.new_store(None)?;
     let store = bench.replace_store(fresh);
     bench.store = store.with_fuse(calls);
     Ok(())
@@ -142,7 +156,7 @@ pub(crate) fn fuse(bench: &mut Bench, calls: u64) -> Result<(), Miss> {
 
 // `wear CALLS`: the store as it is passes so many calls more, and fails each one after them.
 fn wear(bench: &mut Bench, calls: u64) -> Result<(), Miss> {
-    let fresh = store_with_other(bench.alloc, None)?;
+    let fresh = bench.new_store(None)?;
     let store = bench.replace_store(fresh);
     bench.store = store.with_fuse(calls);
     Ok(())
@@ -150,7 +164,7 @@ fn wear(bench: &mut Bench, calls: u64) -> Result<(), Miss> {
 
 /// `crash HOW`: what is left of the store, and of what was put since the last flush the old, the new, nothing or junk.
 pub(crate) fn crash(bench: &mut Bench, how: Crash) -> Result<(), Miss> {
-    let fresh = store_with_other(bench.alloc, None)?;
+    let fresh = bench.new_store(None)?;
     let store = bench.replace_store(fresh);
     bench.store = store.crash(how);
     Ok(())
