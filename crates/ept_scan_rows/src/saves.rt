@@ -83,12 +83,7 @@ pub(crate) fn save(row: Row<'_>, out: &mut String) -> Answered {
     }
 }
 
-fn save_root(
-    alloc: Global,
-    store: &mut MemStore,
-    saved: &mut Saved,
-    out: &mut String,
-) -> Answered {
+fn save_root(alloc: Global, store: &mut MemStore, saved: &mut Saved, out: &mut String) -> Answered {
     if is_old(saved) {
         return Err(Stop::BadLine);
     }
