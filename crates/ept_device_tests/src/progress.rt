@@ -109,7 +109,10 @@ fn each_file_has_its_role(rt: HostRuntime) -> Result<(), Fail> {
 
 // The files that a check reads first, and what is told of each where a line is due at once.
 static CHECKED: [(&str, &str); 3] = [
-    ("out/ept-work/done-2", "test: checking, 0 MB; files read 1\n"),
+    (
+        "out/ept-work/done-2",
+        "test: checking, 0 MB; files read 1\n",
+    ),
     ("out/ept-build.json", "test: checking, 0 MB; files read 2\n"),
     (
         "out/ept-data/0-0-0-0.bin",

@@ -17,7 +17,8 @@ pub(crate) fn range_of(key: ConfigKey) -> &'static str {
         ConfigKey::MinNodeSize => "a whole number from 0 to 2147483648",
         ConfigKey::MaxDepth | ConfigKey::HierarchyStep => "a whole number from 0 to 32",
         ConfigKey::Srs => "an object of texts, each of at most 65536 bytes",
-        ConfigKey::FirstClasses => "a list of classes, each a whole number from 0 to 255, none twice",
+        ConfigKey::FirstClasses =>
+            "a list of classes, each a whole number from 0 to 255, none twice",
         ConfigKey::WithheldLast => "`true` or `false`",
         ConfigKey::Threads => "a whole number from 1 to 64",
         ConfigKey::CacheSize | ConfigKey::MaxNodes => "a whole number from 1 to 1048576",

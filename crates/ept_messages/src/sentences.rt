@@ -68,7 +68,10 @@ pub(crate) fn write_refusal(
         Refusal::OutOfBounds { number, .. } => write_bounds(text, number, names),
         Refusal::NoBounds => write!(text, "{config} has no `bounds`, and no input has a point"),
         Refusal::SourceChanged { number, .. } => write_changed(text, number, input),
-        Refusal::TooManyPoints { .. } => write!(text, "{input} states more than {MAX_POINTS} points"),
+        Refusal::TooManyPoints { .. } => write!(
+            text,
+            "{input} states more than {MAX_POINTS} points"
+        ),
         Refusal::TooManyNodes => {
             write!(
                 text,

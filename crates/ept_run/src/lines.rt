@@ -192,7 +192,7 @@ fn append_end(line: &mut Vec<u8>, fault: LasError) -> Result<(), AllocError>
     ensures { OnOk result (line.new.items ≡ line.old.items ++ number_text fault) }
 {
     match fault {
-        LasError::Truncated { number } => append_number(line, b" number ", u64::from(number)),
+        LasError::Truncated { number } => append_number(line, b" number ", number),
         _ => Ok(()),
     }
 }
@@ -216,7 +216,7 @@ fn append_record(
     ensures { OnOk result (line.new.items ≡ line.old.items ++ word.now ++ record_text source number) }
 {
     append_input(line, word, source)?;
-    append_number(line, b" number ", u64::from(number))?;
+    append_number(line, b" number ", number)?;
     Ok(())
 }
 

@@ -13,7 +13,7 @@ fn make_folder(rt: &HostRuntime) -> Result<(), Fail> {
     fs::create_dir_all(rt, "out/tests/served/ept-data")?;
     fs::write(rt, "out/tests/served/ept-work/done-2", [1])?;
     fs::write(rt, "out/tests/served/ept.json", "{}")?;
-    fs::write(rt, "out/tests/served/ept-data/0-0-0-0.bin", [7; 49])?;
+    fs::write(rt, "out/tests/served/ept-data/0-0-0-0.bin", [7; 53])?;
     Ok(())
 }
 
@@ -57,7 +57,7 @@ const FIRST_ANSWER: &[u8] =
 const SECOND: &[u8] = b"GET /ept-data/0-0-0-0.bin HTTP/1.1\r\nHost: a\r\nConnection: close\r\n\r\n";
 
 const SECOND_ANSWER: &[u8] =
-    b"HTTP/1.1 200 OK\r\nContent-Type: application/octet-stream\r\nConnection: close\r\nContent-Length: 49\r\n\r\n\x07\x07\x07\x07\x07\x07\x07\x07\x07\x07\x07\x07\x07\x07\x07\x07\x07\x07\x07\x07\x07\x07\x07\x07\x07\x07\x07\x07\x07\x07\x07\x07\x07\x07\x07\x07\x07\x07\x07\x07\x07\x07\x07\x07\x07\x07\x07\x07\x07";
+    b"HTTP/1.1 200 OK\r\nContent-Type: application/octet-stream\r\nConnection: close\r\nContent-Length: 53\r\n\r\n\x07\x07\x07\x07\x07\x07\x07\x07\x07\x07\x07\x07\x07\x07\x07\x07\x07\x07\x07\x07\x07\x07\x07\x07\x07\x07\x07\x07\x07\x07\x07\x07\x07\x07\x07\x07\x07\x07\x07\x07\x07\x07\x07\x07\x07\x07\x07\x07\x07\x07\x07\x07\x07";
 
 #[test]
 fn two_connections_over_the_loopback_are_answered(rt: HostRuntime) -> Result<(), Fail> {

@@ -9,7 +9,7 @@ use ept_meet::MeetGate;
 use ept_mem::{MemRoom, MemSource, MemSpill};
 use ept_node::{Node, NodeError, NodeState};
 use ept_num::lcg;
-use ept_point::{Memory, Point};
+use ept_point::{Memory, Point, PointNumber};
 use ept_sample::{Tiles, are_in_cube, ids_ascend, sample};
 use ept_space::{Key, Rules};
 use ept_table_fixtures::{Known, read_known, shelf_of};
@@ -156,7 +156,7 @@ fn build<G: Gate + Sync, R: Threads + Wait + Sync>(
 }
 
 // Whether the node of a key stands there, with the points of these numbers.
-fn stands(built: &Built, key: Key, numbers: &[u32]) -> bool {
+fn stands(built: &Built, key: Key, numbers: &[PointNumber]) -> bool {
     built.standing.iter().any(|node| {
         node.key == key
             && node.points.len() == numbers.len()
