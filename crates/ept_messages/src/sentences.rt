@@ -302,7 +302,10 @@ pub(crate) fn write_query(
     out: &str,
 ) -> Result<(), AllocError> {
     match error {
-        QueryError::NotComplete => write!(text, "{out} has no complete dataset"),
+        QueryError::NotComplete => write!(
+            text,
+            "{out} has no complete dataset: run its build, which also takes over a folder of an earlier version"
+        ),
         QueryError::StoreFault => write!(text, "a file of {out} could not be read"),
         QueryError::Damaged { file } => {
             write_file(text, file)?;
