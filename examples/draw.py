@@ -2,6 +2,7 @@
 """Draws a small Entwine Point Tile folder as an SVG: which points stand at which depth.
 
 Usage: examples/draw.py OUT PICTURE.svg
+       examples/draw.py OUT PICTURE.svg --classes LAST      the depths up to LAST, each point in the colour of its class
 
 It reads `ept.json`, the hierarchy files from the root's on and the tiles themselves, and knows nothing else
 of how the folder was made. A panel shows the points of one depth, seen from above one corner.
@@ -17,10 +18,12 @@ PANEL = 260
 MOST = 1500  # points of a depth that are drawn
 MARGIN = 24
 COLOURS = ["#1b6ca8", "#d1495b", "#edae49", "#66a182", "#8d6cab"]
+CLASSES = {2: ("ground", "#b07d3c"), 5: ("vegetation", "#1f9d3a"), 6: ("building", "#c0392b"), 9: ("water", "#1b6ca8")}
+OTHER = ("other", "#777777")
 
 
 def point_format(schema):
-    """The struct format of a packed point, and the index of X, Y and Z in it."""
+    """The struct format of a packed point, and the index of X, Y, Z and the class in it."""
     letters = {
         ("signed", 1): "b", ("signed", 2): "h", ("signed", 4): "i",
         ("unsigned", 1): "B", ("unsigned", 2): "H", ("unsigned", 4): "I", ("unsigned", 8): "Q",
@@ -28,7 +31,7 @@ def point_format(schema):
     }
     names = [d["name"] for d in schema]
     text = "<" + "".join(letters[d["type"], d["size"]] for d in schema)
-    return struct.Struct(text), [names.index(n) for n in "XYZ"]
+    return struct.Struct(text), [names.index(n) for n in ("X", "Y", "Z", "Classification")]
 
 
 def read_hierarchy(folder, key="0-0-0-0"):
@@ -41,7 +44,7 @@ def read_hierarchy(folder, key="0-0-0-0"):
 
 
 def read_points(folder):
-    """The points of each depth, as native coordinates."""
+    """The points of each depth, as native coordinates and a class."""
     ept = json.loads((folder / "ept.json").read_text())
     form, places = point_format(ept["schema"])
     scales = [ept["schema"][i]["scale"] for i in range(3)]
@@ -50,7 +53,7 @@ def read_points(folder):
     for key, count in read_hierarchy(folder):
         tile = (folder / "ept-data" / (key + ".bin")).read_bytes()
         points = [
-            [p[i] * s + o for i, s, o in zip(places, scales, offsets)] for p in form.iter_unpack(tile)
+            [p[i] * s + o for i, s, o in zip(places, scales, offsets)] + [p[places[3]]] for p in form.iter_unpack(tile)
         ]
         assert len(points) == count, f"{key}: {len(points)} points, {count} in the hierarchy"
         depths.setdefault(int(key.split("-")[0]), []).append((key, points))
@@ -75,7 +78,13 @@ def edges(low, side):
                 yield project(corner(i), low, side), project(corner(i | 1 << a), low, side)
 
 
-def panel(depth, nodes, low, side, left):
+def shares(points):
+    """How many points there are of each class, in words."""
+    names = [CLASSES.get(point[3], OTHER)[0] for point in points]
+    return ", ".join(f"{names.count(name)} {name}" for name, _ in [*CLASSES.values(), OTHER] if name in names)
+
+
+def panel(depth, nodes, low, side, left, by_class):
     """The drawing of one depth."""
     colour = COLOURS[depth % len(COLOURS)]
     total = sum(len(points) for _, points in nodes)
@@ -87,15 +96,19 @@ def panel(depth, nodes, low, side, left):
     for _, points in nodes:
         for point in sorted(points[::step], key=lambda p: (p[0] + p[1], p[2])):
             x, y = project(point, low, side)
-            yield f'<circle cx="{x:.1f}" cy="{y:.1f}" r="{radius}" fill="{colour}" fill-opacity="0.75"/>'
+            fill = CLASSES.get(point[3], OTHER)[1] if by_class else colour
+            yield f'<circle cx="{x:.1f}" cy="{y:.1f}" r="{radius}" fill="{fill}" fill-opacity="0.75"/>'
     label = f"depth {depth}: {len(nodes)} node{'s' * (len(nodes) != 1)}, {total} points"
+    if by_class:
+        label = f"depth {depth}: " + shares([point for _, points in nodes for point in points])
     yield f'<text x="{PANEL / 2}" y="{PANEL + 16}" text-anchor="middle">{label}</text>'
     yield "</g>"
 
 
-def draw(folder):
-    """The whole picture."""
+def draw(folder, last):
+    """The picture of all depths, or of the classes of those up to the last one."""
     ept, depths = read_points(folder)
+    depths = {depth: nodes for depth, nodes in depths.items() if last is None or depth <= last}
     low, side = ept["bounds"][:3], ept["bounds"][3] - ept["bounds"][0]
     width = MARGIN + len(depths) * (PANEL + MARGIN)
     height = PANEL + 2 * MARGIN + 8
@@ -105,14 +118,15 @@ def draw(folder):
     )
     yield f'<rect width="{width}" height="{height}" fill="white"/>'
     for i, depth in enumerate(sorted(depths)):
-        yield from panel(depth, depths[depth], low, side, MARGIN + i * (PANEL + MARGIN))
+        yield from panel(depth, depths[depth], low, side, MARGIN + i * (PANEL + MARGIN), last is not None)
     yield "</svg>"
 
 
 def main():
-    if len(sys.argv) != 3:
+    if len(sys.argv) not in (3, 5) or sys.argv[3:4] not in ([], ["--classes"]):
         sys.exit(__doc__)
-    Path(sys.argv[2]).write_text("\n".join(draw(Path(sys.argv[1]))) + "\n")
+    last = int(sys.argv[4]) if len(sys.argv) == 5 else None
+    Path(sys.argv[2]).write_text("\n".join(draw(Path(sys.argv[1]), last)) + "\n")
 
 
 if __name__ == "__main__":
