@@ -24,7 +24,7 @@ use Rattle.ept_table.specs.declared.taken.Taken.TheVariants as taken
 use Rattle.ept_table.specs.At.{At}
 use Rattle.ept_table.specs.Item.{counted, IsFiledNode}
 use Rattle.ept_node.specs.declared.node.Node.{Node}
-use Rattle.ept_node.specs.declared.error.NodeError.TheVariants.{SpillDamaged}
+use Rattle.ept_node.specs.declared.error.NodeError.TheVariants.{SpillDamaged, Memory}
 use Rattle.ept_node.specs.Shown.{file_of, fault_of, AgreesWithFile, DoesTell}
 use Rattle.ept_table.specs.Scanned.{told_of}
 use Rattle.ept_table.specs.Shown.{LiesInInput}
@@ -129,6 +129,7 @@ module _ {F S : Type 0} (held : F → Option (List ℕ)) (node_faults keeps : F 
     is_whole = is_whole;
     is_linked = is_linked;
     nodes = each_filed (forest.nodes_of (forest_of octree)) agrees unbroken (λ yes. (telling held whole octree reader yes).0.1.telling);
+    unbroken = unbroken;
     filed = record {
       reader = is;
       rest = λ yes none. (
@@ -151,6 +152,7 @@ module _ {F S : Type 0} (held : F → Option (List ℕ)) (node_faults keeps : F 
       filed_of n agree none tell = record {
         agrees = agree;
         telling = tell;
+        not_memory = λ broken. (let e : None ≡ Some Memory = sym none ∙ broken in cc);
         undamaged = λ yes kept found at broken. (let e : None ≡ Some (SpillDamaged kept found at) = sym none ∙ broken in cc);
       }
 

@@ -31,6 +31,7 @@ module _ {F S : Type 0} (told : Told) (held : F → Option (List ℕ)) (node_fau
     pub is_whole : IsWhole held octree
     pub is_linked : IsLinked held octree
     pub nodes : All (IsFiledNode held node_faults keeps told) (forest.nodes_of (forest_of octree))
+    pub unbroken : IsUnbroken octree
     pub filed : IsFiled whole left given faults told reader
     pub fits : FitsReader told (seen_reader whole reader)
     pub sound : refusal_of reader ≡ None
@@ -64,3 +65,4 @@ pub record IsRefused {F S : Type 0} (told : Told) (node_faults : F → ℕ) (fau
   pub spill : error ≡ SpillFault → Any (λ (n : Node F). (fault_of n ≡ Some node.SpillFault) × (0 < node_faults (file_of n))) (forest.nodes_of nodes)
   pub damaged : (was found at : ℕ) → error ≡ SpillDamaged was found at → Any (λ (n : Node F). fault_of n ≡ Some (node.SpillDamaged was found at)) (forest.nodes_of nodes)
   pub no_damage : told.tells ≡ true → (was found at : ℕ) → error ≡ SpillDamaged was found at → ⊥
+  pub none_broken : (error ≡ SpillFault → ⊥) → ((was found at : ℕ) → error ≡ SpillDamaged was found at → ⊥) → All (λ (n : Node F). fault_of n ≡ None) (forest.nodes_of nodes)

@@ -1,7 +1,7 @@
 //! The next records, brought into the octree.
 
-ghost use Rattle.std.specs.Prelude.{◌≡◌, ◌≤◌, ◌<◌, ◌+◌, ◌++◌, ℕ, List, Some, None, IfOk, IfErr, length, take, drop, map};
-ghost use Rattle.std.specs.List.{Any};
+ghost use Rattle.std.specs.Prelude.{◌≡◌, ◌≢◌, ◌≤◌, ◌<◌, ◌+◌, ◌++◌, ℕ, List, Some, None, IfOk, IfErr, length, take, drop, map};
+ghost use Rattle.std.specs.List.{All, Any};
 ghost use Rattle.ept_point.specs.declared.point.Point.{Point};
 ghost use Rattle.ept_space.specs.OctreeCube.{InCube};
 ghost use Rattle.ept_sample.specs.Place.{place};
@@ -103,7 +103,8 @@ pub fn insert<
         → InCube (rules_of octree).cube (place p)) }
     ensures reader { IfOk result (λ r. IsReader S.whole S.left S.given S.faults r.1) }
 
-    // Whose refusal it is: that of the reader, or of a node that is broken by it, whose file has failed at `SpillFault`.
+    // Whose refusal it is: that of the reader, or of a node that is broken by it, whose file has failed at `SpillFault`. Unless a
+    // broken node refuses, no node is broken.
     ensures fault { IfErr result (λ r. r.error ≡ InsertError.SourceFault → HasFault S.faults r.reader) }
     ensures changed { IfErr result (λ r. (source number : ℕ) → r.error ≡ InsertError.SourceChanged source number
         → refusal_of r.reader ≡ Some (read.SourceChanged source number)) }
@@ -111,6 +112,9 @@ pub fn insert<
         → Any (λ n. (fault_of n ≡ Some node.SpillFault) × (0 < F.faults (file_of n))) (trees.nodes_of r.forest)) }
     ensures damaged { IfErr result (λ r. (was found at : ℕ) → r.error ≡ InsertError.SpillDamaged was found at
         → Any (λ n. fault_of n ≡ Some (node.SpillDamaged was found at)) (trees.nodes_of r.forest)) }
+    ensures none_broken { IfErr result (λ r. r.error ≢ InsertError.SpillFault
+        → ((was found at : ℕ) → r.error ≢ InsertError.SpillDamaged was found at)
+        → All (λ n. fault_of n ≡ None) (trees.nodes_of r.forest)) }
 {
     reader.allow(count);
     insert_told::<F, S, Brand, G, R>(rt, alloc, octree, reader, workers, gate)

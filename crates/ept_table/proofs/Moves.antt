@@ -1,17 +1,19 @@
 -- Steps that leave what lies in the slots.
-use Rattle.std.proofs.Common.{◌≡◌, ℕ, ◌<◌, ◌==◌, true, inl, inr, List, [], set, refl, subst, arith, None}
+use Rattle.std.proofs.Common.{◌≡◌, ℕ, ◌<◌, ◌==◌, true, inl, inr, List, [], set, refl, sym, subst, arith, Option, Some, None}
 use Rattle.std.proofs.lemmas.Bool.{eqb-true}
 use Rattle.std.proofs.lemmas.List.Sorted.{IsPermutation-refl}
 use Rattle.ept_sample.specs.Members.{IsMember}
 use Rattle.ept_sample.proofs.Members.{member-any}
 use Rattle.ept_sample.proofs.Choices.{or_cases, or_left}
+use Rattle.ept_node.specs.declared.error.NodeError.{NodeError}
 use Rattle.ept_table.specs.declared.note.Told.{Told}
 use Rattle.ept_table.specs.declared.note.Carried.{Carried}
 use Rattle.ept_table.specs.declared.taken.Taken.{Taken}
 use Rattle.ept_table.specs.At.{At}
 use Rattle.ept_table.specs.View.{View, flights_of}
 use Rattle.ept_table.specs.Shown.{IsOver, KeyOf, HasSlot, Holds}
-use Rattle.ept_table.specs.Steps.{holding, given_back, noting, wishing, abandoned, lacks_slot, StaysAlike}
+use Rattle.ept_table.specs.Steps.{holding, given_back, noting, wishing, noting_broken, abandoned, lacks_slot, StaysAlike}
+use Rattle.ept_table.proofs.Lists.{set-again}
 use Rattle.ept_table.proofs.Coming.{alike-keeps}
 use Rattle.ept_table.proofs.Alike.{FlyAlike, permuted-alike}
 use Rattle.ept_table.proofs.Mirrors.{itself, alike-holds}
@@ -62,6 +64,22 @@ module _ (told : Told) (drawn : ℕ) (items : List Taken) (views : List View) (i
 
   pub wish-keeps : (o : ℕ) → Holds told drawn items (set views i (noting v (wishing v.note o)))
   wish-keeps o = alike-holds told drawn items views i v (noting v (wishing v.note o)) at (record {
+    knows = h.seats.knows i v at;
+    idle = h.seats.idle i v at;
+    spent = h.seats.spent i v at;
+    full = h.seats.full_above i v at;
+    given = omega arith;
+    failures = refl;
+    flights = same-flights v;
+    carried = itself v;
+    draws = inr (refl, refl, refl);
+  }) (λ n. n) h
+
+  -- ---- the refusal of a node is noted
+
+  pub broken-keeps : (fault : Option NodeError) → Holds told drawn items (set views i (noting v (noting_broken fault v.note)))
+  broken-keeps None = subst (λ (vs : List View). Holds told drawn items vs) (sym (set-again at)) h
+  broken-keeps (Some why) = alike-holds told drawn items views i v (noting v (noting_broken (Some why) v.note)) at (record {
     knows = h.seats.knows i v at;
     idle = h.seats.idle i v at;
     spent = h.seats.spent i v at;

@@ -65,6 +65,7 @@ module _ {F : Type 0} (held : F → Option (List ℕ)) (faults keeps : F → ℕ
   filed_here told n is telling = record {
     agrees = apart-agrees held faults keeps n (never_spilled (state_of n) is) (never_broken (state_of n) is);
     telling = λ tells. telling tells (file_of n);
+    not_memory = λ broken. absurd (let none = no-fault n (never_broken (state_of n) is) in cc);
     undamaged = λ tells kept found at broken. absurd (let none = no-fault n (never_broken (state_of n) is) in cc);
   }
 

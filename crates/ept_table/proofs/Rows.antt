@@ -1,23 +1,25 @@
 -- The reader and the nodes as they lie in slots.
-use Rattle.std.proofs.Common.{◌≡◌, ◌∙◌, ℕ, zero, suc, ◌+◌, ◌<◌, ◌≤◌, List, [], ◌∷◌, ◌++◌, map, reverse, length, refl, sym, ap, subst, arith, Option}
+use Rattle.std.proofs.Common.{◌≡◌, ◌∙◌, ℕ, zero, suc, ◌+◌, ◌<◌, ◌≤◌, List, [], ◌∷◌, ◌++◌, map, reverse, length, refl, sym, ap, subst, arith, Option, Some, None}
 use Rattle.std.proofs.lemmas.List.{reverse-reverse, reverse-append, append_assoc}
-use Rattle.std.specs.List.{sum_by, All}
+use Rattle.std.specs.List.{sum_by, All, Any}
 use Rattle.std.proofs.lemmas.List.Elements.{All-nil, All-cons, All-head, All-tail}
 use Rattle.std.specs.Prelude.{cond}
 use Rattle.std.proofs.lemmas.List.Sums.{sum_by-cons}
 use Rattle.ept_scan.specs.declared.second_reading.Reader.{Reader}
 use Rattle.ept_node.specs.declared.node.Node as node
+use Rattle.ept_slots.specs.declared.view.View as slots
 use Rattle.ept_slots.specs.Views.{first_view, whole}
 use Rattle.ept_forest.specs.Slots.{residents_of}
 use Rattle.ept_table.specs.Permits.{weight_of}
 use Rattle.ept_table.specs.declared.item.Item.{Item}
 use Rattle.ept_table.specs.declared.item.Item.TheVariants as items
+use Rattle.ept_table.specs.declared.note.Note.{Note}
 use Rattle.ept_table.specs.declared.note.Told.{Told}
 use Rattle.ept_table.specs.At.{At}
 use Rattle.ept_table.specs.Steps.{first_note}
 use Rattle.ept_table.specs.Tells.{IsLanded}
-use Rattle.ept_table.specs.Item.{taken_as, cell_of, seen_node, seen_reader, seen, IsFiled, IsFiledNode, Filed}
-use Rattle.ept_table.specs.Standing.{Stands}
+use Rattle.ept_table.specs.Item.{taken_as, cell_of, seen_node, seen_reader, seen, broken_by, IsFiled, IsFiledNode, Filed}
+use Rattle.ept_table.specs.Standing.{HasBroken, HaveBroken, Stands}
 use Rattle.ept_table.specs.Row.{items_of, row}
 use Rattle.ept_table.specs.declared.taken.Cell.{Cell}
 use Rattle.ept_table.specs.declared.taken.Progress.{Progress}
@@ -25,7 +27,9 @@ use Rattle.ept_table.specs.declared.taken.Taken.{Taken}
 use Rattle.ept_table.specs.declared.taken.Taken.TheVariants.{Reading}
 use Rattle.ept_table.specs.View.{View}
 use Rattle.ept_table.specs.Shown.{Holds}
-use Rattle.ept_node.specs.Shown.{state_of, is_here}
+use Rattle.ept_node.specs.Shown.{state_of, is_here, fault_of}
+use Rattle.ept_node.specs.declared.error.NodeError.{NodeError}
+use Rattle.ept_sample.specs.Members.{IsMember}
 use Rattle.ept_node.specs.declared.state.NodeState.{NodeState}
 use Rattle.ept_node.specs.declared.state.NodeState.TheVariants as states
 use Rattle.ept_table.proofs.Lists.{at-head, at-next, at-rest, at-zero, nothing-at}
@@ -143,9 +147,14 @@ module _ {F S : Type 0} where
     filed_nodes [] filed = All-nil (IsFiledNode held node_faults keeps told)
     filed_nodes (n ∷ ns) filed = All-cons (IsFiledNode held node_faults keeps told) n ns (filed 0 (as_item n) (at-zero (as_item n) (map as_item ns))) (filed_nodes ns (λ k x a. filed (suc k) x (at-next (as_item n) (map as_item ns) k x a)))
 
+    -- a first seat notes no refusal of a node
+    none_broken : (most : ℕ) (all : List (Item F S)) → HaveBroken all (first_view most (first_note told) ∷ [])
+    none_broken most all zero v why a m = absurd (let none : IsMember why [] = subst (λ (z : slots.View (Item F S) Note). IsMember why z.note.broken) (sym (at-head a)) m in none)
+    none_broken most all (suc i) v why a m = absurd (nothing-at (at-rest (first_view most (first_note told)) [] i v a))
+
     pub make-stands : (most used : ℕ) (r : Reader S) (ns : List (node.Node F)) (all : List (Item F S)) → all ≡ items_of r ns → IsLanded told used (row held whole_of r ns) → IsFiled whole_of left given faults told r → are ns → Stands held node_faults keeps whole_of left given faults told used all (first_view most (first_note told) ∷ [])
     make-stands most used r ns all e landed filed nodes =
-        subst (λ (xs : List (Item F S)). Stands held node_faults keeps whole_of left given faults told used xs (first_view most (first_note told) ∷ [])) (sym e) (record { rule = first-seat-holds told used (row held whole_of r ns) whole landed; filed = all_filed r ns filed nodes })
+        subst (λ (xs : List (Item F S)). Stands held node_faults keeps whole_of left given faults told used xs (first_view most (first_note told) ∷ [])) (sym e) (record { rule = first-seat-holds told used (row held whole_of r ns) whole landed; filed = all_filed r ns filed nodes; broken = none_broken most (items_of r ns) })
 
     pub landed-low : (used : ℕ) (r : Reader S) (ns : List (node.Node F)) → IsLanded told used (row held whole_of r ns) → used ≤ told.most
     landed-low used r ns landed = not_over (λ over. nothing-at (landed.seats.above_full over).2)
@@ -201,6 +210,21 @@ module _ {F S : Type 0} where
         let both : length xs ≡ length (items_of r ns) = ap (λ (w : List (Item F S)). length w) e in
         let nodes : length (map as_item ns) ≡ length ns = length-map as_item ns in
         omega (arith, size, same, both, nodes)
+
+    -- a broken node among the items is one of the nodes
+    broken_there : (ns : List (node.Node F)) (why : NodeError) (k : ℕ) (x : Item F S) → At (map as_item ns) k x → broken_by x ≡ Some why → Any (λ (n : node.Node F). fault_of n ≡ Some why) ns
+    broken_there [] why k x a is = absurd (nothing-at a)
+    broken_there (n ∷ ns) why zero x a is = (0, n, omega arith, refl, ap (λ (w : Item F S). broken_by w) (at-head a) ∙ is)
+    broken_there (n ∷ ns) why (suc k) x a is =
+        let more = broken_there ns why k x (at-rest (as_item n) (map as_item ns) k x a) is in
+        (suc more.0, more.1, omega (arith, more.2), more.3, more.4)
+
+    broken_behind : (r : Reader S) (ns : List (node.Node F)) (why : NodeError) (k : ℕ) (x : Item F S) → At (items_of r ns) k x → broken_by x ≡ Some why → Any (λ (n : node.Node F). fault_of n ≡ Some why) ns
+    broken_behind r ns why zero x a is = absurd (let none : None ≡ Some why = ap (λ (w : Item F S). broken_by w) (at-head a) ∙ is in cc)
+    broken_behind r ns why (suc k) x a is = broken_there ns why k x (at-rest (items.Reader r) (map as_item ns) k x a) is
+
+    pub broken-rest : (xs : List (Item F S)) (r : Reader S) (ns : List (node.Node F)) → xs ≡ items_of r ns → (why : NodeError) → HasBroken xs why → Any (λ (n : node.Node F). fault_of n ≡ Some why) ns
+    broken-rest xs r ns e why has = broken_behind r ns why has.0 has.1 (subst (λ (w : List (Item F S)). At w has.0 has.1) e has.2) has.3
 
     pub filed-rest : (xs : List (Item F S)) (r : Reader S) (ns : List (node.Node F)) → xs ≡ items_of r ns → ((k : ℕ) (x : Item F S) → At xs k x → its x) → are ns
     filed-rest xs r ns e filed =

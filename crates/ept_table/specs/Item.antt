@@ -7,7 +7,8 @@ use Rattle.ept_scan.specs.Reader.{drawn_of, allowed_of, left_of, refusal_of, fil
 use Rattle.ept_node.specs.declared.state.NodeState.{NodeState}
 use Rattle.ept_node.specs.declared.state.NodeState.TheVariants as states
 use Rattle.ept_node.specs.declared.node.Node.{Node}
-use Rattle.ept_node.specs.declared.error.NodeError.TheVariants.{SpillDamaged}
+use Rattle.ept_node.specs.declared.error.NodeError.{NodeError}
+use Rattle.ept_node.specs.declared.error.NodeError.TheVariants.{SpillDamaged, Memory}
 use Rattle.ept_node.specs.Shown.{state_of, node_of, fault_of, file_of, children_of, AgreesWithFile, DoesTell}
 use Rattle.ept_table.specs.declared.note.Counted.{Counted}
 use Rattle.ept_table.specs.declared.note.Told.{Told}
@@ -51,6 +52,15 @@ abbrev pub seen : {F S : Type 0} → (F → Option (List ℕ)) → (S → Option
 seen held whole (items.Node node) = seen_node held node
 seen held whole (items.Reader r) = Reading (seen_reader whole r)
 
+-- why the node of an item is broken, if it is one and is broken
+abbrev pub broken_by : {F S : Type 0} → item.Item F S → Option NodeError
+broken_by (items.Node node) = fault_of node
+broken_by (items.Reader r) = None
+
+-- a node that is broken stays so, by the same refusal
+abbrev pub StaysBroken : {F S : Type 0} → item.Item F S → item.Item F S → Type 0
+StaysBroken old new = (why : NodeError) → broken_by old ≡ Some why → broken_by new ≡ Some why
+
 -- Of a reader it is known that it stands before its next record, or has a refusal. Where files and sources tell, that is no
 -- change of an input, and if it has not failed, its batches are the points from its place on.
 pub record IsFiled {S : Type 0} (whole left : S → Option (List ℕ)) (given faults : S → ℕ) (told : Told) (r : Reader S) : Type 0 where
@@ -58,10 +68,11 @@ pub record IsFiled {S : Type 0} (whole left : S → Option (List ℕ)) (given fa
   pub rest : told.tells ≡ true → refusal_of r ≡ None → IsRest whole r (drop (drawn_of r) told.points)
   pub no_change : told.tells ≡ true → (source number : ℕ) → refusal_of r ≡ Some (SourceChanged source number) → ⊥
 
--- Of a node it is known that it agrees with its file. Where files and sources tell, its file does, and it is not broken by
--- damage.
+-- Of a node it is known that it agrees with its file, and is not broken by want of memory. Where files and sources tell, its
+-- file does, and it is not broken by damage.
 pub record IsFiledNode {F : Type 0} (held : F → Option (List ℕ)) (faults keeps : F → ℕ) (told : Told) (node : Node F) : Type 0 where
   pub agrees : AgreesWithFile held faults keeps node
+  pub not_memory : fault_of node ≡ Some Memory → ⊥
   pub telling : told.tells ≡ true → DoesTell held (file_of node)
   pub undamaged : told.tells ≡ true → (kept found at : ℕ) → fault_of node ≡ Some (SpillDamaged kept found at) → ⊥
 

@@ -1,9 +1,10 @@
 -- What holds of each step on a table. Each statement stands on the contract of a function of `laws`.
-use Rattle.std.specs.Prelude.{◌≡◌, ◌<◌, ◌≤◌, ◌+◌, ℕ, true, List, [], ◌∷◌, ◌++◌, length, take, set, Some, None}
+use Rattle.std.specs.Prelude.{◌≡◌, ◌<◌, ◌≤◌, ◌+◌, ℕ, true, List, [], ◌∷◌, ◌++◌, length, take, set, Option, Some, None}
 use Rattle.ept_point.specs.declared.point.Point.{Point}
 use Rattle.ept_space.specs.VoxelKey.{root}
 use Rattle.ept_sample.specs.Nodes.{node_keys}
 use Rattle.ept_sample.specs.Members.{IsMember}
+use Rattle.ept_node.specs.declared.error.NodeError.{NodeError}
 use Rattle.ept_table.specs.declared.note.Told.{Told}
 use Rattle.ept_table.specs.declared.note.Carried.{Carried}
 use Rattle.ept_table.specs.declared.taken.Cell.{Cell}
@@ -13,7 +14,7 @@ use Rattle.ept_table.specs.declared.taken.Taken.TheVariants.{Standing, Reading}
 use Rattle.ept_table.specs.At.{At}
 use Rattle.ept_table.specs.View.{View, NotesFull}
 use Rattle.ept_table.specs.Shown.{IsTold, Holds, AreLocked}
-use Rattle.ept_table.specs.Steps.{holding, given_back, noting, refused_more, with_parts, new_seat, joined, IsSpent, wishing, drawing, abandoned, merged, GoTogether, read, arrived, carried_to, HasRead, HasArrived, StaysAlike, MayDraw, first_seat, IsPlanted}
+use Rattle.ept_table.specs.Steps.{holding, given_back, noting, refused_more, with_parts, new_seat, joined, IsSpent, wishing, noting_broken, drawing, abandoned, merged, GoTogether, read, arrived, carried_to, HasRead, HasArrived, StaysAlike, MayDraw, first_seat, IsPlanted}
 use Rattle.ept_table.specs.Tells.{IsTooMany, Fits, ShowsLaw, IsLanded, IsLast, IsEnded, IsSampling}
 
 -- ---- steps that leave what lies in the slots
@@ -32,6 +33,11 @@ ReturnKeeps =
 abbrev pub WishKeeps : Type 0
 WishKeeps =
     (told : Told) (drawn : ℕ) (items : List Taken) (views : List View) (i : ℕ) (v : View) (o : ℕ) → Holds told drawn items views → At views i v → Holds told drawn items (set views i (noting v (wishing v.note o)))
+
+-- a seat notes the refusal by which the node is broken that it gave back, if one is
+abbrev pub BrokenKeeps : Type 0
+BrokenKeeps =
+    (told : Told) (drawn : ℕ) (items : List Taken) (views : List View) (i : ℕ) (v : View) (fault : Option NodeError) → Holds told drawn items views → At views i v → Holds told drawn items (set views i (noting v (noting_broken fault v.note)))
 
 -- a seat that holds no slot abandons its flights
 abbrev pub AbandonKeeps : Type 0

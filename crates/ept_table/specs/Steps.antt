@@ -14,6 +14,7 @@ use Rattle.ept_core.specs.Steps.{node_after, flights_after}
 use Rattle.ept_core.specs.Flying.{EachIsReordered}
 use Rattle.ept_grid.specs.Node.{is_open_in}
 use Rattle.ept_node.specs.Batch.{seen}
+use Rattle.ept_node.specs.declared.error.NodeError.{NodeError}
 use Rattle.ept_table.specs.declared.note.Told.{Told}
 use Rattle.ept_table.specs.declared.note.Carried.{Carried}
 use Rattle.ept_table.specs.declared.note.Draw.{Draw}
@@ -74,6 +75,11 @@ failures_of (Some e) = e ∷ []
 abbrev pub read : Note → Progress → List Carried → Note
 read n r fresh = record n { flights = n.flights ++ fresh; draws = []; given = r.drawn; failures = failures_of r.failed ++ n.failures }
 
+-- a node was given back that is broken by this, if it is
+abbrev pub noting_broken : Option NodeError → Note → Note
+noting_broken None n = n
+noting_broken (Some why) n = record n { broken = why ∷ n.broken }
+
 -- some flight has no slot
 abbrev pub lacks_slot : List Carried → Bool
 lacks_slot flights = list_any (λ (c : Carried). c.slot == 0) flights
@@ -108,11 +114,11 @@ pub record GoTogether (flights : List Carried) : Type 0 where
 
 -- what a new seat notes, that knows what this one knows
 abbrev pub beginning : Note → Note
-beginning n = record n { flights = []; gone = []; draws = []; over = false; given = 0; failures = [] }
+beginning n = record n { flights = []; gone = []; draws = []; over = false; given = 0; failures = []; broken = [] }
 
--- what a seat notes that ended another: it takes over the abandoned flights and the refusals
+-- what a seat notes that ended another: it takes over the abandoned flights and the refusals of the reader and of nodes
 abbrev pub together : Note → Note → Note
-together n m = record n { gone = n.gone ++ m.gone; over = n.over || m.over; failures = n.failures ++ m.failures }
+together n m = record n { gone = n.gone ++ m.gone; over = n.over || m.over; failures = n.failures ++ m.failures; broken = n.broken ++ m.broken }
 
 -- the seat that ended another
 abbrev pub joined : View → View → View
@@ -226,6 +232,7 @@ first_note told = record {
   over = false;
   given = 0;
   failures = [];
+  broken = [];
 }
 
 abbrev pub first_seat : Told → ℕ → View

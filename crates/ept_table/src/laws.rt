@@ -1,14 +1,15 @@
 //! The laws of a table, each on the contract of a function that does nothing.
 
-ghost use Rattle.ept_table.specs.Laws.{TakeKeeps, ReturnKeeps, WishKeeps, AbandonKeeps, MergeKeeps, SplitKeeps, JoinKeeps, ReadKeeps, DrawKeeps, RefusalKeeps, RefusalIsTrue, ArrivalKeeps, TakeFits, LackIsTooMany, FullIsTooMany, StateKeepsLaw, FirstSeatHolds, BeginningIsLanded, LastSeatTells, LandedIsSampling};
+ghost use Rattle.ept_table.specs.Laws.{TakeKeeps, ReturnKeeps, WishKeeps, BrokenKeeps, AbandonKeeps, MergeKeeps, SplitKeeps, JoinKeeps, ReadKeeps, DrawKeeps, RefusalKeeps, RefusalIsTrue, ArrivalKeeps, TakeFits, LackIsTooMany, FullIsTooMany, StateKeepsLaw, FirstSeatHolds, BeginningIsLanded, LastSeatTells, LandedIsSampling};
 ghost use Rattle.ept_table.specs.OctreeLaws.{LandedFillsSlots, LandedKeepsBegun, LandedIsSound, LandedIsRead, LandedIsWhole, LandedIsSampled, LandedGoesOn, ResumedIsLanded};
 
-/// A seat may take a slot, give it back as it was or its node from elsewhere, note an octant, abandon its flights and merge the
-/// last two.
+/// A seat may take a slot, give it back as it was or its node from elsewhere, note an octant or the refusal of a node, abandon its
+/// flights and merge the last two.
 pub fn move_law()
     ensures take { TakeKeeps }
     ensures give_back { ReturnKeeps }
     ensures wish { WishKeeps }
+    ensures broken { BrokenKeeps }
     ensures abandon { AbandonKeeps }
     ensures merge { MergeKeeps }
 {}

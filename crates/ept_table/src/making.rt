@@ -1,6 +1,6 @@
 //! How a table of nodes is made, and how it is closed.
 
-ghost use Rattle.std.specs.Prelude.{true, None, ◌≡◌, ◌+◌, ◌≤◌, ℕ, [], ◌∷◌, List, length, min, vec_len, vec_capacity, IfOk, IfErr};
+ghost use Rattle.std.specs.Prelude.{true, Some, None, ◌≡◌, ◌+◌, ◌≤◌, ℕ, [], ◌∷◌, List, length, min, vec_len, vec_capacity, IfOk, IfErr};
 ghost use Rattle.ept_scan.specs.declared.second_reading.Reader as reader_of;
 ghost use Rattle.ept_node.specs.declared.node.Node as node_of;
 ghost use Rattle.ept_slots.specs.Views.{HoldsNothing, first_view, whole};
@@ -15,8 +15,10 @@ ghost use Rattle.ept_table.specs.Steps.{first_note};
 ghost use Rattle.ept_table.specs.Tells.{IsLanded, IsEnded};
 ghost use Rattle.ept_table.specs.Item.{seen_reader, IsFiled, IsFiledNode};
 ghost use Rattle.ept_table.specs.Row.{items_of, row};
-ghost use Rattle.std.specs.List.{All};
-ghost use Rattle.ept_node.specs.Shown.{IsTelling};
+ghost use Rattle.std.specs.List.{All, Any};
+ghost use Rattle.ept_sample.specs.Members.{IsMember};
+ghost use Rattle.ept_node.specs.declared.error.NodeError.{NodeError};
+ghost use Rattle.ept_node.specs.Shown.{fault_of, IsTelling};
 ghost use Rattle.ept_table.specs.Standing.{known};
 
 use crate::item::Item;
@@ -118,6 +120,8 @@ impl<F: SpillFile, S: Source, J: Scan> NodeTable<F, S, J> {
         ensures filed { IsFiled S.whole S.left S.given S.faults J.told result.1 }
         ensures nodes { All (IsFiledNode F.held F.faults F.keeps J.told) (nodes_of result.0) }
         ensures cached { residents_of (nodes_of result.0) + (view seat).permits ≤ J.told.cache }
+        ensures broken { (why : NodeError) → IsMember why (view seat).note.broken
+            → Any (λ node. fault_of node ≡ Some why) (nodes_of result.0) }
     {
         let NodeTable {
             slots,

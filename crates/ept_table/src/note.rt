@@ -1,6 +1,7 @@
 //! What a seat knows of the table. It is for proofs: no value of these types is made.
 
 use ept_core::Flight;
+use ept_node::NodeError;
 use ept_point::{List, Point};
 use ept_scan::ReadError;
 use ept_space::{Bounds, Key, Rules};
@@ -65,4 +66,6 @@ pub struct Note {
     pub given: u64,
     /// The refusals by which the reader that it gave back has failed.
     pub failures: List<ReadError>,
+    /// The refusals by which nodes that it gave back are broken.
+    pub broken: List<NodeError>,
 }

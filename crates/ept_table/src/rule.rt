@@ -2,9 +2,9 @@
 
 ghost use Rattle.std.specs.Prelude.{◌≡◌, true, false, Some, None, MatchOption};
 ghost use Rattle.ept_table.specs.declared.note.Told.{Told};
-ghost use Rattle.ept_table.specs.Steps.{wishing, drawing, abandoned, merged, beginning, together, lacks_slot, first_note};
+ghost use Rattle.ept_table.specs.Steps.{wishing, drawing, abandoned, merged, beginning, together, lacks_slot, first_note, noting_broken};
 ghost use Rattle.ept_table.specs.Tells.{IsTooMany, Fits, ShowsLaw};
-ghost use Rattle.ept_table.specs.Item.{seen, Filed};
+ghost use Rattle.ept_table.specs.Item.{seen, broken_by, Filed};
 ghost use Rattle.ept_table.specs.Permits.{weight_of};
 ghost use Rattle.ept_table.specs.Standing.{known, Stands};
 ghost use Rattle.ept_table.specs.Visits.{note_said};
@@ -56,13 +56,13 @@ impl<F: SpillFile, S: Source, J: Scan> Take<Item<F, S>, Note> for Taking<F, S, J
         × Filed F.held F.faults F.keeps S.whole S.left S.given S.faults J.told x };
 }
 
-/// An item is given back.
+/// An item is given back. The seat notes why a node is broken.
 pub struct Giving<F, S> {
     marker: PhantomData<(F, S)>,
 }
 
 impl<F: SpillFile, S: Source> Give<Item<F, S>, Note, Said> for Giving<F, S> {
-    ghost tells = { λ v y said n. n ≡ note_said v.note (seen F.held S.whole y) said };
+    ghost tells = { λ v y said n. n ≡ noting_broken (broken_by y) (note_said v.note (seen F.held S.whole y) said) };
 }
 
 /// An octant is noted.

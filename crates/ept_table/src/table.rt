@@ -5,8 +5,8 @@ ghost use Rattle.ept_table.specs.Tells.{IsTooMany, Fits, ShowsLaw};
 ghost use Rattle.ept_table.specs.declared.done.Done as done_of;
 ghost use Rattle.ept_table.specs.declared.done.Said.TheVariants.{Did};
 ghost use Rattle.ept_table.specs.declared.item.Item as item_of;
-ghost use Rattle.ept_table.specs.Steps.{holding, given_back, noting, refused_more, wishing, drawing, abandoned, merged, beginning, together, lacks_slot, GoTogether, MayDraw};
-ghost use Rattle.ept_table.specs.Item.{seen, Filed};
+ghost use Rattle.ept_table.specs.Steps.{holding, given_back, noting, refused_more, wishing, drawing, abandoned, merged, beginning, together, lacks_slot, GoTogether, MayDraw, noting_broken};
+ghost use Rattle.ept_table.specs.Item.{seen, broken_by, StaysBroken, Filed};
 ghost use Rattle.ept_table.specs.Permits.{weight_of, spare_of};
 ghost use Rattle.ept_table.specs.Standing.{known};
 ghost use Rattle.ept_table.specs.Visits.{note_after, Visits};
@@ -147,17 +147,19 @@ impl<F: SpillFile, S: Source, J: Scan> NodeTable<F, S, J> {
 
     /// Gives an item back into the slot that the seat holds, and frees the slot. What the visit did comes back, with the
     /// flights that leave. A node whose points are in memory takes a permit of the seat, and one that was taken so gives it
-    /// its own.
+    /// its own. A node that was broken as it was taken is so still, and the seat notes the refusal by which it is.
     pub fn give(&self, seat: &mut Seat<F, S>, slot: u32, item: Item<F, S>, done: Done) -> Done
         requires seat { IsSeat J.told self.now seat.old }
         requires visit { (x : item_of.Item F S) × Holds (view seat.old) slot x
-            × Visits J.told (known F.held S.whole (view seat.old)) slot (seen F.held S.whole x) (seen F.held S.whole item) done }
+            × Visits J.told (known F.held S.whole (view seat.old)) slot (seen F.held S.whole x) (seen F.held S.whole item) done
+            × StaysBroken x item }
         requires slot { slot < slots_of self.now }
         requires filed { Filed F.held F.faults F.keeps S.whole S.left S.given S.faults J.told item }
         requires permit { weight_of item ≤ spare_of (view seat.old) }
         ensures seat { IsSeat J.told self.now seat.new }
         ensures known { known F.held S.whole (view seat.new)
-            ≡ given_back (known F.held S.whole (view seat.old)) (note_after (view seat.old).note (seen F.held S.whole item) done) }
+            ≡ given_back (known F.held S.whole (view seat.old))
+            (noting_broken (broken_by item) (note_after (view seat.old).note (seen F.held S.whole item) done)) }
         ensures done { result ≡ done }
         ensures permits { spare_of (view seat.new) + weight_of item ≡ spare_of (view seat.old) }
     {
@@ -186,6 +188,7 @@ impl<F: SpillFile, S: Source, J: Scan> NodeTable<F, S, J> {
         ensures full { OnErr result (known F.held S.whole (view seat.new)
             ≡ refused_more (noting (known F.held S.whole (view seat.old)) (wishing (view seat.old).note octant))) }
         ensures too_many { OnErr result (IsTooMany J.told) }
+        ensures held { (view seat.new).hold ≡ (view seat.old).hold }
         ensures permits { spare_of (view seat.new) ≡ spare_of (view seat.old) }
     {
         let _said = self

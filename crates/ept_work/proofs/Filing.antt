@@ -50,6 +50,7 @@ module _ {F : Type 0} (held : F → Option (List ℕ)) (faults keeps : F → ℕ
       failed = λ is. absurd (no_fault node.body sound SpillFault is);
     };
     telling = telling;
+    not_memory = λ is. no_fault node.body sound Memory is;
     undamaged = λ tells kept found at is. no_fault node.body sound (SpillDamaged kept found at) is;
   }
 

@@ -1,6 +1,7 @@
 -- Workers that were forked, and their seats joined.
 use Rattle.std.proofs.Common.{◌≡◌, ◌∙◌, ℕ, ◌+◌, ◌-◌, ◌/◌, ◌<◌, ◌≤◌, Bool, true, false, ◌||◌, inl, inr, List, ◌++◌, refl, sym, ap, subst, arith, Result, Ok, Err, IfErr, OnOk, Option}
 use Rattle.std.proofs.lemmas.List.{append-nil}
+use Rattle.ept_node.specs.declared.error.NodeError.TheVariants as node
 use Rattle.ept_scan.specs.declared.read_error.ReadError.{ReadError}
 use Rattle.ept_scan.specs.declared.read_error.ReadError.TheVariants as read
 use Rattle.ept_sample.proofs.Members.{IsMember-left, IsMember-right}
@@ -92,8 +93,8 @@ module _ (told : Told) (v left right low high w : View) (n m : ℕ) (halves : n 
   cause_low (SourceChanged s k) is = IsMember-left (read.SourceChanged s k) low.note.failures high.note.failures is
   cause_low TooManyNodes (inl more, too) = (inl (omega (arith, more)), too)
   cause_low TooManyNodes (inr over, too) = (inr (or_left low.note.over high.note.over over), too)
-  cause_low SpillFault is = tt
-  cause_low (SpillDamaged kept found at) is = tt
+  cause_low SpillFault is = IsMember-left node.SpillFault low.note.broken high.note.broken is
+  cause_low (SpillDamaged kept found at) is = IsMember-left (node.SpillDamaged kept found at) low.note.broken high.note.broken is
   cause_low Memory is = tt
 
   cause_high : (e : WorkError) → IsCause told high e → IsCause told (joined low high) e
@@ -101,8 +102,8 @@ module _ (told : Told) (v left right low high w : View) (n m : ℕ) (halves : n 
   cause_high (SourceChanged s k) is = IsMember-right (read.SourceChanged s k) low.note.failures high.note.failures is
   cause_high TooManyNodes (inl more, too) = (inl (omega (arith, more)), too)
   cause_high TooManyNodes (inr over, too) = (inr (or_right low.note.over high.note.over over), too)
-  cause_high SpillFault is = tt
-  cause_high (SpillDamaged kept found at) is = tt
+  cause_high SpillFault is = IsMember-right node.SpillFault low.note.broken high.note.broken is
+  cause_high (SpillDamaged kept found at) is = IsMember-right (node.SpillDamaged kept found at) low.note.broken high.note.broken is
   cause_high Memory is = tt
 
   pub both-refused : (a b : Result (Unit {0}) WorkError) → IfErr a (λ e. IsCause told low e) → IfErr b (λ e. IsCause told high e) → IfErr (first_refusal a b) (λ e. IsCause told w e)

@@ -1,4 +1,5 @@
 pub mod Known
+mod Whole
 pub mod Permitted
 pub mod Ascending
 pub mod Reading

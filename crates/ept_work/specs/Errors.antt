@@ -22,17 +22,7 @@ abbrev pub answer_staying : {X : Type 0} → Option NodeError → Result (Option
 answer_staying None = Ok None
 answer_staying (Some why) = Err (of_node why)
 
--- a refusal of workers where no node is broken: none that a broken node would tell
-abbrev pub unspilled : WorkError → WorkError
-unspilled SourceFault = SourceFault
-unspilled (SourceChanged source number) = SourceChanged source number
-unspilled TooManyNodes = TooManyNodes
-unspilled SpillFault = Memory
-unspilled (SpillDamaged kept found at) = Memory
-unspilled Memory = Memory
-
 -- what is answered: why a node is broken, where one is, or else what the workers answered
 abbrev pub settled_by : Option NodeError → Result (Unit {0}) WorkError → Result (Unit {0}) WorkError
 settled_by (Some why) answer = Err (of_node why)
-settled_by None (Ok u) = Ok u
-settled_by None (Err e) = Err (unspilled e)
+settled_by None answer = answer

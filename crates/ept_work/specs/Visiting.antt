@@ -1,12 +1,18 @@
 -- A visit of a node by a flight of a worker.
-use Rattle.std.specs.Prelude.{◌≡◌, ⊤, ℕ, ◌+◌, ◌<◌, ◌≤◌, ◌⊎◌, Bool, true, false, List, [], ◌++◌, length, Option, Some}
+use Rattle.std.specs.Prelude.{◌≡◌, ⊤, ℕ, ◌+◌, ◌<◌, ◌≤◌, ◌⊎◌, Bool, true, false, List, [], ◌++◌, length, Option, Some, None}
 use Rattle.std.specs.Vec.{vec_capacity}
 use Rattle.ept_space.specs.VoxelKey.{VoxelKey}
 use Rattle.ept_sample.specs.Ids.{HasDistinctIds}
 use Rattle.ept_sample.specs.Members.{IsMember}
+use Rattle.ept_slots.specs.declared.view.View as slots
+use Rattle.ept_slots.specs.declared.view.Held.{Held}
+use Rattle.ept_node.specs.declared.error.NodeError.{NodeError}
+use Rattle.ept_node.specs.declared.error.NodeError.TheVariants as node
 use Rattle.ept_node.specs.declared.node.Node.{Node}
 use Rattle.ept_node.specs.declared.state.NodeState.TheVariants.{Resident}
 use Rattle.ept_node.specs.Shown.{file_of, state_of, node_of, children_of, empty_node, no_children, DoesTell}
+use Rattle.ept_table.specs.declared.item.Item.{Item}
+use Rattle.ept_table.specs.declared.note.Note.{Note}
 use Rattle.ept_table.specs.declared.note.Told.{Told}
 use Rattle.ept_table.specs.declared.note.Carried.{Carried}
 use Rattle.ept_table.specs.declared.note.Draw.{Draw}
@@ -14,10 +20,10 @@ use Rattle.ept_table.specs.declared.taken.Cell.{Cell}
 use Rattle.ept_table.specs.declared.taken.Taken.{Taken}
 use Rattle.ept_table.specs.declared.taken.Taken.TheVariants.{Blank, Standing}
 use Rattle.ept_table.specs.At.{At}
-use Rattle.ept_table.specs.Item.{cell_of}
+use Rattle.ept_table.specs.Item.{cell_of, broken_by}
 use Rattle.ept_table.specs.Taken.{points_of}
 use Rattle.ept_table.specs.Shown.{IsSoundFlight}
-use Rattle.ept_table.specs.Steps.{holding, given_back, arrived, lacks_slot, HasArrived, IsAlikeCell}
+use Rattle.ept_table.specs.Steps.{holding, given_back, noting, noting_broken, arrived, lacks_slot, HasArrived, IsAlikeCell}
 use Rattle.ept_table.specs.Tells.{IsTooMany, FitsChild}
 use Rattle.ept_table.specs.View.{View, NotesFull}
 use Rattle.ept_work.specs.declared.error.WorkError.{WorkError}
@@ -80,17 +86,42 @@ pub record IsLanding {F : Type 0} (held : F → Option (List ℕ)) (told : Told)
 abbrev pub HasRoom : {F S : Type 0} → Worker F S → Landing F → Type 0
 HasRoom worker landing = length worker.flights.items + length landing.fresh.items ≤ vec_capacity worker.flights + 1
 
--- The cause of a refusal: want of memory, or too many nodes, since a slot was refused or a flight that is carried has none. That
--- of a broken node is told by the node.
+-- The cause of a refusal: want of memory; too many nodes, since a slot was refused or a flight that is carried has none; or a
+-- broken node that was come across, whose refusal the seat notes.
 abbrev pub IsVisitCause : Told → View → WorkError → Type 0
 IsVisitCause told v SourceFault = ⊥
 IsVisitCause told v (SourceChanged source number) = ⊥
 IsVisitCause told v TooManyNodes = (NotesFull v × IsTooMany told) ⊎ (lacks_slot v.note.flights ≡ true)
-IsVisitCause told v SpillFault = ⊤
-IsVisitCause told v (SpillDamaged kept found at) = ⊤
+IsVisitCause told v SpillFault = IsMember node.SpillFault v.note.broken
+IsVisitCause told v (SpillDamaged kept found at) = IsMember (node.SpillDamaged kept found at) v.note.broken
 IsVisitCause told v Memory = ⊤
 
+-- the refusal by which a node is broken that stays for this: want of memory breaks none
+abbrev pub breaking : Option NodeError → Option NodeError
+breaking None = None
+breaking (Some node.SpillFault) = Some node.SpillFault
+breaking (Some (node.SpillDamaged kept found at)) = Some (node.SpillDamaged kept found at)
+breaking (Some node.Memory) = None
+
+-- why the node is broken that lay in the slot that is held, if it is
+abbrev pub held_fault : {F S : Type 0} → Option (Held (Item F S)) → Option NodeError
+held_fault None = None
+held_fault (Some held) = broken_by held.item
+
+-- the seat holds no node that was broken as it was taken
+abbrev pub HoldsWhole : {F S : Type 0} → slots.View (Item F S) Note → Type 0
+HoldsWhole v = held_fault v.hold ≡ None
+
 -- ---- what becomes of what a worker knows
+
+-- nothing, but that the seat notes the refusal if it is that of a broken node
+abbrev pub refused_by : WorkError → View → View
+refused_by SourceFault v = v
+refused_by (SourceChanged source number) v = v
+refused_by TooManyNodes v = v
+refused_by SpillFault v = noting v (noting_broken (Some node.SpillFault) v.note)
+refused_by (SpillDamaged kept found at) v = noting v (noting_broken (Some (node.SpillDamaged kept found at)) v.note)
+refused_by Memory v = v
 
 -- the seat may note other draws, and may have been refused some
 abbrev pub opening : View → List Draw → ℕ → ℕ → View

@@ -1,5 +1,6 @@
 -- The work of a worker, and of several.
 use Rattle.std.specs.Prelude.{◌≡◌, ⊤, ◌⊎◌, true, [], Result, Ok, Err}
+use Rattle.ept_node.specs.declared.error.NodeError.TheVariants as node
 use Rattle.ept_scan.specs.declared.read_error.ReadError.TheVariants as read
 use Rattle.ept_sample.specs.Members.{IsMember}
 use Rattle.ept_table.specs.declared.note.Told.{Told}
@@ -30,23 +31,23 @@ pub record HasEnded (v w : View) : Type 0 where
   pub landed : w.note.flights ≡ []
   pub parts : w.parts ≡ v.parts
 
--- The cause for which a worker goes no further. That of a broken node is told by the node.
+-- The cause for which a worker goes no further.
 abbrev pub IsStopped : Told → View → WorkError → Type 0
 IsStopped told v SourceFault = IsMember read.SourceFault v.note.failures
 IsStopped told v (SourceChanged source number) = IsMember (read.SourceChanged source number) v.note.failures
 IsStopped told v TooManyNodes = (NotesFull v × IsTooMany told) ⊎ (lacks_slot v.note.flights ≡ true)
-IsStopped told v SpillFault = ⊤
-IsStopped told v (SpillDamaged kept found at) = ⊤
+IsStopped told v SpillFault = IsMember node.SpillFault v.note.broken
+IsStopped told v (SpillDamaged kept found at) = IsMember (node.SpillDamaged kept found at) v.note.broken
 IsStopped told v Memory = ⊤
 
--- The cause of a refusal: the reader has failed by it, which the seat notes; there may not be as many nodes as the
--- sampling has, and the seat notes that all slots are drawn; or there was no memory. That of a broken node is told by the node.
+-- The cause of a refusal: the reader has failed by it, or a node that was given back is broken by it, which the seat notes; there
+-- may not be as many nodes as the sampling has, and the seat notes that all slots are drawn; or there was no memory.
 abbrev pub IsCause : Told → View → WorkError → Type 0
 IsCause told v SourceFault = IsMember read.SourceFault v.note.failures
 IsCause told v (SourceChanged source number) = IsMember (read.SourceChanged source number) v.note.failures
 IsCause told v TooManyNodes = NotesFull v × IsTooMany told
-IsCause told v SpillFault = ⊤
-IsCause told v (SpillDamaged kept found at) = ⊤
+IsCause told v SpillFault = IsMember node.SpillFault v.note.broken
+IsCause told v (SpillDamaged kept found at) = IsMember (node.SpillDamaged kept found at) v.note.broken
 IsCause told v Memory = ⊤
 
 -- the refusal of the first, or else that of the second

@@ -1,6 +1,7 @@
 //! How a worker gets a permit for a node that comes into memory: a free one, or that of a node that goes to its file.
 
-ghost use Rattle.std.specs.Prelude.{◌≡◌, ◌≢◌, ◌+◌, ◌<◌, Ok, Err, IfSome, IfOk, IfErr, OnOk, OnErr, true, false, if◌then◌else◌};
+ghost use Rattle.std.specs.Prelude.{◌≡◌, ◌≢◌, ◌+◌, ◌<◌, Some, None, Ok, Err, IfSome, IfOk, IfErr, OnOk, OnErr, true, false, if◌then◌else◌};
+ghost use Rattle.ept_node.specs.declared.error.NodeError.{NodeError};
 ghost use Rattle.ept_node.specs.declared.state.NodeState.TheVariants.{Resident};
 ghost use Rattle.ept_node.specs.Shown.{state_of, is_here, fault_of};
 ghost use Rattle.ept_slots.specs.Seating.{view};
@@ -8,7 +9,7 @@ ghost use Rattle.ept_table.specs.Item.{seen_node, IsFiledNode};
 ghost use Rattle.ept_table.specs.Permits.{spare_of};
 ghost use Rattle.ept_table.specs.Steps.{StaysAlike};
 ghost use Rattle.ept_work.specs.Rest.{IsIdle};
-ghost use Rattle.ept_work.specs.Visiting.{IsVisitCause};
+ghost use Rattle.ept_work.specs.Visiting.{IsVisitCause, breaking, refused_by};
 
 use crate::error::WorkError;
 use crate::visit::node_in;
@@ -45,7 +46,8 @@ impl<F: SpillFile, S: Source> Worker<F, S> {
         requires some { 1 < slots_of table.now }
         ensures seat { IsSeat J.told table.now (seat_of self.new) }
         ensures number { number_of self.new ≡ number_of self.old }
-        ensures same { knows F.held S.whole self.new ≡ knows F.held S.whole self.old }
+        ensures same { OnOk result (knows F.held S.whole self.new ≡ knows F.held S.whole self.old) }
+        ensures noted { IfErr result (λ e. knows F.held S.whole self.new ≡ refused_by e (knows F.held S.whole self.old)) }
         ensures permit { OnOk result (spare_of (view (seat_of self.new)) ≡ spare_of (view (seat_of self.old)) + 1) }
         ensures no_permit { OnErr result (spare_of (view (seat_of self.new)) ≡ spare_of (view (seat_of self.old))) }
         ensures refused { IfErr result (IsVisitCause J.told (knows F.held S.whole self.new)) }
@@ -77,7 +79,8 @@ impl<F: SpillFile, S: Source> Worker<F, S> {
         requires some { 1 < slots_of table.now }
         ensures seat { IsSeat J.told table.now (seat_of self.new) }
         ensures number { number_of self.new ≡ number_of self.old }
-        ensures same { knows F.held S.whole self.new ≡ knows F.held S.whole self.old }
+        ensures same { OnOk result (knows F.held S.whole self.new ≡ knows F.held S.whole self.old) }
+        ensures noted { IfErr result (λ e. knows F.held S.whole self.new ≡ refused_by e (knows F.held S.whole self.old)) }
         ensures permit { IfOk result (λ gone. spare_of (view (seat_of self.new)) ≡ spare_of (view (seat_of self.old)) + (if gone then 1 else 0)) }
         ensures no_permit { OnErr result (spare_of (view (seat_of self.new)) ≡ spare_of (view (seat_of self.old))) }
         ensures refused { IfErr result (IsVisitCause J.told (knows F.held S.whole self.new)) }
@@ -109,6 +112,9 @@ fn put_in_file<F: SpillFile, J: Scan>(
     ensures kept { result.answer ≢ Ok true → is_here result.node ≡ is_here node }
     ensures asked { state_of node ≡ Resident → result.answer ≢ Ok false }
     ensures fault { IfSome (fault_of node) (λ why. result.answer ≡ Err why) }
+    ensures broken { (why : NodeError) → fault_of node ≡ Some why → fault_of result.node ≡ Some why }
+    ensures sound { OnOk result.answer (fault_of result.node ≡ None) }
+    ensures reason { IfErr result.answer (λ why. fault_of result.node ≡ breaking (Some why)) }
 {
     if let Some(fault) = node.fault() {
         return Evicted {

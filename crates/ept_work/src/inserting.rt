@@ -66,9 +66,8 @@ pub fn insert_all<
     requires rules { rules_of table ≡ J.told.rules }
     requires workers { (1 ≤ workers) × (workers ≤ 64) }
 
-    // Where nothing is refused no node is broken and nothing flies, and where files and sources tell the nodes are the
-    // sampling of all points that the allowance and the inputs have.
-    ensures unbroken { OnOk result.2 (All (λ node. fault_of node ≡ None) (nodes_of result.0)) }
+    // Where nothing is refused nothing flies, and where files and sources tell the nodes are the sampling of all points that the
+    // allowance and the inputs have.
     ensures landed { OnOk result.2 (IsLanded J.told (used_of result.0) (row F.held S.whole result.1 (nodes_of result.0))) }
     ensures sampling { OnOk result.2 (J.told.tells ≡ true
         → IsSampling J.told (row F.held S.whole result.1 (nodes_of result.0)) (take (drawn_of result.1) J.told.points)) }
@@ -81,6 +80,11 @@ pub fn insert_all<
     ensures slots { length (nodes_of result.0) ≡ J.told.most }
     ensures nodes { All (IsFiledNode F.held F.faults F.keeps J.told) (nodes_of result.0) }
     ensures cached { residents_of (nodes_of result.0) ≤ J.told.cache }
+
+    // Unless a broken node refuses, no node is broken.
+    ensures unbroken { result.2 ≢ Err errors.SpillFault
+        → ((kept found at : ℕ) → result.2 ≢ Err (errors.SpillDamaged kept found at))
+        → All (λ node. fault_of node ≡ None) (nodes_of result.0) }
 
     // The causes of a refusal.
     ensures too_many { result.2 ≡ Err errors.TooManyNodes → IsTooMany J.told }
@@ -103,17 +107,13 @@ pub fn insert_all<
     (forest, reader, result)
 }
 
-// The answer of workers, where a node may be broken. A worker that is refused by a spill file leaves its node broken, so there
-// always is one then; no clause of the table says so, and such a refusal without one would be told as want of memory.
+// The answer of workers, where a node may be broken: its fault comes before any other refusal.
 fn settled(broken: Option<NodeError>, answer: Result<(), WorkError>) -> Result<(), WorkError>
     ensures { result ≡ settled_by broken answer }
 {
-    if let Some(why) = broken {
-        return Err(why.into());
-    }
-    match answer {
-        Err(WorkError::SpillFault | WorkError::SpillDamaged { .. }) => Err(WorkError::Memory),
-        answer => answer,
+    match broken {
+        Some(why) => Err(why.into()),
+        None => answer,
     }
 }
 

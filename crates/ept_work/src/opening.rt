@@ -39,6 +39,7 @@ pub(crate) fn open_children<F: SpillFile, S: Source, J: Scan>(
     ensures may { MayOpen F.held J.told (known F.held S.whole (view seat.new)) slot before result.node }
     ensures node { node_of F.held result.node ≡ node_of F.held node }
     ensures file { file_of result.node ≡ file_of node }
+    ensures held { (view seat.new).hold ≡ (view seat.old).hold }
     ensures permits { spare_of (view seat.new) ≡ spare_of (view seat.old) }
     ensures opened { HasOpened J.told (known F.held S.whole (view seat.new)) (cell_of F.held result.node) 8 result.is_full }
 {
@@ -71,6 +72,7 @@ fn open_child<F: SpillFile, S: Source, J: Scan>(
     ensures may { MayOpen F.held J.told (known F.held S.whole (view seat.new)) slot before result.node }
     ensures node { node_of F.held result.node ≡ node_of F.held opening.node }
     ensures file { file_of result.node ≡ file_of opening.node }
+    ensures held { (view seat.new).hold ≡ (view seat.old).hold }
     ensures permits { spare_of (view seat.new) ≡ spare_of (view seat.old) }
     ensures opened { HasOpened J.told (known F.held S.whole (view seat.new)) (cell_of F.held result.node) (octant + 1) result.is_full }
 {

@@ -2,6 +2,7 @@
 
 ghost use Rattle.std.specs.Prelude.{◌≡◌, ◌≢◌, ◌+◌, ◌<◌, ◌≤◌, None, Some, IfOk, IfErr, OnOk, OnErr, IfSome, IsSome, IsNone, true, false, if◌then◌else◌, length};
 ghost use Rattle.ept_sample.specs.Ids.{HasDistinctIds};
+ghost use Rattle.ept_node.specs.declared.error.NodeError.{NodeError};
 ghost use Rattle.ept_node.specs.declared.state.NodeState.TheVariants.{Blank, Resident, Spilled};
 ghost use Rattle.ept_node.specs.Shown.{file_of, state_of, node_of, is_here, fault_of, DoesTell};
 ghost use Rattle.ept_slots.specs.Seating.{view};
@@ -11,7 +12,7 @@ ghost use Rattle.ept_table.specs.Steps.{IsAlikeCell, StaysAlike};
 ghost use Rattle.ept_table.specs.Taken.{points_of};
 ghost use Rattle.ept_work.specs.Errors.{answer_staying};
 ghost use Rattle.ept_work.specs.Rest.{IsIdle, IsAtRest};
-ghost use Rattle.ept_work.specs.Visiting.{IsBegun, TakesUp, IsVisitCause};
+ghost use Rattle.ept_work.specs.Visiting.{IsBegun, TakesUp, IsVisitCause, HoldsWhole, breaking, refused_by};
 
 use crate::error::WorkError;
 use crate::visit::{Visit, node_in, permit_back};
@@ -61,7 +62,8 @@ impl<F: SpillFile, S: Source> Worker<F, S> {
         ensures seat { IsSeat J.told table.now (seat_of self.new) }
         ensures number { number_of self.new ≡ number_of self.old }
         ensures ok { IfOk result (TakesUp F.held J.told (knows F.held S.whole self.old) (knows F.held S.whole self.new)) }
-        ensures unchanged { OnErr result (knows F.held S.whole self.new ≡ knows F.held S.whole self.old) }
+        ensures whole { OnOk result (HoldsWhole (view (seat_of self.new))) }
+        ensures noted { IfErr result (λ e. knows F.held S.whole self.new ≡ refused_by e (knows F.held S.whole self.old)) }
         ensures refused { IfErr result (IsVisitCause J.told (knows F.held S.whole self.new)) }
         ensures permit { OnOk result (spare_of (view (seat_of self.new)) ≡ spare_of (view (seat_of self.old)) + 1) }
         ensures no_permit { OnErr result (spare_of (view (seat_of self.new)) ≡ spare_of (view (seat_of self.old))) }
@@ -91,7 +93,8 @@ impl<F: SpillFile, S: Source> Worker<F, S> {
         ensures number { number_of self.new ≡ number_of self.old }
         ensures up { IfOk result (λ found. IfSome found (TakesUp F.held J.told (knows F.held S.whole self.old) (knows F.held S.whole self.new))) }
         ensures again { IfOk result (λ found. IsNone found → knows F.held S.whole self.new ≡ knows F.held S.whole self.old) }
-        ensures unchanged { OnErr result (knows F.held S.whole self.new ≡ knows F.held S.whole self.old) }
+        ensures whole { IfOk result (λ found. IsSome found → HoldsWhole (view (seat_of self.new))) }
+        ensures noted { IfErr result (λ e. knows F.held S.whole self.new ≡ refused_by e (knows F.held S.whole self.old)) }
         ensures refused { IfErr result (IsVisitCause J.told (knows F.held S.whole self.new)) }
         ensures permit { IfOk result (λ found. IsSome found → spare_of (view (seat_of self.new)) ≡ spare_of (view (seat_of self.old)) + 1) }
         ensures again_permit { IfOk result (λ found. IsNone found → spare_of (view (seat_of self.new)) ≡ spare_of (view (seat_of self.old))) }
@@ -152,7 +155,8 @@ impl<F: SpillFile, S: Source> Worker<F, S> {
         requires some { 1 < slots_of table.now }
         ensures seat { IsSeat J.told table.now (seat_of self.new) }
         ensures number { number_of self.new ≡ number_of self.old }
-        ensures same { knows F.held S.whole self.new ≡ knows F.held S.whole self.old }
+        ensures same { OnOk result (knows F.held S.whole self.new ≡ knows F.held S.whole self.old) }
+        ensures noted { IfErr result (λ e. knows F.held S.whole self.new ≡ refused_by e (knows F.held S.whole self.old)) }
         ensures permit { IfOk result (λ has. spare_of (view (seat_of self.new)) ≡ spare_of (view (seat_of self.old)) + (if has then 1 else 0)) }
         ensures no_permit { OnErr result (spare_of (view (seat_of self.new)) ≡ spare_of (view (seat_of self.old))) }
         ensures refused { IfErr result (IsVisitCause J.told (knows F.held S.whole self.new)) }
@@ -190,6 +194,9 @@ fn readied<F: SpillFile, J: Scan>(
     ensures lacks { IfErr result (λ it. it.why ≡ None → has_permit ≡ false) }
     ensures away { OnErr result (state_of node ≢ Resident) }
     ensures fault { IfSome (fault_of node) (λ why. IfErr result (λ it. it.why ≡ Some why)) }
+    ensures sound { OnOk result (fault_of node ≡ None) }
+    ensures broken { IfErr result (λ it. (why : NodeError) → fault_of node ≡ Some why → fault_of it.node ≡ Some why) }
+    ensures reason { IfErr result (λ it. fault_of it.node ≡ breaking it.why) }
 {
     match node.state() {
         NodeState::Resident => {
@@ -237,6 +244,7 @@ fn reloaded<F: SpillFile, J: Scan>(
     ensures filed { IfErr result (λ it. IsFiledNode F.held F.faults F.keeps J.told it.node) }
     ensures here { IfErr result (λ it. is_here it.node ≡ false) }
     ensures why { IfErr result (λ it. it.why ≢ None) }
+    ensures reason { IfErr result (λ it. fault_of it.node ≡ breaking it.why) }
 {
     match node.reload(alloc, workspace) {
         Ok(()) => {

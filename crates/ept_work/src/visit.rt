@@ -16,7 +16,7 @@ ghost use Rattle.ept_table.specs.Standing.{known};
 ghost use Rattle.ept_table.specs.Steps.{given_back};
 ghost use Rattle.ept_table.specs.Table.{IsSeat};
 ghost use Rattle.ept_work.specs.Rest.{IsIdle, IsAtRest};
-ghost use Rattle.ept_work.specs.Visiting.{IsBegun, IsVisit, TakesUp, IsLanding, HasRoom, IsVisitCause, IsOpening, leaving, Visits};
+ghost use Rattle.ept_work.specs.Visiting.{IsBegun, IsVisit, TakesUp, IsLanding, HasRoom, IsVisitCause, IsOpening, HoldsWhole, leaving, Visits};
 ghost use Rattle.ept_work.specs.Meeting.{Meets};
 
 use crate::error::WorkError;
@@ -71,8 +71,10 @@ impl<F: SpillFile, S: Source> Worker<F, S> {
         requires visit { IsVisit F.held J.told (knows F.held S.whole self.old) visit }
         requires slots { slots_of table.now ≡ J.told.most + 1 }
         requires rules { rules_of table.now ≡ J.told.rules }
+        requires whole { HoldsWhole (view (seat_of self.old)) }
         ensures seat { IsSeat J.told table.now (seat_of self.new) }
         ensures number { number_of self.new ≡ number_of self.old }
+        ensures whole { HoldsWhole (view (seat_of self.new)) }
         ensures opens { IsOpening (knows F.held S.whole self.old) (knows F.held S.whole self.new) }
         ensures ok { IfOk result (λ landing. IsLanding F.held J.told (knows F.held S.whole self.new) landing × HasRoom self.new landing) }
         ensures unchanged { OnErr result (knows F.held S.whole self.new ≡ knows F.held S.whole self.old) }
@@ -134,6 +136,7 @@ impl<F: SpillFile, S: Source> Worker<F, S> {
         requires room { HasRoom self.old landing }
         requires permit { 1 ≤ spare_of (view (seat_of self.old)) }
         requires slots { slots_of table.now ≡ J.told.most + 1 }
+        requires whole { HoldsWhole (view (seat_of self.old)) }
         ensures seat { IsSeat J.told table.now (seat_of self.new) }
         ensures number { number_of self.new ≡ number_of self.old }
         ensures knows { knows F.held S.whole self.new ≡ leaving (knows F.held S.whole self.old) landing.number landing.fresh.items }
@@ -170,6 +173,7 @@ impl<F: SpillFile, S: Source> Worker<F, S> {
         requires visit { IsVisit F.held J.told (knows F.held S.whole self.old) visit }
         requires slots { slots_of table.now ≡ J.told.most + 1 }
         requires permit { 1 ≤ spare_of (view (seat_of self.old)) }
+        requires whole { HoldsWhole (view (seat_of self.old)) }
         ensures seat { IsSeat J.told table.now (seat_of self.new) }
         ensures number { number_of self.new ≡ number_of self.old }
         ensures knows { knows F.held S.whole self.new ≡ given_back (knows F.held S.whole self.old) (knows F.held S.whole self.old).note }
@@ -276,6 +280,7 @@ pub(crate) fn permit_back<F: SpillFile, S: Source, J: Scan>(
     requires permit { is_spare ≡ true → 0 < (view seat.old).permits }
     ensures seat { IsSeat J.told table.now seat.new }
     ensures known { known F.held S.whole (view seat.new) ≡ known F.held S.whole (view seat.old) }
+    ensures held { (view seat.new).hold ≡ (view seat.old).hold }
     ensures permits { spare_of (view seat.new) + (if is_spare then 1 else 0) ≡ spare_of (view seat.old) }
 {
     if !is_spare {

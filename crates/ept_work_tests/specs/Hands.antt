@@ -9,7 +9,7 @@ use Rattle.ept_table.specs.Table.{slots_of, rules_of, IsSeat}
 use Rattle.ept_work.specs.declared.worker.Worker.{Worker}
 use Rattle.ept_work.specs.Worker.{seat_of, knows}
 use Rattle.ept_work.specs.Rest.{IsIdle, IsAtRest}
-use Rattle.ept_work.specs.Visiting.{IsVisit, IsLanding, HasRoom}
+use Rattle.ept_work.specs.Visiting.{IsVisit, IsLanding, HasRoom, HoldsWhole}
 use Rattle.ept_work_tests.specs.declared.hands.Doing.{Doing}
 use Rattle.ept_work_tests.specs.declared.hands.Doing.TheVariants.{Rest, Up, Down, Ended}
 use Rattle.ept_work_tests.specs.declared.hands.Hand.{Hand}
@@ -21,9 +21,9 @@ module _ {F S : Type 0} (held : F → Option (List ℕ)) (contents : S → Optio
     pub idle : IsIdle (knows held contents worker)
     pub landed : (knows held contents worker).note.flights ≡ []
 
-  -- it has a permit for the node that it holds
+  -- it has a permit for the node that it holds, which was not broken as it was taken
   abbrev pub HasPermit : Worker F S → Type 0
-  HasPermit worker = 1 ≤ spare_of (view (seat_of worker))
+  HasPermit worker = (1 ≤ spare_of (view (seat_of worker))) × HoldsWhole (view (seat_of worker))
 
   -- the worker is between these steps
   abbrev pub IsAt : Worker F S → Doing F → Type 0

@@ -1,4 +1,4 @@
-use Rattle.ept_table.proofs.Moves.{take-keeps, return-keeps, wish-keeps, abandon-keeps}
+use Rattle.ept_table.proofs.Moves.{take-keeps, return-keeps, wish-keeps, broken-keeps, abandon-keeps}
 use Rattle.ept_table.proofs.Merging.{merge-keeps}
 use Rattle.ept_table.proofs.laws.move_law.Goals as goal
 
@@ -12,6 +12,10 @@ returns-clause-give_back c =
 
 pub returns-clause-wish : goal.returns-clause-wish
 returns-clause-wish c = λ told drawn items views i v o h at. wish-keeps told drawn items views i v h at o
+
+pub returns-clause-broken : goal.returns-clause-broken
+returns-clause-broken c =
+    λ told drawn items views i v fault h at. broken-keeps told drawn items views i v h at fault
 
 pub returns-clause-abandon : goal.returns-clause-abandon
 returns-clause-abandon c =

@@ -9,4 +9,5 @@ give-done-requires-clause-visit g c = (
   c.take-item.result,
   c.take-item.ensures.holds,
   given-as-taken g.J.Scan.told (known g.F.SpillFile.held g.S.Source.whole (view c.args.seat.now)) (known g.F.SpillFile.held g.S.Source.whole (view c.take-item.new.seat)) c.args.slot (seen g.F.SpillFile.held g.S.Source.whole c.take-item.result) c.take-item.ensures.known c.requires.rest c.take-item.ensures.fits,
+  λ why is. is,
 )

@@ -15,6 +15,7 @@ invariant-loop-octant g l = record {
   may : MayOpen g.F.SpillFile.held g.J.Scan.told (known g.F.SpillFile.held g.S.Source.whole l.seat.me.0) l.slot l.before l.opening.node;
   node : node_of g.F.SpillFile.held l.opening.node ≡ node_of g.F.SpillFile.held l.initial.opening.node;
   file : file_of l.opening.node ≡ file_of l.initial.opening.node;
+  held : l.seat.me.0.hold ≡ l.initial.seat.me.0.hold;
   permits : spare_of l.seat.me.0 ≡ spare_of l.initial.seat.me.0;
   opened : HasOpened g.J.Scan.told (known g.F.SpillFile.held g.S.Source.whole l.seat.me.0) (cell_of g.F.SpillFile.held l.opening.node) l.octant l.opening.is_full;
 }

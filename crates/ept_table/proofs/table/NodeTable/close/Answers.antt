@@ -1,4 +1,4 @@
-use Rattle.std.proofs.Common.{◌≡◌, ◌∙◌, ℕ, ◌+◌, ◌≤◌, min, map, length, vec_capacity, sym, ap, subst, arith}
+use Rattle.std.proofs.Common.{◌≡◌, ◌∙◌, ℕ, ◌+◌, ◌≤◌, min, map, length, vec_capacity, sym, ap, subst, arith, Some}
 use Rattle.ept_slots.specs.Seating.{count_of}
 use Rattle.ept_table.specs.Tells.{IsEnded}
 use Rattle.ept_table.specs.Item.{seen, IsFiledNode}
@@ -7,9 +7,11 @@ use Rattle.ept_table.specs.Row.{items_of}
 use Rattle.ept_forest.specs.Slots.{residents_of}
 use Rattle.ept_table.specs.Permits.{weight_of}
 use Rattle.ept_forest.specs.Slots.{nodes_of}
-use Rattle.std.specs.List.{sum_by, All}
+use Rattle.std.specs.List.{sum_by, All, Any}
+use Rattle.ept_node.specs.Shown.{fault_of}
+use Rattle.ept_table.proofs.Glue.{at-from}
 use Rattle.ept_table.proofs.Allowed.{ended-known}
-use Rattle.ept_table.proofs.Rows.{row-weight, closed-row, closed-most, filed-first, filed-rest}
+use Rattle.ept_table.proofs.Rows.{row-weight, closed-row, closed-most, filed-first, filed-rest, broken-rest}
 use Rattle.ept_table.proofs.table.NodeTable.close.Goals as goal
 use Rattle.ept_table.proofs.table.NodeTable.close.Goals.{then-drawn-from, else-drawn-from}
 
@@ -50,3 +52,9 @@ returns-clause-cached g c =
     let weight : sum_by weight_of c.close-ending.result.items.items ≡ residents_of (nodes_of c.from_nodes.result) = ap (λ xs. sum_by weight_of xs) row ∙ row-weight g.row.F.Denot g.row.S.Denot c.take_apart-nodes.result.reader (nodes_of c.from_nodes.result) in
     let all : c.close-ending.result.free + c.args.seat.me.0.permits + sum_by weight_of c.close-ending.result.items.items ≡ g.J.Scan.told.cache = c.close-ending.ensures.permits in
     omega (arith, weight, all)
+
+pub returns-clause-broken : goal.returns-clause-broken
+returns-clause-broken g c = λ why noted.
+    let e = c.close-ending.ensures.ended in
+    let has = e.2.broken c.args.seat.id c.args.seat.me.0 why (at-from e.0 c.args.seat.id c.args.seat.me.0 e.3) noted in
+    subst (λ ns. Any (λ n. fault_of n ≡ Some why) ns) (sym c.from_nodes.ensures.nodes) (broken-rest g.F.SpillFile.held g.F.SpillFile.faults g.F.SpillFile.keeps g.S.Source.whole g.S.Source.left g.S.Source.given g.S.Source.faults g.J.Scan.told c.close-ending.result.items.items c.take_apart-nodes.result.reader c.take_apart-nodes.result.nodes.items c.take_apart-nodes.ensures why has)

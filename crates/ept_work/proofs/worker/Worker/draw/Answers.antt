@@ -1,6 +1,6 @@
 use Rattle.std.proofs.Common.{◌≡◌, ◌∙◌, refl, sym, ap, subst, arith, Bool, not, vec_len, Result, IfOk, IfErr}
 use Rattle.ept_table.specs.declared.item.Item.{Item}
-use Rattle.ept_table.specs.Item.{seen, seen_reader, Filed}
+use Rattle.ept_table.specs.Item.{seen, seen_reader, broken_by, Filed}
 use Rattle.ept_table.specs.Permits.{weight_of}
 use Rattle.ept_table.specs.Standing.{known}
 use Rattle.ept_work.specs.declared.error.WorkError.{WorkError}
@@ -43,6 +43,7 @@ give-done-requires-clause-visit g c = (
       flies = c.of.ensures ∙ c.launched-fresh.ensures;
     },
   ),
+  λ why is. sym (ap (λ (x : Item g.row.F.Denot g.row.S.Denot). broken_by x) c.reader_in.ensures) ∙ is,
 )
 
 pub give-done-requires-clause-filed : goal.give-done-requires-clause-filed

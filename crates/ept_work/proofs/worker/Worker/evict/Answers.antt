@@ -1,7 +1,14 @@
-use Rattle.std.proofs.Common.{◌∙◌, inl, sym, ap, subst}
+use Rattle.std.proofs.Common.{◌≡◌, ◌∙◌, inl, refl, sym, ap, subst}
+use Rattle.std.proofs.lemmas.Result.{IfOk-at_ok, IfErr-at_err}
+use Rattle.ept_node.specs.Shown.{fault_of}
+use Rattle.ept_table.specs.Standing.{known}
+use Rattle.ept_table.specs.Steps.{noting, noting_broken}
+use Rattle.ept_work.specs.declared.error.WorkError.{WorkError}
+use Rattle.ept_work.specs.Visiting.{IsVisitCause, breaking, refused_by}
+use Rattle.ept_work.proofs.Whole.{gave-again, gave-whole, gave-refused, noted-cause}
 use Rattle.ept_table.specs.declared.item.Item.{Item}
 use Rattle.ept_table.specs.declared.taken.Taken.{Taken}
-use Rattle.ept_table.specs.Item.{seen, seen_node}
+use Rattle.ept_table.specs.Item.{seen, seen_node, broken_by}
 use Rattle.ept_table.specs.Steps.{StaysAlike}
 use Rattle.ept_table.specs.View.{View}
 use Rattle.ept_work.proofs.Carrying.{node-taken}
@@ -20,4 +27,13 @@ give-done-requires-clause-visit g c =
         c.in_ok-slot.ensures.0,
         ap (λ (v : View). v.note.draws) c.in-Some.ensures.known ∙ c.requires.idle.undrawn,
       ),
+      λ why is. c.put_in_file-node.ensures.broken why (sym (ap (λ (x : Item g.row.F.Denot g.row.S.Denot). broken_by x) c.node_in.ensures) ∙ is),
     )
+
+pub returns-in_err-answer-clause-noted : goal.returns-in_err-answer-clause-noted
+returns-in_err-answer-clause-noted g c =
+    let v = known g.F.SpillFile.held g.S.Source.whole c.args.self.now.seat.me.0 in
+    let w = known g.F.SpillFile.held g.S.Source.whole c.give-done.new.seat.me.0 in
+    let node = c.put_in_file-node.result.node in
+    let gave = gave-again g.F.SpillFile.held v v (known g.F.SpillFile.held g.S.Source.whole c.try_take.new.seat.me.0) w w c.in_ok-slot.slot (seen g.F.SpillFile.held g.S.Source.whole c.in-Some.item) node c.requires.idle.free refl c.in-Some.ensures.known c.give-done.ensures.known refl in
+    gave-refused v w (fault_of node) c.in_err-answer.field-0 (IfErr-at_err (λ why. fault_of node ≡ breaking (Some why)) c.in_err-answer.was c.put_in_file-node.ensures.reason) gave ∙ ap (λ (e : WorkError). refused_by e v) (sym c.from.ensures)

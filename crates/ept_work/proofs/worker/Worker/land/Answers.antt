@@ -8,7 +8,7 @@ use Rattle.ept_table.specs.declared.note.Note.{Note}
 use Rattle.ept_table.specs.declared.note.Carried.{Carried}
 use Rattle.ept_table.specs.Standing.{known}
 use Rattle.ept_table.proofs.Lists.{at-below}
-use Rattle.ept_work.specs.Visiting.{IsVisit}
+use Rattle.ept_work.specs.Visiting.{IsVisit, held_fault}
 use Rattle.ept_work.proofs.Arrivals.{when-ok, carried-same, visit-again, visit-inside, visit-some, visit-may, visit-unopened, lands}
 use Rattle.ept_work.proofs.worker.Worker.land.Goals as goal
 
@@ -74,3 +74,7 @@ returns-clause-ok g c =
     let few : length c.send_on-fresh.result.items ≤ 8 = c.send_on-fresh.ensures.few in
     let room : vec_len c.reserve.new.self.flights + 8 ≤ vec_capacity c.reserve.new.self.flights = when-ok c.reserve.result c.if-is_err.ensures.negation c.reserve.ensures.room in
     (lands g.F.SpillFile.held g.J.Scan.told v c.args.visit is c.as_slice.result.now points c.in-Ok.node c.arrived.new.out c.in-Ok.ensures.ok c.in-Ok.ensures.state (known g.F.SpillFile.held g.S.Source.whole c.open_children-node.new.seat.me.0) c.open_mask-before.result node (record { node = node; slot = c.args.visit.slot; number = c.args.visit.number; fresh = c.send_on-fresh.result; is_full = c.open_children-node.result.is_full }) o.view o.may o.node o.file o.opened refl refl refl c.index.result.now.flight.actor (ap (λ (d : Carried). d.flight.actor) (sym carried)) c.send_on-fresh.ensures.sent c.known-2.ensures.inside c.known-3.ensures.inside cube c.known-4.ensures, omega (arith, few, room, c.reserve.new.self.flights.ok.0))
+
+pub returns-clause-whole : goal.returns-clause-whole
+returns-clause-whole g c =
+    ap held_fault (c.open_children-node.ensures.held ∙ ap (λ (s : SlotSeat (Item g.row.F.Denot g.row.S.Denot) Note Said). s.me.0.hold) c.reserve.ensures.seat) ∙ c.requires.whole

@@ -2,9 +2,10 @@ use Rattle.std.proofs.Common.{◌≡◌, ◌∙◌, ◌<◌, ◌+◌, ◌≤◌,
 use Rattle.ept_space.specs.declared.cube.Rules.{Rules}
 use Rattle.ept_sample.specs.Ids.{HasDistinctIds}
 use Rattle.ept_sample.specs.Members.{IsMember}
+use Rattle.ept_node.specs.Shown.{fault_of}
 use Rattle.ept_table.specs.declared.item.Item.{Item}
 use Rattle.ept_table.specs.declared.taken.Taken.{Taken}
-use Rattle.ept_table.specs.Item.{cell_of, seen, seen_node}
+use Rattle.ept_table.specs.Item.{cell_of, seen, seen_node, broken_by}
 use Rattle.ept_table.specs.Taken.{points_of}
 use Rattle.ept_table.specs.Steps.{holding, StaysAlike}
 use Rattle.ept_table.specs.Standing.{known}
@@ -13,9 +14,10 @@ use Rattle.ept_table.specs.Tells.{Fits}
 use Rattle.ept_table.specs.View.{View}
 use Rattle.ept_table.proofs.Lists.{at-member}
 use Rattle.ept_work.specs.declared.visit.Visit.{Visit}
-use Rattle.ept_work.specs.Visiting.{IsBegun}
+use Rattle.ept_work.specs.Visiting.{IsBegun, held_fault}
 use Rattle.ept_work.proofs.Filing.{distinct-right, seen-standing}
 use Rattle.ept_work.proofs.Carrying.{is-at, node-taken, takes-up}
+use Rattle.ept_work.proofs.Whole.{gave-again, staying-noted, staying-again, staying-refused}
 use Rattle.ept_work.proofs.worker.Worker.try_up.Goals as goal
 
 pub permit_for-requires-clause-some : goal.permit_for-requires-clause-some
@@ -93,6 +95,7 @@ give-done-requires-clause-visit g c =
         some,
         ap (λ (u : View). u.note.draws) c.take.ensures.known ∙ (ap (λ (u : View). u.note.draws) c.in_ok-has_permit.ensures.same ∙ c.requires.rest.idle.undrawn),
       ),
+      λ why is. c.in-Err.ensures.broken why (sym (ap (λ (x : Item g.row.F.Denot g.row.S.Denot). broken_by x) c.node_in-node.ensures) ∙ is),
     )
 
 pub give-done-requires-clause-slot : goal.give-done-requires-clause-slot
@@ -119,3 +122,43 @@ returns-after-has_permit-clause-up g c =
     let fits = subst (λ (u : View). Fits g.J.Scan.told u carried.slot x) same c.take.ensures.fits in
     let visit : Visit g.row.F.Denot = record { node = ready.node; slot = carried.slot; number = c.in-Ok.number; was_blank = ready.was_blank } in
     takes-up g.F.SpillFile.held g.J.Scan.told v (known g.F.SpillFile.held g.S.Source.whole c.permit_back.new.seat.me.0) x carried.slot c.in-Ok.number carried visit c.requires.rest (c.permit_back.ensures.known ∙ (c.take.ensures.known ∙ ap (λ (u : View). holding u carried.slot x) same)) fits its refl some refl refl node c.in-Ok-readied.ensures.telling
+
+pub returns-after-has_permit-clause-whole : goal.returns-after-has_permit-clause-whole
+returns-after-has_permit-clause-whole g c = λ some.
+    ap held_fault (c.permit_back.ensures.held ∙ c.take.ensures.holds) ∙ (ap (λ (x : Item g.row.F.Denot g.row.S.Denot). broken_by x) c.node_in-node.ensures ∙ c.in-Ok-readied.ensures.sound)
+
+pub returns-in-Err-clause-noted : goal.returns-in-Err-clause-noted
+returns-in-Err-clause-noted g c =
+    let v = known g.F.SpillFile.held g.S.Source.whole c.args.self.now.seat.me.0 in
+    let mid = known g.F.SpillFile.held g.S.Source.whole c.permit_for.new.self.seat.me.0 in
+    let u = known g.F.SpillFile.held g.S.Source.whole c.take.new.seat.me.0 in
+    let back = known g.F.SpillFile.held g.S.Source.whole c.give-done.new.seat.me.0 in
+    let w = known g.F.SpillFile.held g.S.Source.whole c.permit_back.new.seat.me.0 in
+    let node = c.in-Err.stays.node in
+    let x = seen g.F.SpillFile.held g.S.Source.whole c.take.result in
+    let gave = gave-again g.F.SpillFile.held v mid u back w c.index-carried.result.now.slot x node c.requires.rest.idle.free c.in_ok-has_permit.ensures.same c.take.ensures.known c.give-done.ensures.known c.permit_back.ensures.known in
+    staying-noted v w (fault_of node) gave c.in-Err.stays.why c.given_up.result c.given_up.ensures c.in-Err.ensures.reason
+
+pub returns-in-Err-clause-again : goal.returns-in-Err-clause-again
+returns-in-Err-clause-again g c =
+    let v = known g.F.SpillFile.held g.S.Source.whole c.args.self.now.seat.me.0 in
+    let mid = known g.F.SpillFile.held g.S.Source.whole c.permit_for.new.self.seat.me.0 in
+    let u = known g.F.SpillFile.held g.S.Source.whole c.take.new.seat.me.0 in
+    let back = known g.F.SpillFile.held g.S.Source.whole c.give-done.new.seat.me.0 in
+    let w = known g.F.SpillFile.held g.S.Source.whole c.permit_back.new.seat.me.0 in
+    let node = c.in-Err.stays.node in
+    let x = seen g.F.SpillFile.held g.S.Source.whole c.take.result in
+    let gave = gave-again g.F.SpillFile.held v mid u back w c.index-carried.result.now.slot x node c.requires.rest.idle.free c.in_ok-has_permit.ensures.same c.take.ensures.known c.give-done.ensures.known c.permit_back.ensures.known in
+    staying-again v w (fault_of node) gave c.in-Err.stays.why c.given_up.result c.given_up.ensures c.in-Err.ensures.reason
+
+pub returns-in-Err-clause-refused : goal.returns-in-Err-clause-refused
+returns-in-Err-clause-refused g c =
+    let v = known g.F.SpillFile.held g.S.Source.whole c.args.self.now.seat.me.0 in
+    let mid = known g.F.SpillFile.held g.S.Source.whole c.permit_for.new.self.seat.me.0 in
+    let u = known g.F.SpillFile.held g.S.Source.whole c.take.new.seat.me.0 in
+    let back = known g.F.SpillFile.held g.S.Source.whole c.give-done.new.seat.me.0 in
+    let w = known g.F.SpillFile.held g.S.Source.whole c.permit_back.new.seat.me.0 in
+    let node = c.in-Err.stays.node in
+    let x = seen g.F.SpillFile.held g.S.Source.whole c.take.result in
+    let gave = gave-again g.F.SpillFile.held v mid u back w c.index-carried.result.now.slot x node c.requires.rest.idle.free c.in_ok-has_permit.ensures.same c.take.ensures.known c.give-done.ensures.known c.permit_back.ensures.known in
+    staying-refused v w (fault_of node) gave c.in-Err.stays.why c.given_up.result c.given_up.ensures c.in-Err.ensures.reason g.J.Scan.told
