@@ -11,7 +11,7 @@ use Rattle.ept_table.specs.declared.note.Told.{Told}
 use Rattle.ept_table.specs.Item.{IsFiledNode}
 use Rattle.ept_table.specs.View.{View}
 use Rattle.ept_work.specs.declared.error.WorkError.{WorkError}
-use Rattle.ept_work.specs.declared.error.WorkError.TheVariants.{SourceFault, SourceChanged, TooManyNodes, SpillFault, SpillDamaged, Memory}
+use Rattle.ept_work.specs.declared.error.WorkError.TheVariants.{SourceFault, SourceChanged, TooManyNodes, SpillFault, SpillDamaged}
 use Rattle.ept_work.specs.Errors.{of_node, settled_by}
 use Rattle.ept_work.specs.Working.{IsCause}
 use Rattle.ept_work.proofs.Results.{cause-of}

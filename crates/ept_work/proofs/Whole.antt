@@ -1,5 +1,5 @@
 -- Nodes that are broken, and what a seat notes of them.
-use Rattle.std.proofs.Common.{◌≡◌, ◌∙◌, ◌⊎◌, ℕ, inl, inr, Bool, true, false, List, refl, sym, ap, subst, Option, Some, None, Result, Ok, Err, IfErr, IfOk}
+use Rattle.std.proofs.Common.{◌≡◌, ◌∙◌, ◌⊎◌, ℕ, ◌<◌, inl, inr, Bool, true, false, List, refl, sym, ap, subst, Option, Some, None, Result, Ok, Err, IfErr, IfOk}
 use Rattle.std.specs.Prelude.{IsNone}
 use Rattle.ept_sample.specs.Members.{IsMember}
 use Rattle.ept_sample.proofs.Choices.{either}
@@ -11,21 +11,23 @@ use Rattle.ept_node.specs.declared.error.NodeError.{NodeError}
 use Rattle.ept_node.specs.declared.error.NodeError.TheVariants as node
 use Rattle.ept_node.specs.declared.state.NodeState.TheVariants as states
 use Rattle.ept_node.specs.Shown.{state_of, state_in, fault_of, fault_in}
-use Rattle.ept_table.specs.declared.done.Done.TheVariants.{Nothing}
+use Rattle.ept_table.specs.declared.done.Done.TheVariants.{Nothing, Arrive}
 use Rattle.ept_table.specs.declared.item.Item.{Item}
+use Rattle.ept_table.specs.declared.note.Carried.{Carried}
 use Rattle.ept_table.specs.declared.note.Note.{Note}
 use Rattle.ept_table.specs.declared.note.Told.{Told}
 use Rattle.ept_table.specs.declared.taken.Taken.{Taken}
 use Rattle.ept_table.specs.Item.{seen_node, broken_by, StaysBroken}
 use Rattle.ept_table.specs.Steps.{holding, given_back, noting, noting_broken}
+use Rattle.ept_table.specs.Tells.{IsTooMany}
 use Rattle.ept_table.specs.View.{View}
 use Rattle.ept_table.specs.Visits.{note_after}
 use Rattle.ept_work.specs.declared.error.WorkError.{WorkError}
 use Rattle.ept_work.specs.declared.error.WorkError.TheVariants.{SourceFault, SourceChanged, TooManyNodes, SpillFault, SpillDamaged, Memory}
 use Rattle.ept_work.specs.Errors.{of_node, answer_staying}
 use Rattle.ept_work.specs.Rest.{IsIdle}
-use Rattle.ept_work.specs.Visiting.{IsVisitCause, held_fault, HoldsWhole, breaking, refused_by}
-use Rattle.ept_work.proofs.Begun.{kept-note}
+use Rattle.ept_work.specs.Visiting.{IsVisitCause, held_fault, HoldsWhole, breaking, refused_by, leaving}
+use Rattle.ept_work.proofs.Begun.{seen-resident, kept-note}
 
 -- ---- nodes that are not broken
 
@@ -98,6 +100,28 @@ module _ {F S : Type 0} where
   pub stays-whole : (v : slots.View (Item F S) Note) (k : ℕ) (x y : Item F S) → HoldsWhole v → v.hold ≡ Some (record { slot = k; item = x }) → StaysBroken x y
   stays-whole v k x y whole is = λ why broken. never-broken (broken_by x) why (sym (ap held_fault is) ∙ whole) broken
 
+-- ---- what a seat knows that gave back a node that is not broken
+
+module _ {F : Type 0} (held : F → Option (List ℕ)) (v w : View) where
+  -- a node at which a flight has arrived
+  pub gave-landed : (number : ℕ) (n : Node F) (said fresh : List Carried) → state_of n ≡ states.Resident → w ≡ given_back v (noting_broken (fault_of n) (note_after v.note (seen_node held n) (Arrive number said))) → said ≡ fresh → w ≡ leaving v number fresh
+  gave-landed number n said fresh is gave same =
+      gave ∙ (ap (λ (o : Option NodeError). given_back v (noting_broken o (note_after v.note (seen_node held n) (Arrive number said)))) (resident-sound n is)
+      ∙ (ap (λ (x : Taken). given_back v (note_after v.note x (Arrive number said))) (seen-resident held n is)
+      ∙ ap (λ (fs : List Carried). leaving v number fs) same))
+
+  -- one that goes back as it was taken
+  pub gave-as-taken : (n back : Node F) (was_blank : Bool) → state_of n ≡ states.Resident → (was_blank ≡ true → state_of back ≡ states.Blank) → (was_blank ≡ false → back ≡ n) → w ≡ given_back v (noting_broken (fault_of back) (note_after v.note (seen_node held back) Nothing)) → w ≡ given_back v v.note
+  gave-as-taken n back was_blank is blank same gave =
+      gave ∙ (ap (λ (o : Option NodeError). given_back v (noting_broken o (note_after v.note (seen_node held back) Nothing))) (back-sound n back was_blank is blank same)
+      ∙ ap (λ (m : Note). given_back v m) (kept-note held back v.note))
+
+pub left-idle : (v w : View) (number : ℕ) (fresh : List Carried) → w ≡ leaving v number fresh → 0 < v.parts → IsIdle w
+left-idle v w number fresh is share = subst (λ (u : View). IsIdle u) (sym is) (record { share = share; free = refl; undrawn = refl })
+
+pub left-full : (told : Told) (v w : View) (number : ℕ) (fresh : List Carried) → w ≡ leaving v number fresh → 0 < v.refused → IsTooMany told → IsVisitCause told w TooManyNodes
+left-full told v w number fresh is refused too_many = subst (λ (u : View). IsVisitCause told u TooManyNodes) (sym is) (inl (inl refused, too_many))
+
 -- ---- what a seat notes of a refusal
 
 -- the refusal of a node that stays is noted as that of a worker
@@ -128,6 +152,11 @@ refused-parts e v w is = ap (λ (u : View). u.parts) is ∙ any e
     any (SpillDamaged kept found at) = refl
     any Memory = refl
 
+-- a refusal is handed on, of a worker that knew as much before
+pub handed-on : {X : Type 0} (r : Result X WorkError) (e : WorkError) (v mid w : View) → r ≡ Err e → w ≡ refused_by e mid → mid ≡ v → IfErr r (λ d. w ≡ refused_by d v)
+handed-on {X} r e v mid w is noted same =
+    subst (λ (a : Result X WorkError). IfErr a (λ d. w ≡ refused_by d v)) (sym is) (noted ∙ ap (λ (u : View). refused_by e u) same)
+
 -- a node was taken and given back
 pub gave-back : {F : Type 0} (held : F → Option (List ℕ)) (v u w : View) (slot : ℕ) (x : Taken) (n : Node F) → v.hold ≡ None → u ≡ holding v slot x → w ≡ given_back u (noting_broken (fault_of n) (note_after u.note (seen_node held n) Nothing)) → w ≡ noting v (noting_broken (fault_of n) v.note)
 gave-back held v u w slot x n free took gave =
@@ -157,28 +186,28 @@ noted-cause told v w node.Memory is = tt
 
 -- ---- what is answered of a node that stays
 
-module _ {X : Type 0} (v w : View) (fault : Option NodeError) (gave : w ≡ noting v (noting_broken fault v.note)) where
-  abbrev Answer : Type 0
-  Answer = Result (Option X) WorkError
+abbrev Staying : Type 0 → Type 0
+Staying X = Result (Option X) WorkError
 
-  noted_if : (why : Option NodeError) → fault ≡ breaking why → IfErr (answer_staying {X} why) (λ e. w ≡ refused_by e v)
+module _ (X : Type 0) (v w : View) (fault : Option NodeError) (gave : w ≡ noting v (noting_broken fault v.note)) where
+  noted_if : (why : Option NodeError) → fault ≡ breaking why → IfErr (answer_staying {X = X} why) (λ e. w ≡ refused_by e v)
   noted_if None reason = tt
   noted_if (Some why) reason = gave-refused v w fault why reason gave
 
-  again_if : (why : Option NodeError) → fault ≡ breaking why → IfOk (answer_staying {X} why) (λ (found : Option X). IsNone found → w ≡ v)
+  again_if : (why : Option NodeError) → fault ≡ breaking why → IfOk (answer_staying {X = X} why) (λ (found : Option X). IsNone found → w ≡ v)
   again_if None reason = λ none. gave-whole v w fault reason gave
   again_if (Some why) reason = tt
 
-  cause_if : (told : Told) (why : Option NodeError) → fault ≡ breaking why → IfErr (answer_staying {X} why) (IsVisitCause told w)
+  cause_if : (told : Told) (why : Option NodeError) → fault ≡ breaking why → IfErr (answer_staying {X = X} why) (IsVisitCause told w)
   cause_if told None reason = tt
   cause_if told (Some why) reason = noted-cause told v w why (gave-refused v w fault why reason gave)
 
   module _ (why : Option NodeError) (r : Result (Option X) WorkError) (is : r ≡ answer_staying why) (reason : fault ≡ breaking why) where
     pub staying-noted : IfErr r (λ e. w ≡ refused_by e v)
-    staying-noted = subst (λ (a : Answer). IfErr a (λ e. w ≡ refused_by e v)) (sym is) (noted_if why reason)
+    staying-noted = subst (λ (a : Staying X). IfErr a (λ e. w ≡ refused_by e v)) (sym is) (noted_if why reason)
 
     pub staying-again : IfOk r (λ (found : Option X). IsNone found → w ≡ v)
-    staying-again = subst (λ (a : Answer). IfOk a (λ (found : Option X). IsNone found → w ≡ v)) (sym is) (again_if why reason)
+    staying-again = subst (λ (a : Staying X). IfOk a (λ (found : Option X). IsNone found → w ≡ v)) (sym is) (again_if why reason)
 
     pub staying-refused : (told : Told) → IfErr r (IsVisitCause told w)
-    staying-refused told = subst (λ (a : Answer). IfErr a (IsVisitCause told w)) (sym is) (cause_if told why reason)
+    staying-refused told = subst (λ (a : Staying X). IfErr a (IsVisitCause told w)) (sym is) (cause_if told why reason)

@@ -5,7 +5,7 @@ use Rattle.ept_scan.specs.declared.read_error.ReadError.TheVariants as read
 use Rattle.ept_node.specs.declared.error.NodeError.{NodeError}
 use Rattle.ept_node.specs.declared.error.NodeError.TheVariants as node
 use Rattle.ept_work.specs.declared.error.WorkError.{WorkError}
-use Rattle.ept_work.specs.declared.error.WorkError.TheVariants.{SourceFault, SourceChanged, TooManyNodes, SpillFault, SpillDamaged, Memory}
+use Rattle.ept_work.specs.declared.error.WorkError.TheVariants.{SourceFault, SourceChanged, SpillFault, SpillDamaged, Memory}
 
 abbrev pub of_read : ReadError → WorkError
 of_read read.SourceFault = SourceFault

@@ -1,4 +1,4 @@
-use Rattle.std.proofs.Common.{◌≡◌, ◌∙◌, sym, ap}
+use Rattle.std.proofs.Common.{◌≡◌, ap}
 use Rattle.ept_forest.specs.Slots.{nodes_of, used_of}
 use Rattle.ept_slots.specs.declared.view.View as slots
 use Rattle.ept_table.specs.declared.item.Item.{Item}

@@ -1,4 +1,4 @@
-use Rattle.std.proofs.Common.{rules, ◌≡◌, ◌≢◌, ◌∙◌, false, true, refl, sym, ap}
+use Rattle.std.proofs.Common.{rules, ◌≡◌, ◌≢◌, ◌∙◌, refl, ap}
 use Rattle.std.proofs.lemmas.Bool.{false≢true}
 use Rattle.ept_node.specs.declared.state.NodeState.{NodeState}
 use Rattle.ept_node.specs.declared.state.NodeState.TheVariants.{Blank, Resident, Spilled}

@@ -1,11 +1,10 @@
-use Rattle.std.proofs.Common.{◌≡◌, ◌∙◌, inl, refl, sym, ap, subst}
-use Rattle.std.proofs.lemmas.Result.{IfOk-at_ok, IfErr-at_err}
+use Rattle.std.proofs.Common.{◌≡◌, ◌∙◌, inl, refl, sym, ap, subst, rules, Some, Err}
+use Rattle.std.proofs.lemmas.Result.{IfErr-at_err}
 use Rattle.ept_node.specs.Shown.{fault_of}
 use Rattle.ept_table.specs.Standing.{known}
-use Rattle.ept_table.specs.Steps.{noting, noting_broken}
-use Rattle.ept_work.specs.declared.error.WorkError.{WorkError}
-use Rattle.ept_work.specs.Visiting.{IsVisitCause, breaking, refused_by}
-use Rattle.ept_work.proofs.Whole.{gave-again, gave-whole, gave-refused, noted-cause}
+use Rattle.ept_work.specs.Visiting.{breaking}
+use Rattle.ept_work.specs.Errors.{of_node}
+use Rattle.ept_work.proofs.Whole.{gave-again, gave-refused, handed-on}
 use Rattle.ept_table.specs.declared.item.Item.{Item}
 use Rattle.ept_table.specs.declared.taken.Taken.{Taken}
 use Rattle.ept_table.specs.Item.{seen, seen_node, broken_by}
@@ -35,5 +34,7 @@ returns-in_err-answer-clause-noted g c =
     let v = known g.F.SpillFile.held g.S.Source.whole c.args.self.now.seat.me.0 in
     let w = known g.F.SpillFile.held g.S.Source.whole c.give-done.new.seat.me.0 in
     let node = c.put_in_file-node.result.node in
+    let why = c.in_err-answer.field-0.0 in
+    let is : c.from_residual-in_err-answer.result ≡ Err (of_node why) = search rules in
     let gave = gave-again g.F.SpillFile.held v v (known g.F.SpillFile.held g.S.Source.whole c.try_take.new.seat.me.0) w w c.in_ok-slot.slot (seen g.F.SpillFile.held g.S.Source.whole c.in-Some.item) node c.requires.idle.free refl c.in-Some.ensures.known c.give-done.ensures.known refl in
-    gave-refused v w (fault_of node) c.in_err-answer.field-0 (IfErr-at_err (λ why. fault_of node ≡ breaking (Some why)) c.in_err-answer.was c.put_in_file-node.ensures.reason) gave ∙ ap (λ (e : WorkError). refused_by e v) (sym c.from.ensures)
+    handed-on c.from_residual-in_err-answer.result (of_node why) v v w is (gave-refused v w (fault_of node) why (IfErr-at_err (λ e. fault_of node ≡ breaking (Some e)) c.in_err-answer.was c.put_in_file-node.ensures.reason) gave) refl

@@ -1,25 +1,22 @@
-use Rattle.std.proofs.Common.{◌≡◌, ◌∙◌, ◌+◌, ◌++◌, ◌≤◌, List, length, sym, ap, subst, arith, Option}
+use Rattle.std.proofs.Common.{◌≡◌, ◌∙◌, ◌+◌, ◌++◌, ◌≤◌, List, length, sym, ap, subst, arith}
 use Rattle.std.specs.List.{remove}
 use Rattle.ept_table.specs.declared.note.Carried.{Carried}
 use Rattle.ept_table.specs.declared.done.Done.{Done}
-use Rattle.ept_table.specs.declared.done.Done.TheVariants.{Arrive}
 use Rattle.ept_table.specs.declared.taken.Taken.{Taken}
 use Rattle.ept_table.specs.Standing.{known}
-use Rattle.ept_table.specs.Steps.{given_back, noting_broken, HasArrived}
+use Rattle.ept_table.specs.Steps.{HasArrived}
 use Rattle.ept_table.specs.Table.{slots_of}
 use Rattle.ept_table.specs.View.{View}
-use Rattle.ept_table.specs.Visits.{note_after, fresh_of}
-use Rattle.ept_table.specs.Item.{cell_of, seen_node}
+use Rattle.ept_table.specs.Visits.{fresh_of}
+use Rattle.ept_table.specs.Item.{cell_of}
 use Rattle.ept_table.specs.declared.item.Item.TheVariants as items
-use Rattle.ept_node.specs.declared.error.NodeError.{NodeError}
 use Rattle.ept_table.proofs.Lists.{at-below, at-member}
-use Rattle.ept_work.specs.Visiting.{leaving}
 use Rattle.ept_work.proofs.Known.{known-item}
 use Rattle.ept_work.proofs.Begun.{seen-resident}
 use Rattle.ept_work.proofs.Filing.{resident-filed}
 use Rattle.ept_work.proofs.Permitted.{resident-weight}
 use Rattle.ept_work.proofs.Carrying.{left-rest}
-use Rattle.ept_work.proofs.Whole.{resident-sound, stays-whole}
+use Rattle.ept_work.proofs.Whole.{stays-whole, gave-landed, left-idle, left-full}
 use Rattle.ept_work.proofs.worker.Worker.leave.Goals as goal
 
 pub give-done-requires-clause-visit : goal.give-done-requires-clause-visit
@@ -58,17 +55,51 @@ invariant_of-self-clause-carries g c =
     let is = c.requires.landing in
     let v = known g.F.SpillFile.held g.S.Source.whole c.args.self.now.seat.me.0 in
     let n = c.args.landing.number in
-    let gave = c.give-done.ensures.known ∙ (ap (λ (o : Option NodeError). given_back v (noting_broken o (note_after v.note (seen_node g.F.SpillFile.held c.args.landing.node) (Arrive n c.of.result)))) (resident-sound c.args.landing.node is.resident) ∙ (ap (λ (x : Taken). given_back v (note_after v.note x (Arrive n c.of.result))) (seen-resident g.F.SpillFile.held c.args.landing.node is.resident) ∙ ap (λ (fs : List Carried). leaving v n fs) c.of.ensures)) in
+    let gave = gave-landed g.F.SpillFile.held v (known g.F.SpillFile.held g.S.Source.whole c.give-done.new.seat.me.0) c.args.landing.number c.args.landing.node c.of.result c.args.landing.fresh.items is.resident c.give-done.ensures.known c.of.ensures in
     let front : remove v.note.flights n ≡ c.remove-landed.new.self.items = ap (λ (fs : List Carried). remove fs n) c.args.self.now.carries ∙ sym c.remove-landed.ensures.items in
     let back : c.args.landing.fresh.items ≡ c.fresh_in.result.items = sym (c.fresh_in.ensures ∙ (ap (λ (d : Done). fresh_of d) c.give-done.ensures.done ∙ c.of.ensures)) in
     ap (λ (u : View). u.note.flights) gave ∙ (ap (λ (fs : List Carried). fs ++ c.args.landing.fresh.items) front ∙ (ap (λ (fs : List Carried). c.remove-landed.new.self.items ++ fs) back ∙ sym c.take_over.ensures.flights))
+
+pub returns-clause-knows : goal.returns-clause-knows
+returns-clause-knows g c =
+    let is = c.requires.landing in
+    let v = known g.F.SpillFile.held g.S.Source.whole c.args.self.now.seat.me.0 in
+    gave-landed g.F.SpillFile.held v (known g.F.SpillFile.held g.S.Source.whole c.give-done.new.seat.me.0) c.args.landing.number c.args.landing.node c.of.result c.args.landing.fresh.items is.resident c.give-done.ensures.known c.of.ensures
+
+pub returns-clause-idle : goal.returns-clause-idle
+returns-clause-idle g c =
+    let is = c.requires.landing in
+    let v = known g.F.SpillFile.held g.S.Source.whole c.args.self.now.seat.me.0 in
+    let gave = gave-landed g.F.SpillFile.held v (known g.F.SpillFile.held g.S.Source.whole c.give-done.new.seat.me.0) c.args.landing.number c.args.landing.node c.of.result c.args.landing.fresh.items is.resident c.give-done.ensures.known c.of.ensures in
+    left-idle v (known g.F.SpillFile.held g.S.Source.whole c.give-done.new.seat.me.0) c.args.landing.number c.args.landing.fresh.items gave is.share
 
 pub returns-clause-rest : goal.returns-clause-rest
 returns-clause-rest g c =
     let is = c.requires.landing in
     let v = known g.F.SpillFile.held g.S.Source.whole c.args.self.now.seat.me.0 in
-    let gave = c.give-done.ensures.known ∙ (ap (λ (o : Option NodeError). given_back v (noting_broken o (note_after v.note (seen_node g.F.SpillFile.held c.args.landing.node) (Arrive c.args.landing.number c.of.result)))) (resident-sound c.args.landing.node is.resident) ∙ (ap (λ (x : Taken). given_back v (note_after v.note x (Arrive c.args.landing.number c.of.result))) (seen-resident g.F.SpillFile.held c.args.landing.node is.resident) ∙ ap (λ (fs : List Carried). leaving v c.args.landing.number fs) c.of.ensures)) in
+    let gave = gave-landed g.F.SpillFile.held v (known g.F.SpillFile.held g.S.Source.whole c.give-done.new.seat.me.0) c.args.landing.number c.args.landing.node c.of.result c.args.landing.fresh.items is.resident c.give-done.ensures.known c.of.ensures in
     left-rest g.J.Scan.told v (known g.F.SpillFile.held g.S.Source.whole c.give-done.new.seat.me.0) c.args.landing.number is.carried c.args.landing.fresh.items gave is.share (is.not_full c.if-is_full.false) is.its is.within is.fresh_within
+
+pub returns-then-is_full-clause-knows : goal.returns-then-is_full-clause-knows
+returns-then-is_full-clause-knows g c =
+    let is = c.requires.landing in
+    let v = known g.F.SpillFile.held g.S.Source.whole c.args.self.now.seat.me.0 in
+    gave-landed g.F.SpillFile.held v (known g.F.SpillFile.held g.S.Source.whole c.give-done.new.seat.me.0) c.args.landing.number c.args.landing.node c.of.result c.args.landing.fresh.items is.resident c.give-done.ensures.known c.of.ensures
+
+pub returns-then-is_full-clause-idle : goal.returns-then-is_full-clause-idle
+returns-then-is_full-clause-idle g c =
+    let is = c.requires.landing in
+    let v = known g.F.SpillFile.held g.S.Source.whole c.args.self.now.seat.me.0 in
+    let gave = gave-landed g.F.SpillFile.held v (known g.F.SpillFile.held g.S.Source.whole c.give-done.new.seat.me.0) c.args.landing.number c.args.landing.node c.of.result c.args.landing.fresh.items is.resident c.give-done.ensures.known c.of.ensures in
+    left-idle v (known g.F.SpillFile.held g.S.Source.whole c.give-done.new.seat.me.0) c.args.landing.number c.args.landing.fresh.items gave is.share
+
+pub returns-then-is_full-clause-refused : goal.returns-then-is_full-clause-refused
+returns-then-is_full-clause-refused g c =
+    let is = c.requires.landing in
+    let v = known g.F.SpillFile.held g.S.Source.whole c.args.self.now.seat.me.0 in
+    let gave = gave-landed g.F.SpillFile.held v (known g.F.SpillFile.held g.S.Source.whole c.give-done.new.seat.me.0) c.args.landing.number c.args.landing.node c.of.result c.args.landing.fresh.items is.resident c.give-done.ensures.known c.of.ensures in
+    let full = is.full c.if-is_full.true in
+    left-full g.J.Scan.told v (known g.F.SpillFile.held g.S.Source.whole c.give-done.new.seat.me.0) c.args.landing.number c.args.landing.fresh.items gave full.0 full.1
 
 pub give-done-requires-clause-permit : goal.give-done-requires-clause-permit
 give-done-requires-clause-permit g c = omega (arith, resident-weight g.row.F.Denot g.row.S.Denot c.args.landing.node c.requires.landing.resident, c.requires.permit)
@@ -82,15 +113,3 @@ returns-clause-permits g c = omega (arith, resident-weight g.row.F.Denot g.row.S
 pub give-done-requires-clause-filed : goal.give-done-requires-clause-filed
 give-done-requires-clause-filed g c =
     resident-filed g.F.SpillFile.held g.F.SpillFile.faults g.F.SpillFile.keeps g.J.Scan.told c.args.landing.node c.requires.landing.resident c.requires.landing.telling
-
-pub returns-clause-knows : goal.returns-clause-knows
-returns-clause-knows g c =
-    let is = c.requires.landing in
-    let v = known g.F.SpillFile.held g.S.Source.whole c.args.self.now.seat.me.0 in
-    c.give-done.ensures.known ∙ (ap (λ (o : Option NodeError). given_back v (noting_broken o (note_after v.note (seen_node g.F.SpillFile.held c.args.landing.node) (Arrive c.args.landing.number c.of.result)))) (resident-sound c.args.landing.node is.resident) ∙ (ap (λ (x : Taken). given_back v (note_after v.note x (Arrive c.args.landing.number c.of.result))) (seen-resident g.F.SpillFile.held c.args.landing.node is.resident) ∙ ap (λ (fs : List Carried). leaving v c.args.landing.number fs) c.of.ensures))
-
-pub returns-then-is_full-clause-knows : goal.returns-then-is_full-clause-knows
-returns-then-is_full-clause-knows g c =
-    let is = c.requires.landing in
-    let v = known g.F.SpillFile.held g.S.Source.whole c.args.self.now.seat.me.0 in
-    c.give-done.ensures.known ∙ (ap (λ (o : Option NodeError). given_back v (noting_broken o (note_after v.note (seen_node g.F.SpillFile.held c.args.landing.node) (Arrive c.args.landing.number c.of.result)))) (resident-sound c.args.landing.node is.resident) ∙ (ap (λ (x : Taken). given_back v (note_after v.note x (Arrive c.args.landing.number c.of.result))) (seen-resident g.F.SpillFile.held c.args.landing.node is.resident) ∙ ap (λ (fs : List Carried). leaving v c.args.landing.number fs) c.of.ensures))

@@ -1,15 +1,11 @@
-use Rattle.std.proofs.Common.{◌≡◌, ◌∙◌, ◌+◌, ◌≤◌, inl, sym, ap, subst, arith, Option}
+use Rattle.std.proofs.Common.{◌≡◌, ◌∙◌, ◌+◌, ◌≤◌, inl, sym, ap, subst, arith}
 use Rattle.ept_table.specs.declared.taken.Taken.{Taken}
 use Rattle.ept_table.specs.Item.{seen_node}
-use Rattle.ept_table.specs.declared.note.Note.{Note}
 use Rattle.ept_table.specs.Standing.{known}
-use Rattle.ept_table.specs.declared.done.Done.TheVariants.{Nothing}
-use Rattle.ept_table.specs.Steps.{given_back, noting_broken, StaysAlike}
-use Rattle.ept_table.specs.Visits.{note_after}
-use Rattle.ept_node.specs.declared.error.NodeError.{NodeError}
+use Rattle.ept_table.specs.Steps.{StaysAlike}
 use Rattle.ept_table.specs.Table.{slots_of}
 use Rattle.ept_work.proofs.Known.{known-item}
-use Rattle.ept_work.proofs.Begun.{begun-back, kept-note}
+use Rattle.ept_work.proofs.Begun.{begun-back}
 use Rattle.ept_work.proofs.Filing.{back-filed}
 use Rattle.ept_table.specs.declared.item.Item.TheVariants as items
 use Rattle.ept_table.specs.Permits.{weight_of, spare_of}
@@ -17,7 +13,7 @@ use Rattle.ept_table.specs.View.{View}
 use Rattle.ept_table.proofs.Lists.{at-member}
 use Rattle.ept_work.proofs.Permitted.{few-weight, blank-weight, back-weight, free-permits}
 use Rattle.ept_work.proofs.Carrying.{back-rest}
-use Rattle.ept_work.proofs.Whole.{back-sound, stays-whole}
+use Rattle.ept_work.proofs.Whole.{stays-whole, gave-as-taken}
 use Rattle.ept_work.proofs.worker.Worker.put_back.Goals as goal
 
 pub give-done-requires-clause-visit : goal.give-done-requires-clause-visit
@@ -37,7 +33,7 @@ give-done-requires-clause-slot g c =
 pub returns-clause-rest : goal.returns-clause-rest
 returns-clause-rest g c =
     let v = known g.F.SpillFile.held g.S.Source.whole c.args.self.now.seat.me.0 in
-    back-rest g.F.SpillFile.held g.J.Scan.told v (known g.F.SpillFile.held g.S.Source.whole c.permit_back.new.seat.me.0) c.args.visit c.requires.visit (c.permit_back.ensures.known ∙ (c.give-done.ensures.known ∙ (ap (λ (o : Option NodeError). given_back v (noting_broken o (note_after v.note (seen_node g.F.SpillFile.held c.as_taken-node.result) Nothing))) (back-sound c.args.visit.node c.as_taken-node.result c.args.visit.was_blank c.requires.visit.node.resident c.as_taken-node.ensures.blank c.as_taken-node.ensures.standing) ∙ ap (λ (n : Note). given_back v n) (kept-note g.F.SpillFile.held c.as_taken-node.result v.note))))
+    back-rest g.F.SpillFile.held g.J.Scan.told v (known g.F.SpillFile.held g.S.Source.whole c.permit_back.new.seat.me.0) c.args.visit c.requires.visit (c.permit_back.ensures.known ∙ gave-as-taken g.F.SpillFile.held v (known g.F.SpillFile.held g.S.Source.whole c.give-done.new.seat.me.0) c.args.visit.node c.as_taken-node.result c.args.visit.was_blank c.requires.visit.node.resident c.as_taken-node.ensures.blank c.as_taken-node.ensures.standing c.give-done.ensures.known)
 
 pub give-done-requires-clause-permit : goal.give-done-requires-clause-permit
 give-done-requires-clause-permit g c = omega (arith, few-weight g.row.F.Denot g.row.S.Denot c.as_taken-node.result, c.requires.permit)
@@ -61,4 +57,4 @@ give-done-requires-clause-filed g c =
 pub returns-clause-knows : goal.returns-clause-knows
 returns-clause-knows g c =
     let v = known g.F.SpillFile.held g.S.Source.whole c.args.self.now.seat.me.0 in
-    c.permit_back.ensures.known ∙ (c.give-done.ensures.known ∙ (ap (λ (o : Option NodeError). given_back v (noting_broken o (note_after v.note (seen_node g.F.SpillFile.held c.as_taken-node.result) Nothing))) (back-sound c.args.visit.node c.as_taken-node.result c.args.visit.was_blank c.requires.visit.node.resident c.as_taken-node.ensures.blank c.as_taken-node.ensures.standing) ∙ ap (λ (n : Note). given_back v n) (kept-note g.F.SpillFile.held c.as_taken-node.result v.note)))
+    c.permit_back.ensures.known ∙ gave-as-taken g.F.SpillFile.held v (known g.F.SpillFile.held g.S.Source.whole c.give-done.new.seat.me.0) c.args.visit.node c.as_taken-node.result c.args.visit.was_blank c.requires.visit.node.resident c.as_taken-node.ensures.blank c.as_taken-node.ensures.standing c.give-done.ensures.known

@@ -133,11 +133,11 @@ returns-in-Err-clause-noted g c =
     let mid = known g.F.SpillFile.held g.S.Source.whole c.permit_for.new.self.seat.me.0 in
     let u = known g.F.SpillFile.held g.S.Source.whole c.take.new.seat.me.0 in
     let back = known g.F.SpillFile.held g.S.Source.whole c.give-done.new.seat.me.0 in
-    let w = known g.F.SpillFile.held g.S.Source.whole c.permit_back.new.seat.me.0 in
+    let w = known g.F.SpillFile.held g.S.Source.whole c.permit_back-in-Err.new.seat.me.0 in
     let node = c.in-Err.stays.node in
     let x = seen g.F.SpillFile.held g.S.Source.whole c.take.result in
-    let gave = gave-again g.F.SpillFile.held v mid u back w c.index-carried.result.now.slot x node c.requires.rest.idle.free c.in_ok-has_permit.ensures.same c.take.ensures.known c.give-done.ensures.known c.permit_back.ensures.known in
-    staying-noted v w (fault_of node) gave c.in-Err.stays.why c.given_up.result c.given_up.ensures c.in-Err.ensures.reason
+    let gave = gave-again g.F.SpillFile.held v mid u back w c.index-carried.result.now.slot x node c.requires.rest.idle.free c.in_ok-has_permit.ensures.same c.take.ensures.known c.give-done.ensures.known c.permit_back-in-Err.ensures.known in
+    staying-noted (Visit g.row.F.Denot) v w (fault_of node) gave c.in-Err.stays.why c.given_up.result c.given_up.ensures c.in-Err.ensures.reason
 
 pub returns-in-Err-clause-again : goal.returns-in-Err-clause-again
 returns-in-Err-clause-again g c =
@@ -145,11 +145,11 @@ returns-in-Err-clause-again g c =
     let mid = known g.F.SpillFile.held g.S.Source.whole c.permit_for.new.self.seat.me.0 in
     let u = known g.F.SpillFile.held g.S.Source.whole c.take.new.seat.me.0 in
     let back = known g.F.SpillFile.held g.S.Source.whole c.give-done.new.seat.me.0 in
-    let w = known g.F.SpillFile.held g.S.Source.whole c.permit_back.new.seat.me.0 in
+    let w = known g.F.SpillFile.held g.S.Source.whole c.permit_back-in-Err.new.seat.me.0 in
     let node = c.in-Err.stays.node in
     let x = seen g.F.SpillFile.held g.S.Source.whole c.take.result in
-    let gave = gave-again g.F.SpillFile.held v mid u back w c.index-carried.result.now.slot x node c.requires.rest.idle.free c.in_ok-has_permit.ensures.same c.take.ensures.known c.give-done.ensures.known c.permit_back.ensures.known in
-    staying-again v w (fault_of node) gave c.in-Err.stays.why c.given_up.result c.given_up.ensures c.in-Err.ensures.reason
+    let gave = gave-again g.F.SpillFile.held v mid u back w c.index-carried.result.now.slot x node c.requires.rest.idle.free c.in_ok-has_permit.ensures.same c.take.ensures.known c.give-done.ensures.known c.permit_back-in-Err.ensures.known in
+    staying-again (Visit g.row.F.Denot) v w (fault_of node) gave c.in-Err.stays.why c.given_up.result c.given_up.ensures c.in-Err.ensures.reason
 
 pub returns-in-Err-clause-refused : goal.returns-in-Err-clause-refused
 returns-in-Err-clause-refused g c =
@@ -157,8 +157,8 @@ returns-in-Err-clause-refused g c =
     let mid = known g.F.SpillFile.held g.S.Source.whole c.permit_for.new.self.seat.me.0 in
     let u = known g.F.SpillFile.held g.S.Source.whole c.take.new.seat.me.0 in
     let back = known g.F.SpillFile.held g.S.Source.whole c.give-done.new.seat.me.0 in
-    let w = known g.F.SpillFile.held g.S.Source.whole c.permit_back.new.seat.me.0 in
+    let w = known g.F.SpillFile.held g.S.Source.whole c.permit_back-in-Err.new.seat.me.0 in
     let node = c.in-Err.stays.node in
     let x = seen g.F.SpillFile.held g.S.Source.whole c.take.result in
-    let gave = gave-again g.F.SpillFile.held v mid u back w c.index-carried.result.now.slot x node c.requires.rest.idle.free c.in_ok-has_permit.ensures.same c.take.ensures.known c.give-done.ensures.known c.permit_back.ensures.known in
-    staying-refused v w (fault_of node) gave c.in-Err.stays.why c.given_up.result c.given_up.ensures c.in-Err.ensures.reason g.J.Scan.told
+    let gave = gave-again g.F.SpillFile.held v mid u back w c.index-carried.result.now.slot x node c.requires.rest.idle.free c.in_ok-has_permit.ensures.same c.take.ensures.known c.give-done.ensures.known c.permit_back-in-Err.ensures.known in
+    staying-refused (Visit g.row.F.Denot) v w (fault_of node) gave c.in-Err.stays.why c.given_up.result c.given_up.ensures c.in-Err.ensures.reason g.J.Scan.told
