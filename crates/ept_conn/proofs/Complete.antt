@@ -28,6 +28,7 @@ module _ (has-plan : CompleteHasPlan) (has-tiles : CompleteHasTiles) (once : Til
 
   sent : Served
   sent = record {
+    files = files;
     file = files;
     plan = λ area first second. Some (nodes area first second);
     part = λ area node. tile (points_in area (points-at node));
@@ -54,6 +55,7 @@ module _ (has-plan : CompleteHasPlan) (has-tiles : CompleteHasTiles) (once : Til
   complete-served = (
     sent,
     record {
+      folder = refl;
       done = whole.done;
       file = λ name. refl;
       plan = λ area first second ordered depths. (nodes area first second, refl, (has-plan kept points files whole area first second).1);

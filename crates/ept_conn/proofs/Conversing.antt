@@ -17,8 +17,9 @@ use Rattle.ept_conn.specs.declared.end.Fault.TheVariants as fault
 use Rattle.ept_conn.specs.declared.end.End.{End}
 use Rattle.ept_conn.specs.declared.end.End.TheVariants as end
 use Rattle.ept_conn.specs.declared.end.Want.TheVariants as want
-use Rattle.ept_conn.specs.Answers.{Served, AreAnswers}
-use Rattle.ept_conn.specs.Served.{IsServed}
+use Rattle.ept_conn.specs.Answers.{Served}
+use Rattle.ept_conn.specs.Whole.{HasAnswered}
+use Rattle.ept_conn.specs.Served.{IsServed, IsSentOf}
 use Rattle.ept_conn.specs.State.{State, started, wants, want_of, feeds}
 use Rattle.ept_conn.specs.Works.{HasPlanOf, IsDamagedIn, IsDamaged}
 use Rattle.ept_conn.specs.Ends.{EndsWell}
@@ -27,7 +28,7 @@ use Rattle.ept_conn.specs.Serving.{IsAnsweredAt, Passes, IsServedOver}
 use Rattle.ept_conn.specs.Conversation.{Converses, HasFailed, HasCauseFor, rank}
 use Rattle.ept_conn.proofs.Wanting.{read-parts, write-some}
 use Rattle.ept_conn.proofs.Falling.{written-falls, failed-falls}
-use Rattle.ept_conn.proofs.Histories.{has-wider, start-has, fed-has, worked-has, sent-has, failed-has, ends-has, reads-has}
+use Rattle.ept_conn.proofs.Histories.{has-wider, start-has, fed-has, worked-has, sent-has, failed-has, ends-has, reads-has, never-damaged}
 
 -- ---- what is told
 
@@ -66,7 +67,7 @@ answered-longer served old bytes text more behind at is = record {
   up_to = (let longer = length-append text behind in let w = is.up_to in omega (arith, longer, w));
   taken = is.taken;
   written = is.written;
-  answers = subst (λ (w : List ℕ). AreAnswers served w (take is.went (text ++ behind))) (sym (take-append-le is.came bytes more is.within)) (subst (λ (w : List ℕ). AreAnswers served (take is.came bytes) w) (sym (take-append-le is.went text behind is.up_to)) is.answers);
+  answers = subst (λ (w : List ℕ). HasAnswered served w (take is.went (text ++ behind))) (sym (take-append-le is.came bytes more is.within)) (subst (λ (w : List ℕ). HasAnswered served (take is.came bytes) w) (sym (take-append-le is.went text behind is.up_to)) is.answers);
 }
 
 all-longer : (served : Served) (old : Wire) (bytes text more behind : List ℕ) (reads : List (ℕ × ℕ)) → AllByRecursion (IsAnsweredAt served old bytes text) reads → AllByRecursion (IsAnsweredAt served old (bytes ++ more) (text ++ behind)) reads
@@ -79,7 +80,7 @@ all-push P [] x all one = (one, tt)
 all-push P (y ∷ ys) x all one = (all.0, all-push P ys x all.1 one)
 
 -- a read at which each turn was answered
-answered-now : (served : Served) (old now : Wire) (bytes text : List ℕ) → now.taken ≡ old.taken ++ bytes → now.written ≡ old.written ++ text → AreAnswers served bytes text → IsAnsweredAt served old bytes text (length now.taken, length now.written)
+answered-now : (served : Served) (old now : Wire) (bytes text : List ℕ) → now.taken ≡ old.taken ++ bytes → now.written ≡ old.written ++ text → HasAnswered served bytes text → IsAnsweredAt served old bytes text (length now.taken, length now.written)
 answered-now served old now bytes text taken written answers = record {
   came = length bytes;
   went = length text;
@@ -87,7 +88,7 @@ answered-now served old now bytes text taken written answers = record {
   up_to = omega arith;
   taken = ap length taken ∙ length-append old.taken bytes;
   written = ap length written ∙ length-append old.written text;
-  answers = subst (λ (w : List ℕ). AreAnswers served w (take (length text) text)) (sym (take-length bytes)) (subst (AreAnswers served bytes) (sym (take-length text)) answers);
+  answers = subst (λ (w : List ℕ). HasAnswered served w (take (length text) text)) (sym (take-length bytes)) (subst (HasAnswered served bytes) (sym (take-length text)) answers);
 }
 
 -- ---- what passes
@@ -101,7 +102,7 @@ passes-none served old = record {
   each = tt;
 }
 
-passes-read : (served : Served) (old now next : Wire) (bytes text piece : List ℕ) → Passes served old now bytes text → Reads piece now next → AreAnswers served bytes text → Passes served old next (bytes ++ piece) text
+passes-read : (served : Served) (old now next : Wire) (bytes text piece : List ℕ) → Passes served old now bytes text → Reads piece now next → HasAnswered served bytes text → Passes served old next (bytes ++ piece) text
 passes-read served old now next bytes text piece p r answers = record {
   taken = r.taken ∙ ap (λ (w : List ℕ). w ++ piece) p.taken ∙ append_assoc old.taken bytes piece;
   written = r.written ∙ p.written;
@@ -177,7 +178,7 @@ unread-converses served reason start old next state new c read (inr same) is = r
   closed = λ closed. absurd (closed-falsely state.closed (shut state.closed state.held.ended (read-parts state read).1) (sym (ap (λ (s : State). s.closed) is) ∙ closed));
 }
 
-pub work-converses : (files : Files) (served : Served) (reason wider : Type 0) (start old : Wire) (state new : State) → IsServed files served → (reason → wider) → Converses served reason start state old → want_of state ≡ want.Work → new.closed ≡ state.closed → HasWorked files served wider state new → Converses served wider start new old
+pub work-converses : (files : Files) (served : Served) (reason wider : Type 0) (start old : Wire) (state new : State) → IsSentOf files served → (reason → wider) → Converses served reason start state old → want_of state ≡ want.Work → new.closed ≡ state.closed → HasWorked files served wider state new → Converses served wider start new old
 work-converses files served reason wider start old state new is why c work same worked = record {
   bytes = c.bytes;
   text = c.text;
@@ -220,16 +221,17 @@ served-over served reason start now state ends c is = record {
   ended = ends-has served reason (now.left ≡ []) c.bytes c.text state ends c.closed c.has is;
 }
 
--- a connection that was served over a wire that tells ends well
-pub ends-well : (served : Served) (reason link store : Type 0) (old new : Option Wire) (ends : End) → old ≢ None → StepsBy (IsServedOver served reason ends) old new
+-- a connection that was served over a wire that tells ends well, where each plan and each tile is there
+pub ends-well : (files : Files) (served : Served) (reason link store : Type 0) (old new : Option Wire) (ends : End) → IsServed files served → old ≢ None → StepsBy (IsServedOver served reason ends) old new
     → (ends ≡ end.LinkFault → link) → (ends ≡ end.StoreFault → store) → EndsWell ends link store
-ends-well served reason link store old new end.Closed wired over links stores = tt
-ends-well served reason link store old new end.LinkFault wired over links stores = links refl
-ends-well served reason link store old new end.StoreFault wired over links stores = stores refl
-ends-well served reason link store None new (end.Damaged file) wired over links stores = wired refl
-ends-well served reason link store (Some wire) None (end.Damaged file) wired over links stores = over
-ends-well served reason link store (Some wire) (Some later) (end.Damaged file) wired over links stores = over.ended
-ends-well served reason link store old new end.Memory wired over links stores = tt
+ends-well files served reason link store old new end.Closed is wired over links stores = tt
+ends-well files served reason link store old new end.LinkFault is wired over links stores = links refl
+ends-well files served reason link store old new end.StoreFault is wired over links stores = stores refl
+ends-well files served reason link store None new (end.Damaged file) is wired over links stores = wired refl
+ends-well files served reason link store (Some wire) None (end.Damaged file) is wired over links stores = over
+ends-well files served reason link store (Some wire) (Some later) (end.Damaged file) is wired over links stores =
+    never-damaged files served reason (later.left ≡ []) over.bytes over.text file is over.ended
+ends-well files served reason link store old new end.Memory is wired over links stores = tt
 
 -- ---- which ends are fixed
 

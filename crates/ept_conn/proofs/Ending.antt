@@ -1,12 +1,14 @@
 -- What a session has sent where it ends.
-use Rattle.std.proofs.Common.{◌≡◌, ◌∙◌, inl, inr, ℕ, List, [], ◌∷◌, ◌++◌, take, drop, true, false, Option, refl, sym, ap, subst, arith, append_assoc, append-nil}
-use Rattle.std.specs.List.{flat_map}
+use Rattle.std.proofs.Common.{◌≡◌, ◌∙◌, ◌<◌, inl, inr, ℕ, List, [], ◌∷◌, ◌++◌, length, take, drop, true, false, Option, refl, sym, ap, subst, arith, append_assoc, append-nil}
+use Rattle.std.specs.List.{AllByRecursion, flat_map}
 use Rattle.std.proofs.lemmas.List.{take-append-drop}
 use Rattle.std.proofs.lemmas.List.Concat.{flat_map-append}
 use Rattle.ept_hier.specs.Hierarchy.{Node}
 use Rattle.ept_http.specs.declared.asked.Asked.{Asked}
 use Rattle.ept_http.specs.declared.answer.HeadKind.TheVariants as head
 use Rattle.ept_http.specs.AnswerHead.{head_text}
+use Rattle.ept_query.specs.declared.query_error.QueryFile.{QueryFile}
+use Rattle.ept_query.specs.Parts.{Plan}
 use Rattle.ept_conn.specs.declared.turn.Turn.{Turn}
 use Rattle.ept_conn.specs.declared.hand.Hand.{Hand}
 use Rattle.ept_conn.specs.declared.hand.Hand.TheVariants.{Empty, Decided, Tiles}
@@ -14,12 +16,14 @@ use Rattle.ept_conn.specs.declared.end.Fault.{Fault}
 use Rattle.ept_conn.specs.declared.end.Fault.TheVariants as fault
 use Rattle.ept_conn.specs.Held.{fresh, fed, has_turn}
 use Rattle.ept_conn.specs.Turns.{AreDue}
-use Rattle.ept_conn.specs.Answers.{Served, chunk, chunks, last_chunk, answer_to, answer, answers, query_answer, AreAnswers}
+use Rattle.ept_conn.specs.Answers.{Served, chunk, chunks, last_chunk, answer_to, answer, answers, query_answer}
 use Rattle.ept_conn.specs.State.{State, IsFit}
 use Rattle.ept_conn.specs.Wanted.{kept_of}
-use Rattle.ept_conn.specs.Works.{IsPlanned, IsLastOf, IsLastWord, Stops}
-use Rattle.ept_conn.specs.Ends.{has_last, EndsItself, IsCutOff, IsQueryFront, AreLastWords, IsStatus, IsBroken}
-use Rattle.ept_conn.specs.History.{turns_in, begun_of, rest_of, Goes}
+use Rattle.ept_conn.specs.InHand.{turns_in, begun_of, rest_of}
+use Rattle.ept_conn.specs.Works.{IsTurnsPlan, IsPlanned, IsPlanOfTurn, HasPlanOf, IsLastOf, IsLastWord, Stops, IsDamagedFor, IsDamagedIn}
+use Rattle.ept_conn.specs.Whole.{HasTiles, IsWhole, HasAnswered, HasTilesDone}
+use Rattle.ept_conn.specs.Ends.{has_last, EndsItself, IsCutOff, IsQueryFront, AreLastWords, EndsBefore, AreLastBytes, IsBroken}
+use Rattle.ept_conn.specs.History.{Goes}
 use Rattle.ept_conn.proofs.Wanted.{wants-answer}
 use Rattle.ept_conn.proofs.TurnLemmas.{some-due, idle-due}
 use Rattle.ept_conn.proofs.Sending.{answers-append, answers-none, answers-one, sent-before}
@@ -41,35 +45,55 @@ others-now served bytes sent old hand g is =
 
 -- ---- a refusal in the work
 
-word-cut : (served : Served) (bytes sent : List ℕ) (cause : Fault) (before others : List Turn) (word : List ℕ) → AreDue (fed fresh bytes) (before ++ others) → sent ≡ answers served before → IsLastWord cause word → IsCutOff served bytes (AreLastWords served cause) (sent ++ word)
-word-cut served bytes sent cause before others word due all is = record {
+word-cut : (served : Served) (bytes sent : List ℕ) (cause : Fault) (before others : List Turn) (word : List ℕ) → AreDue (fed fresh bytes) (before ++ others) → AllByRecursion (IsWhole served.files) before → sent ≡ answers served before → IsLastWord cause word → IsCutOff served bytes (AreLastWords served cause) (sent ++ word)
+word-cut served bytes sent cause before others word due whole all is = record {
   before = before;
   others = others;
   due = due;
+  whole = whole;
   words = word;
   fits = inl is;
   text_is = ap (λ (w : List ℕ). w ++ word) all;
+}
+
+-- what was put out of the answer to a query
+front-of : (served : Served) (turn : Turn) (plan : Plan) (done : ℕ) → IsTurnsPlan served turn plan → IsPlanOfTurn served.files turn plan → HasTiles served.files plan done → done < length plan.tiles → IsQueryFront served turn (begun_of served (Tiles turn plan done))
+front-of served turn plan done planned has_plan tiles fit = record {
+  area = plan.area;
+  first = planned.first;
+  second = planned.second;
+  nodes = plan.tiles;
+  done = done;
+  wants = planned.wants;
+  plan = planned.plan_is;
+  has = has_plan;
+  tiles = tiles;
+  within = omega (arith, fit);
+  text_is = refl;
 }
 
 stopped-by : (served : Served) (bytes sent : List ℕ) (old new : State) (cause : Fault) (hand : Hand) → old.hand ≡ hand → old.out ≡ [] → Goes served bytes sent old → IsLastOf hand cause new.out → IsCutOff served bytes (AreLastWords served cause) (sent ++ new.out)
 stopped-by served bytes sent old new cause Empty is out g words =
     let some = others-now served bytes sent old Empty g is in
     let all = sent-before served bytes sent old Empty g out is ∙ append-nil (answers served g.before) in
-    word-cut served bytes sent cause g.before some.0 new.out some.1 all words
+    word-cut served bytes sent cause g.before some.0 new.out some.1 g.whole all words
 stopped-by served bytes sent old new cause (Decided turn) is out g words =
     let some = others-now served bytes sent old (Decided turn) g is in
     let all = sent-before served bytes sent old (Decided turn) g out is ∙ append-nil (answers served g.before) in
-    word-cut served bytes sent cause g.before (turn ∷ some.0) new.out some.1 all words
+    word-cut served bytes sent cause g.before (turn ∷ some.0) new.out some.1 g.whole all words
 stopped-by served bytes sent old new cause (Tiles turn plan done) is out g words =
     let some = others-now served bytes sent old (Tiles turn plan done) g is in
     let all = sent-before served bytes sent old (Tiles turn plan done) g out is in
     let fit = subst IsFit is g.fit in
-    let planned = subst (IsPlanned served) is g.planned in record {
+    let planned = subst (IsPlanned served) is g.planned in
+    let has_plan = subst (HasPlanOf served.files) is g.has_plan in
+    let tiles = subst (HasTilesDone served.files) is g.tiles in record {
       before = g.before;
       others = turn ∷ some.0;
       due = some.1;
+      whole = g.whole;
       words = begun_of served (Tiles turn plan done);
-      fits = inr (record { area = plan.area; first = planned.first; second = planned.second; nodes = plan.tiles; done = done; wants = planned.wants; plan = planned.plan_is; within = omega (arith, fit); text_is = refl });
+      fits = inr (front-of served turn plan done planned has_plan tiles fit);
       text_is = ap (λ (w : List ℕ). sent ++ w) words ∙ append-nil sent ∙ all;
     }
 
@@ -77,13 +101,50 @@ pub stopped-cut : (served : Served) (bytes sent : List ℕ) (old new : State) (c
 stopped-cut served bytes sent old new cause out g stops =
     stopped-by served bytes sent old new cause old.hand refl out g stops.words
 
+-- ---- a damaged file
+
+damaged-by : (served : Served) (bytes sent : List ℕ) (old new : State) (found : QueryFile) (hand : Hand) (turn : Turn) → old.hand ≡ hand → turns_in hand ≡ turn ∷ [] → old.out ≡ [] → Goes served bytes sent old → IsLastOf hand (fault.Damaged found) new.out → IsDamagedIn hand found served.files → IsCutOff served bytes (EndsBefore served found) (sent ++ new.out)
+damaged-by served bytes sent old new found hand turn is one out g words damaged =
+    let some = others-now served bytes sent old hand g is in
+    let all = sent-before served bytes sent old hand g out is in record {
+      before = g.before;
+      others = turn ∷ some.0;
+      due = subst (λ (ts : List Turn). AreDue (fed fresh bytes) (g.before ++ (ts ++ some.0))) one some.1;
+      whole = g.whole;
+      words = begun_of served hand ++ new.out;
+      fits = record {
+        hand = hand;
+        of_turn = one;
+        planned = subst (IsPlanned served) is g.planned;
+        has_plan = subst (HasPlanOf served.files) is g.has_plan;
+        tiles = subst (HasTilesDone served.files) is g.tiles;
+        fit = subst IsFit is g.fit;
+        damaged = damaged;
+        word = new.out;
+        last = words;
+        words_are = refl;
+      };
+      text_is = ap (λ (w : List ℕ). w ++ new.out) all ∙ append_assoc (answers served g.before) (begun_of served hand) new.out;
+    }
+
+damaged-on : (served : Served) (bytes sent : List ℕ) (old new : State) (found : QueryFile) (hand : Hand) → old.hand ≡ hand → old.out ≡ [] → Goes served bytes sent old → IsLastOf hand (fault.Damaged found) new.out → IsDamagedIn hand found served.files → IsCutOff served bytes (EndsBefore served found) (sent ++ new.out)
+damaged-on served bytes sent old new found Empty is out g words damaged = absurd damaged
+damaged-on served bytes sent old new found (Decided turn) is out g words damaged =
+    damaged-by served bytes sent old new found (Decided turn) turn is refl out g words damaged
+damaged-on served bytes sent old new found (Tiles turn plan done) is out g words damaged =
+    damaged-by served bytes sent old new found (Tiles turn plan done) turn is refl out g words damaged
+
+pub damaged-cut : (served : Served) (bytes sent : List ℕ) (old new : State) (found : QueryFile) → old.out ≡ [] → Goes served bytes sent old → Stops old.hand new (fault.Damaged found) → IsDamagedIn old.hand found served.files → IsCutOff served bytes (EndsBefore served found) (sent ++ new.out)
+damaged-cut served bytes sent old new found out g stops damaged =
+    damaged-on served bytes sent old new found old.hand refl out g stops.words damaged
+
 -- ---- want of memory for what is fed
 
 pub unfed-cut : (served : Served) (bytes sent piece : List ℕ) (old : State) → old.out ≡ [] → old.hand ≡ Empty → Goes served bytes sent old → IsCutOff served (bytes ++ piece) (AreLastWords served fault.Memory) (sent ++ old.out)
 unfed-cut served bytes sent piece old out hand g =
     let some = some-others served bytes sent piece old Empty g hand in
     let all = sent-before served bytes sent old Empty g out hand ∙ append-nil (answers served g.before) in
-    word-cut served (bytes ++ piece) sent fault.Memory g.before some.0 old.out some.1 all (inl out)
+    word-cut served (bytes ++ piece) sent fault.Memory g.before some.0 old.out some.1 g.whole all (inl out)
 
 -- ---- the link fails
 
@@ -105,92 +166,82 @@ hand-answers served (Tiles turn plan done) planned =
     joined : (h a b l : List ℕ) → h ++ ((a ++ b) ++ l) ≡ (h ++ a) ++ (b ++ l)
     joined h a b l = simp (append_assoc, append-nil) refl
 
--- a front of the answers to all turns
-front-broken : (served : Served) (reason : Type 0) (bytes text : List ℕ) (before others : List Turn) (words tail : List ℕ) → AreDue (fed fresh bytes) (before ++ others) → answers served others ≡ words ++ tail → text ≡ answers served before ++ words → IsBroken served reason bytes text
-front-broken served reason bytes text before others words tail due split is = record {
-  whole = answers served (before ++ others);
-  unsent = tail;
-  front = answers-append served before others ∙ ap (λ (w : List ℕ). answers served before ++ w) split ∙ sym (append_assoc (answers served before) words tail) ∙ ap (λ (w : List ℕ). w ++ tail) (sym is);
-  allowed = inl (record { turns = before ++ others; due = due; text_is = refl });
+-- less was sent
+less-broken : (served : Served) (reason : Type 0) (bytes sent out : List ℕ) → IsCutOff served bytes (AreLastBytes served reason) (sent ++ out) → IsBroken served reason bytes sent
+less-broken served reason bytes sent out cut = record { whole = sent ++ out; unsent = out; front = refl; allowed = cut }
+
+-- the same with other words
+pub cut-as : (served : Served) (bytes text : List ℕ) (P Q : List Turn → List ℕ → Type 0) → ((others : List Turn) (words : List ℕ) → P others words → Q others words) → IsCutOff served bytes P text → IsCutOff served bytes Q text
+cut-as served bytes text P Q f cut = record {
+  before = cut.before;
+  others = cut.others;
+  due = cut.due;
+  whole = cut.whole;
+  words = cut.words;
+  fits = f cut.others cut.words cut.fits;
+  text_is = cut.text_is;
 }
 
--- less was sent
-less-broken : (served : Served) (reason : Type 0) (bytes sent out : List ℕ) → IsBroken served reason bytes (sent ++ out) → IsBroken served reason bytes sent
-less-broken served reason bytes sent out b = record {
-  whole = b.whole;
-  unsent = out ++ b.unsent;
-  front = b.front ∙ append_assoc sent out b.unsent;
-  allowed = b.allowed;
-}
+begun-fits : (served : Served) (reason : Type 0) (hand : Hand) (others : List Turn) → IsFit hand → IsPlanned served hand → HasPlanOf served.files hand → HasTilesDone served.files hand → AreLastBytes served reason (turns_in hand ++ others) (begun_of served hand)
+begun-fits served reason Empty others fit planned has_plan tiles = inl refl
+begun-fits served reason (Decided turn) others fit planned has_plan tiles = inl refl
+begun-fits served reason (Tiles turn plan done) others fit planned has_plan tiles =
+    inr (inl (front-of served turn plan done planned has_plan tiles fit))
 
 pub goes-broken : (served : Served) (reason : Type 0) (bytes sent : List ℕ) (old : State) → Goes served bytes sent old → IsBroken served reason bytes sent
 goes-broken served reason bytes sent old g =
     let some = others-now served bytes sent old old.hand g refl in
-    let split : answers served (turns_in old.hand ++ some.0) ≡ begun_of served old.hand ++ (rest_of served old.hand ++ answers served some.0) =
-    answers-append served (turns_in old.hand) some.0 ∙ ap (λ (w : List ℕ). w ++ answers served some.0) (hand-answers served old.hand g.planned) ∙ append_assoc (begun_of served old.hand) (rest_of served old.hand) (answers served some.0) in
-    less-broken served reason bytes sent old.out (front-broken served reason bytes (sent ++ old.out) g.before (turns_in old.hand ++ some.0) (begun_of served old.hand) (rest_of served old.hand ++ answers served some.0) some.1 split g.written)
+    less-broken served reason bytes sent old.out (record {
+      before = g.before;
+      others = turns_in old.hand ++ some.0;
+      due = some.1;
+      whole = g.whole;
+      words = begun_of served old.hand;
+      fits = begun-fits served reason old.hand some.0 g.fit g.planned g.has_plan g.tiles;
+      text_is = g.written;
+    })
 
--- the front of an answer to a query is one of the answers
-query-split : (served : Served) (turn : Turn) (others : List Turn) (words : List ℕ) → IsQueryFront served turn words → (tail : List ℕ) × (answers served (turn ∷ others) ≡ words ++ tail)
-query-split served turn others words front =
-    let f : Node → List ℕ = λ node. chunk (kept_of turn.asked (served.part front.area node)) in
-    let h = head_text (head.Query turn.last) in
-    let a = chunks served turn.asked front.area (take front.done front.nodes) in
-    let b = chunks served turn.asked front.area (drop front.done front.nodes) in
-    let whole : chunks served turn.asked front.area front.nodes ≡ a ++ b =
-    ap (flat_map f) (sym (take-append-drop front.done front.nodes)) ∙ flat_map-append f (take front.done front.nodes) (drop front.done front.nodes) in
-    let one : answer served turn ≡ h ++ ((a ++ b) ++ last_chunk) =
-    wants-answer served turn.asked front.area front.first front.second turn.last front.wants
-    ∙ ap (λ (p : Option (List Node)). query_answer served turn.asked front.area turn.last p) front.plan
-    ∙ ap (λ (w : List ℕ). h ++ (w ++ last_chunk)) whole in
-    let rest = answers served others in (
-      (b ++ last_chunk) ++ rest,
-      answers-append served (turn ∷ []) others
-          ∙ ap (λ (w : List ℕ). w ++ rest) (answers-one served turn ∙ one)
-          ∙ joined h a b last_chunk rest
-          ∙ ap (λ (w : List ℕ). w ++ ((b ++ last_chunk) ++ rest)) (sym front.text_is),
-    )
-  where
-    joined : (h a b l r : List ℕ) → (h ++ ((a ++ b) ++ l)) ++ r ≡ (h ++ a) ++ ((b ++ l) ++ r)
-    joined h a b l r = simp (append_assoc, append-nil) refl
+word-fits : (served : Served) (reason : Type 0) (cause : Fault) (others : List Turn) (words : List ℕ) → (cause ≡ fault.Store → reason) → ((found : QueryFile) → ¬ (cause ≡ fault.Damaged found)) → IsLastWord cause words → AreLastBytes served reason others words
+word-fits served reason fault.Link others words why not word = inl word
+word-fits served reason fault.Store others words why not word = inr (inr (inl (inl (why refl), word)))
+word-fits served reason (fault.Damaged found) others words why not word = absurd (not found refl)
+word-fits served reason fault.Memory others words why not (inl none) = inl none
+word-fits served reason fault.Memory others words why not (inr status) = inr (inr (inr status))
 
--- no words, and those of a status
-silent-broken : (served : Served) (reason : Type 0) (bytes text : List ℕ) (before others : List Turn) (words : List ℕ) → AreDue (fed fresh bytes) (before ++ others) → text ≡ answers served before ++ words → words ≡ [] → IsBroken served reason bytes text
-silent-broken served reason bytes text before others words due is none =
-    front-broken served reason bytes text before others [] (answers served others) due refl (is ∙ ap (λ (w : List ℕ). answers served before ++ w) none)
+words-fit : (served : Served) (reason : Type 0) (cause : Fault) → (cause ≡ fault.Store → reason) → ((found : QueryFile) → ¬ (cause ≡ fault.Damaged found)) → (others : List Turn) (words : List ℕ) → AreLastWords served cause others words → AreLastBytes served reason others words
+words-fit served reason cause why not others words (inl word) = word-fits served reason cause others words why not word
+words-fit served reason cause why not others words (inr front) = inr (inl front)
 
-status-broken : (served : Served) (reason : Type 0) (bytes text : List ℕ) (before others : List Turn) (words : List ℕ) → AreDue (fed fresh bytes) (before ++ others) → text ≡ answers served before ++ words → IsStatus reason words → IsBroken served reason bytes text
-status-broken served reason bytes text before others words due is status = record {
-  whole = text;
-  unsent = [];
-  front = sym (append-nil text);
-  allowed = inr (record { before = before; others = others; due = due; words = words; fits = status; text_is = is });
-}
-
-words-broken : (served : Served) (reason : Type 0) (bytes text : List ℕ) (cause : Fault) (before others : List Turn) (words : List ℕ) → (cause ≡ fault.Store → reason) → ((file : _) → ¬ (cause ≡ fault.Damaged file)) → AreDue (fed fresh bytes) (before ++ others) → text ≡ answers served before ++ words → IsLastWord cause words → IsBroken served reason bytes text
-words-broken served reason bytes text fault.Link before others words why not due is word =
-    silent-broken served reason bytes text before others words due is word
-words-broken served reason bytes text fault.Store before others words why not due is (inl none) =
-    silent-broken served reason bytes text before others words due is none
-words-broken served reason bytes text fault.Store before others words why not due is (inr status) =
-    status-broken served reason bytes text before others words due is (inl (why refl, status))
-words-broken served reason bytes text (fault.Damaged file) before others words why not due is word = absurd (not file refl)
-words-broken served reason bytes text fault.Memory before others words why not due is (inl none) =
-    silent-broken served reason bytes text before others words due is none
-words-broken served reason bytes text fault.Memory before others words why not due is (inr status) =
-    status-broken served reason bytes text before others words due is (inr status)
-
-fits-broken : (served : Served) (reason : Type 0) (bytes text : List ℕ) (cause : Fault) (before others : List Turn) (words : List ℕ) → (cause ≡ fault.Store → reason) → ((file : _) → ¬ (cause ≡ fault.Damaged file)) → AreDue (fed fresh bytes) (before ++ others) → text ≡ answers served before ++ words → AreLastWords served cause others words → IsBroken served reason bytes text
-fits-broken served reason bytes text cause before others words why not due is (inl word) =
-    words-broken served reason bytes text cause before others words why not due is word
-fits-broken served reason bytes text cause before [] words why not due is (inr front) = absurd front
-fits-broken served reason bytes text cause before (turn ∷ others) words why not due is (inr front) =
-    let split = query-split served turn others words front in
-    front-broken served reason bytes text before (turn ∷ others) words split.0 due split.1 is
-
-pub cut-broken : (served : Served) (reason : Type 0) (bytes sent out : List ℕ) (cause : Fault) → (cause ≡ fault.Store → reason) → ((file : _) → ¬ (cause ≡ fault.Damaged file)) → IsCutOff served bytes (AreLastWords served cause) (sent ++ out) → IsBroken served reason bytes sent
+pub cut-broken : (served : Served) (reason : Type 0) (bytes sent out : List ℕ) (cause : Fault) → (cause ≡ fault.Store → reason) → ((found : QueryFile) → ¬ (cause ≡ fault.Damaged found)) → IsCutOff served bytes (AreLastWords served cause) (sent ++ out) → IsBroken served reason bytes sent
 cut-broken served reason bytes sent out cause why not cut =
-    less-broken served reason bytes sent out (fits-broken served reason bytes (sent ++ out) cause cut.before cut.others cut.words why not cut.due cut.text_is cut.fits)
+    less-broken served reason bytes sent out (cut-as served bytes (sent ++ out) (AreLastWords served cause) (AreLastBytes served reason) (words-fit served reason cause why not) cut)
+
+-- the words that a damaged file ends
+one-turn : (a b : Turn) → a ∷ [] ≡ b ∷ [] → a ≡ b
+one-turn a b same = ap (λ (ts : List Turn). first-or ts) same
+  where
+    first-or : List Turn → Turn
+    first-or [] = a
+    first-or (t ∷ ts) = t
+
+hand-fits : (served : Served) (reason : Type 0) (found : QueryFile) (turn : Turn) (others : List Turn) (words word : List ℕ) (hand : Hand) → turns_in hand ≡ turn ∷ [] → IsFit hand → IsPlanned served hand → HasPlanOf served.files hand → HasTilesDone served.files hand → IsDamagedIn hand found served.files → IsLastOf hand (fault.Damaged found) word → words ≡ begun_of served hand ++ word → AreLastBytes served reason (turn ∷ others) words
+hand-fits served reason found turn others words word Empty one fit planned has_plan tiles damaged last are = absurd damaged
+hand-fits served reason found turn others words word (Decided other) one fit planned has_plan tiles damaged last are =
+    inr (inr (inl (inr (found, subst (λ (t : Turn). IsDamagedFor t.asked found served.files) (one-turn other turn one) damaged), are ∙ last)))
+hand-fits served reason found turn others words word (Tiles other plan done) one fit planned has_plan tiles damaged last are =
+    let front = front-of served other plan done planned has_plan tiles fit in
+    let begun = begun_of served (Tiles other plan done) in
+    let same : words ≡ begun = are ∙ ap (λ (w : List ℕ). begun ++ w) last ∙ append-nil begun in
+    inr (inl (subst (λ (t : Turn). IsQueryFront served t words) (one-turn other turn one) (subst (IsQueryFront served other) (sym same) front)))
+
+damage-fits : (served : Served) (reason : Type 0) (found : QueryFile) (others : List Turn) (words : List ℕ) → EndsBefore served found others words → AreLastBytes served reason others words
+damage-fits served reason found [] words ends = absurd ends
+damage-fits served reason found (turn ∷ others) words ends =
+    hand-fits served reason found turn others words ends.word ends.hand ends.of_turn ends.fit ends.planned ends.has_plan ends.tiles ends.damaged ends.last ends.words_are
+
+pub damage-broken : (served : Served) (reason : Type 0) (bytes sent out : List ℕ) (found : QueryFile) → IsCutOff served bytes (EndsBefore served found) (sent ++ out) → IsBroken served reason bytes sent
+damage-broken served reason bytes sent out found cut =
+    less-broken served reason bytes sent out (cut-as served bytes (sent ++ out) (EndsBefore served found) (AreLastBytes served reason) (damage-fits served reason found) cut)
 
 -- ---- nothing is due
 
@@ -202,10 +253,11 @@ rest-due served bytes sent old g hand none =
     let all : AreDue (fed fresh (bytes ++ [])) (g.before ++ []) = subst H hand (g.turns [] [] idle) in
     subst (λ (w : List ℕ). AreDue (fed fresh w) g.before) (append-nil bytes) (subst (λ (ts : List Turn). AreDue (fed fresh (bytes ++ [])) ts) (append-nil g.before) all)
 
-pub rest-answers : (served : Served) (bytes sent : List ℕ) (old : State) → IsAtRest old.out old.fault old.hand (has_turn old.held) → Goes served bytes sent old → AreAnswers served bytes sent
+pub rest-answers : (served : Served) (bytes sent : List ℕ) (old : State) → IsAtRest old.out old.fault old.hand (has_turn old.held) → Goes served bytes sent old → HasAnswered served bytes sent
 rest-answers served bytes sent old rest g = record {
   turns = g.before;
   due = rest-due served bytes sent old g rest.hand_is rest.none;
+  whole = g.whole;
   text_is = sent-before served bytes sent old Empty g rest.out_is rest.hand_is ∙ append-nil (answers served g.before);
 }
 

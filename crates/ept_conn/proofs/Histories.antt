@@ -8,6 +8,7 @@ use Rattle.ept_http.specs.Answers.{MayBeAsked}
 use Rattle.ept_http.specs.QueryWords.{IsOrdered}
 use Rattle.ept_query.specs.declared.query_error.QueryFile.{QueryFile}
 use Rattle.ept_query.specs.declared.query_error.QueryFile.TheVariants as file
+use Rattle.ept_conn.specs.declared.turn.Turn.{Turn}
 use Rattle.ept_conn.specs.declared.hand.Hand.{Hand}
 use Rattle.ept_conn.specs.declared.hand.Hand.TheVariants.{Empty, Decided, Tiles}
 use Rattle.ept_conn.specs.declared.end.Fault.{Fault}
@@ -18,15 +19,17 @@ use Rattle.ept_conn.specs.declared.end.Want.TheVariants as want
 use Rattle.ept_conn.specs.Held.{has_turn}
 use Rattle.ept_conn.specs.Wanted.{Wanted, wanted}
 use Rattle.ept_conn.specs.Answers.{Served, answers, AreAnswers}
-use Rattle.ept_conn.specs.Served.{IsServed}
+use Rattle.ept_conn.specs.Served.{IsServed, IsSentOf}
 use Rattle.ept_conn.specs.State.{State, IsFit, started, end_of, wants, want_of, feeds}
-use Rattle.ept_conn.specs.Works.{IsPlanned, Stops, IsDamagedOf, IsDamagedFor, IsDamagedIn}
-use Rattle.ept_conn.specs.Ends.{EndsItself, IsCutOff, AreLastWords, IsStatus, IsBroken, IsEnd}
-use Rattle.ept_conn.specs.History.{turns_in, begun_of, rest_of, Goes, HasFor, Has, IsOwed}
+use Rattle.ept_conn.specs.InHand.{turns_in, begun_of, rest_of}
+use Rattle.ept_conn.specs.Works.{IsPlanned, HasPlanOf, Stops, IsDamagedOf, IsDamagedFor, IsDamagedIn}
+use Rattle.ept_conn.specs.Whole.{HasAnswered, HasFound}
+use Rattle.ept_conn.specs.Ends.{EndsItself, IsCutOff, AreLastWords, EndsBefore, IsStatus, AreLastBytes, IsBroken, IsEnd}
+use Rattle.ept_conn.specs.History.{Goes, HasFor, Has, IsOwed}
 use Rattle.ept_conn.specs.SessionCalls.{SessionCall, Fed, Worked, Sent, Failed, HasWorked, Leads, LeadsOn, fed_by, sent_by}
-use Rattle.ept_conn.proofs.Plans.{part-there}
+use Rattle.ept_conn.proofs.Plans.{served-sent, folder-is, part-there}
 use Rattle.ept_conn.proofs.Sending.{answers-append, start-goes, fed-goes, worked-goes, sent-goes}
-use Rattle.ept_conn.proofs.Ending.{hand-answers, stopped-cut, unfed-cut, goes-broken, cut-broken, rest-answers, rest-ends}
+use Rattle.ept_conn.proofs.Ending.{hand-answers, stopped-cut, damaged-cut, unfed-cut, cut-as, goes-broken, cut-broken, damage-broken, rest-answers, rest-ends}
 use Rattle.ept_conn.proofs.Wanting.{IsAtRest, work-parts, read-parts, write-some}
 
 -- ---- no file that is served is damaged
@@ -58,7 +61,7 @@ undamaged-of files served (Some points) (file.Tile key) is may damaged = damaged
 undamaged-for : (files : Files) (served : Served) (a : Asked) (found : QueryFile) → IsServed files served → MayBeAsked a → IsDamagedFor a found files → ⊥
 undamaged-for files served a found is may damaged = undamaged-of files served (wanted a) found is (may-wanted a may) damaged
 
-undamaged : (files : Files) (served : Served) (hand : Hand) (found : QueryFile) → IsServed files served → IsFit hand → IsPlanned served hand → IsDamagedIn hand found files → ⊥
+pub undamaged : (files : Files) (served : Served) (hand : Hand) (found : QueryFile) → IsServed files served → IsFit hand → IsPlanned served hand → IsDamagedIn hand found files → ⊥
 undamaged files served Empty found is fit planned damaged = damaged
 undamaged files served (Decided turn) found is fit planned damaged = undamaged-for files served turn.asked found is fit damaged
 undamaged files served (Tiles turn plan done) found (inl shut) fit planned damaged =
@@ -66,7 +69,7 @@ undamaged files served (Tiles turn plan done) found (inl shut) fit planned damag
     absurd cc
 undamaged files served (Tiles turn plan done) found (inr is) fit planned damaged =
     let part = part-there files served turn plan done is fit planned in
-    damaged.1 part.points part.has
+    damaged.2 part.points part.has
 
 -- ---- the state by its fault
 
@@ -77,19 +80,20 @@ at-has : (served : Served) (reason : Type 0) (bytes sent : List ℕ) (state : St
 at-has served reason bytes sent state f is has = subst (HasFor served reason bytes sent state) is has
 
 -- the same for another reason
-status-wider : (reason wider : Type 0) (text : List ℕ) → (reason → wider) → IsStatus reason text → IsStatus wider text
-status-wider reason wider text why (inl is) = inl (why is.0, is.1)
-status-wider reason wider text why (inr is) = inr is
+status-wider : (served : Served) (reason wider : Type 0) (others : List Turn) (text : List ℕ) → (reason → wider) → IsStatus served reason others text → IsStatus served wider others text
+status-wider served reason wider others text why (inl (inl cause, is)) = inl (inl (why cause), is)
+status-wider served reason wider others text why (inl (inr damaged, is)) = inl (inr damaged, is)
+status-wider served reason wider others text why (inr is) = inr is
 
-allowed-wider : (served : Served) (reason wider : Type 0) (bytes whole : List ℕ) → (reason → wider) → AreAnswers served bytes whole ⊎ IsCutOff served bytes (λ others. IsStatus reason) whole → AreAnswers served bytes whole ⊎ IsCutOff served bytes (λ others. IsStatus wider) whole
-allowed-wider served reason wider bytes whole why (inl all) = inl all
-allowed-wider served reason wider bytes whole why (inr cut) =
-    inr (record { before = cut.before; others = cut.others; due = cut.due; words = cut.words; fits = status-wider reason wider cut.words why cut.fits; text_is = cut.text_is })
+last-wider : (served : Served) (reason wider : Type 0) → (reason → wider) → (others : List Turn) (text : List ℕ) → AreLastBytes served reason others text → AreLastBytes served wider others text
+last-wider served reason wider why others text (inl none) = inl none
+last-wider served reason wider why others text (inr (inl front)) = inr (inl front)
+last-wider served reason wider why others text (inr (inr status)) = inr (inr (status-wider served reason wider others text why status))
 
 wider-by : (served : Served) (reason wider : Type 0) (bytes sent : List ℕ) (state : State) (f : Option Fault) → (reason → wider) → HasFor served reason bytes sent state f → HasFor served wider bytes sent state f
 wider-by served reason wider bytes sent state None why h = h
 wider-by served reason wider bytes sent state (Some fault.Link) why h =
-    (h.0, record { whole = h.1.whole; unsent = h.1.unsent; front = h.1.front; allowed = allowed-wider served reason wider bytes h.1.whole why h.1.allowed })
+    (h.0, record { whole = h.1.whole; unsent = h.1.unsent; front = h.1.front; allowed = cut-as served bytes h.1.whole (AreLastBytes served reason) (AreLastBytes served wider) (last-wider served reason wider why) h.1.allowed })
 wider-by served reason wider bytes sent state (Some fault.Store) why h = (why h.0, h.1)
 wider-by served reason wider bytes sent state (Some (fault.Damaged f)) why h = h
 wider-by served reason wider bytes sent state (Some fault.Memory) why h = h
@@ -117,9 +121,12 @@ fed-has served reason bytes sent piece old new has read (inr is) =
     let goes = at-has served reason bytes sent old None rest.going has in
     subst (Has served reason (bytes ++ piece) sent) (sym is) (unfed-cut served bytes sent piece old rest.out_is rest.hand_is goes)
 
-worked-at : (files : Files) (served : Served) (reason : Type 0) (bytes sent : List ℕ) (old new : State) (f : Option Fault) → new.fault ≡ f → IsServed files served → old.out ≡ [] → Goes served bytes sent old → HasWorked files served reason old new → HasFor served reason bytes sent new f
+worked-at : (files : Files) (served : Served) (reason : Type 0) (bytes sent : List ℕ) (old new : State) (f : Option Fault) → new.fault ≡ f → IsSentOf files served → old.out ≡ [] → Goes served bytes sent old → HasWorked files served reason old new → HasFor served reason bytes sent new f
 worked-at files served reason bytes sent old new None is served_is out goes worked =
+    let same = folder-is files served served_is in
     worked-goes served bytes sent old new out goes (worked.works is goes.planned)
+    (λ has. subst (λ (all : Files). HasPlanOf all new.hand) (sym same) (worked.plans (subst (λ (all : Files). HasPlanOf all old.hand) same has)))
+    (subst (λ (all : Files). HasFound all old.hand new) (sym same) (worked.found is))
 worked-at files served reason bytes sent old new (Some fault.Link) is served_is out goes worked =
     let stops = subst (λ (o : Option Fault). IfSome o (Stops old.hand new)) is worked.stops in
     absurd (stops.not_link refl)
@@ -127,12 +134,14 @@ worked-at files served reason bytes sent old new (Some fault.Store) is served_is
     let stops = subst (λ (o : Option Fault). IfSome o (Stops old.hand new)) is worked.stops in
     (worked.stores is, stopped-cut served bytes sent old new fault.Store out goes stops)
 worked-at files served reason bytes sent old new (Some (fault.Damaged found)) is served_is out goes worked =
-    undamaged files served old.hand found served_is goes.fit goes.planned (worked.damaged found is)
+    let stops = subst (λ (o : Option Fault). IfSome o (Stops old.hand new)) is worked.stops in
+    let same = folder-is files served served_is in
+    damaged-cut served bytes sent old new found out goes stops (subst (λ (all : Files). IsDamagedIn old.hand found all) (sym same) (worked.damaged found is))
 worked-at files served reason bytes sent old new (Some fault.Memory) is served_is out goes worked =
     let stops = subst (λ (o : Option Fault). IfSome o (Stops old.hand new)) is worked.stops in
     stopped-cut served bytes sent old new fault.Memory out goes stops
 
-pub worked-has : (files : Files) (served : Served) (reason : Type 0) (bytes sent : List ℕ) (old new : State) → IsServed files served → Has served reason bytes sent old → want_of old ≡ want.Work → HasWorked files served reason old new → Has served reason bytes sent new
+pub worked-has : (files : Files) (served : Served) (reason : Type 0) (bytes sent : List ℕ) (old new : State) → IsSentOf files served → Has served reason bytes sent old → want_of old ≡ want.Work → HasWorked files served reason old new → Has served reason bytes sent new
 worked-has files served reason bytes sent old new served_is has work worked =
     let parts = work-parts old work in
     let goes = at-has served reason bytes sent old None parts.going has in
@@ -151,7 +160,8 @@ sent-by served reason bytes sent first rest old (Some fault.Link) split h write 
     absurd (omega (arith, some, none))
 sent-by served reason bytes sent first rest old (Some fault.Store) split h write =
     (h.0, subst (IsCutOff served bytes (AreLastWords served fault.Store)) (moved sent first rest old.out split) h.1)
-sent-by served reason bytes sent first rest old (Some (fault.Damaged found)) split h write = h
+sent-by served reason bytes sent first rest old (Some (fault.Damaged found)) split h write =
+    subst (IsCutOff served bytes (EndsBefore served found)) (moved sent first rest old.out split) h
 sent-by served reason bytes sent first rest old (Some fault.Memory) split h write =
     subst (IsCutOff served bytes (AreLastWords served fault.Memory)) (moved sent first rest old.out split) h
 
@@ -165,7 +175,7 @@ failed-by served reason bytes sent old None h = goes-broken served reason bytes 
 failed-by served reason bytes sent old (Some fault.Link) h = h.1
 failed-by served reason bytes sent old (Some fault.Store) h =
     cut-broken served reason bytes sent old.out fault.Store (λ is. h.0) (λ found is. absurd cc) h.1
-failed-by served reason bytes sent old (Some (fault.Damaged found)) h = absurd h
+failed-by served reason bytes sent old (Some (fault.Damaged found)) h = damage-broken served reason bytes sent old.out found h
 failed-by served reason bytes sent old (Some fault.Memory) h =
     cut-broken served reason bytes sent old.out fault.Memory (λ is. absurd cc) (λ found is. absurd cc) h
 
@@ -209,11 +219,12 @@ fault-end : (served : Served) (reason closed : Type 0) (bytes sent : List ℕ) (
 fault-end served reason closed bytes sent last fault.Link none h = h.1
 fault-end served reason closed bytes sent last fault.Store none h =
     (h.0, subst (IsCutOff served bytes (AreLastWords served fault.Store)) (nothing-more sent last.out none) h.1)
-fault-end served reason closed bytes sent last (fault.Damaged found) none h = h
+fault-end served reason closed bytes sent last (fault.Damaged found) none h =
+    subst (IsCutOff served bytes (EndsBefore served found)) (nothing-more sent last.out none) h
 fault-end served reason closed bytes sent last fault.Memory none h =
     subst (IsCutOff served bytes (AreLastWords served fault.Memory)) (nothing-more sent last.out none) h
 
-closed-end : (served : Served) (closed : Type 0) (bytes sent : List ℕ) (last : State) → IsAtRest last.out last.fault last.hand (has_turn last.held) → Goes served bytes sent last → (last.closed ≡ true → closed) → (last.closed ≡ true) ⊎ (last.held.ended ≡ true) → AreAnswers served bytes sent × (closed ⊎ EndsItself bytes)
+closed-end : (served : Served) (closed : Type 0) (bytes sent : List ℕ) (last : State) → IsAtRest last.out last.fault last.hand (has_turn last.held) → Goes served bytes sent last → (last.closed ≡ true → closed) → (last.closed ≡ true) ⊎ (last.held.ended ≡ true) → HasAnswered served bytes sent × (closed ⊎ EndsItself bytes)
 closed-end served closed bytes sent last rest goes why (inl shut) = (rest-answers served bytes sent last rest goes, inl (why shut))
 closed-end served closed bytes sent last rest goes why (inr ended) =
     (rest-answers served bytes sent last rest goes, inr (rest-ends served bytes sent last rest goes ended))
@@ -230,10 +241,20 @@ ends-has served reason closed bytes sent last ends why has is =
     let over = over-parts last ends is in
     end-by served reason closed bytes sent last ends why has over.out_is over.cause
 
-pub reads-has : (served : Served) (reason : Type 0) (bytes sent : List ℕ) (last : State) → Has served reason bytes sent last → want_of last ≡ want.Read → AreAnswers served bytes sent
+pub reads-has : (served : Served) (reason : Type 0) (bytes sent : List ℕ) (last : State) → Has served reason bytes sent last → want_of last ≡ want.Read → HasAnswered served bytes sent
 reads-has served reason bytes sent last has is =
     let rest = (read-parts last is).0 in
     rest-answers served bytes sent last rest (at-has served reason bytes sent last None rest.going has)
+
+-- where each plan and each tile is there, no connection ends for a damaged file
+cut-undamaged : (files : Files) (served : Served) (found : QueryFile) (others : List Turn) (words : List ℕ) → IsServed files served → EndsBefore served found others words → ⊥
+cut-undamaged files served found [] words is ends = ends
+cut-undamaged files served found (turn ∷ others) words is ends =
+    let same = folder-is files served (served-sent files served is) in
+    undamaged files served ends.hand found is ends.fit ends.planned (subst (λ (all : Files). IsDamagedIn ends.hand found all) same ends.damaged)
+
+pub never-damaged : (files : Files) (served : Served) (reason closed : Type 0) (bytes text : List ℕ) (found : QueryFile) → IsServed files served → IsEnd served reason closed bytes text (end.Damaged found) → ⊥
+never-damaged files served reason closed bytes text found is cut = cut-undamaged files served found cut.others cut.words is cut.fits
 
 -- which fault an end stands for
 ended-by : (f : Option Fault) (hand : Hand) (due : Bool) (over : Type 0) (x : Fault) (ends : End) → ¬ (end_of x ≡ end.Closed) → ((y : Fault) → end_of x ≡ end_of y → y ≡ x) → ends ≡ end_of x → ((y : Fault) × (f ≡ Some y) × (ends ≡ end_of y)) ⊎ ((ends ≡ end.Closed) × over) → f ≡ Some x
@@ -301,7 +322,7 @@ owes-has served reason bytes sent last has going more text owed =
 
 -- ---- lists of calls
 
-led-has : (files : Files) (served : Served) (reason : Type 0) (bytes sent : List ℕ) (old new : State) (call : SessionCall) → IsServed files served → Has served reason bytes sent old → Leads files served reason old call new → Has served reason (bytes ++ fed_by (call ∷ [])) (sent ++ sent_by (call ∷ [])) new
+led-has : (files : Files) (served : Served) (reason : Type 0) (bytes sent : List ℕ) (old new : State) (call : SessionCall) → IsSentOf files served → Has served reason bytes sent old → Leads files served reason old call new → Has served reason (bytes ++ fed_by (call ∷ [])) (sent ++ sent_by (call ∷ [])) new
 led-has files served reason bytes sent old new (Fed piece) is has leads =
     let now = fed-has served reason bytes sent piece old new has leads.0 leads.1 in
     subst (λ (w : List ℕ). Has served reason (bytes ++ w) (sent ++ []) new) (sym (append-nil piece)) (subst (λ (w : List ℕ). Has served reason (bytes ++ piece) w new) (sym (append-nil sent)) now)
@@ -327,7 +348,7 @@ sent-first Worked calls = refl
 sent-first (Sent bytes) calls = ap (λ (w : List ℕ). w ++ sent_by calls) (sym (append-nil bytes))
 sent-first Failed calls = refl
 
-led-on : (files : Files) (served : Served) (reason : Type 0) (calls : List SessionCall) (bytes sent : List ℕ) (old last : State) → IsServed files served → Has served reason bytes sent old → LeadsOn files served reason old calls last → Has served reason (bytes ++ fed_by calls) (sent ++ sent_by calls) last
+led-on : (files : Files) (served : Served) (reason : Type 0) (calls : List SessionCall) (bytes sent : List ℕ) (old last : State) → IsSentOf files served → Has served reason bytes sent old → LeadsOn files served reason old calls last → Has served reason (bytes ++ fed_by calls) (sent ++ sent_by calls) last
 led-on files served reason [] bytes sent old last is has leads =
     subst (Has served reason (bytes ++ []) (sent ++ [])) (sym leads) (subst (λ (w : List ℕ). Has served reason w (sent ++ []) old) (sym (append-nil bytes)) (subst (λ (w : List ℕ). Has served reason bytes w old) (sym (append-nil sent)) has))
 led-on files served reason (call ∷ calls) bytes sent old last is has leads =
@@ -339,5 +360,5 @@ led-on files served reason (call ∷ calls) bytes sent old last is has leads =
     append_assoc sent (sent_by (call ∷ [])) (sent_by calls) ∙ ap (λ (w : List ℕ). sent ++ w) (sym (sent-first call calls)) in
     subst (λ (w : List ℕ). Has served reason w (sent ++ sent_by (call ∷ calls)) last) fed_all (subst (λ (w : List ℕ). Has served reason ((bytes ++ fed_by (call ∷ [])) ++ fed_by calls) w last) sent_all all)
 
-pub sends-answers : (files : Files) (served : Served) (reason : Type 0) → IsServed files served → (calls : List SessionCall) (last : State) → LeadsOn files served reason started calls last → Has served reason (fed_by calls) (sent_by calls) last
+pub sends-answers : (files : Files) (served : Served) (reason : Type 0) → IsSentOf files served → (calls : List SessionCall) (last : State) → LeadsOn files served reason started calls last → Has served reason (fed_by calls) (sent_by calls) last
 sends-answers files served reason is calls last leads = led-on files served reason calls [] [] started last is (start-has served reason) leads

@@ -3,7 +3,8 @@ pub mod TurnLemmas
 mod Wanted
 pub mod Sending
 pub mod Wanting
-mod Plans
+pub mod Plans
+mod LastWords
 mod Ending
 pub mod Histories
 mod Falling

@@ -16,7 +16,7 @@ use Rattle.ept_query.specs.Damage.{HasTile}
 use Rattle.ept_query.specs.Parts.{Plan, node_at, IsPartOf}
 use Rattle.ept_conn.specs.declared.turn.Turn.{Turn}
 use Rattle.ept_conn.specs.Answers.{Served}
-use Rattle.ept_conn.specs.Served.{HasPart, IsOpenTo, IsServed}
+use Rattle.ept_conn.specs.Served.{HasPart, IsOpenTo, IsServed, IsSentOf}
 use Rattle.ept_conn.specs.declared.hand.Hand.{Hand}
 use Rattle.ept_conn.specs.declared.hand.Hand.TheVariants.{Empty, Decided, Tiles}
 use Rattle.ept_conn.specs.Works.{IsTurnsPlan, IsPlanOfTurn, HasPlanOf, HasNoTiles}
@@ -63,13 +63,32 @@ plan-once IsAsked a b up up' p q =
     (λ z m. contains-member b z ((q z.0 z.1).1 ((p z.0 z.1).0 (member-contains a z m))))
     (λ z m. contains-member a z ((p z.0 z.1).1 ((q z.0 z.1).0 (member-contains b z m))))
 
-pub plan-served : (files : Files) (served : Served) (area : Box3) (first second : ℕ) (plan : Plan) → IsServed files served → IsOrdered area → first ≤ second → IsPlanFor area first second plan files → served.plan area first second ≡ Some plan.tiles
-plan-served files served area first second plan (inl shut) ordered depths has = absurd (shut.done has.done)
-plan-served files served area first second plan (inr is) ordered depths has =
+plan-open : (files : Files) (served : Served) (area : Box3) (first second : ℕ) (plan : Plan) → IsOpenTo files served → IsOrdered area → first ≤ second → IsPlanFor area first second plan files → served.plan area first second ≡ Some plan.tiles
+plan-open files served area first second plan is ordered depths has =
     let there = is.plan area first second ordered depths in
     let one = there.2.tiles has.build.0 has.build.1 in
     let two = has.tiles has.build.0 has.build.1 in
     there.1 ∙ ap Some (plan-once _ there.0 plan.tiles one.ascend two.ascend one.each two.each)
+
+-- where each plan and each tile is there, what is sent is so of what is there
+pub served-sent : (files : Files) (served : Served) → IsServed files served → IsSentOf files served
+served-sent files served (inl shut) = inl shut
+served-sent files served (inr is) = inr (record {
+  folder = is.folder;
+  done = is.done;
+  file = is.file;
+  plan = λ area first second plan ordered depths has. plan-open files served area first second plan is ordered depths has;
+  part = λ area first second nodes node points planned there has. (is.part area first second nodes node planned there).packed points has;
+})
+
+pub plan-served : (files : Files) (served : Served) (area : Box3) (first second : ℕ) (plan : Plan) → IsSentOf files served → IsOrdered area → first ≤ second → IsPlanFor area first second plan files → served.plan area first second ≡ Some plan.tiles
+plan-served files served area first second plan (inl shut) ordered depths has = absurd (shut.done has.done)
+plan-served files served area first second plan (inr is) ordered depths has = is.plan area first second plan ordered depths has
+
+-- the folder of which it is sent
+pub folder-is : (files : Files) (served : Served) → IsSentOf files served → served.files ≡ files
+folder-is files served (inl shut) = shut.folder
+folder-is files served (inr is) = is.folder
 
 -- ---- one part
 
@@ -79,7 +98,7 @@ part-there files served turn plan done is within planned =
     let there : Contains plan.tiles node = (done, within, get_or_default plan.tiles done node (root, 0) within) in
     is.part plan.area planned.first planned.second plan.tiles node planned.plan_is there
 
-pub part-served : (files : Files) (served : Served) (turn : Turn) (plan : Plan) (done : ℕ) (bytes : List ℕ) (count : ℕ) → IsServed files served → IsTurnsPlan served turn plan → done < length plan.tiles → IsPartOf plan.area (node_at plan done) bytes count (Some files) → served.part plan.area (node_at plan done) ≡ bytes
+pub part-served : (files : Files) (served : Served) (turn : Turn) (plan : Plan) (done : ℕ) (bytes : List ℕ) (count : ℕ) → IsSentOf files served → IsTurnsPlan served turn plan → done < length plan.tiles → IsPartOf plan.area (node_at plan done) bytes count (Some files) → served.part plan.area (node_at plan done) ≡ bytes
 part-served files served turn plan done bytes count (inl shut) planned within part =
     let none : Some plan.tiles ≡ None = sym planned.plan_is ∙ shut.plan plan.area planned.first planned.second in
     absurd cc
@@ -90,8 +109,8 @@ part-served files served turn plan done bytes count (inr is) planned within part
       there = part.there;
       form = record { packed = refl; ascend = part.ascend; counted = part.counted };
     } in
-    let held = part-there files served turn plan done is within planned in
-    held.packed part.points has ∙ sym part.bytes_are
+    let there : Contains plan.tiles node = (done, within, get_or_default plan.tiles done node (root, 0) within) in
+    is.part plan.area planned.first planned.second plan.tiles node part.points planned.plan_is there has ∙ sym part.bytes_are
 
 -- ---- the plan in hand
 

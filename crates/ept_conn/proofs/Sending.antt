@@ -1,7 +1,12 @@
 -- What a session has sent, call by call.
-use Rattle.std.proofs.Common.{◌≡◌, ◌∙◌, ◌+◌, ◌-◌, ◌==◌, ◌<◌, ◌≤◌, ℕ, List, [], ◌∷◌, ◌++◌, length, take, get_or, Bool, true, false, ◌||◌, if◌then◌else◌, Option, Some, None, refl, sym, ap, subst, arith, append_assoc, append-nil}
+use Rattle.std.proofs.Common.{inl, inr, ◌≡◌, ◌∙◌, ◌+◌, ◌-◌, ◌==◌, ◌<◌, ◌≤◌, ℕ, List, [], ◌∷◌, ◌++◌, length, take, get_or, Bool, true, false, ◌||◌, if◌then◌else◌, Option, Some, None, refl, sym, ap, subst, arith, append_assoc, append-nil}
 use Rattle.std.specs.Prelude.{nat_lt}
-use Rattle.std.specs.List.{flat_map}
+use Rattle.std.specs.Prelude.{⊤, ◌⊎◌}
+use Rattle.std.specs.List.{AllByRecursion, flat_map}
+use Rattle.ept_base.specs.Files.{Files}
+use Rattle.ept_point.specs.declared.point.Point.{Point}
+use Rattle.ept_save.specs.Done.{IsDone}
+use Rattle.ept_query.specs.Damage.{HasTile}
 use Rattle.std.proofs.lemmas.List.{take_more, take_all}
 use Rattle.std.proofs.lemmas.List.Concat.{flat_map-append}
 use Rattle.ept_space.specs.declared.box3.Box3.{Box3}
@@ -21,10 +26,12 @@ use Rattle.ept_conn.specs.HeadEnd.{Front, Whole, Long, Short, front}
 use Rattle.ept_conn.specs.Turns.{AreDue, IsFirst, IsNext}
 use Rattle.ept_conn.specs.Answers.{Served, chunk, chunks, last_chunk, answer_to, answer, answers, query_answer}
 use Rattle.ept_conn.specs.State.{State, IsFit, started, feeds}
-use Rattle.ept_conn.specs.Wanted.{wanted, Wants, kept_of}
-use Rattle.ept_conn.specs.Works.{IsTurnsPlan, IsPlanned, hand_to, out_to, hand_at, end_at, Begins, Gets, WorksOn, Works}
+use Rattle.ept_conn.specs.Wanted.{Wanted, wanted, Wants, kept_of}
+use Rattle.ept_conn.specs.InHand.{turns_in, begun_of}
+use Rattle.ept_conn.specs.Works.{IsTurnsPlan, IsPlanned, IsPlanOfTurn, HasPlanOf, hand_to, out_to, hand_at, end_at, Begins, Gets, WorksOn, Works}
+use Rattle.ept_conn.specs.Whole.{HasTiles, HasPoints, IsWholeFor, IsWhole, HasMadePlan, HasPlanIfOpen, HasFound, HasTilesDone}
 use Rattle.ept_conn.specs.Ends.{has_last}
-use Rattle.ept_conn.specs.History.{turns_in, begun_of, Goes}
+use Rattle.ept_conn.specs.History.{Goes}
 use Rattle.ept_conn.proofs.Wanted.{wants-answer}
 use Rattle.ept_conn.proofs.TurnLemmas.{next-due, next-asked}
 
@@ -80,6 +87,15 @@ next-room old new turn next on =
     let given = next.given in
     omega (arith, some, given)
 
+-- ---- what is there
+
+all-push : {X : Type 0} (P : X → Type 0) (xs : List X) (x : X) → AllByRecursion P xs → P x → AllByRecursion P (xs ++ x ∷ [])
+all-push P [] x all one = (one, tt)
+all-push P (y ∷ ys) x all one = (all.0, all-push P ys x all.1 one)
+
+none-needed : (files : Files) (turn : Turn) (a : Asked) → turn.asked ≡ a → IsWholeFor files (wanted a) → IsWhole files turn
+none-needed files turn a is whole = subst (λ (b : Asked). IsWholeFor files (wanted b)) (sym is) whole
+
 -- ---- a session that goes on
 
 pub start-goes : (served : Served) → Goes served [] [] started
@@ -90,12 +106,15 @@ start-goes served = record {
   room = λ going. omega arith;
   fit = tt;
   planned = tt;
+  has_plan = tt;
+  tiles = tt;
+  whole = tt;
   written = sym (append-nil (answers served []) ∙ answers-none served);
 }
 
 pub fed-goes : (served : Served) (bytes sent piece : List ℕ) (state : State) → Goes served bytes sent state → Goes served (bytes ++ piece) sent (feeds state piece)
 fed-goes served bytes sent [] state g =
-    let now : Goes served bytes sent (record state { closed = true }) = record { before = g.before; turns = g.turns; over = g.over; room = g.room; fit = g.fit; planned = g.planned; written = g.written } in
+    let now : Goes served bytes sent (record state { closed = true }) = record { before = g.before; turns = g.turns; over = g.over; room = g.room; fit = g.fit; planned = g.planned; has_plan = g.has_plan; tiles = g.tiles; whole = g.whole; written = g.written } in
     subst (λ (w : List ℕ). Goes served w sent (record state { closed = true })) (sym (append-nil bytes)) now
 fed-goes served bytes sent (b ∷ piece) state g = record {
   before = g.before;
@@ -108,6 +127,9 @@ fed-goes served bytes sent (b ∷ piece) state g = record {
   room = g.room;
   fit = g.fit;
   planned = g.planned;
+  has_plan = g.has_plan;
+  tiles = g.tiles;
+  whole = g.whole;
   written = g.written;
 }
 
@@ -123,8 +145,8 @@ record Stands (bytes : List ℕ) (held : Held) (before : List Turn) (turn : Turn
   room : held.ended ≡ false → held.given < 65536
 
 -- it was answered
-answered : (served : Served) (bytes sent : List ℕ) (before : List Turn) (turn : Turn) (new : State) → Stands bytes new.held before turn → new.hand ≡ Empty → sent ++ new.out ≡ answers served before ++ answer served turn → Goes served bytes sent new
-answered served bytes sent before turn new stands hand written = record {
+answered : (served : Served) (bytes sent : List ℕ) (before : List Turn) (turn : Turn) (new : State) → AllByRecursion (IsWhole served.files) before → IsWhole served.files turn → Stands bytes new.held before turn → new.hand ≡ Empty → sent ++ new.out ≡ answers served before ++ answer served turn → Goes served bytes sent new
+answered served bytes sent before turn new whole one stands hand written = record {
   before = before ++ turn ∷ [];
   turns = λ more others due.
       let H : Hand → Type 0 = λ h. AreDue (fed fresh (bytes ++ more)) ((before ++ turn ∷ []) ++ (turns_in h ++ others)) in
@@ -135,12 +157,15 @@ answered served bytes sent before turn new stands hand written = record {
   room = stands.room;
   fit = subst IsFit (sym hand) tt;
   planned = subst (IsPlanned served) (sym hand) tt;
+  has_plan = subst (HasPlanOf served.files) (sym hand) tt;
+  tiles = subst (HasTilesDone served.files) (sym hand) tt;
+  whole = all-push (IsWhole served.files) before turn whole one;
   written = written ∙ answers-more served before turn ∙ sym (ap (λ (h : Hand). answers served (before ++ turn ∷ []) ++ begun_of served h) hand ∙ append-nil (answers served (before ++ turn ∷ [])));
 }
 
 -- it stays in hand
-stays : (served : Served) (bytes sent : List ℕ) (before : List Turn) (turn : Turn) (new : State) (hand : Hand) → Stands bytes new.held before turn → new.hand ≡ hand → turns_in hand ≡ turn ∷ [] → IsFit hand → IsPlanned served hand → sent ++ new.out ≡ answers served before ++ begun_of served hand → Goes served bytes sent new
-stays served bytes sent before turn new hand stands is one fit planned written =
+stays : (served : Served) (bytes sent : List ℕ) (before : List Turn) (turn : Turn) (new : State) (hand : Hand) → AllByRecursion (IsWhole served.files) before → HasPlanOf served.files hand → HasTilesDone served.files hand → Stands bytes new.held before turn → new.hand ≡ hand → turns_in hand ≡ turn ∷ [] → IsFit hand → IsPlanned served hand → sent ++ new.out ≡ answers served before ++ begun_of served hand → Goes served bytes sent new
+stays served bytes sent before turn new hand whole has_plan tiles stands is one fit planned written =
     let turns_now : turns_in new.hand ≡ turn ∷ [] = ap turns_in is ∙ one in record {
       before = before;
       turns = λ more others due. subst (λ (ts : List Turn). AreDue (fed fresh (bytes ++ more)) (before ++ (ts ++ others))) (sym turns_now) (stands.turns more others due);
@@ -148,6 +173,9 @@ stays served bytes sent before turn new hand stands is one fit planned written =
       room = stands.room;
       fit = subst IsFit (sym is) fit;
       planned = subst (IsPlanned served) (sym is) planned;
+      has_plan = subst (HasPlanOf served.files) (sym is) has_plan;
+      tiles = subst (HasTilesDone served.files) (sym is) tiles;
+      whole = whole;
       written = written ∙ sym (ap (λ (h : Hand). answers served before ++ begun_of served h) is);
     }
 
@@ -172,22 +200,22 @@ hand-stands served bytes sent old new hand turn g is one same =
     } in
     subst (λ (h : Held). Stands bytes h g.before turn) (sym same) stands
 
-decided-goes : (served : Served) (bytes sent : List ℕ) (before : List Turn) (new : State) (turn : Turn) (a : Asked) → turn.asked ≡ a → MayBeAsked turn.asked → Stands bytes new.held before turn → sent ≡ answers served before → new.hand ≡ hand_to a turn → new.out ≡ out_to a turn.last → Goes served bytes sent new
-decided-goes served bytes sent before new turn (asked.File name) is may stands all hand out =
-    stays served bytes sent before turn new (Decided turn) stands hand refl may tt (ap (λ (w : List ℕ). sent ++ w) out ∙ append-nil sent ∙ all ∙ sym (append-nil (answers served before)))
-decided-goes served bytes sent before new turn (asked.Query area first second) is may stands all hand out =
-    stays served bytes sent before turn new (Decided turn) stands hand refl may tt (ap (λ (w : List ℕ). sent ++ w) out ∙ append-nil sent ∙ all ∙ sym (append-nil (answers served before)))
-decided-goes served bytes sent before new turn (asked.Select area first second sift) is may stands all hand out =
-    stays served bytes sent before turn new (Decided turn) stands hand refl may tt (ap (λ (w : List ℕ). sent ++ w) out ∙ append-nil sent ∙ all ∙ sym (append-nil (answers served before)))
-decided-goes served bytes sent before new turn (asked.Refuse status) is may stands all hand out =
+decided-goes : (served : Served) (bytes sent : List ℕ) (before : List Turn) (new : State) (turn : Turn) (a : Asked) → AllByRecursion (IsWhole served.files) before → turn.asked ≡ a → MayBeAsked turn.asked → Stands bytes new.held before turn → sent ≡ answers served before → new.hand ≡ hand_to a turn → new.out ≡ out_to a turn.last → Goes served bytes sent new
+decided-goes served bytes sent before new turn (asked.File name) whole is may stands all hand out =
+    stays served bytes sent before turn new (Decided turn) whole tt tt stands hand refl may tt (ap (λ (w : List ℕ). sent ++ w) out ∙ append-nil sent ∙ all ∙ sym (append-nil (answers served before)))
+decided-goes served bytes sent before new turn (asked.Query area first second) whole is may stands all hand out =
+    stays served bytes sent before turn new (Decided turn) whole tt tt stands hand refl may tt (ap (λ (w : List ℕ). sent ++ w) out ∙ append-nil sent ∙ all ∙ sym (append-nil (answers served before)))
+decided-goes served bytes sent before new turn (asked.Select area first second sift) whole is may stands all hand out =
+    stays served bytes sent before turn new (Decided turn) whole tt tt stands hand refl may tt (ap (λ (w : List ℕ). sent ++ w) out ∙ append-nil sent ∙ all ∙ sym (append-nil (answers served before)))
+decided-goes served bytes sent before new turn (asked.Refuse status) whole is may stands all hand out =
     let text : new.out ≡ answer served turn = out ∙ sym (ap (λ (a : Asked). answer_to served a turn.last) is) in
-    answered served bytes sent before turn new stands hand (ap (λ (w : List ℕ). sent ++ w) text ∙ ap (λ (w : List ℕ). w ++ answer served turn) all)
+    answered served bytes sent before turn new whole (none-needed served.files turn (asked.Refuse status) is tt) stands hand (ap (λ (w : List ℕ). sent ++ w) text ∙ ap (λ (w : List ℕ). w ++ answer served turn) all)
 
 -- the whole answer was put out at once
-answered-at-once : (served : Served) (bytes sent : List ℕ) (before : List Turn) (turn : Turn) (a : Asked) (new : State) → turn.asked ≡ a → Stands bytes new.held before turn → sent ≡ answers served before → new.hand ≡ Empty → new.out ≡ answer_to served a turn.last → Goes served bytes sent new
-answered-at-once served bytes sent before turn a new is stands all hand out =
+answered-at-once : (served : Served) (bytes sent : List ℕ) (before : List Turn) (turn : Turn) (a : Asked) (new : State) → AllByRecursion (IsWhole served.files) before → IsWholeFor served.files (wanted a) → turn.asked ≡ a → Stands bytes new.held before turn → sent ≡ answers served before → new.hand ≡ Empty → new.out ≡ answer_to served a turn.last → Goes served bytes sent new
+answered-at-once served bytes sent before turn a new whole one is stands all hand out =
     let text : new.out ≡ answer served turn = out ∙ sym (ap (λ (b : Asked). answer_to served b turn.last) is) in
-    answered served bytes sent before turn new stands hand (ap (λ (w : List ℕ). sent ++ w) text ∙ ap (λ (w : List ℕ). w ++ answer served turn) all)
+    answered served bytes sent before turn new whole (none-needed served.files turn a is one) stands hand (ap (λ (w : List ℕ). sent ++ w) text ∙ ap (λ (w : List ℕ). w ++ answer served turn) all)
 
 -- ---- queries
 
@@ -197,6 +225,43 @@ more-at turn plan done is = (ap (λ (b : Bool). if b then Tiles turn plan done e
 over-at : (turn : Turn) (plan : Plan) (done : ℕ) → nat_lt done (length plan.tiles) ≡ false → (hand_at turn plan done ≡ Empty) × (end_at plan done ≡ last_chunk)
 over-at turn plan done is = (ap (λ (b : Bool). if b then Tiles turn plan done else Empty) is, ap (λ (b : Bool). if b then [] else last_chunk) is)
 
+-- one tile more is there
+is-below : (n m : ℕ) → nat_lt n m ≡ true → n < m
+is-below n m is = grind (arith, is)
+
+is-last : (n m : ℕ) → nat_lt n m ≡ false → n < m + 1 → m ≡ n
+is-last n m is less = grind (arith, is, less)
+
+abbrev IsThere : Files → Plan → ℕ → Type 0
+IsThere files plan at = (points : List Point) × HasTile files (node_at plan at).0 (node_at plan at).1 points
+
+tiles-more : (files : Files) (plan : Plan) (done : ℕ) → HasTiles files plan done → IsThere files plan done → HasTiles files plan (done + 1)
+tiles-more files plan done tiles next at within = either (nat_lt at done) refl
+  where
+    either : (b : Bool) → nat_lt at done ≡ b → IsThere files plan at
+    either true below = tiles at (is-below at done below)
+    either false over = subst (IsThere files plan) (is-last at done over within) next
+
+-- where the turn does not stay in hand, its plan has no tile
+no-tiles : (turn : Turn) (plan : Plan) → hand_at turn plan 0 ≡ Empty → length plan.tiles ≡ 0
+no-tiles turn plan is = either (nat_lt 0 (length plan.tiles)) refl
+  where
+    either : (b : Bool) → nat_lt 0 (length plan.tiles) ≡ b → length plan.tiles ≡ 0
+    either true more =
+        let both : Tiles turn plan 0 ≡ Empty = sym (more-at turn plan 0 more).0 ∙ is in
+        absurd cc
+    either false none = grind (arith, none)
+
+at-once-whole : (files : Files) (turn : Turn) (points : Wanted) (new : State) → HasPlanIfOpen files turn (Some points) new → new.hand ≡ Empty → IsWholeFor files (Some points)
+at-once-whole files turn points new (inl shut) empty = inl shut
+at-once-whole files turn points new (inr made) empty =
+    let none = no-tiles turn made.plan (sym made.hand ∙ empty) in
+    inr (record { plan = made.plan; is_plan = made.is_plan; tiles = λ at within. absurd (omega (arith, within, none)) })
+
+begun-whole : (files : Files) (turn : Turn) (a : Asked) (points : Wanted) (new : State) → wanted a ≡ Some points → HasPlanIfOpen files turn (wanted a) new → new.hand ≡ Empty → IsWholeFor files (wanted a)
+begun-whole files turn a points new wants made empty =
+    subst (IsWholeFor files) (sym wants) (at-once-whole files turn points new (subst (λ (w : Option Wanted). HasPlanIfOpen files turn w new) wants made) empty)
+
 -- what was put out of a query, tile by tile
 shifted : (a h c k : List ℕ) → (a ++ (h ++ c)) ++ (k ++ []) ≡ a ++ (h ++ (c ++ k))
 shifted a h c k = simp (append_assoc, append-nil) refl
@@ -204,8 +269,8 @@ shifted a h c k = simp (append_assoc, append-nil) refl
 shifted-over : (a h c k l : List ℕ) → (a ++ (h ++ c)) ++ (k ++ l) ≡ a ++ (h ++ ((c ++ k) ++ l))
 shifted-over a h c k l = simp (append_assoc, append-nil) refl
 
-tile-goes : (served : Served) (bytes sent : List ℕ) (before : List Turn) (turn : Turn) (plan : Plan) (done : ℕ) (new : State) (b : Bool) → nat_lt (done + 1) (length plan.tiles) ≡ b → done < length plan.tiles → IsTurnsPlan served turn plan → Stands bytes new.held before turn → sent ≡ answers served before ++ begun_of served (Tiles turn plan done) → new.hand ≡ hand_at turn plan (done + 1) → new.out ≡ chunk (kept_of turn.asked (served.part plan.area (node_at plan done))) ++ end_at plan (done + 1) → Goes served bytes sent new
-tile-goes served bytes sent before turn plan done new true more within planned stands all hand out =
+tile-goes : (served : Served) (bytes sent : List ℕ) (before : List Turn) (turn : Turn) (plan : Plan) (done : ℕ) (new : State) (b : Bool) → nat_lt (done + 1) (length plan.tiles) ≡ b → AllByRecursion (IsWhole served.files) before → IsPlanOfTurn served.files turn plan → HasTiles served.files plan (done + 1) → done < length plan.tiles → IsTurnsPlan served turn plan → Stands bytes new.held before turn → sent ≡ answers served before ++ begun_of served (Tiles turn plan done) → new.hand ≡ hand_at turn plan (done + 1) → new.out ≡ chunk (kept_of turn.asked (served.part plan.area (node_at plan done))) ++ end_at plan (done + 1) → Goes served bytes sent new
+tile-goes served bytes sent before turn plan done new true more whole has_plan tiles within planned stands all hand out =
     let there = more-at turn plan (done + 1) more in
     let k = chunk (kept_of turn.asked (served.part plan.area (node_at plan done))) in
     let text : new.out ≡ k ++ [] = out ∙ ap (λ (w : List ℕ). k ++ w) there.1 in
@@ -214,11 +279,11 @@ tile-goes served bytes sent before turn plan done new true more within planned s
     ap (λ (w : List ℕ). sent ++ w) text ∙ ap (λ (w : List ℕ). w ++ (k ++ [])) all
     ∙ shifted (answers served before) (head_text (head.Query turn.last)) front k
     ∙ sym (ap (λ (w : List ℕ). answers served before ++ (head_text (head.Query turn.last) ++ w)) (chunks-more served turn.asked plan.area plan.tiles done within)) in
-    stays served bytes sent before turn new (Tiles turn plan (done + 1)) stands (hand ∙ there.0) refl (fit-more (done + 1) (length plan.tiles) more) planned written
+    stays served bytes sent before turn new (Tiles turn plan (done + 1)) whole has_plan tiles stands (hand ∙ there.0) refl (fit-more (done + 1) (length plan.tiles) more) planned written
   where
     fit-more : (n m : ℕ) → nat_lt n m ≡ true → n < m
     fit-more n m is = grind (arith, is)
-tile-goes served bytes sent before turn plan done new false over within planned stands all hand out =
+tile-goes served bytes sent before turn plan done new false over sound has_plan tiles within planned stands all hand out =
     let there = over-at turn plan (done + 1) over in
     let k = chunk (kept_of turn.asked (served.part plan.area (node_at plan done))) in
     let text : new.out ≡ k ++ last_chunk = out ∙ ap (λ (w : List ℕ). k ++ w) there.1 in
@@ -231,51 +296,61 @@ tile-goes served bytes sent before turn plan done new false over within planned 
     ap (λ (w : List ℕ). sent ++ w) text ∙ ap (λ (w : List ℕ). w ++ (k ++ last_chunk)) all
     ∙ shifted-over (answers served before) (head_text (head.Query turn.last)) front k last_chunk
     ∙ sym (ap (λ (w : List ℕ). answers served before ++ w) answer-is ∙ ap (λ (w : List ℕ). answers served before ++ (head_text (head.Query turn.last) ++ (w ++ last_chunk))) whole) in
-    answered served bytes sent before turn new stands (hand ∙ there.0) written
+    let all_there : IsWhole served.files turn = subst (IsWholeFor served.files) (sym has_plan.wants) (inr (record {
+      plan = plan;
+      is_plan = has_plan.is_plan;
+      tiles = λ at below. tiles at (at-most at (length plan.tiles) (done + 1) below (not-more done plan over));
+    })) in
+    answered served bytes sent before turn new sound all_there stands (hand ∙ there.0) written
   where
+    at-most : (n m k : ℕ) → n < m → m ≤ k → n < k
+    at-most n m k below up = omega (arith, below, up)
+
     not-more : (done : ℕ) (plan : Plan) → nat_lt (done + 1) (length plan.tiles) ≡ false → length plan.tiles ≤ done + 1
     not-more done plan over = grind (arith, over)
 
-begun-goes : (served : Served) (bytes sent : List ℕ) (before : List Turn) (turn : Turn) (a : Asked) (area : Box3) (first second : ℕ) (found : Option (List Node)) (new : State) → turn.asked ≡ a → Wants a area first second → served.plan area first second ≡ found → Stands bytes new.held before turn → sent ≡ answers served before → Begins turn area found new → Goes served bytes sent new
-begun-goes served bytes sent before turn a area first second None new is wants plan_is stands all begins =
+begun-goes : (served : Served) (bytes sent : List ℕ) (before : List Turn) (turn : Turn) (a : Asked) (area : Box3) (first second : ℕ) (found : Option (List Node)) (new : State) → AllByRecursion (IsWhole served.files) before → HasPlanOf served.files new.hand → HasPlanIfOpen served.files turn (wanted a) new → turn.asked ≡ a → Wants a area first second → served.plan area first second ≡ found → Stands bytes new.held before turn → sent ≡ answers served before → Begins turn area found new → Goes served bytes sent new
+begun-goes served bytes sent before turn a area first second None new whole has_plan made is wants plan_is stands all begins =
     let text = wants-answer served a area first second turn.last wants ∙ ap (query_answer served a area turn.last) plan_is in
-    answered-at-once served bytes sent before turn a new is stands all begins.0 (begins.1 ∙ sym text)
-begun-goes served bytes sent before turn a area first second (Some []) new is wants plan_is stands all begins =
+    answered-at-once served bytes sent before turn a new whole (begun-whole served.files turn a (record { area = area; first = first; second = second }) new wants made begins.0) is stands all begins.0 (begins.1 ∙ sym text)
+begun-goes served bytes sent before turn a area first second (Some []) new whole has_plan made is wants plan_is stands all begins =
     let text = wants-answer served a area first second turn.last wants ∙ ap (query_answer served a area turn.last) plan_is in
-    answered-at-once served bytes sent before turn a new is stands all begins.0 (begins.1 ∙ sym text)
-begun-goes served bytes sent before turn a area first second (Some (n ∷ ns)) new is wants plan_is stands all begins =
+    answered-at-once served bytes sent before turn a new whole (begun-whole served.files turn a (record { area = area; first = first; second = second }) new wants made begins.0) is stands all begins.0 (begins.1 ∙ sym text)
+begun-goes served bytes sent before turn a area first second (Some (n ∷ ns)) new whole has_plan made is wants plan_is stands all begins =
     let plan : Plan = record { area = area; tiles = n ∷ ns } in
     let there = more-at turn plan 0 (grind arith) in
     let text : new.out ≡ head_text (head.Query turn.last) ++ [] = begins.1 ∙ ap (λ (w : List ℕ). head_text (head.Query turn.last) ++ w) there.1 in
-    stays served bytes sent before turn new (Tiles turn plan 0) stands (begins.0 ∙ there.0) refl (omega arith) (record { first = first; second = second; wants = ap wanted is ∙ wants; plan_is = plan_is }) (ap (λ (w : List ℕ). sent ++ w) text ∙ ap (λ (w : List ℕ). w ++ (head_text (head.Query turn.last) ++ [])) all)
+    stays served bytes sent before turn new (Tiles turn plan 0) whole (subst (HasPlanOf served.files) (begins.0 ∙ there.0) has_plan) (λ at within. absurd (omega (arith, within))) stands (begins.0 ∙ there.0) refl (omega arith) (record { first = first; second = second; wants = ap wanted is ∙ wants; plan_is = plan_is }) (ap (λ (w : List ℕ). sent ++ w) text ∙ ap (λ (w : List ℕ). w ++ (head_text (head.Query turn.last) ++ [])) all)
 
-got-goes : (served : Served) (bytes sent : List ℕ) (before : List Turn) (turn : Turn) (a : Asked) (new : State) → turn.asked ≡ a → Stands bytes new.held before turn → sent ≡ answers served before → Gets served turn a new → Goes served bytes sent new
-got-goes served bytes sent before turn (asked.File name) new is stands all gets =
-    answered-at-once served bytes sent before turn (asked.File name) new is stands all gets.0 gets.1
-got-goes served bytes sent before turn (asked.Query area first second) new is stands all gets =
-    begun-goes served bytes sent before turn (asked.Query area first second) area first second (served.plan area first second) new is refl refl stands all gets
-got-goes served bytes sent before turn (asked.Select area first second sift) new is stands all gets =
-    begun-goes served bytes sent before turn (asked.Select area first second sift) area first second (served.plan area first second) new is refl refl stands all gets
-got-goes served bytes sent before turn (asked.Refuse status) new is stands all gets =
-    answered-at-once served bytes sent before turn (asked.Refuse status) new is stands all gets.0 gets.1
+got-goes : (served : Served) (bytes sent : List ℕ) (before : List Turn) (turn : Turn) (a : Asked) (new : State) → AllByRecursion (IsWhole served.files) before → HasPlanOf served.files new.hand → HasPlanIfOpen served.files turn (wanted a) new → turn.asked ≡ a → Stands bytes new.held before turn → sent ≡ answers served before → Gets served turn a new → Goes served bytes sent new
+got-goes served bytes sent before turn (asked.File name) new whole has_plan made is stands all gets =
+    answered-at-once served bytes sent before turn (asked.File name) new whole tt is stands all gets.0 gets.1
+got-goes served bytes sent before turn (asked.Query area first second) new whole has_plan made is stands all gets =
+    begun-goes served bytes sent before turn (asked.Query area first second) area first second (served.plan area first second) new whole has_plan made is refl refl stands all gets
+got-goes served bytes sent before turn (asked.Select area first second sift) new whole has_plan made is stands all gets =
+    begun-goes served bytes sent before turn (asked.Select area first second sift) area first second (served.plan area first second) new whole has_plan made is refl refl stands all gets
+got-goes served bytes sent before turn (asked.Refuse status) new whole has_plan made is stands all gets =
+    answered-at-once served bytes sent before turn (asked.Refuse status) new whole tt is stands all gets.0 gets.1
 
 -- ---- one piece of work
 
-worked-on : (served : Served) (bytes sent : List ℕ) (old new : State) (hand : Hand) → old.hand ≡ hand → old.out ≡ [] → Goes served bytes sent old → WorksOn served hand old new → Goes served bytes sent new
-worked-on served bytes sent old new Empty is out g works =
+worked-on : (served : Served) (bytes sent : List ℕ) (old new : State) (hand : Hand) → old.hand ≡ hand → old.out ≡ [] → Goes served bytes sent old → WorksOn served hand old new → HasPlanOf served.files new.hand → HasFound served.files hand new → Goes served bytes sent new
+worked-on served bytes sent old new Empty is out g works has_plan found =
     let all = sent-before served bytes sent old Empty g out is ∙ append-nil (answers served g.before) in
-    decided-goes served bytes sent g.before new works.turn works.turn.asked refl (next-asked old.held new.held works.turn works.next) (decided-stands served bytes sent old new works.turn g is works.next) all works.hand works.out
-worked-on served bytes sent old new (Decided turn) is out g works =
+    decided-goes served bytes sent g.before new works.turn works.turn.asked g.whole refl (next-asked old.held new.held works.turn works.next) (decided-stands served bytes sent old new works.turn g is works.next) all works.hand works.out
+worked-on served bytes sent old new (Decided turn) is out g works has_plan found =
     let all = sent-before served bytes sent old (Decided turn) g out is ∙ append-nil (answers served g.before) in
-    got-goes served bytes sent g.before turn turn.asked new refl (hand-stands served bytes sent old new (Decided turn) turn g is refl works.0) all works.1
-worked-on served bytes sent old new (Tiles turn plan done) is out g works =
+    got-goes served bytes sent g.before turn turn.asked new g.whole has_plan found refl (hand-stands served bytes sent old new (Decided turn) turn g is refl works.0) all works.1
+worked-on served bytes sent old new (Tiles turn plan done) is out g works has_plan found =
     let all = sent-before served bytes sent old (Tiles turn plan done) g out is in
     let planned = subst (IsPlanned served) is g.planned in
+    let was_plan = subst (HasPlanOf served.files) is g.has_plan in
+    let tiles = subst (HasTilesDone served.files) is g.tiles in
     let fit = subst IsFit is g.fit in
-    tile-goes served bytes sent g.before turn plan done new (nat_lt (done + 1) (length plan.tiles)) refl fit planned (hand-stands served bytes sent old new (Tiles turn plan done) turn g is refl works.0) all works.1 works.2
+    tile-goes served bytes sent g.before turn plan done new (nat_lt (done + 1) (length plan.tiles)) refl g.whole was_plan (tiles-more served.files plan done tiles found) fit planned (hand-stands served bytes sent old new (Tiles turn plan done) turn g is refl works.0) all works.1 works.2
 
-pub worked-goes : (served : Served) (bytes sent : List ℕ) (old new : State) → old.out ≡ [] → Goes served bytes sent old → Works served old new → Goes served bytes sent new
-worked-goes served bytes sent old new out g works = worked-on served bytes sent old new old.hand refl out g works
+pub worked-goes : (served : Served) (bytes sent : List ℕ) (old new : State) → old.out ≡ [] → Goes served bytes sent old → Works served old new → (HasPlanOf served.files old.hand → HasPlanOf served.files new.hand) → HasFound served.files old.hand new → Goes served bytes sent new
+worked-goes served bytes sent old new out g works plans found = worked-on served bytes sent old new old.hand refl out g works (plans g.has_plan) found
 
 -- ---- what was sent
 
@@ -288,6 +363,9 @@ sent-goes served bytes sent first rest old new g split is =
       room = g.room;
       fit = g.fit;
       planned = g.planned;
+      has_plan = g.has_plan;
+      tiles = g.tiles;
+      whole = g.whole;
       written = append_assoc sent first rest ∙ ap (λ (w : List ℕ). sent ++ w) (sym split) ∙ g.written;
     } in
     subst (λ (s : State). Goes served bytes (sent ++ first) s) (sym is) now

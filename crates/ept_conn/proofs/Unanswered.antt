@@ -15,7 +15,8 @@ use Rattle.ept_conn.specs.Held.{Held, fresh, fed, begins, turns_left, has_turn}
 use Rattle.ept_conn.specs.Turns.{too_long, AreFrom, AreTurns, AreDue}
 use Rattle.ept_conn.specs.Answers.{Served, file_answer, query_answer, chunks, last_chunk, answer_to, answer, answers}
 use Rattle.ept_conn.specs.State.{State, want_of}
-use Rattle.ept_conn.specs.History.{turns_in, begun_of, rest_of, Goes, HasFor, Has, IsUnanswered}
+use Rattle.ept_conn.specs.InHand.{turns_in, begun_of, rest_of}
+use Rattle.ept_conn.specs.History.{Goes, HasFor, Has, IsUnanswered}
 use Rattle.ept_conn.proofs.TurnLemmas.{some-due}
 use Rattle.ept_conn.proofs.Wanting.{IsAtWork, work-parts}
 use Rattle.ept_conn.proofs.Sending.{answers-append, answers-one, sent-before}

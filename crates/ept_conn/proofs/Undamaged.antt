@@ -1,6 +1,7 @@
 -- Where a plan is there, or a tile, nothing that it needs is damaged.
 use Rattle.std.proofs.Common.{◌≡◌, ℕ, List, Option, Some, refl, subst}
 use Rattle.ept_base.specs.Files.{Files}
+use Rattle.ept_point.specs.declared.point.Point.{Point}
 use Rattle.ept_point.specs.Packed.{tile}
 use Rattle.ept_space.specs.declared.box3.Box3.{Box3}
 use Rattle.ept_hier.specs.Hierarchy.{Node}
@@ -47,11 +48,17 @@ pub shut-undamaged : (files : Files) (area : Box3) (first second : ℕ) (a : Ask
 shut-undamaged files area first second a is none found damaged =
     not-done files area first second none found (subst (λ (w : Option Wanted). IsDamagedOf w found files) is damaged)
 
+pub part-tile : (files : Files) (area : Box3) (node : Node) (bytes : List ℕ) (count : ℕ) → IsPartOf area node bytes count (Some files) → (points : List Point) × HasTile files node.0 node.1 points
+part-tile files area node bytes count part = (
+  part.points,
+  record {
+    bytes = tile part.points;
+    there = part.there;
+    form = record { packed = refl; ascend = part.ascend; counted = part.counted };
+  },
+)
+
 pub part-has-tile : (files : Files) (area : Box3) (node : Node) (bytes : List ℕ) (count : ℕ) → IsPartOf area node bytes count (Some files) → ¬ HasNoTile files node.0 node.1
 part-has-tile files area node bytes count part none =
-    let has : HasTile files node.0 node.1 part.points = record {
-      bytes = tile part.points;
-      there = part.there;
-      form = record { packed = refl; ascend = part.ascend; counted = part.counted };
-    } in
-    none part.points has
+    let found = part-tile files area node bytes count part in
+    none found.0 found.1

@@ -2,6 +2,7 @@
 use Rattle.std.specs.Prelude.{◌≡◌, ℕ, List, [], ◌∷◌, ◌++◌, Bool, false, length, nat_eq, Option, Some, None, codes}
 use Rattle.std.specs.List.{flat_map, ends_with}
 use Rattle.std.specs.Fmt.{digits}
+use Rattle.ept_base.specs.Files.{Files}
 use Rattle.ept_space.specs.declared.box3.Box3.{Box3}
 use Rattle.ept_hier.specs.Hierarchy.{Node}
 use Rattle.ept_http.specs.declared.asked.Asked.{Asked}
@@ -15,6 +16,7 @@ use Rattle.ept_conn.specs.Wanted.{kept_of}
 
 -- what is sent of a folder: the content of a file, where there is one; the tiles of the plan of a query, where there are queries; and of a tile the packed points in an area
 pub record Served : Type 0 where
+  pub files : Files
   pub file : List ℕ → Option (List ℕ)
   pub plan : Box3 → ℕ → ℕ → Option (List Node)
   pub part : Box3 → Node → List ℕ

@@ -1,11 +1,14 @@
 -- What has been sent where a connection ends, for the bytes that came.
 use Rattle.std.specs.Prelude.{◌≡◌, ◌⊎◌, ℕ, ◌≤◌, List, [], ◌∷◌, ◌++◌, Bool, true, length, take, Some, ⊤}
-use Rattle.std.specs.List.{list_any}
+use Rattle.std.specs.List.{AllByRecursion, list_any}
+use Rattle.ept_base.specs.Files.{Files}
 use Rattle.ept_space.specs.declared.box3.Box3.{Box3}
 use Rattle.ept_hier.specs.Hierarchy.{Node}
 use Rattle.ept_http.specs.declared.answer.HeadKind.TheVariants as head
 use Rattle.ept_http.specs.AnswerHead.{head_text}
+use Rattle.ept_query.specs.declared.query_error.QueryFile.{QueryFile}
 use Rattle.ept_conn.specs.declared.turn.Turn.{Turn}
+use Rattle.ept_conn.specs.declared.hand.Hand.{Hand}
 use Rattle.ept_conn.specs.declared.end.Fault.{Fault}
 use Rattle.ept_conn.specs.declared.end.Fault.TheVariants as fault
 use Rattle.ept_conn.specs.declared.end.End.{End}
@@ -13,8 +16,11 @@ use Rattle.ept_conn.specs.declared.end.End.TheVariants as end
 use Rattle.ept_conn.specs.Held.{fresh, fed}
 use Rattle.ept_conn.specs.Turns.{AreDue}
 use Rattle.ept_conn.specs.Wanted.{Wants}
-use Rattle.ept_conn.specs.Answers.{Served, refusal, chunks, answers, AreAnswers}
-use Rattle.ept_conn.specs.Works.{IsLastWord}
+use Rattle.ept_conn.specs.Answers.{Served, refusal, chunks, answers}
+use Rattle.ept_conn.specs.State.{IsFit}
+use Rattle.ept_conn.specs.InHand.{turns_in, begun_of}
+use Rattle.ept_conn.specs.Works.{IsPlanned, IsPlanOfTurn, HasPlanOf, IsLastWord, IsLastOf, IsDamagedFor, IsDamagedIn}
+use Rattle.ept_conn.specs.Whole.{IsWhole, HasAnswered, HasTiles, HasTilesDone}
 
 -- one of the turns is a last one
 abbrev pub has_last : List Turn → Bool
@@ -24,11 +30,12 @@ has_last turns = list_any (λ (turn : Turn). turn.last) turns
 abbrev pub EndsItself : List ℕ → Type 0
 EndsItself bytes = (turns : List Turn) × AreDue (fed fresh bytes) turns × (has_last turns ≡ true)
 
--- the answers to the first turns of bytes, and words behind them that fit the other turns
+-- the answers to the first turns of bytes, for which no file is missing or damaged, and words behind them that fit the other turns
 pub record IsCutOff (served : Served) (bytes : List ℕ) (Fits : List Turn → List ℕ → Type 0) (text : List ℕ) : Type 0 where
   pub before : List Turn
   pub others : List Turn
   pub due : AreDue (fed fresh bytes) (before ++ others)
+  pub whole : AllByRecursion (IsWhole served.files) before
   pub words : List ℕ
   pub fits : Fits others words
   pub text_is : text ≡ answers served before ++ words
@@ -42,6 +49,8 @@ pub record IsQueryFront (served : Served) (turn : Turn) (text : List ℕ) : Type
   pub done : ℕ
   pub wants : Wants turn.asked area first second
   pub plan : served.plan area first second ≡ Some nodes
+  pub has : IsPlanOfTurn served.files turn (record { area = area; tiles = nodes })
+  pub tiles : HasTiles served.files (record { area = area; tiles = nodes }) done
   pub within : done ≤ length nodes
   pub text_is : text ≡ head_text (head.Query turn.last) ++ chunks served turn.asked area (take done nodes)
 
@@ -54,25 +63,52 @@ IsFrontOf served (turn ∷ turns) text = IsQueryFront served turn text
 abbrev pub AreLastWords : Served → Fault → List Turn → List ℕ → Type 0
 AreLastWords served cause others text = IsLastWord cause text ⊎ IsFrontOf served others text
 
--- the words of a status: 503 only for this reason, and 507
-abbrev pub IsStatus : Type 0 → List ℕ → Type 0
-IsStatus reason text = (reason × (text ≡ refusal 503 true)) ⊎ (text ≡ refusal 507 true)
+-- What was put out of the answer to a turn where its next piece of work needs a damaged file, and a last word: with the head of an answer none, and else status 503.
+pub record IsCutByDamage (served : Served) (found : QueryFile) (turn : Turn) (words : List ℕ) : Type 0 where
+  pub hand : Hand
+  pub of_turn : turns_in hand ≡ turn ∷ []
+  pub planned : IsPlanned served hand
+  pub has_plan : HasPlanOf served.files hand
+  pub tiles : HasTilesDone served.files hand
+  pub fit : IsFit hand
+  pub damaged : IsDamagedIn hand found served.files
+  pub word : List ℕ
+  pub last : IsLastOf hand (fault.Damaged found) word
+  pub words_are : words ≡ begun_of served hand ++ word
 
--- a front of the answers to bytes, or of the answers to the first turns and a status behind them
+-- the first of some turns needs a damaged file, and these words end there
+abbrev pub EndsBefore : Served → QueryFile → List Turn → List ℕ → Type 0
+EndsBefore served found [] words = ⊥
+EndsBefore served found (turn ∷ turns) words = IsCutByDamage served found turn words
+
+-- a file that the plan of the first of some turns needs is damaged
+abbrev pub IsFirstDamaged : Files → List Turn → Type 0
+IsFirstDamaged files [] = ⊥
+IsFirstDamaged files (turn ∷ turns) = (found : QueryFile) × IsDamagedFor turn.asked found files
+
+-- the words of a status: 503 only for this reason, or where a file is damaged that the first of some turns needs; and 507
+abbrev pub IsStatus : Served → Type 0 → List Turn → List ℕ → Type 0
+IsStatus served reason others text = ((reason ⊎ IsFirstDamaged served.files others) × (text ≡ refusal 503 true)) ⊎ (text ≡ refusal 507 true)
+
+-- what may stand behind the answers to the first turns: nothing, the front of the answer to the next one, or a status
+abbrev pub AreLastBytes : Served → Type 0 → List Turn → List ℕ → Type 0
+AreLastBytes served reason others words = (words ≡ []) ⊎ (IsFrontOf served others words ⊎ IsStatus served reason others words)
+
+-- a front of the answers to the first turns of bytes, and of what may stand behind them
 pub record IsBroken (served : Served) (reason : Type 0) (bytes text : List ℕ) : Type 0 where
   pub whole : List ℕ
   pub unsent : List ℕ
   pub front : whole ≡ text ++ unsent
-  pub allowed : AreAnswers served bytes whole ⊎ IsCutOff served bytes (λ others. IsStatus reason) whole
+  pub allowed : IsCutOff served bytes (AreLastBytes served reason) whole
 
 -- ---- at the end
 
 -- what has been sent at each end; `closed` says that the input has ended
 abbrev pub IsEnd : Served → Type 0 → Type 0 → List ℕ → List ℕ → End → Type 0
-IsEnd served reason closed bytes text end.Closed = AreAnswers served bytes text × (closed ⊎ EndsItself bytes)
+IsEnd served reason closed bytes text end.Closed = HasAnswered served bytes text × (closed ⊎ EndsItself bytes)
 IsEnd served reason closed bytes text end.LinkFault = IsBroken served reason bytes text
 IsEnd served reason closed bytes text end.StoreFault = reason × IsCutOff served bytes (AreLastWords served fault.Store) text
-IsEnd served reason closed bytes text (end.Damaged file) = ⊥
+IsEnd served reason closed bytes text (end.Damaged file) = IsCutOff served bytes (EndsBefore served file) text
 IsEnd served reason closed bytes text end.Memory = IsCutOff served bytes (AreLastWords served fault.Memory) text
 
 -- The end of the input, or of the last turn, or for want of memory; a fault of the link or of the store only where that device failed.

@@ -9,6 +9,8 @@ pub mod Served
 pub mod State
 pub mod Works
 pub mod Planning
+pub mod InHand
+pub mod Whole
 pub mod Ends
 pub mod History
 pub mod SessionCalls

@@ -14,7 +14,7 @@ use Rattle.ept_save.specs.Complete.{IsComplete}
 use Rattle.ept_save.specs.Done.{IsDone}
 use Rattle.ept_query.specs.Planning.{IsPlanFor}
 use Rattle.ept_query.specs.Damage.{HasTile}
-use Rattle.ept_query.specs.Parts.{points_in}
+use Rattle.ept_query.specs.Parts.{Plan, points_in}
 use Rattle.ept_query.specs.Rows.{answer, selection}
 use Rattle.ept_conn.specs.Wanted.{kept_of}
 use Rattle.ept_conn.specs.Answers.{Served}
@@ -27,6 +27,7 @@ pub record HasPart (files : Files) (area : Box3) (node : Node) (bytes : List ℕ
 
 -- a folder whose done gate is open: its files are sent; each query has its plan, and the tiles of a plan are there
 pub record IsOpenTo (files : Files) (served : Served) : Type 0 where
+  pub folder : served.files ≡ files
   pub done : IsDone files
   pub file : (name : List ℕ) → served.file name ≡ files name
   pub plan : (area : Box3) (first second : ℕ) → IsOrdered area → first ≤ second → (nodes : List Node) × (served.plan area first second ≡ Some nodes) × IsPlanFor area first second (record { area = area; tiles = nodes }) files
@@ -34,13 +35,30 @@ pub record IsOpenTo (files : Files) (served : Served) : Type 0 where
 
 -- a folder whose done gate is not open: nothing is sent
 pub record IsShutTo (files : Files) (served : Served) : Type 0 where
+  pub folder : served.files ≡ files
   pub done : ¬ IsDone files
   pub file : (name : List ℕ) → served.file name ≡ None
   pub plan : (area : Box3) (first second : ℕ) → served.plan area first second ≡ None
 
--- what is sent of a folder
+-- what is sent of a folder in which each plan and each tile is there
 abbrev pub IsServed : Files → Served → Type 0
 IsServed files served = IsShutTo files served ⊎ IsOpenTo files served
+
+-- a folder whose done gate is open and that may lack files or have damaged ones: its files are sent; a query has its plan, and a tile of a plan its points, where these are there
+pub record IsOpenInPart (files : Files) (served : Served) : Type 0 where
+  pub folder : served.files ≡ files
+  pub done : IsDone files
+  pub file : (name : List ℕ) → served.file name ≡ files name
+  pub plan : (area : Box3) (first second : ℕ) (plan : Plan) → IsOrdered area → first ≤ second → IsPlanFor area first second plan files → served.plan area first second ≡ Some plan.tiles
+  pub part : (area : Box3) (first second : ℕ) (nodes : List Node) (node : Node) (points : List Point) → served.plan area first second ≡ Some nodes → Contains nodes node → HasTile files node.0 node.1 points → served.part area node ≡ tile (points_in area points)
+
+-- what is sent of any folder
+abbrev pub IsSentOf : Files → Served → Type 0
+IsSentOf files served = IsShutTo files served ⊎ IsOpenInPart files served
+
+-- where each plan and each tile is there, the same is sent
+abbrev pub ServedIsSent : Type 0
+ServedIsSent = (files : Files) (served : Served) → IsServed files served → IsSentOf files served
 
 -- so there is what is sent of a folder whose done gate is not open
 abbrev pub ShutIsServed : Type 0

@@ -3,7 +3,8 @@ use Rattle.std.specs.Prelude.{◌≡◌, ℕ, ◌+◌, ◌≤◌, List, [], ◌+
 use Rattle.std.specs.List.{AllByRecursion}
 use Rattle.ept_base.specs.Links.{Wire}
 use Rattle.ept_conn.specs.declared.end.End.{End}
-use Rattle.ept_conn.specs.Answers.{Served, AreAnswers}
+use Rattle.ept_conn.specs.Answers.{Served}
+use Rattle.ept_conn.specs.Whole.{HasAnswered}
 use Rattle.ept_conn.specs.Ends.{IsEnd}
 
 -- Of a read, by how many bytes had been taken and written before it: what had been written in the call is the answers to the bytes read in the call before.
@@ -14,7 +15,7 @@ pub record IsAnsweredAt (served : Served) (old : Wire) (bytes text : List ℕ) (
   pub up_to : went ≤ length text
   pub taken : at.0 ≡ length old.taken + came
   pub written : at.1 ≡ length old.written + went
-  pub answers : AreAnswers served (take came bytes) (take went text)
+  pub answers : HasAnswered served (take came bytes) (take went text)
 
 -- in the call these bytes were read and this text was written, and no turn waited for bytes behind it
 pub record Passes (served : Served) (old new : Wire) (bytes text : List ℕ) : Type 0 where

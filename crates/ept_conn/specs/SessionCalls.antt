@@ -9,9 +9,10 @@ use Rattle.ept_conn.specs.declared.end.Fault.TheVariants as fault
 use Rattle.ept_conn.specs.declared.end.End.{End}
 use Rattle.ept_conn.specs.declared.end.Want.TheVariants as want
 use Rattle.ept_conn.specs.Answers.{Served, AreAnswers}
-use Rattle.ept_conn.specs.Served.{IsServed}
+use Rattle.ept_conn.specs.Served.{IsSentOf}
 use Rattle.ept_conn.specs.State.{State, started, want_of, feeds}
-use Rattle.ept_conn.specs.Works.{IsPlanned, Works, Stops, IsDamagedIn}
+use Rattle.ept_conn.specs.Works.{IsPlanned, HasPlanOf, Works, Stops, IsDamagedIn}
+use Rattle.ept_conn.specs.Whole.{HasAnswered, HasFound}
 use Rattle.ept_conn.specs.Ends.{IsEnd}
 use Rattle.ept_conn.specs.History.{Has, IsOwed, IsUnanswered}
 
@@ -25,6 +26,8 @@ pub data SessionCall : Type 0 where
 -- what a piece of work over the folder leads to; the store is the cause only for this reason
 pub record HasWorked (files : Files) (served : Served) (reason : Type 0) (old new : State) : Type 0 where
   pub works : new.fault ≡ None → IsPlanned served old.hand → Works served old new
+  pub plans : HasPlanOf files old.hand → HasPlanOf files new.hand
+  pub found : new.fault ≡ None → HasFound files old.hand new
   pub stops : IfSome new.fault (Stops old.hand new)
   pub damaged : (file : QueryFile) → new.fault ≡ Some (fault.Damaged file) → IsDamagedIn old.hand file files
   pub stores : new.fault ≡ Some fault.Store → reason
@@ -63,7 +66,7 @@ sent_by (Failed ∷ calls) = sent_by calls
 -- Over any list of calls on one folder what was sent and is to be sent now is what may be sent of the bytes fed; status 503 is only where the store's count of faults rose from what it was before.
 abbrev pub SendsAnswers : Type 0
 SendsAnswers =
-    (files : Files) (served : Served) (before now : ℕ) → IsServed files served → (calls : List SessionCall) (last : State) → LeadsOn files served (Rose before now) started calls last → Has served (Rose before now) (fed_by calls) (sent_by calls) last
+    (files : Files) (served : Served) (before now : ℕ) → IsSentOf files served → (calls : List SessionCall) (last : State) → LeadsOn files served (Rose before now) started calls last → Has served (Rose before now) (fed_by calls) (sent_by calls) last
 
 -- where the session is at its end, it is what is sent at that end
 abbrev pub EndsSo : Type 0
@@ -73,7 +76,7 @@ EndsSo =
 -- where it wants to read, each turn of the bytes fed is answered, and all of that was sent
 abbrev pub ReadsAnswered : Type 0
 ReadsAnswered =
-    (served : Served) (before now : ℕ) (bytes sent : List ℕ) (last : State) → Has served (Rose before now) bytes sent last → want_of last ≡ want.Read → AreAnswers served bytes sent
+    (served : Served) (before now : ℕ) (bytes sent : List ℕ) (last : State) → Has served (Rose before now) bytes sent last → want_of last ≡ want.Read → HasAnswered served bytes sent
 
 -- where it wants to work, some turn of the bytes fed is not wholly answered
 abbrev pub WorksUnanswered : Type 0

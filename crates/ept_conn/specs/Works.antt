@@ -1,6 +1,6 @@
 -- What one piece of work does: one turn is decided, one plan is made, or one file or tile is got.
-use Rattle.std.specs.Prelude.{◌≡◌, ◌⊎◌, ℕ, ◌+◌, ◌<◌, ◌^◌, ⊤, List, [], ◌++◌, Bool, true, if◌then◌else◌, nat_lt, length, Option, Some, None}
-use Rattle.ept_base.specs.Files.{Files}
+use Rattle.std.specs.Prelude.{◌≡◌, ◌⊎◌, ℕ, ◌+◌, ◌≤◌, ◌<◌, ◌^◌, ⊤, List, [], ◌++◌, Bool, true, if◌then◌else◌, nat_lt, length, Option, Some, None}
+use Rattle.ept_base.specs.Files.{Files, Tells}
 use Rattle.ept_space.specs.declared.box3.Box3.{Box3}
 use Rattle.ept_hier.specs.Hierarchy.{Node}
 use Rattle.ept_http.specs.declared.asked.Asked.{Asked}
@@ -11,7 +11,7 @@ use Rattle.ept_save.specs.Done.{IsDone}
 use Rattle.ept_query.specs.declared.query_error.QueryFile.{QueryFile}
 use Rattle.ept_query.specs.declared.query_error.QueryFile.TheVariants as file
 use Rattle.ept_query.specs.Damage.{HasNoBuild, HasNoTile, IsFirstDamaged}
-use Rattle.ept_query.specs.Planning.{IsPlanFor}
+use Rattle.ept_query.specs.Planning.{IsPlanFor, GetsFiles}
 use Rattle.ept_query.specs.Parts.{Plan, node_at}
 use Rattle.ept_conn.specs.declared.turn.Turn.{Turn}
 use Rattle.ept_conn.specs.declared.hand.Hand.{Hand}
@@ -125,13 +125,35 @@ IsOneStep (Decided turn) old new = (new.held ≡ old.held) × IsBegun turn new.h
 IsOneStep (Tiles turn plan done) old new =
     (done < length plan.tiles) × (new.held ≡ old.held) × (new.hand ≡ hand_at turn plan (done + 1))
 
+-- ---- how many files are got
+
+-- at most two for a file, and for a plan at most those that it needs
+abbrev pub GetsFor : Asked → ℕ → ℕ → Option Files → Type 0
+GetsFor (asked.File name) before now files = now ≤ before + 2
+GetsFor (asked.Query area first second) before now files = Tells (GetsFiles area first second before now) files
+GetsFor (asked.Select area first second sift) before now files = Tells (GetsFiles area first second before now) files
+GetsFor (asked.Refuse status) before now files = now ≡ before
+
+-- none where a turn is decided, and at most one for a tile
+abbrev pub GetsIn : Hand → ℕ → ℕ → Option Files → Type 0
+GetsIn Empty before now files = now ≡ before
+GetsIn (Decided turn) before now files = GetsFor turn.asked before now files
+GetsIn (Tiles turn plan done) before now files = now ≤ before + 1
+
 -- ---- refusals
 
--- the words in which a session ends that has sent nothing of the answer in hand: none, or status 503 where the store is the cause and 507 where memory is
+-- the status with which a session ends that has sent nothing of the answer in hand
+abbrev pub last_status : Fault → ℕ
+last_status fault.Link = 507
+last_status fault.Store = 503
+last_status (fault.Damaged file) = 503
+last_status fault.Memory = 507
+
+-- the words in which it ends: status 503 where the store is the cause, and 507 where memory is, or then none
 abbrev pub IsLastWord : Fault → List ℕ → Type 0
 IsLastWord fault.Link text = text ≡ []
-IsLastWord fault.Store text = (text ≡ []) ⊎ (text ≡ refusal 503 true)
-IsLastWord (fault.Damaged file) text = (text ≡ []) ⊎ (text ≡ refusal 503 true)
+IsLastWord fault.Store text = text ≡ refusal 503 true
+IsLastWord (fault.Damaged file) text = text ≡ refusal 503 true
 IsLastWord fault.Memory text = (text ≡ []) ⊎ (text ≡ refusal 507 true)
 
 -- where the head of an answer is out, there are none
@@ -167,7 +189,7 @@ abbrev pub IsDamagedIn : Hand → QueryFile → Files → Type 0
 IsDamagedIn Empty found files = ⊥
 IsDamagedIn (Decided turn) found files = IsDamagedFor turn.asked found files
 IsDamagedIn (Tiles turn plan done) found files =
-    (found ≡ file.Tile (node_at plan done).0) × HasNoTile files (node_at plan done).0 (node_at plan done).1
+    (done < length plan.tiles) × (found ≡ file.Tile (node_at plan done).0) × HasNoTile files (node_at plan done).0 (node_at plan done).1
 
 -- no file is damaged that is needed for this, or for what is in hand
 abbrev pub IsUndamagedFor : Asked → Files → Type 0

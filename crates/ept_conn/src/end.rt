@@ -1,7 +1,9 @@
 //! How a connection ends, and what it wants until then.
 
-ghost use Rattle.std.specs.Prelude.{◌≡◌};
+ghost use Rattle.std.specs.Prelude.{◌≡◌, IsTrue};
+ghost use Rattle.ept_http.specs.AnswerHead.{is_refusal};
 ghost use Rattle.ept_conn.specs.State.{end_of};
+ghost use Rattle.ept_conn.specs.Works.{last_status};
 
 use ept_query::QueryFile;
 
@@ -56,6 +58,17 @@ impl Fault {
             Fault::Store => End::StoreFault,
             Fault::Damaged { file } => End::Damaged { file },
             Fault::Memory => End::Memory,
+        }
+    }
+
+    /// The status with which a session ends for this cause, where nothing of an answer was sent.
+    pub(crate) fn last_status(&self) -> u16
+        ensures status { result ≡ last_status self.now }
+        ensures refusal { IsTrue (is_refusal result) }
+    {
+        match self {
+            Fault::Store | Fault::Damaged { .. } => 503,
+            Fault::Link | Fault::Memory => 507,
         }
     }
 }

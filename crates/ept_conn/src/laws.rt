@@ -1,6 +1,6 @@
 //! What holds of every list of calls. Each law is the contract of a function that does nothing.
 
-ghost use Rattle.ept_conn.specs.Served.{ShutIsServed, CompleteIsServed, QueriesAreAnswered, SelectionsAreAnswered};
+ghost use Rattle.ept_conn.specs.Served.{ServedIsSent, ShutIsServed, CompleteIsServed, QueriesAreAnswered, SelectionsAreAnswered};
 ghost use Rattle.ept_conn.specs.SessionCalls.{SendsAnswers, EndsSo, ReadsAnswered, WorksUnanswered, OwesTheRest};
 ghost use Rattle.ept_conn.specs.Calls.{HoweverCut, AllAreGiven, TurnsAreThere, TurnsAreOne, JudgeGivesTurns, NextIsGiven, TurnsMayBeAsked};
 
@@ -35,6 +35,7 @@ pub fn session_law()
     ensures reads { ReadsAnswered }
     ensures works { WorksUnanswered }
     ensures owes { OwesTheRest }
+    ensures sent { ServedIsSent }
     ensures shut { ShutIsServed }
     ensures complete { CompleteIsServed }
     ensures queries { QueriesAreAnswered }

@@ -157,13 +157,15 @@ impl Out {
         self.put(b"0\r\n\r\n")
     }
 
-    /// Makes it the head of a refusal behind which the connection ends, or no bytes where there is no memory
-    /// for that.
-    pub fn put_last_word(&mut self, status: u16)
+    /// Makes it the head of a refusal behind which the connection ends. Where there is no memory for that, there
+    /// are no bytes.
+    pub fn put_last_word(&mut self, status: u16) -> Result<(), Memory>
         requires { IsTrue (is_refusal status) }
-        ensures { (self.new ≡ []) ⊎ (self.new ≡ refusal status true) }
+        ensures ok { OnOk result (self.new ≡ refusal status true) }
+        ensures none { OnErr result (self.new ≡ []) }
+        ensures either { (self.new ≡ []) ⊎ (self.new ≡ refusal status true) }
     {
         self.clear();
-        let _ = self.put_head(&HeadKind::Refusal { status, last: true });
+        self.put_head(&HeadKind::Refusal { status, last: true })
     }
 }

@@ -6,7 +6,7 @@ ghost use Rattle.ept_base.specs.Files.{SameFiles, Tells};
 ghost use Rattle.ept_base.specs.Moves.{Moves};
 ghost use Rattle.ept_http.specs.QueryWords.{IsOrdered};
 ghost use Rattle.ept_save.specs.Done.{IsDone};
-ghost use Rattle.ept_query.specs.Planning.{IsPlanFor};
+ghost use Rattle.ept_query.specs.Planning.{IsPlanFor, GetsFiles};
 ghost use Rattle.ept_conn.specs.Planning.{Refuses, told_as};
 
 use crate::end::Fault;
@@ -27,6 +27,7 @@ pub fn plan_of<T: Store>(
     ensures area { IfOk result (λ found. MatchOption found ⊤ (λ plan. plan.area ≡ area.now)) }
     ensures plan { IfOk result (λ found. MatchOption found (Tells (λ all. ¬ IsDone all) (T.files store.old))
         (λ plan. Tells (IsPlanFor area.now depths.0 depths.1 plan) (T.files store.old))) }
+    ensures gets { Tells (GetsFiles area.now depths.0 depths.1 (T.gets store.old) (T.gets store.new)) (T.files store.old) }
     ensures refused { IfErr result (Refuses area.now depths.0 depths.1 (T.files store.old)) }
     ensures any_moment { Moves T.files T.may_leave T.moment T.image_since SameFiles store.old store.new }
     ensures cause { HasCauseOf Fault.Store (T.faults store.old) (T.faults store.new) result }

@@ -5,7 +5,7 @@ ghost use Rattle.ept_base.specs.Causes.{Rose};
 ghost use Rattle.ept_base.specs.Files.{Files, SameFiles, StepsBy, Tells};
 ghost use Rattle.ept_base.specs.Moves.{Moves};
 ghost use Rattle.ept_conn.specs.Answers.{Served};
-ghost use Rattle.ept_conn.specs.Served.{IsServed};
+ghost use Rattle.ept_conn.specs.Served.{IsServed, IsSentOf};
 ghost use Rattle.ept_conn.specs.State.{want_of};
 ghost use Rattle.ept_query.specs.declared.query_error.QueryFile.{QueryFile};
 ghost use Rattle.ept_conn.specs.declared.hand.Hand.TheVariants.{Empty};
@@ -25,13 +25,13 @@ const PIECE: usize = 8192;
 /// Serves a connection over a link from a folder, turn by turn, up to its end. Nothing is read while a turn
 /// waits for its answer.
 pub fn serve_link<L: Link, T: Store>(alloc: Global, link: &mut L, store: &mut T) -> End
-    ensures served { (files : Files) → T.files store.old ≡ Some files → (served : Served) → IsServed files served
+    ensures served { (files : Files) → T.files store.old ≡ Some files → (served : Served) → IsSentOf files served
         → StepsBy (IsServedOver served (Rose (T.faults store.old) (T.faults store.new)) result) (L.wire link.old) (L.wire link.new) }
     ensures links { result ≡ End.LinkFault → Rose (L.faults link.old) (L.faults link.new) }
     ensures stores { result ≡ End.StoreFault → Rose (T.faults store.old) (T.faults store.new) }
     ensures damaged { (file : QueryFile) → result ≡ End.Damaged file → Tells (IsDamaged file) (T.files store.old) }
 
-    // Where no device fails, the connection ends with its input or its last turn, or memory runs out.
+    // Where no device fails and no file is missing or damaged, the connection ends with its input or its last turn, or memory runs out.
     ensures well { (files : Files) (served : Served) → T.files store.old ≡ Some files → IsServed files served → L.wire link.old ≢ None
         → EndsWell result (Rose (L.faults link.old) (L.faults link.new)) (Rose (T.faults store.old) (T.faults store.new)) }
     ensures any_moment { Moves T.files T.may_leave T.moment T.image_since SameFiles store.old store.new }
@@ -53,7 +53,7 @@ fn step<L: Link, T: Store>(
     piece: &mut [u8],
 ) -> Option<End>
     requires { 0 < length piece.old }
-    ensures converses { (files : Files) → T.files store.old ≡ Some files → (served : Served) → IsServed files served
+    ensures converses { (files : Files) → T.files store.old ≡ Some files → (served : Served) → IsSentOf files served
         → (before : ℕ) → before ≤ T.faults store.old
         → StepsBy (GoesOn served (Rose before (T.faults store.old)) (Rose before (T.faults store.new)) session.old session.new)
         (L.wire link.old) (L.wire link.new) }

@@ -8,13 +8,15 @@ ghost use Rattle.ept_http.specs.Answers.{MayBeAsked};
 ghost use Rattle.ept_http.specs.QueryWords.{IsOrdered};
 ghost use Rattle.ept_http.specs.AnswerHead.{is_refusal, head_text};
 ghost use Rattle.ept_query.specs.declared.query_error.QueryFile.{QueryFile};
+ghost use Rattle.ept_query.specs.Planning.{GetsFiles};
 ghost use Rattle.ept_point.specs.Dimensions.{packed_width};
 ghost use Rattle.ept_conn.specs.Held.{has_turn};
 ghost use Rattle.ept_conn.specs.Wanted.{Wants, kept_of};
 ghost use Rattle.ept_conn.specs.Answers.{Served, refusal, file_answer, is_json, chunk};
-ghost use Rattle.ept_conn.specs.Served.{IsServed};
+ghost use Rattle.ept_conn.specs.Served.{IsSentOf};
 ghost use Rattle.ept_conn.specs.State.{started, want_of, wants_on, feeds};
-ghost use Rattle.ept_conn.specs.Works.{IsTurnsPlan, IsPlanned, HasPlanOf, HasNoTiles, Decides, hand_to, out_to, hand_at, end_at, Begins, IsReady, Works, WorksOn, IsBegun, IsOneStep, Stops, IsLastWord, IsDamagedFor, IsDamagedIn, IsUndamagedFor, IsUndamagedIn};
+ghost use Rattle.ept_conn.specs.Works.{IsTurnsPlan, IsPlanned, HasPlanOf, HasNoTiles, Decides, hand_to, out_to, hand_at, end_at, Begins, IsReady, Works, WorksOn, IsBegun, IsOneStep, GetsFor, GetsIn, Stops, IsLastWord, IsDamagedFor, IsDamagedIn, IsUndamagedFor, IsUndamagedIn};
+ghost use Rattle.ept_conn.specs.Whole.{HasFound, HasPlanIfOpen};
 
 use crate::conn::Conn;
 use crate::end::{End, Fault, Want};
@@ -100,8 +102,10 @@ impl Session {
     pub fn work<T: Store>(&mut self, store: &mut T)
         requires { want_of self.old ≡ Want.Work }
         ensures works { self.new.fault ≡ None → (files : Files) → T.files store.old ≡ Some files
-            → (served : Served) → IsServed files served → IsPlanned served self.old.hand → Works served self.old self.new }
+            → (served : Served) → IsSentOf files served → IsPlanned served self.old.hand → Works served self.old self.new }
         ensures one_step { self.new.fault ≡ None → IsOneStep self.old.hand self.old self.new }
+        ensures found { self.new.fault ≡ None → (files : Files) → T.files store.old ≡ Some files → HasFound files self.old.hand self.new }
+        ensures gets { GetsIn self.old.hand (T.gets store.old) (T.gets store.new) (T.files store.old) }
         ensures plans { (files : Files) → T.files store.old ≡ Some files → HasPlanOf files self.old.hand → HasPlanOf files self.new.hand }
         ensures closed { self.new.closed ≡ self.old.closed }
         ensures stops { IfSome self.new.fault (Stops self.old.hand self.new) }
@@ -188,7 +192,7 @@ impl Session {
         match self.conn.next() {
             Ok(Some(turn)) => self.take_up(turn),
             Ok(None) => {}
-            Err(Memory) => self.stop(Fault::Memory),
+            Err(Memory) => self.stop_for_memory(),
         }
     }
 
@@ -224,7 +228,7 @@ impl Session {
             .put_head(&HeadKind::Refusal { status, last })
             .is_err()
         {
-            self.stop(Fault::Memory);
+            self.stop_for_memory();
         }
     }
 
@@ -233,8 +237,10 @@ impl Session {
         requires ready { IsReady self.old }
         requires fit { MayBeAsked turn.asked }
         ensures works { self.new.fault ≡ None → (files : Files) → T.files store.old ≡ Some files
-            → (served : Served) → IsServed files served → WorksOn served (Hand.Decided turn) self.old self.new }
+            → (served : Served) → IsSentOf files served → WorksOn served (Hand.Decided turn) self.old self.new }
         ensures one_step { self.new.fault ≡ None → IsOneStep (Hand.Decided turn) self.old self.new }
+        ensures found { self.new.fault ≡ None → (files : Files) → T.files store.old ≡ Some files → HasFound files (Hand.Decided turn) self.new }
+        ensures gets { GetsFor turn.asked (T.gets store.old) (T.gets store.new) (T.files store.old) }
         ensures plans { (files : Files) → T.files store.old ≡ Some files → HasPlanOf files self.new.hand }
         ensures closed { self.new.closed ≡ self.old.closed }
         ensures stops { IfSome self.new.fault (Stops (Hand.Decided turn) self.new) }
@@ -263,12 +269,13 @@ impl Session {
     fn get_file<T: Store>(&mut self, store: &mut T, name: &Text, last: bool)
         requires ready { IsReady self.old }
         ensures out { self.new.fault ≡ None → (files : Files) → T.files store.old ≡ Some files
-            → (served : Served) → IsServed files served
+            → (served : Served) → IsSentOf files served
             → self.new.out ≡ file_answer (is_json name.now) last (served.file name.now) }
         ensures hand { self.new.hand ≡ Hand.Empty }
         ensures same { (self.new.held ≡ self.old.held) × (self.new.closed ≡ self.old.closed) }
         ensures words { IfSome self.new.fault (λ cause. IsLastWord cause self.new.out) }
         ensures only { IfSome self.new.fault (λ cause. (cause ≡ Fault.Store) ⊎ (cause ≡ Fault.Memory)) }
+        ensures gets { T.gets store.new ≤ T.gets store.old + 2 }
         ensures stores { self.new.fault ≡ Some Fault.Store → Rose (T.faults store.old) (T.faults store.new) }
         ensures later { T.faults store.old ≤ T.faults store.new }
         ensures any_moment { Moves T.files T.may_leave T.moment T.image_since SameFiles store.old store.new }
@@ -290,7 +297,7 @@ impl Session {
         ensures only { IfSome self.new.fault (λ cause. cause ≡ Fault.Memory) }
     {
         if self.out.put_file(json, last, content).is_err() {
-            self.stop(Fault::Memory);
+            self.stop_for_memory();
         }
     }
 
@@ -301,9 +308,12 @@ impl Session {
         requires ordered { IsOrdered area.now }
         requires depths { depths.0 ≤ depths.1 }
         ensures begins { self.new.fault ≡ None → (files : Files) → T.files store.old ≡ Some files
-            → (served : Served) → IsServed files served
+            → (served : Served) → IsSentOf files served
             → Begins turn area.now (served.plan area.now depths.0 depths.1) self.new }
         ensures begun { self.new.fault ≡ None → IsBegun turn self.new.hand }
+        ensures found { self.new.fault ≡ None → (files : Files) → T.files store.old ≡ Some files
+            → HasPlanIfOpen files turn (Some (record { area = area.now; first = depths.0; second = depths.1 })) self.new }
+        ensures gets { Tells (GetsFiles area.now depths.0 depths.1 (T.gets store.old) (T.gets store.new)) (T.files store.old) }
         ensures plans { (files : Files) → T.files store.old ≡ Some files → HasPlanOf files self.new.hand }
         ensures same { (self.new.held ≡ self.old.held) × (self.new.closed ≡ self.old.closed) }
         ensures stops { IfSome self.new.fault (Stops (Hand.Decided turn) self.new) }
@@ -340,7 +350,7 @@ impl Session {
                 plan,
                 done: 0,
             },
-            Err(Memory) => self.stop(Fault::Memory),
+            Err(Memory) => self.stop_for_memory(),
         }
     }
 
@@ -349,9 +359,11 @@ impl Session {
         requires ready { IsReady self.old }
         requires within { done < length plan.tiles }
         ensures works { self.new.fault ≡ None → (files : Files) → T.files store.old ≡ Some files
-            → (served : Served) → IsServed files served → IsTurnsPlan served turn plan
+            → (served : Served) → IsSentOf files served → IsTurnsPlan served turn plan
             → WorksOn served (Hand.Tiles turn plan done) self.old self.new }
         ensures one_step { self.new.fault ≡ None → IsOneStep (Hand.Tiles turn plan done) self.old self.new }
+        ensures found { self.new.fault ≡ None → (files : Files) → T.files store.old ≡ Some files → HasFound files (Hand.Tiles turn plan done) self.new }
+        ensures gets { T.gets store.new ≤ T.gets store.old + 1 }
         ensures either { (self.new.hand ≡ Hand.Empty) ⊎ (self.new.hand ≡ Hand.Tiles turn plan (done + 1)) }
         ensures closed { self.new.closed ≡ self.old.closed }
         ensures stops { IfSome self.new.fault (Stops (Hand.Tiles turn plan done) self.new) }
@@ -409,18 +421,28 @@ impl Session {
         }
     }
 
-    // Ends the session, with the status of the cause where there is memory for that.
+    // Ends the session with the status of the cause; for want of memory, where there is none for that.
     fn stop(&mut self, fault: Fault)
         requires { fault ≢ Fault.Link }
-        ensures words { IsLastWord fault self.new.out }
-        ensures same { self.new ≡ record self.old { out = self.new.out; fault = Some fault } }
+        ensures words { IfSome self.new.fault (λ cause. IsLastWord cause self.new.out) }
+        ensures ends { self.new.fault ≢ None }
+        ensures cause { (cause : Fault) → self.new.fault ≡ Some cause → (cause ≡ fault) ⊎ (cause ≡ Fault.Memory) }
+        ensures same { self.new ≡ record self.old { out = self.new.out; fault = self.new.fault } }
     {
-        let status = match fault {
-            Fault::Store | Fault::Damaged { .. } => 503,
-            Fault::Memory | Fault::Link => 507,
-        };
-        self.out.put_last_word(status);
-        self.fault = Some(fault);
+        let status = fault.last_status();
+        match self.out.put_last_word(status) {
+            Ok(()) => self.fault = Some(fault),
+            Err(Memory) => self.fault = Some(Fault::Memory),
+        }
+    }
+
+    // Ends the session for want of memory, with its status where there is memory for that.
+    fn stop_for_memory(&mut self)
+        ensures words { IsLastWord Fault.Memory self.new.out }
+        ensures same { self.new ≡ record self.old { out = self.new.out; fault = Some Fault.Memory } }
+    {
+        let _ = self.out.put_last_word(507);
+        self.fault = Some(Fault::Memory);
     }
 
     // Ends the session within an answer.

@@ -13,11 +13,12 @@ use Rattle.ept_conn.specs.declared.end.Want.TheVariants as want
 use Rattle.ept_conn.specs.Held.{fed, fresh}
 use Rattle.ept_conn.specs.Turns.{AreDue}
 use Rattle.ept_conn.specs.Answers.{Served, refusal, answer, answers, AreAnswers}
-use Rattle.ept_conn.specs.Served.{IsServed}
+use Rattle.ept_conn.specs.Served.{IsSentOf}
 use Rattle.ept_conn.specs.State.{State, want_of, feeds}
 use Rattle.ept_conn.specs.Works.{Stops, IsLastWord, IsLastOf}
 use Rattle.ept_conn.specs.SessionCalls.{HasWorked}
-use Rattle.ept_conn.specs.History.{Has, HasFor, Goes, IsOwed, IsUnanswered, turns_in, rest_of}
+use Rattle.ept_conn.specs.InHand.{turns_in, rest_of}
+use Rattle.ept_conn.specs.History.{Has, HasFor, Goes, IsOwed, IsUnanswered}
 use Rattle.ept_conn.specs.Conversation.{Converses}
 use Rattle.ept_conn.proofs.Wanting.{read-parts, work-parts, write-some}
 use Rattle.ept_conn.proofs.TurnLemmas.{due-once, some-due}
@@ -150,10 +151,8 @@ write-passed served reason old next state new bytes p write writes split same =
 
 word-status : (cause : Fault) (out : List ℕ) → 0 < length out → IsLastWord cause out → (out ≡ refusal 503 true) ⊎ (out ≡ refusal 507 true)
 word-status fault.Link out some is = absurd (let len : length out ≡ 0 = ap length is in omega (arith, some, len))
-word-status fault.Store out some (inl none) = absurd (let len : length out ≡ 0 = ap length none in omega (arith, some, len))
-word-status fault.Store out some (inr status) = inl status
-word-status (fault.Damaged found) out some (inl none) = absurd (let len : length out ≡ 0 = ap length none in omega (arith, some, len))
-word-status (fault.Damaged found) out some (inr status) = inl status
+word-status fault.Store out some status = inl status
+word-status (fault.Damaged found) out some status = inl status
 word-status fault.Memory out some (inl none) = absurd (let len : length out ≡ 0 = ap length none in omega (arith, some, len))
 word-status fault.Memory out some (inr status) = inr status
 
@@ -202,7 +201,7 @@ worked-refusing served reason bytes sent old new None is has work stops write = 
 worked-refusing served reason bytes sent old new (Some cause) is has work stops write =
     inr (stopped-refusing served reason bytes sent old new cause has work stops write)
 
-pub work-passed : (files : Files) (served : Served) (reason wider : Type 0) (wire : Wire) (state new : State) → IsServed files served → (reason → wider) → HasPassed served reason state wire → want_of state ≡ want.Work → new.closed ≡ state.closed → HasWorked files served wider state new → HasPassed served wider new wire
+pub work-passed : (files : Files) (served : Served) (reason wider : Type 0) (wire : Wire) (state new : State) → IsSentOf files served → (reason → wider) → HasPassed served reason state wire → want_of state ≡ want.Work → new.closed ≡ state.closed → HasWorked files served wider state new → HasPassed served wider new wire
 work-passed files served reason wider wire state new is why p work same worked = record {
   converses = work-converses files served reason wider unused wire state new is why p.converses work same worked;
   refusing = λ write.

@@ -15,7 +15,7 @@ use Rattle.ept_conn.proofs.Conversing.{rose-earlier}
 use Rattle.ept_conn.proofs.Histories.{link-end, store-end, damaged-end}
 use Rattle.ept_poll.specs.Units.{Seen, IsAs, AreUnits}
 use Rattle.ept_poll.specs.Steps.{IsWaitFor}
-use Rattle.ept_poll.specs.Polls.{Told, Stands, Since, IsFront, IsEndOver, IsReadAnswered, IsWell, IsReading, IsWriting, IsPollable}
+use Rattle.ept_poll.specs.Polls.{Told, ToldOfWhole, Stands, Since, IsFront, IsEndOver, IsReadAnswered, IsWell, IsReading, IsWriting, IsPollable}
 use Rattle.ept_poll.proofs.Standing.{as-stands, units-stand}
 use Rattle.ept_poll.proofs.Causing.{IsClear, as-once, polled-links, polled-stores, polled-clear, goes-on-clear}
 use Rattle.ept_poll.proofs.Answering.{stands-front, stands-reads, stands-end, stands-answered, stands-unanswered, stands-well}
@@ -66,7 +66,7 @@ pub damaged-over : (old new : Seen) (ends : End) (found : QueryFile) → HasDone
 damaged-over old new ends found d is same = λ first s.
     (stands-on old new d first s).damaged found (damaged-end new.state found ends (ready-is ends (end.Damaged found) same) is)
 
-pub complete-on : (old new : Seen) (ends : End) → HasDone old new → old.state.fault ≢ Some fault.Link → want_of new.state ≡ want.End ends → Since old (λ first. Told new (λ served wire. (¬ Rose old.faults new.faults) → (¬ Rose first new.store_faults) → IsWell ends))
+pub complete-on : (old new : Seen) (ends : End) → HasDone old new → old.state.fault ≢ Some fault.Link → want_of new.state ≡ want.End ends → Since old (λ first. ToldOfWhole new (λ served wire. (¬ Rose old.faults new.faults) → (¬ Rose first new.store_faults) → IsWell ends))
 complete-on old new ends d clear is = λ first s.
     stands-well first new ends (Rose old.faults new.faults) (stands-on old new d first s) is (λ same. links-over old new ends d clear is same)
 

@@ -169,6 +169,8 @@ worked-stands first old new unit s =
           work-passed files served (Rose first old.store_faults) (Rose first new.store_faults) w old.state new.state served_is (λ rose. rose-later first old.store_faults new.store_faults rose over.later) was unit.0 over.closed
           (record {
             works = λ going planned. over.works going files told_old served served_is planned;
+            plans = λ has. over.plans files told_old has;
+            found = λ going. over.found going files told_old;
             stops = over.stops;
             damaged = λ found fixed. tells-of (IsDamagedIn old.state.hand found) old.files files told_old (over.damaged found fixed);
             stores = λ fixed. rose-earlier first old.store_faults new.store_faults s.later (over.stores fixed);

@@ -19,9 +19,10 @@ use Rattle.ept_conn.specs.declared.turn.Turn.{Turn}
 use Rattle.ept_conn.specs.Held.{fresh, fed}
 use Rattle.ept_conn.specs.Turns.{AreDue}
 use Rattle.ept_conn.specs.Answers.{Served, refusal, answers, AreAnswers}
-use Rattle.ept_conn.specs.Served.{IsServed}
+use Rattle.ept_conn.specs.Served.{IsServed, IsSentOf}
 use Rattle.ept_conn.specs.State.{State, want_of}
 use Rattle.ept_conn.specs.Works.{HasPlanOf, IsDamaged}
+use Rattle.ept_conn.specs.Whole.{HasAnswered}
 use Rattle.ept_conn.specs.Ends.{IsBroken, IsEnd}
 use Rattle.ept_conn.specs.SessionCalls.{SessionCall}
 use Rattle.ept_conn.specs.Conversation.{Converses}
@@ -52,7 +53,11 @@ unused = record { taken = []; left = []; written = []; reads = [] }
 
 -- what the link tells, by what is sent of a folder
 abbrev pub Told : Seen → (Served → Wire → Type 0) → Type 0
-Told now fact = (files : Files) → now.files ≡ Some files → (served : Served) → IsServed files served → Tells (fact served) now.wire
+Told now fact = (files : Files) → now.files ≡ Some files → (served : Served) → IsSentOf files served → Tells (fact served) now.wire
+
+-- what it tells of a folder in which each plan and each tile is there
+abbrev pub ToldOfWhole : Seen → (Served → Wire → Type 0) → Type 0
+ToldOfWhole now fact = (files : Files) → now.files ≡ Some files → (served : Served) → IsServed files served → Tells (fact served) now.wire
 
 -- a status is sent in place of the answer to a turn: of it these bytes have gone out, and the others are to be sent
 pub record IsRefusing (served : Served) (bytes sent out : List ℕ) : Type 0 where
@@ -93,7 +98,7 @@ IsEndOver reason ends served wire = IsEnd served reason (wire.left ≡ []) wire.
 
 -- they answer every turn of those that came
 abbrev pub IsAnswered : Served → Wire → Type 0
-IsAnswered served wire = AreAnswers served wire.taken wire.written
+IsAnswered served wire = HasAnswered served wire.taken wire.written
 
 -- some turn is not wholly answered
 abbrev pub IsNotAnswered : Served → Wire → Type 0
@@ -102,7 +107,7 @@ IsNotAnswered served wire = ¬ AreAnswers served wire.taken wire.written
 -- at each read, every turn of the bytes that had come was answered
 abbrev pub IsReadAnswered : Served → Wire → Type 0
 IsReadAnswered served wire =
-    AllByRecursion (λ (at : ℕ × ℕ). AreAnswers served (take at.0 wire.taken) (take at.1 wire.written)) wire.reads
+    AllByRecursion (λ (at : ℕ × ℕ). HasAnswered served (take at.0 wire.taken) (take at.1 wire.written)) wire.reads
 
 -- no device failed, and no file is damaged
 abbrev pub IsWell : End → Type 0
@@ -151,6 +156,6 @@ pub record HasPolled {L T : Type 0} (link : LinkOf L) (store : StoreOf T) (old n
   pub links : answer ≡ Ready end.LinkFault → Rose (link.faults old.link) (link.faults new.link)
   pub stores : answer ≡ Ready end.StoreFault → (old.session.fault ≡ Some fault.Store) ⊎ Rose (store.faults old.store) (store.faults new.store)
   pub damaged : (found : QueryFile) → answer ≡ Ready (end.Damaged found) → Since (seen link store old) (λ _. Tells (IsDamaged found) (store.files new.store))
-  pub complete : IfReady answer (λ ends. Since (seen link store old) (λ first. Told (seen link store new) (λ _ _. (¬ Rose (link.faults old.link) (link.faults new.link)) → (¬ Rose first (store.faults new.store)) → IsWell ends)))
+  pub complete : IfReady answer (λ ends. Since (seen link store old) (λ first. ToldOfWhole (seen link store new) (λ _ _. (¬ Rose (link.faults old.link) (link.faults new.link)) → (¬ Rose first (store.faults new.store)) → IsWell ends)))
   pub turns : new.turns ≡ old.turns
   pub any_moment : Moves store.files store.may_leave store.moment store.image_since SameFiles old.store new.store

@@ -8,9 +8,10 @@ use Rattle.ept_conn.specs.declared.hand.Hand.TheVariants.{Empty}
 use Rattle.ept_conn.specs.declared.end.Fault.TheVariants as fault
 use Rattle.ept_conn.specs.declared.end.Want.TheVariants as want
 use Rattle.ept_conn.specs.Answers.{Served}
-use Rattle.ept_conn.specs.Served.{IsServed}
+use Rattle.ept_conn.specs.Served.{IsSentOf}
 use Rattle.ept_conn.specs.State.{State, want_of, feeds}
 use Rattle.ept_conn.specs.Works.{IsPlanned, HasPlanOf, Works, IsOneStep, Stops, IsDamagedIn}
+use Rattle.ept_conn.specs.Whole.{HasFound}
 use Rattle.ept_conn.specs.SessionCalls.{SessionCall, Fed, Worked, Sent, Failed}
 use Rattle.ept_poll.specs.Links.{ReadsOn}
 
@@ -42,8 +43,9 @@ pub record IsOverStore (old new : Seen) : Type 0 where
   pub faults : new.faults ≡ old.faults
   pub later : old.store_faults ≤ new.store_faults
   pub files : StepsBy SameFiles old.files new.files
-  pub works : new.state.fault ≡ None → (files : Files) → old.files ≡ Some files → (served : Served) → IsServed files served → IsPlanned served old.state.hand → Works served old.state new.state
+  pub works : new.state.fault ≡ None → (files : Files) → old.files ≡ Some files → (served : Served) → IsSentOf files served → IsPlanned served old.state.hand → Works served old.state new.state
   pub one_step : new.state.fault ≡ None → IsOneStep old.state.hand old.state new.state
+  pub found : new.state.fault ≡ None → (files : Files) → old.files ≡ Some files → HasFound files old.state.hand new.state
   pub plans : (files : Files) → old.files ≡ Some files → HasPlanOf files old.state.hand → HasPlanOf files new.state.hand
   pub closed : new.state.closed ≡ old.state.closed
   pub stops : IfSome new.state.fault (Stops old.state.hand new.state)

@@ -2,6 +2,7 @@ use Rattle.std.proofs.Common.{◌≡◌, true, [], None, inl, refl}
 use Rattle.ept_base.specs.Causes.{Rose}
 use Rattle.ept_conn.proofs.Answered.{queries-answered, selections-answered}
 use Rattle.ept_conn.proofs.Complete.{complete-served}
+use Rattle.ept_conn.proofs.Plans.{served-sent}
 use Rattle.ept_conn.proofs.Histories.{sends-answers, ends-has, reads-has, owes-has}
 use Rattle.ept_conn.proofs.Unanswered.{works-unanswered}
 use Rattle.ept_conn.proofs.laws.session_law.Goals as goal
@@ -13,9 +14,10 @@ returns c = record {
   reads = λ served before now. reads-has served (Rose before now);
   works = λ served before now. works-unanswered served (Rose before now);
   owes = λ served before now. owes-has served (Rose before now);
+  sent = served-sent;
   shut = λ files not. (
-    record { file = λ name. None; plan = λ area first second. None; part = λ area node. [] },
-    inl (record { done = not; file = λ name. refl; plan = λ area first second. refl }),
+    record { files = files; file = λ name. None; plan = λ area first second. None; part = λ area node. [] },
+    inl (record { folder = refl; done = not; file = λ name. refl; plan = λ area first second. refl }),
   );
   queries = λ kept points files served whole. queries-answered c.complete_law.ensures.answered kept points files served whole;
   selections = λ kept points files served whole. selections-answered c.complete_law.ensures.answered c.sift_law.ensures.sifts kept points files served whole;

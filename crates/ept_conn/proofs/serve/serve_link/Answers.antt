@@ -7,6 +7,7 @@ use Rattle.ept_conn.specs.State.{State}
 use Rattle.ept_conn.specs.Works.{HasPlanOf}
 use Rattle.ept_conn.specs.Serving.{IsServedOver}
 use Rattle.ept_conn.specs.Conversation.{Converses, GoesOn}
+use Rattle.ept_conn.proofs.Plans.{served-sent}
 use Rattle.ept_conn.proofs.Histories.{link-end, store-end, damaged-end}
 use Rattle.ept_conn.proofs.Conversing.{CauseSince, steps-same, same-files, start-converses, served-over, no-cause, cause-on, moved-none, moved-twice, fresh-undamaged, damaged-on, ends-well}
 use Rattle.ept_conn.proofs.serve.serve_link.Goals as goal
@@ -67,8 +68,8 @@ returns-in-Some-clause-stores g c = λ same.
 
 pub returns-in-Some-clause-well : goal.returns-in-Some-clause-well
 returns-in-Some-clause-well g c = λ files served told is wired.
-    ends-well served (Rose (g.T.Store.faults c.args.store.now) (g.T.Store.faults c.step.new.store)) (Rose (g.L.Link.faults c.args.link.now) (g.L.Link.faults c.step.new.link)) (Rose (g.T.Store.faults c.args.store.now) (g.T.Store.faults c.step.new.store)) (g.L.Link.wire c.args.link.now) (g.L.Link.wire c.step.new.link) c.in-Some.end wired
-    (returns-in-Some-clause-served g c files told served is) (returns-in-Some-clause-links g c) (returns-in-Some-clause-stores g c)
+    ends-well files served (Rose (g.T.Store.faults c.args.store.now) (g.T.Store.faults c.step.new.store)) (Rose (g.L.Link.faults c.args.link.now) (g.L.Link.faults c.step.new.link)) (Rose (g.T.Store.faults c.args.store.now) (g.T.Store.faults c.step.new.store)) (g.L.Link.wire c.args.link.now) (g.L.Link.wire c.step.new.link) c.in-Some.end is wired
+    (returns-in-Some-clause-served g c files told served (served-sent files served is)) (returns-in-Some-clause-links g c) (returns-in-Some-clause-stores g c)
 
 pub returns-in-Some-clause-damaged : goal.returns-in-Some-clause-damaged
 returns-in-Some-clause-damaged g c = λ found same.

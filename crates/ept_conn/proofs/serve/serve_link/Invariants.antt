@@ -6,7 +6,7 @@ use Rattle.ept_query.specs.declared.query_error.QueryFile.{QueryFile}
 use Rattle.ept_conn.specs.Works.{HasPlanOf, IsDamaged}
 use Rattle.ept_conn.specs.declared.end.Fault.TheVariants as fault
 use Rattle.ept_conn.specs.Answers.{Served}
-use Rattle.ept_conn.specs.Served.{IsServed}
+use Rattle.ept_conn.specs.Served.{IsSentOf}
 use Rattle.ept_conn.specs.Conversation.{Converses, rank}
 use Rattle.ept_conn.proofs.Conversing.{CauseSince}
 use Rattle.ept_conn.proofs.serve.serve_link.Given as given
@@ -16,7 +16,7 @@ abbrev pub invariant-loop-end : given.invariant-loop-end
 invariant-loop-end g l =
     let stores = g.T.Store.faults in
     record {
-      converses : (files : Files) → g.T.Store.files l.fn.store ≡ Some files → (served : Served) → IsServed files served → StepsBy (λ start now. Converses served (Rose (stores l.fn.store) (stores l.store)) start l.session now) (g.L.Link.wire l.fn.link) (g.L.Link.wire l.link);
+      converses : (files : Files) → g.T.Store.files l.fn.store ≡ Some files → (served : Served) → IsSentOf files served → StepsBy (λ start now. Converses served (Rose (stores l.fn.store) (stores l.store)) start l.session now) (g.L.Link.wire l.fn.link) (g.L.Link.wire l.link);
       links : CauseSince fault.Link l.session (g.L.Link.faults l.fn.link) (g.L.Link.faults l.link);
       stores : CauseSince fault.Store l.session (stores l.fn.store) (stores l.store);
       plans : (files : Files) → g.T.Store.files l.fn.store ≡ Some files → HasPlanOf files l.session.hand;

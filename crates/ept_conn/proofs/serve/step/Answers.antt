@@ -14,6 +14,8 @@ returns-in-Work-clause-converses g c = λ files told served is before up.
     work-converses files served (Rose before now) (Rose before after) start wire c.args.session.now c.work.new.self is (λ rose. rose-later before now after rose c.work.ensures.later) so_far (sym c.want.ensures ∙ c.in-Work.is) c.work.ensures.closed
     (record {
       works = λ going planned. c.work.ensures.works going files told served is planned;
+      plans = c.work.ensures.plans files told;
+      found = λ going. c.work.ensures.found going files told;
       stops = c.work.ensures.stops;
       damaged = λ found fixed. tells-of (IsDamagedIn c.args.session.now.hand found) (g.T.Store.files c.args.store.now) files told (c.work.ensures.damaged found fixed);
       stores = λ fixed. rose-earlier before now after up (c.work.ensures.stores fixed);

@@ -1,5 +1,7 @@
 use Rattle.std.proofs.Common.{sym, subst}
 use Rattle.ept_http.specs.declared.asked.Asked.{Asked}
+use Rattle.ept_conn.specs.Wanted.{wanted}
+use Rattle.ept_conn.specs.Whole.{HasPlanIfOpen}
 use Rattle.ept_conn.specs.Works.{Gets, HasPlanOf, IsDamagedFor}
 use Rattle.ept_conn.proofs.session.Session.get.Goals as goal
 
@@ -36,3 +38,19 @@ returns-in-File-clause-undamaged g c = λ going files told found damaged. subst 
 
 pub returns-in-Refuse-clause-undamaged : goal.returns-in-Refuse-clause-undamaged
 returns-in-Refuse-clause-undamaged g c = λ going files told found damaged. subst (λ (a : Asked). IsDamagedFor a found files) c.in-Refuse.is damaged
+
+pub returns-in-Query-clause-found : goal.returns-in-Query-clause-found
+returns-in-Query-clause-found g c = λ going files told.
+    subst (λ (a : Asked). HasPlanIfOpen files c.args.turn (wanted a) c.make_plan.new.self) (sym c.in-Query.is) (c.make_plan.ensures.found going files told)
+
+pub returns-in-Select-clause-found : goal.returns-in-Select-clause-found
+returns-in-Select-clause-found g c = λ going files told.
+    subst (λ (a : Asked). HasPlanIfOpen files c.args.turn (wanted a) c.make_plan-in-Select.new.self) (sym c.in-Select.is) (c.make_plan-in-Select.ensures.found going files told)
+
+pub returns-in-File-clause-found : goal.returns-in-File-clause-found
+returns-in-File-clause-found g c = λ going files told.
+    subst (λ (a : Asked). HasPlanIfOpen files c.args.turn (wanted a) c.get_file.new.self) (sym c.in-File.is) tt
+
+pub returns-in-Refuse-clause-found : goal.returns-in-Refuse-clause-found
+returns-in-Refuse-clause-found g c = λ going files told.
+    subst (λ (a : Asked). HasPlanIfOpen files c.args.turn (wanted a) c.refuse.new.self) (sym c.in-Refuse.is) tt

@@ -5,7 +5,7 @@ use Rattle.ept_conn.specs.Answers.{chunk}
 use Rattle.ept_conn.specs.Works.{end_at}
 use Rattle.ept_query.specs.Parts.{node_at, points_in}
 use Rattle.ept_conn.proofs.Plans.{part-served}
-use Rattle.ept_conn.proofs.Undamaged.{part-has-tile}
+use Rattle.ept_conn.proofs.Undamaged.{part-tile, part-has-tile}
 use Rattle.ept_conn.proofs.session.Session.get_tile.Goals as goal
 
 -- the bytes of a part are those of its points, each of the packed length
@@ -27,4 +27,9 @@ returns-in-Ok-clause-works g c = λ going files told served is planned.
 pub returns-in-Ok-clause-undamaged : goal.returns-in-Ok-clause-undamaged
 returns-in-Ok-clause-undamaged g c = λ going files told found damaged.
     let part = rw told at c.in-Ok.ensures.part in
-    part-has-tile files c.args.plan.area (node_at c.args.plan c.args.done) _ _ part damaged.1
+    part-has-tile files c.args.plan.area (node_at c.args.plan c.args.done) _ _ part damaged.2
+
+pub returns-in-Ok-clause-found : goal.returns-in-Ok-clause-found
+returns-in-Ok-clause-found g c = λ going files told.
+    let part = rw told at c.in-Ok.ensures.part in
+    part-tile files c.args.plan.area (node_at c.args.plan c.args.done) _ _ part
