@@ -19,7 +19,7 @@ shelf_faults shelf = shelf.faults
 abbrev pub sink_faults : {W : Type 0} → RealSink W → ℕ
 sink_faults sink = sink.faults
 
-abbrev pub store_faults : {R F D : Type 0} → RealStore R F D → ℕ
+abbrev pub store_faults : {R D F G : Type 0} → RealStore R D F G → ℕ
 store_faults store = store.faults
 
 abbrev pub files_faults : {R F D : Type 0} → RealFiles R F D → ℕ
@@ -42,7 +42,7 @@ abbrev pub shelf_given : {R F D : Type 0} → RealShelf R F D → ℕ
 shelf_given shelf = shelf.given
 
 -- how many calls of `get` a store had
-abbrev pub store_gets : {R F D : Type 0} → RealStore R F D → ℕ
+abbrev pub store_gets : {R D F G : Type 0} → RealStore R D F G → ℕ
 store_gets store = store.gets
 
 -- how many calls of `keep` a spill file had, and the files that a room took back

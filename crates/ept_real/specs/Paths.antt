@@ -8,7 +8,7 @@ use Rattle.ept_real.specs.declared.source.RealSource.{RealSource}
 use Rattle.ept_real.specs.declared.store.RealStore.{RealStore}
 
 -- the path of a store's folder
-abbrev pub store_folder : {R F D : Type 0} → RealStore R F D → List ℕ
+abbrev pub store_folder : {R D F G : Type 0} → RealStore R D F G → List ℕ
 store_folder store = store.folder.now
 
 -- the path of the folder of a room, and of a spill file

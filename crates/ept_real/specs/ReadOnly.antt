@@ -3,12 +3,18 @@ use Rattle.std.specs.Prelude.{◌≡◌, ℕ, List, Option, Some, None, option_m
 use Rattle.ept_base.specs.Devices.{counts_on}
 use Rattle.ept_base.specs.Files.{Files, Tells}
 use Rattle.ept_real.specs.Joined.{joined}
+use Rattle.ept_real.specs.Paths.{store_folder}
+use Rattle.ept_real.specs.declared.real_disk.RealDisk.{RealDisk}
+use Rattle.ept_real.specs.declared.store.RealStore.{RealStore}
 use Rattle.ept_real.specs.declared.read_store.ReadStore.{ReadStore}
 use Rattle.ept_real.specs.declared.real_files.RealFiles.{RealFiles}
 
 -- the files of the machine that the program runs on are not visible
 abbrev pub machine_files : {R F D : Type 0} → RealFiles R F D → Option Files
 machine_files _ = None
+
+abbrev pub disk_files : {R F D : Type 0} → RealDisk R F D → Option Files
+disk_files _ = None
 
 -- the machine's files
 abbrev pub read_disk : {D : Type 0} → ReadStore D → D
@@ -33,6 +39,13 @@ read_gets store = store.gets
 -- the files below a folder, by their names in it
 abbrev pub files_in : List ℕ → Files → Files
 files_in folder all name = all (joined folder name)
+
+-- the files that a store in a folder is over, and what they hold under each name in it
+abbrev pub store_disk : {R D F G : Type 0} → RealStore R D F G → D
+store_disk store = store.disk
+
+abbrev pub folder_files : {R D F G : Type 0} → (D → Option Files) → RealStore R D F G → Option Files
+folder_files files store = option_map (files_in (store_folder store)) (files (store_disk store))
 
 -- what is read under each name: the file of that path in the folder
 abbrev pub read_files : {D : Type 0} → (D → Option Files) → ReadStore D → Option Files

@@ -7,12 +7,14 @@
 #![tactic(auto)]
 
 mod link;
+mod path_disk;
 mod path_files;
 mod path_set;
 mod paths;
 mod progress;
 mod read_store;
 mod reading;
+mod real_disk;
 mod real_files;
 mod room;
 mod seen_files;
@@ -23,9 +25,11 @@ mod store;
 mod unsynced;
 
 pub use link::RealLink;
+pub use path_disk::PathDisk;
 pub use path_files::PathFiles;
 pub use progress::{Ending, Telling};
 pub use read_store::ReadStore;
+pub use real_disk::RealDisk;
 pub use real_files::RealFiles;
 pub use room::{RealRoom, RealSpill};
 pub use seen_files::{SeenFile, SeenFiles};

@@ -2,7 +2,7 @@ ghost use Rattle.std.specs.Prelude.{◌≡◌, IfOk, string_bytes};
 ghost use Rattle.ept_base.specs.Devices.{counts_on};
 
 use crate::paths::path_in;
-use crate::store::{read_file, remove_file, write_file};
+use crate::real_disk::{read_file, remove_file, write_file};
 use ept_base::{Failed, PutError, Room, SpillFile};
 use std::alloc::{AllocError, Global};
 use std::rt::Files;

@@ -1,17 +1,17 @@
-ghost use Rattle.std.specs.Prelude.{◌≡◌, ◌≢◌, ◌≤◌, ◌⊎◌, ℕ, List, [], false, true, Contains, IsOk, IsTrue, IfOk, IsErrOf, OnOk, OnErr, Err, string_bytes};
+ghost use Rattle.std.specs.Prelude.{◌≡◌, option_map, ◌≢◌, ◌≤◌, ◌⊎◌, ℕ, List, [], false, true, Contains, IsOk, IsTrue, IfOk, IsErrOf, OnOk, OnErr, Err, string_bytes};
 ghost use Rattle.ept_base.specs.Causes.{Rose, HasCauseOf};
 ghost use Rattle.ept_base.specs.Devices.{Gets, counts_on};
 ghost use Rattle.ept_base.specs.Files.{SameFiles, SameBut, Puts, Removes, Tells, StepsBy};
 ghost use Rattle.ept_base.specs.Moves.{Follows, SameImages, NoMore, IsSettled, Elapses};
 ghost use Rattle.ept_real.specs.Ways.{Keeps, KeepsBut};
 
+use crate::path_disk::PathDisk;
 use crate::path_set::PathSet;
 use crate::paths::{or_here, path_in};
+use crate::real_disk::RealDisk;
 use crate::unsynced::Unsynced;
-use ept_base::{GetError, PutError, Store};
+use ept_base::{Failed, GetError, PutError, Store};
 use std::alloc::{AllocError, Global};
-use std::fs;
-use std::io::{self, ErrorKind, Read};
 use std::path::Path;
 use std::rt::Files;
 
@@ -28,8 +28,9 @@ use std::rt::Files;
 ///
 /// A name below a file is a fault; one that is absent is not.
 #[derive(Drop)]
-pub struct RealStore<'a, R: Files> {
+pub struct RealStore<'a, R: Files, D: PathDisk + Drop = RealDisk<'a, R>> {
     files: &'a R,
+    disk: D,
     alloc: Global,
     folder: &'a str,
     unsynced: Unsynced,
@@ -39,37 +40,10 @@ pub struct RealStore<'a, R: Files> {
     gets: u64,
 }
 
-/// Reads the whole of a file.
-pub(crate) fn read_file(files: &impl Files, alloc: Global, path: &str) -> io::Result<Vec<u8>> {
-    let mut bytes = Vec::new(alloc);
-    fs::open(files, path)?.read_to_end(&mut bytes)?;
-    Ok(bytes)
-}
-
-/// Writes the whole of a file, and makes the folders that its path needs.
-pub(crate) fn write_file(files: &impl Files, path: &str, bytes: &[u8]) -> io::Result<()> {
-    match fs::write(files, path, bytes) {
-        Err(error) if error.kind() == ErrorKind::NotFound => {}
-        written => return written,
-    }
-    if let Some(folder) = Path::new(path).parent() {
-        fs::create_dir_all(files, folder)?;
-    }
-    fs::write(files, path, bytes)
-}
-
-/// Removes a file, where it is there.
-pub(crate) fn remove_file(files: &impl Files, path: &str) -> io::Result<()> {
-    match fs::remove_file(files, path) {
-        Err(error) if error.kind() == ErrorKind::NotFound => Ok(()),
-        removed => removed,
-    }
-}
-
-impl<'a, R: Files> RealStore<'a, R> {
+impl<'a, R: Files> RealStore<'a, R, RealDisk<'a, R>> {
     ghost use Rattle.ept_real.specs.Counts.{store_faults, store_gets};
     ghost use Rattle.ept_real.specs.Flushing.{flushed, IsFlushed, sync_refused};
-    ghost use Rattle.ept_real.specs.Joined.{joined, folder_path};
+    ghost use Rattle.ept_real.specs.Joined.{folder_path};
     ghost use Rattle.ept_real.specs.Paths.{store_folder};
 
     /// The store in this folder, without a fault and without a get. An empty path is that of the
@@ -82,8 +56,30 @@ impl<'a, R: Files> RealStore<'a, R> {
         ensures flushed { flushed result ≡ [] }
         ensures open { sync_refused result ≡ false }
     {
+        RealStore::over(alloc, files, RealDisk::new(files), folder)
+    }
+}
+
+impl<'a, R: Files, D: PathDisk + Drop> RealStore<'a, R, D> {
+    ghost use Rattle.ept_real.specs.Counts.{store_faults, store_gets};
+    ghost use Rattle.ept_real.specs.Flushing.{flushed, IsFlushed, sync_refused};
+    ghost use Rattle.ept_real.specs.Joined.{joined, folder_path};
+    ghost use Rattle.ept_real.specs.Paths.{store_folder};
+    ghost use Rattle.ept_real.specs.ReadOnly.{store_disk};
+
+    /// The store in this folder of a machine, over files of it. It has neither a fault nor a get.
+    pub fn over(alloc: Global, files: &'a R, disk: D, folder: &'a str) -> Self
+        ensures sound { store_faults result ≡ 0 }
+        ensures unread { store_gets result ≡ 0 }
+        ensures disk { store_disk result ≡ disk }
+        ensures folder { store_folder result ≡ folder_path folder.now }
+        ensures to_flush { IsFlushed result }
+        ensures flushed { flushed result ≡ [] }
+        ensures open { sync_refused result ≡ false }
+    {
         RealStore {
             files,
+            disk,
             alloc,
             folder: or_here(folder),
             unsynced: Unsynced::new(alloc),
@@ -125,10 +121,29 @@ impl<'a, R: Files> RealStore<'a, R> {
     }
 }
 
-impl<'a, R: Files> RealStore<'a, R> {
+impl<'a, R: Files, D: PathDisk + Drop> RealStore<'a, R, D> {
     ghost use Rattle.ept_real.specs.Counts.{store_faults, store_gets};
+    ghost use Rattle.ept_real.specs.ReadOnly.{store_disk, folder_files};
     ghost use Rattle.ept_real.specs.Flushing.{names_to_flush, folders_to_flush, flushed, HasWayToFlush, HasToFlush, KeepsToFlush};
     ghost use Rattle.ept_real.specs.Paths.{store_folder};
+
+    /// What the file of this name holds.
+    fn find(&mut self, name: &str) -> Result<Option<Vec<u8>>, GetError>
+        ensures bytes { IfOk result (λ found. Tells (λ all. option_map (λ bytes. bytes.items) found ≡ all name.now) (folder_files D.files self.old)) }
+        ensures files { D.files (store_disk self.new) ≡ D.files (store_disk self.old) }
+        ensures same { self.new ≡ record self.old { disk = store_disk self.new; faults = store_faults self.new } }
+        ensures cause { HasCauseOf GetError.Failed (store_faults self.old) (store_faults self.new) result }
+    {
+        let path = self.path_of(name)?;
+        match self.disk.read(self.alloc, path.as_str()) {
+            Ok(found) => Ok(found),
+            Err(GetError::Memory) => Err(GetError::Memory),
+            Err(GetError::Failed) => {
+                self.fault();
+                Err(GetError::Failed)
+            }
+        }
+    }
 
     /// The folders on the way to this name are to be flushed.
     fn note_way(&mut self, name: &str) -> Result<(), AllocError>
@@ -169,13 +184,15 @@ impl<'a, R: Files> RealStore<'a, R> {
         ensures ok { OnOk result (Contains (names_to_flush self.new) name.now) }
         ensures still { KeepsBut name.now (names_to_flush self.old) (names_to_flush self.new) }
         ensures folders { folders_to_flush self.new ≡ folders_to_flush self.old }
-        ensures same { self.new ≡ record self.old { unsynced = self.new.unsynced; faults = store_faults self.new } }
+        ensures same { self.new ≡ record self.old { disk = store_disk self.new; unsynced = self.new.unsynced; faults = store_faults self.new } }
+        ensures put { OnOk result (StepsBy (Puts path.now bytes.now) (D.files (store_disk self.old)) (D.files (store_disk self.new))) }
+        ensures alone { result ≡ Err PutError.Failed → StepsBy (SameBut path.now) (D.files (store_disk self.old)) (D.files (store_disk self.new)) }
         ensures cause { HasCauseOf PutError.Failed (store_faults self.old) (store_faults self.new) result }
     {
         self.unsynced.names.add(name)?;
-        match write_file(self.files, path, bytes) {
+        match self.disk.write(path, bytes) {
             Ok(()) => Ok(()),
-            Err(_) => {
+            Err(Failed) => {
                 self.forget_absent(name, path);
                 self.fault();
                 Err(PutError::Failed)
@@ -189,16 +206,18 @@ impl<'a, R: Files> RealStore<'a, R> {
         ensures still { KeepsBut name.now (names_to_flush self.old) (names_to_flush self.new) }
         ensures not_gone { OnErr result (names_to_flush self.new ≡ names_to_flush self.old) }
         ensures folders { folders_to_flush self.new ≡ folders_to_flush self.old }
-        ensures same { self.new ≡ record self.old { unsynced = self.new.unsynced; faults = store_faults self.new } }
+        ensures same { self.new ≡ record self.old { disk = store_disk self.new; unsynced = self.new.unsynced; faults = store_faults self.new } }
+        ensures removed { OnOk result (StepsBy (Removes path.now) (D.files (store_disk self.old)) (D.files (store_disk self.new))) }
+        ensures alone { result ≡ Err PutError.Failed → StepsBy (SameBut path.now) (D.files (store_disk self.old)) (D.files (store_disk self.new)) }
         ensures only { result ≢ Err PutError.Memory }
         ensures cause { HasCauseOf PutError.Failed (store_faults self.old) (store_faults self.new) result }
     {
-        match remove_file(self.files, path) {
+        match self.disk.remove(path) {
             Ok(()) => {
                 self.unsynced.names.remove(name);
                 Ok(())
             }
-            Err(_) => {
+            Err(Failed) => {
                 self.fault();
                 Err(PutError::Failed)
             }
@@ -206,11 +225,13 @@ impl<'a, R: Files> RealStore<'a, R> {
     }
 }
 
-impl<'a, R: Files> Store for RealStore<'a, R> {
+impl<'a, R: Files, D: PathDisk + Drop> Store for RealStore<'a, R, D> {
     ghost use Rattle.std.specs.Prelude.{None};
     ghost use Rattle.ept_real.specs.Counts.{store_faults, store_gets};
     ghost use Rattle.ept_real.specs.Flushing.{names_to_flush, folders_to_flush, flushed, sync_refused, IsFlushed, HasWayToFlush, HasToFlush, KeepsToFlush, KeepsToFlushBut, no_image, no_image_since};
+    ghost use Rattle.ept_real.specs.Joined.{joined};
     ghost use Rattle.ept_real.specs.Paths.{store_folder};
+    ghost use Rattle.ept_real.specs.ReadOnly.{store_disk, folder_files};
 
     ghost files = { λ _. None };
 
@@ -240,6 +261,10 @@ impl<'a, R: Files> Store for RealStore<'a, R> {
         ensures counted { store_gets self.new ≡ counts_on (store_gets self.old) 1 }
         ensures cause { HasCauseOf GetError.Failed (store_faults self.old) (store_faults self.new) result }
 
+        // What was got is the file of that path in the folder.
+        ensures told { IfOk result (λ found. Tells (λ all. Gets all name.now found into.new.items) (folder_files D.files self.old)) }
+        ensures files { D.files (store_disk self.new) ≡ D.files (store_disk self.old) }
+
         // What was found is flushed before it is built upon, unless this store has flushed it.
         ensures found { IfOk result (λ found. found ≡ true
             → HasToFlush self.new name.now ⊎ Contains (flushed self.new) name.now) }
@@ -249,24 +274,16 @@ impl<'a, R: Files> Store for RealStore<'a, R> {
         ensures folder { store_folder self.new ≡ store_folder self.old }
     {
         self.gets = self.gets.saturating_add(1);
-        let path = self.path_of(name)?;
-        match read_file(self.files, self.alloc, path.as_str()) {
-            Ok(bytes) => {
+        match self.find(name)? {
+            Some(bytes) => {
                 self.note_read(name)?;
                 *into = bytes;
                 Ok(true)
             }
-            Err(error) => match error.kind() {
-                ErrorKind::NotFound => {
-                    into.clear();
-                    Ok(false)
-                }
-                ErrorKind::OutOfMemory => Err(GetError::Memory),
-                _ => {
-                    self.fault();
-                    Err(GetError::Failed)
-                }
-            },
+            None => {
+                into.clear();
+                Ok(false)
+            }
         }
     }
 
@@ -278,6 +295,11 @@ impl<'a, R: Files> Store for RealStore<'a, R> {
         ensures time { Elapses 0 0 no_image_since no_image_since no_image }
         ensures counted { store_gets self.new ≡ store_gets self.old }
         ensures cause { HasCauseOf PutError.Failed (store_faults self.old) (store_faults self.new) result }
+
+        // The file of that path in the folder was written.
+        ensures put { OnOk result (StepsBy (Puts (joined (store_folder self.old) name.now) bytes.now) (D.files (store_disk self.old)) (D.files (store_disk self.new))) }
+        ensures alone { result ≡ Err PutError.Failed
+            → StepsBy (SameBut (joined (store_folder self.old) name.now)) (D.files (store_disk self.old)) (D.files (store_disk self.new)) }
 
         // What was put is to be flushed, with the folders on its way.
         ensures noted { OnOk result (HasToFlush self.new name.now) }
@@ -301,6 +323,11 @@ impl<'a, R: Files> Store for RealStore<'a, R> {
         ensures time { Elapses 0 0 no_image_since no_image_since no_image }
         ensures counted { store_gets self.new ≡ store_gets self.old }
         ensures cause { HasCauseOf PutError.Failed (store_faults self.old) (store_faults self.new) result }
+
+        // The file of that path in the folder was removed.
+        ensures removed { OnOk result (StepsBy (Removes (joined (store_folder self.old) name.now)) (D.files (store_disk self.old)) (D.files (store_disk self.new))) }
+        ensures alone { result ≡ Err PutError.Failed
+            → StepsBy (SameBut (joined (store_folder self.old) name.now)) (D.files (store_disk self.old)) (D.files (store_disk self.new)) }
 
         // The folders on the way are to be flushed; the file is no longer.
         ensures noted { OnOk result (HasWayToFlush self.new name.now) }
@@ -327,6 +354,7 @@ impl<'a, R: Files> Store for RealStore<'a, R> {
         ensures counted { store_gets self.new ≡ store_gets self.old }
         ensures cause { HasCauseOf PutError.Failed (store_faults self.old) (store_faults self.new) result }
         ensures only { result ≢ Err PutError.Memory }
+        ensures files { D.files (store_disk self.new) ≡ D.files (store_disk self.old) }
 
         // At Ok nothing is left to flush, and after a refusal all is.
         ensures none_left { OnOk result (IsFlushed self.new) }

@@ -1,0 +1,76 @@
+ghost use Rattle.std.specs.Prelude.{◌≡◌, IfOk, OnOk, option_map};
+ghost use Rattle.ept_base.specs.Files.{SameBut, Puts, Removes, Tells, StepsBy};
+
+use crate::path_disk::PathDisk;
+use ept_base::{Failed, GetError};
+use std::alloc::Global;
+use std::fs;
+use std::io::{self, ErrorKind, Read};
+use std::path::Path;
+use std::rt::Files;
+
+/// The files of the machine that the program runs on. A file that can't be read, written or removed is a fault, and so
+/// is a path below a file; one that is absent is not.
+#[derive(Drop)]
+pub struct RealDisk<'a, R: Files> {
+    machine: &'a R,
+}
+
+impl<'a, R: Files> RealDisk<'a, R> {
+    /// The files of this machine.
+    pub fn new(machine: &'a R) -> Self {
+        RealDisk { machine }
+    }
+}
+
+/// Reads the whole of a file.
+pub(crate) fn read_file(files: &impl Files, alloc: Global, path: &str) -> io::Result<Vec<u8>> {
+    let mut bytes = Vec::new(alloc);
+    fs::open(files, path)?.read_to_end(&mut bytes)?;
+    Ok(bytes)
+}
+
+/// Writes the whole of a file, and makes the folders that its path needs.
+pub(crate) fn write_file(files: &impl Files, path: &str, bytes: &[u8]) -> io::Result<()> {
+    match fs::write(files, path, bytes) {
+        Err(error) if error.kind() == ErrorKind::NotFound => {}
+        written => return written,
+    }
+    if let Some(folder) = Path::new(path).parent() {
+        fs::create_dir_all(files, folder)?;
+    }
+    fs::write(files, path, bytes)
+}
+
+/// Removes a file, where it is there.
+pub(crate) fn remove_file(files: &impl Files, path: &str) -> io::Result<()> {
+    match fs::remove_file(files, path) {
+        Err(error) if error.kind() == ErrorKind::NotFound => Ok(()),
+        removed => removed,
+    }
+}
+
+impl<'a, R: Files> PathDisk for RealDisk<'a, R> {
+    ghost use Rattle.ept_real.specs.ReadOnly.{disk_files};
+
+    ghost files = { λ disk. disk_files disk };
+
+    fn read(&mut self, alloc: Global, path: &str) -> Result<Option<Vec<u8>>, GetError> {
+        match read_file(self.machine, alloc, path) {
+            Ok(bytes) => Ok(Some(bytes)),
+            Err(error) => match error.kind() {
+                ErrorKind::NotFound => Ok(None),
+                ErrorKind::OutOfMemory => Err(GetError::Memory),
+                _ => Err(GetError::Failed),
+            },
+        }
+    }
+
+    fn write(&mut self, path: &str, bytes: &[u8]) -> Result<(), Failed> {
+        write_file(self.machine, path, bytes).map_err(|_| Failed)
+    }
+
+    fn remove(&mut self, path: &str) -> Result<(), Failed> {
+        remove_file(self.machine, path).map_err(|_| Failed)
+    }
+}
