@@ -12,4 +12,5 @@ pub mod Conversing
 pub mod Unanswered
 mod Undamaged
 mod Complete
+mod Deciding
 mod Answered

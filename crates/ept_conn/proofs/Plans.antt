@@ -63,12 +63,17 @@ plan-once IsAsked a b up up' p q =
     (λ z m. contains-member b z ((q z.0 z.1).1 ((p z.0 z.1).0 (member-contains a z m))))
     (λ z m. contains-member a z ((p z.0 z.1).1 ((q z.0 z.1).0 (member-contains b z m))))
 
+-- a query has one plan at most
+pub one-plan : (files : Files) (area : Box3) (first second : ℕ) (a b : Plan) → IsPlanFor area first second a files → IsPlanFor area first second b files → a.tiles ≡ b.tiles
+one-plan files area first second a b is other =
+    let one = is.tiles other.build.0 other.build.1 in
+    let two = other.tiles other.build.0 other.build.1 in
+    plan-once _ a.tiles b.tiles one.ascend two.ascend one.each two.each
+
 plan-open : (files : Files) (served : Served) (area : Box3) (first second : ℕ) (plan : Plan) → IsOpenTo files served → IsOrdered area → first ≤ second → IsPlanFor area first second plan files → served.plan area first second ≡ Some plan.tiles
 plan-open files served area first second plan is ordered depths has =
     let there = is.plan area first second ordered depths in
-    let one = there.2.tiles has.build.0 has.build.1 in
-    let two = has.tiles has.build.0 has.build.1 in
-    there.1 ∙ ap Some (plan-once _ there.0 plan.tiles one.ascend two.ascend one.each two.each)
+    there.1 ∙ ap Some (one-plan files area first second (record { area = area; tiles = there.0 }) plan there.2 has)
 
 -- where each plan and each tile is there, what is sent is so of what is there
 pub served-sent : (files : Files) (served : Served) → IsServed files served → IsSentOf files served

@@ -56,6 +56,24 @@ pub record IsOpenInPart (files : Files) (served : Served) : Type 0 where
 abbrev pub IsSentOf : Files → Served → Type 0
 IsSentOf files served = IsShutTo files served ⊎ IsOpenInPart files served
 
+-- a query has its plan
+abbrev pub HasPlan : Files → Box3 → ℕ → ℕ → Type 0
+HasPlan files area first second = (nodes : List Node) × IsPlanFor area first second (record { area = area; tiles = nodes }) files
+
+-- the tile of a node is there
+abbrev pub IsThere : Files → Node → Type 0
+IsThere files node = (points : List Point) × HasTile files node.0 node.1 points
+
+-- of a folder it is decided whether its done gate is open, and which plans and tiles it has
+pub record IsDecided (files : Files) : Type 0 where
+  pub done : IsDone files ⊎ (¬ IsDone files)
+  pub plan : (area : Box3) (first second : ℕ) → HasPlan files area first second ⊎ (¬ HasPlan files area first second)
+  pub tile : (node : Node) → IsThere files node ⊎ (¬ IsThere files node)
+
+-- there is what is sent of any folder of which this is decided
+abbrev pub DecidedIsSent : Type 0
+DecidedIsSent = (files : Files) → IsDecided files → (served : Served) × IsSentOf files served
+
 -- where each plan and each tile is there, the same is sent
 abbrev pub ServedIsSent : Type 0
 ServedIsSent = (files : Files) (served : Served) → IsServed files served → IsSentOf files served

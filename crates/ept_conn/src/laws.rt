@@ -1,6 +1,6 @@
 //! What holds of every list of calls. Each law is the contract of a function that does nothing.
 
-ghost use Rattle.ept_conn.specs.Served.{ServedIsSent, ShutIsServed, CompleteIsServed, QueriesAreAnswered, SelectionsAreAnswered};
+ghost use Rattle.ept_conn.specs.Served.{DecidedIsSent, ServedIsSent, ShutIsServed, CompleteIsServed, QueriesAreAnswered, SelectionsAreAnswered};
 ghost use Rattle.ept_conn.specs.SessionCalls.{SendsAnswers, EndsSo, ReadsAnswered, WorksUnanswered, OwesTheRest};
 ghost use Rattle.ept_conn.specs.Calls.{HoweverCut, AllAreGiven, TurnsAreThere, TurnsAreOne, JudgeGivesTurns, NextIsGiven, TurnsMayBeAsked};
 
@@ -26,9 +26,10 @@ pub fn one_list_of_turns_law()
 
 /// Over any list of calls of a session on one folder, what was sent and is to be sent now is what may be sent
 /// of the bytes fed: the answers to their turns, in order, as far as the session has come; and where it is at
-/// its end, what is sent at that end. There is what is sent of a folder whose done gate is not open, and of one
-/// that is complete. Of the latter what is sent of a query's tiles, one after another, is exactly the points of its box in
-/// nodes of its depths, and of a selection's tiles exactly what it keeps of these.
+/// its end, what is sent at that end. There is what is sent of any folder of which it is decided which plans and tiles
+/// it has, as of one whose done gate is not open, and of one that is complete. Of the latter what is sent of a query's
+/// tiles, one after another, is exactly the points of its box in nodes of its depths, and of a selection's tiles exactly
+/// what it keeps of these.
 pub fn session_law()
     ensures sends { SendsAnswers }
     ensures ends { EndsSo }
@@ -36,6 +37,7 @@ pub fn session_law()
     ensures works { WorksUnanswered }
     ensures owes { OwesTheRest }
     ensures sent { ServedIsSent }
+    ensures decided { DecidedIsSent }
     ensures shut { ShutIsServed }
     ensures complete { CompleteIsServed }
     ensures queries { QueriesAreAnswered }

@@ -187,6 +187,7 @@ impl<'a, R: Files, D: PathDisk + Drop> RealStore<'a, R, D> {
         ensures same { self.new ≡ record self.old { disk = store_disk self.new; unsynced = self.new.unsynced; faults = store_faults self.new } }
         ensures put { OnOk result (StepsBy (Puts path.now bytes.now) (D.files (store_disk self.old)) (D.files (store_disk self.new))) }
         ensures alone { result ≡ Err PutError.Failed → StepsBy (SameBut path.now) (D.files (store_disk self.old)) (D.files (store_disk self.new)) }
+        ensures untouched { result ≡ Err PutError.Memory → D.files (store_disk self.new) ≡ D.files (store_disk self.old) }
         ensures cause { HasCauseOf PutError.Failed (store_faults self.old) (store_faults self.new) result }
     {
         self.unsynced.names.add(name)?;
@@ -296,10 +297,11 @@ impl<'a, R: Files, D: PathDisk + Drop> Store for RealStore<'a, R, D> {
         ensures counted { store_gets self.new ≡ store_gets self.old }
         ensures cause { HasCauseOf PutError.Failed (store_faults self.old) (store_faults self.new) result }
 
-        // The file of that path in the folder was written.
+        // The file of that path in the folder was written, and no other.
         ensures put { OnOk result (StepsBy (Puts (joined (store_folder self.old) name.now) bytes.now) (D.files (store_disk self.old)) (D.files (store_disk self.new))) }
         ensures alone { result ≡ Err PutError.Failed
             → StepsBy (SameBut (joined (store_folder self.old) name.now)) (D.files (store_disk self.old)) (D.files (store_disk self.new)) }
+        ensures untouched { result ≡ Err PutError.Memory → D.files (store_disk self.new) ≡ D.files (store_disk self.old) }
 
         // What was put is to be flushed, with the folders on its way.
         ensures noted { OnOk result (HasToFlush self.new name.now) }
@@ -324,10 +326,11 @@ impl<'a, R: Files, D: PathDisk + Drop> Store for RealStore<'a, R, D> {
         ensures counted { store_gets self.new ≡ store_gets self.old }
         ensures cause { HasCauseOf PutError.Failed (store_faults self.old) (store_faults self.new) result }
 
-        // The file of that path in the folder was removed.
+        // The file of that path in the folder was removed, and no other.
         ensures removed { OnOk result (StepsBy (Removes (joined (store_folder self.old) name.now)) (D.files (store_disk self.old)) (D.files (store_disk self.new))) }
         ensures alone { result ≡ Err PutError.Failed
             → StepsBy (SameBut (joined (store_folder self.old) name.now)) (D.files (store_disk self.old)) (D.files (store_disk self.new)) }
+        ensures untouched { result ≡ Err PutError.Memory → D.files (store_disk self.new) ≡ D.files (store_disk self.old) }
 
         // The folders on the way are to be flushed; the file is no longer.
         ensures noted { OnOk result (HasWayToFlush self.new name.now) }

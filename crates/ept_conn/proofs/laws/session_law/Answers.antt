@@ -2,6 +2,7 @@ use Rattle.std.proofs.Common.{◌≡◌, true, [], None, inl, refl}
 use Rattle.ept_base.specs.Causes.{Rose}
 use Rattle.ept_conn.proofs.Answered.{queries-answered, selections-answered}
 use Rattle.ept_conn.proofs.Complete.{complete-served}
+use Rattle.ept_conn.proofs.Deciding.{decided-sent}
 use Rattle.ept_conn.proofs.Plans.{served-sent}
 use Rattle.ept_conn.proofs.Histories.{sends-answers, ends-has, reads-has, owes-has}
 use Rattle.ept_conn.proofs.Unanswered.{works-unanswered}
@@ -15,6 +16,7 @@ returns c = record {
   works = λ served before now. works-unanswered served (Rose before now);
   owes = λ served before now. owes-has served (Rose before now);
   sent = served-sent;
+  decided = decided-sent c.complete_law.ensures.once;
   shut = λ files not. (
     record { files = files; file = λ name. None; plan = λ area first second. None; part = λ area node. [] },
     inl (record { folder = refl; done = not; file = λ name. refl; plan = λ area first second. refl }),
