@@ -110,7 +110,10 @@ fn save_next(
 ) -> Option<(Result<bool, PhaseError>, u64)> {
     let mut saved = open(alloc, store).ok()?;
     let next = open(alloc, later).ok()?;
-    if cache == 0 || is_old(&saved) {
+    if cache == 0 {
+        return None;
+    }
+    if is_old(&saved) {
         return None;
     }
     let mut octree = Octree::new(alloc, room, 2, cache, &rules_for(&next)).ok()?;
