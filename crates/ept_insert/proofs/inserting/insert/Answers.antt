@@ -51,3 +51,7 @@ returns-clause-inside g c =
     let enough : c.args.count ≤ left_of c.allow.new.self = omega (arith, c.requires.enough, c.allow.ensures.left) in
     let inside : (p : Point) → LiesIn (files_of g.S.Source.whole c.allow.new.self) p → InCube (rules_of c.args.octree).cube (place p) = λ p lies. c.requires.inside p (subst (λ (w : List Held). LiesIn w p) c.allow.ensures.files lies) in
     IfOk-weaker c.insert_told.result _ _ (λ r done. still-inside g.F.SpillFile.held g.F.SpillFile.faults g.F.SpillFile.keeps g.S.Source.whole g.S.Source.left g.S.Source.given g.S.Source.faults c.args.octree c.allow.new.self c.args.count number c.allow.ensures.allowed enough inside r.0 r.1 done) c.insert_told.ensures.inserted
+
+pub returns-clause-none_broken : goal.returns-clause-none_broken
+returns-clause-none_broken g c =
+    IfErr-weaker c.insert_told.result _ _ (λ r refused. refused.none_broken) c.insert_told.ensures.refused
