@@ -4,7 +4,6 @@ use Rattle.std.specs.List.{AllByRecursion, flat_map}
 use Rattle.std.proofs.lemmas.List.{take-append-drop}
 use Rattle.std.proofs.lemmas.List.Concat.{flat_map-append}
 use Rattle.ept_hier.specs.Hierarchy.{Node}
-use Rattle.ept_http.specs.declared.asked.Asked.{Asked}
 use Rattle.ept_http.specs.declared.answer.HeadKind.TheVariants as head
 use Rattle.ept_http.specs.AnswerHead.{head_text}
 use Rattle.ept_query.specs.declared.query_error.QueryFile.{QueryFile}
@@ -16,7 +15,7 @@ use Rattle.ept_conn.specs.declared.end.Fault.{Fault}
 use Rattle.ept_conn.specs.declared.end.Fault.TheVariants as fault
 use Rattle.ept_conn.specs.Held.{fresh, fed, has_turn}
 use Rattle.ept_conn.specs.Turns.{AreDue}
-use Rattle.ept_conn.specs.Answers.{Served, chunk, chunks, last_chunk, answer_to, answer, answers, query_answer}
+use Rattle.ept_conn.specs.Answers.{Served, chunk, chunks, last_chunk, answers, query_answer}
 use Rattle.ept_conn.specs.State.{State, IsFit}
 use Rattle.ept_conn.specs.Wanted.{kept_of}
 use Rattle.ept_conn.specs.InHand.{turns_in, begun_of, rest_of}
@@ -26,7 +25,7 @@ use Rattle.ept_conn.specs.Ends.{has_last, EndsItself, IsCutOff, IsQueryFront, Ar
 use Rattle.ept_conn.specs.History.{Goes}
 use Rattle.ept_conn.proofs.Wanted.{wants-answer}
 use Rattle.ept_conn.proofs.TurnLemmas.{some-due, idle-due}
-use Rattle.ept_conn.proofs.Sending.{answers-append, answers-none, answers-one, sent-before}
+use Rattle.ept_conn.proofs.Sending.{answers-none, answers-one, sent-before}
 use Rattle.ept_conn.proofs.Wanting.{IsAtRest, has-none-idle}
 
 -- ---- the turns that are not answered

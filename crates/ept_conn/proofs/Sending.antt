@@ -1,11 +1,9 @@
 -- What a session has sent, call by call.
 use Rattle.std.proofs.Common.{inl, inr, ◌≡◌, ◌∙◌, ◌+◌, ◌-◌, ◌==◌, ◌<◌, ◌≤◌, ℕ, List, [], ◌∷◌, ◌++◌, length, take, get_or, Bool, true, false, ◌||◌, if◌then◌else◌, Option, Some, None, refl, sym, ap, subst, arith, append_assoc, append-nil}
 use Rattle.std.specs.Prelude.{nat_lt}
-use Rattle.std.specs.Prelude.{⊤, ◌⊎◌}
 use Rattle.std.specs.List.{AllByRecursion, flat_map}
 use Rattle.ept_base.specs.Files.{Files}
 use Rattle.ept_point.specs.declared.point.Point.{Point}
-use Rattle.ept_save.specs.Done.{IsDone}
 use Rattle.ept_query.specs.Damage.{HasTile}
 use Rattle.std.proofs.lemmas.List.{take_more, take_all}
 use Rattle.std.proofs.lemmas.List.Concat.{flat_map-append}
@@ -29,7 +27,7 @@ use Rattle.ept_conn.specs.State.{State, IsFit, started, feeds}
 use Rattle.ept_conn.specs.Wanted.{Wanted, wanted, Wants, kept_of}
 use Rattle.ept_conn.specs.InHand.{turns_in, begun_of}
 use Rattle.ept_conn.specs.Works.{IsTurnsPlan, IsPlanned, IsPlanOfTurn, HasPlanOf, hand_to, out_to, hand_at, end_at, Begins, Gets, WorksOn, Works}
-use Rattle.ept_conn.specs.Whole.{HasTiles, HasPoints, IsWholeFor, IsWhole, HasMadePlan, HasPlanIfOpen, HasFound, HasTilesDone}
+use Rattle.ept_conn.specs.Whole.{HasTiles, IsWholeFor, IsWhole, HasPlanIfOpen, HasFound, HasTilesDone}
 use Rattle.ept_conn.specs.Ends.{has_last}
 use Rattle.ept_conn.specs.History.{Goes}
 use Rattle.ept_conn.proofs.Wanted.{wants-answer}

@@ -1,5 +1,5 @@
 -- Where a plan is there, or a tile, nothing that it needs is damaged.
-use Rattle.std.proofs.Common.{◌≡◌, ℕ, List, Option, Some, refl, subst}
+use Rattle.std.proofs.Common.{ℕ, List, Option, Some, refl, subst}
 use Rattle.ept_base.specs.Files.{Files}
 use Rattle.ept_point.specs.declared.point.Point.{Point}
 use Rattle.ept_point.specs.Packed.{tile}

@@ -4,7 +4,7 @@ use Rattle.ept_space.specs.declared.box3.Box3.{Box3}
 use Rattle.ept_http.specs.declared.asked.Asked.{Asked}
 use Rattle.ept_http.specs.declared.asked.Asked.TheVariants.{File, Query, Select, Refuse}
 use Rattle.ept_conn.specs.Answers.{Served, query_answer, answer_to}
-use Rattle.ept_conn.specs.Wanted.{Wanted, wanted, Wants}
+use Rattle.ept_conn.specs.Wanted.{Wanted, Wants}
 
 -- the answer to what is wanted
 answer_of : Served → Asked → Bool → Option Wanted → List ℕ

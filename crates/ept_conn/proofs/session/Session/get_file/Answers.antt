@@ -1,7 +1,6 @@
 use Rattle.std.proofs.Common.{◌≡◌, ◌∙◌, ◌⊎◌, inr, refl, ap}
 use Rattle.std.specs.Prelude.{Err}
 use Rattle.ept_conn.specs.declared.end.Fault.TheVariants as fault
-use Rattle.ept_conn.specs.State.{State}
 use Rattle.ept_conn.proofs.LastWords.{stops-as, stops-alone}
 use Rattle.ept_conn.proofs.session.Session.get_file.Goals as goal
 
