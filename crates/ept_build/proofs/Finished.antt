@@ -150,12 +150,15 @@ module _ (same_sound : SameIsSound) (all start now : Files) (config : Config) (v
     scans = scans;
   }
 
--- the checkpoint of a finished folder has all points of all inputs
-pub done-all : CurrentIsOne → DoneIsPublished → (all start : Files) (config : Config) (current : Current) (plan : Plan) → IsPlan config current plan → HasCurrent current start → IsSound all start → IsDoneAlready config start → HasAll plan current
-done-all one published all start config current plan is has sound done = record {
-  inserted = at current is has (published all start current has sound done.done) no_more;
-  inputs = no_more;
-}
+-- the checkpoint of a finished folder has all points of all inputs, and no tiles of the old layout
+pub done-all : CurrentIsOne → DoneIsPublished → (all start : Files) (config : Config) (current : Current) (plan : Plan) → IsPlan config current plan → HasCurrent current start → IsSound all start → IsDoneAlready config start → HasAll plan current × ¬ IsOfLayout Old current
+done-all one published all start config current plan is has sound done = (
+  record {
+    inserted = at current is has (published all start current has sound done.done) no_more;
+    inputs = no_more;
+  },
+  subst (λ (w : Current). ¬ IsOfLayout Old w) (one start done.current current done.has_current has) done.newest,
+)
   where
     no_more : inputs_by current ≡ length plan.kept.inputs
     no_more = ap inputs_by (one start current done.current has done.has_current) ∙ (done.no_more ∙ ap (λ (w : List Input). length w) (sym is.kept_is.inputs_is))
@@ -189,12 +192,13 @@ done-scan one published all start config current has sound done =
         let scan : IsScan all config.scale (Some c.kept.bounds) c.kept.inputs 0 of.0 found = subst (λ (k : ℕ). IsScan all k (Some c.kept.bounds) c.kept.inputs 0 of.0 found) kept_is.scale_is of.2 in
         (of.0, found, subst (λ (w : List Input). IsScan all config.scale (Some c.kept.bounds) w 0 of.0 found) kept_is.inputs_is scan)
 
--- where it has all points of all inputs and the done gate is open, nothing is to be done
-pub already-done : (config : Config) (start : Files) (current : Current) (plan : Plan) → IsPlan config current plan → HasCurrent current start → HasAll plan current → IsDone start → IsDoneAlready config start
-already-done config start current plan is has all done = record {
+-- where it has all points of all inputs and no tiles of the old layout, and the done gate is open, nothing is to be done
+pub already-done : (config : Config) (start : Files) (current : Current) (plan : Plan) → IsPlan config current plan → HasCurrent current start → HasAll plan current → IsDone start → ¬ IsOfLayout Old current → IsDoneAlready config start
+already-done config start current plan is has all done newest = record {
   done = done;
   current = current;
   has_current = has;
   goes_on = is.goes_on;
   no_more = all.inputs ∙ ap (λ (w : List Input). length w) is.kept_is.inputs_is;
+  newest = newest;
 }

@@ -4,6 +4,7 @@ use Rattle.std.specs.declared.alloc.Global.{Global}
 use Rattle.ept_base.specs.Devices.{counts_on}
 use Rattle.ept_base.specs.Files.{Files}
 use Rattle.ept_base.specs.Moves.{IsSettled}
+use Rattle.ept_point.specs.declared.layout.Layout.TheVariants.{Old}
 use Rattle.ept_point.specs.declared.point.Point.{Point}
 use Rattle.ept_sample.specs.Nodes.{sampled}
 use Rattle.ept_config.specs.declared.config.Config.{Config}
@@ -26,6 +27,7 @@ use Rattle.ept_save.specs.Current.{Current, HasCurrent}
 use Rattle.ept_save.specs.Done.{IsDone}
 use Rattle.ept_save.specs.Loading.{IsDamaged}
 use Rattle.ept_save.specs.Sound.{IsSound}
+use Rattle.ept_save.specs.Tiles.{IsOfLayout}
 use Rattle.ept_save.specs.View.{View}
 use Rattle.ept_phase.specs.Loaded.{HasSlot}
 use Rattle.ept_plan.specs.declared.plan.Plan.{Plan}
@@ -92,13 +94,14 @@ pub record IsUnderWay (all : Files) (config : Config) (start files : Files) : Ty
   pub has_current : HasCurrent current start
   pub either : HasCurrent current files ⊎ HasContinued all config current files
 
--- the done gate is open, and the current checkpoint has all inputs of the configuration, with what is kept of it
+-- the done gate is open, and the current checkpoint has all inputs of the configuration, with what is kept of it, and no tiles of the old layout
 pub record IsDoneAlready (config : Config) (start : Files) : Type 0 where
   pub done : IsDone start
   pub current : Current
   pub has_current : HasCurrent current start
   pub goes_on : GoesOn config current
   pub no_more : inputs_by current ≡ length config.inputs
+  pub newest : ¬ IsOfLayout Old current
 
 -- the files of a room were asked to keep something, as far as its count tells, at least as often as there are nodes past those that may be in memory
 abbrev pub HasKeptBut : ℕ → ℕ → ℕ → ℕ → Type 0

@@ -15,7 +15,9 @@ ghost use Rattle.ept_save.specs.Current.{Current, HasCurrent};
 ghost use Rattle.ept_save.specs.Done.{IsDone};
 ghost use Rattle.ept_save.specs.Loading.{IsDamaged};
 ghost use Rattle.ept_save.specs.Opening.{IsBad};
+ghost use Rattle.ept_save.specs.Tiles.{IsOfLayout};
 ghost use Rattle.ept_save.specs.View.{StandsFor};
+ghost use Rattle.ept_point.specs.declared.layout.Layout.TheVariants.{Old};
 ghost use Rattle.ept_phase.specs.Loaded.{HasSlot, IsFirstDamaged};
 ghost use Rattle.ept_meta.specs.declared.fields.Field.{Field};
 ghost use Rattle.ept_plan.specs.Plans.{IsPlan, IsDefinite, GoesOn, DiffersBy};
@@ -29,7 +31,7 @@ use crate::error::BuildError;
 use crate::finishing::finish;
 use crate::growing::{grow, has_all};
 use crate::progress::{Progress, Stopped};
-use crate::starting::{lines_in, start, take_up};
+use crate::starting::{is_old, lines_in, start, take_up};
 use crate::summary::Summary;
 use ept_base::{Gate, Room, Shelf, SpillFile, Store};
 use ept_config::Config;
@@ -53,7 +55,7 @@ use std::thread::Threads;
 /// It goes on from the current checkpoint of the store: the inputs that this has are not read again but for the
 /// records that are not inserted yet, and after each `checkpoint` records the octree is the next checkpoint. The
 /// done gate is closed meanwhile, and opened once all files of the output are stable. Where the current checkpoint
-/// has all inputs and the gate is open, nothing is put.
+/// has all inputs and no tiles of the old layout, and the gate is open, nothing is put.
 ///
 /// If the tiles of the current checkpoint are of the old layout, the first checkpoint of the build has the same points in
 /// tiles of the new one.
@@ -164,20 +166,23 @@ where
     answer
 }
 
-// Whether nothing is to be done: the current checkpoint has all points of all inputs, and the done gate is open.
+// Whether nothing is to be done: the current checkpoint has all points of all inputs and no tiles of the old layout, and
+// the done gate is open.
 fn is_finished<T: Store>(
     alloc: Global,
     store: &mut T,
     saved: &Saved,
     plan: &Plan,
 ) -> Result<bool, BuildError>
-    ensures finished { result ≡ Ok true → HasAll plan.now saved.now.current × Tells IsDone (T.files store.old) }
-    ensures not { result ≡ Ok false → HasAll plan.now saved.now.current → Tells (λ all. ¬ IsDone all) (T.files store.old) }
+    ensures finished { result ≡ Ok true
+        → HasAll plan.now saved.now.current × Tells IsDone (T.files store.old) × ¬ IsOfLayout Old saved.now.current }
+    ensures not { result ≡ Ok false → HasAll plan.now saved.now.current → ¬ IsOfLayout Old saved.now.current
+        → Tells (λ all. ¬ IsDone all) (T.files store.old) }
     ensures any_moment { Moves T.files T.may_leave T.moment T.image_since SameFiles store.old store.new }
     ensures only { IfErr result IsStoreFault }
     ensures stores { HasCauseOf BuildError.StoreFault (T.faults store.old) (T.faults store.new) result }
 {
-    if !has_all(saved, plan) {
+    if is_old(saved) || !has_all(saved, plan) {
         return Ok(false);
     }
     Ok(is_done(alloc, store)?)

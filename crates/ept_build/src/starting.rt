@@ -241,7 +241,7 @@ fn renew<T: Store>(alloc: Global, store: &mut T, saved: &mut Saved) -> Result<()
 }
 
 // Whether the tiles of the current checkpoint are of the old layout.
-fn is_old(saved: &Saved) -> bool
+pub(crate) fn is_old(saved: &Saved) -> bool
     ensures { IsTrue result ↔ IsOfLayout Old saved.now.current }
 {
     match saved.current() {

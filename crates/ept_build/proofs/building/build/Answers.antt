@@ -198,7 +198,7 @@ returns-clause-done_already g c = λ all start begins done.
     let cur = told_some (HasCurrent c.in_ok-saved.saved.current) (g.T.Store.files c.args.store.now) start begins.told c.in_ok-saved.ensures.current in
     let has = done-all c.sound_law.ensures.one c.sound_law.ensures.published all start c.args.config.now c.in_ok-saved.saved.current c.in_ok-plan.plan c.in_ok-plan.ensures.plan cur begins.sound done in
     let at_one = stepped SameFiles (g.T.Store.files c.args.store.now) (g.T.Store.files c.open.new.store) start begins.told c.open.ensures.any_moment.reads in
-    let undone = told_some (λ f. ¬ IsDone f) (g.T.Store.files c.open.new.store) at_one.0 at_one.1 (c.in_ok-is_finished.ensures.not (ap (λ (b : Bool). Ok b) c.if-branch.false) has) in
+    let undone = told_some (λ f. ¬ IsDone f) (g.T.Store.files c.open.new.store) at_one.0 at_one.1 (c.in_ok-is_finished.ensures.not (ap (λ (b : Bool). Ok b) c.if-branch.false) has.0 has.1) in
     absurd (undone (at_one.2 done_name ∙ done.done))
 
 pub returns-clause-done_comes : goal.returns-clause-done_comes
@@ -206,7 +206,7 @@ returns-clause-done_comes g c = λ all start begins done.
     let cur = told_some (HasCurrent c.in_ok-saved.saved.current) (g.T.Store.files c.args.store.now) start begins.told c.in_ok-saved.ensures.current in
     let has = done-all c.sound_law.ensures.one c.sound_law.ensures.published all start c.args.config.now c.in_ok-saved.saved.current c.in_ok-plan.plan c.in_ok-plan.ensures.plan cur begins.sound done in
     let at_one = stepped SameFiles (g.T.Store.files c.args.store.now) (g.T.Store.files c.open.new.store) start begins.told c.open.ensures.any_moment.reads in
-    let undone = told_some (λ f. ¬ IsDone f) (g.T.Store.files c.open.new.store) at_one.0 at_one.1 (c.in_ok-is_finished.ensures.not (ap (λ (b : Bool). Ok b) c.if-branch.false) has) in
+    let undone = told_some (λ f. ¬ IsDone f) (g.T.Store.files c.open.new.store) at_one.0 at_one.1 (c.in_ok-is_finished.ensures.not (ap (λ (b : Bool). Ok b) c.if-branch.false) has.0 has.1) in
     absurd (undone (at_one.2 done_name ∙ done.done))
 
 pub returns-clause-refused : goal.returns-clause-refused
@@ -487,7 +487,7 @@ returns-in_err-at-clause-done_comes g c = λ all start begins done.
     let cur = told_some (HasCurrent c.in_ok-saved.saved.current) (g.T.Store.files c.args.store.now) start begins.told c.in_ok-saved.ensures.current in
     let has = done-all c.sound_law.ensures.one c.sound_law.ensures.published all start c.args.config.now c.in_ok-saved.saved.current c.in_ok-plan.plan c.in_ok-plan.ensures.plan cur begins.sound done in
     let at_one = stepped SameFiles (g.T.Store.files c.args.store.now) (g.T.Store.files c.open.new.store) start begins.told c.open.ensures.any_moment.reads in
-    let undone = told_some (λ f. ¬ IsDone f) (g.T.Store.files c.open.new.store) at_one.0 at_one.1 (c.in_ok-is_finished.ensures.not (ap (λ (b : Bool). Ok b) c.if-branch.false) has) in
+    let undone = told_some (λ f. ¬ IsDone f) (g.T.Store.files c.open.new.store) at_one.0 at_one.1 (c.in_ok-is_finished.ensures.not (ap (λ (b : Bool). Ok b) c.if-branch.false) has.0 has.1) in
     absurd (undone (at_one.2 done_name ∙ done.done))
 
 pub returns-in_err-at-clause-early : goal.returns-in_err-at-clause-early
@@ -610,7 +610,7 @@ returns-then-branch-clause-kept g c = λ start told not_done.
     let finished = c.in_ok-is_finished.ensures.finished (ap (λ (b : Bool). Ok b) c.if-branch.true) in
     let at_one = stepped SameFiles (g.T.Store.files c.args.store.now) (g.T.Store.files c.open.new.store) start told c.open.ensures.any_moment.reads in
     let opened = told_some IsDone (g.T.Store.files c.open.new.store) at_one.0 at_one.1 finished.1 in
-    absurd (not_done (already-done c.args.config.now start c.in_ok-saved.saved.current c.in_ok-plan.plan c.in_ok-plan.ensures.plan cur finished.0 (sym (at_one.2 done_name) ∙ opened)))
+    absurd (not_done (already-done c.args.config.now start c.in_ok-saved.saved.current c.in_ok-plan.plan c.in_ok-plan.ensures.plan cur finished.0 (sym (at_one.2 done_name) ∙ opened) finished.2))
 
 pub returns-clause-kept : goal.returns-clause-kept
 returns-clause-kept g c = λ start told not_done.
