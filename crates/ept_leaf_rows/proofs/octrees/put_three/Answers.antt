@@ -1,4 +1,4 @@
-use Rattle.std.proofs.Common.{◌≡◌, ◌∙◌, ℕ, refl, ap, arith}
+use Rattle.std.proofs.Common.{◌≡◌, ◌∙◌, inr, ℕ, refl, ap, arith}
 use Rattle.ept_space.specs.declared.cube.Rules.{Rules}
 use Rattle.ept_space.specs.VoxelKey.{VoxelKey, root, child}
 use Rattle.ept_leaf_rows.proofs.octrees.put_three.Goals as goal
@@ -9,6 +9,9 @@ depth_below o = refl
 
 deep : (key : VoxelKey) → key.depth ≡ 1 → key ≡ root → ⊥
 deep key one is = let none : key.depth ≡ 0 = ap (λ (k : VoxelKey). k.depth) is in omega (arith, one, none)
+
+pub add-requires-clause-free : goal.add-requires-clause-free
+add-requires-clause-free g c = inr (refl, c.requires.alone.0, c.requires.alone.1, c.requires.alone.2)
 
 pub add-requires-2-clause-low : goal.add-requires-2-clause-low
 add-requires-2-clause-low g c =
