@@ -31,8 +31,9 @@ commit-requires-clause-valid c =
     (next-valid now.current last line new now.lines is c.requires.fresh only.0 only.1 (sym only.2) (sym only.3) refl)
 
 pub save_tile-requires : goal.save_tile-requires
-save_tile-requires c =
-    subst (λ (w : Current). ¬ IsOfLayout Old w) (sym (ap (λ (v : View). v.current) c.in_ok-begin.ensures.begun)) c.requires.newest
+save_tile-requires c = record {
+  newest = subst (λ (w : Current). ¬ IsOfLayout Old w) (sym (ap (λ (v : View). v.current) c.in_ok-begin.ensures.begun)) c.requires.newest;
+}
 
 pub commit-requires-clause-newest : goal.commit-requires-clause-newest
 commit-requires-clause-newest c =

@@ -14,6 +14,8 @@ use Rattle.ept_save.specs.Current.{Current}
 use Rattle.ept_save.specs.Opening.{lines_of}
 use Rattle.ept_table.specs.Octree.{Branch}
 use Rattle.ept_octree.specs.Octree.{nodes_of}
+use Rattle.ept_phase.specs.Lines.{TellNodes}
+use Rattle.ept_phase.specs.Loaded.{OfCurrent}
 use Rattle.ept_phase.specs.Phase.{AreGiven}
 use Rattle.ept_phase.specs.Saving.{keys_in}
 use Rattle.ept_phase.proofs.Telling.{member-among}
@@ -41,6 +43,33 @@ lines_in (Some (letter, c)) = refl
 its_nodes : (c : Checkpoint) → nodes_in (Some c) ≡ c.nodes
 unfolding nodes_in
 its_nodes c = refl
+
+-- what is there instead
+or_else : {A : Type 0} → A → Option A → A
+or_else given None = given
+or_else given (Some found) = found
+
+none-is-none : {A : Type 0} (last : A) → None ≡ Some last → ⊥
+none-is-none last is = absurd cc
+
+-- what is known of what is there
+known : {A : Type 0} (fact : A → Type 0) (a last : A) → Some a ≡ Some last → fact a → fact last
+unfolding or_else
+known fact a last is of = subst fact (ap (or_else a) is) of
+
+-- what is known of the current checkpoint
+of-current : (current : Current) (fact : Checkpoint → Type 0) (last : Checkpoint) → option_map (λ (at : Letter × Checkpoint). at.1) current ≡ Some last → OfCurrent current fact → fact last
+of-current None fact last is of = absurd (none-is-none last is)
+of-current (Some (letter, c)) fact last is of = known fact c last is of
+
+pub save_octree-requires-clause-holds : goal.save_octree-requires-clause-holds
+save_octree-requires-clause-holds g c =
+    let second : Checkpoint = c.in-Some-Some.second.now in
+    let nodes : List Branch = nodes_of g.F.SpillFile.held c.load_octree.new.octree in
+    let is : option_map (λ (at : Letter × Checkpoint). at.1) c.args.next.now.current ≡ Some second = search rules in
+    let told : TellNodes nodes second.nodes = of-current c.args.next.now.current (λ (d : Checkpoint). TellNodes nodes d.nodes) second is c.in_ok-load_octree.ensures.told in
+    let counted = (c.lines_law.ensures.told nodes second.nodes told c.in_ok-load_octree.ensures.whole).counted in
+    sym counted ∙ second.is_checkpoint.nodes_are.counted
 
 pub save_octree-requires-clause-each : goal.save_octree-requires-clause-each
 save_octree-requires-clause-each g c =

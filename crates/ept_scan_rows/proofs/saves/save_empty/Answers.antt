@@ -6,5 +6,6 @@ use Rattle.ept_save.specs.View.{View}
 use Rattle.ept_scan_rows.proofs.saves.save_empty.Goals as goal
 
 pub save_tile-requires : goal.save_tile-requires
-save_tile-requires c =
-    subst (λ (w : Current). ¬ IsOfLayout Old w) (sym (ap (λ (v : View). v.current) c.in_ok-begin.ensures.begun)) c.requires
+save_tile-requires c = record {
+  newest = subst (λ (w : Current). ¬ IsOfLayout Old w) (sym (ap (λ (v : View). v.current) c.in_ok-begin.ensures.begun)) c.requires;
+}
