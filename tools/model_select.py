@@ -74,9 +74,13 @@ def select(files, area, depths, sift):
     return status, sifted(points, sift)[0], damaged
 
 
+# how `struct` packs a point: its dimensions in order
+FORM = "iiiHBBBBBBBbhBH8sHHHIQ"
+
+
 def plain_filter(files, area, depths, sift):
     """The same on a complete folder, by a look at each field of each point: what a selection has to give there."""
-    fields = struct.Struct("<iiiHBBBBBBBbhBH8sHHHII")
+    fields = struct.Struct("<" + FORM)
     found = b""
     for packed in fields.iter_unpack(model_query.plain_filter(files, area, depths)):
         named = dict(zip(NAMES, packed))
@@ -87,4 +91,4 @@ def plain_filter(files, area, depths, sift):
 
 def form_of(name):
     """How Python's `struct` packs a dimension."""
-    return re.findall(r"\d*[a-zA-Z]", "iiiHBBBBBBBbhBH8sHHHII")[NAMES.index(name)]
+    return re.findall(r"\d*[a-zA-Z]", FORM)[NAMES.index(name)]
