@@ -1,5 +1,5 @@
 #!/usr/bin/env python3
-"""Draws a small Entwine Point Tile folder as an SVG: which points stand at which depth.
+"""Draws a small Entwine Point Tile folder as an SVG: which points are at which depth.
 
 Usage: examples/draw.py OUT PICTURE.svg
        examples/draw.py OUT PICTURE.svg --classes LAST      the depths up to LAST, each point in the colour of its class

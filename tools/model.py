@@ -1,7 +1,7 @@
-"""A second implementation of a build, for the checks that stand outside the gate.
+"""A second implementation of a build, for the checks of the built program.
 
-It follows docs/FORMATS.md, the defaults in docs/USE.md and the rules of the sampling, and shares nothing with the
-program: it takes all points of a node at once, from the root down. It is slow, and holds all in memory.
+It follows docs/FORMATS.md, the defaults in docs/USE.md and the rules of the sampling. It shares nothing with the
+program, and takes all points of a node at once, from the root down. It is slow, and holds all in memory.
 
 `PROGRAM` is the program that the checks run: the one that `./ept` builds, or the path in EPT_TOOL.
 """

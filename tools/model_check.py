@@ -1,7 +1,7 @@
 """A second implementation of the checker: what `check OUT` reports of any folder, whole or damaged.
 
-A folder is judged by the build file and the hierarchy, which are read as a query of all points reads them, and by the
-tiles. The tile of a node is read before those of its children, and these by octant. What is wrong with a node is the
+A folder is judged by the build file, the hierarchy and the tiles. The first two are read as a query of all points reads
+them. The tile of a node is read before those of its children, and these by octant. What is wrong with a node is the
 first line of this table that applies:
 
 | Number | What is wrong |
@@ -9,7 +9,7 @@ first line of this table that applies:
 | 1 | it is not the root, and its parent is no node; this is looked for in all keys, in key order, before any tile |
 | 2 | a point lies outside the box of the node |
 | 3 | a point is not the best one of its cell, and lies in an octant whose child is a node |
-| 4 | of an octant whose child is no node there are more such points than may stay, above the greatest depth |
+| 4 | an octant whose child is no node has more such points than may stay, above the greatest depth |
 | 6 | a node above has no point in the cell of a point of this node that is better |
 | 7 | a child and the nodes below it have no more points, by the hierarchy, than may stay in a node |
 | 8 | it is not the root, and has no point |

@@ -1,8 +1,12 @@
 """A second implementation of connections: what `ept_server` sends for the bytes that came, over any folder.
 
 It follows docs/FORMATS.md ("Requests and responses"). What is the head of a request is the grammar of RFC 9112 as the
-crate `httparse` takes it at its defaults: empty lines before the first, lines that end in CR LF or in LF alone, a target
-of visible bytes and bytes past ASCII that is UTF-8 as a whole, and no space before the colon of a field.
+crate `httparse` takes it at its defaults:
+
+- empty lines before the first;
+- lines that end in CR LF or in LF alone;
+- a target of visible bytes and bytes past ASCII that is UTF-8 as a whole;
+- no space before the colon of a field.
 """
 
 import re
@@ -96,7 +100,7 @@ def judged(data):
     return asked, asked in CLOSING or closes(fields)
 
 
-# ---- answers
+# ---- responses
 
 def answer_head(status, kind, last, length):
     """The head of an answer; a length of None is a body in chunks."""

@@ -1,9 +1,13 @@
 """A second implementation of queries and selections: what `query OUT BOX DEPTHS` and `select OUT BOX DEPTHS CLASSES TIME
-DIMS` answer on any folder, whole or damaged.
+DIMS` write for any folder, whole or damaged.
 
-It follows docs/FORMATS.md: the done gate, then `ept-build.json`, then each hierarchy file that a link leads to and
-whose root's box meets the area, in key order, then each tile in the depths whose box meets the area, in key order.
-The first of these files that is absent or not of its form is the one that is damaged.
+It follows docs/FORMATS.md. The files are, in this order:
+
+- the done gate, then `ept-build.json`;
+- each hierarchy file that a link leads to and whose root's box meets the area, in key order;
+- each tile in the depths whose box meets the area, in key order.
+
+The first of these files that is missing or malformed is the one that is damaged.
 """
 
 import heapq

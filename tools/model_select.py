@@ -1,7 +1,7 @@
 """A second implementation of selections: what `select OUT BOX DEPTHS CLASSES TIME DIMS` writes on any folder.
 
-It follows docs/FORMATS.md and the plan of tools/model_query.py: the points of the query that pass, each as the bytes of
-the dimensions that are asked for, in that order.
+It follows docs/FORMATS.md and the plan of tools/model_query.py. It writes the points of the query that pass, each as the
+bytes of the dimensions that are asked for, in that order.
 """
 
 import re

@@ -1,9 +1,9 @@
 """A second implementation of the work files: checkpoints, which one is current, and what a build leaves of a folder.
 
 It follows docs/FORMATS.md ("The work files", "The body of a checkpoint"). A folder is a dictionary from names to
-bytes. `current` finds the current checkpoint, `soundness` tells what of a folder can't be, `build_on` tells what a
-build on a sound folder answers and leaves. A body of version 1 names tiles of the old layout, in which the number of a
-record has four bytes; a build takes such a checkpoint over before its first phase.
+bytes. `current` finds the current checkpoint. `soundness` says what is wrong with a folder. `build_on` returns what a
+build on a sound folder returns and leaves. A body of version 1 names tiles of the old layout, in which the number of a
+record has four bytes. A build takes such a checkpoint over before its first phase.
 """
 
 import struct

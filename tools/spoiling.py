@@ -1,7 +1,8 @@
 """Folders with one thing spoiled, for tools/compare: what a check has to find.
 
-A folder is a dictionary from names to bytes. Each way of spoiling takes a folder that a build left, and gives what becomes
-of some of its files, None where one is to be absent; or no change, if the folder has nothing of the kind.
+A folder is a dictionary from names to bytes. Each way of spoiling takes a folder that a build left. It returns the new
+bytes of some of its files, or None for a file that is to be missing. It returns no change if the folder has nothing of
+the kind.
 """
 
 import json

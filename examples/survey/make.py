@@ -1,10 +1,10 @@
 #!/usr/bin/env python3
 """Writes the four scans of the survey example, from formulas alone.
 
-Usage: examples/survey/make.py        (writes beside itself)
+Usage: examples/survey/make.py        (writes next to itself)
 
 Two flights of format 3 (LAS 1.2, GPS time and colour) and two of format 7 (LAS 1.4) cover a field of 200 by
-200 metres, a quarter each with an overlap. The first two hold coordinates in centimetres from the corner of the
+200 metres. Each covers a quarter, with an overlap. The first two hold coordinates in centimetres from the corner of the
 field; the last two in decimetres from their own corner. Their headers say so, with offsets, scales, extents and
 the reference system, as any reader of LAS files takes them.
 """
