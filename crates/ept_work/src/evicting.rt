@@ -68,7 +68,7 @@ impl<F: SpillFile, S: Source> Worker<F, S> {
     }
 
     // Lets the node whose turn it is go to its file, if it is free and in memory, and keeps its permit. Answers whether it
-    // has gone.
+    // has gone. Its lists are given up: a node that came back in them would keep their room, however few points it has.
     fn evict<J: Scan>(
         &mut self,
         alloc: Global,
@@ -95,6 +95,7 @@ impl<F: SpillFile, S: Source> Worker<F, S> {
             node_in(item),
         );
         let _done = table.give(&mut self.seat, slot, Item::Node(node), Done::Nothing);
+        self.workspace = Workspace::new(alloc);
         Ok(answer?)
     }
 }

@@ -142,7 +142,8 @@ impl<F: SpillFile, S: Source> Worker<F, S> {
         }
     }
 
-    // Takes a permit for the node of a slot, unless that is seen in memory. Answers whether it did.
+    // Takes a permit for the node of a slot, unless that is seen in memory, or with another worker, who has a permit for it.
+    // Answers whether it did.
     fn permit_for<H: Wait, J: Scan>(
         &mut self,
         rt: &H,
@@ -161,7 +162,7 @@ impl<F: SpillFile, S: Source> Worker<F, S> {
         ensures no_permit { OnErr result (spare_of (view (seat_of self.new)) ≡ spare_of (view (seat_of self.old))) }
         ensures refused { IfErr result (IsVisitCause J.told (knows F.held S.whole self.new)) }
     {
-        if table.is_resident(slot) {
+        if table.is_resident(slot) || table.is_held(slot) {
             return Ok(false);
         }
         self.take_permit(rt, alloc, table)?;
