@@ -14,3 +14,4 @@ mod Undamaged
 mod Complete
 mod Deciding
 mod Answered
+pub mod Getting

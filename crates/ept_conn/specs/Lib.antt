@@ -16,3 +16,4 @@ pub mod History
 pub mod SessionCalls
 pub mod Serving
 pub mod Conversation
+pub mod Got

@@ -134,11 +134,11 @@ GetsFor (asked.Query area first second) before now files = Tells (GetsFiles area
 GetsFor (asked.Select area first second sift) before now files = Tells (GetsFiles area first second before now) files
 GetsFor (asked.Refuse status) before now files = now ≡ before
 
--- none where a turn is decided, and at most one for a tile
+-- none where a turn is decided, and at most one for a tile, of which the plan has one more
 abbrev pub GetsIn : Hand → ℕ → ℕ → Option Files → Type 0
 GetsIn Empty before now files = now ≡ before
 GetsIn (Decided turn) before now files = GetsFor turn.asked before now files
-GetsIn (Tiles turn plan done) before now files = now ≤ before + 1
+GetsIn (Tiles turn plan done) before now files = (done < length plan.tiles) × (now ≤ before + 1)
 
 -- ---- refusals
 

@@ -13,6 +13,7 @@ ghost use Rattle.ept_conn.specs.Works.{HasPlanOf, IsDamagedIn, IsDamaged};
 ghost use Rattle.ept_conn.specs.Ends.{EndsWell};
 ghost use Rattle.ept_conn.specs.Serving.{IsServedOver};
 ghost use Rattle.ept_conn.specs.Conversation.{GoesOn, HasFailed, HasCauseFor, rank};
+ghost use Rattle.ept_conn.specs.Got.{GetsForRead, GetsOn};
 
 use crate::end::{End, Fault, Want};
 use crate::session::Session;
@@ -34,6 +35,10 @@ pub fn serve_link<L: Link, T: Store>(alloc: Global, link: &mut L, store: &mut T)
     // Where no device fails and no file is missing or damaged, the connection ends with its input or its last turn, or memory runs out.
     ensures well { (files : Files) (served : Served) → T.files store.old ≡ Some files → IsServed files served → L.wire link.old ≢ None
         → EndsWell result (Rose (L.faults link.old) (L.faults link.new)) (Rose (T.faults store.old) (T.faults store.new)) }
+
+    // No more files are got than the turns of the bytes that were read take, whatever the folder holds.
+    ensures gets { (files : Files) → T.files store.old ≡ Some files
+        → StepsBy (GetsForRead files (T.gets store.old) (T.gets store.new)) (L.wire link.old) (L.wire link.new) }
     ensures any_moment { Moves T.files T.may_leave T.moment T.image_since SameFiles store.old store.new }
 {
     let mut session = Session::new(alloc);
@@ -56,6 +61,9 @@ fn step<L: Link, T: Store>(
     ensures converses { (files : Files) → T.files store.old ≡ Some files → (served : Served) → IsSentOf files served
         → (before : ℕ) → before ≤ T.faults store.old
         → StepsBy (GoesOn served (Rose before (T.faults store.old)) (Rose before (T.faults store.new)) session.old session.new)
+        (L.wire link.old) (L.wire link.new) }
+    ensures gets { (files : Files) → T.files store.old ≡ Some files → (first : ℕ)
+        → StepsBy (GetsOn files first (T.gets store.old) (T.gets store.new) session.old session.new)
         (L.wire link.old) (L.wire link.new) }
     ensures end { IfSome result (λ ends. want_of session.new ≡ Want.End ends) }
     ensures falls { IfNone result (rank session.new < rank session.old) }
@@ -91,6 +99,8 @@ fn read_piece<L: Link>(session: &mut Session, link: &mut L, piece: &mut [u8])
     ensures converses { (served : Served) (before after : ℕ)
         → StepsBy (GoesOn served (Rose before after) (Rose before after) session.old session.new)
         (L.wire link.old) (L.wire link.new) }
+    ensures gets { (files : Files) (first now : ℕ)
+        → StepsBy (GetsOn files first now now session.old session.new) (L.wire link.old) (L.wire link.new) }
     ensures falls { rank session.new < rank session.old }
     ensures links { HasCauseFor Fault.Link session.old session.new (L.faults link.old) (L.faults link.new) }
     ensures no_store { session.new.fault ≢ Some Fault.Store }
@@ -110,6 +120,8 @@ fn write_out<L: Link>(session: &mut Session, link: &mut L)
     ensures converses { (served : Served) (before after : ℕ)
         → StepsBy (GoesOn served (Rose before after) (Rose before after) session.old session.new)
         (L.wire link.old) (L.wire link.new) }
+    ensures gets { (files : Files) (first now : ℕ)
+        → StepsBy (GetsOn files first now now session.old session.new) (L.wire link.old) (L.wire link.new) }
     ensures state { (session.new ≡ record session.old { out = [] })
         ⊎ (HasFailed session.old session.new × Rose (L.faults link.old) (L.faults link.new)) }
     ensures later { L.faults link.old ≤ L.faults link.new }
@@ -125,6 +137,8 @@ fn write_some<L: Link>(session: &mut Session, link: &mut L)
     ensures converses { (served : Served) (before after : ℕ)
         → StepsBy (GoesOn served (Rose before after) (Rose before after) session.old session.new)
         (L.wire link.old) (L.wire link.new) }
+    ensures gets { (files : Files) (first now : ℕ)
+        → StepsBy (GetsOn files first now now session.old session.new) (L.wire link.old) (L.wire link.new) }
     ensures state { ((count : ℕ) × (0 < count) × (session.new ≡ record session.old { out = drop count session.old.out }))
         ⊎ (HasFailed session.old session.new × Rose (L.faults link.old) (L.faults link.new)) }
     ensures later { L.faults link.old ≤ L.faults link.new }

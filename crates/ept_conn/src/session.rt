@@ -363,7 +363,7 @@ impl Session {
             → WorksOn served (Hand.Tiles turn plan done) self.old self.new }
         ensures one_step { self.new.fault ≡ None → IsOneStep (Hand.Tiles turn plan done) self.old self.new }
         ensures found { self.new.fault ≡ None → (files : Files) → T.files store.old ≡ Some files → HasFound files (Hand.Tiles turn plan done) self.new }
-        ensures gets { T.gets store.new ≤ T.gets store.old + 1 }
+        ensures gets { (done < length plan.tiles) × (T.gets store.new ≤ T.gets store.old + 1) }
         ensures either { (self.new.hand ≡ Hand.Empty) ⊎ (self.new.hand ≡ Hand.Tiles turn plan (done + 1)) }
         ensures closed { self.new.closed ≡ self.old.closed }
         ensures stops { IfSome self.new.fault (Stops (Hand.Tiles turn plan done) self.new) }

@@ -139,7 +139,7 @@ goes-on-clear state clear on fixed =
 -- ---- one more unit
 
 pub as-once : (now : Seen) → IsAs now now
-as-once now = record { wire = refl; later = omega arith; files = refl; store_faults = refl; state = refl }
+as-once now = record { wire = refl; later = omega arith; files = refl; store_faults = refl; gets = refl; state = refl }
 
 -- one more unit behind the others
 pub units-more : (calls : List SessionCall) (old mid new : Seen) (call : SessionCall) → AreUnits old calls mid → IsUnit mid call new → AreUnits old (calls ++ call ∷ []) new

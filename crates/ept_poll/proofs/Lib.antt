@@ -6,3 +6,4 @@ mod Answering
 mod Running
 mod Polling
 mod Calling
+mod Getting

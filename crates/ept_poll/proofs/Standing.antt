@@ -23,7 +23,7 @@ use Rattle.ept_poll.proofs.Passing.{read-passed, unread-passed, work-passed, wri
 -- ---- what is told
 
 -- a step leads from what is told before to what is told behind it
-tells-step : {X : Type 0} (R : X → X → Type 0) (P Q : X → Type 0) (old new : Option X) → StepsBy R old new → Tells P old → ((a b : X) → R a b → P a → Q b) → Tells Q new
+pub tells-step : {X : Type 0} (R : X → X → Type 0) (P Q : X → Type 0) (old new : Option X) → StepsBy R old new → Tells P old → ((a b : X) → R a b → P a → Q b) → Tells Q new
 tells-step R P Q None None step told f = tt
 tells-step R P Q None (Some b) step told f = absurd step
 tells-step R P Q (Some a) None step told f = tt
@@ -34,7 +34,7 @@ tells-weaker P Q None told f = tt
 tells-weaker P Q (Some a) told f = f a told
 
 -- the folder that is told is one
-same-told : (old new : Option Files) → StepsBy SameFiles old new → new ≡ old
+pub same-told : (old new : Option Files) → StepsBy SameFiles old new → new ≡ old
 same-told None None step = refl
 same-told None (Some b) step = absurd step
 same-told (Some a) None step = absurd step

@@ -37,6 +37,7 @@ seen link store conn = record {
   faults = link.faults conn.link;
   files = store.files conn.store;
   store_faults = store.faults conn.store;
+  gets = store.gets conn.store;
   state = conn.session;
 }
 

@@ -1,12 +1,13 @@
 -- Lists of polls of one connection. Each statement stands on the contract of a function of `laws`.
-use Rattle.std.specs.Prelude.{◌≡◌, List, [], ◌∷◌}
+use Rattle.std.specs.Prelude.{◌≡◌, List, [], ◌∷◌, Some}
 use Rattle.ept_base.specs.Causes.{Rose}
-use Rattle.ept_base.specs.Files.{Tells}
+use Rattle.ept_base.specs.Files.{Files, Tells}
 use Rattle.ept_base.specs.Links.{Wire}
 use Rattle.ept_conn.specs.declared.end.End.{End}
 use Rattle.ept_conn.specs.declared.end.Want.TheVariants as want
 use Rattle.ept_conn.specs.State.{started, want_of}
 use Rattle.ept_conn.specs.SessionCalls.{SessionCall}
+use Rattle.ept_conn.specs.Got.{GetsWithin}
 use Rattle.ept_poll.specs.Units.{Seen, IsAs, AreUnits}
 use Rattle.ept_poll.specs.Polls.{Told, Stands, IsFront, IsEndOver, IsReadAnswered}
 
@@ -41,6 +42,11 @@ AnswersAtReads =
 abbrev pub EndsAsServed : Type 0
 EndsAsServed =
     (polls : List (List SessionCall)) (old now : Seen) (ends : End) → IsNew old → HavePolled old polls now → want_of now.state ≡ want.End ends → Told now (IsEndOver (Rose old.store_faults now.store_faults) ends)
+
+-- no more files were got since it was made than the turns of the bytes that came take, whatever the folder holds
+abbrev pub GetsForTurns : Type 0
+GetsForTurns =
+    (polls : List (List SessionCall)) (old now : Seen) → IsNew old → HavePolled old polls now → (files : Files) → now.files ≡ Some files → Tells (λ wire. GetsWithin files old.gets wire.taken now.gets) now.wire
 
 -- so what the clauses of a poll ask for stands after any list of polls
 abbrev pub StandsOn : Type 0

@@ -8,13 +8,14 @@ use Rattle.ept_conn.specs.SessionCalls.{SessionCall}
 use Rattle.ept_poll.specs.declared.link.PollLink.{Ghosts as LinkOf}
 use Rattle.ept_poll.specs.Units.{Seen, IsAs, IsUnit}
 
--- what is seen of a link and of a session over it, beside what a store holds and how often it failed
-abbrev pub beside : {L : Type 0} → LinkOf L → L → State → Option Files → ℕ → Seen
-beside is link state files store_faults = record {
+-- what is seen of a link and of a session over it, beside what a store holds, how often it failed and how many files were got
+abbrev pub beside : {L : Type 0} → LinkOf L → L → State → Option Files → ℕ → ℕ → Seen
+beside is link state files store_faults gets = record {
   wire = is.wire link;
   faults = is.faults link;
   files = files;
   store_faults = store_faults;
+  gets = gets;
   state = state;
 }
 

@@ -10,17 +10,18 @@ use Rattle.ept_conn.specs.declared.end.Want.TheVariants as want
 use Rattle.ept_conn.specs.Answers.{Served}
 use Rattle.ept_conn.specs.Served.{IsSentOf}
 use Rattle.ept_conn.specs.State.{State, want_of, feeds}
-use Rattle.ept_conn.specs.Works.{IsPlanned, HasPlanOf, Works, IsOneStep, Stops, IsDamagedIn}
+use Rattle.ept_conn.specs.Works.{IsPlanned, HasPlanOf, Works, IsOneStep, GetsIn, Stops, IsDamagedIn}
 use Rattle.ept_conn.specs.Whole.{HasFound}
 use Rattle.ept_conn.specs.SessionCalls.{SessionCall, Fed, Worked, Sent, Failed}
 use Rattle.ept_poll.specs.Links.{ReadsOn}
 
--- what is seen of a connection: what its link tells and how often it failed, what its store holds and how often it failed, and its session
+-- what is seen of a connection: what its link tells and how often it failed, what its store holds, how often it failed and how many files were got, and its session
 pub record Seen : Type 0 where
   pub wire : Option Wire
   pub faults : ℕ
   pub files : Option Files
   pub store_faults : ℕ
+  pub gets : ℕ
   pub state : State
 
 -- nothing but the link's count of faults may have changed
@@ -29,6 +30,7 @@ pub record IsAs (old new : Seen) : Type 0 where
   pub later : old.faults ≤ new.faults
   pub files : new.files ≡ old.files
   pub store_faults : new.store_faults ≡ old.store_faults
+  pub gets : new.gets ≡ old.gets
   pub state : new.state ≡ old.state
 
 -- the link alone was called
@@ -36,6 +38,7 @@ pub record IsOverLink (old new : Seen) : Type 0 where
   pub later : old.faults ≤ new.faults
   pub files : new.files ≡ old.files
   pub store_faults : new.store_faults ≡ old.store_faults
+  pub gets : new.gets ≡ old.gets
 
 -- one piece of work was done over the store
 pub record IsOverStore (old new : Seen) : Type 0 where
@@ -47,6 +50,7 @@ pub record IsOverStore (old new : Seen) : Type 0 where
   pub one_step : new.state.fault ≡ None → IsOneStep old.state.hand old.state new.state
   pub found : new.state.fault ≡ None → (files : Files) → old.files ≡ Some files → HasFound files old.state.hand new.state
   pub plans : (files : Files) → old.files ≡ Some files → HasPlanOf files old.state.hand → HasPlanOf files new.state.hand
+  pub gets : GetsIn old.state.hand old.gets new.gets old.files
   pub closed : new.state.closed ≡ old.state.closed
   pub stops : IfSome new.state.fault (Stops old.state.hand new.state)
   pub damaged : (found : QueryFile) → new.state.fault ≡ Some (fault.Damaged found) → Tells (IsDamagedIn old.state.hand found) old.files

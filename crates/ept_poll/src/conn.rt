@@ -102,11 +102,11 @@ fn unit<L: PollLink, T: Store>(
     cx: &mut Context<'_>,
 ) -> Poll<Option<End>>
     ensures unit { IfReady result (λ ended. IsUnitOrEnd ended
-        (beside L.PollLink link.old session.old (T.files store.old) (T.faults store.old))
-        (beside L.PollLink link.new session.new (T.files store.new) (T.faults store.new))) }
+        (beside L.PollLink link.old session.old (T.files store.old) (T.faults store.old) (T.gets store.old))
+        (beside L.PollLink link.new session.new (T.files store.new) (T.faults store.new) (T.gets store.new))) }
     ensures waits { OnPending result (IsAs
-        (beside L.PollLink link.old session.old (T.files store.old) (T.faults store.old))
-        (beside L.PollLink link.new session.new (T.files store.new) (T.faults store.new))) }
+        (beside L.PollLink link.old session.old (T.files store.old) (T.faults store.old) (T.gets store.old))
+        (beside L.PollLink link.new session.new (T.files store.new) (T.faults store.new) (T.gets store.new))) }
     ensures why { OnPending result (IsWaitFor session.new
         (Rose (L.read_waits link.old) (L.read_waits link.new)) (Rose (L.write_waits link.old) (L.write_waits link.new))) }
     ensures armed { OnPending result (IsArmed cx.new) }
@@ -134,8 +134,8 @@ fn read_piece<L: PollLink>(
 ) -> Poll<Option<End>>
     requires { want_of session.old ≡ Want.Read }
     ensures none { IfReady result (λ ended. ended ≡ None) }
-    ensures unit { IfReady result (λ _. (files : Option Files) (faults : ℕ)
-        → IsSomeUnit (beside L.PollLink link.old session.old files faults) (beside L.PollLink link.new session.new files faults)) }
+    ensures unit { IfReady result (λ _. (files : Option Files) (faults gets : ℕ)
+        → IsSomeUnit (beside L.PollLink link.old session.old files faults gets) (beside L.PollLink link.new session.new files faults gets)) }
     ensures waits { OnPending result (Waits (L.read_waits link.old) (L.read_waits link.new) (L.wire link.old) (L.wire link.new) cx.new) }
     ensures same { OnPending result (session.new ≡ session.old) }
     ensures kept { Keeps cx.old cx.new }
@@ -165,8 +165,8 @@ fn write_some<L: PollLink>(
 ) -> Poll<Option<End>>
     requires { want_of session.old ≡ Want.Write }
     ensures none { IfReady result (λ ended. ended ≡ None) }
-    ensures unit { IfReady result (λ _. (files : Option Files) (faults : ℕ)
-        → IsSomeUnit (beside L.PollLink link.old session.old files faults) (beside L.PollLink link.new session.new files faults)) }
+    ensures unit { IfReady result (λ _. (files : Option Files) (faults gets : ℕ)
+        → IsSomeUnit (beside L.PollLink link.old session.old files faults gets) (beside L.PollLink link.new session.new files faults gets)) }
     ensures waits { OnPending result (Waits (L.write_waits link.old) (L.write_waits link.new) (L.wire link.old) (L.wire link.new) cx.new) }
     ensures same { OnPending result (session.new ≡ session.old) }
     ensures kept { Keeps cx.old cx.new }

@@ -1,13 +1,14 @@
 -- How many files the walk gets, and that it ends.
-use Rattle.std.proofs.Common.{◌≡◌, ◌+◌, ◌-◌, ◌*◌, ◌^◌, ◌<◌, ◌≤◌, inl, inr, ℕ, List, [], ◌∷◌, length, refl, sym, ap, subst, arith, Ordering, Less, Equal, Greater, true}
+use Rattle.std.proofs.Common.{◌≡◌, ◌+◌, ◌-◌, ◌*◌, ◌^◌, ◌<◌, ◌≤◌, ◌∙◌, ◌⊎◌, inl, inr, ℕ, List, [], ◌∷◌, length, take, get_or, refl, sym, ap, subst, arith, Ordering, Less, Equal, Greater, true}
 use Rattle.std.specs.List.{All, Contains}
 use Rattle.std.specs.Ordering.{is_eq, eq_by_cmp}
 use Rattle.std.proofs.lemmas.Cmp.{eq_by_cmp_equiv}
+use Rattle.std.proofs.lemmas.List.{length-take-le, get_or-take, get_or_default}
 use Rattle.std.proofs.lemmas.List.Elements.{All-head}
 use Rattle.std.proofs.lemmas.Map.Keys.{IsDistinct-from_apart}
 use Rattle.std.proofs.lemmas.Map.Made.{length-le_from_is_member}
 use Rattle.std.proofs.lemmas.Map.Views.{Contains-from_any, list_any-from_Contains}
-use Rattle.ept_space.specs.VoxelKey.{VoxelKey, IsKey, IsBefore, key_cmp, AreAscending}
+use Rattle.ept_space.specs.VoxelKey.{VoxelKey, IsKey, IsBefore, key_cmp, root, AreAscending}
 use Rattle.ept_space.proofs.KeyOrder.{key_cmp_total, key_cmp-less, key_cmp-equal}
 use Rattle.ept_space.proofs.KeyTexts.{index-small}
 
@@ -25,6 +26,44 @@ fewer keys most ascend each =
     length-le_from_is_member (eq_by_cmp_equiv key_cmp_total) keys most
     (IsDistinct-from_apart (eq_by_cmp key_cmp) keys (λ i j d less within. ap is_eq (ascend i j d less within)))
     (λ q member. list_any-from_Contains (eq_by_cmp_equiv key_cmp_total) q most (each q (Contains-from_any same-from q keys member)))
+
+-- so are those of them up to one of them
+module _ (keys most : List VoxelKey) (number : ℕ) (ascend : AreAscending keys) (within : number < length keys) where
+  front-size : length (take (number + 1) keys) ≡ number + 1
+  front-size = length-take-le (number + 1) keys (omega (arith, within))
+
+  front-at : (i : ℕ) (d : VoxelKey) → i < length (take (number + 1) keys) → get_or (take (number + 1) keys) i d ≡ get_or keys i d
+  front-at i d inside = get_or-take (number + 1) keys i d (omega (arith, inside, front-size))
+
+  front-ascends : AreAscending (take (number + 1) keys)
+  front-ascends i j d less inside =
+      let one : get_or (take (number + 1) keys) i d ≡ get_or keys i d = front-at i d (omega (arith, less, inside)) in
+      let two : get_or (take (number + 1) keys) j d ≡ get_or keys j d = front-at j d inside in
+      ap (λ (k : VoxelKey). key_cmp k (get_or (take (number + 1) keys) j d)) one
+      ∙ ap (λ (k : VoxelKey). key_cmp (get_or keys i d) k) two
+      ∙ ascend i j d less (omega (arith, inside, front-size, within))
+
+  -- each of them is that one or comes before it
+  front-to : (i : ℕ) (key : VoxelKey) → i < number + 1 → get_or keys i key ≡ key → (key ≡ get_or keys number root) ⊎ (key_cmp key (get_or keys number root) ≡ Less)
+  front-to i key inside is = either (below-or-at i number (omega (arith, inside)))
+    where
+      here : get_or keys i root ≡ key
+      here = get_or_default keys i root key (omega (arith, inside, within)) ∙ is
+
+      below-or-at : (n m : ℕ) → n ≤ m → (n < m) ⊎ (n ≡ m)
+      below-or-at n m le = grind (arith, le)
+
+      either : (i < number) ⊎ (i ≡ number) → (key ≡ get_or keys number root) ⊎ (key_cmp key (get_or keys number root) ≡ Less)
+      either (inl less) = inr (ap (λ (k : VoxelKey). key_cmp k (get_or keys number root)) (sym here) ∙ ascend i number root less within)
+      either (inr same) = inl (sym here ∙ ap (λ (n : ℕ). get_or keys n root) same)
+
+  pub few-up-to : ((key : VoxelKey) → Contains keys key → (key ≡ get_or keys number root) ⊎ (key_cmp key (get_or keys number root) ≡ Less) → Contains most key) → number + 1 ≤ length most
+  few-up-to each =
+      let count = fewer (take (number + 1) keys) most front-ascends (λ key has. (
+      let at : get_or keys has.0 key ≡ key = sym (front-at has.0 key has.1) ∙ has.2 in
+      let inside : has.0 < number + 1 = (let on = has.1 in omega (arith, on, front-size)) in
+      each key (has.0, omega (arith, inside, within), at) (front-to has.0 key inside at))) in
+      omega (arith, count, front-size)
 
 -- the place of a key in the order of all keys, as a number
 pub rank : VoxelKey → ℕ

@@ -3,6 +3,7 @@ mod Forms
 mod Noting
 mod Walking
 mod Counting
+pub mod PlanSize
 mod Told
 mod Plans
 mod Inside

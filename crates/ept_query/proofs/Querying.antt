@@ -1,14 +1,14 @@
 -- A whole query, from its plan and its tiles.
-use Rattle.std.proofs.Common.{◌≡◌, ◌∙◌, ◌+◌, ◌≤◌, ℕ, List, [], ◌∷◌, ◌++◌, length, refl, sym, ap, subst, inl, inr, arith, Option, Result, Ok, Err, Less, Equal, Greater, true, false}
+use Rattle.std.proofs.Common.{◌≡◌, ◌∙◌, ◌+◌, ◌<◌, ◌≤◌, ◌⊎◌, ℕ, List, [], ◌∷◌, ◌++◌, length, get_or, refl, sym, ap, subst, inl, inr, arith, Option, Result, Ok, Err, Less, Equal, Greater, true, false}
 use Rattle.std.specs.Prelude.{IfErr}
 use Rattle.std.specs.List.{AllZip}
 use Rattle.std.specs.Ordering.{ordering_reverse, is_lt}
-use Rattle.std.proofs.lemmas.List.{length-map}
+use Rattle.std.proofs.lemmas.List.{length-map, get_or-map}
 use Rattle.ept_base.specs.Files.{Files, SameFiles, StepsBy, Tells}
 use Rattle.ept_point.specs.declared.point.Point.{Point}
 use Rattle.ept_space.specs.declared.box3.Box3.{Box3}
-use Rattle.ept_space.specs.VoxelKey.{VoxelKey, IsBefore, key_cmp}
-use Rattle.ept_space.proofs.KeyOrder.{key_cmp_total, key_cmp-before, key_cmp-same}
+use Rattle.ept_space.specs.VoxelKey.{VoxelKey, IsBefore, root, key_cmp}
+use Rattle.ept_space.proofs.KeyOrder.{key_cmp_total, key_cmp-less, key_cmp-before, key_cmp-same}
 use Rattle.ept_config.specs.declared.kept.Kept.{Kept}
 use Rattle.ept_hier.specs.Hierarchy.{Node, keys_of}
 use Rattle.ept_sample.specs.Members.{IsMember}
@@ -24,11 +24,12 @@ use Rattle.ept_query.specs.Search.{search_of}
 use Rattle.ept_query.specs.Plan.{IsBuiltWith, IsPlanned}
 use Rattle.ept_query.specs.Damage.{HasTile, IsFirstTile, IsFirstDamaged}
 use Rattle.ept_query.specs.Parts.{Plan, IsPart}
-use Rattle.ept_query.specs.Planning.{IsPlanFor, GetsFiles, GetsAll}
-use Rattle.ept_query.specs.Refusals.{RefusesPlan, RefusesQuery}
-use Rattle.ept_query.specs.Writing.{WritesAll, WritesFront, WritesBefore, LeavesTiles}
+use Rattle.ept_query.specs.Planning.{IsPlanFor, GetsFiles, GetsAll, GetsUpTo}
+use Rattle.ept_query.specs.Refusals.{RefusesPlan, RefusesQuery, GetsBefore}
+use Rattle.ept_query.specs.Writing.{WritesAll, WritesFront, WritesBefore, LeavesTiles, GetsTo}
 use Rattle.ept_query.specs.Answers.{Selects, Stops, StopsAt, LeavesSelection}
-use Rattle.ept_query.proofs.Counting.{fewer}
+use Rattle.ept_query.proofs.Counting.{few-up-to}
+use Rattle.ept_query.proofs.PlanSize.{plan-size}
 use Rattle.ept_query.proofs.Told.{tells-from, told, told-back}
 use Rattle.ept_query.proofs.Written.{part-back, none-back}
 
@@ -72,6 +73,15 @@ plan-leaves sift area first last files old (Damaged (Tile key)) refused = absurd
 pub gets-none : (area : Box3) (first last : ℕ) (files : Option Files) (old new : ℕ) → Tells (GetsFiles area first last old new) files → Tells (GetsAll area first last old new) files
 gets-none area first last files old new few = tells-from (GetsAll area first last old new) files (λ all is needed planned each others. (
     let most = told (GetsFiles area first last old new) files all is few needed each in omega (arith, most)))
+
+pub plan-gets : (area : Box3) (first last : ℕ) (files : Option Files) (error : QueryError) (old new : ℕ) → RefusesPlan area first last files error → Tells (GetsFiles area first last old new) files → Tells (GetsBefore area first last old new error) files
+plan-gets area first last files NotComplete old new refused few = few
+plan-gets area first last files StoreFault old new refused few = gets-none area first last files old new few
+plan-gets area first last files SinkFault old new refused few = absurd refused
+plan-gets area first last files Memory old new refused few = gets-none area first last files old new few
+plan-gets area first last files (Damaged BuildJson) old new refused few = few
+plan-gets area first last files (Damaged (Hierarchy key)) old new refused few = few
+plan-gets area first last files (Damaged (Tile key)) old new refused few = absurd refused
 
 -- ---- a tile that is damaged is the first
 
@@ -162,14 +172,42 @@ module _ (sift : Option Sift) (area : Box3) (first last : ℕ) (plan : Plan) (ar
 
   pub gets-tiles : (old mid new : ℕ) → Tells (GetsFiles area first last old mid) before → new ≤ mid + length plan.tiles → Tells (GetsAll area first last old new) before
   gets-tiles old mid new few more = tells-from (GetsAll area first last old new) before (λ all is needed planned each others. (
+      let most = told (GetsFiles area first last old mid) before all is few needed each in
+      let count = plan-size area first last plan all (told (IsPlanFor area first last plan) before all is is_plan) planned others in
+      omega (arith, most, count, more)))
+
+  gets-up-to : (key : VoxelKey) (old mid new : ℕ) → Tells (GetsFiles area first last old mid) before → GetsTo plan key mid new → Tells (GetsUpTo area first last key old new) before
+  gets-up-to key old mid new few to = tells-from (GetsUpTo area first last key old new) before (λ all is needed planned each others. (
       let p = told (IsPlanFor area first last plan) before all is is_plan in
       let most = told (GetsFiles area first last old mid) before all is few needed each in
       let kept : Kept = p.build.0 in
       let built : IsBuiltWith all kept = p.build.1 in
       let made = p.tiles kept built in
-      let count : length (keys_of plan.tiles) ≤ length planned = fewer (keys_of plan.tiles) planned made.ascend (λ key has. (
-      let found = member-map (λ (n : Node). n.0) key plan.tiles (IsMember-contains key (keys_of plan.tiles) has) in
+      let keys : List VoxelKey = keys_of plan.tiles in
+      let size : length keys ≡ length plan.tiles = length-map plan.tiles (λ (n : Node). n.0) in
+      let within : to.number < length keys = (let inside = to.within in omega (arith, size, inside)) in
+      let at : get_or keys to.number root ≡ key = get_or-map (λ (n : Node). n.0) plan.tiles to.number (root, 0) root to.within ∙ to.key_is in
+      let count : to.number + 1 ≤ length planned = few-up-to keys planned to.number made.ascend within (λ other has up. (
+      let found = member-map (λ (n : Node). n.0) other plan.tiles (IsMember-contains other keys has) in
       let n : Node = found.0 in
-      others kept built key n.1 (subst (λ (k : VoxelKey). IsPlanned (search_of kept area first last) all k n.1) found.2 ((made.each n.0 n.1).0 (contains-IsMember n plan.tiles found.1))))) in
-      let size : length (keys_of plan.tiles) ≡ length plan.tiles = length-map plan.tiles (λ (n : Node). n.0) in
-      omega (arith, most, count, size, more)))
+      let is_planned = subst (λ (k : VoxelKey). IsPlanned (search_of kept area first last) all k n.1) found.2 ((made.each n.0 n.1).0 (contains-IsMember n plan.tiles found.1)) in
+      others kept built other n.1 is_planned (up-to other (get_or keys to.number root) key at up))) in
+      let last_few = to.few in
+      omega (arith, most, count, last_few)))
+    where
+      up-to : (other at key : VoxelKey) → at ≡ key → (other ≡ at) ⊎ (key_cmp other at ≡ Less) → (other ≡ key) ⊎ IsBefore other key
+      up-to other at key is (inl same) = inl (same ∙ is)
+      up-to other at key is (inr less) = inr (subst (IsBefore other) is (key_cmp-less other at less))
+
+  tiles-get : (old mid new : ℕ) (was then : Option (List ℕ)) (error : QueryError) → Tells (GetsFiles area first last old mid) before → new ≤ mid + length plan.tiles → LeavesTiles sift plan now was then error → ((key : VoxelKey) → error ≡ Damaged (Tile key) → GetsTo plan key mid new) → Tells (GetsBefore area first last old new error) before
+  tiles-get old mid new was then NotComplete few more left to = absurd left
+  tiles-get old mid new was then StoreFault few more left to = gets-tiles old mid new few more
+  tiles-get old mid new was then SinkFault few more left to = gets-tiles old mid new few more
+  tiles-get old mid new was then Memory few more left to = gets-tiles old mid new few more
+  tiles-get old mid new was then (Damaged BuildJson) few more left to = absurd left
+  tiles-get old mid new was then (Damaged (Hierarchy key)) few more left to = absurd left
+  tiles-get old mid new was then (Damaged (Tile key)) few more left to = gets-up-to key old mid new few (to key refl)
+
+  pub tiles-got : (old mid new : ℕ) (was then : Option (List ℕ)) (r : Result ℕ QueryError) → Tells (GetsFiles area first last old mid) before → new ≤ mid + length plan.tiles → IfErr r (LeavesTiles sift plan now was then) → ((key : VoxelKey) → r ≡ Err (Damaged (Tile key)) → GetsTo plan key mid new) → IfErr r (λ (e : QueryError). Tells (GetsBefore area first last old new e) before)
+  tiles-got old mid new was then (Ok count) few more left to = tt
+  tiles-got old mid new was then (Err error) few more left to = tiles-get old mid new was then error few more left (λ key is. to key (ap Err is))

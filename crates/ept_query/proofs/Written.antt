@@ -17,6 +17,7 @@ use Rattle.ept_space.specs.declared.box3.Box3.{Box3}
 use Rattle.ept_space.specs.VoxelKey.{VoxelKey, root}
 use Rattle.ept_hier.specs.Hierarchy.{Node}
 use Rattle.ept_meta.specs.Output.{tile_name}
+use Rattle.ept_query.specs.declared.query_error.QueryFile.{QueryFile}
 use Rattle.ept_query.specs.declared.query_error.QueryFile.TheVariants.{BuildJson, Hierarchy, Tile}
 use Rattle.ept_query.specs.declared.query_error.QueryError.{QueryError}
 use Rattle.ept_query.specs.declared.query_error.QueryError.TheVariants.{NotComplete, StoreFault, Damaged, SinkFault, Memory}
@@ -212,3 +213,17 @@ tiles-all sift plan number total files old new end was = tells-from (WritesAll s
       written = w.written;
       counted = w.counted;
     }))
+
+-- a tile that is reported as damaged is the one that was read
+pub damaged-tile : (sift : Option Sift) (area : Box3) (node : Node) (files : Option Files) (old new : Option (List ℕ)) (error : QueryError) (key : VoxelKey) → LeavesTile sift area node files old new error → error ≡ Damaged (Tile key) → node.0 ≡ key
+damaged-tile sift area node files old new NotComplete key left is = absurd left
+damaged-tile sift area node files old new StoreFault key left is = absurd cc
+damaged-tile sift area node files old new (Damaged file) key left is = one node.0 key (sym left.0 ∙ same (Tile key) is)
+  where
+    same : (other : QueryFile) → Damaged file ≡ Damaged other → file ≡ other
+    same other is = cc
+
+    one : (a b : VoxelKey) → Tile a ≡ Tile b → a ≡ b
+    one a b is = cc
+damaged-tile sift area node files old new SinkFault key left is = absurd cc
+damaged-tile sift area node files old new Memory key left is = absurd cc

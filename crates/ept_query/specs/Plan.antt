@@ -1,7 +1,7 @@
 -- Which files of a folder a query reads. The folder may hold anything.
-use Rattle.std.specs.Prelude.{◌≡◌, ℕ, ◌↔◌, pos, negsuc, List, Contains, Some}
+use Rattle.std.specs.Prelude.{◌≡◌, ◌⊎◌, ℕ, ◌↔◌, pos, negsuc, List, Contains, Some}
 use Rattle.ept_base.specs.Files.{Files}
-use Rattle.ept_space.specs.VoxelKey.{VoxelKey, root, AreAscending}
+use Rattle.ept_space.specs.VoxelKey.{VoxelKey, root, IsBefore, AreAscending}
 use Rattle.ept_config.specs.declared.kept.Kept.{Kept}
 use Rattle.ept_hier.specs.Hierarchy.{Entry, Node, keys_of}
 use Rattle.ept_meta.specs.Output.{build_file_name}
@@ -52,3 +52,8 @@ HasNeeded search files keys = (key : VoxelKey) → IsNeeded search files key →
 -- a list has each key whose tile is one of the plan
 abbrev pub HasPlanned : Search → Files → List VoxelKey → Type 0
 HasPlanned search files keys = (key : VoxelKey) (count : ℕ) → IsPlanned search files key count → Contains keys key
+
+-- a list has each key whose tile is one of the plan, up to this key in key order
+abbrev pub HasPlannedTo : Search → Files → VoxelKey → List VoxelKey → Type 0
+HasPlannedTo search files last keys =
+    (key : VoxelKey) (count : ℕ) → IsPlanned search files key count → (key ≡ last) ⊎ IsBefore key last → Contains keys key

@@ -7,7 +7,7 @@ use Rattle.ept_config.specs.declared.kept.Kept.{Kept}
 use Rattle.ept_save.specs.Done.{IsDone}
 use Rattle.ept_query.specs.declared.search.Search.{Search}
 use Rattle.ept_query.specs.Search.{search_of}
-use Rattle.ept_query.specs.Plan.{IsBuiltWith, HasBuild, EachIsThere, IsPlan, HasNeeded, HasPlanned}
+use Rattle.ept_query.specs.Plan.{IsBuiltWith, HasBuild, EachIsThere, IsPlan, HasNeeded, HasPlanned, HasPlannedTo}
 use Rattle.ept_query.specs.Parts.{Plan}
 
 -- the build file tells this, and nothing else
@@ -39,3 +39,8 @@ GetsFiles area first last before now files =
 abbrev pub GetsAll : Box3 → ℕ → ℕ → ℕ → ℕ → Files → Type 0
 GetsAll area first last before now files =
     (needed planned : List VoxelKey) → ((kept : Kept) → IsBuiltWith files kept → HasNeeded (search_of kept area first last) files needed) → ((kept : Kept) → IsBuiltWith files kept → HasPlanned (search_of kept area first last) files planned) → now ≤ before + 2 + length needed + length planned
+
+-- where the tile of a key is damaged, it is the last that is got: it takes one more, and so does each before it in key order
+abbrev pub GetsUpTo : Box3 → ℕ → ℕ → VoxelKey → ℕ → ℕ → Files → Type 0
+GetsUpTo area first last key before now files =
+    (needed planned : List VoxelKey) → ((kept : Kept) → IsBuiltWith files kept → HasNeeded (search_of kept area first last) files needed) → ((kept : Kept) → IsBuiltWith files kept → HasPlannedTo (search_of kept area first last) files key planned) → now ≤ before + 2 + length needed + length planned

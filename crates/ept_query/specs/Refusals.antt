@@ -7,6 +7,7 @@ use Rattle.ept_query.specs.declared.query_error.QueryFile.TheVariants.{BuildJson
 use Rattle.ept_query.specs.declared.query_error.QueryError.{QueryError}
 use Rattle.ept_query.specs.declared.query_error.QueryError.TheVariants.{NotComplete, StoreFault, Damaged, SinkFault, Memory}
 use Rattle.ept_query.specs.Damage.{HasNoBuild, IsFirstDamaged}
+use Rattle.ept_query.specs.Planning.{GetsFiles, GetsAll, GetsUpTo}
 
 -- why nothing is looked for: the done gate is not open, the store failed, the build file is damaged, or memory ran out
 abbrev pub RefusesStart : Option Files → QueryError → Type 0
@@ -65,3 +66,15 @@ AnswersOrFails result error =
 abbrev pub RefusesAsCalled : {T : Type 0} → (QueryError → Files → Type 0) → Option Files → Result T QueryError → Type 0
 RefusesAsCalled calls files result =
     (all : Files) → files ≡ Some all → (error : QueryError) → calls error all → AnswersOrFails result error
+
+-- ---- what it takes
+
+-- How many files a query gets before a refusal, at most: where there is no plan, those that a plan takes; where a tile is damaged, none behind it in key order.
+abbrev pub GetsBefore : Box3 → ℕ → ℕ → ℕ → ℕ → QueryError → Files → Type 0
+GetsBefore area first last before now NotComplete files = GetsFiles area first last before now files
+GetsBefore area first last before now StoreFault files = GetsAll area first last before now files
+GetsBefore area first last before now (Damaged BuildJson) files = GetsFiles area first last before now files
+GetsBefore area first last before now (Damaged (Hierarchy key)) files = GetsFiles area first last before now files
+GetsBefore area first last before now (Damaged (Tile key)) files = GetsUpTo area first last key before now files
+GetsBefore area first last before now SinkFault files = GetsAll area first last before now files
+GetsBefore area first last before now Memory files = GetsAll area first last before now files

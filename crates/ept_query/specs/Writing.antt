@@ -1,6 +1,6 @@
 -- What a query or a selection writes: what is kept of the parts of tiles, one after another. The folder may hold
 -- anything.
-use Rattle.std.specs.Prelude.{◌≡◌, ℕ, ◌-◌, ◌^◌, min, List, ◌∷◌, ◌++◌, Option}
+use Rattle.std.specs.Prelude.{◌≡◌, ℕ, ◌+◌, ◌-◌, ◌^◌, ◌<◌, ◌≤◌, length, min, List, ◌∷◌, ◌++◌, Option}
 use Rattle.std.specs.List.{AllZip}
 use Rattle.std.specs.Io.KnownBytes.{Appends}
 use Rattle.ept_base.specs.Devices.{AppendsPrefix}
@@ -14,7 +14,7 @@ use Rattle.ept_query.specs.declared.query_error.QueryFile.TheVariants.{BuildJson
 use Rattle.ept_query.specs.declared.query_error.QueryError.{QueryError}
 use Rattle.ept_query.specs.declared.query_error.QueryError.TheVariants.{NotComplete, StoreFault, Damaged, SinkFault, Memory}
 use Rattle.ept_query.specs.Damage.{HasNoTile}
-use Rattle.ept_query.specs.Parts.{Plan, IsPart, points_of}
+use Rattle.ept_query.specs.Parts.{Plan, node_at, IsPart, points_of}
 use Rattle.ept_query.specs.Kept.{kept_bytes, kept_count}
 
 -- ---- one tile
@@ -78,3 +78,10 @@ LeavesTiles sift plan files old new (Damaged (Hierarchy key)) = ⊥
 LeavesTiles sift plan files old new (Damaged (Tile key)) = Tells (WritesBefore sift plan key old new) files
 LeavesTiles sift plan files old new SinkFault = Tells (WritesFront sift plan old new) files
 LeavesTiles sift plan files old new Memory = Tells (WritesFront sift plan old new) files
+
+-- so many tiles of a plan were got at most as there are up to the one of this key
+pub record GetsTo (plan : Plan) (key : VoxelKey) (before now : ℕ) : Type 0 where
+  pub number : ℕ
+  pub within : number < length plan.tiles
+  pub key_is : (node_at plan number).0 ≡ key
+  pub few : now ≤ before + number + 1

@@ -10,7 +10,7 @@ ghost use Rattle.ept_query.specs.Answers.{Answers, LeavesQuery, Selects, LeavesS
 ghost use Rattle.ept_save.specs.Complete.{IsComplete};
 ghost use Rattle.ept_query.specs.Complete.{AnswersWhole, SelectsWhole};
 ghost use Rattle.ept_query.specs.Planning.{GetsAll};
-ghost use Rattle.ept_query.specs.Refusals.{RefusesQuery, CallsOfQuery, RefusesAsCalled};
+ghost use Rattle.ept_query.specs.Refusals.{RefusesQuery, CallsOfQuery, RefusesAsCalled, GetsBefore};
 
 use crate::planning::query_plan;
 use crate::query_error::QueryError;
@@ -49,6 +49,8 @@ pub fn query<T: Store, O: Sink>(
     ensures leaves { IfErr result (LeavesQuery area.now depths.0 depths.1 (T.files store.old)
         (O.written out.old) (O.written out.new)) }
     ensures gets { Tells (GetsAll area.now depths.0 depths.1 (T.gets store.old) (T.gets store.new)) (T.files store.old) }
+    ensures up_to { IfErr result (λ e. Tells
+        (GetsBefore area.now depths.0 depths.1 (T.gets store.old) (T.gets store.new) e) (T.files store.old)) }
     ensures any_moment { Moves T.files T.may_leave T.moment T.image_since SameFiles store.old store.new }
     ensures stores { HasCauseOf QueryError.StoreFault (T.faults store.old) (T.faults store.new) result }
     ensures sinks { HasCauseOf QueryError.SinkFault (O.faults out.old) (O.faults out.new) result }
@@ -83,6 +85,8 @@ pub fn select<T: Store, O: Sink>(
     ensures leaves { IfErr result (LeavesSelection (Some sift.now) area.now depths.0 depths.1 (T.files store.old)
         (O.written out.old) (O.written out.new)) }
     ensures gets { Tells (GetsAll area.now depths.0 depths.1 (T.gets store.old) (T.gets store.new)) (T.files store.old) }
+    ensures up_to { IfErr result (λ e. Tells
+        (GetsBefore area.now depths.0 depths.1 (T.gets store.old) (T.gets store.new) e) (T.files store.old)) }
     ensures any_moment { Moves T.files T.may_leave T.moment T.image_since SameFiles store.old store.new }
     ensures stores { HasCauseOf QueryError.StoreFault (T.faults store.old) (T.faults store.new) result }
     ensures sinks { HasCauseOf QueryError.SinkFault (O.faults out.old) (O.faults out.new) result }
@@ -107,6 +111,8 @@ fn answer<T: Store, O: Sink>(
     ensures leaves { IfErr result (LeavesSelection sift.now area.now depths.0 depths.1 (T.files store.old)
         (O.written out.old) (O.written out.new)) }
     ensures gets { Tells (GetsAll area.now depths.0 depths.1 (T.gets store.old) (T.gets store.new)) (T.files store.old) }
+    ensures up_to { IfErr result (λ e. Tells
+        (GetsBefore area.now depths.0 depths.1 (T.gets store.old) (T.gets store.new) e) (T.files store.old)) }
     ensures any_moment { Moves T.files T.may_leave T.moment T.image_since SameFiles store.old store.new }
     ensures stores { HasCauseOf QueryError.StoreFault (T.faults store.old) (T.faults store.new) result }
     ensures sinks { HasCauseOf QueryError.SinkFault (O.faults out.old) (O.faults out.new) result }

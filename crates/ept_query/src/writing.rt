@@ -1,11 +1,13 @@
 //! Writing the tiles of a plan.
 
-ghost use Rattle.std.specs.Prelude.{◌+◌, ◌<◌, ◌≤◌, length, IfOk, IfErr};
+ghost use Rattle.std.specs.Prelude.{◌≡◌, ◌+◌, ◌<◌, ◌≤◌, length, Err, IfOk, IfErr};
 ghost use Rattle.ept_base.specs.Causes.{HasCauseOf};
 ghost use Rattle.ept_base.specs.Files.{SameFiles, Tells};
 ghost use Rattle.ept_base.specs.Moves.{Moves};
 ghost use Rattle.ept_query.specs.Parts.{node_at};
-ghost use Rattle.ept_query.specs.Writing.{WritesTile, LeavesTile, WritesAll, LeavesTiles};
+ghost use Rattle.ept_query.specs.Writing.{WritesTile, LeavesTile, WritesAll, LeavesTiles, GetsTo};
+ghost use Rattle.ept_space.specs.VoxelKey.{VoxelKey};
+ghost use Rattle.ept_query.specs.declared.query_error.QueryFile.TheVariants.{Tile};
 
 use crate::plan::QueryPlan;
 use crate::query_error::QueryError;
@@ -28,6 +30,7 @@ pub(crate) fn write_tiles<T: Store, O: Sink>(
         (WritesAll sift.now plan.now (O.written out.old) (O.written out.new) count) (T.files store.old)) }
     ensures leaves { IfErr result (LeavesTiles sift.now plan.now (T.files store.old) (O.written out.old) (O.written out.new)) }
     ensures gets { T.gets store.new ≤ T.gets store.old + length plan.now.tiles }
+    ensures up_to { (key : VoxelKey) → result ≡ Err (QueryError.Damaged (Tile key)) → GetsTo plan.now key (T.gets store.old) (T.gets store.new) }
     ensures any_moment { Moves T.files T.may_leave T.moment T.image_since SameFiles store.old store.new }
     ensures stores { HasCauseOf QueryError.StoreFault (T.faults store.old) (T.faults store.new) result }
     ensures sinks { HasCauseOf QueryError.SinkFault (O.faults out.old) (O.faults out.new) result }

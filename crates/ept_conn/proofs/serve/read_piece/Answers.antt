@@ -5,6 +5,8 @@ use Rattle.ept_base.proofs.Moving.{steps_weaker}
 use Rattle.ept_conn.specs.Conversation.{GoesOn}
 use Rattle.ept_conn.proofs.Falling.{fed-falls, failed-falls}
 use Rattle.ept_conn.proofs.Conversing.{steps-with, tells-when, taken-none, read-converses, unread-converses, read-no-store, read-undamaged, read-hand}
+use Rattle.ept_conn.specs.Got.{GetsOn}
+use Rattle.ept_conn.proofs.Getting.{read-gets, unread-gets}
 use Rattle.ept_conn.proofs.serve.read_piece.Goals as goal
 
 pub returns-in-Ok-clause-converses : goal.returns-in-Ok-clause-converses
@@ -35,3 +37,12 @@ returns-in-Ok-clause-undamaged g c = λ found. read-undamaged c.args.session.now
 
 pub returns-in-Ok-clause-hand : goal.returns-in-Ok-clause-hand
 returns-in-Ok-clause-hand g c = read-hand c.args.session.now c.feed.new.self _ c.feed.ensures
+
+pub returns-in-Ok-clause-gets : goal.returns-in-Ok-clause-gets
+returns-in-Ok-clause-gets g c = λ files first now.
+    let piece = take c.in-Ok.count c.read.new.into in
+    steps_weaker (Reads piece) (GetsOn files first now now c.args.session.now c.feed.new.self) (λ wire next reads. read-gets files first now c.args.session.now c.feed.new.self wire next piece c.requires.wanted c.feed.ensures reads) (g.L.Link.wire c.args.link.now) (g.L.Link.wire c.read.new.self) c.in-Ok.ensures.ok
+
+pub returns-in-Err-clause-gets : goal.returns-in-Err-clause-gets
+returns-in-Err-clause-gets g c = λ files first now.
+    steps_weaker FailsToRead (GetsOn files first now now c.args.session.now c.fault.new.self) (λ wire next fails. unread-gets files first now c.args.session.now c.fault.new.self wire next fails c.fault.ensures) (g.L.Link.wire c.args.link.now) (g.L.Link.wire c.read.new.self) c.in-Err.ensures.failed

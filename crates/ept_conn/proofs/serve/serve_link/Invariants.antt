@@ -8,6 +8,7 @@ use Rattle.ept_conn.specs.declared.end.Fault.TheVariants as fault
 use Rattle.ept_conn.specs.Answers.{Served}
 use Rattle.ept_conn.specs.Served.{IsSentOf}
 use Rattle.ept_conn.specs.Conversation.{Converses, rank}
+use Rattle.ept_conn.specs.Got.{GetsSince}
 use Rattle.ept_conn.proofs.Conversing.{CauseSince}
 use Rattle.ept_conn.proofs.serve.serve_link.Given as given
 
@@ -17,6 +18,7 @@ invariant-loop-end g l =
     let stores = g.T.Store.faults in
     record {
       converses : (files : Files) → g.T.Store.files l.fn.store ≡ Some files → (served : Served) → IsSentOf files served → StepsBy (λ start now. Converses served (Rose (stores l.fn.store) (stores l.store)) start l.session now) (g.L.Link.wire l.fn.link) (g.L.Link.wire l.link);
+      gets : (files : Files) → g.T.Store.files l.fn.store ≡ Some files → StepsBy (λ start now. GetsSince files (g.T.Store.gets l.fn.store) start l.session (g.T.Store.gets l.store) now) (g.L.Link.wire l.fn.link) (g.L.Link.wire l.link);
       links : CauseSince fault.Link l.session (g.L.Link.faults l.fn.link) (g.L.Link.faults l.link);
       stores : CauseSince fault.Store l.session (stores l.fn.store) (stores l.store);
       plans : (files : Files) → g.T.Store.files l.fn.store ≡ Some files → HasPlanOf files l.session.hand;

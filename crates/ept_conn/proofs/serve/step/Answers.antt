@@ -1,9 +1,13 @@
-use Rattle.std.proofs.Common.{◌∙◌, inl, refl, sym}
+use Rattle.std.proofs.Common.{◌∙◌, inl, refl, sym, subst, Option}
 use Rattle.ept_base.specs.Causes.{Rose}
 use Rattle.ept_conn.specs.Works.{IsDamagedIn}
 use Rattle.ept_conn.specs.Conversation.{GoesOn}
 use Rattle.ept_conn.proofs.Falling.{work-falls}
 use Rattle.ept_conn.proofs.Conversing.{steps-same, tells-of, rose-earlier, rose-later, work-converses, written-cause, written-rank, hand-plan, written-hand, written-undamaged}
+use Rattle.ept_base.specs.Files.{Files}
+use Rattle.ept_conn.specs.Got.{GetsOn}
+use Rattle.ept_conn.specs.Works.{GetsIn}
+use Rattle.ept_conn.proofs.Getting.{work-gets}
 use Rattle.ept_conn.proofs.serve.step.Goals as goal
 
 pub returns-in-Work-clause-converses : goal.returns-in-Work-clause-converses
@@ -43,3 +47,21 @@ returns-in-Write-clause-plans g c = λ files told has.
 pub returns-in-Write-clause-damaged : goal.returns-in-Write-clause-damaged
 returns-in-Write-clause-damaged g c = λ found fixed.
     inl (written-undamaged c.args.session.now c.write_out.new.session _ _ found c.write_out.ensures.state fixed)
+
+pub returns-in-Work-clause-gets : goal.returns-in-Work-clause-gets
+returns-in-Work-clause-gets g c = λ files told first.
+    let now = g.T.Store.gets c.args.store.now in
+    let next = g.T.Store.gets c.work.new.store in
+    steps-same (GetsOn files first now next c.args.session.now c.work.new.self) (g.L.Link.wire c.args.link.now) (g.L.Link.wire c.args.link.now) refl (λ wire.
+    work-gets files first now next c.args.session.now c.work.new.self wire (sym c.want.ensures ∙ c.in-Work.is) c.work.ensures.one_step (subst (λ (o : Option Files). GetsIn c.args.session.now.hand now next o) told c.work.ensures.gets) (c.work.ensures.plans files told))
+
+pub returns-in-Read-clause-gets : goal.returns-in-Read-clause-gets
+returns-in-Read-clause-gets g c = λ files told first. c.read_piece.ensures.gets files first (g.T.Store.gets c.args.store.now)
+
+pub returns-in-Write-clause-gets : goal.returns-in-Write-clause-gets
+returns-in-Write-clause-gets g c = λ files told first. c.write_out.ensures.gets files first (g.T.Store.gets c.args.store.now)
+
+pub returns-in-End-clause-gets : goal.returns-in-End-clause-gets
+returns-in-End-clause-gets g c = λ files told first.
+    let now = g.T.Store.gets c.args.store.now in
+    steps-same (GetsOn files first now now c.args.session.now c.args.session.now) (g.L.Link.wire c.args.link.now) (g.L.Link.wire c.args.link.now) refl (λ wire start since. since)

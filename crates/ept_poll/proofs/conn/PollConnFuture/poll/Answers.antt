@@ -33,7 +33,7 @@ loop-preserved g c =
     let was = c.loop.invariant in
     let old = seen g.L.PollLink g.T.Store c.args.self.now in
     let mid = seen g.L.PollLink g.T.Store c.loop.self in
-    let new = beside g.L.PollLink c.unit.new.link c.unit.new.session (g.T.Store.files c.unit.new.store) (g.T.Store.faults c.unit.new.store) in
+    let new = beside g.L.PollLink c.unit.new.link c.unit.new.session (g.T.Store.files c.unit.new.store) (g.T.Store.faults c.unit.new.store) (g.T.Store.gets c.unit.new.store) in
     let done = unit-done c.unit.result mid new (c.in-Ready-None.is ∙ ap Ready c.in-Ready-None.field-0-is) c.unit.ensures.unit in
     let calls = was.units.0 in
     let len = was.units.1 in
@@ -55,13 +55,13 @@ loop-preserved g c =
 
 -- ---- the link waits
 
-waited : (g : given.Over) (c : goal.In-Pending g) → HasDone (seen g.L.PollLink g.T.Store c.args.self.now) (beside g.L.PollLink c.unit.new.link c.unit.new.session (g.T.Store.files c.unit.new.store) (g.T.Store.faults c.unit.new.store))
+waited : (g : given.Over) (c : goal.In-Pending g) → HasDone (seen g.L.PollLink g.T.Store c.args.self.now) (beside g.L.PollLink c.unit.new.link c.unit.new.session (g.T.Store.files c.unit.new.store) (g.T.Store.faults c.unit.new.store) (g.T.Store.gets c.unit.new.store))
 waited g c =
     let units = c.loop.invariant.units in record {
       calls = units.0;
       last = seen g.L.PollLink g.T.Store c.loop.self;
       units = units.2;
-      rest = pending-at c.unit.result (IsAs (seen g.L.PollLink g.T.Store c.loop.self) (beside g.L.PollLink c.unit.new.link c.unit.new.session (g.T.Store.files c.unit.new.store) (g.T.Store.faults c.unit.new.store))) c.in-Pending.is c.unit.ensures.waits;
+      rest = pending-at c.unit.result (IsAs (seen g.L.PollLink g.T.Store c.loop.self) (beside g.L.PollLink c.unit.new.link c.unit.new.session (g.T.Store.files c.unit.new.store) (g.T.Store.faults c.unit.new.store) (g.T.Store.gets c.unit.new.store))) c.in-Pending.is c.unit.ensures.waits;
     }
 
 wait-is : (g : given.Over) (c : goal.In-Pending g) → IsWaitFor c.unit.new.session (Rose (g.L.PollLink.read_waits c.loop.self.link) (g.L.PollLink.read_waits c.unit.new.link)) (Rose (g.L.PollLink.write_waits c.loop.self.link) (g.L.PollLink.write_waits c.unit.new.link))
@@ -103,11 +103,11 @@ returns-in-Pending-clause-again g c =
 
 -- ---- the session is at its end
 
-over : (g : given.Over) (c : goal.In-Ready-Some g) → IsAs (seen g.L.PollLink g.T.Store c.loop.self) (beside g.L.PollLink c.unit.new.link c.unit.new.session (g.T.Store.files c.unit.new.store) (g.T.Store.faults c.unit.new.store)) × (want_of c.unit.new.session ≡ want.End c.in-Ready-Some.end)
+over : (g : given.Over) (c : goal.In-Ready-Some g) → IsAs (seen g.L.PollLink g.T.Store c.loop.self) (beside g.L.PollLink c.unit.new.link c.unit.new.session (g.T.Store.files c.unit.new.store) (g.T.Store.faults c.unit.new.store) (g.T.Store.gets c.unit.new.store)) × (want_of c.unit.new.session ≡ want.End c.in-Ready-Some.end)
 over g c =
     unit-end c.unit.result c.in-Ready-Some.end _ _ (c.in-Ready-Some.is ∙ ap Ready c.in-Ready-Some.field-0-is) c.unit.ensures.unit
 
-ended : (g : given.Over) (c : goal.In-Ready-Some g) → HasDone (seen g.L.PollLink g.T.Store c.args.self.now) (beside g.L.PollLink c.unit.new.link c.unit.new.session (g.T.Store.files c.unit.new.store) (g.T.Store.faults c.unit.new.store))
+ended : (g : given.Over) (c : goal.In-Ready-Some g) → HasDone (seen g.L.PollLink g.T.Store c.args.self.now) (beside g.L.PollLink c.unit.new.link c.unit.new.session (g.T.Store.files c.unit.new.store) (g.T.Store.faults c.unit.new.store) (g.T.Store.gets c.unit.new.store))
 ended g c =
     let units = c.loop.invariant.units in record {
       calls = units.0;
