@@ -1,0 +1,8 @@
+use Rattle.std.proofs.Common.{◌∙◌}
+use Rattle.std.proofs.lemmas.Result.{IfOk-weaker}
+use Rattle.ept_part.proofs.Digits.{gate-of}
+use Rattle.ept_part.proofs.names.part_gate.Goals as goal
+
+pub returns : goal.returns
+returns c =
+    IfOk-weaker c.path_in.result _ _ (λ path is. is ∙ gate-of c.args.octants c.as_str.result.now (c.as_str.ensures.value ∙ c.in_ok-folder.ensures)) c.path_in.ensures
