@@ -11,6 +11,7 @@ mod files;
 mod hierarchies;
 mod las;
 mod numbers;
+mod parts;
 mod phases;
 mod plans;
 mod points;
@@ -90,6 +91,7 @@ fn answer(row: Row<'_>, call: &str, out: &mut String) -> Answered {
         "phase-load" => phases::load(row, out),
         "phase-save" => phases::save(row, out),
         "publish" => publishing::publish_nodes(row, out),
+        "part" => parts::make(row, out),
         _ => Err(Stop::BadLine),
     }
 }
