@@ -1,13 +1,13 @@
 -- Lists of bytes, of which each bit is a member.
-use Rattle.std.proofs.Common.{◌≡◌, ℕ, zero, suc, bit_and, ◌+◌, ◌*◌, ◌/◌, ◌%◌, ◌^◌, ◌<◌, ◌||◌, Bool, true, false, not, eqb, bit_or, ◌⊎◌, inl, inr, List, [], ◌∷◌, length, get_or, slice_set, refl, sym, ap, ◌∙◌, arith, w8}
+use Rattle.std.proofs.Common.{◌≡◌, ℕ, zero, suc, bit_and, ◌+◌, ◌*◌, ◌/◌, ◌%◌, ◌^◌, ◌<◌, ◌||◌, ◌&&◌, Bool, true, false, not, eqb, bit_or, ◌⊎◌, inl, inr, List, [], ◌∷◌, length, get_or, slice_set, refl, sym, ap, ◌∙◌, arith, w8}
 use Rattle.std.specs.Bool.{Decides}
 use Rattle.std.specs.Int.{bit_at}
-use Rattle.std.specs.List.{AllByRecursion, list_any}
+use Rattle.std.specs.List.{AllByRecursion, list_any, fold}
 use Rattle.std.proofs.lemmas.Bool.Decides.{nat_tests, Decides-eqb, not_from_Decides}
 use Rattle.std.proofs.lemmas.Bool.{cases_Bool as either, eq-eqb, false≢true, or_right, or_parts}
 use Rattle.std.proofs.lemmas.Grind.{same_number_lists}
 use Rattle.std.proofs.lemmas.List.{get_or-set_same, get_or-set_other, length-set}
-use Rattle.std.proofs.lemmas.Nat.{or_of_8}
+use Rattle.std.proofs.lemmas.Nat.{or_of_8, le_or_l, le_or_r}
 use Rattle.std.proofs.lemmas.Nat.Bits.{shr_and_one, bit_at-zero, bit_at-lt, bit_at_set_same, bit_at_set_other, same_from_bits_below}
 use denote.Struct.Record.{values_one}
 use Rattle.ept_class.specs.contracts.class_set.ClassSet.{struct, the_propositions}
@@ -197,3 +197,31 @@ no_member_bytes set none = same_number_lists set.bytes no_bytes set.set_bytes.le
 pub none_has_no_member : has_member no_class ≡ false
 unfolding has_member
 none_has_no_member = refl
+
+-- ---- bytes, or-ed together
+
+or-zero : (a b : ℕ) → eqb (bit_or a b) 0 ≡ (eqb a 0 && eqb b 0)
+or-zero a b = by (eqb a 0) (eqb b 0) (Decides-eqb a 0) (Decides-eqb b 0)
+  where
+    by : (none_a none_b : Bool) → Decides none_a (a ≡ 0) → Decides none_b (b ≡ 0) → eqb (bit_or a b) 0 ≡ (none_a && none_b)
+    by true true da db = rw (da.0 refl, db.0 refl) refl
+    by true false da db = let some = not_from_Decides false db refl in let least = le_or_r a b in grind (arith, nat_tests)
+    by false true da db = let some = not_from_Decides false da refl in let least = le_or_l a b in grind (arith, nat_tests)
+    by false false da db = let some = not_from_Decides false da refl in let least = le_or_l a b in grind (arith, nat_tests)
+
+or-bytes : (bytes : List ℕ) (a : ℕ) → eqb (fold bit_or a bytes) 0 ≡ (eqb a 0 && not (list_any (λ byte. not (eqb byte 0)) bytes))
+or-bytes [] a = by (eqb a 0) where
+  by : (none : Bool) → none ≡ (none && true)
+  by true = refl
+  by false = refl
+or-bytes (b ∷ bytes) a = or-bytes bytes (bit_or a b) ∙ by (eqb (bit_or a b) 0) (eqb a 0) (eqb b 0) _ (or-zero a b)
+  where
+    by : (both one other any : Bool) → both ≡ (one && other) → (both && not any) ≡ (one && not (not other || any))
+    by both true true any e = rw e refl
+    by both true false any e = rw e refl
+    by both false true any e = rw e refl
+    by both false false any e = rw e refl
+
+-- they are 0 where no byte is another number
+pub or-none : (bytes : List ℕ) → eqb (fold bit_or 0 bytes) 0 ≡ not (list_any (λ byte. not (eqb byte 0)) bytes)
+or-none bytes = or-bytes bytes 0

@@ -47,7 +47,7 @@ impl ClassSet {
     pub fn is_empty(&self) -> bool
         ensures none { result ≡ not (has_member self.now) }
     {
-        !self.bytes.iter().any(|byte| *byte != 0)
+        self.bytes.iter().fold(0, |all, byte| all | *byte) == 0
     }
 
     /// Makes a class a member.
