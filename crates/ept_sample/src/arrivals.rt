@@ -90,7 +90,7 @@ pub fn has_children(rules: &Rules, key: &Key) -> bool
 /// The key of an octant of a key above the greatest depth.
 pub fn child_of(rules: &Rules, key: &Key, which: u8) -> Key
     requires has_children { key.now.depth < rules.now.cube.depth }
-    requires one_of_eight { which < OCTANTS }
+    requires one_of_eight { which < 8 }
     ensures below { result ≡ child key.now which }
 {
     prove!(rules.cube.depth <= Key::MAX_DEPTH);
@@ -117,9 +117,9 @@ fn opens(rules: &Rules, key: &Key, was_open: bool, losers: &[Point], which: u8) 
 /// the greatest depth those that have too many of the losers.
 pub fn opening(rules: &Rules, key: &Key, was: &[bool; OCTANTS], losers: &[Point]) -> [bool; OCTANTS]
     requires inside { AllInBox rules.now.cube key.now losers.now }
-    ensures opened { (o : ℕ) → o < OCTANTS → slice_index_or result o false
+    ensures opened { (o : ℕ) → o < 8 → slice_index_or result o false
         ≡ (slice_index_or was.now o false || has_too_many rules.now key.now.depth losers.now o) }
-    ensures eight { length result ≡ OCTANTS }
+    ensures eight { length result ≡ 8 }
 {
     let mut opened = *was;
     if has_children(rules, key) {
@@ -143,7 +143,7 @@ pub fn leaves(
     requires given_inside { AllInCube rules.now.cube given.now }
     requires inside { InBox rules.now.cube key.now (place point.now) }
     requires in_cube { InCube rules.now.cube (place point.now) }
-    requires bottom { (o : ℕ) → o < OCTANTS → slice_index_or opened.now o false ≡ true → key.now.depth < rules.now.cube.depth }
+    requires bottom { (o : ℕ) → o < 8 → slice_index_or opened.now o false ≡ true → key.now.depth < rules.now.cube.depth }
     ensures goes { result ≡ goes rules.now key.now.depth given.now opened.now point.now }
 {
     if !has_children(rules, key) {
@@ -165,7 +165,7 @@ pub fn staying(
     requires low { key.now.depth ≤ rules.now.cube.depth }
     requires inside { AllInBox rules.now.cube key.now given.now }
     requires in_cube { AllInCube rules.now.cube given.now }
-    requires bottom { (o : ℕ) → o < OCTANTS → slice_index_or opened.now o false ≡ true → key.now.depth < rules.now.cube.depth }
+    requires bottom { (o : ℕ) → o < 8 → slice_index_or opened.now o false ≡ true → key.now.depth < rules.now.cube.depth }
     ensures kept { IfOk result (λ v. v.items ≡ filter (λ p. not (goes rules.now key.now.depth given.now opened.now p)) given.now) }
 {
     let mut points = Vec::new(alloc);

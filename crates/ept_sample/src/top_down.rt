@@ -77,7 +77,7 @@ fn add_nodes(
 // Which octants overflow: above the greatest depth, those with more of these losers than the threshold.
 fn overflowing(rules: &Rules, key: &Key, losers: &[Point]) -> [bool; OCTANTS]
     requires inside { AllInBox rules.now.cube key.now losers.now }
-    ensures overflow { (o : ℕ) → o < OCTANTS →
+    ensures overflow { (o : ℕ) → o < 8 →
         slice_index_or result o false ≡ has_too_many rules.now key.now.depth losers.now o }
 {
     opening(rules, key, &[false; OCTANTS], losers)
