@@ -12,7 +12,7 @@ ghost use Rattle.ept_check.specs.Walking.{LoseTo};
 use crate::keys::is_below;
 use ept_grid::{Grid, Steps};
 use ept_point::Point;
-use ept_sample::{place_of, rank_of};
+use ept_sample::{is_better, place_of};
 use ept_space::{Key, Rules, cell};
 use std::marker::Brand;
 use std::sync::ledger::{Blank, Ledger};
@@ -69,14 +69,4 @@ fn loses_in<L: Ledger>(grid: &Grid, point: &Point, blank: Blank) -> bool
         Some(best) => is_better(rules, key.depth, &best, point),
         None => false,
     }
-}
-
-// Whether the first point has the better rank.
-fn is_better(rules: &Rules, depth: u8, first: &Point, second: &Point) -> bool
-    requires low { depth ≤ rules.now.cube.depth }
-    requires first_inside { InCube rules.now.cube (place first.now) }
-    requires second_inside { InCube rules.now.cube (place second.now) }
-    ensures { result ≡ is_better (rank_at rules.now depth first.now) (rank_at rules.now depth second.now) }
-{
-    rank_of(rules, depth, first).is_better(rank_of(rules, depth, second))
 }

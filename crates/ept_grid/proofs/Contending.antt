@@ -24,10 +24,6 @@ stands-between : (ws : List Point) (at : ℕ) (p w : Point) → at < length ws �
 stands-between ws at p w there is =
     sym (take-append-drop at ws) ∙ ap (λ (rest : List Point). take at ws ++ rest) (drop-cons ws at p there ∙ ap (λ (v : Point). v ∷ drop (suc at) ws) is)
 
-pub better-code : (rules : Rules) (depth : ℕ) (p w : Point) (a b : Rank) (test is : Bool) → a ≡ rank_at rules depth p → b ≡ rank_at rules depth w → test ≡ is_better a b → test ≡ is → is_better_at rules depth p w ≡ is
-better-code rules depth p w a b test is is_a is_b is_test so =
-    sym (ap (λ (r : Rank). is_better r (rank_at rules depth w)) is_a) ∙ sym (ap (λ (r : Rank). is_better a r) is_b) ∙ sym is_test ∙ so
-
 -- the point is better
 pub displaces : (rules : Rules) (depth : ℕ) (p w : Point) (cells : List Cell) (at next : ℕ) (d : Cell) → at < length cells → w ≡ (get_or cells at d).point → IsTrue (share_cell rules depth (get_or (winners cells) at p) p) → is_better_at rules depth p w ≡ true → HasContended rules depth p (winners cells) (winners (set cells at (record { point = p; next = next }))) w
 displaces rules depth p w cells at next d there is one better =

@@ -11,7 +11,7 @@ use crate::pool::Cell;
 use crate::spot::spot_of;
 use crate::walk::{Gap, gap_at, is_at};
 use ept_point::Point;
-use ept_sample::rank_of;
+use ept_sample::is_better;
 use ept_space::{Key, Rules};
 
 /// Puts a point among the winners of a node, and answers the one that loses, where its cell had a point.
@@ -90,7 +90,7 @@ fn contend(rules: &Rules, depth: u8, cells: &mut Vec<Cell>, at: usize, point: Po
     ensures room { vec_capacity cells.new ≡ vec_capacity cells.old }
 {
     let winner = cells[at].point;
-    if rank_of(rules, depth, &point).is_better(rank_of(rules, depth, &winner)) {
+    if is_better(rules, depth, &point, &winner) {
         cells[at].point = point;
         return winner;
     }

@@ -45,6 +45,26 @@ pub fn rank_of(rules: &Rules, depth: u8, point: &Point) -> Rank
     }
 }
 
+/// Whether the rank of the first point is the better one at a depth. The second may lie in another cell.
+pub fn is_better(rules: &Rules, depth: u8, first: &Point, second: &Point) -> bool
+    requires low { depth ≤ rules.now.cube.depth }
+    requires first_inside { InCube rules.now.cube (place first.now) }
+    requires second_inside { InCube rules.now.cube (place second.now) }
+    ensures { result ≡ is_better (rank_at rules.now depth first.now) (rank_at rules.now depth second.now) }
+{
+    let group_of_first = group(rules, first.class, first.class_flags);
+    let group_of_second = group(rules, second.class, second.class_flags);
+    if group_of_first != group_of_second {
+        return group_of_first < group_of_second;
+    }
+    let from_first = centre_distance(&rules.cube, depth, place_of(first));
+    let from_second = centre_distance(&rules.cube, depth, place_of(second));
+    if from_first != from_second {
+        return from_first < from_second;
+    }
+    first.origin < second.origin || (first.origin == second.origin && first.number < second.number)
+}
+
 /// Whether the first point beats the second at a depth: it lies in the same cell and has the better
 /// rank.
 pub fn beats(rules: &Rules, depth: u8, first: &Point, second: &Point) -> bool
@@ -53,8 +73,7 @@ pub fn beats(rules: &Rules, depth: u8, first: &Point, second: &Point) -> bool
     requires second_inside { InCube rules.now.cube (place second.now) }
     ensures beats { result ≡ beats rules.now depth first.now second.now }
 {
-    share_cell(rules, depth, first, second)
-        && rank_of(rules, depth, first).is_better(rank_of(rules, depth, second))
+    share_cell(rules, depth, first, second) && is_better(rules, depth, first, second)
 }
 
 fn share_cell(rules: &Rules, depth: u8, first: &Point, second: &Point) -> bool

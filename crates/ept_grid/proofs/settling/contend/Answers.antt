@@ -1,12 +1,12 @@
-use Rattle.std.proofs.Common.{true, false, ap}
+use Rattle.std.proofs.Common.{◌∙◌, sym, ap}
 use Rattle.ept_grid.specs.declared.pool.Cell.{Cell}
 use Rattle.ept_grid.proofs.Winners.{nexts-point}
-use Rattle.ept_grid.proofs.Contending.{better-code, displaces, loses-there, spots-point}
+use Rattle.ept_grid.proofs.Contending.{displaces, loses-there, spots-point}
 use Rattle.ept_grid.proofs.settling.contend.Goals as goal
 
 pub returns-then-is_better-clause-contended : goal.returns-then-is_better-clause-contended
 returns-then-is_better-clause-contended c =
-    displaces c.args.rules.now c.args.depth c.args.point c.index.result.now.point c.args.cells.now.items c.args.at c.index_mut.result.now.next c.index.result.now c.requires.there (ap (λ (e : Cell). e.point) c.index.ensures) c.requires.one_cell (better-code c.args.rules.now c.args.depth c.args.point c.index.result.now.point c.rank_of.result c.rank_of-2.result c.is_better.result true c.rank_of.ensures c.rank_of-2.ensures c.is_better.ensures c.if-is_better.true)
+    displaces c.args.rules.now c.args.depth c.args.point c.index.result.now.point c.args.cells.now.items c.args.at c.index_mut.result.now.next c.index.result.now c.requires.there (ap (λ (e : Cell). e.point) c.index.ensures) c.requires.one_cell (sym c.is_better.ensures ∙ c.if-is_better.true)
 
 pub returns-then-is_better-clause-links : goal.returns-then-is_better-clause-links
 returns-then-is_better-clause-links c =
@@ -18,4 +18,4 @@ returns-then-is_better-clause-spots c =
 
 pub returns-clause-contended : goal.returns-clause-contended
 returns-clause-contended c =
-    loses-there c.args.rules.now c.args.depth c.args.point c.index.result.now.point c.args.cells.now.items c.args.at c.index.result.now c.requires.there (ap (λ (e : Cell). e.point) c.index.ensures) c.requires.one_cell (better-code c.args.rules.now c.args.depth c.args.point c.index.result.now.point c.rank_of.result c.rank_of-2.result c.is_better.result false c.rank_of.ensures c.rank_of-2.ensures c.is_better.ensures c.if-is_better.false)
+    loses-there c.args.rules.now c.args.depth c.args.point c.index.result.now.point c.args.cells.now.items c.args.at c.index.result.now c.requires.there (ap (λ (e : Cell). e.point) c.index.ensures) c.requires.one_cell (sym c.is_better.ensures ∙ c.if-is_better.false)
