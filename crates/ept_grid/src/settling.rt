@@ -13,6 +13,7 @@ use crate::walk::{Gap, gap_at, is_at};
 use ept_point::Point;
 use ept_sample::is_better;
 use ept_space::{Key, Rules};
+use std::mem;
 
 /// Puts a point among the winners of a node, and answers the one that loses, where its cell had a point.
 /// There is room for a cell, so this takes no memory.
@@ -89,10 +90,8 @@ fn contend(rules: &Rules, depth: u8, cells: &mut Vec<Cell>, at: usize, point: Po
     ensures spots { spots_of rules.now depth cells.new.items ≡ spots_of rules.now depth cells.old.items }
     ensures room { vec_capacity cells.new ≡ vec_capacity cells.old }
 {
-    let winner = cells[at].point;
-    if is_better(rules, depth, &point, &winner) {
-        cells[at].point = point;
-        return winner;
+    if is_better(rules, depth, &point, &cells[at].point) {
+        return mem::replace(&mut cells[at].point, point);
     }
     point
 }

@@ -7,7 +7,7 @@ ghost use Rattle.ept_sample.specs.Rank.{rank_at, is_better, beats};
 
 use crate::place::place_of;
 use ept_point::{Point, PointNumber};
-use ept_space::{Rules, cell, centre_distance, group};
+use ept_space::{Rules, cell, centre_distance, group, group_law, has_groups};
 
 /// The rank of a point at a depth. The less one is the better one.
 #[derive(Clone, Copy, Debug, PartialEq, Eq, PartialOrd, Ord)]
@@ -52,10 +52,13 @@ pub fn is_better(rules: &Rules, depth: u8, first: &Point, second: &Point) -> boo
     requires second_inside { InCube rules.now.cube (place second.now) }
     ensures { result ≡ is_better (rank_at rules.now depth first.now) (rank_at rules.now depth second.now) }
 {
-    let group_of_first = group(rules, first.class, first.class_flags);
-    let group_of_second = group(rules, second.class, second.class_flags);
-    if group_of_first != group_of_second {
-        return group_of_first < group_of_second;
+    group_law();
+    if has_groups(rules) {
+        let group_of_first = group(rules, first.class, first.class_flags);
+        let group_of_second = group(rules, second.class, second.class_flags);
+        if group_of_first != group_of_second {
+            return group_of_first < group_of_second;
+        }
     }
     let from_first = centre_distance(&rules.cube, depth, place_of(first));
     let from_second = centre_distance(&rules.cube, depth, place_of(second));

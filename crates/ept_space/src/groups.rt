@@ -1,7 +1,7 @@
 //! The group of a point: which points come before others whatever their places.
 
-ghost use Rattle.std.specs.Prelude.{◌≡◌, ◌≤◌};
-ghost use Rattle.ept_space.specs.Group.{is_withheld, comes_later, group_of};
+ghost use Rattle.std.specs.Prelude.{◌≡◌, ◌≤◌, ◌↔◌, false};
+ghost use Rattle.ept_space.specs.Group.{is_withheld, comes_later, group_of, HaveNoGroups};
 
 use crate::cube::Rules;
 
@@ -18,6 +18,13 @@ pub fn group(rules: &Rules, class: u8, flags: u8) -> u8
 {
     let is_last = rules.withheld_last && is_withheld(flags);
     2 * u8::from(is_last) + u8::from(comes_later(rules, class))
+}
+
+/// Whether points may be in different groups: some class comes first, or withheld points come last.
+pub fn has_groups(rules: &Rules) -> bool
+    ensures { result ≡ false ↔ HaveNoGroups rules.now }
+{
+    rules.withheld_last || !rules.first.is_empty()
 }
 
 // Whether the flag of a withheld point is set.

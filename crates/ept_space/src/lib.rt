@@ -19,7 +19,7 @@ mod text;
 pub use bounds::Bounds;
 pub use box3::{Box3, contains, meets, node_box};
 pub use cube::{Cube, Rules};
-pub use groups::group;
+pub use groups::{group, has_groups};
 pub use key::{Key, child};
 pub use laws::{
     bounds_law, box_law, cell_law, family_law, group_law, order_law, place_law, text_law,
