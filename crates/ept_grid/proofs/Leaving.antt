@@ -31,7 +31,7 @@ at_rest rules depth mask mask' o l b same shut gone = record {
   leave = λ e. subst (λ (w : List Point). IsPermutation w []) (sym (gone (sym same ∙ e))) (IsPermutation-refl []);
   in_order = λ e once. ap (λ (w : List Point). in_id_order w) (sym (gone (sym same ∙ e)));
   places = omega arith;
-  room = omega arith;
+  room = λ e. omega arith;
 }
 
 still : (rules : Rules) (depth mask mask' : ℕ) (losers : List Leaving) (o : ℕ) (b : Leaving) → o < 8 → AreFew rules depth mask losers → opened mask' o ≡ opened mask o → HasSentAt rules depth mask mask' o (leaving_at losers o) (leaving_at losers o) b b
@@ -76,7 +76,7 @@ passes rules depth mask k q losers before after small few e f g is added less ot
       leave = λ _. subst (λ (w : List Point). IsPermutation w (q ∷ [])) (sym alone) (IsPermutation-refl (q ∷ []));
       in_order = λ _ once. ap (λ (w : List Point). in_id_order w) (sym alone);
       places = omega (arith, less);
-      room = omega (arith, (joined-there losers k q (omega (arith, small, e))).1);
+      room = λ isn't. absurd (not_both (opened mask k) is isn't);
     })
   where
     alone : points_at (joined losers k q) k ≡ q ∷ []
@@ -94,7 +94,7 @@ stays rules depth mask k q losers stay out small few e f g isn't added less othe
       leave = λ is. absurd (not_both (opened mask k) is isn't);
       in_order = λ is once. absurd (not_both (opened mask k) is isn't);
       places = omega arith;
-      room = omega (arith, less, there.1);
+      room = λ _. omega (arith, less, there.1);
     })
   where
     there : (points_at (joined losers k q) k ≡ points_at losers k ++ q ∷ []) × ((leaving_at (joined losers k q) k).room ≡ (leaving_at losers k).room - 1)
@@ -104,8 +104,8 @@ stays rules depth mask k q losers stay out small few e f g isn't added less othe
     same = added ∙ sym there.0
 
 -- the octant opens: all its losers leave
-pub opens : (rules : Rules) (depth mask mask' k : ℕ) (q : Point) (losers more sorted stay before after : List Leaving) → k < 8 → AreFew rules depth mask losers → length losers ≡ 8 → length stay ≡ 8 → length before ≡ 8 → length after ≡ 8 → opened mask k ≡ false → ((o : ℕ) → opened mask' o ≡ (opened mask o || (o == k))) → points_at more k ≡ points_at losers k ++ q ∷ [] → (leaving_at losers k).room ≡ (leaving_at more k).room + 1 → ((o : ℕ) → o ≢ k → leaving_at stay o ≡ leaving_at losers o) → opens_with rules depth (length (points_at more k)) ≡ true → IsPermutation (points_at more k) (points_at sorted k) → (HasDistinctIds (points_at more k) → points_at sorted k ≡ in_id_order (points_at more k)) → points_at stay k ≡ [] → (leaving_at more k).room ≤ (leaving_at stay k).room → points_at after k ≡ points_at before k ++ points_at sorted k → (leaving_at before k).room ≤ (leaving_at after k).room + length (points_at sorted k) → ((o : ℕ) → o ≢ k → leaving_at after o ≡ leaving_at before o) → HasSent rules depth mask mask' (joined losers k q) stay before after
-opens rules depth mask mask' k q losers more sorted stay before after small few e f g h isn't sets added less others many moved in_order none wide grows left out_others =
+pub opens : (rules : Rules) (depth mask mask' k : ℕ) (q : Point) (losers more sorted stay before after : List Leaving) → k < 8 → AreFew rules depth mask losers → length losers ≡ 8 → length stay ≡ 8 → length before ≡ 8 → length after ≡ 8 → opened mask k ≡ false → ((o : ℕ) → opened mask' o ≡ (opened mask o || (o == k))) → points_at more k ≡ points_at losers k ++ q ∷ [] → ((o : ℕ) → o ≢ k → leaving_at stay o ≡ leaving_at losers o) → opens_with rules depth (length (points_at more k)) ≡ true → IsPermutation (points_at more k) (points_at sorted k) → (HasDistinctIds (points_at more k) → points_at sorted k ≡ in_id_order (points_at more k)) → points_at stay k ≡ [] → points_at after k ≡ points_at before k ++ points_at sorted k → (leaving_at before k).room ≤ (leaving_at after k).room + length (points_at sorted k) → ((o : ℕ) → o ≢ k → leaving_at after o ≡ leaving_at before o) → HasSent rules depth mask mask' (joined losers k q) stay before after
+opens rules depth mask mask' k q losers more sorted stay before after small few e f g h isn't sets added others many moved in_order none grows left out_others =
     one_octant rules depth mask mask' k q losers stay before after small few e f g h (λ o apart. sets o ∙ other (opened mask o) (o == k) (unequal o apart)) others out_others (record {
       opens = is ∙ sym (or_right (opened mask k) (opens_with rules depth (length (points_at (joined losers k q) k))) (ap (λ (w : List Point). opens_with rules depth (length w)) (sym same) ∙ many));
       shut = λ isn't_now. absurd (not_both (opened mask' k) is isn't_now);
@@ -115,7 +115,7 @@ opens rules depth mask mask' k q losers more sorted stay before after small few 
       leave = λ _. subst (λ (w : List Point). IsPermutation w (points_at sorted k)) same moved;
       in_order = λ _ once. in_order (subst (λ (w : List Point). HasDistinctIds w) (sym same) once) ∙ ap (λ (w : List Point). in_id_order w) same;
       places = left;
-      room = omega (arith, less, there.1, wide);
+      room = λ isn't_now. absurd (not_both (opened mask' k) is isn't_now);
     })
   where
     there : (points_at (joined losers k q) k ≡ points_at losers k ++ q ∷ []) × ((leaving_at (joined losers k q) k).room ≡ (leaving_at losers k).room - 1)

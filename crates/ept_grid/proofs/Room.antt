@@ -34,7 +34,7 @@ lane-after rules depth mask mask' o more losers mid stay before after gone lane 
       | inr was ↦
           elim (either (opened mask' o)) [
             | inl now ↦ rw (was, now) (omega (arith, at.places, lane.grows, length_permutation mid.points at.added (at.leave now)))
-            | inr now ↦ rw (was, now) (omega (arith, at.places, at.room, lane.grows, lane.room, ap (λ (w : List Point). length w) (at.shut now).0, none-added rules depth mask mask' o mid stay before after at now))
+            | inr now ↦ rw (was, now) (omega (arith, at.places, at.room now, lane.grows, lane.room, ap (λ (w : List Point). length w) (at.shut now).0, none-added rules depth mask mask' o mid stay before after at now))
           ]
     ]
 

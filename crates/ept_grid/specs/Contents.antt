@@ -57,7 +57,7 @@ pub record HasSentAt (rules : Rules) (depth mask mask' o : ℕ) (mid stay before
   pub leave : opened mask' o ≡ true → IsPermutation mid.points added
   pub in_order : opened mask' o ≡ true → HasDistinctIds mid.points → added ≡ in_id_order mid.points
   pub places : before.room ≤ after.room + length added
-  pub room : mid.room ≤ stay.room
+  pub room : opened mask' o ≡ false → mid.room ≤ stay.room
 
 -- so it is with each octant
 pub record HasSent (rules : Rules) (depth mask mask' : ℕ) (mid stay before after : List Leaving) : Type 0 where

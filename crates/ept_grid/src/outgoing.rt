@@ -7,6 +7,7 @@ ghost use Rattle.ept_sample.specs.Ids.{HasDistinctIds, in_id_order};
 use ept_point::{Memory, Point, PointId};
 use std::alloc::Global;
 use std::marker::Model;
+use std::mem::replace;
 
 /// The points that leave for one octant.
 #[derive(Debug, Drop)]
@@ -95,15 +96,16 @@ impl Lane {
         self.points.sort_unstable_by_key(|point| point.id());
     }
 
-    // Gives its points to another list, which has room for them: so this takes no memory.
+    // Gives its points to another list, which has room for them, and their place back: so this takes no memory.
     fn give(&mut self, to: &mut Lane)
         requires { length self.old.points ≤ to.old.room }
         ensures none { self.new.points ≡ [] }
-        ensures room { self.old.room ≤ self.new.room }
         ensures added { to.new.points ≡ to.old.points ++ self.old.points }
         ensures left { to.old.room ≤ to.new.room + length self.old.points }
     {
-        let _ = to.points.append(&mut self.points);
+        let alloc = *self.points.allocator();
+        let mut points = replace(&mut self.points, Vec::new(alloc));
+        let _ = to.points.append(&mut points);
     }
 
     fn clear(&mut self)
@@ -118,7 +120,7 @@ impl Lane {
         ensures taken { result.items ≡ self.old.points }
         ensures none { self.new.points ≡ [] }
     {
-        std::mem::replace(&mut self.points, Vec::new(alloc))
+        replace(&mut self.points, Vec::new(alloc))
     }
 }
 
@@ -256,13 +258,12 @@ impl Outgoing {
         self.lanes[octant as usize].sort();
     }
 
-    /// Gives the points of an octant to the list of that octant in `out`, which has room for them. It
-    /// takes no memory.
+    /// Gives the points of an octant to the list of that octant in `out`, which has room for them, and gives their
+    /// place in memory back. It takes no memory.
     pub(crate) fn give(&mut self, octant: u8, out: &mut Outgoing)
         requires one_of_eight { octant < 8 }
         requires room { length (points_at self.old octant) ≤ (leaving_at out.old octant).room }
         ensures none { points_at self.new octant ≡ [] }
-        ensures room { (leaving_at self.old octant).room ≤ (leaving_at self.new octant).room }
         ensures others { (o : ℕ) → o ≢ octant → leaving_at self.new o ≡ leaving_at self.old o }
         ensures eight { length self.new ≡ length self.old }
         ensures added { points_at out.new octant ≡ points_at out.old octant ++ points_at self.old octant }

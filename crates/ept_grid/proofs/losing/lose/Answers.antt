@@ -24,7 +24,7 @@ pub returns : goal.returns
 returns c =
     let many : opens_with c.args.rules.now c.args.depth (length (points_at c.push-2.new.self c.octant_of-octant.result)) ≡ true = ap (λ (n : ℕ). opens_with c.args.rules.now c.args.depth n) (sym c.count.ensures.count) ∙ (sym c.is_too_many.ensures ∙ c.if-not-is_too_many.false) in
     record {
-      sent = subst (λ (k : ℕ). HasSent c.args.rules.now c.args.depth c.args.mask c.with_open.result (joined c.args.losers.now k c.args.point) c.give.new.self c.args.out.now c.give.new.out) c.octant_of-octant.ensures.value (opens c.args.rules.now c.args.depth c.args.mask c.with_open.result c.octant_of-octant.result c.args.point c.args.losers.now c.push-2.new.self c.sort.new.self c.give.new.self c.args.out.now c.give.new.out c.octant_of-octant.ensures.one_of_eight c.requires.few c.known.ensures (c.give.ensures.eight ∙ c.sort.ensures.eight ∙ c.push-2.ensures.eight ∙ c.known.ensures) c.known-2.ensures (c.give.ensures.out_eight ∙ c.known-2.ensures) (sym c.is_open.ensures ∙ c.if-is_open.false) c.with_open.ensures c.push-2.ensures.added c.push-2.ensures.room (λ o h. c.give.ensures.others o h ∙ c.sort.ensures.others o h ∙ c.push-2.ensures.others o h) many c.sort.ensures.moved c.sort.ensures.sorted c.give.ensures.none (omega (arith, c.give.ensures.room, c.sort.ensures.room)) c.give.ensures.added c.give.ensures.left c.give.ensures.out_others);
+      sent = subst (λ (k : ℕ). HasSent c.args.rules.now c.args.depth c.args.mask c.with_open.result (joined c.args.losers.now k c.args.point) c.give.new.self c.args.out.now c.give.new.out) c.octant_of-octant.ensures.value (opens c.args.rules.now c.args.depth c.args.mask c.with_open.result c.octant_of-octant.result c.args.point c.args.losers.now c.push-2.new.self c.sort.new.self c.give.new.self c.args.out.now c.give.new.out c.octant_of-octant.ensures.one_of_eight c.requires.few c.known.ensures (c.give.ensures.eight ∙ c.sort.ensures.eight ∙ c.push-2.ensures.eight ∙ c.known.ensures) c.known-2.ensures (c.give.ensures.out_eight ∙ c.known-2.ensures) (sym c.is_open.ensures ∙ c.if-is_open.false) c.with_open.ensures c.push-2.ensures.added (λ o h. c.give.ensures.others o h ∙ c.sort.ensures.others o h ∙ c.push-2.ensures.others o h) many c.sort.ensures.moved c.sort.ensures.sorted c.give.ensures.none c.give.ensures.added c.give.ensures.left c.give.ensures.out_others);
       deepest = λ low. absurd (omega (arith, low, above c.args.depth c.args.rules.now.cube.depth _ many));
     }
   where
