@@ -24,7 +24,7 @@ use Rattle.ept_grid.specs.Mask.{opened}
 use Rattle.ept_grid.specs.Outgoing.{Leaving, points_at, all_points}
 use Rattle.ept_grid.specs.Settling.{winners, AreApart, HasItsCell, HasContended}
 use Rattle.ept_grid.specs.Columns.{spots_of, nexts_of, IsChained}
-use Rattle.ept_grid.specs.Contents.{contents, joined, opens_with, IsFilled, IsNode}
+use Rattle.ept_grid.specs.Contents.{contents, joined, opens_with, IsFilled, IsNode, IsSettled}
 use Rattle.ept_grid.specs.Tile.{is_open_loser, is_overfull, IsTile}
 use Rattle.ept_grid.proofs.Lanes.{member-at, at-member, joined-there, joined-other, length-joined}
 use Rattle.ept_grid.proofs.Leavings.{all-same}
@@ -86,6 +86,17 @@ filled-inside key rules heads cells capacity losers points at f all =
 pub filled-few : (key : VoxelKey) (rules : Rules) (heads : List ℕ) (cells : List Cell) (capacity : ℕ) (losers : List Leaving) (points : List Point) (at : ℕ) → IsFilled key rules heads cells capacity losers (take at points) → length cells ≤ at
 filled-few key rules heads cells capacity losers points at f =
     omega (arith, length_permutation (take at points) (contents (winners cells) losers) f.all, length-append (winners cells) (all_points losers), length-map cells (λ (c : Cell). c.point), length-take at points)
+
+-- the same cells, with heads and room for more of them
+pub filled-wider : (key : VoxelKey) (rules : Rules) (heads heads' : List ℕ) (cells cells' : List Cell) (capacity capacity' : ℕ) (losers : List Leaving) (points : List Point) → (length heads' ≡ 0) ⊎ (length heads' ≡ 2 ^ (2 * rules.cube.s)) → (0 < capacity' → 0 < length heads') → (IsChained heads (nexts_of cells) (spots_of rules key.depth cells) → IsChained heads' (nexts_of cells') (spots_of rules key.depth cells')) → cells' ≡ cells → IsFilled key rules heads cells capacity losers points → IsFilled key rules heads' cells' capacity' losers points
+filled-wider key rules heads heads' cells cells' capacity capacity' losers points table some chained same f = record {
+  table = table;
+  some = some;
+  chained = chained f.chained;
+  settled = subst (λ (w : List Cell). IsSettled rules key.depth (winners w) losers) (sym same) f.settled;
+  eight = f.eight;
+  all = subst (λ (w : List Cell). IsPermutation points (contents (winners w) losers)) (sym same) f.all;
+}
 
 pub filled-table : (key : VoxelKey) (rules : Rules) (heads : List ℕ) (cells : List Cell) (capacity : ℕ) (losers : List Leaving) (points : List Point) → IsFilled key rules heads cells capacity losers points → 0 < capacity → length heads ≡ 2 ^ (2 * rules.cube.s)
 filled-table key rules heads cells capacity losers points f h =

@@ -1,6 +1,6 @@
 //! The points of a node from a tile.
 
-ghost use Rattle.std.specs.Prelude.{◌≡◌, ◌≢◌, ◌<◌, ◌≤◌, ◌+◌, ◌↔◌, IsTrue, ℕ, ◌&&◌, ◌==◌, not, true, false, IfOk, IfErr, OnOk, MatchOption, length, position, take, vec_capacity, min, ◌*◌, ◌^◌};
+ghost use Rattle.std.specs.Prelude.{◌≡◌, ◌≢◌, ◌<◌, ◌≤◌, ◌+◌, ◌↔◌, IsTrue, ℕ, ◌&&◌, ◌==◌, not, true, false, IfOk, IfErr, OnOk, MatchOption, length, position, take, vec_capacity, ◌*◌, ◌^◌};
 ghost use Rattle.std.specs.Bool.{OnFalse};
 ghost use Rattle.ept_point.specs.Order.{IsAscending};
 ghost use Rattle.ept_space.specs.OctreeCube.{InBox};
@@ -116,14 +116,13 @@ fn settle_all(lists: Lists, key: &Key, rules: &Rules, points: &[Point]) -> Resul
         cells,
         losers,
     };
-    make_cells(rules, &mut kept.heads, &mut kept.cells, points.len())?;
     for at in 0..points.len() {
         fill(key, rules, points, at, &mut kept)?;
     }
     Ok(kept)
 }
 
-// Settles the point of a number.
+// Settles the point of a number. A cell is made for it, so that there is no room for losers among the cells.
 fn fill(
     key: &Key,
     rules: &Rules,
@@ -134,16 +133,15 @@ fn fill(
     requires low { key.now.depth ≤ rules.now.cube.depth }
     requires inside { AllInBox rules.now.cube key.now points.now }
     requires there { at < length points.now }
-    requires room { length points.now ≤ min (vec_capacity kept.old.cells) 4294967295 }
     requires filled { IsFilled key.now rules.now kept.old.heads.items kept.old.cells.items
         (vec_capacity kept.old.cells) kept.old.losers (take at points.now) }
     ensures filled { OnOk result (IsFilled key.now rules.now kept.new.heads.items kept.new.cells.items
         (vec_capacity kept.new.cells) kept.new.losers (take (at + 1) points.now)) }
-    ensures room { vec_capacity kept.new.cells ≡ vec_capacity kept.old.cells }
 {
     key.known();
     rules.cube.known();
     kept.losers.known();
+    make_cells(rules, &mut kept.heads, &mut kept.cells, 1)?;
     if let Some(loser) = settle(key, rules, &mut kept.heads, &mut kept.cells, points[at]) {
         let octant = octant_of(rules, key.depth, &loser);
         kept.losers.add(octant, loser)?;
