@@ -27,3 +27,4 @@ pub use lists::Lists;
 pub use octants::OCTANTS;
 pub use outgoing::Outgoing;
 pub use steps::Steps;
+pub use tile::first_outside;

@@ -74,8 +74,8 @@ fn is_deep(key: &Key, rules: &Rules, mask: u8) -> bool
     mask != 0 && key.depth == rules.cube.depth
 }
 
-// The number of the first point outside the key's box.
-fn first_outside(key: &Key, rules: &Rules, points: &[Point]) -> Option<usize>
+/// The number of the first point outside the key's box, from 0.
+pub fn first_outside(key: &Key, rules: &Rules, points: &[Point]) -> Option<usize>
     requires { key.now.depth ≤ rules.now.cube.depth }
     ensures { MatchOption result (AllInBox rules.now.cube key.now points.now)
         (IsFirstOutside rules.now.cube key.now points.now) }

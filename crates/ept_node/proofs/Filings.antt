@@ -22,13 +22,13 @@ use Rattle.ept_sample.proofs.Members.{All-members}
 use Rattle.ept_grid.specs.declared.error.GridError.{GridError}
 use Rattle.ept_grid.specs.declared.error.GridError.TheVariants.{Outside, OpenLoser, TooMany, Deep, Memory}
 use Rattle.ept_grid.specs.Node.{Node, IsNodeOf, IsInIdOrder, no_room}
-use Rattle.ept_grid.specs.Tile.{IsTile, IsTileFault}
+use Rattle.ept_grid.specs.Tile.{IsFirstOutside, IsTile, IsTileFault}
 use Rattle.ept_node.specs.declared.site.Filed.{Filed}
 use Rattle.ept_node.specs.declared.error.NodeError.{NodeError}
 use Rattle.ept_node.specs.declared.error.NodeError.TheVariants.{SpillDamaged}
 use Rattle.ept_node.specs.Told.{points_told}
 use Rattle.ept_node.specs.Shown.{bare, filed_node, IsAlike, IsTileOf}
-use Rattle.ept_node.specs.Filing.{IsLabelOf, FitsLabel, AppendsAlike}
+use Rattle.ept_node.specs.Filing.{IsLabelOf, FitsLabel, AreFiled, AppendsAlike}
 use Rattle.ept_node.specs.Damage.{place_of, IsWrongAt, IsDamaged}
 use Rattle.ept_node.proofs.Bridges.{none-in-order}
 use Rattle.ept_node.proofs.Tellings.{not_back, length-told, tile-told}
@@ -174,6 +174,25 @@ module _ (filed : Filed) (bytes : List ℕ) (long : length bytes ≡ packed_widt
         place = ap (λ (w : List Point). place_of w fault) (sym is) ∙ place;
       }))
 
+  -- the points are listed without a node
+  pub tile-listed : (points : List Point) → points ≡ read → AllInBox filed.site.rules.cube filed.site.key points → AreFiled filed bytes points
+  tile-listed points is inside = record {
+    bytes_are = reads.0 ∙ ap tile (sym is);
+    count = counted ∙ ap (λ (w : List Point). length w) (sym is);
+    ascend = subst (λ (w : List Point). IsAscending w) (sym is) reads.1;
+    inside = inside;
+  }
+
+  -- the first point outside the box is what is wrong
+  pub unfit-first : (e : NodeError) (points : List Point) (first : ℕ) → points ≡ read → IsFirstOutside filed.site.rules.cube filed.site.key points first → e ≡ SpillDamaged (packed_width * filed.count) (packed_width * filed.count) first
+      → (kept found at : ℕ) → e ≡ SpillDamaged kept found at → (kept ≡ length bytes) × (found ≡ kept) × ((told : Option (List ℕ)) → IsWrongAt (filed_node told filed) at bytes)
+  unfit-first e points first is unfit made kept found at named =
+      let same : SpillDamaged (packed_width * filed.count) (packed_width * filed.count) first ≡ SpillDamaged kept found at = sym made ∙ named in
+      let all : packed_width * filed.count ≡ kept = cc in
+      let as_many : packed_width * filed.count ≡ found = cc in
+      let there : first ≡ at = cc in
+      (sym all ∙ sym long, sym as_many ∙ all, λ told. unfit-at told points (Outside first) at is unfit there)
+
   -- a fault that no point has alone is at the end
   pub unfit-together : (e : NodeError) (points : List Point) (fault : GridError) → points ≡ read → IsTileFault filed.site.key filed.site.rules filed.mask points fault → place_of points fault ≡ length points → e ≡ SpillDamaged (packed_width * filed.count) (packed_width * filed.count) filed.count
       → (kept found at : ℕ) → e ≡ SpillDamaged kept found at → (kept ≡ length bytes) × (found ≡ kept) × ((told : Option (List ℕ)) → IsWrongAt (filed_node told filed) at bytes)
@@ -183,6 +202,29 @@ module _ (filed : Filed) (bytes : List ℕ) (long : length bytes ≡ packed_widt
       let as_many : packed_width * filed.count ≡ found = cc in
       let last : filed.count ≡ at = cc in
       (sym all ∙ sym long, sym as_many ∙ all, λ told. unfit-at told points fault at is unfit (place ∙ (ap (λ (w : List Point). length w) is ∙ (sym counted ∙ last))))
+
+-- ---- points that are listed without a node
+
+pub listed-alike : (filed : Filed) (bytes : List ℕ) (points before after : List Point) → AreFiled filed bytes points → after ≡ before ++ points → (told : Option (List ℕ)) → AppendsAlike (filed_node told filed) before after
+listed-alike filed bytes points before after has grows told = record {
+  added = points;
+  grows = grows;
+  count = sym has.count ∙ sym (length-told filed.site.rules.cube filed.site.key filed.count (unwrap_or told []));
+  in_order = ascending-in_order points has.ascend;
+  inside = has.inside;
+}
+
+pub listed-told : (filed : Filed) (told : Option (List ℕ)) (bytes : List ℕ) (points before after : List Point) → AreFiled filed bytes points → Tells (λ held. held ≡ bytes) told → after ≡ before ++ points → Tells (λ _. after ≡ before ++ (filed_node told filed).points) told
+listed-told filed None bytes points before after has tells grows = tt
+listed-told filed (Some held) bytes points before after has tells grows =
+    grows ∙ ap (λ (w : List Point). before ++ w) (sym (tile-told filed.site.rules.cube filed.site.key filed.count held points (tells ∙ has.bytes_are) has.count has.inside (ascending-in_order points has.ascend)))
+
+-- of the node that the label shows
+pub shown-alike : (filed : Filed) (told : Option (List ℕ)) (old : Node) (before after : List Point) → filed_node told filed ≡ old → AppendsAlike (filed_node told filed) before after → AppendsAlike old before after
+shown-alike filed told old before after is appends = subst (λ (n : Node). AppendsAlike n before after) is appends
+
+pub shown-told : (filed : Filed) (told : Option (List ℕ)) (old : Node) (before after : List Point) → filed_node told filed ≡ old → Tells (λ _. after ≡ before ++ (filed_node told filed).points) told → Tells (λ _. after ≡ before ++ old.points) told
+shown-told filed told old before after is adds = subst (λ (n : Node). Tells (λ _. after ≡ before ++ n.points) told) is adds
 
 -- where the file told these bytes, what is wrong with them is wrong with what it holds
 pub damaged-told : (node : Node) (told : Option (List ℕ)) (bytes : List ℕ) (kept found at : ℕ) → Tells (λ held. held ≡ bytes) told → kept ≡ length bytes → found ≡ kept → IsWrongAt node at bytes → Tells (IsDamaged node kept found at) told

@@ -1,7 +1,8 @@
 -- What stays in memory of a node whose points go to its spill file.
-use Rattle.std.specs.Prelude.{◌≡◌, List, length, ◌++◌}
+use Rattle.std.specs.Prelude.{ℕ, ◌≡◌, List, length, ◌++◌}
 use Rattle.ept_point.specs.declared.point.Point.{Point}
 use Rattle.ept_point.specs.Order.{IsAscending}
+use Rattle.ept_point.specs.Packed.{tile}
 use Rattle.ept_sample.specs.Place.{AllInBox}
 use Rattle.ept_grid.specs.Node.{Node, IsInIdOrder}
 use Rattle.ept_grid.specs.Tile.{IsTile}
@@ -19,6 +20,13 @@ pub record FitsLabel (filed : Filed) (node : Node) : Type 0 where
   pub label : IsLabelOf node filed
   pub ascend : IsAscending node.points
   pub tile : IsTile node.key node.rules node.mask node.points
+
+-- bytes are the tile of points that ascend and lie in the label's box, as many as it counts
+pub record AreFiled (filed : Filed) (bytes : List ℕ) (points : List Point) : Type 0 where
+  pub bytes_are : bytes ≡ tile points
+  pub count : filed.count ≡ length points
+  pub ascend : IsAscending points
+  pub inside : AllInBox filed.site.rules.cube filed.site.key points
 
 -- as many points as the node has are added to a list, in id order and each in the node's box
 pub record AppendsAlike (node : Node) (before after : List Point) : Type 0 where

@@ -10,7 +10,7 @@ ghost use Rattle.ept_sample.specs.Ids.{HasDistinctIds};
 ghost use Rattle.ept_grid.specs.Node.{IsInIdOrder};
 ghost use Rattle.ept_node.specs.declared.error.NodeError.TheVariants.{SpillFault, SpillDamaged, Memory};
 ghost use Rattle.ept_node.specs.Shown.{bare, filed_node, IsTileOf, DoesTell};
-ghost use Rattle.ept_node.specs.Filing.{IsLabelOf, FitsLabel, AppendsAlike};
+ghost use Rattle.ept_node.specs.Filing.{IsLabelOf, FitsLabel, AreFiled, AppendsAlike};
 ghost use Rattle.ept_node.specs.Damage.{IsDamaged, IsWrongAt};
 
 use crate::body::boxed;
@@ -18,7 +18,7 @@ use crate::error::NodeError;
 use crate::site::{Filed, Site};
 use crate::workspace::Workspace;
 use ept_base::{PutError, SpillFile};
-use ept_grid::{Grid, GridError};
+use ept_grid::{Grid, GridError, first_outside};
 use ept_point::{
     PACKED_LENGTH, Point, TileError, layout_law, read_tile, tile_bytes, tile_length_law,
     tile_once_law,
@@ -136,6 +136,69 @@ pub(crate) fn append(grid: &Grid, out: &mut Vec<Point>) -> Result<(), NodeError>
     grid.known();
     grid.points_into(out)?;
     Ok(())
+}
+
+/// Appends the points that the file of a spilled node gives back, in id order, and makes no node of them. The file holds what
+/// it held. After a refusal the list is as it was.
+pub(crate) fn append_filed<F: SpillFile>(
+    alloc: Global,
+    file: &mut F,
+    filed: &Filed,
+    out: &mut Vec<Point>,
+) -> Result<(), NodeError>
+    ensures appended { OnOk result ((told : Option (List ℕ)) → AppendsAlike (filed_node told filed.now) out.old.items out.new.items) }
+    ensures told { OnOk result (Tells (λ _. out.new.items ≡ out.old.items ++ (filed_node (F.held file.old) filed.now).points)
+        (F.held file.old)) }
+    ensures unchanged { OnErr result (out.new.items ≡ out.old.items) }
+    ensures kept { (kept found at : ℕ) → result ≡ Err (SpillDamaged kept found at) → kept ≡ packed_width * filed.now.count }
+    ensures damaged { (kept found at : ℕ) → result ≡ Err (SpillDamaged kept found at)
+        → Tells (IsDamaged (filed_node (F.held file.old) filed.now) kept found at) (F.held file.old) }
+    ensures intact { Tells (IsTileOf (filed_node (F.held file.old) filed.now)) (F.held file.old)
+        → HasDistinctIds (filed_node (F.held file.old) filed.now).points
+        → Tells (λ _. (kept found at : ℕ) → result ≢ Err (SpillDamaged kept found at)) (F.held file.old) }
+    ensures held { F.held file.new ≡ F.held file.old }
+    ensures counted { F.keeps file.new ≡ F.keeps file.old }
+    ensures cause { HasCauseOf SpillFault (F.faults file.old) (F.faults file.new) result }
+{
+    tile_length_law();
+    tile_once_law();
+    filed.known();
+    let mut workspace = Workspace::new(alloc);
+    let bytes = load_bytes(alloc, &mut workspace, file, filed)?;
+    let mut points = points_of_bytes(alloc, &mut workspace, filed, bytes.as_slice())?;
+    out.append(&mut points)?;
+    Ok(())
+}
+
+// The points whose tile these bytes are, where each lies in the box of the node.
+fn points_of_bytes(
+    alloc: Global,
+    workspace: &mut Workspace,
+    filed: &Filed,
+    bytes: &[u8],
+) -> Result<Vec<Point>, NodeError>
+    requires { length bytes.now ≡ packed_width * filed.now.count }
+    ensures points { IfOk result (λ points. AreFiled filed.now bytes.now points.items) }
+    ensures wrong { IfErr result (λ e. (kept found at : ℕ) → e ≡ SpillDamaged kept found at
+        → (kept ≡ length bytes.now) × (found ≡ kept)
+        × ((told : Option (List ℕ)) → IsWrongAt (filed_node told filed.now) at bytes.now)) }
+    ensures only { IfErr result (λ e. e ≢ SpillFault) }
+{
+    tile_length_law();
+    filed.known();
+    let mut points = workspace.take_points(alloc);
+    match read_tile(bytes, &mut points) {
+        Ok(()) => {}
+        Err(TileError::Length) => unreachable!(),
+        Err(TileError::Field { at }) => return Err(damaged_at(filed, at)),
+        Err(TileError::Order { at }) => return Err(damaged_at(filed, at)),
+        Err(TileError::Memory) => return Err(NodeError::Memory),
+    }
+    let site = &filed.site;
+    match first_outside(&site.key, &site.rules, points.as_slice()) {
+        Some(at) => Err(damaged_at(filed, at as u64)),
+        None => Ok(points),
+    }
 }
 
 // The bytes of a node's tile, as many as the file has kept.

@@ -17,7 +17,7 @@ ghost use Rattle.ept_node.specs.Damage.{IsDamaged};
 
 use crate::body::Body;
 use crate::error::NodeError;
-use crate::filing::{append, keep_grid, load_grid};
+use crate::filing::{append, append_filed, keep_grid, load_grid};
 use crate::node::Node;
 use crate::workspace::Workspace;
 use ept_base::SpillFile;
@@ -178,8 +178,9 @@ impl<F: SpillFile> Node<F> {
     ///
     /// # Errors
     ///
-    /// Those of [`reload`](Node::reload) where the node is spilled; where it is resident, `Memory` alone. After each the list
-    /// is as it was.
+    /// Where the node is spilled, `SpillFault` where the file fails, and `SpillDamaged` where it gives back other bytes than
+    /// those of as many points in id order, each in the node's box: the node is broken then. `Memory` in either case, and
+    /// nothing else where it is resident. After each the list is as it was.
     pub fn points_into(&mut self, alloc: Global, out: &mut Vec<Point>) -> Result<(), NodeError>
         requires { (state_of self.old ≡ Resident) ⊎ (state_of self.old ≡ Spilled) }
 
@@ -219,9 +220,8 @@ impl<F: SpillFile> Node<F> {
             Body::Resident(grid) => append(grid, out),
             Body::Spilled(filed) => {
                 filed.known();
-                let mut workspace = Workspace::new(alloc);
-                match load_grid(alloc, &mut workspace, &mut self.file, filed) {
-                    Ok(grid) => append(&grid, out),
+                match append_filed(alloc, &mut self.file, filed, out) {
+                    Ok(()) => Ok(()),
                     Err(why) => {
                         self.give_up_loading(why);
                         Err(why)
