@@ -111,23 +111,6 @@ impl Grid {
         })
     }
 
-    /// The lists of the node, for the next one that is made. Its points are gone.
-    pub fn into_lists(self) -> Lists {
-        let Grid {
-            key: _key,
-            rules: _rules,
-            heads,
-            cells,
-            losers,
-            mask: _mask,
-        } = self;
-        Lists {
-            heads,
-            cells,
-            losers,
-        }
-    }
-
     /// Takes in a point, and gives out the points that leave. It takes no memory.
     pub fn arrive(&mut self, point: Point, out: &mut Outgoing)
         requires room { HasRoomFor self.old out.old (point ∷ []) }

@@ -1,11 +1,10 @@
-//! The lists of a node that has left memory.
+//! The lists that a node is made in.
 
 use crate::outgoing::Outgoing;
 use crate::pool::Cell;
 use std::alloc::Global;
 
-/// The lists of a node that has left memory. The node that comes next is made in them, and asks for memory only where their
-/// room does not do.
+/// The lists that a node is made in from its points. It asks for memory only where their room does not do.
 #[derive(Debug, Drop)]
 pub struct Lists {
     pub(crate) heads: Vec<u32>,

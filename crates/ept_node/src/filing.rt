@@ -18,7 +18,7 @@ use crate::error::NodeError;
 use crate::site::{Filed, Site};
 use crate::workspace::Workspace;
 use ept_base::{PutError, SpillFile};
-use ept_grid::{Grid, GridError, first_outside};
+use ept_grid::{Grid, GridError, Lists, first_outside};
 use ept_point::{
     PACKED_LENGTH, Point, TileError, layout_law, read_tile, tile_bytes, tile_length_law,
     tile_once_law,
@@ -257,7 +257,7 @@ fn grid_of_bytes(
         Err(TileError::Memory) => return Err(NodeError::Memory),
     }
     let site = &filed.site;
-    let lists = workspace.take_lists(alloc);
+    let lists = Lists::new(alloc);
     match Grid::from_tile(lists, site.key, &site.rules, filed.mask, points.as_slice()) {
         Ok(grid) => {
             workspace.keep_points(points);

@@ -27,7 +27,7 @@ use std::mem::replace;
 
 impl<F: SpillFile> Node<F> {
     /// Puts the points of a resident node into its spill file, as the bytes of its tile. Its key, its rules, its
-    /// count, its open octants and its children stay in memory. The room that the points had stays with the workspace.
+    /// count, its open octants and its children stay in memory. The room that the points had is given back.
     ///
     /// # Errors
     ///
@@ -70,9 +70,7 @@ impl<F: SpillFile> Node<F> {
         };
         match keep_grid(alloc, workspace, &mut self.file, grid) {
             Ok(filed) => {
-                let body = replace(&mut self.body, Body::Blank);
                 self.body = Body::Spilled(filed);
-                keep_room(workspace, body);
                 Ok(())
             }
             Err(NodeError::SpillFault) => {
@@ -101,7 +99,7 @@ impl<F: SpillFile> Node<F> {
         };
     }
 
-    /// Brings the points of a spilled node back into memory, into the room that the workspace has. The file holds what it held.
+    /// Brings the points of a spilled node back into memory, into lists of their own size. The file holds what it held.
     ///
     /// # Errors
     ///
@@ -230,12 +228,5 @@ impl<F: SpillFile> Node<F> {
             }
             _ => unreachable!(),
         }
-    }
-}
-
-// Keeps the room of points that have gone to their file.
-fn keep_room(workspace: &mut Workspace, body: Body) {
-    if let Body::Resident(grid) = body {
-        workspace.keep_lists(Box::into_inner(grid));
     }
 }

@@ -2,19 +2,15 @@
 
 ghost use Rattle.std.specs.Prelude.{◌≡◌, []};
 
-use ept_grid::{Grid, Lists};
 use ept_point::Point;
 use std::alloc::Global;
 use std::mem::replace;
 
-/// Memory that nodes use again on their way into their spill files and back: what one of them leaves behind the next one
-/// takes, so that a node that comes asks for no fresh memory where another one went. A worker has one, and lends it to each
-/// call.
+/// Memory that nodes use again on their way into their spill files and back: the room of a node's points in id order, and of
+/// the bytes of its tile. A worker has one, and lends it to each call. The lists that a node keeps its points in are its own: they
+/// go with it, since one that came back in another's lists would keep their room, however few points it has.
 #[derive(Debug, Drop)]
 pub struct Workspace {
-    // The lists of the node that went last, unless another one has come in them.
-    lists: Option<Lists>,
-    // Room for the points and the bytes of a tile.
     points: Vec<Point>,
     bytes: Vec<u8>,
 }
@@ -23,23 +19,9 @@ impl Workspace {
     /// A workspace without room. It takes no memory.
     pub fn new(alloc: Global) -> Workspace {
         Workspace {
-            lists: None,
             points: Vec::new(alloc),
             bytes: Vec::new(alloc),
         }
-    }
-
-    // The lists of a node that has gone, or else lists without room.
-    pub(crate) fn take_lists(&mut self, alloc: Global) -> Lists {
-        match self.lists.take() {
-            Some(lists) => lists,
-            None => Lists::new(alloc),
-        }
-    }
-
-    // Keeps the lists of a node that goes.
-    pub(crate) fn keep_lists(&mut self, grid: Grid) {
-        self.lists = Some(grid.into_lists());
     }
 
     // An empty list for points, to be kept again.
