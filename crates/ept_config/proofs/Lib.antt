@@ -1,9 +1,1 @@
-mod Wholes
-mod Objects
-mod Signed
-mod Places
-mod EachInput
-mod ClassLists
-mod Faults
-mod RefusalLaws
 pub mod FactsTell

@@ -1,34 +1,6 @@
-//! When each refusal comes, and what the facts of a configuration tell. Each law is the contract of a
-//! function that does nothing.
+//! What the facts of a configuration tell. The law is the contract of a function that does nothing.
 
-ghost use Rattle.ept_config.specs.Laws.{LongWhereLonger, JsonWhereNoValue, TopWhereNoObject, UnknownWhereAnotherKey, MissesInputWhereAbsent, MissesScaleWhereAbsent, ThreadsWhereFewerNodes, AcceptedHasEnoughNodes, InputByFacts, ReferenceByFacts, ConfigByFacts};
-
-/// `Long` comes exactly where the text is longer than 16,777,216 bytes, and `Json` exactly where it is
-/// not and is the text of no JSON value.
-pub fn text_law()
-    ensures long { LongWhereLonger }
-    ensures json { JsonWhereNoValue }
-{}
-
-/// `Kind` of the whole comes exactly where the value is no object, and `Unknown` exactly where it is one
-/// with another key.
-pub fn object_law()
-    ensures top { TopWhereNoObject }
-    ensures unknown { UnknownWhereAnotherKey }
-{}
-
-/// `Missing` of `input` comes exactly where it is not there, and of `scale` exactly where `input` alone
-/// is.
-pub fn required_law()
-    ensures input { MissesInputWhereAbsent }
-    ensures scale { MissesScaleWhereAbsent }
-{}
-
-/// `Threads` comes exactly where all else is accepted and `cacheSize` is below `threads`.
-pub fn threads_law()
-    ensures refused { ThreadsWhereFewerNodes }
-    ensures accepted { AcceptedHasEnoughNodes }
-{}
+ghost use Rattle.ept_config.specs.Laws.{InputByFacts, ReferenceByFacts, ConfigByFacts};
 
 /// What has the same facts is the same: an input, a spatial reference, and a whole configuration. So a
 /// text has one configuration.

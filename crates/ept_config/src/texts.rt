@@ -1,13 +1,10 @@
 //! Which texts a configuration may have.
 
-ghost use Rattle.std.specs.Prelude.{◌≡◌, IfSome};
+ghost use Rattle.std.specs.Prelude.{◌≡◌};
 ghost use Rattle.std.specs.List.{list_all};
 ghost use Rattle.ept_config.specs.Texts.{is_shown, is_plain, is_path, is_srs_text};
-ghost use Rattle.ept_config.specs.Inputs.{is_lower_digit, expected_bytes};
-ghost use Rattle.ept_config.specs.InputRanges.{AreBytes};
 
-use crate::limits::{EXPECT_WIDTH, MAX_PATH, MAX_SRS_TEXT};
-use hex::FromHex;
+use crate::limits::{MAX_PATH, MAX_SRS_TEXT};
 
 /// Whether a text may be the path of an input: 1 to `MAX_PATH` bytes, none of them below 32 or 127.
 #[tactic(auto, unfolding(crate::specs::Texts::is_path))]
@@ -37,22 +34,4 @@ fn all_shown(bytes: &[u8]) -> bool
     ensures { result ≡ list_all is_shown bytes.now }
 {
     bytes.iter().all(|byte| *byte >= 32 && *byte != 127)
-}
-
-/// The bytes of 96 hexadecimal digits in lower case.
-#[tactic(auto, unfolding(crate::specs::Inputs::expected_bytes))]
-pub fn expected_bytes(text: &str) -> Option<[u8; EXPECT_WIDTH]>
-    ensures value { result ≡ expected_bytes text.now }
-    ensures range { IfSome result (AreBytes 48) }
-{
-    if !are_lower_digits(text.as_bytes()) {
-        return None;
-    }
-    <[u8; EXPECT_WIDTH] as FromHex>::from_hex(text).ok()
-}
-
-fn are_lower_digits(text: &[u8]) -> bool
-    ensures { result ≡ list_all is_lower_digit text.now }
-{
-    text.iter().all(|c| matches!(*c, b'0'..=b'9' | b'a'..=b'f'))
 }

@@ -1,6 +1,6 @@
 //! The keys of a configuration, and what their values are to be.
 
-use ept_config::ConfigKey;
+use ept_config_text::ConfigKey;
 use ept_meta::Field;
 
 /// What the value of this key is to be: its type and its range.

@@ -3,7 +3,8 @@
 use crate::keys::{key_of, range_of};
 use ept_check::{CheckError, Fault};
 use ept_ckpt::Letter;
-use ept_config::{ConfigError, ConfigKey, MAX_LENGTH, MAX_POINTS};
+use ept_config::MAX_POINTS;
+use ept_config_text::{ConfigError, ConfigKey, MAX_LENGTH};
 use ept_las::LasError;
 use ept_meta::Field;
 use ept_point::PointNumber;

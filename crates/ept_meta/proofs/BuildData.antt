@@ -27,7 +27,7 @@ use Rattle.ept_config.specs.declared.kept.Kept.{Kept}
 use Rattle.ept_config.specs.InputRanges.{AreThreeWithin, AreBytes}
 use Rattle.ept_config.specs.Ranges.{AreCoordinates}
 use Rattle.ept_config.specs.Texts.{is_shown, is_plain, is_path, is_srs_text}
-use Rattle.ept_config.specs.Inputs.{is_lower_digit}
+use Rattle.ept_config_text.specs.Inputs.{is_lower_digit}
 use Rattle.ept_meta.specs.Classes.{members_of}
 use Rattle.ept_meta.specs.Json.{escaped, quoted, number_member, naturals_text, wholes, wholes_text}
 use Rattle.ept_meta.specs.SrsObject.{Member, member_text, given, members, srs_text}

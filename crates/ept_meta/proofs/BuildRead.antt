@@ -15,19 +15,19 @@ use Rattle.ept_space.specs.declared.bounds.Bounds.{Bounds}
 use Rattle.ept_config.specs.declared.input.Input.{Input}
 use Rattle.ept_config.specs.declared.srs.Srs.{Srs}
 use Rattle.ept_config.specs.declared.kept.Kept.{Kept}
-use Rattle.ept_config.specs.declared.config_key.ConfigKey.{ConfigKey}
-use Rattle.ept_config.specs.declared.config_key.ConfigKey.TheVariants as key
+use Rattle.ept_config_text.specs.declared.config_key.ConfigKey.{ConfigKey}
+use Rattle.ept_config_text.specs.declared.config_key.ConfigKey.TheVariants as key
 use Rattle.ept_config.specs.Facts.{Facts, SrsFacts, input_facts, srs_facts}
 use Rattle.ept_config.specs.InputRanges.{AreThreeWithin, AreBytes}
 use Rattle.ept_config.specs.Ranges.{AreCoordinates, BoundsInRange}
 use Rattle.ept_config.specs.Texts.{is_srs_text}
-use Rattle.ept_config.specs.Json.{whole, wholes, array_items, has_only, list_of}
-use Rattle.ept_config.specs.Numbers.{natural_within, exponent_of, span_exponent, all_within, coordinate_of, place_of, is_ordered, bounds_between, bounds_within}
-use Rattle.ept_config.specs.Inputs.{expected_bytes, expect_of, path_member, scale_member, shift_member, expect_member, input_members, input_object, raw_input, input_scale, input_shift, input_within, input_items, is_input}
-use Rattle.ept_config.specs.SrsTexts.{srs_member, srs_members, raw_srs, fits_srs}
-use Rattle.ept_config.specs.Values.{natural, natural_at, span, span_at, offset, offset_at, bounds, bounds_at, srs_text, srs_texts, srs, srs_at, first_classes_at, withheld_last_at, input, each_input, list_inputs, inputs}
-use Rattle.ept_config.specs.Classes.{is_listed}
-use Rattle.ept_config.specs.Configuration.{work_at, values, settings, object_reading, value_reading}
+use Rattle.ept_config_text.specs.Json.{whole, wholes, array_items, has_only, list_of}
+use Rattle.ept_config_text.specs.Numbers.{natural_within, exponent_of, span_exponent, all_within, coordinate_of, place_of, is_ordered, bounds_between, bounds_within}
+use Rattle.ept_config_text.specs.Inputs.{expected_bytes, expect_of, path_member, scale_member, shift_member, expect_member, input_members, input_object, raw_input, input_scale, input_shift, input_within, input_items, is_input}
+use Rattle.ept_config_text.specs.SrsTexts.{srs_member, srs_members, raw_srs, fits_srs}
+use Rattle.ept_config_text.specs.Values.{natural, natural_at, span, span_at, offset, offset_at, bounds, bounds_at, srs_text, srs_texts, srs, srs_at, first_classes_at, withheld_last_at, input, each_input, list_inputs, inputs}
+use Rattle.ept_config_text.specs.Classes.{is_listed}
+use Rattle.ept_config_text.specs.Configuration.{work_at, values, settings, object_reading, value_reading}
 use Rattle.ept_meta.specs.SrsObject.{given, members}
 use Rattle.ept_meta.specs.BuildText.{build_text}
 use Rattle.ept_meta.specs.Classes.{members_of}

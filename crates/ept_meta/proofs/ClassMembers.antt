@@ -11,10 +11,10 @@ use Rattle.std.proofs.lemmas.Nat.Bits.{bit_at-zero}
 use Rattle.serde_json.specs.Data.{Data, number, array, unsigned, Items, no_items, item}
 use Rattle.ept_class.specs.declared.class_set.ClassSet.{ClassSet}
 use Rattle.ept_class.specs.ClassSet.{has_class}
-use Rattle.ept_config.specs.Json.{whole, array_items, list_of}
-use Rattle.ept_config.specs.Numbers.{natural_within}
-use Rattle.ept_config.specs.Classes.{is_whole, whole_items, class_of, one_more, distinct_classes, is_listed}
-use Rattle.ept_config.specs.Values.{first_classes}
+use Rattle.ept_config_text.specs.Json.{whole, array_items, list_of}
+use Rattle.ept_config_text.specs.Numbers.{natural_within}
+use Rattle.ept_config_text.specs.Classes.{is_whole, whole_items, class_of, one_more, distinct_classes, is_listed}
+use Rattle.ept_config_text.specs.Values.{first_classes}
 use Rattle.ept_meta.specs.Classes.{members_below, members_of}
 use Rattle.ept_meta.proofs.JsonTexts.{ordered, items_ordered}
 

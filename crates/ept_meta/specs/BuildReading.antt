@@ -7,10 +7,10 @@ use Rattle.ept_json.specs.Document.{document}
 use Rattle.ept_json.specs.declared.json_error.JsonError.{JsonError}
 use Rattle.ept_json.specs.declared.json_error.JsonError.TheVariants as json
 use Rattle.ept_config.specs.declared.kept.Kept.{Kept}
-use Rattle.ept_config.specs.declared.config_error.ConfigError.{ConfigError}
-use Rattle.ept_config.specs.declared.config_error.ConfigError.TheVariants as config
+use Rattle.ept_config_text.specs.declared.config_error.ConfigError.{ConfigError}
+use Rattle.ept_config_text.specs.declared.config_error.ConfigError.TheVariants as config
 use Rattle.ept_config.specs.Facts.{Facts, InputFacts, SrsFacts, input_facts, srs_facts}
-use Rattle.ept_config.specs.Configuration.{value_reading}
+use Rattle.ept_config_text.specs.Configuration.{value_reading}
 use Rattle.ept_meta.specs.declared.meta_error.MetaError.{MetaError}
 use Rattle.ept_meta.specs.declared.meta_error.MetaError.TheVariants.{Form, Memory}
 

@@ -7,7 +7,8 @@ ghost use Rattle.ept_meta.specs.BuildReading.{told, build_facts};
 
 use crate::build::build_json;
 use crate::meta_error::MetaError;
-use ept_config::{Kept, read_value};
+use ept_config::Kept;
+use ept_config_text::read_value;
 use ept_json::document;
 use ept_point::Memory;
 use std::alloc::Global;

@@ -2,7 +2,7 @@
 
 ghost use Rattle.std.specs.Prelude.{◌≡◌};
 
-use ept_config::ConfigError;
+use ept_config_text::ConfigError;
 use ept_json::JsonError;
 use ept_point::Memory;
 

@@ -5,9 +5,9 @@ use Rattle.std.proofs.lemmas.Bool.{lt-leb}
 use Rattle.std.proofs.lemmas.Bool.Decides.{leb_tells}
 use Rattle.ept_base.specs.Files.{Files, Tells}
 use Rattle.ept_config.specs.declared.config.Config.{Config}
-use Rattle.ept_config.specs.declared.config_error.ConfigError.{ConfigError}
-use Rattle.ept_config.specs.declared.config_error.ConfigError.TheVariants as config
-use Rattle.ept_config.specs.Configuration.{reading}
+use Rattle.ept_config_text.specs.declared.config_error.ConfigError.{ConfigError}
+use Rattle.ept_config_text.specs.declared.config_error.ConfigError.TheVariants as config
+use Rattle.ept_config_text.specs.Configuration.{reading}
 use Rattle.ept_config.specs.Facts.{facts}
 use Rattle.ept_run.specs.declared.files.TheConstants.{MOST}
 use Rattle.ept_run.specs.Errors.{of_config}

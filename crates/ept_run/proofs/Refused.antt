@@ -13,8 +13,8 @@ use Rattle.ept_save.specs.Sound.{IsSound}
 use Rattle.ept_save.specs.SoundLaws.{SameIsSound}
 use Rattle.ept_save.proofs.Standing.{settled_some}
 use Rattle.ept_config.specs.declared.config.Config.{Config}
-use Rattle.ept_config.specs.declared.config_error.ConfigError.{ConfigError}
-use Rattle.ept_config.specs.Configuration.{reading}
+use Rattle.ept_config_text.specs.declared.config_error.ConfigError.{ConfigError}
+use Rattle.ept_config_text.specs.Configuration.{reading}
 use Rattle.ept_config.specs.Facts.{Facts, facts}
 use Rattle.ept_build.specs.declared.error.BuildError.{BuildError}
 use Rattle.ept_build.specs.declared.error.BuildError.TheVariants as build

@@ -4,7 +4,7 @@ use Rattle.std.specs.Prelude.{◌↔◌, Result, Vec, IfOk, IfErr, IsOk, OnOk}
 use Rattle.std.specs.Io.KnownBytes.{Appends}
 use Rattle.std.specs.declared.alloc.Global.{Global}
 use Rattle.ept_base.specs.Files.{Files, Tells}
-use Rattle.ept_config.specs.declared.config_error.ConfigError.{ConfigError}
+use Rattle.ept_config_text.specs.declared.config_error.ConfigError.{ConfigError}
 use Rattle.ept_run.specs.Words.{IsUsage}
 use Rattle.ept_run.specs.declared.ended.Failure.{Failure}
 use Rattle.ept_run.specs.declared.ended.Failure.TheVariants.{Refused, LineNotWritten}

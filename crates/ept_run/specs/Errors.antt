@@ -1,8 +1,8 @@
 -- What the refusals of the layers below are told as.
 use Rattle.ept_base.specs.declared.errors.GetError.{GetError}
 use Rattle.ept_base.specs.declared.errors.GetError.TheVariants as get
-use Rattle.ept_config.specs.declared.config_error.ConfigError.{ConfigError}
-use Rattle.ept_config.specs.declared.config_error.ConfigError.TheVariants as config
+use Rattle.ept_config_text.specs.declared.config_error.ConfigError.{ConfigError}
+use Rattle.ept_config_text.specs.declared.config_error.ConfigError.TheVariants as config
 use Rattle.ept_build.specs.declared.error.BuildError.{BuildError}
 use Rattle.ept_build.specs.declared.error.BuildError.TheVariants as build
 use Rattle.ept_run.specs.declared.refusal.Refusal.{Refusal}

@@ -1,8 +1,8 @@
 -- The lines that are written: of a command that is carried out, and of each refusal.
 use Rattle.std.specs.Prelude.{ℕ, List, [], ◌++◌, codes}
 use Rattle.std.specs.Fmt.{decimal}
-use Rattle.ept_config.specs.declared.config_error.ConfigError.{ConfigError}
-use Rattle.ept_config.specs.Refusals as config
+use Rattle.ept_config_text.specs.declared.config_error.ConfigError.{ConfigError}
+use Rattle.ept_config_text.specs.Refusals as config
 use Rattle.ept_las.specs.declared.header.Header.{Header}
 use Rattle.ept_las.specs.declared.las_error.LasError.{LasError}
 use Rattle.ept_las.specs.declared.las_error.LasError.TheVariants.{Short, Signature, Version, HeaderSize, Compressed, Format, RecordLength, PointOffset, Expect, Truncated}

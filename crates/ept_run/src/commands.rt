@@ -4,7 +4,7 @@ ghost use Rattle.std.specs.Prelude.{◌≡◌, ◌⊎◌, ◌≤◌, ◌+◌, �
 ghost use Rattle.ept_base.specs.Causes.{HasCauseOf};
 ghost use Rattle.ept_base.specs.Files.{Files, SameFiles, Tells};
 ghost use Rattle.ept_base.specs.Moves.{Moves, IsSettled};
-ghost use Rattle.ept_config.specs.declared.config_error.ConfigError.{ConfigError};
+ghost use Rattle.ept_config_text.specs.declared.config_error.ConfigError.{ConfigError};
 ghost use Rattle.ept_scan.specs.Asking.{AsksFor};
 ghost use Rattle.ept_las.specs.declared.header.Header as found;
 ghost use Rattle.ept_ckpt.specs.declared.letter.Letter.{Letter};

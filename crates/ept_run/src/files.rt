@@ -8,7 +8,8 @@ ghost use Rattle.ept_run.specs.Requests.{HasFront, HasConfiguration, Configurati
 
 use crate::refusal::Refusal;
 use ept_base::{Failed, GetError, Shelf, Source, read_full};
-use ept_config::{Config, MAX_LENGTH, read_config};
+use ept_config::Config;
+use ept_config_text::{MAX_LENGTH, read_config};
 use ept_las::{HEAD_LENGTH, Header, read_header};
 use std::alloc::Global;
 

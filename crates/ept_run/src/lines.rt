@@ -10,7 +10,7 @@ use crate::refusal::Refusal;
 use ept_build::Summary;
 use ept_check::Fault;
 use ept_ckpt::Letter;
-use ept_config::ConfigError;
+use ept_config_text::ConfigError;
 use ept_las::{Header, LasError};
 use ept_meta::Field;
 use ept_point::PointNumber;

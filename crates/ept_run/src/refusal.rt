@@ -6,7 +6,7 @@ use crate::status::{
 use ept_base::GetError;
 use ept_build::BuildError;
 use ept_ckpt::Letter;
-use ept_config::ConfigError;
+use ept_config_text::ConfigError;
 use ept_las::LasError;
 use ept_meta::Field;
 use ept_point::{Memory, PointNumber};

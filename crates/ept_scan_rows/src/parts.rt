@@ -4,7 +4,8 @@ use crate::files::{compare_files, failing_store_of, shelf_of};
 use crate::numbers::count;
 use crate::row::Row;
 use crate::stop::{Answered, Stop};
-use ept_config::{Config, read_config};
+use ept_config::Config;
+use ept_config_text::read_config;
 use ept_mem::{MemShelf, MemStore};
 use ept_part::part;
 

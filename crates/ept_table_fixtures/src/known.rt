@@ -8,7 +8,8 @@ ghost use Rattle.ept_scan.specs.Reader.{allowed_of};
 ghost use Rattle.ept_mem.specs.Objects.{source_bytes, source_left, source_faults, source_given, shelf_files};
 ghost use Rattle.ept_table_fixtures.specs.Known.{IsKnown};
 
-use ept_config::{Kept, SourceCount, read_config};
+use ept_config::{Kept, SourceCount};
+use ept_config_text::read_config;
 use ept_mem::{MemShelf, MemSource};
 use ept_point::{List, Point};
 use ept_sample::{are_in_cube, ids_ascend};

@@ -1,8 +1,8 @@
 use Rattle.std.proofs.Common.{◌≡◌, ◌≢◌, List, ℕ, Ok, Err, sym, subst}
 use Rattle.ept_base.specs.Files.{Tells}
-use Rattle.ept_config.specs.Configuration.{reading}
+use Rattle.ept_config_text.specs.Configuration.{reading}
 use Rattle.ept_config.specs.Facts.{facts}
-use Rattle.ept_config.specs.declared.config_error.ConfigError.TheVariants.{Memory}
+use Rattle.ept_config_text.specs.declared.config_error.ConfigError.TheVariants.{Memory}
 use Rattle.ept_run.specs.Requests.{ConfigurationIsRefused}
 use Rattle.ept_run.specs.declared.refusal.Refusal.{Refusal}
 use Rattle.ept_run.proofs.Fronts.{configuration_read, configuration_refused}

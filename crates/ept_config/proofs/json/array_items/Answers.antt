@@ -1,7 +1,0 @@
-use Rattle.ept_config.specs.Json.{array_items}
-use Rattle.ept_config.proofs.Objects.{list_of-items_of}
-use Rattle.ept_config.proofs.json.array_items.Goals as goal
-
-pub returns-in-Some : goal.returns-in-Some
-unfolding array_items
-returns-in-Some c = rw (← c.in-Some.ensures, list_of-items_of, c.as_slice.ensures.value)

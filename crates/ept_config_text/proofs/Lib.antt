@@ -1,0 +1,8 @@
+mod Wholes
+mod Objects
+mod Signed
+mod Places
+mod EachInput
+mod ClassLists
+mod Faults
+mod RefusalLaws

@@ -1,0 +1,14 @@
+pub mod Keys
+pub mod Refusals
+pub mod Steps
+pub mod Json
+pub mod Numbers
+pub mod Inputs
+pub mod SrsTexts
+pub mod Classes
+pub mod RawInputs
+pub mod RawSrs
+pub mod Values
+pub mod Configuration
+pub mod WorkFields
+pub mod Laws

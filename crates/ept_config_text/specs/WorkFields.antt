@@ -1,0 +1,6 @@
+-- The numbers on the machine as the program holds them.
+use Rattle.ept_config_text.specs.declared.work.Work.{Work}
+use Rattle.ept_config_text.specs.Configuration.{WorkFacts}
+
+abbrev pub work_facts : Work → WorkFacts
+work_facts work = record { threads = work.threads; cache = work.cache; max_nodes = work.max_nodes; checkpoint = work.checkpoint }
