@@ -9,9 +9,8 @@ use Rattle.ept_space.specs.Place.{Place}
 use Rattle.ept_space.specs.OctreeCube.{OctreeCube, IsCube, InBox, InCube, offset, key_at, cell_at, same_cell}
 use Rattle.ept_space.proofs.Axis.{index-coarser}
 use Rattle.ept_space.proofs.PlaceKeys.{key_at-box, InCube-box}
-use Rattle.ept_sample.specs.declared.rank.Rank.{Rank}
 use Rattle.ept_sample.specs.Place.{place, AllInBox}
-use Rattle.ept_sample.specs.Rank.{rank_at, is_better, beats}
+use Rattle.ept_sample.specs.Rank.{Rank, rank_at, is_better, beats}
 use Rattle.ept_sample.specs.Arrivals.{loses}
 use Rattle.ept_sample.specs.Members.{IsMember}
 use Rattle.ept_sample.proofs.Choices.{either, not_both}

@@ -5,7 +5,6 @@ ghost use Rattle.ept_space.specs.OctreeCube.{InBox, InCube};
 ghost use Rattle.ept_space.specs.VoxelKey.{is_below};
 ghost use Rattle.ept_sample.specs.Arrivals.{loses};
 ghost use Rattle.ept_sample.specs.Place.{place, AllInBox};
-ghost use Rattle.ept_sample.specs.Rank.{rank_at, is_better};
 ghost use Rattle.ept_grid.specs.Node.{Node as GridNode};
 ghost use Rattle.ept_check.specs.Walking.{LoseTo};
 

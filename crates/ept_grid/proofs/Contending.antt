@@ -7,8 +7,6 @@ use Rattle.std.proofs.Math.ListN.{set}
 use Rattle.std.proofs.Math.Seq.{drop-cons, map-set_same}
 use Rattle.ept_point.specs.declared.point.Point.{Point}
 use Rattle.ept_space.specs.declared.cube.Rules.{Rules}
-use Rattle.ept_sample.specs.declared.rank.Rank.{Rank}
-use Rattle.ept_sample.specs.Rank.{rank_at, is_better}
 use Rattle.ept_sample.specs.Members.{IsMember}
 use Rattle.ept_sample.proofs.Members.{contains-IsMember}
 use Rattle.ept_grid.specs.declared.pool.Cell.{Cell}

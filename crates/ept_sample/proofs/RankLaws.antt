@@ -12,8 +12,7 @@ use Rattle.ept_space.specs.Place.{Place}
 use Rattle.ept_space.proofs.Cells.{same_cell-sym, same_cell-trans, cell_at-same, same_cell-cell_at}
 use Rattle.ept_sample.specs.Place.{place}
 use Rattle.ept_sample.specs.Ids.{same_id, is_first}
-use Rattle.ept_sample.specs.declared.rank.Rank.{Rank}
-use Rattle.ept_sample.specs.Rank.{rank_at, is_nearer, is_better, beats}
+use Rattle.ept_sample.specs.Rank.{Rank, rank_at, is_nearer, is_better, beats}
 use Rattle.ept_sample.proofs.Best.{IsContest}
 use Rattle.ept_sample.proofs.Choices.{either, and_left, and_right, and_both}
 

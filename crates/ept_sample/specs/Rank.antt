@@ -4,11 +4,16 @@ use Rattle.ept_point.specs.declared.point.Point.{Point}
 use Rattle.ept_space.specs.declared.cube.Rules.{Rules}
 use Rattle.ept_space.specs.OctreeCube.{same_cell, distance_at}
 use Rattle.ept_space.specs.Group.{group_of}
-use Rattle.ept_sample.specs.declared.rank.Rank.{Rank}
 use Rattle.ept_sample.specs.Place.{place}
 use Rattle.ept_sample.specs.Ids.{is_first}
 
 -- the rank of a point at a depth: its group, then how far it is from the centre of its cell, then its scan, then its number there
+pub record Rank : Type 0 where
+  pub group : ℕ
+  pub distance : ℕ
+  pub origin : ℕ
+  pub number : ℕ
+
 abbrev pub rank_at : Rules → ℕ → Point → Rank
 rank_at rules depth p = record {
   group = group_of rules p.class p.class_flags;

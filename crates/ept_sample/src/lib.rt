@@ -19,6 +19,6 @@ pub use arrivals::{
 pub use ids::{ids_ascend, in_id_order};
 pub use laws::{arrival_law, batch_law, beat_law, id_law, node_law, point_law};
 pub use place::{are_in_cube, place_of};
-pub use rank::{Rank, beats, is_better, rank_of};
+pub use rank::{beats, is_better};
 pub use tiles::{Tile, Tiles};
 pub use top_down::sample;

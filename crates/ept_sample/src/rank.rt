@@ -1,4 +1,4 @@
-//! The rank of a point at a depth, and which points beat which.
+//! Which of two points ranks before the other at a depth, and which points beat which.
 
 ghost use Rattle.std.specs.Prelude.{◌≡◌, ◌≤◌};
 ghost use Rattle.ept_space.specs.OctreeCube.{InCube, same_cell};
@@ -6,44 +6,8 @@ ghost use Rattle.ept_sample.specs.Place.{place};
 ghost use Rattle.ept_sample.specs.Rank.{rank_at, is_better, beats};
 
 use crate::place::place_of;
-use ept_point::{Point, PointNumber};
+use ept_point::Point;
 use ept_space::{Rules, cell, centre_distance, group, group_law, has_groups};
-
-/// The rank of a point at a depth. The less one is the better one.
-#[derive(Clone, Copy, Debug, PartialEq, Eq, PartialOrd, Ord)]
-pub struct Rank {
-    /// The group of the point, which comes before its place.
-    pub group: u8,
-    /// How far the point is from the centre of its cell.
-    pub distance: u64,
-    /// The place of its scan in the list of scans.
-    pub origin: u32,
-    /// The number of its record in that scan.
-    pub number: PointNumber,
-}
-
-impl Rank {
-    /// Whether this rank is better: it is less in the first part in which the two differ.
-    pub fn is_better(self, other: Rank) -> bool
-        ensures { result ≡ is_better self other }
-    {
-        self < other
-    }
-}
-
-/// The rank of a point at a depth.
-pub fn rank_of(rules: &Rules, depth: u8, point: &Point) -> Rank
-    requires low { depth ≤ rules.now.cube.depth }
-    requires inside { InCube rules.now.cube (place point.now) }
-    ensures { result ≡ rank_at rules.now depth point.now }
-{
-    Rank {
-        group: group(rules, point.class, point.class_flags),
-        distance: centre_distance(&rules.cube, depth, place_of(point)),
-        origin: point.origin,
-        number: point.number,
-    }
-}
 
 /// Whether the rank of the first point is the better one at a depth. The second may lie in another cell.
 pub fn is_better(rules: &Rules, depth: u8, first: &Point, second: &Point) -> bool
