@@ -22,19 +22,20 @@ stands-between : (ws : List Point) (at : ℕ) (p w : Point) → at < length ws �
 stands-between ws at p w there is =
     sym (take-append-drop at ws) ∙ ap (λ (rest : List Point). take at ws ++ rest) (drop-cons ws at p there ∙ ap (λ (v : Point). v ∷ drop (suc at) ws) is)
 
--- the point is better
-pub displaces : (rules : Rules) (depth : ℕ) (p w : Point) (cells : List Cell) (at next : ℕ) (d : Cell) → at < length cells → w ≡ (get_or cells at d).point → IsTrue (share_cell rules depth (get_or (winners cells) at p) p) → is_better_at rules depth p w ≡ true → HasContended rules depth p (winners cells) (winners (set cells at (record { point = p; next = next }))) w
-displaces rules depth p w cells at next d there is one better =
+-- the point is better: the winner that the cell had gives its place to it
+pub displaces : (rules : Rules) (depth : ℕ) (p w had has : Point) (cells : List Cell) (at next : ℕ) (d e : Cell) → at < length cells → w ≡ (get_or cells at d).point → had ≡ (get_or cells at e).point → has ≡ p → IsTrue (share_cell rules depth (get_or (winners cells) at p) p) → is_better_at rules depth p w ≡ true → HasContended rules depth p (winners cells) (winners (set cells at (record { point = has; next = next }))) had
+displaces rules depth p w had has cells at next d e there is was put one better =
     let ws = winners cells in
-    let w_is : get_or ws at p ≡ w = winner-of cells at d p there ∙ sym is in
+    let w_is : get_or ws at p ≡ had = winner-of cells at e p there ∙ sym was in
+    let same : w ≡ had = is ∙ (sym (winner-of cells at d p there) ∙ w_is) in
     let within : at < length ws = subst (λ n. at < n) (sym (length-map cells (λ (c : Cell). c.point))) there in
     record {
       front = take at ws;
-      winner = w;
+      winner = had;
       back = drop (suc at) ws;
-      stood = stands-between ws at p w within w_is;
+      stood = stands-between ws at p had within w_is;
       one_cell = subst (λ (v : Point). IsTrue (share_cell rules depth v p)) w_is one;
-      outcome = inl (better, winners-point cells at next p ∙ set_split ws at p within, refl);
+      outcome = inl (subst (λ (v : Point). is_better_at rules depth p v ≡ true) same better, ap (λ (v : Point). winners (set cells at (record { point = v; next = next }))) put ∙ (winners-point cells at next p ∙ set_split ws at p within), refl);
     }
 
 -- it is not
