@@ -1,6 +1,5 @@
 mod Causes
 mod Fronts
-mod Inside
 mod Moved
 mod Numbers
 mod PhaseSound

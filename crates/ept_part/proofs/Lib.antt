@@ -9,5 +9,4 @@ mod Bodies
 mod Planned
 mod Once
 mod Judging
-mod Inside
 mod Parting

@@ -17,6 +17,7 @@ pub mod SoundFiles
 pub mod SampledTiles
 pub mod SoundTiles
 pub mod ScanCounts
+pub mod Inside
 mod DoneFiles
 mod Before
 pub mod TurnedLines

@@ -19,6 +19,7 @@ mod Opened
 mod Retiring
 mod Begun
 pub mod OneScan
+pub mod OneExtent
 pub mod OneRefusal
 mod Taking
 mod ChangedInput

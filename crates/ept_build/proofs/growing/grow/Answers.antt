@@ -11,7 +11,7 @@ use Rattle.ept_meta.specs.Output.{rules_of}
 use Rattle.ept_build.specs.Phases.{IsSoundUndone}
 use Rattle.ept_build.proofs.Causes.{read-changed, read-no-spill, read-no-damage, tells-more, tells-all}
 use Rattle.ept_build.proofs.Ground.{kept-number}
-use Rattle.ept_build.proofs.Inside.{lies-in-cube}
+use Rattle.ept_save.proofs.Inside.{lies-in-cube}
 use Rattle.ept_scan.specs.Asking.{paths_left}
 use Rattle.ept_build.specs.Reached.{HasGone}
 use Rattle.ept_build.proofs.Asking.{AsksFront, opens-front}

@@ -15,7 +15,7 @@ use Rattle.ept_scan.specs.Opening.{IsKeptScan, IsFileOf}
 use Rattle.ept_scan.specs.Reader.{files_of, IsRest}
 use Rattle.ept_parts.specs.Parts.{part_of}
 use Rattle.ept_part.specs.Sampling.{IsGrown}
-use Rattle.ept_part.proofs.Inside.{lies-in-cube}
+use Rattle.ept_save.proofs.Inside.{lies-in-cube}
 use Rattle.ept_part.proofs.Causes.{read-fault, read-changed, read-of_sampling, read-few}
 use Rattle.ept_part.proofs.Planned.{tells-more}
 use Rattle.ept_part.proofs.Bodies.{scan-number, scan-can}
