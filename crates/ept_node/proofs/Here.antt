@@ -1,11 +1,11 @@
 -- Where the points of a node are: in memory, in its file, or with a broken node.
-use Rattle.std.proofs.Common.{◌≡◌, ◌∙◌, ℕ, Bool, true, false, ◌⊎◌, inl, inr, List, refl, sym, Option, None}
+use Rattle.std.proofs.Common.{◌≡◌, ◌∙◌, ℕ, true, false, ◌⊎◌, inl, inr, List, refl, sym, Option, None}
 use Rattle.std.proofs.lemmas.Bool.{false≢true}
 use Rattle.ept_node.specs.declared.node.Node as node
 use Rattle.ept_node.specs.declared.body.Body.{Body}
 use Rattle.ept_node.specs.declared.body.Body.TheVariants.{Blank, Begun, Resident, Spilled, Unkept, Lost}
 use Rattle.ept_node.specs.declared.state.NodeState.TheVariants as states
-use Rattle.ept_node.specs.Shown.{state_in, is_here_in, fault_in, file_of, state_of, is_here, fault_of, AgreesWithFile}
+use Rattle.ept_node.specs.Shown.{state_in, is_here_in, fault_in, state_of, is_here, fault_of, AgreesWithFile}
 
 resident_here : (b : Body) → state_in b ≡ states.Resident → is_here_in b ≡ true
 resident_here Blank is = absurd (cc)
