@@ -3,13 +3,13 @@
 use crate::keys::{key_of, range_of};
 use ept_check::{CheckError, Fault};
 use ept_ckpt::Letter;
-use ept_config::MAX_POINTS;
-use ept_config_text::{ConfigError, ConfigKey, MAX_LENGTH};
+use ept_command::Refusal;
+use ept_config::{MAX_LENGTH, MAX_POINTS};
+use ept_config_text::{ConfigError, ConfigKey};
 use ept_las::LasError;
 use ept_meta::Field;
 use ept_point::PointNumber;
 use ept_query::{QueryError, QueryFile};
-use ept_run::Refusal;
 use ept_space::Key;
 use std::alloc::AllocError;
 use std::fmt::Write;

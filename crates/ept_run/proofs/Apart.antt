@@ -4,8 +4,8 @@ use Rattle.std.specs.Prelude.{codes, decimal}
 use Rattle.ept_base.specs.Files.{Files}
 use Rattle.ept_space.specs.declared.box3.Box3.{Box3}
 use Rattle.ept_filter.specs.declared.sift.Sift.{Sift}
-use Rattle.ept_run.specs.declared.refusal.Refusal.{Refusal}
-use Rattle.ept_run.specs.Words.{IsBuild, IsInfo, IsQuery, IsSelect, IsCheck, IsTrial, IsUsage}
+use Rattle.ept_command.specs.declared.refusal.Refusal.{Refusal}
+use Rattle.ept_command.specs.Words.{IsBuild, IsInfo, IsQuery, IsSelect, IsCheck, IsTrial, IsUsage}
 use Rattle.ept_run.specs.Answers.{AsksDataset, IsFaulty}
 use Rattle.ept_run.proofs.Queried.{query_or_build, query_or_info}
 use Rattle.ept_run.proofs.Tried.{trial_or_query}

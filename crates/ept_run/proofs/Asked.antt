@@ -4,11 +4,12 @@ use Rattle.std.specs.Prelude.{Result, Vec, IfOk, IfErr, IsOk, codes}
 use Rattle.std.specs.declared.alloc.Global.{Global}
 use Rattle.ept_base.specs.Files.{Files, Tells}
 use Rattle.ept_las.specs.declared.header.Header.{Header}
-use Rattle.ept_run.specs.declared.refusal.Refusal.{Refusal}
-use Rattle.ept_run.specs.declared.refusal.Refusal.TheVariants.{Usage, SourceFault, StoreFault, SpillFault, Memory}
-use Rattle.ept_run.specs.Words.{IsBuild, IsInfo}
+use Rattle.ept_command.specs.declared.refusal.Refusal.{Refusal}
+use Rattle.ept_command.specs.declared.refusal.Refusal.TheVariants.{Usage, SourceFault, StoreFault, SpillFault, Memory}
+use Rattle.ept_command.specs.Words.{IsBuild, IsInfo}
 use Rattle.ept_run.specs.Lines.{summary_text, header_text}
-use Rattle.ept_run.specs.Requests.{HasBuilt, HasTold, HasHeader, ConfigurationIsRefused, BuildIsRefused, InfoIsRefused, IsOfStore, IsOfHeader, IsDefinite, IsEarly, Fails}
+use Rattle.ept_command.specs.Configurations.{ConfigurationIsRefused}
+use Rattle.ept_run.specs.Requests.{HasBuilt, HasTold, HasHeader, BuildIsRefused, InfoIsRefused, IsOfStore, IsOfHeader, IsDefinite, IsEarly, Fails}
 use Rattle.ept_run.specs.Answers.{AsksBuild, AsksInfo, SaysOfStore, IsAnswer, IsDone, IsFaulty, IsRefused}
 use Rattle.ept_run.proofs.Runs.{Carries}
 

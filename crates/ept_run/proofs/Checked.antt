@@ -13,8 +13,8 @@ use Rattle.ept_save.specs.Complete.{IsComplete}
 use Rattle.ept_check.specs.declared.verdict.Verdict.TheVariants.{Fit, Unfit}
 use Rattle.ept_check.specs.declared.check_error.CheckError.TheVariants.{NotComplete, StoreFault, Damaged, Memory}
 use Rattle.ept_check.specs.Answers.{Answer, IsCalledFor, ComesAsCalled, ComesOrFails}
-use Rattle.ept_run.specs.declared.ended.Failure.{Failure}
-use Rattle.ept_run.specs.declared.ended.Failure.TheVariants as failure
+use Rattle.ept_command.specs.declared.ended.Failure.{Failure}
+use Rattle.ept_command.specs.declared.ended.Failure.TheVariants as failure
 use Rattle.ept_run.specs.Lines.{fit_text}
 use Rattle.ept_run.specs.Answers.{Yields, IsSaid, IsSaidFor}
 use Rattle.ept_run.specs.Checks.{SaysCheck, FailsCheck, IsCheckReported, EndsCheck}

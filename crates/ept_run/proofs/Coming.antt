@@ -13,7 +13,7 @@ use Rattle.ept_query.specs.Complete.{IsDevices}
 use Rattle.ept_filter.specs.declared.sift.Sift.{Sift}
 use Rattle.ept_sample.specs.Nodes.{node_keys}
 use Rattle.ept_meta.specs.Output.{rules_of}
-use Rattle.ept_run.specs.Words.{IsBuild, IsInfo, IsTrial, IsUsage}
+use Rattle.ept_command.specs.Words.{IsBuild, IsInfo, IsTrial, IsUsage}
 use Rattle.ept_run.specs.Requests.{HasHeader, IsAcceptedAt, IsDoneAt}
 use Rattle.ept_run.specs.Answers.{Yields, AsksInfo, AsksDataset, CanBeDone, a_build, of_dataset, a_header, a_trial, EndsWell}
 use Rattle.ept_run.specs.Queries.{query_status, GivesWhole, EndsSelection}

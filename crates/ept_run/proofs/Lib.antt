@@ -2,8 +2,6 @@ mod Apart
 mod Asked
 mod Checked
 mod Coming
-mod Fronts
-mod Numbers
 mod Queried
 mod Refused
 mod Runs

@@ -9,11 +9,11 @@ use Rattle.ept_http.specs.QueryWords.{IsBoxText, IsDepthsText}
 use Rattle.ept_http.specs.Laws.{TextHasOneBox, TextHasOneRange}
 use Rattle.ept_query.specs.declared.query_error.QueryError.{QueryError}
 use Rattle.ept_query.specs.declared.query_error.QueryError.TheVariants.{NotComplete, StoreFault, Damaged, SinkFault, Memory}
-use Rattle.ept_run.specs.declared.ended.Failure.{Failure}
-use Rattle.ept_run.specs.declared.ended.Failure.TheVariants.{QueryRefused}
-use Rattle.ept_run.specs.declared.refusal.Refusal.{Refusal}
+use Rattle.ept_command.specs.declared.ended.Failure.{Failure}
+use Rattle.ept_command.specs.declared.ended.Failure.TheVariants.{QueryRefused}
+use Rattle.ept_command.specs.declared.refusal.Refusal.{Refusal}
 use Rattle.ept_filter.specs.declared.sift.Sift.{Sift}
-use Rattle.ept_run.specs.Words.{bytes_of, IsBuild, IsInfo, IsQuery, IsUsage}
+use Rattle.ept_command.specs.Words.{bytes_of, IsBuild, IsInfo, IsQuery, IsUsage}
 use Rattle.ept_run.specs.Answers.{AsksInfo, AsksDataset, IsFaulty}
 use Rattle.ept_run.specs.Queries.{query_status, query_failure, EndsSelection, EndsQuery}
 use Rattle.ept_run.proofs.Runs.{some_or_none}
@@ -73,19 +73,6 @@ module _ (one_box : TextHasOneBox) (one_range : TextHasOneRange) (words : List (
   query_ends out other area found first last least most status failure files old new store sink one two ends =
       let same = query_once out other area found first last least most one two in
       asked_same None None area found first last least most status failure files old new store sink refl same.0 same.1 same.2 ends
-
--- words of another number than those of a command
-pub no_command : (words : List (String Global)) → length words ≢ 2 → length words ≢ 3 → length words ≢ 4 → length words ≢ 7 → IsUsage (bytes_of words)
-no_command words two three four seven =
-    let size : length (bytes_of words) ≡ length words = length-map words string_bytes in
-    record {
-      not_build = λ config out is. three (sym size ∙ ap (λ (ws : List (List ℕ)). length ws) is.words_are);
-      not_info = λ las is. two (sym size ∙ ap (λ (ws : List (List ℕ)). length ws) is.words_are);
-      not_query = λ out area first last is. four (sym size ∙ ap (λ (ws : List (List ℕ)). length ws) is.words_are);
-      not_select = λ out area first last sift is. seven (sym size ∙ ap (λ (ws : List (List ℕ)). length ws) is.words_are);
-      not_check = λ out is. two (sym size ∙ ap (λ (ws : List (List ℕ)). length ws) is.words_are);
-      not_trial = λ count workers cache is. four (sym size ∙ ap (λ (ws : List (List ℕ)). length ws) is.words_are);
-    }
 
 -- ---- its status
 

@@ -25,10 +25,11 @@ use Rattle.ept_build.specs.Phases.{HasDamage}
 use Rattle.ept_scan.specs.declared.scan_error.ScanError.{ScanError}
 use Rattle.ept_scan.specs.declared.scan_error.ScanError.TheVariants as scan
 use Rattle.ept_plan.specs.Plans as plans
-use Rattle.ept_run.specs.declared.refusal.Refusal.{Refusal}
-use Rattle.ept_run.specs.declared.refusal.Refusal.TheVariants.{Usage, BadConfiguration, BadLas, OutOfBounds, NoBounds, SourceChanged, TooManyPoints, TooManyNodes, Differs, BadCheckpoint, TileDamaged, SourceFault, StoreFault, SpillFault, SpillDamaged, Memory}
+use Rattle.ept_command.specs.declared.refusal.Refusal.{Refusal}
+use Rattle.ept_command.specs.declared.refusal.Refusal.TheVariants.{Usage, BadConfiguration, BadLas, OutOfBounds, NoBounds, SourceChanged, TooManyPoints, TooManyNodes, Differs, BadCheckpoint, TileDamaged, SourceFault, StoreFault, SpillFault, SpillDamaged, Memory}
 use Rattle.ept_run.specs.Errors.{of_build}
-use Rattle.ept_run.specs.Requests.{HasConfiguration, HasBadConfiguration, IsAcceptedAt, IsDoneAt, IsBuiltAt, Comes, ComesAt, DiffersAt, ComesToDamageAt, HasDifference, IsOfStore, IsConfigured, HasSpilled, TellsDifference, TellsDamage, ConfigurationIsRefused, BuildIsRefused, IsOfConfiguration, IsDefinite, IsEarly, Fails}
+use Rattle.ept_command.specs.Configurations.{HasConfiguration, HasBadConfiguration, ConfigurationIsRefused, IsOfConfiguration}
+use Rattle.ept_run.specs.Requests.{IsAcceptedAt, IsDoneAt, IsBuiltAt, Comes, ComesAt, DiffersAt, ComesToDamageAt, HasDifference, IsOfStore, IsConfigured, HasSpilled, TellsDifference, TellsDamage, BuildIsRefused, IsDefinite, IsEarly, Fails}
 use Rattle.ept_config.proofs.FactsTell.{config_same}
 
 -- a fact of a told thing gives another

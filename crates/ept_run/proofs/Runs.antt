@@ -5,12 +5,13 @@ use Rattle.std.specs.Io.KnownBytes.{Appends}
 use Rattle.std.specs.declared.alloc.Global.{Global}
 use Rattle.ept_base.specs.Files.{Files, Tells}
 use Rattle.ept_config_text.specs.declared.config_error.ConfigError.{ConfigError}
-use Rattle.ept_run.specs.Words.{IsUsage}
-use Rattle.ept_run.specs.declared.ended.Failure.{Failure}
-use Rattle.ept_run.specs.declared.ended.Failure.TheVariants.{Refused, LineNotWritten}
-use Rattle.ept_run.specs.declared.refusal.Refusal.{Refusal}
-use Rattle.ept_run.specs.declared.refusal.Refusal.TheVariants.{Usage, BadConfiguration, BadLas, OutOfBounds, NoBounds, SourceChanged, TooManyPoints, TooManyNodes, Differs, BadCheckpoint, TileDamaged, SourceFault, StoreFault, SpillFault, SpillDamaged, Memory}
-use Rattle.ept_run.specs.Lines.{status_of, line_of}
+use Rattle.ept_command.specs.Words.{IsUsage}
+use Rattle.ept_command.specs.declared.ended.Failure.{Failure}
+use Rattle.ept_command.specs.declared.ended.Failure.TheVariants.{Refused, LineNotWritten}
+use Rattle.ept_command.specs.declared.refusal.Refusal.{Refusal}
+use Rattle.ept_command.specs.declared.refusal.Refusal.TheVariants.{Usage, BadConfiguration, BadLas, OutOfBounds, NoBounds, SourceChanged, TooManyPoints, TooManyNodes, Differs, BadCheckpoint, TileDamaged, SourceFault, StoreFault, SpillFault, SpillDamaged, Memory}
+use Rattle.ept_command.specs.Statuses.{status_of}
+use Rattle.ept_run.specs.Lines.{line_of}
 use Rattle.ept_run.specs.Requests.{IsDefinite, IsEarly, TellsDifference, TellsDamage, Fails}
 use Rattle.ept_run.specs.Answers.{Yields, YieldsRefusal, YieldsDifference, YieldsDamage, IsAnswer, IsDone, Ends, IsFaulty, IsRefused, HasRisen, Says, IsTold, EndsWith, EndsFor, Refuses, IsCut, IsUnwritten}
 

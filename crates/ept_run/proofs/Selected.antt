@@ -8,8 +8,8 @@ use Rattle.ept_http.specs.Laws.{TextHasOneBox, TextHasOneRange}
 use Rattle.ept_filter.specs.declared.sift.Sift.{Sift}
 use Rattle.ept_filter.specs.SiftText.{IsSiftText}
 use Rattle.ept_filter.specs.Laws.{TextsHaveOneSift}
-use Rattle.ept_run.specs.declared.ended.Failure.{Failure}
-use Rattle.ept_run.specs.Words.{IsSelect}
+use Rattle.ept_command.specs.declared.ended.Failure.{Failure}
+use Rattle.ept_command.specs.Words.{IsSelect}
 use Rattle.ept_run.specs.Queries.{query_failure, EndsSelect}
 use Rattle.ept_run.proofs.Queried.{asked_same}
 

@@ -5,10 +5,10 @@ use Rattle.std.specs.declared.alloc.Global.{Global}
 use Rattle.std.proofs.lemmas.Fmt.{decimal_injective}
 use Rattle.ept_base.specs.Files.{Files, Tells}
 use Rattle.ept_space.specs.declared.box3.Box3.{Box3}
-use Rattle.ept_run.specs.declared.refusal.Refusal.{Refusal}
-use Rattle.ept_run.specs.declared.refusal.Refusal.TheVariants.{Usage, SourceFault, StoreFault, SpillFault, Memory}
-use Rattle.ept_run.specs.Words.{IsBuild, IsInfo, IsQuery, IsTrial, IsUsage}
-use Rattle.ept_run.specs.Lines.{status_of}
+use Rattle.ept_command.specs.declared.refusal.Refusal.{Refusal}
+use Rattle.ept_command.specs.declared.refusal.Refusal.TheVariants.{Usage, SourceFault, StoreFault, SpillFault, Memory}
+use Rattle.ept_command.specs.Words.{IsBuild, IsInfo, IsQuery, IsTrial, IsUsage}
+use Rattle.ept_command.specs.Statuses.{status_of}
 use Rattle.ept_run.specs.Requests.{HasTrial, IsDefinite, IsEarly, Fails}
 use Rattle.ept_run.specs.Answers.{AsksInfo, AsksTrial, SaysOfStore, IsAnswer, IsDone, IsFaulty, IsRefused, IsTold, EndsTrial, EndsWith, Yields}
 use Rattle.ept_run.proofs.Asked.{told_always, ok_weaker, err_weaker}
@@ -109,43 +109,3 @@ trial_yields count status old new failed (inl (line, has, inl said)) = inl said.
 trial_yields count status old new failed (inl (line, has, inr device)) = inr (inl device.0)
 trial_yields count status old new failed (inr told) =
     inr (inr (⊎_elim (λ is. sym told.status_is ∙ ap status_of is) (λ is. sym told.status_is ∙ ap status_of is) told.told_is))
-
--- ---- words that are read as numbers out of their range
-
-pub numbers_refused : (points workers cache : List ℕ) (w k : ℕ) → workers ≡ decimal w → w ≤ 64 → cache ≡ decimal k → k ≤ 65536 → (w < 1) ⊎ (k < w)
-    → IsUsage (codes "trial" ∷ points ∷ workers ∷ cache ∷ [])
-numbers_refused points workers cache w k workers_are few cache_is bounded wrong = record {
-  not_build = λ config out is. not_build config out is.words_are;
-  not_info = λ las is. not_info las is.words_are;
-  not_query = λ out area first last is. not_query out is.box is.depths is.words_are;
-  not_select = λ out area first last sift is. not_select out is.box is.depths is.classes is.time is.dims is.words_are;
-  not_check = λ out is. not_check out is.words_are;
-  not_trial = λ count found kept is. ranges found kept is (decimal_injective w found (omega (arith, few)) (omega (arith, is.threads)) (sym workers_are ∙ (parts count found kept is.words_are).0)) (decimal_injective k kept (omega (arith, bounded)) (omega (arith, is.bounded)) (sym cache_is ∙ (parts count found kept is.words_are).1));
-}
-  where
-    not_build : (config out : List ℕ) → codes "trial" ∷ points ∷ workers ∷ cache ∷ [] ≡ codes "build" ∷ config ∷ out ∷ [] → ⊥
-    not_build config out same = cc
-
-    not_info : (las : List ℕ) → codes "trial" ∷ points ∷ workers ∷ cache ∷ [] ≡ codes "info" ∷ las ∷ [] → ⊥
-    not_info las same = cc
-
-    not_query : (out box depths : List ℕ) → codes "trial" ∷ points ∷ workers ∷ cache ∷ [] ≡ codes "query" ∷ out ∷ box ∷ depths ∷ [] → ⊥
-    not_query out box depths same =
-        let heads : 116 ≡ 113 = ap (λ (ws : List (List ℕ)). get_or (get_or ws 0 []) 0 0) same in
-        omega (arith, heads)
-
-    not_select : (out box depths classes time dims : List ℕ) → codes "trial" ∷ points ∷ workers ∷ cache ∷ [] ≡ codes "select" ∷ out ∷ box ∷ depths ∷ classes ∷ time ∷ dims ∷ [] → ⊥
-    not_select out box depths classes time dims same =
-        let heads : 116 ≡ 115 = ap (λ (ws : List (List ℕ)). get_or (get_or ws 0 []) 0 0) same in
-        omega (arith, heads)
-
-    not_check : (out : List ℕ) → codes "trial" ∷ points ∷ workers ∷ cache ∷ [] ≡ codes "check" ∷ out ∷ [] → ⊥
-    not_check out same =
-        let heads : 116 ≡ 99 = ap (λ (ws : List (List ℕ)). get_or (get_or ws 0 []) 0 0) same in
-        omega (arith, heads)
-
-    parts : (count found kept : ℕ) → codes "trial" ∷ points ∷ workers ∷ cache ∷ [] ≡ codes "trial" ∷ decimal count ∷ decimal found ∷ decimal kept ∷ [] → (workers ≡ decimal found) × (cache ≡ decimal kept)
-    parts count found kept same = (cc, cc)
-
-    ranges : {count : ℕ} (found kept : ℕ) → IsTrial (codes "trial" ∷ points ∷ workers ∷ cache ∷ []) count found kept → w ≡ found → k ≡ kept → ⊥
-    ranges found kept is same_w same_k = ⊎_elim (λ none. omega (arith, none, same_w, is.some)) (λ less. omega (arith, less, same_w, same_k, is.room)) wrong

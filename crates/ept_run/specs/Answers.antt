@@ -13,13 +13,15 @@ use Rattle.ept_config.specs.declared.kept.Kept.{Kept}
 use Rattle.ept_scan.specs.Asking.{AsksFor}
 use Rattle.ept_meta.specs.declared.fields.Field.{Field}
 use Rattle.ept_save.specs.Complete.{IsComplete}
-use Rattle.ept_run.specs.declared.ended.Failure.{Failure}
-use Rattle.ept_run.specs.declared.ended.Failure.TheVariants.{Refused, LineNotWritten}
-use Rattle.ept_run.specs.declared.refusal.Refusal.{Refusal}
-use Rattle.ept_run.specs.declared.refusal.Refusal.TheVariants.{Usage, BadConfiguration, BadLas, OutOfBounds, NoBounds, SourceChanged, TooManyPoints, TooManyNodes, Differs, BadCheckpoint, TileDamaged, SourceFault, StoreFault, SpillFault, SpillDamaged, Memory}
-use Rattle.ept_run.specs.Words.{IsBuild, IsInfo, IsQuery, IsSelect, IsCheck, IsTrial, IsUsage}
-use Rattle.ept_run.specs.Lines.{summary_text, header_text, status_of, line_of}
-use Rattle.ept_run.specs.Requests.{HasBuilt, HasTold, HasTrial, HasHeader, IsAcceptedAt, IsDoneAt, AsksForBuild, ConfigurationIsRefused, BuildIsRefused, InfoIsRefused, IsOfStore, IsEarly}
+use Rattle.ept_command.specs.declared.ended.Failure.{Failure}
+use Rattle.ept_command.specs.declared.ended.Failure.TheVariants.{Refused, LineNotWritten}
+use Rattle.ept_command.specs.declared.refusal.Refusal.{Refusal}
+use Rattle.ept_command.specs.declared.refusal.Refusal.TheVariants.{Usage, BadConfiguration, BadLas, OutOfBounds, NoBounds, SourceChanged, TooManyPoints, TooManyNodes, Differs, BadCheckpoint, TileDamaged, SourceFault, StoreFault, SpillFault, SpillDamaged, Memory}
+use Rattle.ept_command.specs.Words.{IsBuild, IsInfo, IsQuery, IsSelect, IsCheck, IsTrial, IsUsage}
+use Rattle.ept_command.specs.Statuses.{status_of}
+use Rattle.ept_run.specs.Lines.{summary_text, header_text, line_of}
+use Rattle.ept_command.specs.Configurations.{ConfigurationIsRefused}
+use Rattle.ept_run.specs.Requests.{HasBuilt, HasTold, HasTrial, HasHeader, IsAcceptedAt, IsDoneAt, AsksForBuild, BuildIsRefused, InfoIsRefused, IsOfStore, IsEarly}
 
 -- this status, if no device failed and memory sufficed
 abbrev pub Yields : ℕ → ℕ → Type 0

@@ -1,28 +1,8 @@
--- What the refusals of the layers below are told as.
-use Rattle.ept_base.specs.declared.errors.GetError.{GetError}
-use Rattle.ept_base.specs.declared.errors.GetError.TheVariants as get
-use Rattle.ept_config_text.specs.declared.config_error.ConfigError.{ConfigError}
-use Rattle.ept_config_text.specs.declared.config_error.ConfigError.TheVariants as config
+-- What the refusals of a build are passed on as.
 use Rattle.ept_build.specs.declared.error.BuildError.{BuildError}
 use Rattle.ept_build.specs.declared.error.BuildError.TheVariants as build
-use Rattle.ept_run.specs.declared.refusal.Refusal.{Refusal}
-use Rattle.ept_run.specs.declared.refusal.Refusal.TheVariants.{BadConfiguration, BadLas, OutOfBounds, NoBounds, SourceChanged, TooManyPoints, TooManyNodes, Differs, BadCheckpoint, TileDamaged, SourceFault, StoreFault, SpillFault, SpillDamaged, Memory}
-
--- of a file that is opened and read
-abbrev pub of_get : GetError → Refusal
-of_get get.Failed = SourceFault
-of_get get.Memory = Memory
-
--- of a configuration
-abbrev pub of_config : ConfigError → Refusal
-of_config config.Json = BadConfiguration config.Json
-of_config config.Unknown = BadConfiguration config.Unknown
-of_config (config.Missing key) = BadConfiguration (config.Missing key)
-of_config (config.Kind key) = BadConfiguration (config.Kind key)
-of_config (config.Range key) = BadConfiguration (config.Range key)
-of_config config.Threads = BadConfiguration config.Threads
-of_config config.Long = BadConfiguration config.Long
-of_config config.Memory = Memory
+use Rattle.ept_command.specs.declared.refusal.Refusal.{Refusal}
+use Rattle.ept_command.specs.declared.refusal.Refusal.TheVariants.{BadLas, OutOfBounds, NoBounds, SourceChanged, TooManyPoints, TooManyNodes, Differs, BadCheckpoint, TileDamaged, SourceFault, StoreFault, SpillFault, SpillDamaged, Memory}
 
 -- of a build
 abbrev pub of_build : BuildError → Refusal

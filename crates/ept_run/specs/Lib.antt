@@ -1,4 +1,3 @@
-pub mod Words
 pub mod Errors
 pub mod Lines
 pub mod Requests

@@ -16,8 +16,8 @@ use Rattle.ept_ckpt.specs.declared.letter.Letter.TheVariants as letter
 use Rattle.ept_meta.specs.declared.fields.Field.{Field}
 use Rattle.ept_meta.specs.declared.fields.Field.TheVariants as field
 use Rattle.ept_trial.specs.declared.trial.Trial.{Trial}
-use Rattle.ept_run.specs.declared.refusal.Refusal.{Refusal}
-use Rattle.ept_run.specs.declared.refusal.Refusal.TheVariants as refusal
+use Rattle.ept_command.specs.declared.refusal.Refusal.{Refusal}
+use Rattle.ept_command.specs.declared.refusal.Refusal.TheVariants as refusal
 
 -- what a build says of so many points in so many nodes
 unfoldable pub summary_text : ℕ → ℕ → List ℕ
@@ -42,25 +42,6 @@ unfoldable pub trial_text : Trial → List ℕ
 trial_text t =
     codes "points " ++ decimal t.points ++ codes " nodes " ++ decimal t.nodes
     ++ codes " depth " ++ decimal t.depth ++ codes " sum " ++ decimal t.sum ++ codes "\n"
-
--- the status that a refusal ends the program with
-abbrev pub status_of : Refusal → ℕ
-status_of refusal.Usage = 2
-status_of (refusal.BadConfiguration e) = 3
-status_of (refusal.BadLas source fault) = 4
-status_of (refusal.OutOfBounds source number) = 4
-status_of refusal.NoBounds = 4
-status_of (refusal.SourceChanged source number) = 4
-status_of (refusal.TooManyPoints source) = 5
-status_of refusal.TooManyNodes = 5
-status_of (refusal.Differs field) = 6
-status_of (refusal.BadCheckpoint letter) = 8
-status_of (refusal.TileDamaged key) = 8
-status_of refusal.SourceFault = 7
-status_of refusal.StoreFault = 7
-status_of refusal.SpillFault = 7
-status_of refusal.SpillDamaged = 8
-status_of refusal.Memory = 9
 
 -- the number of the record at which a file ends early
 abbrev pub number_text : LasError → List ℕ

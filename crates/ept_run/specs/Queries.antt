@@ -11,8 +11,8 @@ use Rattle.ept_query.specs.Answers.{Selects, LeavesSelection}
 use Rattle.ept_save.specs.Complete.{IsComplete}
 use Rattle.ept_query.specs.Complete.{AnswersWhole, SelectsWhole}
 use Rattle.ept_query.specs.Refusals.{RefusesQuery, CallsOfQuery, RefusesAsCalled}
-use Rattle.ept_run.specs.declared.ended.Failure.{Failure}
-use Rattle.ept_run.specs.declared.ended.Failure.TheVariants.{QueryRefused}
+use Rattle.ept_command.specs.declared.ended.Failure.{Failure}
+use Rattle.ept_command.specs.declared.ended.Failure.TheVariants.{QueryRefused}
 
 -- the status of what a query answers
 abbrev pub query_status : Result ℕ QueryError → ℕ

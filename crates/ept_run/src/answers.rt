@@ -4,14 +4,13 @@ ghost use Rattle.std.specs.Prelude.{◌≡◌, Some};
 ghost use Rattle.ept_base.specs.Causes.{Rose};
 ghost use Rattle.ept_run.specs.Answers.{Says, IsReported, IsSaidFor, EndsFor};
 ghost use Rattle.ept_run.specs.Lines.{line_of};
-ghost use Rattle.ept_run.specs.declared.ended.Failure.TheVariants.{Refused};
-ghost use Rattle.ept_run.specs.declared.refusal.Refusal.TheVariants as refusal;
+ghost use Rattle.ept_command.specs.declared.ended.Failure.TheVariants.{Refused};
+ghost use Rattle.ept_command.specs.declared.refusal.Refusal.TheVariants as refusal;
 
-use crate::ended::{Ended, Failure};
 use crate::lines::{MEMORY_LINE, USAGE_LINE, refusal_line};
-use crate::refusal::Refusal;
-use crate::status::DEVICE;
 use ept_base::{Sink, write_full};
+use ept_command::status::DEVICE;
+use ept_command::{Ended, Failure, Refusal};
 use std::alloc::Global;
 
 /// Writes the line that a command ends with, or that of its refusal.

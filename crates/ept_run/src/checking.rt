@@ -6,16 +6,16 @@ ghost use Rattle.ept_base.specs.Files.{SameFiles};
 ghost use Rattle.ept_base.specs.Moves.{Moves};
 ghost use Rattle.ept_check.specs.declared.check_error.CheckError.TheVariants.{Memory};
 ghost use Rattle.ept_check.specs.declared.verdict.Verdict.TheVariants.{Fit, Unfit};
-ghost use Rattle.ept_run.specs.declared.ended.Failure.TheVariants.{CheckRefused};
+ghost use Rattle.ept_command.specs.declared.ended.Failure.TheVariants.{CheckRefused};
 ghost use Rattle.ept_run.specs.Answers.{Says};
 ghost use Rattle.ept_run.specs.Checks.{EndsCheck, FailsCheck, IsCheckReported};
 
 use crate::answers::{say, write_line};
-use crate::ended::{Ended, Failure};
 use crate::lines::{DAMAGED_LINE, NOT_COMPLETE_LINE, STORE_LINE, fit_line, unfit_line};
-use crate::status::{DAMAGED, DEVICE, MEMORY, NOT_COMPLETE};
 use ept_base::{Sink, Store};
 use ept_check::{CheckError, Fault, Verdict, check};
+use ept_command::status::{DAMAGED, DEVICE, MEMORY, NOT_COMPLETE};
+use ept_command::{Ended, Failure};
 use ept_space::Key;
 use std::alloc::Global;
 

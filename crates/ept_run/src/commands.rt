@@ -12,13 +12,15 @@ ghost use Rattle.ept_save.specs.Opening.{IsBad};
 ghost use Rattle.ept_save.specs.Sound.{IsSound};
 ghost use Rattle.ept_build.specs.Building.{BeginsWith};
 ghost use Rattle.ept_run.specs.Lines.{summary_text, header_text};
-ghost use Rattle.ept_run.specs.Requests.{IsBuiltAt, HasBuilt, AsksForBuild, IsAcceptedAt, IsDoneAt, ComesAt, DiffersAt, ComesToDamageAt, IsConfigured, IsOfStore, HasSpilled, TellsDifference, TellsDamage, ConfigurationIsRefused, BuildIsRefused, HasTold, HasHeader, InfoIsRefused, IsOfBuild, IsOfHeader, IsDefinite, IsEarly, Fails, HasTrial};
+ghost use Rattle.ept_command.specs.Configurations.{ConfigurationIsRefused};
+ghost use Rattle.ept_run.specs.Requests.{IsBuiltAt, HasBuilt, AsksForBuild, IsAcceptedAt, IsDoneAt, ComesAt, DiffersAt, ComesToDamageAt, IsConfigured, IsOfStore, HasSpilled, TellsDifference, TellsDamage, BuildIsRefused, HasTold, HasHeader, InfoIsRefused, IsOfBuild, IsOfHeader, IsDefinite, IsEarly, Fails, HasTrial};
 
-use crate::files::{read_configuration, read_file_header};
+use crate::files::read_file_header;
 use crate::lines::{header_line, outcome_line, summary_line};
-use crate::refusal::Refusal;
+use crate::refusal::refusal_of;
 use ept_base::{Gate, Room, Shelf, Store};
 use ept_build::{Summary, build};
+use ept_command::{Refusal, read_configuration};
 use ept_save::sound_steps_law;
 use ept_trial::build_trial;
 use std::alloc::Global;
@@ -150,7 +152,7 @@ where
     let config = read_configuration(alloc, shelf, path)?;
     match build(rt, alloc, &config, shelf, store, room, gate) {
         Ok(summary) => Ok(summary),
-        Err(error) => Err(Refusal::from(error)),
+        Err(error) => Err(refusal_of(error)),
     }
 }
 

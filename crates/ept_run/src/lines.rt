@@ -6,10 +6,10 @@ ghost use Rattle.ept_las.specs.LasHeader as las;
 ghost use Rattle.ept_space.specs.KeyText as space;
 ghost use Rattle.ept_run.specs.Lines.{summary_text, fit_text, unfit_text, header_text, trial_text, key_text, config_text, las_text, number_text, record_text, name_of, letter_text, refusal_text, line_of};
 
-use crate::refusal::Refusal;
 use ept_build::Summary;
 use ept_check::Fault;
 use ept_ckpt::Letter;
+use ept_command::Refusal;
 use ept_config_text::ConfigError;
 use ept_las::{Header, LasError};
 use ept_meta::Field;

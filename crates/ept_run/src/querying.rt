@@ -6,9 +6,9 @@ ghost use Rattle.ept_base.specs.Files.{SameFiles};
 ghost use Rattle.ept_base.specs.Moves.{Moves};
 ghost use Rattle.ept_run.specs.Queries.{query_status, query_failure, EndsQuery, EndsSelect};
 
-use crate::ended::{Ended, Failure};
-use crate::status::{DAMAGED, DEVICE, MEMORY, NOT_COMPLETE};
 use ept_base::{Sink, Store};
+use ept_command::status::{DAMAGED, DEVICE, MEMORY, NOT_COMPLETE};
+use ept_command::{Ended, Failure};
 use ept_filter::Sift;
 use ept_query::{QueryError, query, select};
 use ept_space::Box3;

@@ -4,8 +4,9 @@
 use crate::devices::{RowRoom, RowShelf};
 use crate::words::Miss;
 use ept_base::{Gate, OpenGate};
+use ept_command::Failure;
 use ept_mem::{MemRoom, MemShelf, MemSink, MemStore};
-use ept_run::{Failure, carry_out, run};
+use ept_run::{carry_out, run};
 use std::alloc::{AllocError, Global};
 use std::mem;
 use std::sync::Wait;

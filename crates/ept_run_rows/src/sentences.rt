@@ -2,9 +2,9 @@
 
 use crate::bench::{Bench, Faults, shelf_of};
 use crate::words::{Miss, first_word};
+use ept_command::{Failure, Refusal};
 use ept_messages::{Differing, Found, message, write_difference};
 use ept_meta::Field;
-use ept_run::{Failure, Refusal};
 
 /// Writes the sentence that a line asks for.
 pub(crate) fn answer(

@@ -1,8 +1,8 @@
 //! What is said of a run that fails.
 
+use ept_command::{Command, Ended, Failure, command_of};
 use ept_messages::{Found, OUT_OF_MEMORY, message};
 use ept_real::{RealShelf, RealStore};
-use ept_run::{Command, Ended, Failure, command_of};
 use std::alloc::AllocError;
 use std::io::ErrorKind;
 use std::rt::Files;

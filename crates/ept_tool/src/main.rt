@@ -7,10 +7,11 @@ mod failing;
 
 use crate::failing::{folder_of, report};
 use ept_base::{OpenGate, Room, Shelf, Sink, Store};
+use ept_command::status::OK;
+use ept_command::{Command, Ended, Refusal, command_of};
 use ept_mem::{MemRoom, MemStore};
 use ept_real::{RealRoom, RealShelf, RealSink, RealStore, SeenFiles, Telling};
-use ept_run::status::OK;
-use ept_run::{Command, Ended, Refusal, carry_out, command_of, refuse};
+use ept_run::{carry_out, refuse};
 use std::alloc::{AllocError, Global};
 use std::env;
 use std::io::{ErrorKind, IsTerminal, writer};

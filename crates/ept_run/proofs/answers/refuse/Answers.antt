@@ -1,5 +1,5 @@
 use Rattle.std.proofs.Common.{refl, sym, inl, inr}
-use Rattle.ept_run.specs.declared.refusal.Refusal.TheVariants.{Usage, Memory}
+use Rattle.ept_command.specs.declared.refusal.Refusal.TheVariants.{Usage, Memory}
 use Rattle.ept_run.proofs.answers.refuse.Goals as goal
 
 pub returns-in-Usage : goal.returns-in-Usage

@@ -1,5 +1,5 @@
 use Rattle.std.proofs.Common.{refl, sym, inl, inr, rules}
-use Rattle.ept_run.specs.declared.refusal.Refusal.TheVariants.{Memory}
+use Rattle.ept_command.specs.declared.refusal.Refusal.TheVariants.{Memory}
 use Rattle.ept_run.proofs.answers.tell.Goals as goal
 
 pub returns-in-Ok : goal.returns-in-Ok

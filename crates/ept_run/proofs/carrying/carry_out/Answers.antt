@@ -1,8 +1,8 @@
 use Rattle.std.proofs.Common.{◌⊎◌, map, string_bytes, refl, sym, inl, inr, ⊎_elim, subst, ℕ, List, None, Some, arith}
 use Rattle.ept_base.specs.Causes.{Rose}
-use Rattle.ept_run.specs.declared.ended.Failure.TheVariants.{Refused}
-use Rattle.ept_run.specs.declared.refusal.Refusal.{Refusal}
-use Rattle.ept_run.specs.declared.refusal.Refusal.TheVariants.{Usage, BadCheckpoint}
+use Rattle.ept_command.specs.declared.ended.Failure.TheVariants.{Refused}
+use Rattle.ept_command.specs.declared.refusal.Refusal.{Refusal}
+use Rattle.ept_command.specs.declared.refusal.Refusal.TheVariants.{Usage, BadCheckpoint}
 use Rattle.ept_run.specs.Requests.{IsDoneAt, ComesAt, DiffersAt, ComesToDamageAt, IsConfigured, HasSpilled, IsDefinite}
 use Rattle.ept_run.specs.Answers.{YieldsRefusal, SaysOfStore, IsFaulty, IsRefused, EndsTrial, EndsWith}
 use Rattle.ept_run.proofs.Runs.{Carries, some_or_none, ends_with, no_failure, never_usage, is_done, has_risen, is_refused, refusal_yields, accepted_yields, comes_yields, differs_yields, damage_yields, usage_yields, bad_configuration, carried_out}

@@ -1,6 +1,6 @@
-use Rattle.ept_run.specs.Requests.{ConfigurationIsRefused}
+use Rattle.ept_command.specs.Configurations.{ConfigurationIsRefused}
 use Rattle.ept_run.proofs.Refused.{carried_accepted, carried_comes, carried_difference, carried_damage, carried_one, ok_comes, ok_differs, ok_damaged}
-use Rattle.ept_run.specs.declared.refusal.Refusal.TheVariants.{BadCheckpoint}
+use Rattle.ept_command.specs.declared.refusal.Refusal.TheVariants.{BadCheckpoint}
 use Rattle.ept_run.proofs.commands.build_line.Goals as goal
 
 pub returns-in_err-summary-clause-refusal_comes : goal.returns-in_err-summary-clause-refusal_comes

@@ -9,9 +9,9 @@ use Rattle.ept_build.specs.declared.error.BuildError.{BuildError}
 use Rattle.ept_build.specs.declared.summary.Summary.{Summary}
 use Rattle.ept_build.specs.Building.{BeginsWith}
 use Rattle.ept_build.specs.Building as building
-use Rattle.ept_run.specs.declared.refusal.Refusal.{Refusal}
+use Rattle.ept_command.specs.declared.refusal.Refusal.{Refusal}
 use Rattle.ept_run.specs.Requests.{BuildIsRefused, IsOfStore, IsEarly, Fails, TellsDifference, TellsDamage}
-use Rattle.ept_run.specs.declared.refusal.Refusal.TheVariants.{BadCheckpoint}
+use Rattle.ept_command.specs.declared.refusal.Refusal.TheVariants.{BadCheckpoint}
 use Rattle.ept_run.proofs.Refused.{came_to, differed_to, damaged_to, stored_as, bad_to, build_refused, build_comes, build_accepted, build_finished, built_at, spilled_at, begun, begun_done, early_as, told_as, stays_sound, never_configured}
 use Rattle.ept_run.proofs.commands.carry_out_build.Goals as goal
 
@@ -38,26 +38,26 @@ returns-in-Ok-clause-done_already g c =
 
 pub returns-clause-refused : goal.returns-clause-refused
 returns-clause-refused g c =
-    subst (λ (r : Refusal). Tells (λ all. BuildIsRefused all (BeginsWith g.M.File.SpillFile.held (g.H.Shelf.files c.args.shelf.now) (g.T.Store.files c.args.store.now) (g.T.Store.may_leave c.args.store.now)) c.args.path.now r) (g.H.Shelf.files c.args.shelf.now)) (sym c.from.ensures)
+    subst (λ (r : Refusal). Tells (λ all. BuildIsRefused all (BeginsWith g.M.File.SpillFile.held (g.H.Shelf.files c.args.shelf.now) (g.T.Store.files c.args.store.now) (g.T.Store.may_leave c.args.store.now)) c.args.path.now r) (g.H.Shelf.files c.args.shelf.now)) (sym c.refusal_of.ensures)
     (build_refused g.M.File.SpillFile.held (g.H.Shelf.files c.args.shelf.now) (g.H.Shelf.files c.read_configuration.new.shelf) c.read_configuration.ensures.files c.args.path.now c.in_ok-config.config c.in_ok-config.ensures.ok (g.T.Store.files c.args.store.now) (g.T.Store.may_leave c.args.store.now) c.build.result c.in-Err.error c.in-Err.is c.build.ensures.refused)
 
 pub returns-clause-refusal_comes : goal.returns-clause-refusal_comes
 returns-clause-refusal_comes g c =
-    build_comes g.M.File.SpillFile.held (g.H.Shelf.files c.args.shelf.now) (g.H.Shelf.files c.read_configuration.new.shelf) c.read_configuration.ensures.files c.args.path.now c.in_ok-config.config c.in_ok-config.ensures.ok (g.T.Store.files c.args.store.now) (g.T.Store.may_leave c.args.store.now) (Err c.from.result)
+    build_comes g.M.File.SpillFile.held (g.H.Shelf.files c.args.shelf.now) (g.H.Shelf.files c.read_configuration.new.shelf) c.read_configuration.ensures.files c.args.path.now c.in_ok-config.config c.in_ok-config.ensures.ok (g.T.Store.files c.args.store.now) (g.T.Store.may_leave c.args.store.now) (Err c.refusal_of.result)
 
 pub returns-clause-accepted : goal.returns-clause-accepted
 returns-clause-accepted g c =
-    λ all start begins asked. subst (λ (a : Result Summary Refusal). IsOk a ⊎ Fails a) (ap told_as c.in-Err.is ∙ ap Err (sym c.from.ensures))
+    λ all start begins asked. subst (λ (a : Result Summary Refusal). IsOk a ⊎ Fails a) (ap told_as c.in-Err.is ∙ ap Err (sym c.refusal_of.ensures))
     (build_accepted g.M.File.SpillFile.held (g.H.Shelf.files c.args.shelf.now) (g.H.Shelf.files c.read_configuration.new.shelf) c.read_configuration.ensures.files c.args.path.now c.in_ok-config.config c.in_ok-config.ensures.ok (g.T.Store.files c.args.store.now) (g.T.Store.may_leave c.args.store.now) c.build.result c.build.ensures.accepted all start begins asked)
 
 pub returns-clause-done_comes : goal.returns-clause-done_comes
 returns-clause-done_comes g c =
-    λ all start begins asked. subst (λ (a : Result Summary Refusal). IsOk a ⊎ Fails a) (ap told_as c.in-Err.is ∙ ap Err (sym c.from.ensures))
+    λ all start begins asked. subst (λ (a : Result Summary Refusal). IsOk a ⊎ Fails a) (ap told_as c.in-Err.is ∙ ap Err (sym c.refusal_of.ensures))
     (build_finished g.M.File.SpillFile.held (g.H.Shelf.files c.args.shelf.now) (g.H.Shelf.files c.read_configuration.new.shelf) c.read_configuration.ensures.files c.args.path.now c.in_ok-config.config c.in_ok-config.ensures.ok (g.T.Store.files c.args.store.now) (g.T.Store.may_leave c.args.store.now) c.build.result c.build.ensures.done_comes all start begins asked)
 
 pub returns-clause-of_store : goal.returns-clause-of_store
 returns-clause-of_store g c =
-    subst (λ (r : Refusal). IsOfStore (g.H.Shelf.files c.args.shelf.now) (g.T.Store.files c.args.store.now) (g.T.Store.files c.build.new.store) (IsSettled (g.T.Store.files c.args.store.now) (g.T.Store.may_leave c.args.store.now)) c.args.path.now r) (sym c.from.ensures)
+    subst (λ (r : Refusal). IsOfStore (g.H.Shelf.files c.args.shelf.now) (g.T.Store.files c.args.store.now) (g.T.Store.files c.build.new.store) (IsSettled (g.T.Store.files c.args.store.now) (g.T.Store.may_leave c.args.store.now)) c.args.path.now r) (sym c.refusal_of.ensures)
     (stored_as g.M.File.SpillFile.held (g.H.Shelf.files c.args.shelf.now) (g.H.Shelf.files c.read_configuration.new.shelf) c.read_configuration.ensures.files c.args.path.now c.in_ok-config.config c.in_ok-config.ensures.ok (g.T.Store.files c.args.store.now) (g.T.Store.may_leave c.args.store.now) c.build.result (g.T.Store.files c.build.new.store) (IsSettled (g.T.Store.files c.args.store.now) (g.T.Store.may_leave c.args.store.now)) c.in-Err.error c.in-Err.is c.build.ensures.differs c.build.ensures.bad c.build.ensures.damaged)
 
 pub returns-clause-sound : goal.returns-clause-sound
@@ -70,7 +70,7 @@ returns-clause-done_already g c =
 
 pub returns-clause-early : goal.returns-clause-early
 returns-clause-early g c =
-    λ early. subst (λ (a : Result Summary BuildError). IfErr a (λ e. building.IsEarly e → (Moves g.T.Store.files g.T.Store.may_leave g.T.Store.moment g.T.Store.image_since SameFiles c.args.store.now c.build.new.store))) c.in-Err.is c.build.ensures.early (early_as c.in-Err.error (subst IsEarly c.from.ensures early))
+    λ early. subst (λ (a : Result Summary BuildError). IfErr a (λ e. building.IsEarly e → (Moves g.T.Store.files g.T.Store.may_leave g.T.Store.moment g.T.Store.image_since SameFiles c.args.store.now c.build.new.store))) c.in-Err.is c.build.ensures.early (early_as c.in-Err.error (subst IsEarly c.refusal_of.ensures early))
 
 pub returns-in_err-config-clause-sound : goal.returns-in_err-config-clause-sound
 returns-in_err-config-clause-sound g c =
@@ -93,19 +93,19 @@ returns-in-Ok-clause-bad_comes g c = λ all start letter told stored bad asked. 
     (bad_to g.M.File.SpillFile.held (g.H.Shelf.files c.args.shelf.now) (g.H.Shelf.files c.read_configuration.new.shelf) c.read_configuration.ensures.files c.args.path.now c.in_ok-config.config c.in_ok-config.ensures.ok (g.T.Store.files c.args.store.now) (g.T.Store.may_leave c.args.store.now) c.build.result c.build.ensures.bad_comes all start letter told stored bad asked)
 
 pub returns-clause-comes : goal.returns-clause-comes
-returns-clause-comes g c = λ all start begins r asked. subst (λ (a : Result Summary Refusal). (a ≡ Err r) ⊎ Fails a) (ap told_as c.in-Err.is ∙ ap Err (sym c.from.ensures))
+returns-clause-comes g c = λ all start begins r asked. subst (λ (a : Result Summary Refusal). (a ≡ Err r) ⊎ Fails a) (ap told_as c.in-Err.is ∙ ap Err (sym c.refusal_of.ensures))
     (came_to g.M.File.SpillFile.held (g.H.Shelf.files c.args.shelf.now) (g.H.Shelf.files c.read_configuration.new.shelf) c.read_configuration.ensures.files c.args.path.now c.in_ok-config.config c.in_ok-config.ensures.ok (g.T.Store.files c.args.store.now) (g.T.Store.may_leave c.args.store.now) c.build.result c.build.ensures.refusal_comes c.build.ensures.too_many_comes all start begins r asked)
 
 pub returns-clause-differs_comes : goal.returns-clause-differs_comes
-returns-clause-differs_comes g c = λ all start told stored asked. subst (λ (a : Result Summary Refusal). TellsDifference a ⊎ Fails a) (ap told_as c.in-Err.is ∙ ap Err (sym c.from.ensures))
+returns-clause-differs_comes g c = λ all start told stored asked. subst (λ (a : Result Summary Refusal). TellsDifference a ⊎ Fails a) (ap told_as c.in-Err.is ∙ ap Err (sym c.refusal_of.ensures))
     (differed_to g.M.File.SpillFile.held (g.H.Shelf.files c.args.shelf.now) (g.H.Shelf.files c.read_configuration.new.shelf) c.read_configuration.ensures.files c.args.path.now c.in_ok-config.config c.in_ok-config.ensures.ok (g.T.Store.files c.args.store.now) (g.T.Store.may_leave c.args.store.now) c.build.result c.build.ensures.differs_comes all start told stored asked)
 
 pub returns-clause-damaged_comes : goal.returns-clause-damaged_comes
-returns-clause-damaged_comes g c = λ all start told stored asked. subst (λ (a : Result Summary Refusal). TellsDamage a ⊎ Fails a) (ap told_as c.in-Err.is ∙ ap Err (sym c.from.ensures))
+returns-clause-damaged_comes g c = λ all start told stored asked. subst (λ (a : Result Summary Refusal). TellsDamage a ⊎ Fails a) (ap told_as c.in-Err.is ∙ ap Err (sym c.refusal_of.ensures))
     (damaged_to g.M.File.SpillFile.held (g.H.Shelf.files c.args.shelf.now) (g.H.Shelf.files c.read_configuration.new.shelf) c.read_configuration.ensures.files c.args.path.now c.in_ok-config.config c.in_ok-config.ensures.ok (g.T.Store.files c.args.store.now) (g.T.Store.may_leave c.args.store.now) c.build.result c.build.ensures.damaged_comes all start told stored asked)
 
 pub returns-clause-bad_comes : goal.returns-clause-bad_comes
-returns-clause-bad_comes g c = λ all start letter told stored bad asked. subst (λ (a : Result Summary Refusal). (a ≡ Err (BadCheckpoint letter)) ⊎ Fails a) (ap told_as c.in-Err.is ∙ ap Err (sym c.from.ensures))
+returns-clause-bad_comes g c = λ all start letter told stored bad asked. subst (λ (a : Result Summary Refusal). (a ≡ Err (BadCheckpoint letter)) ⊎ Fails a) (ap told_as c.in-Err.is ∙ ap Err (sym c.refusal_of.ensures))
     (bad_to g.M.File.SpillFile.held (g.H.Shelf.files c.args.shelf.now) (g.H.Shelf.files c.read_configuration.new.shelf) c.read_configuration.ensures.files c.args.path.now c.in_ok-config.config c.in_ok-config.ensures.ok (g.T.Store.files c.args.store.now) (g.T.Store.may_leave c.args.store.now) c.build.result c.build.ensures.bad_comes all start letter told stored bad asked)
 
 pub returns-in_err-config-clause-asked : goal.returns-in_err-config-clause-asked

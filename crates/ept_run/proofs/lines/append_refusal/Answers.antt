@@ -1,6 +1,6 @@
 use Rattle.std.proofs.Common.{◌≡◌, ◌++◌, ℕ, List, codes, OnOk, sym, subst}
 use Rattle.std.specs.Fmt.{decimal}
-use Rattle.ept_run.specs.declared.refusal.Refusal.{Refusal}
+use Rattle.ept_command.specs.declared.refusal.Refusal.{Refusal}
 use Rattle.ept_space.specs.KeyText.{key_text}
 use Rattle.ept_run.specs.Lines.{record_text, name_of, letter_text, refusal_text}
 use Rattle.ept_run.proofs.Texts.{behind_word}

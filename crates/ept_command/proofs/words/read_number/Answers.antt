@@ -1,7 +1,7 @@
 use Rattle.std.proofs.Common.{rules, FitsSigned, w64, ◌∙◌}
 use Rattle.std.proofs.lemmas.Int.{to_z-of_z}
-use Rattle.ept_run.proofs.Numbers.{one_number, small, if_none}
-use Rattle.ept_run.proofs.words.read_number.Goals as goal
+use Rattle.ept_command.proofs.Numbers.{one_number, small, if_none}
+use Rattle.ept_command.proofs.words.read_number.Goals as goal
 
 pub returns-in_err-whole-clause-none : goal.returns-in_err-whole-clause-none
 returns-in_err-whole-clause-none c = rw c.from_residual.ensures (λ n few spelled.

@@ -3,10 +3,10 @@ use Rattle.ept_base.specs.Files.{Tells}
 use Rattle.ept_config_text.specs.Configuration.{reading}
 use Rattle.ept_config.specs.Facts.{facts}
 use Rattle.ept_config_text.specs.declared.config_error.ConfigError.TheVariants.{Memory}
-use Rattle.ept_run.specs.Requests.{ConfigurationIsRefused}
-use Rattle.ept_run.specs.declared.refusal.Refusal.{Refusal}
-use Rattle.ept_run.proofs.Fronts.{configuration_read, configuration_refused}
-use Rattle.ept_run.proofs.files.read_configuration.Goals as goal
+use Rattle.ept_command.specs.Configurations.{ConfigurationIsRefused}
+use Rattle.ept_command.specs.declared.refusal.Refusal.{Refusal}
+use Rattle.ept_command.proofs.Fronts.{configuration_read, configuration_refused}
+use Rattle.ept_command.proofs.files.read_configuration.Goals as goal
 
 pub returns-in-Ok-clause-ok : goal.returns-in-Ok-clause-ok
 returns-in-Ok-clause-ok g c =

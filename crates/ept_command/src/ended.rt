@@ -32,11 +32,11 @@ pub enum Failure {
 
 impl Ended {
     ghost use Rattle.std.specs.Prelude.{◌≡◌, None, Some};
-    ghost use Rattle.ept_run.specs.Lines.{status_of};
-    ghost use Rattle.ept_run.specs.declared.ended.Failure.TheVariants.{Refused};
+    ghost use Rattle.ept_command.specs.Statuses.{status_of};
+    ghost use Rattle.ept_command.specs.declared.ended.Failure.TheVariants.{Refused};
 
     /// A run whose command is carried out.
-    pub(crate) fn done() -> Self
+    pub fn done() -> Self
         ensures status { result.status ≡ 0 }
         ensures failure { result.failure ≡ None }
     {
@@ -47,7 +47,7 @@ impl Ended {
     }
 
     /// A run that is refused.
-    pub(crate) fn refused(refusal: &Refusal) -> Self
+    pub fn refused(refusal: &Refusal) -> Self
         ensures status { result.status ≡ status_of refusal.now }
         ensures failure { result.failure ≡ Some (Refused refusal.now) }
     {

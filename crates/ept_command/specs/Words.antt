@@ -5,8 +5,8 @@ use Rattle.ept_space.specs.declared.box3.Box3.{Box3}
 use Rattle.ept_http.specs.QueryWords.{IsBoxText, IsDepthsText}
 use Rattle.ept_filter.specs.declared.sift.Sift.{Sift}
 use Rattle.ept_filter.specs.SiftText.{IsSiftText}
-use Rattle.ept_run.specs.declared.words.Command.{Command}
-use Rattle.ept_run.specs.declared.words.Command.TheVariants.{Build, Info, Query, Select, Check, Trial, Usage}
+use Rattle.ept_command.specs.declared.words.Command.{Command}
+use Rattle.ept_command.specs.declared.words.Command.TheVariants.{Build, Info, Query, Select, Check, Trial, Usage}
 
 -- words as lists of bytes
 abbrev pub bytes_of : List (String Global) → List (List ℕ)

@@ -1,7 +1,7 @@
 //! What the words of a command line ask for.
 
 ghost use Rattle.std.specs.Prelude.{◌≡◌, ◌≢◌, ◌↔◌, ◌≤◌, ℕ, [], ◌∷◌, length, codes, decimal, pos, IsTrue, IfSome, IfNone};
-ghost use Rattle.ept_run.specs.Words.{bytes_of, IsBuild, IsInfo, IsCheck, IsCommand};
+ghost use Rattle.ept_command.specs.Words.{bytes_of, IsBuild, IsInfo, IsCheck, IsCommand};
 
 use ept_filter::{Sift, read_sift};
 use ept_http::{read_box, read_depths};

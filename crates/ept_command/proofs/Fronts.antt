@@ -9,9 +9,9 @@ use Rattle.ept_config_text.specs.declared.config_error.ConfigError.{ConfigError}
 use Rattle.ept_config_text.specs.declared.config_error.ConfigError.TheVariants as config
 use Rattle.ept_config_text.specs.Configuration.{reading}
 use Rattle.ept_config.specs.Facts.{facts}
-use Rattle.ept_run.specs.declared.files.TheConstants.{MOST}
-use Rattle.ept_run.specs.Errors.{of_config}
-use Rattle.ept_run.specs.Requests.{HasFront, HasConfiguration, ConfigurationIsRefused}
+use Rattle.ept_command.specs.declared.files.TheConstants.{MOST}
+use Rattle.ept_command.specs.Errors.{of_config}
+use Rattle.ept_command.specs.Configurations.{HasFront, HasConfiguration, ConfigurationIsRefused}
 
 too_long : (bytes : List ℕ) → 2 ^ 24 < length bytes → reading bytes ≡ Err config.Long
 unfolding reading

@@ -1,7 +1,7 @@
 use Rattle.std.proofs.Common.{arith, inl, inr}
-use Rattle.ept_run.proofs.Tried.{numbers_refused}
-use Rattle.ept_run.proofs.words.trial_of.Goals as goal
-use Rattle.ept_run.proofs.words.trial_of.Goals.{then-workers-lt1-via-then-workers-lt1, then-workers-lt1-via-else-workers-lt1+then-cache-workers}
+use Rattle.ept_command.proofs.Usages.{numbers_refused}
+use Rattle.ept_command.proofs.words.trial_of.Goals as goal
+use Rattle.ept_command.proofs.words.trial_of.Goals.{then-workers-lt1-via-then-workers-lt1, then-workers-lt1-via-else-workers-lt1+then-cache-workers}
 
 pub returns-then-workers-lt1 : goal.returns-then-workers-lt1
 returns-then-workers-lt1 c =

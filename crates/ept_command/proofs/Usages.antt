@@ -1,0 +1,59 @@
+-- Words that are no command.
+use Rattle.std.proofs.Common.{◌≡◌, ◌≢◌, ◌⊎◌, ⊎_elim, ℕ, ◌≤◌, ◌<◌, List, [], ◌∷◌, ap, get_or, sym, ◌∙◌, arith}
+use Rattle.std.specs.Prelude.{String, codes, decimal, string_bytes, length}
+use Rattle.std.specs.declared.alloc.Global.{Global}
+use Rattle.std.proofs.lemmas.Fmt.{decimal_injective}
+use Rattle.std.proofs.lemmas.List.{length-map}
+use Rattle.ept_command.specs.Words.{bytes_of, IsTrial, IsUsage}
+
+-- words of another number than those of a command
+pub no_command : (words : List (String Global)) → length words ≢ 2 → length words ≢ 3 → length words ≢ 4 → length words ≢ 7 → IsUsage (bytes_of words)
+no_command words two three four seven =
+    let size : length (bytes_of words) ≡ length words = length-map words string_bytes in
+    record {
+      not_build = λ config out is. three (sym size ∙ ap (λ (ws : List (List ℕ)). length ws) is.words_are);
+      not_info = λ las is. two (sym size ∙ ap (λ (ws : List (List ℕ)). length ws) is.words_are);
+      not_query = λ out area first last is. four (sym size ∙ ap (λ (ws : List (List ℕ)). length ws) is.words_are);
+      not_select = λ out area first last sift is. seven (sym size ∙ ap (λ (ws : List (List ℕ)). length ws) is.words_are);
+      not_check = λ out is. two (sym size ∙ ap (λ (ws : List (List ℕ)). length ws) is.words_are);
+      not_trial = λ count workers cache is. four (sym size ∙ ap (λ (ws : List (List ℕ)). length ws) is.words_are);
+    }
+
+-- words of a trial that are read as numbers out of their range
+pub numbers_refused : (points workers cache : List ℕ) (w k : ℕ) → workers ≡ decimal w → w ≤ 64 → cache ≡ decimal k → k ≤ 65536 → (w < 1) ⊎ (k < w)
+    → IsUsage (codes "trial" ∷ points ∷ workers ∷ cache ∷ [])
+numbers_refused points workers cache w k workers_are few cache_is bounded wrong = record {
+  not_build = λ config out is. not_build config out is.words_are;
+  not_info = λ las is. not_info las is.words_are;
+  not_query = λ out area first last is. not_query out is.box is.depths is.words_are;
+  not_select = λ out area first last sift is. not_select out is.box is.depths is.classes is.time is.dims is.words_are;
+  not_check = λ out is. not_check out is.words_are;
+  not_trial = λ count found kept is. ranges found kept is (decimal_injective w found (omega (arith, few)) (omega (arith, is.threads)) (sym workers_are ∙ (parts count found kept is.words_are).0)) (decimal_injective k kept (omega (arith, bounded)) (omega (arith, is.bounded)) (sym cache_is ∙ (parts count found kept is.words_are).1));
+}
+  where
+    not_build : (config out : List ℕ) → codes "trial" ∷ points ∷ workers ∷ cache ∷ [] ≡ codes "build" ∷ config ∷ out ∷ [] → ⊥
+    not_build config out same = cc
+
+    not_info : (las : List ℕ) → codes "trial" ∷ points ∷ workers ∷ cache ∷ [] ≡ codes "info" ∷ las ∷ [] → ⊥
+    not_info las same = cc
+
+    not_query : (out box depths : List ℕ) → codes "trial" ∷ points ∷ workers ∷ cache ∷ [] ≡ codes "query" ∷ out ∷ box ∷ depths ∷ [] → ⊥
+    not_query out box depths same =
+        let heads : 116 ≡ 113 = ap (λ (ws : List (List ℕ)). get_or (get_or ws 0 []) 0 0) same in
+        omega (arith, heads)
+
+    not_select : (out box depths classes time dims : List ℕ) → codes "trial" ∷ points ∷ workers ∷ cache ∷ [] ≡ codes "select" ∷ out ∷ box ∷ depths ∷ classes ∷ time ∷ dims ∷ [] → ⊥
+    not_select out box depths classes time dims same =
+        let heads : 116 ≡ 115 = ap (λ (ws : List (List ℕ)). get_or (get_or ws 0 []) 0 0) same in
+        omega (arith, heads)
+
+    not_check : (out : List ℕ) → codes "trial" ∷ points ∷ workers ∷ cache ∷ [] ≡ codes "check" ∷ out ∷ [] → ⊥
+    not_check out same =
+        let heads : 116 ≡ 99 = ap (λ (ws : List (List ℕ)). get_or (get_or ws 0 []) 0 0) same in
+        omega (arith, heads)
+
+    parts : (count found kept : ℕ) → codes "trial" ∷ points ∷ workers ∷ cache ∷ [] ≡ codes "trial" ∷ decimal count ∷ decimal found ∷ decimal kept ∷ [] → (workers ≡ decimal found) × (cache ≡ decimal kept)
+    parts count found kept same = (cc, cc)
+
+    ranges : {count : ℕ} (found kept : ℕ) → IsTrial (codes "trial" ∷ points ∷ workers ∷ cache ∷ []) count found kept → w ≡ found → k ≡ kept → ⊥
+    ranges found kept is same_w same_k = ⊎_elim (λ none. omega (arith, none, same_w, is.some)) (λ less. omega (arith, less, same_w, same_k, is.room)) wrong
