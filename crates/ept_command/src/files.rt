@@ -8,8 +8,8 @@ ghost use Rattle.ept_command.specs.Configurations.{HasFront, HasConfiguration, C
 
 use crate::refusal::Refusal;
 use ept_base::{GetError, Shelf, Source, read_full};
-use ept_config::{Config, MAX_LENGTH};
-use ept_config_text::read_config;
+use ept_config::Config;
+use ept_config_text::{MAX_LENGTH, read_config};
 use std::alloc::Global;
 
 /// How many bytes of a configuration are read at a time.

@@ -6,8 +6,8 @@ use crate::sentences::{Names, write_check, write_query, write_refusal, write_unf
 use ept_base::{Shelf, Store};
 use ept_batch::Difference;
 use ept_command::{Command, Failure, Refusal, command_of, read_configuration, read_front};
-use ept_config::{Config, MAX_LENGTH};
-use ept_config_text::ConfigError;
+use ept_config::Config;
+use ept_config_text::{ConfigError, MAX_LENGTH};
 use ept_mem::MemShelf;
 use ept_plan::{PlanError, make_plan};
 use ept_save::{Saved, open};
