@@ -72,7 +72,7 @@ pub fn command_of(words: &[String]) -> Command<'_>
 }
 
 // Fewer or more words are no command.
-#[tactic(auto, using(crate::proofs::Queried::no_command))]
+#[tactic(auto, using(crate::proofs::Usages::no_command))]
 fn no_command(words: &[String]) -> Command<'_>
     requires two { length words.now ≢ 2 }
     requires three { length words.now ≢ 3 }
