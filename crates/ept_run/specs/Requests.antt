@@ -26,6 +26,7 @@ use Rattle.ept_build.specs.Building as building
 use Rattle.ept_build.specs.Phases.{HasDamage}
 use Rattle.ept_trial.specs.declared.trial.Trial.{Trial}
 use Rattle.ept_trial.specs.Trials.{IsTrialOf}
+use Rattle.ept_command.specs.Configurations.{HasConfiguration, HasBadConfiguration}
 use Rattle.ept_command.specs.declared.refusal.Refusal.{Refusal}
 use Rattle.ept_command.specs.declared.refusal.Refusal.TheVariants.{Usage, BadConfiguration, BadLas, OutOfBounds, NoBounds, SourceChanged, TooManyPoints, TooManyNodes, Differs, BadCheckpoint, TileDamaged, SourceFault, StoreFault, SpillFault, SpillDamaged, Memory}
 use Rattle.ept_run.specs.Lines.{summary_text, header_text, trial_text}
