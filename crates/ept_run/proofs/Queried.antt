@@ -1,8 +1,6 @@
 -- The words of a query are those of no other command, and what its status says.
-use Rattle.std.proofs.Common.{◌≡◌, ◌≢◌, ◌⊎◌, inl, inr, ℕ, List, [], ◌∷◌, Option, None, Some, Ok, Err, ap, refl, sym, ◌∙◌, subst, arith}
-use Rattle.std.specs.Prelude.{◌↔◌, Result, String, codes, string_bytes, length}
-use Rattle.std.specs.declared.alloc.Global.{Global}
-use Rattle.std.proofs.lemmas.List.{length-map}
+use Rattle.std.proofs.Common.{◌≡◌, ◌≢◌, ◌⊎◌, inl, inr, ℕ, List, [], ◌∷◌, Option, None, Some, Ok, Err, refl, sym, ◌∙◌, subst, arith}
+use Rattle.std.specs.Prelude.{◌↔◌, Result, codes}
 use Rattle.ept_base.specs.Files.{Files}
 use Rattle.ept_space.specs.declared.box3.Box3.{Box3}
 use Rattle.ept_http.specs.QueryWords.{IsBoxText, IsDepthsText}
@@ -13,7 +11,7 @@ use Rattle.ept_command.specs.declared.ended.Failure.{Failure}
 use Rattle.ept_command.specs.declared.ended.Failure.TheVariants.{QueryRefused}
 use Rattle.ept_command.specs.declared.refusal.Refusal.{Refusal}
 use Rattle.ept_filter.specs.declared.sift.Sift.{Sift}
-use Rattle.ept_command.specs.Words.{bytes_of, IsBuild, IsInfo, IsQuery, IsUsage}
+use Rattle.ept_command.specs.Words.{IsBuild, IsInfo, IsQuery}
 use Rattle.ept_run.specs.Answers.{AsksInfo, AsksDataset, IsFaulty}
 use Rattle.ept_run.specs.Queries.{query_status, query_failure, EndsSelection, EndsQuery}
 use Rattle.ept_run.proofs.Runs.{some_or_none}

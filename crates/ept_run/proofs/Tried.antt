@@ -1,5 +1,5 @@
 -- The words of a trial are those of no other command and name one number of points, and how it ends.
-use Rattle.std.proofs.Common.{◌≡◌, ◌≢◌, ◌⊎◌, ⊎_elim, inl, inr, ℕ, ◌≤◌, ◌<◌, List, [], ◌∷◌, Option, Ok, Err, ap, get_or, refl, sym, ◌∙◌, subst, arith}
+use Rattle.std.proofs.Common.{◌≡◌, ◌≢◌, ◌⊎◌, ⊎_elim, inl, inr, ℕ, List, [], ◌∷◌, Option, Ok, Err, ap, get_or, refl, sym, ◌∙◌, subst, arith}
 use Rattle.std.specs.Prelude.{Result, Vec, IfOk, IfErr, codes, decimal}
 use Rattle.std.specs.declared.alloc.Global.{Global}
 use Rattle.std.proofs.lemmas.Fmt.{decimal_injective}
@@ -7,7 +7,7 @@ use Rattle.ept_base.specs.Files.{Files, Tells}
 use Rattle.ept_space.specs.declared.box3.Box3.{Box3}
 use Rattle.ept_command.specs.declared.refusal.Refusal.{Refusal}
 use Rattle.ept_command.specs.declared.refusal.Refusal.TheVariants.{Usage, SourceFault, StoreFault, SpillFault, Memory}
-use Rattle.ept_command.specs.Words.{IsBuild, IsInfo, IsQuery, IsTrial, IsUsage}
+use Rattle.ept_command.specs.Words.{IsBuild, IsInfo, IsQuery, IsTrial}
 use Rattle.ept_command.specs.Statuses.{status_of}
 use Rattle.ept_run.specs.Requests.{HasTrial, IsDefinite, IsEarly, Fails}
 use Rattle.ept_run.specs.Answers.{AsksInfo, AsksTrial, SaysOfStore, IsAnswer, IsDone, IsFaulty, IsRefused, IsTold, EndsTrial, EndsWith, Yields}

@@ -5,10 +5,7 @@ use Rattle.ept_base.specs.Files.{Files, Tells}
 use Rattle.ept_point.specs.declared.point.Point.{Point}
 use Rattle.ept_space.specs.VoxelKey.{VoxelKey}
 use Rattle.ept_config.specs.declared.config.Config.{Config}
-use Rattle.ept_config_text.specs.declared.config_error.ConfigError.{ConfigError}
 use Rattle.ept_config.specs.declared.kept.Kept.{Kept}
-use Rattle.ept_config_text.specs.Configuration.{reading}
-use Rattle.ept_config.specs.Facts.{facts}
 use Rattle.ept_las.specs.declared.header.Header.{Header}
 use Rattle.ept_las.specs.declared.las_error.LasError.{LasError}
 use Rattle.ept_las.specs.LasHeader.{HeaderReadsAs}
