@@ -2,6 +2,8 @@
 #![tactic(auto)]
 
 #[cfg(test)]
+mod folder;
+#[cfg(test)]
 mod listening;
 #[cfg(test)]
 mod logs;

@@ -1,96 +1,186 @@
-//! Connections over the loopback.
+//! Connections over the loopback. What each receives is what a connection in memory is sent for the same bytes.
 
+use crate::folder::{make_folder, store_of};
+use ept_conn::serve_link;
 use ept_listen::{serve_connections, serve_single};
+use ept_mem::MemLink;
+use std::alloc::{AllocError, Global};
 use std::io::{self, Read, Write};
 use std::net::{Shutdown, SocketAddr, TcpListener, TcpStream};
 use std::test::Fail;
-use std::{fs, thread};
+use std::thread;
 
-// The folder of one point.
-fn make_folder(rt: &HostRuntime) -> Result<(), Fail> {
-    let _absent = fs::remove_dir_all(rt, "out/tests/served");
-    fs::create_dir_all(rt, "out/tests/served/ept-work")?;
-    fs::create_dir_all(rt, "out/tests/served/ept-data")?;
-    fs::write(rt, "out/tests/served/ept-work/done-2", [1])?;
-    fs::write(rt, "out/tests/served/ept.json", "{}")?;
-    fs::write(rt, "out/tests/served/ept-data/0-0-0-0.bin", [7; 53])?;
-    Ok(())
+// What comes over a connection, with what the responses begin, and with what they end.
+type Row = (&'static [u8], &'static [u8], &'static [u8]);
+
+static ROWS: [Row; 12] = [
+    (
+        b"GET /ept.json HTTP/1.1\r\nHost: a\r\n\r\n",
+        b"HTTP/1.1 200 OK\r\n",
+        b"\r\n\r\n{\"a\":1}",
+    ),
+    (
+        b"GET /ept-build.json HTTP/1.1\r\nHost: a\r\n\r\n",
+        b"HTTP/1.1 200 OK\r\nContent-Type: application/json\r\n",
+        b"\"shift\":[0,0,0]}]}",
+    ),
+    (
+        b"GET /ept-data/0-0-0-0.bin HTTP/1.1\r\nHost: a\r\nConnection: close\r\n\r\n",
+        b"HTTP/1.1 200 OK\r\nContent-Type: application/octet-stream\r\nConnection: close\r\n",
+        b"\0\0\0",
+    ),
+    // A query of two points, of one, and of none.
+    (
+        b"GET /query?box=0,0,0,7,7,7&depths=0,2 HTTP/1.1\r\nHost: a\r\n\r\n",
+        b"HTTP/1.1 200 OK\r\nContent-Type: application/octet-stream\r\nTransfer-Encoding: chunked\r\n",
+        b"\x01\0\0\0\0\0\0\0\r\n0\r\n\r\n",
+    ),
+    (
+        b"GET /query?box=2,2,2,7,7,7&depths=0,2 HTTP/1.1\r\nHost: a\r\n\r\n",
+        b"HTTP/1.1 200 OK\r\nContent-Type: application/octet-stream\r\nTransfer-Encoding: chunked\r\n\r\n35\r\n\x03\0",
+        b"\x01\0\0\0\0\0\0\0\r\n0\r\n\r\n",
+    ),
+    (
+        b"GET /query?box=100,0,0,101,7,7&depths=0,2 HTTP/1.1\r\nHost: a\r\n\r\n",
+        b"HTTP/1.1 200 OK\r\nContent-Type: application/octet-stream\r\nTransfer-Encoding: chunked\r\n",
+        b"\r\n\r\n0\r\n\r\n",
+    ),
+    (
+        b"GET /select?box=0,0,0,7,7,7&depths=0,2&classes=-&time=-&dims=PointId,X HTTP/1.1\r\nHost: a\r\n\r\n",
+        b"HTTP/1.1 200 OK\r\nContent-Type: application/octet-stream\r\nTransfer-Encoding: chunked\r\n",
+        b"\x03\0\0\0\r\n0\r\n\r\n",
+    ),
+    // Requests that are refused. After a bad one nothing more is answered.
+    (
+        b"HELLO\r\n\r\nGET /ept.json HTTP/1.1\r\nHost: a\r\n\r\n",
+        b"HTTP/1.1 400 Bad Request\r\n",
+        b"\r\nContent-Length: 0\r\n\r\n",
+    ),
+    (
+        b"POST /ept.json HTTP/1.1\r\nHost: a\r\n\r\nGET /ept.json HTTP/1.1\r\nHost: a\r\n\r\n",
+        b"HTTP/1.1 405 Method Not Allowed\r\nAllow: GET\r\n",
+        b"\r\n\r\n{\"a\":1}",
+    ),
+    (
+        b"GET /no HTTP/1.1\r\nHost: a\r\n\r\nGET /ept.json HTTP/1.0\r\n\r\n",
+        b"HTTP/1.1 404 Not Found\r\n",
+        b"\r\nContent-Length: 0\r\n\r\n",
+    ),
+    // Four at once, of which two are queries, and the beginning of a fifth.
+    (
+        b"GET /ept.json HTTP/1.1\r\nHost: a\r\n\r\nGET /query?box=0,0,0,7,7,7&depths=0,0 HTTP/1.1\r\nHost: a\r\n\r\nHEAD / HTTP/1.1\r\nHost: a\r\n\r\nGET /query?box=0,0,0,7,7,7&depths=1,1 HTTP/1.1\r\nHost: a\r\n\r\nGET /e",
+        b"HTTP/1.1 200 OK\r\nContent-Type: application/json\r\n",
+        b"\x01\0\0\0\0\0\0\0\r\n0\r\n\r\n",
+    ),
+    (b"GET /ept.json HTTP/1.1\r\nHost", b"", b""),
+];
+
+/// How many bytes of a request are sent at a time.
+const PIECE: usize = 20;
+
+/// How many connections the rows make.
+const CONNECTIONS: u32 = 24;
+
+// The piece of the bytes that begins at a place.
+fn piece_at(bytes: &[u8], at: usize) -> &[u8] {
+    let rest = &bytes[at.min(bytes.len())..];
+    &rest[..rest.len().min(PIECE)]
 }
 
-// Whether a server answers so to a request behind which no more comes.
-fn is_answered(
+// What a server sends to two peers that send these bytes over the loopback, piece by piece in turn.
+fn over_loopback(
     rt: &HostRuntime,
     address: SocketAddr,
-    request: &[u8],
-    want: &[u8],
-) -> io::Result<bool> {
-    let mut stream = TcpStream::connect(rt, address)?;
-    stream.write_all(request)?;
-    stream.shutdown(Shutdown::Write)?;
-    let mut answer = Vec::new(rt.alloc());
-    stream.read_to_end(&mut answer)?;
-    Ok(answer.as_slice() == want)
-}
-
-// Whether a server answers so to two requests whose pieces are sent in turn over two connections.
-fn are_answered_in_turn(rt: &HostRuntime, address: SocketAddr) -> io::Result<bool> {
+    sends: [&[u8]; 2],
+) -> io::Result<[Vec<u8>; 2]> {
+    let [first, second] = sends;
     let mut one = TcpStream::connect(rt, address)?;
     let mut two = TcpStream::connect(rt, address)?;
-    for (first, second) in FIRST.chunks(20).zip(SECOND.chunks(20)) {
-        one.write_all(first)?;
-        two.write_all(second)?;
+    for at in (0..first.len().max(second.len())).step_by(PIECE) {
+        one.write_all(piece_at(first, at))?;
+        two.write_all(piece_at(second, at))?;
     }
     one.shutdown(Shutdown::Write)?;
     two.shutdown(Shutdown::Write)?;
-    let mut answers = (Vec::new(rt.alloc()), Vec::new(rt.alloc()));
-    one.read_to_end(&mut answers.0)?;
-    two.read_to_end(&mut answers.1)?;
-    Ok(answers.0.as_slice() == FIRST_ANSWER && answers.1.as_slice() == SECOND_ANSWER)
+    let mut received = [Vec::new(rt.alloc()), Vec::new(rt.alloc())];
+    one.read_to_end(&mut received[0])?;
+    two.read_to_end(&mut received[1])?;
+    Ok(received)
 }
 
-const FIRST: &[u8] =
-    b"GET /ept.json HTTP/1.1\r\nHost: a\r\n\r\nGET /no HTTP/1.1\r\nHost: a\r\n\r\n";
+// A connection in memory over which these bytes came.
+fn in_memory(alloc: Global, sends: &[u8]) -> Result<MemLink, AllocError> {
+    let mut store = store_of(alloc)?;
+    let mut pieces = Vec::new(alloc);
+    pieces.push(Vec::from_slice(alloc, sends)?)?;
+    let mut link = MemLink::new(alloc, pieces, Vec::new(alloc));
+    let _end = serve_link(alloc, &mut link, &mut store);
+    Ok(link)
+}
 
-const FIRST_ANSWER: &[u8] =
-    b"HTTP/1.1 200 OK\r\nContent-Type: application/json\r\nContent-Length: 2\r\n\r\n{}HTTP/1.1 404 Not Found\r\nContent-Length: 0\r\n\r\n";
+// Whether these are the responses of a row, and a connection in memory is sent the same.
+fn is_alike(alloc: Global, row: Row, received: &[u8]) -> Result<bool, AllocError> {
+    let (sends, begin, end) = row;
+    let link = in_memory(alloc, sends)?;
+    Ok(received == link.written() && received.starts_with(begin) && received.ends_with(end))
+}
 
-const SECOND: &[u8] = b"GET /ept-data/0-0-0-0.bin HTTP/1.1\r\nHost: a\r\nConnection: close\r\n\r\n";
-
-const SECOND_ANSWER: &[u8] =
-    b"HTTP/1.1 200 OK\r\nContent-Type: application/octet-stream\r\nConnection: close\r\nContent-Length: 53\r\n\r\n\x07\x07\x07\x07\x07\x07\x07\x07\x07\x07\x07\x07\x07\x07\x07\x07\x07\x07\x07\x07\x07\x07\x07\x07\x07\x07\x07\x07\x07\x07\x07\x07\x07\x07\x07\x07\x07\x07\x07\x07\x07\x07\x07\x07\x07\x07\x07\x07\x07\x07\x07\x07\x07";
+// Whether a server sends of each row what a connection in memory is sent. The row that is sent in turn with it is the
+// one that is as far from the end.
+fn are_alike(rt: &HostRuntime, address: SocketAddr) -> io::Result<bool> {
+    for (row, other) in ROWS.into_iter().zip(ROWS.into_iter().rev()) {
+        let received = over_loopback(rt, address, [row.0, other.0])?;
+        if !is_alike(rt.alloc(), row, &received[0])?
+            || !is_alike(rt.alloc(), other, &received[1])?
+        {
+            return Ok(false);
+        }
+    }
+    Ok(true)
+}
 
 #[test]
-fn two_connections_over_the_loopback_are_answered(rt: HostRuntime) -> Result<(), Fail> {
-    make_folder(&rt)?;
+fn connections_over_the_loopback_receive_what_those_in_memory_do(
+    rt: HostRuntime,
+) -> Result<(), Fail> {
+    make_folder(&rt, "out/tests/served")?;
     let listener = TcpListener::bind(&rt, "127.0.0.1:0")?;
     let address = listener.local_addr()?;
-    let (served, (first, second)) = thread::join(
+    let (served, alike) = thread::join(
         &rt,
-        || serve_connections(&rt, &rt, listener, "out/tests/served", Some(2), false),
-        || {
-            (
-                is_answered(&rt, address, FIRST, FIRST_ANSWER),
-                is_answered(&rt, address, SECOND, SECOND_ANSWER),
-            )
-        },
+        || serve_connections(
+            &rt,
+            &rt,
+            listener,
+            "out/tests/served",
+            Some(CONNECTIONS),
+            false,
+        ),
+        || are_alike(&rt, address),
     );
     served?;
-    assert!(rt; first?);
-    assert!(rt; second?);
+    assert!(rt; alike?);
     Ok(())
 }
 
 #[test]
-fn one_thread_answers_two_connections_in_turn(rt: HostRuntime) -> Result<(), Fail> {
-    make_folder(&rt)?;
+fn so_do_those_that_one_thread_serves(rt: HostRuntime) -> Result<(), Fail> {
+    make_folder(&rt, "out/tests/single")?;
     let listener = TcpListener::bind(&rt, "127.0.0.1:0")?;
     let address = listener.local_addr()?;
-    let (served, answered) = thread::join(
+    let (served, alike) = thread::join(
         &rt,
-        || serve_single(&rt, &rt, listener, "out/tests/served", Some(2), false),
-        || are_answered_in_turn(&rt, address),
+        || serve_single(
+            &rt,
+            &rt,
+            listener,
+            "out/tests/single",
+            Some(CONNECTIONS),
+            false,
+        ),
+        || are_alike(&rt, address),
     );
     served?;
-    assert!(rt; answered?);
+    assert!(rt; alike?);
     Ok(())
 }
