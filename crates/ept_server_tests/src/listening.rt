@@ -126,17 +126,15 @@ fn is_alike(alloc: Global, row: Row, received: &[u8]) -> Result<bool, AllocError
 }
 
 // Whether a server sends of each row what a connection in memory is sent. The row that is sent in turn with it is the
-// one that is as far from the end.
+// one that is as far from the end. Each connection is made, whatever came before it: the server waits for all of them.
 fn are_alike(rt: &HostRuntime, address: SocketAddr) -> io::Result<bool> {
+    let alloc = rt.alloc();
+    let mut alike = true;
     for (row, other) in ROWS.into_iter().zip(ROWS.into_iter().rev()) {
-        let received = over_loopback(rt, address, [row.0, other.0])?;
-        if !is_alike(rt.alloc(), row, &received[0])?
-            || !is_alike(rt.alloc(), other, &received[1])?
-        {
-            return Ok(false);
-        }
+        let [first, second] = over_loopback(rt, address, [row.0, other.0])?;
+        alike &= is_alike(alloc, row, &first)? && is_alike(alloc, other, &second)?;
     }
-    Ok(true)
+    Ok(alike)
 }
 
 #[test]
