@@ -1,3 +1,4 @@
 mod Fronts
 mod Numbers
+pub mod OctantTexts
 mod Usages

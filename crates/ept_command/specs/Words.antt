@@ -1,12 +1,13 @@
 -- What the words of a command line ask for.
-use Rattle.std.specs.Prelude.{◌≡◌, ◌≢◌, ◌≤◌, ℕ, List, [], ◌∷◌, String, map, string_bytes, codes, decimal}
+use Rattle.std.specs.Prelude.{◌≡◌, ◌≢◌, ◌≤◌, ℕ, List, [], ◌∷◌, Some, String, map, replicate, string_bytes, codes, decimal}
 use Rattle.std.specs.declared.alloc.Global.{Global}
 use Rattle.ept_space.specs.declared.box3.Box3.{Box3}
 use Rattle.ept_http.specs.QueryWords.{IsBoxText, IsDepthsText}
 use Rattle.ept_filter.specs.declared.sift.Sift.{Sift}
-use Rattle.ept_filter.specs.SiftText.{IsSiftText}
+use Rattle.ept_class.specs.declared.class_set.ClassSet.{ClassSet}
+use Rattle.ept_filter.specs.SiftText.{IsSiftText, IsClassesText}
 use Rattle.ept_command.specs.declared.words.Command.{Command}
-use Rattle.ept_command.specs.declared.words.Command.TheVariants.{Build, Info, Query, Select, Check, Trial, Usage}
+use Rattle.ept_command.specs.declared.words.Command.TheVariants.{Build, Part, Info, Query, Select, Check, Trial, Usage}
 
 -- words as lists of bytes
 abbrev pub bytes_of : List (String Global) → List (List ℕ)
@@ -17,6 +18,25 @@ pub record IsBuild (words : List (List ℕ)) (config out : List ℕ) : Type 0 wh
   pub words_are : words ≡ codes "build" ∷ config ∷ out ∷ []
   pub config_is : config ≢ []
   pub out_is : out ≢ []
+
+-- Octants are written as the classes of a selection are: numbers that ascend, with commas between them. All are below 8, and the mask has a bit for each.
+pub record IsOctantsText (text : List ℕ) (octants : ℕ) : Type 0 where
+  pub numbers : ClassSet
+  pub text_is : IsClassesText text (Some numbers)
+  pub below_8 : numbers.bytes ≡ octants ∷ replicate 31 0
+  pub some : octants ≢ 0
+
+-- a text of classes is one of a selection, at any time and with all dimensions
+abbrev pub ClassesAreSelected : Type 0
+ClassesAreSelected = (text : List ℕ) (numbers : ClassSet) → IsClassesText text (Some numbers) → (sift : Sift) × IsSiftText text (codes "-") (codes "-") sift
+
+-- `part`, the words of a build, and octants of the root
+pub record IsPart (words : List (List ℕ)) (config out : List ℕ) (octants : ℕ) : Type 0 where
+  pub text : List ℕ
+  pub words_are : words ≡ codes "part" ∷ config ∷ out ∷ text ∷ []
+  pub config_is : config ≢ []
+  pub out_is : out ≢ []
+  pub octants_are : IsOctantsText text octants
 
 -- `info` and the path of a LAS file
 pub record IsInfo (words : List (List ℕ)) (las : List ℕ) : Type 0 where
@@ -62,6 +82,7 @@ pub record IsTrial (words : List (List ℕ)) (count workers cache : ℕ) : Type 
 -- the words are none of these
 pub record IsUsage (words : List (List ℕ)) : Type 0 where
   pub not_build : (config out : List ℕ) → ¬ IsBuild words config out
+  pub not_part : (config out : List ℕ) (octants : ℕ) → ¬ IsPart words config out octants
   pub not_info : (las : List ℕ) → ¬ IsInfo words las
   pub not_query : (out : List ℕ) (area : Box3) (first last : ℕ) → ¬ IsQuery words out area first last
   pub not_select : (out : List ℕ) (area : Box3) (first last : ℕ) (sift : Sift) → ¬ IsSelect words out area first last sift
@@ -71,6 +92,7 @@ pub record IsUsage (words : List (List ℕ)) : Type 0 where
 -- the command that the words are
 abbrev pub IsCommand : List (List ℕ) → Command → Type 0
 IsCommand words (Build config out) = IsBuild words config.now out.now
+IsCommand words (Part config out octants) = IsPart words config.now out.now octants
 IsCommand words (Info las) = IsInfo words las.now
 IsCommand words (Query out area depths) = IsQuery words out.now area depths.0 depths.1
 IsCommand words (Select out area depths sift) = IsSelect words out.now area depths.0 depths.1 sift

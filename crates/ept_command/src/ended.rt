@@ -20,6 +20,8 @@ pub struct Ended {
 pub enum Failure {
     /// The words, or the files that they name, are refused.
     Refused(Refusal),
+    /// A part of a build is refused: the greatest depth is 0, so the root has no octants.
+    Shallow,
     /// A query is refused, or a selection.
     QueryRefused(QueryError),
     /// A dataset was checked, and this is wrong with the node of this key, the first one with which anything is.

@@ -6,11 +6,12 @@
 
 mod ended;
 mod files;
+mod octants;
 mod refusal;
 pub mod status;
 mod words;
 
 pub use ended::{Ended, Failure};
 pub use files::{read_configuration, read_front};
-pub use refusal::Refusal;
+pub use refusal::{PartRefusal, Refusal};
 pub use words::{Command, command_of};

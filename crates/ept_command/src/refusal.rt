@@ -124,3 +124,23 @@ impl Refusal {
         }
     }
 }
+
+/// Why a part of a build is refused.
+#[derive(Clone, Copy, Debug, PartialEq, Eq)]
+pub enum PartRefusal {
+    /// For a cause for which a build is refused too.
+    AsBuild(Refusal),
+    /// The greatest depth is 0, so the root has no octants.
+    Shallow,
+}
+
+impl From<Refusal> for PartRefusal {
+    ghost use Rattle.std.specs.Prelude.{◌≡◌};
+    ghost use Rattle.ept_command.specs.declared.refusal.PartRefusal.TheVariants.{AsBuild};
+
+    ghost from_gives = { λ from r. r ≡ AsBuild from };
+
+    fn from(refusal: Refusal) -> PartRefusal {
+        PartRefusal::AsBuild(refusal)
+    }
+}

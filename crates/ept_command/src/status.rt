@@ -21,6 +21,9 @@ pub const NOT_COMPLETE: u8 = 6;
 /// The folder of a build was built with another configuration.
 pub const DIFFERS: u8 = 6;
 
+/// The octree of a part has the root alone, which has no octants.
+pub const SHALLOW: u8 = 6;
+
 /// A device failed: the shelf, the store, the room or the sink.
 pub const DEVICE: u8 = 7;
 

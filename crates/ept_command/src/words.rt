@@ -3,6 +3,7 @@
 ghost use Rattle.std.specs.Prelude.{◌≡◌, ◌≢◌, ◌↔◌, ◌≤◌, ℕ, [], ◌∷◌, length, codes, decimal, pos, IsTrue, IfSome, IfNone};
 ghost use Rattle.ept_command.specs.Words.{bytes_of, IsBuild, IsInfo, IsCheck, IsCommand};
 
+use crate::octants::read_octants;
 use ept_filter::{Sift, read_sift};
 use ept_http::{read_box, read_depths};
 use ept_num::read_whole;
@@ -22,6 +23,12 @@ pub enum Command<'a> {
     Build {
         config: &'a str,
         out: &'a str,
+    },
+    /// Make the part of these octants, bit o for octant o, of the build of this configuration, in this folder.
+    Part {
+        config: &'a str,
+        out: &'a str,
+        octants: u8,
     },
     /// Tell what the header of this LAS file says.
     Info {
@@ -108,11 +115,13 @@ fn command_of_three<'a>(first: &str, config: &'a str, out: &'a str) -> Command<'
 }
 
 // The command that four words are.
-fn command_of_four<'a>(first: &str, second: &'a str, third: &str, fourth: &str) -> Command<'a>
+fn command_of_four<'a>(first: &str, second: &'a str, third: &'a str, fourth: &str) -> Command<'a>
     ensures { IsCommand (first.now ∷ second.now ∷ third.now ∷ fourth.now ∷ []) result }
 {
     if is_query(first) {
         query_of(second, third, fourth)
+    } else if is_part(first) {
+        part_of(second, third, fourth)
     } else if is_trial(first) {
         trial_of(second, third, fourth)
     } else {
@@ -163,6 +172,29 @@ fn query_of<'a>(out: &'a str, area: &str, depths: &str) -> Command<'a>
     match (read_box(area.as_bytes()), read_depths(depths.as_bytes())) {
         (Some(area), Some(depths)) => Command::Query { out, area, depths },
         _ => Command::Usage,
+    }
+}
+
+fn is_part(first: &str) -> bool
+    ensures { IsTrue result ↔ (first.now ≡ codes "part") }
+{
+    first == "part"
+}
+
+// The command of `part` with these words behind it.
+fn part_of<'a>(config: &'a str, out: &'a str, octants: &str) -> Command<'a>
+    ensures { IsCommand (codes "part" ∷ config.now ∷ out.now ∷ octants.now ∷ []) result }
+{
+    if config.is_empty() || out.is_empty() {
+        return Command::Usage;
+    }
+    match read_octants(octants) {
+        Some(octants) => Command::Part {
+            config,
+            out,
+            octants,
+        },
+        None => Command::Usage,
     }
 }
 

@@ -17,6 +17,7 @@ use std::fmt::Write;
 /// What is said of words that are no command: the commands, a line each.
 const USAGE: &str = "usage:
   build CONFIG OUT
+  part CONFIG OUT OCTANTS
   query OUT BOX DEPTHS
   select OUT BOX DEPTHS CLASSES TIME DIMS
   check OUT
@@ -32,9 +33,9 @@ const SPILL_ADVICE: &str = "run the same build again, or with a greater `cacheSi
 /// The files and the key that a sentence may name. What is not known, or not named, is empty.
 #[derive(Clone, Copy, Debug, Default)]
 pub(crate) struct Names<'a> {
-    /// The configuration of a build.
+    /// The configuration of a build or of a part.
     pub(crate) config: &'a str,
-    /// The folder of a build, a query, a selection or a check.
+    /// The folder of a build, a part, a query, a selection or a check.
     pub(crate) out: &'a str,
     /// Whether that folder exists.
     pub(crate) has_out: bool,
@@ -102,6 +103,14 @@ pub(crate) fn write_refusal(
         ),
         Refusal::Memory => text.push_str(OUT_OF_MEMORY),
     }
+}
+
+/// Writes the sentence of a part whose root has no octants.
+pub(crate) fn write_shallow(text: &mut String, config: &str) -> Result<(), AllocError> {
+    write!(
+        text,
+        "the octree of {config} has the root alone, which has no octants: build it whole, or give it a greater `maxDepth` or a smaller `span`"
+    )
 }
 
 // Of a configuration that is refused.

@@ -1,12 +1,12 @@
--- The words of a selection, and of a check, are those of no other command.
+-- The words of a selection, of a check, and of a part, are those of no other command.
 use Rattle.std.proofs.Common.{◌≡◌, inl, inr, ℕ, List, [], ◌∷◌, ap, get_or, arith}
-use Rattle.std.specs.Prelude.{codes, decimal}
+use Rattle.std.specs.Prelude.{codes, decimal, ⊤}
 use Rattle.ept_base.specs.Files.{Files}
 use Rattle.ept_space.specs.declared.box3.Box3.{Box3}
 use Rattle.ept_filter.specs.declared.sift.Sift.{Sift}
 use Rattle.ept_command.specs.declared.refusal.Refusal.{Refusal}
-use Rattle.ept_command.specs.Words.{IsBuild, IsInfo, IsQuery, IsSelect, IsCheck, IsTrial, IsUsage}
-use Rattle.ept_run.specs.Answers.{AsksDataset, IsFaulty}
+use Rattle.ept_command.specs.Words.{IsBuild, IsPart, IsInfo, IsQuery, IsSelect, IsCheck, IsTrial, IsUsage}
+use Rattle.ept_run.specs.Answers.{AsksPart, AsksDataset, IsFaulty}
 use Rattle.ept_run.proofs.Queried.{query_or_build, query_or_info}
 use Rattle.ept_run.proofs.Tried.{trial_or_query}
 
@@ -35,6 +35,41 @@ module _ (words : List (List ℕ)) where
 
   check_letter : (out : List ℕ) → IsCheck words out → letter words ≡ 99
   check_letter out is = same_letter words (codes "check" ∷ out ∷ []) is.words_are
+
+  part_letter : (config out : List ℕ) (octants : ℕ) → IsPart words config out octants → letter words ≡ 112
+  part_letter config out octants is = same_letter words (codes "part" ∷ config ∷ out ∷ is.text ∷ []) is.words_are
+
+  module _ (path folder : List ℕ) (octants : ℕ) (is : IsPart words path folder octants) where
+    pub part_or_build : (config out : List ℕ) → IsBuild words config out → ⊥
+    part_or_build config out other = omega (arith, part_letter path folder octants is, build_letter config out other)
+
+    pub part_or_info : (las : List ℕ) → IsInfo words las → ⊥
+    part_or_info las other = omega (arith, part_letter path folder octants is, info_letter las other)
+
+    pub part_or_query : (out : List ℕ) (box : Box3) (least most : ℕ) → IsQuery words out box least most → ⊥
+    part_or_query out box least most other = omega (arith, part_letter path folder octants is, query_letter out box least most other)
+
+    pub part_or_select : (out : List ℕ) (box : Box3) (least most : ℕ) (sift : Sift) → IsSelect words out box least most sift → ⊥
+    part_or_select out box least most sift other = omega (arith, part_letter path folder octants is, select_letter out box least most sift other)
+
+    pub part_or_check : (out : List ℕ) → IsCheck words out → ⊥
+    part_or_check out other = omega (arith, part_letter path folder octants is, check_letter out other)
+
+    pub part_or_trial : (count workers cache : ℕ) → IsTrial words count workers cache → ⊥
+    part_or_trial count workers cache other = omega (arith, part_letter path folder octants is, trial_letter count workers cache other)
+
+    pub part_asked : AsksPart words (λ _ _. ⊤)
+    part_asked = record { path = path; out = folder; octants = octants; words_are = is; holds = tt }
+
+    pub part_unrefused : (all : Files) (r : Refusal) → IsFaulty words all r → ⊥
+    part_unrefused all r (inl usage) = usage.1.not_part path folder octants is
+    part_unrefused all r (inr (inl asks)) = part_or_build asks.path asks.out asks.words_are
+    part_unrefused all r (inr (inr asks)) = part_or_info asks.path asks.words_are
+
+    pub part_or_dataset : AsksDataset words → ⊥
+    part_or_dataset (inl asks) = part_or_query asks.folder asks.area asks.first asks.last asks.words_are
+    part_or_dataset (inr (inl asks)) = part_or_select asks.folder asks.area asks.first asks.last asks.sift asks.words_are
+    part_or_dataset (inr (inr asks)) = part_or_check asks.folder asks.words_are
 
   module _ (folder : List ℕ) (area : Box3) (first last : ℕ) (sift : Sift) (is : IsSelect words folder area first last sift) where
     pub select_or_build : (config out : List ℕ) → IsBuild words config out → ⊥

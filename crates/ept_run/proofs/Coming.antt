@@ -13,12 +13,12 @@ use Rattle.ept_query.specs.Complete.{IsDevices}
 use Rattle.ept_filter.specs.declared.sift.Sift.{Sift}
 use Rattle.ept_sample.specs.Nodes.{node_keys}
 use Rattle.ept_meta.specs.Output.{rules_of}
-use Rattle.ept_command.specs.Words.{IsBuild, IsInfo, IsTrial, IsUsage}
-use Rattle.ept_run.specs.Requests.{HasHeader, IsAcceptedAt, IsDoneAt}
-use Rattle.ept_run.specs.Answers.{Yields, AsksInfo, AsksDataset, CanBeDone, a_build, of_dataset, a_header, a_trial, EndsWell}
+use Rattle.ept_command.specs.Words.{IsBuild, IsPart, IsInfo, IsTrial, IsUsage}
+use Rattle.ept_run.specs.Requests.{HasHeader, IsAcceptedAt, IsDoneAt, IsPartAcceptedAt}
+use Rattle.ept_run.specs.Answers.{Yields, AsksPart, AsksInfo, AsksDataset, CanBeDone, a_build, a_part, of_dataset, a_header, a_trial, EndsWell}
 use Rattle.ept_run.specs.Queries.{query_status, GivesWhole, EndsSelection}
 use Rattle.ept_run.specs.Checks.{EndsCheck}
-use Rattle.ept_run.proofs.Apart.{dataset_or_build, dataset_or_info, dataset_or_trial, dataset_or_usage}
+use Rattle.ept_run.proofs.Apart.{part_or_build, part_or_info, part_or_trial, part_or_dataset, dataset_or_build, dataset_or_info, dataset_or_trial, dataset_or_usage}
 use Rattle.ept_run.proofs.Asked.{of_build, build_or_info}
 use Rattle.ept_run.proofs.Checked.{check_yields}
 use Rattle.ept_run.proofs.Tried.{trial_or_build, trial_or_info}
@@ -45,6 +45,7 @@ module _ (words : List (List ℕ)) (shelf store : Option Files) (Begins : Files 
   -- words that are no command ask for nothing
   pub nothing_can : IsUsage words → CanBeDone words shelf store Begins → ⊥
   nothing_can usage (a_build all start begins asks) = usage.not_build asks.path asks.out asks.words_are
+  nothing_can usage (a_part all told asks) = usage.not_part asks.path asks.out asks.octants asks.words_are
   nothing_can usage (of_dataset start kept points told complete asks) = dataset_or_usage words asks usage
   nothing_can usage (a_header all header told asks) = usage.not_info asks.path asks.words_are
   nothing_can usage (a_trial asks) = usage.not_trial asks.count asks.workers asks.cache asks.words_are
@@ -59,14 +60,25 @@ module _ (words : List (List ℕ)) (shelf store : Option Files) (Begins : Files 
         → ((all start : Files) → Begins all start → IsAcceptedAt all start path ⊎ IsDoneAt all start path → Yields 0 status)
         → CanBeDone words shelf store Begins → EndsWell status failed
     build_can path out is comes (a_build all start begins asks) = well (comes all start begins (of_build words path out is {P = λ p. IsAcceptedAt all start p ⊎ IsDoneAt all start p} asks))
+    build_can path out is comes (a_part all told asks) = absurd (part_or_build words asks.path asks.out asks.octants asks.words_are path out is)
     build_can path out is comes (of_dataset start kept points told complete asks) = absurd (dataset_or_build words asks path out is)
     build_can path out is comes (a_header all header told asks) = absurd (build_or_info words path out asks.path is asks.words_are)
     build_can path out is comes (a_trial asks) = absurd (trial_or_build words asks.count asks.workers asks.cache asks.words_are path out is)
+
+    pub part_can : (path out : List ℕ) (octants : ℕ) → IsPart words path out octants
+        → ((all : Files) → shelf ≡ Some all → AsksPart words (λ p o. IsPartAcceptedAt all p o) → Yields 0 status)
+        → CanBeDone words shelf store Begins → EndsWell status failed
+    part_can path out octants is comes (a_build all start begins asks) = absurd (part_or_build words path out octants is asks.path asks.out asks.words_are)
+    part_can path out octants is comes (a_part all told asks) = well (comes all told asks)
+    part_can path out octants is comes (of_dataset start kept points told complete asks) = absurd (part_or_dataset words path out octants is asks)
+    part_can path out octants is comes (a_header all header told asks) = absurd (part_or_info words path out octants is asks.path asks.words_are)
+    part_can path out octants is comes (a_trial asks) = absurd (part_or_trial words path out octants is asks.count asks.workers asks.cache asks.words_are)
 
     pub info_can : (las : List ℕ) → IsInfo words las
         → ((all : Files) (header : Header) → shelf ≡ Some all → AsksInfo words (λ p. HasHeader all p header) → Yields 0 status)
         → CanBeDone words shelf store Begins → EndsWell status failed
     info_can las is comes (a_build all start begins asks) = absurd (build_or_info words asks.path asks.out las asks.words_are is)
+    info_can las is comes (a_part all told asks) = absurd (part_or_info words asks.path asks.out asks.octants asks.words_are las is)
     info_can las is comes (of_dataset start kept points told complete asks) = absurd (dataset_or_info words asks las is)
     info_can las is comes (a_header all header told asks) = well (comes all header told asks)
     info_can las is comes (a_trial asks) = absurd (trial_or_info words asks.count asks.workers asks.cache asks.words_are las is)
@@ -76,6 +88,7 @@ module _ (words : List (List ℕ)) (shelf store : Option Files) (Begins : Files 
         → ((kept : Kept) (points : List Point) (start : Files) → store ≡ Some start → IsComplete kept points start → Yields 0 status)
         → CanBeDone words shelf store Begins → EndsWell status failed
     dataset_can is comes (a_build all start begins asks) = absurd (dataset_or_build words is asks.path asks.out asks.words_are)
+    dataset_can is comes (a_part all told asks) = absurd (part_or_dataset words asks.path asks.out asks.octants asks.words_are is)
     dataset_can is comes (of_dataset start kept points told complete asks) = well (comes kept points start told complete)
     dataset_can is comes (a_header all header told asks) = absurd (dataset_or_info words is asks.path asks.words_are)
     dataset_can is comes (a_trial asks) = absurd (dataset_or_trial words is asks.count asks.workers asks.cache asks.words_are)
@@ -93,6 +106,7 @@ module _ (words : List (List ℕ)) (shelf store : Option Files) (Begins : Files 
     pub trial_can : (count workers cache : ℕ) → IsTrial words count workers cache → Yields 0 status
         → CanBeDone words shelf store Begins → EndsWell status failed
     trial_can count workers cache is comes (a_build all start begins asks) = absurd (trial_or_build words count workers cache is asks.path asks.out asks.words_are)
+    trial_can count workers cache is comes (a_part all told asks) = absurd (part_or_trial words asks.path asks.out asks.octants asks.words_are count workers cache is)
     trial_can count workers cache is comes (of_dataset start kept points told complete asks) = absurd (dataset_or_trial words asks count workers cache is)
     trial_can count workers cache is comes (a_header all header told asks) = absurd (trial_or_info words count workers cache is asks.path asks.words_are)
     trial_can count workers cache is comes (a_trial asks) = well comes

@@ -2,6 +2,7 @@ mod Apart
 mod Asked
 mod Checked
 mod Coming
+mod Parted
 mod Queried
 mod Refused
 mod Runs

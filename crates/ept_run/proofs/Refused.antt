@@ -104,16 +104,16 @@ module _ (all : Files) (path : List ℕ) where
   one_reading : (a b : List ℕ) (x y : Result Facts ConfigError) → all path ≡ Some a → all path ≡ Some b → reading a ≡ x → reading b ≡ y → x ≡ y
   one_reading a b x y left right is_x is_y = sym is_x ∙ ap reading (some_same (all path) a b left right) ∙ is_y
 
-  one_config : (a b : Config) → HasConfiguration all path a → HasConfiguration all path b → a ≡ b
+  pub one_config : (a b : Config) → HasConfiguration all path a → HasConfiguration all path b → a ≡ b
   one_config a b is_a is_b =
       let same : ◌≡◌ {A = Result Facts ConfigError} (Ok (facts a)) (Ok (facts b)) = one_reading is_a.bytes is_b.bytes (Ok (facts a)) (Ok (facts b)) is_a.content is_b.content is_a.reads is_b.reads in
       config_same a b (ok_same {E = ConfigError} (facts a) (facts b) same)
 
-  not_both : (a : Config) (e : ConfigError) → HasConfiguration all path a → HasBadConfiguration all path e → ⊥
+  pub not_both : (a : Config) (e : ConfigError) → HasConfiguration all path a → HasBadConfiguration all path e → ⊥
   not_both a e is_a is_e =
       differ (facts a) e (one_reading is_a.bytes is_e.bytes (Ok (facts a)) (Err e) is_a.content is_e.content is_a.reads is_e.refused)
 
-  one_error : (e f : ConfigError) → HasBadConfiguration all path e → HasBadConfiguration all path f → e ≡ f
+  pub one_error : (e f : ConfigError) → HasBadConfiguration all path e → HasBadConfiguration all path f → e ≡ f
   one_error e f is_e is_f =
       err_same {A = Facts} e f (one_reading is_e.bytes is_f.bytes (Err e) (Err f) is_e.content is_f.content is_e.refused is_f.refused)
 

@@ -17,7 +17,7 @@ use Rattle.ept_run.specs.Answers.{Yields, YieldsRefusal, YieldsDifference, Yield
 
 -- ---- statuses
 
-usage_only : (r : Refusal) → status_of r ≡ 2 → r ≡ Usage
+pub usage_only : (r : Refusal) → status_of r ≡ 2 → r ≡ Usage
 usage_only Usage is = refl
 usage_only (BadConfiguration e) is = absurd (omega (arith, is))
 usage_only (BadLas source fault) is = absurd (omega (arith, is))
@@ -35,7 +35,7 @@ usage_only SpillFault is = absurd (omega (arith, is))
 usage_only SpillDamaged is = absurd (omega (arith, is))
 usage_only Memory is = absurd (omega (arith, is))
 
-device_only : (r : Refusal) → status_of r ≡ 7 → (r ≡ SourceFault) ⊎ (r ≡ StoreFault) ⊎ (r ≡ SpillFault)
+pub device_only : (r : Refusal) → status_of r ≡ 7 → (r ≡ SourceFault) ⊎ (r ≡ StoreFault) ⊎ (r ≡ SpillFault)
 device_only Usage is = absurd (omega (arith, is))
 device_only (BadConfiguration e) is = absurd (omega (arith, is))
 device_only (BadLas source fault) is = absurd (omega (arith, is))
@@ -53,7 +53,7 @@ device_only SpillFault is = inr (inr refl)
 device_only SpillDamaged is = absurd (omega (arith, is))
 device_only Memory is = absurd (omega (arith, is))
 
-configuration_only : (r : Refusal) → status_of r ≡ 3 → (e : ConfigError) × (r ≡ BadConfiguration e)
+pub configuration_only : (r : Refusal) → status_of r ≡ 3 → (e : ConfigError) × (r ≡ BadConfiguration e)
 configuration_only Usage is = absurd (omega (arith, is))
 configuration_only (BadConfiguration e) is = (e, refl)
 configuration_only (BadLas source fault) is = absurd (omega (arith, is))
@@ -72,7 +72,7 @@ configuration_only SpillDamaged is = absurd (omega (arith, is))
 configuration_only Memory is = absurd (omega (arith, is))
 
 -- a refusal is not the work done
-never_done : (r : Refusal) → status_of r ≢ 0
+pub never_done : (r : Refusal) → status_of r ≢ 0
 never_done Usage = omega arith
 never_done (BadConfiguration e) = omega arith
 never_done (BadLas source fault) = omega arith

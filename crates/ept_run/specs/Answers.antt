@@ -17,11 +17,11 @@ use Rattle.ept_command.specs.declared.ended.Failure.{Failure}
 use Rattle.ept_command.specs.declared.ended.Failure.TheVariants.{Refused, LineNotWritten}
 use Rattle.ept_command.specs.declared.refusal.Refusal.{Refusal}
 use Rattle.ept_command.specs.declared.refusal.Refusal.TheVariants.{Usage, BadConfiguration, BadLas, OutOfBounds, NoBounds, SourceChanged, TooManyPoints, TooManyNodes, Differs, BadCheckpoint, TileDamaged, SourceFault, StoreFault, SpillFault, SpillDamaged, Memory}
-use Rattle.ept_command.specs.Words.{IsBuild, IsInfo, IsQuery, IsSelect, IsCheck, IsTrial, IsUsage}
+use Rattle.ept_command.specs.Words.{IsBuild, IsPart, IsInfo, IsQuery, IsSelect, IsCheck, IsTrial, IsUsage}
 use Rattle.ept_command.specs.Statuses.{status_of}
 use Rattle.ept_run.specs.Lines.{summary_text, header_text, line_of}
 use Rattle.ept_command.specs.Configurations.{ConfigurationIsRefused}
-use Rattle.ept_run.specs.Requests.{HasBuilt, HasTold, HasTrial, HasHeader, IsAcceptedAt, IsDoneAt, AsksForBuild, BuildIsRefused, InfoIsRefused, IsOfStore, IsEarly}
+use Rattle.ept_run.specs.Requests.{HasBuilt, HasTold, HasTrial, HasHeader, IsAcceptedAt, IsDoneAt, IsPartAcceptedAt, AsksForBuild, BuildIsRefused, InfoIsRefused, IsOfStore, IsEarly}
 
 -- this status, if no device failed and memory sufficed
 abbrev pub Yields : ℕ → ℕ → Type 0
@@ -35,6 +35,14 @@ pub record AsksBuild (words : List (List ℕ)) (Fact : List ℕ → Type 0) : Ty
   pub out : List ℕ
   pub words_are : IsBuild words path out
   pub holds : Fact path
+
+-- a part of the build of the configuration of some path, of which this holds with its octants
+pub record AsksPart (words : List (List ℕ)) (Fact : List ℕ → ℕ → Type 0) : Type 0 where
+  pub path : List ℕ
+  pub out : List ℕ
+  pub octants : ℕ
+  pub words_are : IsPart words path out octants
+  pub holds : Fact path octants
 
 -- what is known of the LAS file of some path, of which this holds
 pub record AsksInfo (words : List (List ℕ)) (Fact : List ℕ → Type 0) : Type 0 where
@@ -68,6 +76,10 @@ pub record AsksCheck (words : List (List ℕ)) : Type 0 where
 abbrev pub AsksDataset : List (List ℕ) → Type 0
 AsksDataset words = AsksQuery words ⊎ AsksSelect words ⊎ AsksCheck words
 
+-- something whose end has a clause of its own: of a finished dataset, or a part
+abbrev pub HasOwnEnd : List (List ℕ) → Type 0
+HasOwnEnd words = AsksDataset words ⊎ AsksPart words (λ _ _. ⊤)
+
 -- a trial of so many points, of which this holds
 pub record AsksTrial (words : List (List ℕ)) (Fact : ℕ → Type 0) : Type 0 where
   pub count : ℕ
@@ -76,11 +88,12 @@ pub record AsksTrial (words : List (List ℕ)) (Fact : ℕ → Type 0) : Type 0 
   pub words_are : IsTrial words count workers cache
   pub holds : Fact count
 
--- What the words ask the shelf for, over a store with these files: a build for its configuration, and then for what its build asks for; `info` for its file; all others for nothing.
+-- What the words ask the shelf for, over a store with these files: a build for its configuration, and then for what its build asks for; `info` for its file; all others but a part for nothing.
 abbrev pub IsAskedFor : List (List ℕ) → Option Files → Files → Option (List (List ℕ)) → Option (List (List ℕ)) → Type 0
 IsAskedFor words shelf start old new =
     AsksBuild words (λ path. AsksForBuild shelf start path old new)
     ⊎ AsksInfo words (λ path. (n : ℕ) × AsksFor (take n (path ∷ [])) old new)
+    ⊎ AsksPart words (λ _ _. ⊤)
     ⊎ (new ≡ old)
 
 -- ---- what is done
@@ -227,9 +240,10 @@ YieldsDamage status old new failed =
 
 -- ---- what can be done
 
--- The devices tell, and what the words ask for can be done: a build that begins with sound files, and whose inputs are accepted or of which nothing is left to be done; a query, a selection or a check of complete files; the header of a file that has one; a trial.
+-- The devices tell, and what the words ask for can be done: a build that begins with sound files, and whose inputs are accepted or of which nothing is left to be done; a part whose inputs are accepted; a query, a selection or a check of complete files; the header of a file that has one; a trial.
 pub data CanBeDone (words : List (List ℕ)) (shelf store : Option Files) (Begins : Files → Files → Type 0) : Type 0 where
   a_build : (all start : Files) → Begins all start → AsksBuild words (λ path. IsAcceptedAt all start path ⊎ IsDoneAt all start path) → CanBeDone words shelf store Begins
+  a_part : (all : Files) → shelf ≡ Some all → AsksPart words (λ path octants. IsPartAcceptedAt all path octants) → CanBeDone words shelf store Begins
   of_dataset : (start : Files) (kept : Kept) (points : List Point) → store ≡ Some start → IsComplete kept points start → AsksDataset words → CanBeDone words shelf store Begins
   a_header : (all : Files) (header : Header) → shelf ≡ Some all → AsksInfo words (λ path. HasHeader all path header) → CanBeDone words shelf store Begins
   a_trial : AsksTrial words (λ _. ⊤) → CanBeDone words shelf store Begins

@@ -4,3 +4,4 @@ pub mod Requests
 pub mod Answers
 pub mod Queries
 pub mod Checks
+pub mod Parts

@@ -21,6 +21,7 @@ use Rattle.ept_build.specs.declared.error.BuildError.TheVariants as build
 use Rattle.ept_build.specs.declared.summary.Summary.{Summary}
 use Rattle.ept_build.specs.Building as building
 use Rattle.ept_build.specs.Phases.{HasDamage}
+use Rattle.ept_part.specs.Making as part
 use Rattle.ept_trial.specs.declared.trial.Trial.{Trial}
 use Rattle.ept_trial.specs.Trials.{IsTrialOf}
 use Rattle.ept_command.specs.Configurations.{HasConfiguration, HasBadConfiguration}
@@ -170,6 +171,14 @@ BuildIsRefused files Begins path StoreFault = ⊤
 BuildIsRefused files Begins path SpillFault = ⊤
 BuildIsRefused files Begins path SpillDamaged = (kept : ℕ) × (found : ℕ) × (at : ℕ) × HasBadBuild files Begins path (build.SpillDamaged kept found at)
 BuildIsRefused files Begins path Memory = ⊤
+
+-- ---- a part of a build
+
+-- it is a configuration, and its part with these octants is accepted
+pub record IsPartAcceptedAt (files : Files) (path : List ℕ) (octants : ℕ) : Type 0 where
+  pub config : Config
+  pub configures : HasConfiguration files path config
+  pub accepted : part.IsAccepted files config octants
 
 -- ---- what is known of a LAS file
 

@@ -78,9 +78,9 @@ pub(crate) fn refuse_usage<O: Sink>(out: &mut O) -> Ended
     Ended::refused(&Refusal::Usage)
 }
 
-// Writes the line of out of memory. It takes no memory.
+/// Writes the line of out of memory. It takes no memory.
 #[tactic(auto, unfolding(crate::specs::Lines::refusal_text))]
-fn refuse_memory<O: Sink>(out: &mut O) -> Ended
+pub(crate) fn refuse_memory<O: Sink>(out: &mut O) -> Ended
     ensures status { result.status ≡ 9 }
     ensures failure { result.failure ≡ Some (Refused refusal.Memory) }
     ensures says { Says (line_of refusal.Memory) (O.written out.old) (O.written out.new)

@@ -10,21 +10,25 @@ ghost use Rattle.ept_filter.specs.declared.sift.Sift.{Sift};
 ghost use Rattle.ept_ckpt.specs.declared.letter.Letter.{Letter};
 ghost use Rattle.ept_save.specs.Opening.{IsBad};
 ghost use Rattle.ept_save.specs.Sound.{IsSound};
+ghost use Rattle.ept_part.specs.Files.{ChangesPart, IsPartSound};
 ghost use Rattle.ept_build.specs.Building.{BeginsWith};
 ghost use Rattle.ept_command.specs.declared.ended.Failure.TheVariants.{Refused};
 ghost use Rattle.ept_command.specs.declared.refusal.Refusal as cause;
 ghost use Rattle.ept_command.specs.declared.refusal.Refusal.TheVariants.{BadCheckpoint};
-ghost use Rattle.ept_command.specs.Words.{bytes_of, IsBuild, IsInfo, IsQuery, IsSelect, IsCheck, IsTrial, IsUsage};
+ghost use Rattle.ept_command.specs.Words.{bytes_of, IsBuild, IsPart, IsInfo, IsQuery, IsSelect, IsCheck, IsTrial, IsUsage};
 ghost use Rattle.ept_run.specs.Requests.{IsDoneAt, ComesAt, DiffersAt, ComesToDamageAt, IsConfigured, HasSpilled, IsDefinite};
-ghost use Rattle.ept_run.specs.Answers.{YieldsRefusal, YieldsDifference, YieldsDamage, CanBeDone, EndsWell, SaysOfStore, IsAskedFor, AsksBuild, AsksInfo, AsksQuery, AsksDataset, Ends, IsFaulty, Refuses, IsCut, IsUnwritten, EndsTrial};
+ghost use Rattle.ept_run.specs.Answers.{YieldsRefusal, YieldsDifference, YieldsDamage, CanBeDone, EndsWell, SaysOfStore, IsAskedFor, AsksBuild, AsksInfo, AsksPart, AsksQuery, AsksDataset, HasOwnEnd, Ends, IsFaulty, Refuses, IsCut, IsUnwritten, EndsTrial};
 ghost use Rattle.ept_run.specs.Queries.{query_failure, EndsQuery, EndsSelect};
+ghost use Rattle.ept_run.specs.Parts.{EndsPart, FailsAsPart};
 ghost use Rattle.ept_run.specs.Checks.{EndsCheck, FailsCheck};
 
 use crate::answers::{finish, refuse_usage};
 use crate::checking::answer_check;
 use crate::commands::{build_line, info_line, trial_line};
+use crate::parting::answer_part;
 use crate::querying::{answer_query, answer_select};
 use ept_base::{Gate, Room, Shelf, Sink, Store};
+use ept_class::class_set_law;
 use ept_command::{Command, Ended, command_of};
 use ept_filter::sift_text_law;
 use ept_http::query_words_law;
@@ -46,7 +50,7 @@ pub fn carry_out<H: Shelf, T: Store, M: Room, O: Sink, G: Gate + Sync, R: Thread
 where
     H::Source: Send,
     M::File: Send + Sync,
-    // The statuses: 0 done, 2 no command, 3 the configuration, 4 a scan, 5 too many, 6 another configuration or no
+    // The statuses: 0 done, 2 no command, 3 the configuration, 4 a scan, 5 too many, 6 another configuration, no octants or no
     // complete dataset, 7 a device, 8 a damaged file or an unfit dataset, 9 memory.
 
     // There is a failure at each status but 0.
@@ -59,7 +63,7 @@ where
     ensures done { result.status ≡ 0
         → Ends (bytes_of words.now) (H.files shelf.old)
         (BeginsWith M.File.held (H.files shelf.old) (T.files store.old) (T.may_leave store.old)) (T.files store.new)
-        (Appends (O.written out.old) (O.written out.new)) ⊎ AsksDataset (bytes_of words.now) }
+        (Appends (O.written out.old) (O.written out.new)) ⊎ HasOwnEnd (bytes_of words.now) }
     ensures settled { (config folder : List ℕ) → IsBuild (bytes_of words.now) config folder
         → result.status ≡ 0 → IsSettled (T.files store.new) (T.may_leave store.new) }
     ensures kept { (config folder : List ℕ) → IsBuild (bytes_of words.now) config folder → result.status ≡ 0
@@ -101,6 +105,23 @@ where
         (Rose (T.faults store.old) (T.faults store.new)) (Rose (O.faults out.old) (O.faults out.new)))
         × FailsCheck ends.answer result.failure }
 
+    // A part ends with what it has or a refusal, each with its line, and the failure says which.
+    ensures part { (path folder : List ℕ) (octants : ℕ) → IsPart (bytes_of words.now) path folder octants
+        → (ends : EndsPart path octants result.status (H.files shelf.old) (T.files store.new)
+        (IsSettled (T.files store.new) (T.may_leave store.new)) (store.new ≡ store.old)
+        (O.written out.old) (O.written out.new) (Rose (H.faults shelf.old) (H.faults shelf.new))
+        (Rose (T.faults store.old) (T.faults store.new)) (Rose (O.faults out.old) (O.faults out.new)))
+        × FailsAsPart ends.outcome result.failure }
+    ensures part_folder { (path folder : List ℕ) (octants : ℕ) → IsPart (bytes_of words.now) path folder octants
+        → Moves T.files T.may_leave T.moment T.image_since (ChangesPart octants) store.old store.new }
+    ensures part_own { (path folder : List ℕ) (octants : ℕ) → IsPart (bytes_of words.now) path folder octants
+        → (all start : Files) → H.files shelf.old ≡ Some all → T.files store.old ≡ Some start
+        → IsSettled (T.files store.old) (T.may_leave store.old) → IsPartSound all start octants
+        → Moves T.files T.may_leave T.moment T.image_since (λ (a b : Files). IsPartSound all b octants) store.old store.new }
+    ensures part_sound { AsksPart (bytes_of words.now) (λ _ _. ⊤) → (all start : Files) → T.files store.old ≡ Some start
+        → IsSettled (T.files store.old) (T.may_leave store.old) → IsSound all start
+        → Moves T.files T.may_leave T.moment T.image_since (λ (a b : Files). IsSound all b) store.old store.new }
+
     // A trial ends with the line of what its octree comes to, whatever the files are, or for want of memory.
     ensures trial { (count workers cache : ℕ) → IsTrial (bytes_of words.now) count workers cache
         → EndsTrial count result.status (O.written out.old) (O.written out.new) (Rose (O.faults out.old) (O.faults out.new)) }
@@ -121,7 +142,7 @@ where
         (BeginsWith M.File.held (H.files shelf.old) (T.files store.old) (T.may_leave store.old)) result.status (T.files store.new)
         (Rose (O.faults out.old) (O.faults out.new)) (O.written out.old) (O.written out.new))
         × IsUnwritten result.failure cut.ends.line)
-        ⊎ AsksDataset (bytes_of words.now) }
+        ⊎ HasOwnEnd (bytes_of words.now) }
     ensures refusal_comes { Tells (λ all. (r : cause.Refusal) → IsDefinite r
         → IsFaulty (bytes_of words.now) all r
         → YieldsRefusal r result.status (O.written out.old) (O.written out.new)
@@ -152,10 +173,11 @@ where
     ensures configuration_given { result.status ≡ 3 → H.given shelf.new ≤ H.given shelf.old + (2 ^ 24 + 1) }
 
     // What stays as it was.
-    ensures others_put_nothing { AsksBuild (bytes_of words.now) (λ _. ⊤)
+    ensures others_put_nothing { AsksBuild (bytes_of words.now) (λ _. ⊤) ⊎ AsksPart (bytes_of words.now) (λ _ _. ⊤)
         ⊎ Moves T.files T.may_leave T.moment T.image_since SameFiles store.old store.new }
-    ensures same_store { AsksBuild (bytes_of words.now) (λ _. ⊤) ⊎ AsksDataset (bytes_of words.now) ⊎ (store.new ≡ store.old) }
-    ensures same_shelf { AsksBuild (bytes_of words.now) (λ _. ⊤) ⊎ AsksInfo (bytes_of words.now) (λ _. ⊤) ⊎ (shelf.new ≡ shelf.old) }
+    ensures same_store { AsksBuild (bytes_of words.now) (λ _. ⊤) ⊎ HasOwnEnd (bytes_of words.now) ⊎ (store.new ≡ store.old) }
+    ensures same_shelf { AsksBuild (bytes_of words.now) (λ _. ⊤) ⊎ AsksInfo (bytes_of words.now) (λ _. ⊤)
+        ⊎ AsksPart (bytes_of words.now) (λ _ _. ⊤) ⊎ (shelf.new ≡ shelf.old) }
     ensures files { H.files shelf.new ≡ H.files shelf.old }
     ensures same_room { AsksBuild (bytes_of words.now) (λ _. ⊤) ⊎ (room.new ≡ room.old) }
 {
@@ -183,6 +205,14 @@ where
             answer_select(alloc, &area, depths, &sift, store, out)
         }
         Command::Check { .. } => answer_check(alloc, store, out),
+        Command::Part {
+            config,
+            octants,
+            ..
+        } => {
+            class_set_law();
+            answer_part(alloc, config, octants, shelf, store, out)
+        }
         Command::Trial {
             points,
             workers,

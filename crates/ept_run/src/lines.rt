@@ -13,6 +13,7 @@ use ept_command::Refusal;
 use ept_config_text::ConfigError;
 use ept_las::{Header, LasError};
 use ept_meta::Field;
+use ept_part::PartDone;
 use ept_point::PointNumber;
 use ept_space::{Key, key_text};
 use ept_trial::Trial;
@@ -27,6 +28,9 @@ pub(crate) const MEMORY_LINE: &[u8] = b"error 9 memory\n";
 
 /// The line of a check of a folder without a complete dataset. It takes no memory.
 pub(crate) const NOT_COMPLETE_LINE: &[u8] = b"error 6 complete\n";
+
+/// The line of a part of an octree whose root has no octants. It takes no memory.
+pub(crate) const SHALLOW_LINE: &[u8] = b"error 6 shallow\n";
 
 /// The line of a check whose store failed. It takes no memory.
 pub(crate) const STORE_LINE: &[u8] = b"error 7 store\n";
@@ -51,13 +55,27 @@ fn append_number(line: &mut Vec<u8>, word: &[u8], number: u64) -> Result<(), All
 }
 
 /// What a build says at its end: how many points there are, and how many nodes.
-#[tactic(auto, unfolding(crate::specs::Lines::summary_text))]
 pub(crate) fn summary_line(alloc: Global, summary: Summary) -> Result<Vec<u8>, AllocError>
     ensures { IfOk result (λ line. line.items ≡ summary_text summary.points summary.nodes) }
 {
+    counts_line(alloc, summary.points, summary.nodes)
+}
+
+/// What a part says at its end: how many points it has, and how many nodes.
+pub(crate) fn part_line(alloc: Global, done: &PartDone) -> Result<Vec<u8>, AllocError>
+    ensures { IfOk result (λ line. line.items ≡ summary_text done.now.points done.now.nodes) }
+{
+    counts_line(alloc, done.points, done.nodes)
+}
+
+// So many points, and so many nodes.
+#[tactic(auto, unfolding(crate::specs::Lines::summary_text))]
+fn counts_line(alloc: Global, points: u64, nodes: u32) -> Result<Vec<u8>, AllocError>
+    ensures { IfOk result (λ line. line.items ≡ summary_text points nodes) }
+{
     let mut line = Vec::new(alloc);
-    append_number(&mut line, b"points ", summary.points)?;
-    append_number(&mut line, b" nodes ", u64::from(summary.nodes))?;
+    append_number(&mut line, b"points ", points)?;
+    append_number(&mut line, b" nodes ", u64::from(nodes))?;
     line.extend_from_slice(b"\n")?;
     Ok(line)
 }

@@ -10,13 +10,15 @@ ghost use Rattle.ept_filter.specs.declared.sift.Sift.{Sift};
 ghost use Rattle.ept_ckpt.specs.declared.letter.Letter.{Letter};
 ghost use Rattle.ept_save.specs.Opening.{IsBad};
 ghost use Rattle.ept_save.specs.Sound.{IsSound};
+ghost use Rattle.ept_part.specs.Files.{ChangesPart, IsPartSound};
 ghost use Rattle.ept_build.specs.Building.{BeginsWith};
 ghost use Rattle.ept_command.specs.declared.refusal.Refusal as cause;
 ghost use Rattle.ept_command.specs.declared.refusal.Refusal.TheVariants.{BadCheckpoint};
-ghost use Rattle.ept_command.specs.Words.{bytes_of, IsBuild, IsInfo, IsQuery, IsSelect, IsCheck, IsTrial, IsUsage};
+ghost use Rattle.ept_command.specs.Words.{bytes_of, IsBuild, IsPart, IsInfo, IsQuery, IsSelect, IsCheck, IsTrial, IsUsage};
 ghost use Rattle.ept_run.specs.Requests.{IsDoneAt, ComesAt, DiffersAt, ComesToDamageAt, IsConfigured, HasSpilled, IsDefinite};
-ghost use Rattle.ept_run.specs.Answers.{YieldsRefusal, YieldsDifference, YieldsDamage, CanBeDone, EndsWell, SaysOfStore, IsAskedFor, AsksBuild, AsksInfo, AsksQuery, AsksDataset, Ends, IsFaulty, Refuses, IsCut, EndsTrial};
+ghost use Rattle.ept_run.specs.Answers.{YieldsRefusal, YieldsDifference, YieldsDamage, CanBeDone, EndsWell, SaysOfStore, IsAskedFor, AsksBuild, AsksInfo, AsksPart, AsksQuery, AsksDataset, HasOwnEnd, Ends, IsFaulty, Refuses, IsCut, EndsTrial};
 ghost use Rattle.ept_run.specs.Queries.{EndsQuery, EndsSelect};
+ghost use Rattle.ept_run.specs.Parts.{EndsPart};
 ghost use Rattle.ept_run.specs.Checks.{EndsCheck};
 
 use crate::carrying::carry_out;
@@ -30,7 +32,9 @@ use std::thread::Threads;
 ///
 /// `build CONFIG OUT` reads the configuration from the shelf, and the LAS files that it names, puts the
 /// octree of their points into the store, and writes how many points and nodes it has to the sink. Nodes past those
-/// that the configuration lets be in memory at a time are in spill files of the room meanwhile. `info LAS`
+/// that the configuration lets be in memory at a time are in spill files of the room meanwhile. `part CONFIG OUT OCTANTS`
+/// puts one part of that octree, of some octants of the root, into a folder of its own in the store, and writes how many
+/// points and nodes the part has. `info LAS`
 /// reads the header of a LAS file from the shelf and writes what it says to the sink. `query OUT BOX DEPTHS`
 /// writes the packed points of a box and of some depths of the dataset in the store to the sink. `select OUT BOX DEPTHS
 /// CLASSES TIME DIMS` writes of these points those of some classes and of some GPS time, and of each the dimensions that
@@ -50,7 +54,7 @@ pub fn run<H: Shelf, T: Store, M: Room, O: Sink, G: Gate + Sync, R: Threads + Wa
 where
     H::Source: Send,
     M::File: Send + Sync,
-    // The statuses: 0 done, 2 no command, 3 the configuration, 4 a scan, 5 too many, 6 another configuration or no
+    // The statuses: 0 done, 2 no command, 3 the configuration, 4 a scan, 5 too many, 6 another configuration, no octants or no
     // complete dataset, 7 a device, 8 a damaged file or an unfit dataset, 9 memory.
 
     // Words that are no command, and nothing else, are faulty.
@@ -60,7 +64,7 @@ where
     ensures done { result ≡ 0
         → Ends (bytes_of words.now) (H.files shelf.old)
         (BeginsWith M.File.held (H.files shelf.old) (T.files store.old) (T.may_leave store.old)) (T.files store.new)
-        (Appends (O.written out.old) (O.written out.new)) ⊎ AsksDataset (bytes_of words.now) }
+        (Appends (O.written out.old) (O.written out.new)) ⊎ HasOwnEnd (bytes_of words.now) }
     ensures settled { (config folder : List ℕ) → IsBuild (bytes_of words.now) config folder
         → result ≡ 0 → IsSettled (T.files store.new) (T.may_leave store.new) }
     ensures kept { (config folder : List ℕ) → IsBuild (bytes_of words.now) config folder → result ≡ 0
@@ -99,6 +103,22 @@ where
         → EndsCheck result (T.files store.old) (O.written out.old) (O.written out.new)
         (Rose (T.faults store.old) (T.faults store.new)) (Rose (O.faults out.old) (O.faults out.new)) }
 
+    // A part ends with what it has or a refusal, each with its line.
+    ensures part { (path folder : List ℕ) (octants : ℕ) → IsPart (bytes_of words.now) path folder octants
+        → EndsPart path octants result (H.files shelf.old) (T.files store.new)
+        (IsSettled (T.files store.new) (T.may_leave store.new)) (store.new ≡ store.old)
+        (O.written out.old) (O.written out.new) (Rose (H.faults shelf.old) (H.faults shelf.new))
+        (Rose (T.faults store.old) (T.faults store.new)) (Rose (O.faults out.old) (O.faults out.new)) }
+    ensures part_folder { (path folder : List ℕ) (octants : ℕ) → IsPart (bytes_of words.now) path folder octants
+        → Moves T.files T.may_leave T.moment T.image_since (ChangesPart octants) store.old store.new }
+    ensures part_own { (path folder : List ℕ) (octants : ℕ) → IsPart (bytes_of words.now) path folder octants
+        → (all start : Files) → H.files shelf.old ≡ Some all → T.files store.old ≡ Some start
+        → IsSettled (T.files store.old) (T.may_leave store.old) → IsPartSound all start octants
+        → Moves T.files T.may_leave T.moment T.image_since (λ (a b : Files). IsPartSound all b octants) store.old store.new }
+    ensures part_sound { AsksPart (bytes_of words.now) (λ _ _. ⊤) → (all start : Files) → T.files store.old ≡ Some start
+        → IsSettled (T.files store.old) (T.may_leave store.old) → IsSound all start
+        → Moves T.files T.may_leave T.moment T.image_since (λ (a b : Files). IsSound all b) store.old store.new }
+
     // A trial ends with the line of what its octree comes to, whatever the files are, or for want of memory.
     ensures trial { (count workers cache : ℕ) → IsTrial (bytes_of words.now) count workers cache
         → EndsTrial count result (O.written out.old) (O.written out.new) (Rose (O.faults out.old) (O.faults out.new)) }
@@ -116,7 +136,7 @@ where
         ⊎ IsCut (bytes_of words.now) (H.files shelf.old)
         (BeginsWith M.File.held (H.files shelf.old) (T.files store.old) (T.may_leave store.old)) result (T.files store.new)
         (Rose (O.faults out.old) (O.faults out.new)) (O.written out.old) (O.written out.new)
-        ⊎ AsksDataset (bytes_of words.now) }
+        ⊎ HasOwnEnd (bytes_of words.now) }
     ensures refusal_comes { Tells (λ all. (r : cause.Refusal) → IsDefinite r
         → IsFaulty (bytes_of words.now) all r
         → YieldsRefusal r result (O.written out.old) (O.written out.new)
@@ -147,10 +167,11 @@ where
     ensures configuration_given { result ≡ 3 → H.given shelf.new ≤ H.given shelf.old + (2 ^ 24 + 1) }
 
     // What stays as it was.
-    ensures others_put_nothing { AsksBuild (bytes_of words.now) (λ _. ⊤)
+    ensures others_put_nothing { AsksBuild (bytes_of words.now) (λ _. ⊤) ⊎ AsksPart (bytes_of words.now) (λ _ _. ⊤)
         ⊎ Moves T.files T.may_leave T.moment T.image_since SameFiles store.old store.new }
-    ensures same_store { AsksBuild (bytes_of words.now) (λ _. ⊤) ⊎ AsksDataset (bytes_of words.now) ⊎ (store.new ≡ store.old) }
-    ensures same_shelf { AsksBuild (bytes_of words.now) (λ _. ⊤) ⊎ AsksInfo (bytes_of words.now) (λ _. ⊤) ⊎ (shelf.new ≡ shelf.old) }
+    ensures same_store { AsksBuild (bytes_of words.now) (λ _. ⊤) ⊎ HasOwnEnd (bytes_of words.now) ⊎ (store.new ≡ store.old) }
+    ensures same_shelf { AsksBuild (bytes_of words.now) (λ _. ⊤) ⊎ AsksInfo (bytes_of words.now) (λ _. ⊤)
+        ⊎ AsksPart (bytes_of words.now) (λ _ _. ⊤) ⊎ (shelf.new ≡ shelf.old) }
     ensures files { H.files shelf.new ≡ H.files shelf.old }
     ensures same_room { AsksBuild (bytes_of words.now) (λ _. ⊤) ⊎ (room.new ≡ room.old) }
 {

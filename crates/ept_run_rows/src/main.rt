@@ -1,4 +1,4 @@
-//! Rows of builds, queries, selections, checks and trials over devices in memory: each line of the input makes a file, lets a call fail,
+//! Rows of builds, parts, queries, selections, checks and trials over devices in memory: each line of the input makes a file, lets a call fail,
 //! runs the words of a command line or looks at what a run left, and the program prints the answer.
 #![tactic(auto)]
 

@@ -1,6 +1,6 @@
-//! `ept_tool` builds an Entwine Point Tile folder from LAS files, answers the points of a box of one or what a selection
-//! keeps of them, checks whether one is the sampling of its own points, and tells what the header of a LAS file says, and
-//! what an octree of generated scans comes to.
+//! `ept_tool` builds an Entwine Point Tile folder from LAS files, or a part of it, answers the points of a box of one or
+//! what a selection keeps of them, checks whether one is the sampling of its own points, and tells what the header of a LAS
+//! file says, and what an octree of generated scans comes to.
 #![tactic(auto)]
 
 mod failing;

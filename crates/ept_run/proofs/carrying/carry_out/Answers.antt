@@ -1,4 +1,4 @@
-use Rattle.std.proofs.Common.{◌⊎◌, map, string_bytes, refl, sym, inl, inr, ⊎_elim, subst, ℕ, List, None, Some, arith}
+use Rattle.std.proofs.Common.{◌≡◌, ◌⊎◌, map, string_bytes, refl, sym, inl, inr, ⊎_elim, subst, ℕ, List, None, Some, arith}
 use Rattle.ept_base.specs.Causes.{Rose}
 use Rattle.ept_command.specs.declared.ended.Failure.TheVariants.{Refused}
 use Rattle.ept_command.specs.declared.refusal.Refusal.{Refusal}
@@ -8,15 +8,19 @@ use Rattle.ept_run.specs.Answers.{YieldsRefusal, SaysOfStore, IsFaulty, IsRefuse
 use Rattle.ept_run.proofs.Runs.{Carries, some_or_none, ends_with, no_failure, never_usage, is_done, has_risen, is_refused, refusal_yields, accepted_yields, comes_yields, differs_yields, damage_yields, usage_yields, bad_configuration, carried_out}
 use Rattle.ept_run.proofs.Asked.{told_always, one_build, of_build, build_or_info, build_carries, info_carries, info_accepted}
 use Rattle.ept_build.specs.Building.{BeginsWith}
-use Rattle.ept_base.specs.Files.{SameFiles}
+use Rattle.ept_base.specs.Files.{Files, SameFiles}
 use Rattle.ept_base.specs.Moves.{Moves, IsSettled}
 use Rattle.ept_run.proofs.Refused.{stays}
 use Rattle.ept_run.proofs.Queried.{query_or_build, query_or_info, query_asked, query_unrefused, query_ends, query_not_usage, query_no_failure, query_rose, first_two}
 use Rattle.ept_run.proofs.Tried.{trial_or_build, trial_or_info, trial_or_query, one_count, trial_carries, trial_ends, trial_yields}
 use Rattle.ept_run.proofs.Selected.{select_ends}
 use Rattle.ept_run.proofs.Checked.{check_not_usage, check_rose}
-use Rattle.ept_run.proofs.Apart.{select_or_build, select_or_info, select_or_query, select_or_trial, select_asked, select_unrefused, check_or_build, check_or_info, check_or_query, check_or_select, check_or_trial, check_asked, check_unrefused}
-use Rattle.ept_run.proofs.Coming.{build_can, info_can, query_can, check_can, trial_can, nothing_can}
+use Rattle.ept_part.specs.Files.{ChangesPart, IsPartSound}
+use Rattle.ept_command.specs.Words.{IsPart}
+use Rattle.ept_command.proofs.OctantTexts.{part_once}
+use Rattle.ept_run.proofs.Parted.{ends_same, part_comes}
+use Rattle.ept_run.proofs.Apart.{part_or_build, part_or_info, part_or_query, part_or_select, part_or_check, part_or_trial, part_asked, part_unrefused, select_or_build, select_or_info, select_or_query, select_or_trial, select_asked, select_unrefused, check_or_build, check_or_info, check_or_query, check_or_select, check_or_trial, check_asked, check_unrefused}
+use Rattle.ept_run.proofs.Coming.{build_can, part_can, info_can, query_can, check_can, trial_can, nothing_can}
 use Rattle.ept_run.proofs.carrying.carry_out.Given as given
 use Rattle.ept_run.proofs.carrying.carry_out.Goals as goal
 
@@ -106,7 +110,7 @@ pub returns-in-Info-clause-done_already : goal.returns-in-Info-clause-done_alrea
 returns-in-Info-clause-done_already g c = λ all start begins asks. stays g.T.Store.files g.T.Store.may_leave g.T.Store.moment g.T.Store.image_since c.args.store.now
 
 pub returns-in-Info-clause-others_put_nothing : goal.returns-in-Info-clause-others_put_nothing
-returns-in-Info-clause-others_put_nothing g c = inr (stays g.T.Store.files g.T.Store.may_leave g.T.Store.moment g.T.Store.image_since c.args.store.now)
+returns-in-Info-clause-others_put_nothing g c = inr (inr (stays g.T.Store.files g.T.Store.may_leave g.T.Store.moment g.T.Store.image_since c.args.store.now))
 
 pub returns-in-Info-clause-sound : goal.returns-in-Info-clause-sound
 returns-in-Info-clause-sound g c = λ config folder is. absurd (build_or_info (map string_bytes c.args.words.now) config folder c.in-Info.las.now is c.in-Info.ensures)
@@ -123,7 +127,7 @@ pub returns-in-Usage-clause-done_already : goal.returns-in-Usage-clause-done_alr
 returns-in-Usage-clause-done_already g c = λ all start begins asks. stays g.T.Store.files g.T.Store.may_leave g.T.Store.moment g.T.Store.image_since c.args.store.now
 
 pub returns-in-Usage-clause-others_put_nothing : goal.returns-in-Usage-clause-others_put_nothing
-returns-in-Usage-clause-others_put_nothing g c = inr (stays g.T.Store.files g.T.Store.may_leave g.T.Store.moment g.T.Store.image_since c.args.store.now)
+returns-in-Usage-clause-others_put_nothing g c = inr (inr (stays g.T.Store.files g.T.Store.may_leave g.T.Store.moment g.T.Store.image_since c.args.store.now))
 
 pub returns-in-Usage-clause-sound : goal.returns-in-Usage-clause-sound
 returns-in-Usage-clause-sound g c = λ config folder is. absurd (c.in-Usage.ensures.not_build config folder is)
@@ -165,7 +169,7 @@ returns-in-Query-clause-usage g c = (
 )
 
 pub returns-in-Query-clause-done : goal.returns-in-Query-clause-done
-returns-in-Query-clause-done g c = λ ok. inr (query_asked (map string_bytes c.args.words.now) c.in-Query.out.now c.in-Query.area c.in-Query.depths.0 c.in-Query.depths.1 c.in-Query.ensures)
+returns-in-Query-clause-done g c = λ ok. inr (inl (query_asked (map string_bytes c.args.words.now) c.in-Query.out.now c.in-Query.area c.in-Query.depths.0 c.in-Query.depths.1 c.in-Query.ensures))
 
 pub returns-in-Query-clause-settled : goal.returns-in-Query-clause-settled
 returns-in-Query-clause-settled g c = λ config folder is ok. absurd (query_or_build (map string_bytes c.args.words.now) c.in-Query.out.now c.in-Query.area c.in-Query.depths.0 c.in-Query.depths.1 c.in-Query.ensures config folder is)
@@ -177,7 +181,7 @@ pub returns-in-Query-clause-done_already : goal.returns-in-Query-clause-done_alr
 returns-in-Query-clause-done_already g c = λ all start begins asks. c.answer_query.ensures.any_moment
 
 pub returns-in-Query-clause-others_put_nothing : goal.returns-in-Query-clause-others_put_nothing
-returns-in-Query-clause-others_put_nothing g c = inr c.answer_query.ensures.any_moment
+returns-in-Query-clause-others_put_nothing g c = inr (inr c.answer_query.ensures.any_moment)
 
 pub returns-in-Query-clause-sound : goal.returns-in-Query-clause-sound
 returns-in-Query-clause-sound g c = λ config folder is. absurd (query_or_build (map string_bytes c.args.words.now) c.in-Query.out.now c.in-Query.area c.in-Query.depths.0 c.in-Query.depths.1 c.in-Query.ensures config folder is)
@@ -189,7 +193,7 @@ pub returns-in-Query-clause-query_puts_nothing : goal.returns-in-Query-clause-qu
 returns-in-Query-clause-query_puts_nothing g c = λ asks. c.answer_query.ensures.any_moment
 
 pub returns-in-Query-clause-refused : goal.returns-in-Query-clause-refused
-returns-in-Query-clause-refused g c = λ not_ok. inr (inr (query_asked (map string_bytes c.args.words.now) c.in-Query.out.now c.in-Query.area c.in-Query.depths.0 c.in-Query.depths.1 c.in-Query.ensures))
+returns-in-Query-clause-refused g c = λ not_ok. inr (inr (inl (query_asked (map string_bytes c.args.words.now) c.in-Query.out.now c.in-Query.area c.in-Query.depths.0 c.in-Query.depths.1 c.in-Query.ensures)))
 
 pub returns-in-Query-clause-refusal_comes : goal.returns-in-Query-clause-refusal_comes
 returns-in-Query-clause-refusal_comes g c =
@@ -281,10 +285,10 @@ pub returns-in-Info-clause-asked : goal.returns-in-Info-clause-asked
 returns-in-Info-clause-asked g c = λ start told. inr (inl (record { path = c.in-Info.las.now; words_are = c.in-Info.ensures; holds = c.info_line-line.ensures.asked }))
 
 pub returns-in-Query-clause-asked : goal.returns-in-Query-clause-asked
-returns-in-Query-clause-asked g c = λ start told. inr (inr refl)
+returns-in-Query-clause-asked g c = λ start told. inr (inr (inr refl))
 
 pub returns-in-Usage-clause-asked : goal.returns-in-Usage-clause-asked
-returns-in-Usage-clause-asked g c = λ start told. inr (inr refl)
+returns-in-Usage-clause-asked g c = λ start told. inr (inr (inr refl))
 
 pub returns-in-Build-clause-header_given : goal.returns-in-Build-clause-header_given
 returns-in-Build-clause-header_given g c = λ las is. absurd (build_or_info (map string_bytes c.args.words.now) c.in-Build.config.now c.in-Build.out.now las c.in-Build.ensures is)
@@ -341,7 +345,7 @@ pub returns-in-Trial-clause-done_already : goal.returns-in-Trial-clause-done_alr
 returns-in-Trial-clause-done_already g c = λ all start begins asks. stays g.T.Store.files g.T.Store.may_leave g.T.Store.moment g.T.Store.image_since c.args.store.now
 
 pub returns-in-Trial-clause-others_put_nothing : goal.returns-in-Trial-clause-others_put_nothing
-returns-in-Trial-clause-others_put_nothing g c = inr (stays g.T.Store.files g.T.Store.may_leave g.T.Store.moment g.T.Store.image_since c.args.store.now)
+returns-in-Trial-clause-others_put_nothing g c = inr (inr (stays g.T.Store.files g.T.Store.may_leave g.T.Store.moment g.T.Store.image_since c.args.store.now))
 
 pub returns-in-Trial-clause-sound : goal.returns-in-Trial-clause-sound
 returns-in-Trial-clause-sound g c = λ config folder is. absurd (trial_or_build (map string_bytes c.args.words.now) c.in-Trial.points c.in-Trial.workers c.in-Trial.cache c.in-Trial.ensures config folder is)
@@ -365,7 +369,7 @@ pub returns-in-Trial-clause-bad_comes : goal.returns-in-Trial-clause-bad_comes
 returns-in-Trial-clause-bad_comes g c = λ all start letter told stored bad asks. absurd (trial_or_build (map string_bytes c.args.words.now) c.in-Trial.points c.in-Trial.workers c.in-Trial.cache c.in-Trial.ensures asks.path asks.out asks.words_are)
 
 pub returns-in-Trial-clause-asked : goal.returns-in-Trial-clause-asked
-returns-in-Trial-clause-asked g c = λ start told. inr (inr refl)
+returns-in-Trial-clause-asked g c = λ start told. inr (inr (inr refl))
 
 -- ---- what can be done
 
@@ -422,7 +426,7 @@ pub returns-in-Info-clause-same_store : goal.returns-in-Info-clause-same_store
 returns-in-Info-clause-same_store g c = inr (inr refl)
 
 pub returns-in-Query-clause-same_store : goal.returns-in-Query-clause-same_store
-returns-in-Query-clause-same_store g c = inr (inl (query_asked (map string_bytes c.args.words.now) c.in-Query.out.now c.in-Query.area c.in-Query.depths.0 c.in-Query.depths.1 c.in-Query.ensures))
+returns-in-Query-clause-same_store g c = inr (inl (inl (query_asked (map string_bytes c.args.words.now) c.in-Query.out.now c.in-Query.area c.in-Query.depths.0 c.in-Query.depths.1 c.in-Query.ensures)))
 
 pub returns-in-Trial-clause-same_store : goal.returns-in-Trial-clause-same_store
 returns-in-Trial-clause-same_store g c = inr (inr refl)
@@ -437,13 +441,13 @@ pub returns-in-Info-clause-same_shelf : goal.returns-in-Info-clause-same_shelf
 returns-in-Info-clause-same_shelf g c = inr (inl (record { path = c.in-Info.las.now; words_are = c.in-Info.ensures; holds = tt }))
 
 pub returns-in-Query-clause-same_shelf : goal.returns-in-Query-clause-same_shelf
-returns-in-Query-clause-same_shelf g c = inr (inr refl)
+returns-in-Query-clause-same_shelf g c = inr (inr (inr refl))
 
 pub returns-in-Trial-clause-same_shelf : goal.returns-in-Trial-clause-same_shelf
-returns-in-Trial-clause-same_shelf g c = inr (inr refl)
+returns-in-Trial-clause-same_shelf g c = inr (inr (inr refl))
 
 pub returns-in-Usage-clause-same_shelf : goal.returns-in-Usage-clause-same_shelf
-returns-in-Usage-clause-same_shelf g c = inr (inr refl)
+returns-in-Usage-clause-same_shelf g c = inr (inr (inr refl))
 
 pub returns-in-Build-clause-same_room : goal.returns-in-Build-clause-same_room
 returns-in-Build-clause-same_room g c = inl (record { path = c.in-Build.config.now; out = c.in-Build.out.now; words_are = c.in-Build.ensures; holds = tt })
@@ -463,7 +467,7 @@ returns-in-Usage-clause-same_room g c = inr refl
 -- ---- select
 
 pub returns-in-Select-clause-done : goal.returns-in-Select-clause-done
-returns-in-Select-clause-done g c = λ ok. inr (select_asked (map string_bytes c.args.words.now) c.in-Select.out.now c.in-Select.area c.in-Select.depths.0 c.in-Select.depths.1 c.in-Select.sift c.in-Select.ensures)
+returns-in-Select-clause-done g c = λ ok. inr (inl (select_asked (map string_bytes c.args.words.now) c.in-Select.out.now c.in-Select.area c.in-Select.depths.0 c.in-Select.depths.1 c.in-Select.sift c.in-Select.ensures))
 
 pub returns-in-Select-clause-settled : goal.returns-in-Select-clause-settled
 returns-in-Select-clause-settled g c = λ config folder is ok. absurd (select_or_build (map string_bytes c.args.words.now) c.in-Select.out.now c.in-Select.area c.in-Select.depths.0 c.in-Select.depths.1 c.in-Select.sift c.in-Select.ensures config folder is)
@@ -475,7 +479,7 @@ pub returns-in-Select-clause-done_already : goal.returns-in-Select-clause-done_a
 returns-in-Select-clause-done_already g c = λ all start begins asks. c.answer_select.ensures.any_moment
 
 pub returns-in-Select-clause-others_put_nothing : goal.returns-in-Select-clause-others_put_nothing
-returns-in-Select-clause-others_put_nothing g c = inr c.answer_select.ensures.any_moment
+returns-in-Select-clause-others_put_nothing g c = inr (inr c.answer_select.ensures.any_moment)
 
 pub returns-in-Select-clause-sound : goal.returns-in-Select-clause-sound
 returns-in-Select-clause-sound g c = λ config folder is. absurd (select_or_build (map string_bytes c.args.words.now) c.in-Select.out.now c.in-Select.area c.in-Select.depths.0 c.in-Select.depths.1 c.in-Select.sift c.in-Select.ensures config folder is)
@@ -490,7 +494,7 @@ pub returns-in-Select-clause-trial : goal.returns-in-Select-clause-trial
 returns-in-Select-clause-trial g c = λ count workers cache is. absurd (select_or_trial (map string_bytes c.args.words.now) c.in-Select.out.now c.in-Select.area c.in-Select.depths.0 c.in-Select.depths.1 c.in-Select.sift c.in-Select.ensures count workers cache is)
 
 pub returns-in-Select-clause-refused : goal.returns-in-Select-clause-refused
-returns-in-Select-clause-refused g c = λ not_ok. inr (inr (select_asked (map string_bytes c.args.words.now) c.in-Select.out.now c.in-Select.area c.in-Select.depths.0 c.in-Select.depths.1 c.in-Select.sift c.in-Select.ensures))
+returns-in-Select-clause-refused g c = λ not_ok. inr (inr (inl (select_asked (map string_bytes c.args.words.now) c.in-Select.out.now c.in-Select.area c.in-Select.depths.0 c.in-Select.depths.1 c.in-Select.sift c.in-Select.ensures)))
 
 pub returns-in-Select-clause-refusal_comes : goal.returns-in-Select-clause-refusal_comes
 returns-in-Select-clause-refusal_comes g c =
@@ -509,13 +513,13 @@ pub returns-in-Select-clause-bad_comes : goal.returns-in-Select-clause-bad_comes
 returns-in-Select-clause-bad_comes g c = λ all start letter told stored bad asks. absurd (select_or_build (map string_bytes c.args.words.now) c.in-Select.out.now c.in-Select.area c.in-Select.depths.0 c.in-Select.depths.1 c.in-Select.sift c.in-Select.ensures asks.path asks.out asks.words_are)
 
 pub returns-in-Select-clause-asked : goal.returns-in-Select-clause-asked
-returns-in-Select-clause-asked g c = λ start told. inr (inr refl)
+returns-in-Select-clause-asked g c = λ start told. inr (inr (inr refl))
 
 pub returns-in-Select-clause-same_store : goal.returns-in-Select-clause-same_store
-returns-in-Select-clause-same_store g c = inr (inl (select_asked (map string_bytes c.args.words.now) c.in-Select.out.now c.in-Select.area c.in-Select.depths.0 c.in-Select.depths.1 c.in-Select.sift c.in-Select.ensures))
+returns-in-Select-clause-same_store g c = inr (inl (inl (select_asked (map string_bytes c.args.words.now) c.in-Select.out.now c.in-Select.area c.in-Select.depths.0 c.in-Select.depths.1 c.in-Select.sift c.in-Select.ensures)))
 
 pub returns-in-Select-clause-same_shelf : goal.returns-in-Select-clause-same_shelf
-returns-in-Select-clause-same_shelf g c = inr (inr refl)
+returns-in-Select-clause-same_shelf g c = inr (inr (inr refl))
 
 pub returns-in-Select-clause-same_room : goal.returns-in-Select-clause-same_room
 returns-in-Select-clause-same_room g c = inr refl
@@ -547,7 +551,7 @@ returns-in-Select-clause-comes g c =
 -- ---- check
 
 pub returns-in-Check-clause-done : goal.returns-in-Check-clause-done
-returns-in-Check-clause-done g c = λ ok. inr (check_asked (map string_bytes c.args.words.now) c.in-Check.out.now c.in-Check.ensures)
+returns-in-Check-clause-done g c = λ ok. inr (inl (check_asked (map string_bytes c.args.words.now) c.in-Check.out.now c.in-Check.ensures))
 
 pub returns-in-Check-clause-settled : goal.returns-in-Check-clause-settled
 returns-in-Check-clause-settled g c = λ config folder is ok. absurd (check_or_build (map string_bytes c.args.words.now) c.in-Check.out.now c.in-Check.ensures config folder is)
@@ -559,7 +563,7 @@ pub returns-in-Check-clause-done_already : goal.returns-in-Check-clause-done_alr
 returns-in-Check-clause-done_already g c = λ all start begins asks. c.answer_check.ensures.any_moment
 
 pub returns-in-Check-clause-others_put_nothing : goal.returns-in-Check-clause-others_put_nothing
-returns-in-Check-clause-others_put_nothing g c = inr c.answer_check.ensures.any_moment
+returns-in-Check-clause-others_put_nothing g c = inr (inr c.answer_check.ensures.any_moment)
 
 pub returns-in-Check-clause-sound : goal.returns-in-Check-clause-sound
 returns-in-Check-clause-sound g c = λ config folder is. absurd (check_or_build (map string_bytes c.args.words.now) c.in-Check.out.now c.in-Check.ensures config folder is)
@@ -574,7 +578,7 @@ pub returns-in-Check-clause-trial : goal.returns-in-Check-clause-trial
 returns-in-Check-clause-trial g c = λ count workers cache is. absurd (check_or_trial (map string_bytes c.args.words.now) c.in-Check.out.now c.in-Check.ensures count workers cache is)
 
 pub returns-in-Check-clause-refused : goal.returns-in-Check-clause-refused
-returns-in-Check-clause-refused g c = λ not_ok. inr (inr (check_asked (map string_bytes c.args.words.now) c.in-Check.out.now c.in-Check.ensures))
+returns-in-Check-clause-refused g c = λ not_ok. inr (inr (inl (check_asked (map string_bytes c.args.words.now) c.in-Check.out.now c.in-Check.ensures)))
 
 pub returns-in-Check-clause-refusal_comes : goal.returns-in-Check-clause-refusal_comes
 returns-in-Check-clause-refusal_comes g c =
@@ -593,13 +597,13 @@ pub returns-in-Check-clause-bad_comes : goal.returns-in-Check-clause-bad_comes
 returns-in-Check-clause-bad_comes g c = λ all start letter told stored bad asks. absurd (check_or_build (map string_bytes c.args.words.now) c.in-Check.out.now c.in-Check.ensures asks.path asks.out asks.words_are)
 
 pub returns-in-Check-clause-asked : goal.returns-in-Check-clause-asked
-returns-in-Check-clause-asked g c = λ start told. inr (inr refl)
+returns-in-Check-clause-asked g c = λ start told. inr (inr (inr refl))
 
 pub returns-in-Check-clause-same_store : goal.returns-in-Check-clause-same_store
-returns-in-Check-clause-same_store g c = inr (inl (check_asked (map string_bytes c.args.words.now) c.in-Check.out.now c.in-Check.ensures))
+returns-in-Check-clause-same_store g c = inr (inl (inl (check_asked (map string_bytes c.args.words.now) c.in-Check.out.now c.in-Check.ensures)))
 
 pub returns-in-Check-clause-same_shelf : goal.returns-in-Check-clause-same_shelf
-returns-in-Check-clause-same_shelf g c = inr (inr refl)
+returns-in-Check-clause-same_shelf g c = inr (inr (inr refl))
 
 pub returns-in-Check-clause-same_room : goal.returns-in-Check-clause-same_room
 returns-in-Check-clause-same_room g c = inr refl
@@ -659,3 +663,200 @@ returns-in-Usage-clause-select g c = λ folder area first last sift is. absurd (
 
 pub returns-in-Usage-clause-check : goal.returns-in-Usage-clause-check
 returns-in-Usage-clause-check g c = λ folder is. absurd (c.in-Usage.ensures.not_check folder is)
+
+-- ---- part
+
+pub returns-in-Part-clause-done : goal.returns-in-Part-clause-done
+returns-in-Part-clause-done g c = λ ok. inr (inr (part_asked (map string_bytes c.args.words.now) c.in-Part.config.now c.in-Part.out.now c.in-Part.octants c.in-Part.ensures))
+
+pub returns-in-Part-clause-settled : goal.returns-in-Part-clause-settled
+returns-in-Part-clause-settled g c = λ config folder is ok. absurd (part_or_build (map string_bytes c.args.words.now) c.in-Part.config.now c.in-Part.out.now c.in-Part.octants c.in-Part.ensures config folder is)
+
+pub returns-in-Part-clause-kept : goal.returns-in-Part-clause-kept
+returns-in-Part-clause-kept g c = λ config folder is ok all start begins. absurd (part_or_build (map string_bytes c.args.words.now) c.in-Part.config.now c.in-Part.out.now c.in-Part.octants c.in-Part.ensures config folder is)
+
+pub returns-in-Part-clause-done_already : goal.returns-in-Part-clause-done_already
+returns-in-Part-clause-done_already g c = λ all start begins asks. absurd (part_or_build (map string_bytes c.args.words.now) c.in-Part.config.now c.in-Part.out.now c.in-Part.octants c.in-Part.ensures asks.path asks.out asks.words_are)
+
+pub returns-in-Part-clause-others_put_nothing : goal.returns-in-Part-clause-others_put_nothing
+returns-in-Part-clause-others_put_nothing g c = inr (inl (part_asked (map string_bytes c.args.words.now) c.in-Part.config.now c.in-Part.out.now c.in-Part.octants c.in-Part.ensures))
+
+pub returns-in-Part-clause-sound : goal.returns-in-Part-clause-sound
+returns-in-Part-clause-sound g c = λ config folder is. absurd (part_or_build (map string_bytes c.args.words.now) c.in-Part.config.now c.in-Part.out.now c.in-Part.octants c.in-Part.ensures config folder is)
+
+pub returns-in-Part-clause-query : goal.returns-in-Part-clause-query
+returns-in-Part-clause-query g c = λ folder area first last is. absurd (part_or_query (map string_bytes c.args.words.now) c.in-Part.config.now c.in-Part.out.now c.in-Part.octants c.in-Part.ensures folder area first last is)
+
+pub returns-in-Part-clause-query_puts_nothing : goal.returns-in-Part-clause-query_puts_nothing
+returns-in-Part-clause-query_puts_nothing g c = λ asks. absurd (part_or_query (map string_bytes c.args.words.now) c.in-Part.config.now c.in-Part.out.now c.in-Part.octants c.in-Part.ensures asks.folder asks.area asks.first asks.last asks.words_are)
+
+pub returns-in-Part-clause-select : goal.returns-in-Part-clause-select
+returns-in-Part-clause-select g c = λ folder area first last sift is. absurd (part_or_select (map string_bytes c.args.words.now) c.in-Part.config.now c.in-Part.out.now c.in-Part.octants c.in-Part.ensures folder area first last sift is)
+
+pub returns-in-Part-clause-check : goal.returns-in-Part-clause-check
+returns-in-Part-clause-check g c = λ folder is. absurd (part_or_check (map string_bytes c.args.words.now) c.in-Part.config.now c.in-Part.out.now c.in-Part.octants c.in-Part.ensures folder is)
+
+pub returns-in-Part-clause-trial : goal.returns-in-Part-clause-trial
+returns-in-Part-clause-trial g c = λ count workers cache is. absurd (part_or_trial (map string_bytes c.args.words.now) c.in-Part.config.now c.in-Part.out.now c.in-Part.octants c.in-Part.ensures count workers cache is)
+
+pub returns-in-Part-clause-refused : goal.returns-in-Part-clause-refused
+returns-in-Part-clause-refused g c = λ not_ok. inr (inr (inr (part_asked (map string_bytes c.args.words.now) c.in-Part.config.now c.in-Part.out.now c.in-Part.octants c.in-Part.ensures)))
+
+pub returns-in-Part-clause-refusal_comes : goal.returns-in-Part-clause-refusal_comes
+returns-in-Part-clause-refusal_comes g c =
+    told_always (λ all. (r : Refusal) → IsDefinite r → IsFaulty (map string_bytes c.args.words.now) all r → YieldsRefusal r c.answer_part.result.status (g.O.Sink.written c.args.out.now) (g.O.Sink.written c.answer_part.new.out) (Rose (g.O.Sink.faults c.args.out.now) (g.O.Sink.faults c.answer_part.new.out))) (g.H.Shelf.files c.args.shelf.now) (λ all r definite refused. absurd (part_unrefused (map string_bytes c.args.words.now) c.in-Part.config.now c.in-Part.out.now c.in-Part.octants c.in-Part.ensures all r refused))
+
+pub returns-in-Part-clause-build_refusal_comes : goal.returns-in-Part-clause-build_refusal_comes
+returns-in-Part-clause-build_refusal_comes g c = λ all start begins r asks. absurd (part_or_build (map string_bytes c.args.words.now) c.in-Part.config.now c.in-Part.out.now c.in-Part.octants c.in-Part.ensures asks.path asks.out asks.words_are)
+
+pub returns-in-Part-clause-differs_comes : goal.returns-in-Part-clause-differs_comes
+returns-in-Part-clause-differs_comes g c = λ all start told stored asks. absurd (part_or_build (map string_bytes c.args.words.now) c.in-Part.config.now c.in-Part.out.now c.in-Part.octants c.in-Part.ensures asks.path asks.out asks.words_are)
+
+pub returns-in-Part-clause-damaged_comes : goal.returns-in-Part-clause-damaged_comes
+returns-in-Part-clause-damaged_comes g c = λ all start told stored asks. absurd (part_or_build (map string_bytes c.args.words.now) c.in-Part.config.now c.in-Part.out.now c.in-Part.octants c.in-Part.ensures asks.path asks.out asks.words_are)
+
+pub returns-in-Part-clause-bad_comes : goal.returns-in-Part-clause-bad_comes
+returns-in-Part-clause-bad_comes g c = λ all start letter told stored bad asks. absurd (part_or_build (map string_bytes c.args.words.now) c.in-Part.config.now c.in-Part.out.now c.in-Part.octants c.in-Part.ensures asks.path asks.out asks.words_are)
+
+pub returns-in-Part-clause-asked : goal.returns-in-Part-clause-asked
+returns-in-Part-clause-asked g c = λ start told. inr (inr (inl (part_asked (map string_bytes c.args.words.now) c.in-Part.config.now c.in-Part.out.now c.in-Part.octants c.in-Part.ensures)))
+
+pub returns-in-Part-clause-header_given : goal.returns-in-Part-clause-header_given
+returns-in-Part-clause-header_given g c = λ las is. absurd (part_or_info (map string_bytes c.args.words.now) c.in-Part.config.now c.in-Part.out.now c.in-Part.octants c.in-Part.ensures las is)
+
+pub returns-in-Part-clause-configuration_given : goal.returns-in-Part-clause-configuration_given
+returns-in-Part-clause-configuration_given g c = c.answer_part.ensures.given
+
+pub returns-in-Part-clause-same_store : goal.returns-in-Part-clause-same_store
+returns-in-Part-clause-same_store g c = inr (inl (inr (part_asked (map string_bytes c.args.words.now) c.in-Part.config.now c.in-Part.out.now c.in-Part.octants c.in-Part.ensures)))
+
+pub returns-in-Part-clause-same_shelf : goal.returns-in-Part-clause-same_shelf
+returns-in-Part-clause-same_shelf g c = inr (inr (inl (part_asked (map string_bytes c.args.words.now) c.in-Part.config.now c.in-Part.out.now c.in-Part.octants c.in-Part.ensures)))
+
+pub returns-in-Part-clause-same_room : goal.returns-in-Part-clause-same_room
+returns-in-Part-clause-same_room g c = inr refl
+
+pub returns-in-Part-clause-failure : goal.returns-in-Part-clause-failure
+returns-in-Part-clause-failure g c = c.answer_part.ensures.failure
+
+pub returns-in-Part-clause-usage : goal.returns-in-Part-clause-usage
+returns-in-Part-clause-usage g c = (
+  λ is. absurd (c.answer_part.ensures.not_usage is),
+  λ usage. absurd (usage.not_part c.in-Part.config.now c.in-Part.out.now c.in-Part.octants c.in-Part.ensures),
+)
+
+pub returns-in-Part-clause-fault : goal.returns-in-Part-clause-fault
+returns-in-Part-clause-fault g c = λ is. ⊎_elim (λ source. inl source) (λ other. ⊎_elim (λ store. inr (inl store)) (λ sink. inr (inr (inr sink))) other) (c.answer_part.ensures.fault is)
+
+part_asked_once : (g : given.Over) (c : goal.After-answer_part g) (path folder : List ℕ) (octants : ℕ) → IsPart (map string_bytes c.args.words.now) path folder octants → (c.in-Part.config.now ≡ path) × (c.in-Part.octants ≡ octants)
+part_asked_once g c path folder octants is = part_once c.class_set_law.ensures.once (map string_bytes c.args.words.now) c.in-Part.config.now c.in-Part.out.now path folder c.in-Part.octants octants c.in-Part.ensures is
+
+pub returns-in-Part-clause-part : goal.returns-in-Part-clause-part
+returns-in-Part-clause-part g c = λ path folder octants is.
+    let same = part_asked_once g c path folder octants is in
+    ends_same c.in-Part.config.now path c.in-Part.octants octants c.answer_part.result.status c.answer_part.result.failure (g.H.Shelf.files c.args.shelf.now) (g.T.Store.files c.answer_part.new.store) (IsSettled (g.T.Store.files c.answer_part.new.store) (g.T.Store.may_leave c.answer_part.new.store)) (c.answer_part.new.store ≡ c.args.store.now) (g.O.Sink.written c.args.out.now) (g.O.Sink.written c.answer_part.new.out) (Rose (g.H.Shelf.faults c.args.shelf.now) (g.H.Shelf.faults c.answer_part.new.shelf)) (Rose (g.T.Store.faults c.args.store.now) (g.T.Store.faults c.answer_part.new.store)) (Rose (g.O.Sink.faults c.args.out.now) (g.O.Sink.faults c.answer_part.new.out)) same.0 same.1 c.answer_part.ensures.ends
+
+pub returns-in-Part-clause-part_folder : goal.returns-in-Part-clause-part_folder
+returns-in-Part-clause-part_folder g c = λ path folder octants is.
+    subst (λ (o : ℕ). Moves g.T.Store.files g.T.Store.may_leave g.T.Store.moment g.T.Store.image_since (ChangesPart o) c.args.store.now c.answer_part.new.store) (part_asked_once g c path folder octants is).1 c.answer_part.ensures.folder
+
+pub returns-in-Part-clause-part_own : goal.returns-in-Part-clause-part_own
+returns-in-Part-clause-part_own g c = λ path folder octants is all start told stored settled sound.
+    let same = (part_asked_once g c path folder octants is).1 in
+    subst (λ (o : ℕ). Moves g.T.Store.files g.T.Store.may_leave g.T.Store.moment g.T.Store.image_since (λ (a b : Files). IsPartSound all b o) c.args.store.now c.answer_part.new.store) same
+    (c.answer_part.ensures.own all start told stored settled (subst (λ (o : ℕ). IsPartSound all start o) (sym same) sound))
+
+pub returns-in-Part-clause-part_sound : goal.returns-in-Part-clause-part_sound
+returns-in-Part-clause-part_sound g c = λ asks all start stored settled sound. c.answer_part.ensures.sound all start stored settled sound
+
+pub returns-in-Part-clause-comes : goal.returns-in-Part-clause-comes
+returns-in-Part-clause-comes g c =
+    part_can (map string_bytes c.args.words.now) (g.H.Shelf.files c.args.shelf.now) (g.T.Store.files c.args.store.now) (BeginsWith g.M.File.SpillFile.held (g.H.Shelf.files c.args.shelf.now) (g.T.Store.files c.args.store.now) (g.T.Store.may_leave c.args.store.now)) c.answer_part.result.status ((Rose (g.H.Shelf.faults c.args.shelf.now) (g.H.Shelf.faults c.answer_part.new.shelf)) ⊎ (Rose (g.T.Store.faults c.args.store.now) (g.T.Store.faults c.answer_part.new.store)) ⊎ Rose (g.M.Room.faults c.args.room.now) (g.M.Room.faults c.args.room.now) ⊎ (Rose (g.O.Sink.faults c.args.out.now) (g.O.Sink.faults c.answer_part.new.out))) (returns-in-Part-clause-fault g c)
+    c.in-Part.config.now c.in-Part.out.now c.in-Part.octants c.in-Part.ensures
+    (part_comes (map string_bytes c.args.words.now) c.in-Part.config.now c.in-Part.out.now c.in-Part.octants c.in-Part.ensures c.class_set_law.ensures.once (g.H.Shelf.files c.args.shelf.now) (g.T.Store.files c.answer_part.new.store) (IsSettled (g.T.Store.files c.answer_part.new.store) (g.T.Store.may_leave c.answer_part.new.store)) (c.answer_part.new.store ≡ c.args.store.now) c.answer_part.result.status (g.O.Sink.written c.args.out.now) (g.O.Sink.written c.answer_part.new.out) (Rose (g.H.Shelf.faults c.args.shelf.now) (g.H.Shelf.faults c.answer_part.new.shelf)) (Rose (g.T.Store.faults c.args.store.now) (g.T.Store.faults c.answer_part.new.store)) (Rose (g.O.Sink.faults c.args.out.now) (g.O.Sink.faults c.answer_part.new.out)) c.answer_part.ensures.ends.0)
+
+-- ---- no part
+
+pub returns-in-Build-clause-part : goal.returns-in-Build-clause-part
+returns-in-Build-clause-part g c = λ path folder octants is. absurd (part_or_build (map string_bytes c.args.words.now) path folder octants is c.in-Build.config.now c.in-Build.out.now c.in-Build.ensures)
+
+pub returns-in-Build-clause-part_folder : goal.returns-in-Build-clause-part_folder
+returns-in-Build-clause-part_folder g c = λ path folder octants is. absurd (part_or_build (map string_bytes c.args.words.now) path folder octants is c.in-Build.config.now c.in-Build.out.now c.in-Build.ensures)
+
+pub returns-in-Build-clause-part_own : goal.returns-in-Build-clause-part_own
+returns-in-Build-clause-part_own g c = λ path folder octants is all start told stored settled sound. absurd (part_or_build (map string_bytes c.args.words.now) path folder octants is c.in-Build.config.now c.in-Build.out.now c.in-Build.ensures)
+
+pub returns-in-Build-clause-part_sound : goal.returns-in-Build-clause-part_sound
+returns-in-Build-clause-part_sound g c = λ asks all start stored settled sound. absurd (part_or_build (map string_bytes c.args.words.now) asks.path asks.out asks.octants asks.words_are c.in-Build.config.now c.in-Build.out.now c.in-Build.ensures)
+
+pub returns-in-Info-clause-part : goal.returns-in-Info-clause-part
+returns-in-Info-clause-part g c = λ path folder octants is. absurd (part_or_info (map string_bytes c.args.words.now) path folder octants is c.in-Info.las.now c.in-Info.ensures)
+
+pub returns-in-Info-clause-part_folder : goal.returns-in-Info-clause-part_folder
+returns-in-Info-clause-part_folder g c = λ path folder octants is. absurd (part_or_info (map string_bytes c.args.words.now) path folder octants is c.in-Info.las.now c.in-Info.ensures)
+
+pub returns-in-Info-clause-part_own : goal.returns-in-Info-clause-part_own
+returns-in-Info-clause-part_own g c = λ path folder octants is all start told stored settled sound. absurd (part_or_info (map string_bytes c.args.words.now) path folder octants is c.in-Info.las.now c.in-Info.ensures)
+
+pub returns-in-Info-clause-part_sound : goal.returns-in-Info-clause-part_sound
+returns-in-Info-clause-part_sound g c = λ asks all start stored settled sound. absurd (part_or_info (map string_bytes c.args.words.now) asks.path asks.out asks.octants asks.words_are c.in-Info.las.now c.in-Info.ensures)
+
+pub returns-in-Query-clause-part : goal.returns-in-Query-clause-part
+returns-in-Query-clause-part g c = λ path folder octants is. absurd (part_or_query (map string_bytes c.args.words.now) path folder octants is c.in-Query.out.now c.in-Query.area c.in-Query.depths.0 c.in-Query.depths.1 c.in-Query.ensures)
+
+pub returns-in-Query-clause-part_folder : goal.returns-in-Query-clause-part_folder
+returns-in-Query-clause-part_folder g c = λ path folder octants is. absurd (part_or_query (map string_bytes c.args.words.now) path folder octants is c.in-Query.out.now c.in-Query.area c.in-Query.depths.0 c.in-Query.depths.1 c.in-Query.ensures)
+
+pub returns-in-Query-clause-part_own : goal.returns-in-Query-clause-part_own
+returns-in-Query-clause-part_own g c = λ path folder octants is all start told stored settled sound. absurd (part_or_query (map string_bytes c.args.words.now) path folder octants is c.in-Query.out.now c.in-Query.area c.in-Query.depths.0 c.in-Query.depths.1 c.in-Query.ensures)
+
+pub returns-in-Query-clause-part_sound : goal.returns-in-Query-clause-part_sound
+returns-in-Query-clause-part_sound g c = λ asks all start stored settled sound. absurd (part_or_query (map string_bytes c.args.words.now) asks.path asks.out asks.octants asks.words_are c.in-Query.out.now c.in-Query.area c.in-Query.depths.0 c.in-Query.depths.1 c.in-Query.ensures)
+
+pub returns-in-Select-clause-part : goal.returns-in-Select-clause-part
+returns-in-Select-clause-part g c = λ path folder octants is. absurd (part_or_select (map string_bytes c.args.words.now) path folder octants is c.in-Select.out.now c.in-Select.area c.in-Select.depths.0 c.in-Select.depths.1 c.in-Select.sift c.in-Select.ensures)
+
+pub returns-in-Select-clause-part_folder : goal.returns-in-Select-clause-part_folder
+returns-in-Select-clause-part_folder g c = λ path folder octants is. absurd (part_or_select (map string_bytes c.args.words.now) path folder octants is c.in-Select.out.now c.in-Select.area c.in-Select.depths.0 c.in-Select.depths.1 c.in-Select.sift c.in-Select.ensures)
+
+pub returns-in-Select-clause-part_own : goal.returns-in-Select-clause-part_own
+returns-in-Select-clause-part_own g c = λ path folder octants is all start told stored settled sound. absurd (part_or_select (map string_bytes c.args.words.now) path folder octants is c.in-Select.out.now c.in-Select.area c.in-Select.depths.0 c.in-Select.depths.1 c.in-Select.sift c.in-Select.ensures)
+
+pub returns-in-Select-clause-part_sound : goal.returns-in-Select-clause-part_sound
+returns-in-Select-clause-part_sound g c = λ asks all start stored settled sound. absurd (part_or_select (map string_bytes c.args.words.now) asks.path asks.out asks.octants asks.words_are c.in-Select.out.now c.in-Select.area c.in-Select.depths.0 c.in-Select.depths.1 c.in-Select.sift c.in-Select.ensures)
+
+pub returns-in-Check-clause-part : goal.returns-in-Check-clause-part
+returns-in-Check-clause-part g c = λ path folder octants is. absurd (part_or_check (map string_bytes c.args.words.now) path folder octants is c.in-Check.out.now c.in-Check.ensures)
+
+pub returns-in-Check-clause-part_folder : goal.returns-in-Check-clause-part_folder
+returns-in-Check-clause-part_folder g c = λ path folder octants is. absurd (part_or_check (map string_bytes c.args.words.now) path folder octants is c.in-Check.out.now c.in-Check.ensures)
+
+pub returns-in-Check-clause-part_own : goal.returns-in-Check-clause-part_own
+returns-in-Check-clause-part_own g c = λ path folder octants is all start told stored settled sound. absurd (part_or_check (map string_bytes c.args.words.now) path folder octants is c.in-Check.out.now c.in-Check.ensures)
+
+pub returns-in-Check-clause-part_sound : goal.returns-in-Check-clause-part_sound
+returns-in-Check-clause-part_sound g c = λ asks all start stored settled sound. absurd (part_or_check (map string_bytes c.args.words.now) asks.path asks.out asks.octants asks.words_are c.in-Check.out.now c.in-Check.ensures)
+
+pub returns-in-Trial-clause-part : goal.returns-in-Trial-clause-part
+returns-in-Trial-clause-part g c = λ path folder octants is. absurd (part_or_trial (map string_bytes c.args.words.now) path folder octants is c.in-Trial.points c.in-Trial.workers c.in-Trial.cache c.in-Trial.ensures)
+
+pub returns-in-Trial-clause-part_folder : goal.returns-in-Trial-clause-part_folder
+returns-in-Trial-clause-part_folder g c = λ path folder octants is. absurd (part_or_trial (map string_bytes c.args.words.now) path folder octants is c.in-Trial.points c.in-Trial.workers c.in-Trial.cache c.in-Trial.ensures)
+
+pub returns-in-Trial-clause-part_own : goal.returns-in-Trial-clause-part_own
+returns-in-Trial-clause-part_own g c = λ path folder octants is all start told stored settled sound. absurd (part_or_trial (map string_bytes c.args.words.now) path folder octants is c.in-Trial.points c.in-Trial.workers c.in-Trial.cache c.in-Trial.ensures)
+
+pub returns-in-Trial-clause-part_sound : goal.returns-in-Trial-clause-part_sound
+returns-in-Trial-clause-part_sound g c = λ asks all start stored settled sound. absurd (part_or_trial (map string_bytes c.args.words.now) asks.path asks.out asks.octants asks.words_are c.in-Trial.points c.in-Trial.workers c.in-Trial.cache c.in-Trial.ensures)
+
+pub returns-in-Usage-clause-part : goal.returns-in-Usage-clause-part
+returns-in-Usage-clause-part g c = λ path folder octants is. absurd (c.in-Usage.ensures.not_part path folder octants is)
+
+pub returns-in-Usage-clause-part_folder : goal.returns-in-Usage-clause-part_folder
+returns-in-Usage-clause-part_folder g c = λ path folder octants is. absurd (c.in-Usage.ensures.not_part path folder octants is)
+
+pub returns-in-Usage-clause-part_own : goal.returns-in-Usage-clause-part_own
+returns-in-Usage-clause-part_own g c = λ path folder octants is all start told stored settled sound. absurd (c.in-Usage.ensures.not_part path folder octants is)
+
+pub returns-in-Usage-clause-part_sound : goal.returns-in-Usage-clause-part_sound
+returns-in-Usage-clause-part_sound g c = λ asks all start stored settled sound. absurd (c.in-Usage.ensures.not_part asks.path asks.out asks.octants asks.words_are)

@@ -12,3 +12,6 @@ returns-clause-select g c = λ folder area first last sift is. (c.carry_out.ensu
 
 pub returns-clause-check : goal.returns-clause-check
 returns-clause-check g c = λ folder is. (c.carry_out.ensures.check folder is).0
+
+pub returns-clause-part : goal.returns-clause-part
+returns-clause-part g c = λ path folder octants is. (c.carry_out.ensures.part path folder octants is).0
