@@ -1,0 +1,5 @@
+pub mod Errors
+pub mod Merging
+pub mod Steps
+pub mod Joining
+pub mod Putting

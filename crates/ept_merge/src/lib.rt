@@ -1,0 +1,14 @@
+//! Parts of a build, merged: their tiles become those of one checkpoint, one node at a time.
+#![tactic(auto)]
+
+mod bodies;
+mod error;
+mod joining;
+mod merging;
+mod planning;
+mod putting;
+mod root;
+mod tiles;
+
+pub use error::MergeError;
+pub use merging::merge;
