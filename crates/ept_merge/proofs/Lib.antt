@@ -1,3 +1,4 @@
+mod Numbered
 mod Reading
 mod SameCount
 mod Alike

@@ -2,6 +2,7 @@
 #![tactic(auto)]
 
 mod bodies;
+mod dividing;
 mod error;
 mod joining;
 mod merging;
@@ -10,5 +11,6 @@ mod putting;
 mod root;
 mod tiles;
 
+pub use dividing::are_all_parts;
 pub use error::MergeError;
 pub use merging::merge;

@@ -12,6 +12,6 @@ mod sampling;
 
 pub use error::PartError;
 pub use laws::part_law;
-pub use names::{part_body, part_gate, part_tile};
+pub use names::{has_octant, part_body, part_gate, part_tile};
 pub use part_done::{PartDone, part};
 pub use sampling::is_of_part;

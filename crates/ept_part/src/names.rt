@@ -9,8 +9,8 @@ use ept_grid::OCTANTS;
 use ept_space::Key;
 use std::alloc::{AllocError, Global};
 
-/// Whether the octant is in the set.
-pub(crate) fn has_octant(octants: u8, octant: u8) -> bool
+/// Whether the octant is in the set: bit o is octant o.
+pub fn has_octant(octants: u8, octant: u8) -> bool
     requires { octant < 8 }
     ensures { result ≡ opened octants octant }
 {

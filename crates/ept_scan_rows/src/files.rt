@@ -85,3 +85,15 @@ pub(crate) fn compare_files(
     }
     Ok(())
 }
+
+/// Whether the store has all of these files so.
+pub(crate) fn has_files(row: Row<'_>, store: &MemStore, files: &str) -> Result<bool, Stop> {
+    let wanted = files_of(row, files)?;
+    for (name, bytes) in &wanted {
+        match store.file(name.as_str()) {
+            Some(held) if held == bytes.as_slice() => {}
+            _ => return Ok(false),
+        }
+    }
+    Ok(true)
+}

@@ -10,6 +10,7 @@ mod differences;
 mod files;
 mod hierarchies;
 mod las;
+mod merges;
 mod numbers;
 mod parts;
 mod phases;
@@ -92,6 +93,8 @@ fn answer(row: Row<'_>, call: &str, out: &mut String) -> Answered {
         "phase-save" => phases::save(row, out),
         "publish" => publishing::publish_nodes(row, out),
         "part" => parts::make(row, out),
+        "merge" => merges::merge_parts(row, out),
+        "merge-stop" => merges::merge_stopped(row, out),
         _ => Err(Stop::BadLine),
     }
 }

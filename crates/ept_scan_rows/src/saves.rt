@@ -28,7 +28,8 @@ pub(crate) fn open_store(row: Row<'_>, out: &mut String) -> Answered {
     }
 }
 
-fn show_generation(saved: &Saved, out: &mut String) -> Answered {
+/// Appends the generation of the current checkpoint.
+pub(crate) fn show_generation(saved: &Saved, out: &mut String) -> Answered {
     match saved.current() {
         Some(checkpoint) => Ok(write!(out, "generation {}", checkpoint.generation)?),
         None => Ok(out.push_str("none")?),
