@@ -10,6 +10,7 @@ mod MergedTiles
 mod Valid
 mod Sounding
 mod Steps
+mod Early
 mod Loads
 mod Counted
 mod Unions

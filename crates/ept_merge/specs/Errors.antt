@@ -1,13 +1,14 @@
 -- What the refusals of the steps of a merge are as refusals of the merge.
-use Rattle.std.specs.Prelude.{◌≡◌, ◌⊎◌}
+use Rattle.std.specs.Prelude.{◌≡◌, ◌⊎◌, ℕ, Some}
 use Rattle.ept_base.specs.declared.errors.GetError.{GetError}
 use Rattle.ept_base.specs.declared.errors.GetError.TheVariants as get
+use Rattle.ept_space.specs.VoxelKey.{VoxelKey}
 use Rattle.ept_scan.specs.declared.scan_error.ScanError.{ScanError}
 use Rattle.ept_scan.specs.declared.scan_error.ScanError.TheVariants as scan
 use Rattle.ept_save.specs.declared.error.SaveError.{SaveError}
 use Rattle.ept_save.specs.declared.error.SaveError.TheVariants as save
 use Rattle.ept_merge.specs.declared.error.MergeError.{MergeError}
-use Rattle.ept_merge.specs.declared.error.MergeError.TheVariants.{StoreFault, BadCheckpoint, SourceFault, BadLas, OutOfBounds, TooManyPoints, NoBounds, Memory}
+use Rattle.ept_merge.specs.declared.error.MergeError.TheVariants.{StoreFault, BadCheckpoint, SourceFault, BadLas, OutOfBounds, TooManyPoints, NoBounds, PartDamaged, Memory}
 
 abbrev pub of_scan : ScanError → MergeError
 of_scan scan.SourceFault = SourceFault
@@ -30,3 +31,7 @@ of_get get.Memory = Memory
 -- a refusal of the store itself: it failed, or memory ran out
 abbrev pub IsStores : MergeError → Type 0
 IsStores e = (e ≡ StoreFault) ⊎ (e ≡ Memory)
+
+-- a refusal that may come while tiles are put: one of the store itself, or a damaged tile
+abbrev pub IsOfTiles : MergeError → Type 0
+IsOfTiles e = IsStores e ⊎ ((octants : ℕ) × (key : VoxelKey) × (e ≡ PartDamaged octants (Some key)))

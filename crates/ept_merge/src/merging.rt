@@ -2,13 +2,14 @@
 
 ghost use Rattle.std.specs.Prelude.{◌≡◌, ◌≢◌, ◌<◌, ◌++◌, [], List, Some, Err, IfOk, IfErr, OnOk, length};
 ghost use Rattle.ept_base.specs.Causes.{HasCauseOf};
-ghost use Rattle.ept_base.specs.Files.{Files, Tells};
+ghost use Rattle.ept_base.specs.Files.{Files, SameFiles, Tells};
 ghost use Rattle.ept_base.specs.Moves.{Moves, IsSettled};
 ghost use Rattle.ept_point.specs.declared.point.Point as p;
 ghost use Rattle.ept_meta.specs.Output as meta;
 ghost use Rattle.ept_save.specs.Current.{HasCurrent};
 ghost use Rattle.ept_save.specs.Sound.{IsSound};
 ghost use Rattle.ept_plan.specs.Plans.{IsPlan, HasPoints};
+ghost use Rattle.ept_merge.specs.Errors.{IsOfTiles};
 ghost use Rattle.ept_merge.specs.Merging.{AreAllParts, HasMerged, WereMerged, IsRefused, AreOwnParts, IsPartFault, AreSoundParts};
 ghost use Rattle.ept_merge.specs.Steps.{IsFresh};
 ghost use Rattle.ept_merge.specs.Joining.{roots_of};
@@ -63,11 +64,14 @@ pub fn merge<H: Shelf, T: Store>(
         → Moves T.files T.may_leave T.moment T.image_since
         (λ (old : Files) (new : Files). IsSound all new) store.old store.new }
 
-    // Why it is refused: never for parts that are sound and made from these inputs with this configuration.
+    // Why it is refused: never for parts that are sound and made from these inputs with this configuration. Nothing is
+    // put before a refusal, except one of the store, out of memory, or a damaged tile.
     ensures refused { IfErr result (λ e. Tells (λ all. Tells (λ start. IsRefused all start config.now parts.now e)
         (T.files store.old)) (H.files shelf.old)) }
     ensures own { (all start : Files) → H.files shelf.old ≡ Some all → T.files store.old ≡ Some start
         → AreOwnParts all config.now start parts.now → IfErr result (λ e. ¬ IsPartFault e) }
+    ensures early { IfErr result (λ e. ¬ IsOfTiles e
+        → Moves T.files T.may_leave T.moment T.image_since SameFiles store.old store.new) }
     ensures files { H.files shelf.new ≡ H.files shelf.old }
     ensures sources { HasCauseOf MergeError.SourceFault (H.faults shelf.old) (H.faults shelf.new) result }
     ensures stores { HasCauseOf MergeError.StoreFault (T.faults store.old) (T.faults store.new) result }
@@ -104,6 +108,8 @@ fn merge_plan<T: Store>(
         → Moves T.files T.may_leave T.moment T.image_since
         (λ (old : Files) (new : Files). IsSound all new) store.old store.new }
     ensures refused { IfErr result (λ e. Tells (IsPartsFault plan.now config.now.max_nodes parts.now e) (T.files store.old)) }
+    ensures early { IfErr result (λ e. ¬ IsOfTiles e
+        → Moves T.files T.may_leave T.moment T.image_since SameFiles store.old store.new) }
     ensures no_source { result ≢ Err MergeError.SourceFault }
     ensures cause { HasCauseOf MergeError.StoreFault (T.faults store.old) (T.faults store.new) result }
 {
@@ -142,6 +148,8 @@ fn merge_bodies<T: Store>(
         (λ (old : Files) (new : Files). IsSound all new) store.old store.new }
     ensures refused { IfErr result (λ e. Tells (λ all. IsMergeFault rules.now all config.now.max_nodes parts.now
         plan.now.points e) (T.files store.old)) }
+    ensures early { IfErr result (λ e. ¬ IsOfTiles e
+        → Moves T.files T.may_leave T.moment T.image_since SameFiles store.old store.new) }
     ensures no_source { result ≢ Err MergeError.SourceFault }
     ensures cause { HasCauseOf MergeError.StoreFault (T.faults store.old) (T.faults store.new) result }
 {
@@ -189,6 +197,8 @@ fn place<T: Store>(
         (λ (old : Files) (new : Files). IsSound all new) store.old store.new }
     ensures refused { IfErr result (λ e. Tells (λ all. IsMergeFault rules.now all config.now.max_nodes parts.now
         plan.now.points e) (T.files store.old)) }
+    ensures early { IfErr result (λ e. ¬ IsOfTiles e
+        → Moves T.files T.may_leave T.moment T.image_since SameFiles store.old store.new) }
     ensures no_source { result ≢ Err MergeError.SourceFault }
     ensures cause { HasCauseOf MergeError.StoreFault (T.faults store.old) (T.faults store.new) result }
 {
@@ -232,7 +242,7 @@ fn put_all<T: Store>(
         (λ (old : Files) (new : Files). IsSound all new) store.old store.new }
     ensures refused { IfErr result (λ e. Tells (λ all. IsNodesFault rules.now all (roots_of parts.now ++ nodes.now) e)
         (T.files store.old)) }
-    ensures no_source { result ≢ Err MergeError.SourceFault }
+    ensures only { IfErr result IsOfTiles }
     ensures cause { HasCauseOf MergeError.StoreFault (T.faults store.old) (T.faults store.new) result }
 {
     sound_law();

@@ -1,6 +1,6 @@
 //! The nodes of the parts, put for the next checkpoint.
 
-ghost use Rattle.std.specs.Prelude.{◌≡◌, ◌≢◌, ◌<◌, ◌++◌, ◌∷◌, [], None, Some, Err, IfErr, OnOk, OnErr, map};
+ghost use Rattle.std.specs.Prelude.{◌≡◌, ◌≢◌, ◌<◌, ◌++◌, ◌∷◌, [], None, Some, IfErr, OnOk, OnErr, map};
 ghost use Rattle.ept_base.specs.Causes.{HasCauseOf};
 ghost use Rattle.ept_base.specs.Files.{Files, SameFiles, Tells};
 ghost use Rattle.ept_base.specs.Moves.{Moves};
@@ -12,6 +12,7 @@ ghost use Rattle.ept_save.specs.Lines.{with_line};
 ghost use Rattle.ept_save.specs.View.{StandsFor};
 ghost use Rattle.ept_ckpt.specs.Octree as octree;
 ghost use Rattle.ept_ckpt.specs.Versions.{layout_of};
+ghost use Rattle.ept_merge.specs.Errors.{IsOfTiles};
 ghost use Rattle.ept_merge.specs.Joining.{keys_of, roots_of};
 ghost use Rattle.ept_merge.specs.Putting.{merged_line, AreIntact, IsLow, AreLow, AreOfRules, IsNodesFault, ChangesTiles, PutsRoot, PutsAll, IsTaken, AreTaken, LoadsAll};
 
@@ -47,7 +48,7 @@ pub(crate) fn judge<T: Store>(
     ensures refused { IfErr result (λ e. Tells (λ all. IsNodesFault rules.now all (roots_of parts.now ++ nodes.now) e)
         (T.files store.old)) }
     ensures any_moment { Moves T.files T.may_leave T.moment T.image_since SameFiles store.old store.new }
-    ensures no_source { result ≢ Err MergeError.SourceFault }
+    ensures only { IfErr result IsOfTiles }
     ensures cause { HasCauseOf MergeError.StoreFault (T.faults store.old) (T.faults store.new) result }
 {
     let like = &parts[0].body;
@@ -71,7 +72,7 @@ fn judge_below<T: Store>(
     ensures intact { OnOk result (Tells (λ all. AreIntact rules.now all nodes.now) (T.files store.old)) }
     ensures refused { IfErr result (λ e. Tells (λ all. IsNodesFault rules.now all nodes.now e) (T.files store.old)) }
     ensures any_moment { Moves T.files T.may_leave T.moment T.image_since SameFiles store.old store.new }
-    ensures no_source { result ≢ Err MergeError.SourceFault }
+    ensures only { IfErr result IsOfTiles }
     ensures cause { HasCauseOf MergeError.StoreFault (T.faults store.old) (T.faults store.new) result }
 {
     let mut points = Vec::new(alloc);
@@ -106,7 +107,7 @@ pub(crate) fn put_nodes<T: Store>(
     ensures keeps { Moves T.files T.may_leave T.moment T.image_since (Keeps None) store.old store.new }
     ensures stands { StandsFor saved.old (T.files store.old) (T.may_leave store.old)
         → StandsFor saved.new (T.files store.new) (T.may_leave store.new) }
-    ensures no_source { result ≢ Err MergeError.SourceFault }
+    ensures only { IfErr result IsOfTiles }
     ensures cause { HasCauseOf MergeError.StoreFault (T.faults store.old) (T.faults store.new) result }
 {
     put_root(alloc, store, saved, rules, parts)?;
@@ -135,7 +136,7 @@ fn put_root<T: Store>(
     ensures keeps { Moves T.files T.may_leave T.moment T.image_since (Keeps None) store.old store.new }
     ensures stands { StandsFor saved.old (T.files store.old) (T.may_leave store.old)
         → StandsFor saved.new (T.files store.new) (T.may_leave store.new) }
-    ensures no_source { result ≢ Err MergeError.SourceFault }
+    ensures only { IfErr result IsOfTiles }
     ensures cause { HasCauseOf MergeError.StoreFault (T.faults store.old) (T.faults store.new) result }
 {
     let like = &parts[0].body;
@@ -171,7 +172,7 @@ fn put_below<T: Store>(
     ensures keeps { Moves T.files T.may_leave T.moment T.image_since (Keeps None) store.old store.new }
     ensures stands { StandsFor saved.old (T.files store.old) (T.may_leave store.old)
         → StandsFor saved.new (T.files store.new) (T.may_leave store.new) }
-    ensures no_source { result ≢ Err MergeError.SourceFault }
+    ensures only { IfErr result IsOfTiles }
     ensures cause { HasCauseOf MergeError.StoreFault (T.faults store.old) (T.faults store.new) result }
 {
     let mut points = Vec::new(alloc);
@@ -209,7 +210,7 @@ fn put_node<T: Store>(
     ensures keeps { Moves T.files T.may_leave T.moment T.image_since (Keeps None) store.old store.new }
     ensures stands { StandsFor saved.old (T.files store.old) (T.may_leave store.old)
         → StandsFor saved.new (T.files store.new) (T.may_leave store.new) }
-    ensures no_source { result ≢ Err MergeError.SourceFault }
+    ensures only { IfErr result IsOfTiles }
     ensures cause { HasCauseOf MergeError.StoreFault (T.faults store.old) (T.faults store.new) result }
 {
     load_node(alloc, store, like, rules, node, points)?;
@@ -240,7 +241,7 @@ fn load_roots<T: Store>(
     ensures intact { OnOk result (Tells (λ all. AreIntact rules.now all (roots_of parts.now)) (T.files store.old)) }
     ensures refused { IfErr result (λ e. Tells (λ all. IsNodesFault rules.now all (roots_of parts.now) e) (T.files store.old)) }
     ensures any_moment { Moves T.files T.may_leave T.moment T.image_since SameFiles store.old store.new }
-    ensures no_source { result ≢ Err MergeError.SourceFault }
+    ensures only { IfErr result IsOfTiles }
     ensures cause { HasCauseOf MergeError.StoreFault (T.faults store.old) (T.faults store.new) result }
 {
     for part in parts {

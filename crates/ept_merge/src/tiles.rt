@@ -1,6 +1,6 @@
 //! The tiles of the parts.
 
-ghost use Rattle.std.specs.Prelude.{◌≡◌, ◌≢◌, ◌<◌, ◌≤◌, ◌^◌, ◌∷◌, ◌↔◌, [], Some, Err, IfErr, OnOk, IsTrue, true};
+ghost use Rattle.std.specs.Prelude.{◌≡◌, ◌<◌, ◌≤◌, ◌^◌, ◌∷◌, ◌↔◌, [], Some, IfErr, OnOk, IsTrue, true};
 ghost use Rattle.std.specs.List.{All};
 ghost use Rattle.ept_base.specs.Causes.{HasCauseOf};
 ghost use Rattle.ept_base.specs.Files.{SameFiles, Tells};
@@ -14,6 +14,7 @@ ghost use Rattle.ept_grid.specs.Mask.{opened};
 ghost use Rattle.ept_meta.specs.Output as meta;
 ghost use Rattle.ept_save.specs.Loading.{IsDamagedUnder};
 ghost use Rattle.ept_part.specs.Names.{part_tile};
+ghost use Rattle.ept_merge.specs.Errors.{IsOfTiles};
 ghost use Rattle.ept_merge.specs.Merging.{IsTileDamaged};
 ghost use Rattle.ept_merge.specs.Putting.{IsNodesFault, Loads};
 
@@ -51,7 +52,7 @@ pub(crate) fn load_node<T: Store>(
         (T.files store.old)) }
     ensures refused { IfErr result (λ e. Tells (λ all. IsNodesFault rules.now all (node.now ∷ []) e) (T.files store.old)) }
     ensures any_moment { Moves T.files T.may_leave T.moment T.image_since SameFiles store.old store.new }
-    ensures no_source { result ≢ Err MergeError.SourceFault }
+    ensures only { IfErr result IsOfTiles }
     ensures cause { HasCauseOf MergeError.StoreFault (T.faults store.old) (T.faults store.new) result }
 {
     rules.cube.known();
@@ -93,7 +94,7 @@ fn load_tile<T: Store>(
     ensures refused { IfErr result (λ e. Tells (λ all. IsNodesFault (meta.rules_of like.now.kept) all (node.now ∷ []) e)
         (T.files store.old)) }
     ensures any_moment { Moves T.files T.may_leave T.moment T.image_since SameFiles store.old store.new }
-    ensures no_source { result ≢ Err MergeError.SourceFault }
+    ensures only { IfErr result IsOfTiles }
     ensures cause { HasCauseOf MergeError.StoreFault (T.faults store.old) (T.faults store.new) result }
 {
     let name = part_tile(alloc, node.octants, &node.line.key)?;

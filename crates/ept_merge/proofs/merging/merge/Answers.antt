@@ -14,6 +14,7 @@ use Rattle.ept_merge.proofs.Public.{open-says, plan-says}
 use Rattle.ept_merge.proofs.Sounding.{same-sound, settled-reads, stays-both}
 use Rattle.ept_merge.proofs.Outcome.{merged-told, accepted-told, refused-told, own-told, open-not, plan-not}
 use Rattle.ept_merge.proofs.NoSource.{passed-no_source}
+use Rattle.ept_merge.proofs.Early.{early-both}
 use Rattle.ept_merge.proofs.merging.merge.Goals as goal
 
 pub merge_plan-requires-clause-none : goal.merge_plan-requires-clause-none
@@ -46,6 +47,11 @@ returns-in_err-saved-clause-sources g c = record {
       );
 }
 
+pub returns-in_err-saved-clause-early : goal.returns-in_err-saved-clause-early
+returns-in_err-saved-clause-early g c =
+    let p = err_from_is_err_and c.from_residual.result c.from_residual.ensures.1 in
+    rw (p.1, p.2) (λ none. c.open_fresh.ensures.any_moment)
+
 pub returns-in_err-saved-clause-sound : goal.returns-in_err-saved-clause-sound
 returns-in_err-saved-clause-sound g c = λ all start told_shelf told settled sound parts.
     let s = g.T.Store in
@@ -66,6 +72,11 @@ returns-in_err-plan-clause-own g c = λ all start told_shelf told own.
     let p = err_from_is_err_and c.from_residual-in_err-plan.result c.from_residual-in_err-plan.ensures.1 in
     let e = c.in_err-plan.field-0.0 in
     rw (p.1, p.2) (plan-not all c.args.config.now e (told_some (λ f. IsPlanFault f c.args.config.now e) (g.H.Shelf.files c.args.shelf.now) all told_shelf c.in_err-plan.ensures.refused))
+
+pub returns-in_err-plan-clause-early : goal.returns-in_err-plan-clause-early
+returns-in_err-plan-clause-early g c =
+    let p = err_from_is_err_and c.from_residual-in_err-plan.result c.from_residual-in_err-plan.ensures.1 in
+    rw (p.1, p.2) (λ none. c.open_fresh.ensures.any_moment)
 
 pub returns-in_err-plan-clause-sound : goal.returns-in_err-plan-clause-sound
 returns-in_err-plan-clause-sound g c = λ all start told_shelf told settled sound parts.
@@ -101,6 +112,11 @@ returns-clause-own g c =
     let s = g.T.Store in
     own-told (g.H.Shelf.files c.args.shelf.now) c.args.config.now c.in_ok-plan.plan c.in_ok-plan.ensures.plan c.in_ok-plan.ensures.deep c.in_ok-plan.ensures.scan c.args.parts.now (s.files c.args.store.now) (s.files c.open_fresh.new.store) c.in_ok-saved.ensures.none
     (reads-files s.files s.may_leave s.moment s.image_since c.args.store.now c.open_fresh.new.store c.open_fresh.ensures.any_moment) c.body_once_law.ensures.once c.tile_once_law.ensures c.output_once_law.ensures.sampled c.requires c.merge_plan.result c.merge_plan.ensures.refused
+
+pub returns-clause-early : goal.returns-clause-early
+returns-clause-early g c =
+    let s = g.T.Store in
+    early-both s.files s.may_leave s.moment s.image_since c.merge_plan.result c.args.store.now c.open_fresh.new.store c.merge_plan.new.store c.open_fresh.ensures.any_moment c.merge_plan.ensures.early
 
 pub returns-clause-sound : goal.returns-clause-sound
 returns-clause-sound g c = λ all start told_shelf told settled sound parts.

@@ -21,6 +21,12 @@ returns-in_err-nodes-clause-no_source g c =
     let p = err_from_is_err_and c.from_residual.result c.from_residual.ensures.1 in
     passed-no_source c.from_residual.result p.0 c.in_err-nodes.field-0.0 p.1 p.2 (misfit-no_source c.args.parts.now c.args.plan.now.points c.in_err-nodes.field-0.0 c.in_err-nodes.ensures.refused)
 
+pub returns-in_err-nodes-clause-early : goal.returns-in_err-nodes-clause-early
+returns-in_err-nodes-clause-early g c =
+    let s = g.T.Store in
+    let p = err_from_is_err_and c.from_residual.result c.from_residual.ensures.1 in
+    rw (p.1, p.2) (λ none. reads-none s.files s.may_leave s.moment s.image_since c.args.store.now)
+
 pub returns-in_err-nodes-clause-sound : goal.returns-in_err-nodes-clause-sound
 returns-in_err-nodes-clause-sound g c = λ all start points told settled sound of.
     let s = g.T.Store in

@@ -12,6 +12,7 @@ use Rattle.ept_merge.proofs.Reading.{reads-files}
 use Rattle.ept_merge.proofs.Sounding.{same-sound, settled-reads, stays-both}
 use Rattle.ept_merge.proofs.Found.{parts-some, of-parts}
 use Rattle.ept_merge.proofs.Outcome.{parts-accepted, parts-refused, bodies-refused}
+use Rattle.ept_merge.proofs.Early.{early-both}
 use Rattle.ept_merge.proofs.merging.merge_plan.Goals as goal
 
 pub merge_bodies-requires-clause-some : goal.merge_bodies-requires-clause-some
@@ -37,6 +38,11 @@ pub returns-in_err-bodies-clause-sound : goal.returns-in_err-bodies-clause-sound
 returns-in_err-bodies-clause-sound g c = λ all start points told settled sound has parts.
     let s = g.T.Store in
     same-sound s.files s.may_leave s.moment s.image_since c.sound_steps_law.ensures.same all c.args.store.now c.bodies_of.new.store start told settled sound c.bodies_of.ensures.any_moment
+
+pub returns-in_err-bodies-clause-early : goal.returns-in_err-bodies-clause-early
+returns-in_err-bodies-clause-early g c =
+    let p = err_from_is_err_and c.from_residual.result c.from_residual.ensures.1 in
+    rw (p.1, p.2) (λ none. c.bodies_of.ensures.any_moment)
 
 pub returns-in_err-bodies-clause-refused : goal.returns-in_err-bodies-clause-refused
 returns-in_err-bodies-clause-refused g c =
@@ -70,6 +76,11 @@ returns-clause-refused g c =
     (subst (λ (w : List PartBody). AreLike plan w) (sym c.as_slice.ensures.value) c.in_ok-bodies.ensures.like)
     (subst (λ (w : List PartBody). Tells (λ all. HasBodies all plan c.args.parts.now (bodies_in w)) before) (sym c.as_slice.ensures.value) c.in_ok-bodies.ensures.bodies)
     c.merge_bodies.result (subst (λ (r : Rules). IfErr c.merge_bodies.result (λ e. Tells (λ all. IsMergeFault r all most bodies plan.points e) between)) c.rules_of-rules.ensures.value c.merge_bodies.ensures.refused)
+
+pub returns-clause-early : goal.returns-clause-early
+returns-clause-early g c =
+    let s = g.T.Store in
+    early-both s.files s.may_leave s.moment s.image_since c.merge_bodies.result c.args.store.now c.bodies_of.new.store c.merge_bodies.new.store c.bodies_of.ensures.any_moment c.merge_bodies.ensures.early
 
 pub returns-clause-sound : goal.returns-clause-sound
 returns-clause-sound g c = λ all start points told settled sound has parts.

@@ -20,7 +20,7 @@ use Rattle.ept_merge.proofs.Steps.{saved-stores}
 use Rattle.ept_merge.proofs.Fits.{fit-ascends, fit-low}
 use Rattle.ept_merge.proofs.PutAll.{of-rules, none-old, begun-same, begun-stands, tells-if, stepped-back, view-valid, next-committed}
 use Rattle.ept_merge.proofs.Committing.{begun-sound, put-sound, committed-sound}
-use Rattle.ept_merge.proofs.NoSource.{saved-no_source}
+use Rattle.ept_merge.proofs.Early.{saved-tiles}
 use Rattle.ept_merge.proofs.merging.put_all.Goals as goal
 
 pub put_nodes-requires-clause-rules : goal.put_nodes-requires-clause-rules
@@ -73,15 +73,15 @@ returns-in_err-commit-clause-refused g c =
 
 -- ---- the files stay sound
 
-pub returns-in_err-begin-clause-no_source : goal.returns-in_err-begin-clause-no_source
-returns-in_err-begin-clause-no_source g c =
+pub returns-in_err-begin-clause-only : goal.returns-in_err-begin-clause-only
+returns-in_err-begin-clause-only g c =
     let p = err_from_is_err_and c.from_residual.result c.from_residual.ensures.1 in
-    saved-no_source c.from_residual.result p.0 c.in_err-begin.field-0.0 p.1 p.2
+    rw (p.1, p.2) (saved-tiles c.in_err-begin.field-0.0 c.in_err-begin.ensures.only)
 
-pub returns-in_err-commit-clause-no_source : goal.returns-in_err-commit-clause-no_source
-returns-in_err-commit-clause-no_source g c =
+pub returns-in_err-commit-clause-only : goal.returns-in_err-commit-clause-only
+returns-in_err-commit-clause-only g c =
     let p = err_from_is_err_and c.from_residual-in_err-commit.result c.from_residual-in_err-commit.ensures.1 in
-    saved-no_source c.from_residual-in_err-commit.result p.0 c.in_err-commit.field-0.0 p.1 p.2
+    rw (p.1, p.2) (saved-tiles c.in_err-commit.field-0.0 c.in_err-commit.ensures.only)
 
 pub returns-in_err-begin-clause-sound : goal.returns-in_err-begin-clause-sound
 returns-in_err-begin-clause-sound g c = λ all start points told settled sound of.

@@ -14,7 +14,7 @@ use Rattle.ept_merge.specs.Putting.{Loads}
 use Rattle.ept_merge.proofs.PutAll.{none-old}
 use Rattle.ept_merge.proofs.Reading.{tells-more, tells-always}
 use Rattle.ept_merge.proofs.Steps.{put-told, saved-stores, reads-change, tile-changes, change-both, reads-keep, keep-both, node-line, node-taken, one-intact}
-use Rattle.ept_merge.proofs.NoSource.{saved-no_source}
+use Rattle.ept_merge.proofs.Early.{saved-tiles}
 use Rattle.ept_merge.proofs.putting.put_node.Goals as goal
 
 pub load_node-requires-clause-low : goal.load_node-requires-clause-low
@@ -49,10 +49,10 @@ returns-in_err-save_tile-clause-refused g c =
     let p = err_from_is_err_and c.from_residual-in_err-save_tile.result c.from_residual-in_err-save_tile.ensures.1 in
     rw (p.1, p.2) (tells-always _ (λ all. inl (saved-stores c.in_err-save_tile.field-0.0 c.in_err-save_tile.ensures.only)) (g.T.Store.files c.args.store.now))
 
-pub returns-in_err-save_tile-clause-no_source : goal.returns-in_err-save_tile-clause-no_source
-returns-in_err-save_tile-clause-no_source g c =
+pub returns-in_err-save_tile-clause-only : goal.returns-in_err-save_tile-clause-only
+returns-in_err-save_tile-clause-only g c =
     let p = err_from_is_err_and c.from_residual-in_err-save_tile.result c.from_residual-in_err-save_tile.ensures.1 in
-    saved-no_source c.from_residual-in_err-save_tile.result p.0 c.in_err-save_tile.field-0.0 p.1 p.2
+    rw (p.1, p.2) (saved-tiles c.in_err-save_tile.field-0.0 c.in_err-save_tile.ensures.only)
 
 pub returns-in_err-save_tile-clause-tiles : goal.returns-in_err-save_tile-clause-tiles
 returns-in_err-save_tile-clause-tiles g c =

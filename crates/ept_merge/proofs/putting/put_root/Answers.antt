@@ -21,7 +21,7 @@ use Rattle.ept_merge.specs.Putting.{LoadsAll}
 use Rattle.ept_merge.proofs.Reading.{tells-always}
 use Rattle.ept_merge.proofs.Steps.{put-told, saved-stores, reads-change, tile-changes, change-both, reads-keep, keep-both}
 use Rattle.ept_merge.proofs.PutAll.{some-length, first-rules, none-old, root-view}
-use Rattle.ept_merge.proofs.NoSource.{saved-no_source}
+use Rattle.ept_merge.proofs.Early.{saved-tiles}
 use Rattle.ept_merge.proofs.putting.put_root.Goals as goal
 
 pub bounds-parts-0 : goal.bounds-parts-0
@@ -85,10 +85,10 @@ returns-in_err-save_tile-clause-refused g c =
     let p = err_from_is_err_and c.from_residual-in_err-save_tile.result c.from_residual-in_err-save_tile.ensures.1 in
     rw (p.1, p.2) (tells-always _ (λ all. inl (saved-stores c.in_err-save_tile.field-0.0 c.in_err-save_tile.ensures.only)) (g.T.Store.files c.args.store.now))
 
-pub returns-in_err-save_tile-clause-no_source : goal.returns-in_err-save_tile-clause-no_source
-returns-in_err-save_tile-clause-no_source g c =
+pub returns-in_err-save_tile-clause-only : goal.returns-in_err-save_tile-clause-only
+returns-in_err-save_tile-clause-only g c =
     let p = err_from_is_err_and c.from_residual-in_err-save_tile.result c.from_residual-in_err-save_tile.ensures.1 in
-    saved-no_source c.from_residual-in_err-save_tile.result p.0 c.in_err-save_tile.field-0.0 p.1 p.2
+    rw (p.1, p.2) (saved-tiles c.in_err-save_tile.field-0.0 c.in_err-save_tile.ensures.only)
 
 pub returns-in_err-save_tile-clause-tiles : goal.returns-in_err-save_tile-clause-tiles
 returns-in_err-save_tile-clause-tiles g c =

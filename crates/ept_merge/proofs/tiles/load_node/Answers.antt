@@ -1,4 +1,4 @@
-use Rattle.std.proofs.Common.{◌∙◌, ◌≤◌, ◌-◌, ◌∷◌, [], true, List, sym, subst, arith}
+use Rattle.std.proofs.Common.{inr, ◌∙◌, ◌≤◌, ◌-◌, ◌∷◌, [], true, List, sym, subst, arith}
 use Rattle.std.proofs.lemmas.Bool.{false≢true}
 use Rattle.std.proofs.lemmas.Result.{err_from_is_err_and}
 use Rattle.ept_base.specs.Files.{Tells}
@@ -51,3 +51,6 @@ returns-else-are_of_part-clause-refused g c =
     let tail = tail-is c.args.out.now.items loads.points c.load_tile.new.out.items c.as_slice.result.now c.len-before.result loads.appended c.as_slice.ensures.value (omega (arith, c.args.out.now.ok.0, c.len-before.ensures)) in
     node-outside rules node c.damaged.result files c.args.out.now.items c.load_tile.new.out.items loads c.damaged.ensures.tile c.damaged.ensures.byte
     (λ mine. absurd (false≢true (sym c.if-are_of_part.false ∙ c.are_of_part.ensures.1 (subst (λ (w : List Point). AreMine rules node w) (sym tail) mine))))
+
+pub returns-else-are_of_part-clause-only : goal.returns-else-are_of_part-clause-only
+returns-else-are_of_part-clause-only g c = inr (c.args.node.now.octants, c.args.node.now.line.key, c.damaged.ensures.tile)

@@ -1,4 +1,4 @@
-use Rattle.std.proofs.Common.{◌∙◌, ℕ, List, ap, subst}
+use Rattle.std.proofs.Common.{inr, ◌∙◌, ℕ, List, ap, subst}
 use Rattle.std.specs.Prelude.{Err}
 use Rattle.ept_base.specs.Files.{Tells}
 use Rattle.ept_point.specs.declared.layout.Layout.{Layout}
@@ -45,3 +45,6 @@ returns-in-Err-TileDamaged-clause-refused g c =
     node-damaged rules c.args.node.now c.damaged.result files c.damaged.ensures.tile c.damaged.ensures.byte
     (subst (λ (layout : Layout). Tells (IsDamagedUnder layout rules name line) files) c.requires.newest
     (subst (λ (n : List ℕ). Tells (IsDamagedUnder (layout_of c.args.like.now.version) rules n line) files) (c.as_str.ensures.value ∙ c.in_ok-name.ensures) told))
+
+pub returns-in-Err-TileDamaged-clause-only : goal.returns-in-Err-TileDamaged-clause-only
+returns-in-Err-TileDamaged-clause-only g c = inr (c.args.node.now.octants, c.args.node.now.line.key, c.damaged.ensures.tile)
