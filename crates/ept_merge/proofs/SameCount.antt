@@ -1,4 +1,4 @@
--- Counts are the same exactly where each of their fields is.
+-- Two counts are equal if and only if the code finds them so.
 use Rattle.std.proofs.Common.{◌≡◌, Bool, true, false, eqb, int_eq, refl, ap, Decides, Option, Some, None}
 use Rattle.std.specs.Prelude.{◌&&◌}
 use Rattle.std.specs.Cmp.Lexicographic.{pointwise}

@@ -21,8 +21,8 @@ pub(crate) fn merge_parts(row: Row<'_>, out: &mut String) -> Answered {
 }
 
 /// `merge-stop PARTS | CONFIG | PASSES | FILES | STORE | FILES`: the same over a store that passes PASSES calls. It
-/// reports the result, and then for each kind of crash which checkpoint is current, whether these files are there, and
-/// whether those of the store are as before.
+/// reports the result. Then for each kind of crash it reports which checkpoint is current, whether these files are
+/// there, and whether those of the store are as before.
 pub(crate) fn merge_stopped(row: Row<'_>, out: &mut String) -> Answered {
     for how in [Crash::Old, Crash::New, Crash::Absent, Crash::Junk] {
         let mut said = String::new(row.alloc);
@@ -36,7 +36,7 @@ pub(crate) fn merge_stopped(row: Row<'_>, out: &mut String) -> Answered {
     Ok(())
 }
 
-// What a merge leaves of a store that passes so many calls.
+// What a merge leaves of a store that passes the calls of a row.
 fn stopped(row: Row<'_>, out: &mut String) -> Result<MemStore, Stop> {
     let passes = count(row.part(2)?)?;
     let mut shelf = shelf_of(row, row.part(3)?, "-")?;
