@@ -111,7 +111,7 @@ pub returns-clause-own : goal.returns-clause-own
 returns-clause-own g c =
     let s = g.T.Store in
     own-told (g.H.Shelf.files c.args.shelf.now) c.args.config.now c.in_ok-plan.plan c.in_ok-plan.ensures.plan c.in_ok-plan.ensures.deep c.in_ok-plan.ensures.scan c.args.parts.now (s.files c.args.store.now) (s.files c.open_fresh.new.store) c.in_ok-saved.ensures.none
-    (reads-files s.files s.may_leave s.moment s.image_since c.args.store.now c.open_fresh.new.store c.open_fresh.ensures.any_moment) c.body_once_law.ensures.once c.tile_once_law.ensures c.output_once_law.ensures.sampled c.requires c.merge_plan.result c.merge_plan.ensures.refused
+    (reads-files s.files s.may_leave s.moment s.image_since c.args.store.now c.open_fresh.new.store c.open_fresh.ensures.any_moment) c.body_once_law.ensures.once c.tile_once_law.ensures.once c.output_once_law.ensures.sampled c.requires c.merge_plan.result c.merge_plan.ensures.refused
 
 pub returns-clause-early : goal.returns-clause-early
 returns-clause-early g c =
