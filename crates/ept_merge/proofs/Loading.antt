@@ -7,7 +7,6 @@ use Rattle.std.specs.Prelude.{All}
 use Rattle.ept_base.specs.Files.{Files, Tells}
 use Rattle.ept_point.specs.declared.point.Point.{Point}
 use Rattle.ept_point.specs.declared.layout.Layout.TheVariants.{New}
-use Rattle.ept_point.specs.Packed.{tile}
 use Rattle.ept_space.specs.declared.cube.Rules.{Rules}
 use Rattle.ept_space.specs.VoxelKey.{VoxelKey, IsKey}
 use Rattle.ept_space.specs.OctreeCube.{IsCube, InBox, InCube}

@@ -1,5 +1,5 @@
 -- All nodes are put, and committed.
-use Rattle.std.proofs.Common.{◌≡◌, ◌≢◌, ◌∙◌, inl, inr, ℕ, ◌+◌, ◌<◌, false, List, [], ◌∷◌, ◌++◌, refl, sym, ap, subst, arith, map, length, get_or, length-append, Option, Some, None}
+use Rattle.std.proofs.Common.{◌≡◌, ◌≢◌, ◌∙◌, inl, inr, ℕ, ◌<◌, false, List, [], ◌∷◌, ◌++◌, refl, sym, ap, subst, arith, map, length, get_or, length-append, Option, Some, None}
 use Rattle.std.specs.Prelude.{sum_by, Result, Ok, Err, OnOk, IfErr}
 use Rattle.std.specs.List.{AllZip, flat_map}
 use Rattle.std.specs.declared.cmp.Ordering.TheVariants.{Less}

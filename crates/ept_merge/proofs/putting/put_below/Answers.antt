@@ -1,4 +1,4 @@
-use Rattle.std.proofs.Common.{◌≤◌, ◌∙◌, ◌++◌, ◌∷◌, ◌+◌, inl, [], List, length, map, refl, sym, ap, subst, arith, take, Option, None}
+use Rattle.std.proofs.Common.{◌≤◌, ◌∙◌, ◌++◌, ◌∷◌, inl, [], List, length, map, refl, sym, ap, subst, arith, take, Option, None}
 use Rattle.std.proofs.lemmas.List.{append-nil, take_all}
 use Rattle.std.proofs.lemmas.Result.{err_from_is_err_and}
 use Rattle.ept_base.specs.Files.{Files, Tells, StepsBy}

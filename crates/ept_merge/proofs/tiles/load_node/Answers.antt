@@ -1,4 +1,4 @@
-use Rattle.std.proofs.Common.{inr, ◌∙◌, ◌≤◌, ◌-◌, ◌∷◌, [], true, List, sym, subst, arith}
+use Rattle.std.proofs.Common.{inr, ◌∙◌, ◌≤◌, ◌∷◌, [], List, sym, subst, arith}
 use Rattle.std.proofs.lemmas.Bool.{false≢true}
 use Rattle.std.proofs.lemmas.Result.{err_from_is_err_and}
 use Rattle.ept_base.specs.Files.{Tells}
