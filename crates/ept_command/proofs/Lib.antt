@@ -1,4 +1,5 @@
 mod Fronts
 mod Numbers
 pub mod OctantTexts
+pub mod PartTexts
 mod Usages

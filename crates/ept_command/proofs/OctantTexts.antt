@@ -35,7 +35,7 @@ module _ (once : MembersMakeTheSet) (text : List ℕ) where
       → ((octants : ℕ) → numbers.bytes ≡ octants ∷ replicate 31 0 → octants ≢ 0 → ⊥) → (octants : ℕ) → ¬ IsOctantsText text octants
   lists_others sift numbers has are other octants is = other octants (same_bytes numbers is.numbers (lists_these (Some numbers) sift has are octants is) ∙ is.below_8) is.some
 
-  one_mask : (a b : ℕ) → IsOctantsText text a → IsOctantsText text b → a ≡ b
+  pub one_mask : (a b : ℕ) → IsOctantsText text a → IsOctantsText text b → a ≡ b
   one_mask a b is other = first (sym is.below_8 ∙ same_bytes is.numbers other.numbers (one-classes once text (Some is.numbers) (Some other.numbers) is.text_is other.text_is) ∙ other.below_8)
     where
       first : a ∷ replicate 31 0 ≡ b ∷ replicate 31 0 → a ≡ b

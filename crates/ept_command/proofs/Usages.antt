@@ -4,15 +4,20 @@ use Rattle.std.specs.Prelude.{String, codes, decimal, string_bytes, length}
 use Rattle.std.specs.declared.alloc.Global.{Global}
 use Rattle.std.proofs.lemmas.Fmt.{decimal_injective}
 use Rattle.std.proofs.lemmas.List.{length-map}
-use Rattle.ept_command.specs.Words.{bytes_of, IsOctantsText, IsTrial, IsUsage}
+use Rattle.ept_command.specs.Words.{bytes_of, IsOctantsText, NoMerge, IsMerge, IsTrial, IsUsage}
+
+-- where the first word is another one there is no merge
+pub no_merge : (words : List (List ℕ)) → NoMerge words → (config out parts : List ℕ) → ¬ IsMerge words config out parts
+no_merge words none config out parts is = none (config ∷ out ∷ is.texts) is.words_are
 
 -- words of another number than those of a command
-pub no_command : (words : List (String Global)) → length words ≢ 2 → length words ≢ 3 → length words ≢ 4 → length words ≢ 7 → IsUsage (bytes_of words)
-no_command words two three four seven =
+pub no_command : (words : List (String Global)) → NoMerge (bytes_of words) → length words ≢ 2 → length words ≢ 3 → length words ≢ 4 → length words ≢ 7 → IsUsage (bytes_of words)
+no_command words none two three four seven =
     let size : length (bytes_of words) ≡ length words = length-map words string_bytes in
     record {
       not_build = λ config out is. three (sym size ∙ ap (λ (ws : List (List ℕ)). length ws) is.words_are);
       not_part = λ config out octants is. four (sym size ∙ ap (λ (ws : List (List ℕ)). length ws) is.words_are);
+      not_merge = no_merge (bytes_of words) none;
       not_info = λ las is. two (sym size ∙ ap (λ (ws : List (List ℕ)). length ws) is.words_are);
       not_query = λ out area first last is. four (sym size ∙ ap (λ (ws : List (List ℕ)). length ws) is.words_are);
       not_select = λ out area first last sift is. seven (sym size ∙ ap (λ (ws : List (List ℕ)). length ws) is.words_are);
@@ -25,6 +30,7 @@ pub part_refused : (path folder text : List ℕ) → ((octants : ℕ) → ¬ IsO
 part_refused path folder text none = record {
   not_build = λ config out is. other (codes "build" ∷ config ∷ out ∷ []) 98 refl (omega arith) is.words_are;
   not_part = λ config out octants is. none octants (subst (λ (t : List ℕ). IsOctantsText t octants) (sym (last config out is.text is.words_are)) is.octants_are);
+  not_merge = λ config out parts is. other (codes "merge" ∷ config ∷ out ∷ is.texts) 109 refl (omega arith) is.words_are;
   not_info = λ las is. other (codes "info" ∷ las ∷ []) 105 refl (omega arith) is.words_are;
   not_query = λ out area first last is. other (codes "query" ∷ out ∷ is.box ∷ is.depths ∷ []) 113 refl (omega arith) is.words_are;
   not_select = λ out area first last sift is. other (codes "select" ∷ out ∷ is.box ∷ is.depths ∷ is.classes ∷ is.time ∷ is.dims ∷ []) 115 refl (omega arith) is.words_are;
@@ -44,6 +50,7 @@ pub numbers_refused : (points workers cache : List ℕ) (w k : ℕ) → workers 
 numbers_refused points workers cache w k workers_are few cache_is bounded wrong = record {
   not_build = λ config out is. not_build config out is.words_are;
   not_part = λ config out octants is. not_part config out is.text is.words_are;
+  not_merge = λ config out parts is. not_merge config out is.texts is.words_are;
   not_info = λ las is. not_info las is.words_are;
   not_query = λ out area first last is. not_query out is.box is.depths is.words_are;
   not_select = λ out area first last sift is. not_select out is.box is.depths is.classes is.time is.dims is.words_are;
@@ -57,6 +64,11 @@ numbers_refused points workers cache w k workers_are few cache_is bounded wrong 
     not_part : (config out text : List ℕ) → codes "trial" ∷ points ∷ workers ∷ cache ∷ [] ≡ codes "part" ∷ config ∷ out ∷ text ∷ [] → ⊥
     not_part config out text same =
         let heads : 116 ≡ 112 = ap (λ (ws : List (List ℕ)). get_or (get_or ws 0 []) 0 0) same in
+        omega (arith, heads)
+
+    not_merge : (config out : List ℕ) (texts : List (List ℕ)) → codes "trial" ∷ points ∷ workers ∷ cache ∷ [] ≡ codes "merge" ∷ config ∷ out ∷ texts → ⊥
+    not_merge config out texts same =
+        let heads : 116 ≡ 109 = ap (λ (ws : List (List ℕ)). get_or (get_or ws 0 []) 0 0) same in
         omega (arith, heads)
 
     not_info : (las : List ℕ) → codes "trial" ∷ points ∷ workers ∷ cache ∷ [] ≡ codes "info" ∷ las ∷ [] → ⊥

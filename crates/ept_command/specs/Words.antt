@@ -1,13 +1,16 @@
 -- What the words of a command line ask for.
-use Rattle.std.specs.Prelude.{◌≡◌, ◌≢◌, ◌≤◌, ℕ, List, [], ◌∷◌, Some, String, map, replicate, string_bytes, codes, decimal}
+use Rattle.std.specs.Prelude.{◌≡◌, ◌≢◌, ◌≤◌, ℕ, List, [], ◌∷◌, Some, String, length, map, replicate, take, string_bytes, codes, decimal}
+use Rattle.std.specs.List.{AllZip}
 use Rattle.std.specs.declared.alloc.Global.{Global}
 use Rattle.ept_space.specs.declared.box3.Box3.{Box3}
 use Rattle.ept_http.specs.QueryWords.{IsBoxText, IsDepthsText}
 use Rattle.ept_filter.specs.declared.sift.Sift.{Sift}
 use Rattle.ept_class.specs.declared.class_set.ClassSet.{ClassSet}
 use Rattle.ept_filter.specs.SiftText.{IsSiftText, IsClassesText}
+use Rattle.ept_merge.specs.Merging.{AreAllParts}
+use Rattle.ept_command.specs.declared.parts.Parts.{Parts}
 use Rattle.ept_command.specs.declared.words.Command.{Command}
-use Rattle.ept_command.specs.declared.words.Command.TheVariants.{Build, Part, Info, Query, Select, Check, Trial, Usage}
+use Rattle.ept_command.specs.declared.words.Command.TheVariants.{Build, Part, Merge, Info, Query, Select, Check, Trial, Usage}
 
 -- words as lists of bytes
 abbrev pub bytes_of : List (String Global) → List (List ℕ)
@@ -37,6 +40,28 @@ pub record IsPart (words : List (List ℕ)) (config out : List ℕ) (octants : �
   pub config_is : config ≢ []
   pub out_is : out ≢ []
   pub octants_are : IsOctantsText text octants
+
+-- the octants of each part, in order
+abbrev pub masks_in : Parts → List ℕ
+masks_in parts = take parts.len parts.masks
+
+-- The words list octants, each word those of a part, and each octant is in exactly one of the parts. So there are at most eight.
+pub record ArePartsTexts (texts : List (List ℕ)) (parts : List ℕ) : Type 0 where
+  pub few : length texts ≤ 8
+  pub octants_are : AllZip IsOctantsText texts parts
+  pub all : AreAllParts parts
+
+-- `merge`, the words of a build, and those of all parts
+pub record IsMerge (words : List (List ℕ)) (config out parts : List ℕ) : Type 0 where
+  pub texts : List (List ℕ)
+  pub words_are : words ≡ codes "merge" ∷ config ∷ out ∷ texts
+  pub config_is : config ≢ []
+  pub out_is : out ≢ []
+  pub parts_are : ArePartsTexts texts parts
+
+-- the first word is another one
+abbrev pub NoMerge : List (List ℕ) → Type 0
+NoMerge words = (rest : List (List ℕ)) → words ≢ codes "merge" ∷ rest
 
 -- `info` and the path of a LAS file
 pub record IsInfo (words : List (List ℕ)) (las : List ℕ) : Type 0 where
@@ -83,6 +108,7 @@ pub record IsTrial (words : List (List ℕ)) (count workers cache : ℕ) : Type 
 pub record IsUsage (words : List (List ℕ)) : Type 0 where
   pub not_build : (config out : List ℕ) → ¬ IsBuild words config out
   pub not_part : (config out : List ℕ) (octants : ℕ) → ¬ IsPart words config out octants
+  pub not_merge : (config out parts : List ℕ) → ¬ IsMerge words config out parts
   pub not_info : (las : List ℕ) → ¬ IsInfo words las
   pub not_query : (out : List ℕ) (area : Box3) (first last : ℕ) → ¬ IsQuery words out area first last
   pub not_select : (out : List ℕ) (area : Box3) (first last : ℕ) (sift : Sift) → ¬ IsSelect words out area first last sift
@@ -93,6 +119,7 @@ pub record IsUsage (words : List (List ℕ)) : Type 0 where
 abbrev pub IsCommand : List (List ℕ) → Command → Type 0
 IsCommand words (Build config out) = IsBuild words config.now out.now
 IsCommand words (Part config out octants) = IsPart words config.now out.now octants
+IsCommand words (Merge config out parts) = IsMerge words config.now out.now (masks_in parts)
 IsCommand words (Info las) = IsInfo words las.now
 IsCommand words (Query out area depths) = IsQuery words out.now area depths.0 depths.1
 IsCommand words (Select out area depths sift) = IsSelect words out.now area depths.0 depths.1 sift

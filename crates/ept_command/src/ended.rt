@@ -1,6 +1,6 @@
 //! How a run ends.
 
-use crate::refusal::Refusal;
+use crate::refusal::{MergeRefusal, Refusal};
 use crate::status::OK;
 use ept_check::{CheckError, Fault};
 use ept_query::QueryError;
@@ -20,8 +20,10 @@ pub struct Ended {
 pub enum Failure {
     /// The words, or the files that they name, are refused.
     Refused(Refusal),
-    /// A part of a build is refused: the greatest depth is 0, so the root has no octants.
+    /// A part of a build is refused, or a merge: the greatest depth is 0, so the root has no octants.
     Shallow,
+    /// Parts are not merged, for a cause that no part has.
+    MergeRefused(MergeRefusal),
     /// A query is refused, or a selection.
     QueryRefused(QueryError),
     /// A dataset was checked, and this is wrong with the node of this key, the first one with which anything is.

@@ -7,11 +7,13 @@
 mod ended;
 mod files;
 mod octants;
+mod parts;
 mod refusal;
 pub mod status;
 mod words;
 
 pub use ended::{Ended, Failure};
 pub use files::{read_configuration, read_front};
-pub use refusal::{PartRefusal, Refusal};
+pub use parts::Parts;
+pub use refusal::{MergeRefusal, PartRefusal, Refusal};
 pub use words::{Command, command_of};

@@ -144,3 +144,31 @@ impl From<Refusal> for PartRefusal {
         PartRefusal::AsBuild(refusal)
     }
 }
+
+/// Why parts of a build are not merged.
+#[derive(Clone, Copy, Debug, PartialEq, Eq)]
+pub enum MergeRefusal {
+    /// For a cause for which a part is refused too.
+    AsPart(PartRefusal),
+    /// The folder has a checkpoint already.
+    HasCheckpoint,
+    /// The part of these octants is not there: its gate is not open.
+    NoPart { octants: u8 },
+    /// The part of these octants was made with another configuration, or of other inputs.
+    PartDiffers { octants: u8 },
+    /// The part of these octants is damaged: the tile of a key, or else its body; or the bodies of all parts do not fit
+    /// together, and this is the last one.
+    PartDamaged { octants: u8, key: Option<Key> },
+}
+
+impl From<Refusal> for MergeRefusal {
+    ghost use Rattle.std.specs.Prelude.{◌≡◌};
+    ghost use Rattle.ept_command.specs.declared.refusal.MergeRefusal.TheVariants.{AsPart};
+    ghost use Rattle.ept_command.specs.declared.refusal.PartRefusal.TheVariants.{AsBuild};
+
+    ghost from_gives = { λ from r. r ≡ AsPart (AsBuild from) };
+
+    fn from(refusal: Refusal) -> MergeRefusal {
+        MergeRefusal::AsPart(PartRefusal::AsBuild(refusal))
+    }
+}

@@ -1,9 +1,10 @@
 //! What the words of a command line ask for.
 
 ghost use Rattle.std.specs.Prelude.{◌≡◌, ◌≢◌, ◌↔◌, ◌≤◌, ℕ, [], ◌∷◌, length, codes, decimal, pos, IsTrue, IfSome, IfNone};
-ghost use Rattle.ept_command.specs.Words.{bytes_of, IsBuild, IsInfo, IsCheck, IsCommand};
+ghost use Rattle.ept_command.specs.Words.{bytes_of, NoMerge, IsBuild, IsInfo, IsCheck, IsCommand};
 
-use crate::octants::read_octants;
+use crate::octants::{read_octants, read_parts};
+use crate::parts::Parts;
 use ept_filter::{Sift, read_sift};
 use ept_http::{read_box, read_depths};
 use ept_num::read_whole;
@@ -29,6 +30,12 @@ pub enum Command<'a> {
         config: &'a str,
         out: &'a str,
         octants: u8,
+    },
+    /// Merge these parts of the build of this configuration in this folder, and finish the build.
+    Merge {
+        config: &'a str,
+        out: &'a str,
+        parts: Parts,
     },
     /// Tell what the header of this LAS file says.
     Info {
@@ -67,6 +74,57 @@ pub enum Command<'a> {
 pub fn command_of(words: &[String]) -> Command<'_>
     ensures { IsCommand (bytes_of words.now) result }
 {
+    match behind_merge(words) {
+        Some(rest) => merge_of(rest),
+        None => other_command(words),
+    }
+}
+
+// The words behind `merge`, if that is the first one.
+fn behind_merge(words: &[String]) -> Option<&[String]>
+    ensures some { IfSome result (λ rest. bytes_of words.now ≡ codes "merge" ∷ bytes_of rest.now) }
+    ensures none { IfNone result (NoMerge (bytes_of words.now)) }
+{
+    match words {
+        [first, rest @ ..] if is_merge(first) => Some(rest),
+        _ => None,
+    }
+}
+
+fn is_merge(first: &str) -> bool
+    ensures { IsTrue result ↔ (first.now ≡ codes "merge") }
+{
+    first == "merge"
+}
+
+// The command of `merge` with these words behind it.
+fn merge_of(rest: &[String]) -> Command<'_>
+    ensures { IsCommand (codes "merge" ∷ bytes_of rest.now) result }
+{
+    match rest {
+        [config, out, texts @ ..] => merge_of_parts(config, out, texts),
+        _ => Command::Usage,
+    }
+}
+
+// The command of `merge` with a configuration, a folder and these words behind them.
+fn merge_of_parts<'a>(config: &'a str, out: &'a str, texts: &[String]) -> Command<'a>
+    ensures { IsCommand (codes "merge" ∷ config.now ∷ out.now ∷ bytes_of texts.now) result }
+{
+    if config.is_empty() || out.is_empty() {
+        return Command::Usage;
+    }
+    match read_parts(texts) {
+        Some(parts) => Command::Merge { config, out, parts },
+        None => Command::Usage,
+    }
+}
+
+// The command that words are of which `merge` is not the first.
+fn other_command(words: &[String]) -> Command<'_>
+    requires { NoMerge (bytes_of words.now) }
+    ensures { IsCommand (bytes_of words.now) result }
+{
     match words {
         [first, second] => command_of_two(first, second),
         [first, config, out] => command_of_three(first, config, out),
@@ -81,6 +139,7 @@ pub fn command_of(words: &[String]) -> Command<'_>
 // Fewer or more words are no command.
 #[tactic(auto, using(crate::proofs::Usages::no_command))]
 fn no_command(words: &[String]) -> Command<'_>
+    requires no_merge { NoMerge (bytes_of words.now) }
     requires two { length words.now ≢ 2 }
     requires three { length words.now ≢ 3 }
     requires four { length words.now ≢ 4 }
@@ -92,6 +151,7 @@ fn no_command(words: &[String]) -> Command<'_>
 
 // The command that two words are.
 fn command_of_two<'a>(first: &str, second: &'a str) -> Command<'a>
+    requires { NoMerge (first.now ∷ second.now ∷ []) }
     ensures { IsCommand (first.now ∷ second.now ∷ []) result }
 {
     if is_info(first, second) {
@@ -105,6 +165,7 @@ fn command_of_two<'a>(first: &str, second: &'a str) -> Command<'a>
 
 // The command that three words are.
 fn command_of_three<'a>(first: &str, config: &'a str, out: &'a str) -> Command<'a>
+    requires { NoMerge (first.now ∷ config.now ∷ out.now ∷ []) }
     ensures { IsCommand (first.now ∷ config.now ∷ out.now ∷ []) result }
 {
     if is_build(first, config, out) {
@@ -116,6 +177,7 @@ fn command_of_three<'a>(first: &str, config: &'a str, out: &'a str) -> Command<'
 
 // The command that four words are.
 fn command_of_four<'a>(first: &str, second: &'a str, third: &'a str, fourth: &str) -> Command<'a>
+    requires { NoMerge (first.now ∷ second.now ∷ third.now ∷ fourth.now ∷ []) }
     ensures { IsCommand (first.now ∷ second.now ∷ third.now ∷ fourth.now ∷ []) result }
 {
     if is_query(first) {
@@ -208,6 +270,7 @@ fn command_of_seven<'a>(
     time: &str,
     dims: &str,
 ) -> Command<'a>
+    requires { NoMerge (first.now ∷ out.now ∷ area.now ∷ depths.now ∷ classes.now ∷ time.now ∷ dims.now ∷ []) }
     ensures { IsCommand (first.now ∷ out.now ∷ area.now ∷ depths.now ∷ classes.now ∷ time.now ∷ dims.now ∷ []) result }
 {
     if is_select(first) {

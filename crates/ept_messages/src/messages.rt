@@ -3,7 +3,7 @@
 use crate::differences::{Differing, write_difference};
 use crate::keys::KEYS;
 use crate::sentences::{
-    Names, write_check, write_query, write_refusal, write_shallow, write_unfit,
+    Names, write_check, write_merge, write_query, write_refusal, write_shallow, write_unfit,
 };
 use ept_base::{Shelf, Store};
 use ept_batch::Difference;
@@ -62,6 +62,7 @@ fn write_failure<H: Shelf, T: Store>(
         Failure::Refused(refusal) if names.config.is_empty() => write_refusal(text, refusal, names),
         Failure::Refused(refusal) => write_build(alloc, text, refusal, names, shelf, store),
         Failure::Shallow => write_shallow(text, names.config),
+        Failure::MergeRefused(refusal) => write_merge(text, refusal, names),
         Failure::QueryRefused(error) => write_query(text, *error, names.out),
         Failure::Unfit { key, why } => write_unfit(text, key, *why, names.out),
         Failure::CheckRefused(error) => write_check(text, *error, names.out),
@@ -78,7 +79,9 @@ fn names_of<'a>(words: &'a [String], found: &Found<'a>) -> Names<'a> {
         ..Names::default()
     };
     match command_of(words) {
-        Command::Build { config, out } | Command::Part { config, out, .. } => Names {
+        Command::Build { config, out }
+        | Command::Part { config, out, .. }
+        | Command::Merge { config, out, .. } => Names {
             config,
             out,
             ..names
@@ -100,7 +103,7 @@ fn write_line(text: &mut String, line: &[u8]) -> Result<(), AllocError> {
     write!(text, "standard output could not be written: {line}")
 }
 
-// Of a build, or a part of one. The configuration is read again for what is not in the words.
+// Of a build, a part of one, or a merge. The configuration is read again for what is not in the words.
 fn write_build<H: Shelf, T: Store>(
     alloc: Global,
     text: &mut String,

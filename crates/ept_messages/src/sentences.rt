@@ -3,21 +3,24 @@
 use crate::keys::{key_of, range_of};
 use ept_check::{CheckError, Fault};
 use ept_ckpt::Letter;
-use ept_command::Refusal;
+use ept_command::{MergeRefusal, PartRefusal, Refusal};
 use ept_config::MAX_POINTS;
 use ept_config_text::{ConfigError, ConfigKey, MAX_LENGTH};
 use ept_las::LasError;
 use ept_meta::Field;
+use ept_part::has_octant;
 use ept_point::PointNumber;
 use ept_query::{QueryError, QueryFile};
 use ept_space::Key;
 use std::alloc::AllocError;
+use std::fmt;
 use std::fmt::Write;
 
 /// What is said of words that are no command: the commands, a line each.
 const USAGE: &str = "usage:
   build CONFIG OUT
   part CONFIG OUT OCTANTS
+  merge CONFIG OUT OCTANTS ..
   query OUT BOX DEPTHS
   select OUT BOX DEPTHS CLASSES TIME DIMS
   check OUT
@@ -33,9 +36,9 @@ const SPILL_ADVICE: &str = "run the same build again, or with a greater `cacheSi
 /// The files and the key that a sentence may name. What is not known, or not named, is empty.
 #[derive(Clone, Copy, Debug, Default)]
 pub(crate) struct Names<'a> {
-    /// The configuration of a build or of a part.
+    /// The configuration of a build, a part or a merge.
     pub(crate) config: &'a str,
-    /// The folder of a build, a part, a query, a selection or a check.
+    /// The folder of a build, a part, a merge, a query, a selection or a check.
     pub(crate) out: &'a str,
     /// Whether that folder exists.
     pub(crate) has_out: bool,
@@ -105,12 +108,88 @@ pub(crate) fn write_refusal(
     }
 }
 
-/// Writes the sentence of a part whose root has no octants.
+/// Writes the sentence of a part, or a merge, whose root has no octants.
 pub(crate) fn write_shallow(text: &mut String, config: &str) -> Result<(), AllocError> {
     write!(
         text,
         "the octree of {config} has the root alone, which has no octants: build it whole, or give it a greater `maxDepth` or a smaller `span`"
     )
+}
+
+/// Writes the sentence of parts that are not merged.
+pub(crate) fn write_merge(
+    text: &mut String,
+    refusal: &MergeRefusal,
+    names: &Names<'_>,
+) -> Result<(), AllocError> {
+    let Names { config, out, .. } = *names;
+    match *refusal {
+        MergeRefusal::AsPart(PartRefusal::AsBuild(cause)) => write_refusal(text, &cause, names),
+        MergeRefusal::AsPart(PartRefusal::Shallow) => write_shallow(text, config),
+        MergeRefusal::HasCheckpoint => write!(
+            text,
+            "{out} has a checkpoint: run `build {config} {out}`, which continues from it"
+        ),
+        MergeRefusal::NoPart { octants } => {
+            let octants = Octants(octants);
+            write!(
+                text,
+                "the part {octants} of {out} is missing or was not finished: run `part {config} {out} {octants}`"
+            )
+        }
+        MergeRefusal::PartDiffers { octants } => {
+            let octants = Octants(octants);
+            write!(
+                text,
+                "the part {octants} of {out} was made with another configuration than {config}, or of other inputs: run `part {config} {out} {octants}`"
+            )
+        }
+        MergeRefusal::PartDamaged { octants, key } => write_damaged(text, octants, key, names),
+    }
+}
+
+// Of a part that is damaged: the tile of a key, or its body, or all bodies together.
+fn write_damaged(
+    text: &mut String,
+    octants: u8,
+    key: Option<Key>,
+    names: &Names<'_>,
+) -> Result<(), AllocError> {
+    let Names { config, out, .. } = *names;
+    let octants = Octants(octants);
+    match key {
+        Some(key) => {
+            text.push_str("the tile of ")?;
+            write_text(text, &key)?;
+            write!(
+                text,
+                " in the part {octants} of {out} is missing or damaged"
+            )?;
+        }
+        None => write!(
+            text,
+            "the body of the part {octants} of {out} is missing or damaged, or the parts do not fit together"
+        )?,
+    }
+    write!(text, ": run `part {config} {out} {octants}`")
+}
+
+// Octants, as words list them.
+#[derive(Clone, Copy)]
+struct Octants(u8);
+
+impl fmt::Display for Octants {
+    fn fmt<W: fmt::Write>(&self, f: &mut fmt::Formatter<W>) -> fmt::Result {
+        let mut separator = "";
+        for octant in 0..8 {
+            if has_octant(self.0, octant) {
+                f.write_str(separator)?;
+                octant.fmt(f)?;
+                separator = ",";
+            }
+        }
+        Ok(())
+    }
 }
 
 // Of a configuration that is refused.

@@ -1,12 +1,12 @@
--- The words of a selection, of a check, and of a part, are those of no other command.
+-- The words of a selection, of a check, of a part, and of a merge, are those of no other command.
 use Rattle.std.proofs.Common.{◌≡◌, inl, inr, ℕ, List, [], ◌∷◌, ap, get_or, arith}
 use Rattle.std.specs.Prelude.{codes, decimal, ⊤}
 use Rattle.ept_base.specs.Files.{Files}
 use Rattle.ept_space.specs.declared.box3.Box3.{Box3}
 use Rattle.ept_filter.specs.declared.sift.Sift.{Sift}
 use Rattle.ept_command.specs.declared.refusal.Refusal.{Refusal}
-use Rattle.ept_command.specs.Words.{IsBuild, IsPart, IsInfo, IsQuery, IsSelect, IsCheck, IsTrial, IsUsage}
-use Rattle.ept_run.specs.Answers.{AsksPart, AsksDataset, IsFaulty}
+use Rattle.ept_command.specs.Words.{IsBuild, IsPart, IsMerge, IsInfo, IsQuery, IsSelect, IsCheck, IsTrial, IsUsage}
+use Rattle.ept_run.specs.Answers.{AsksPart, AsksMerge, AsksDataset, IsFaulty}
 use Rattle.ept_run.proofs.Queried.{query_or_build, query_or_info}
 use Rattle.ept_run.proofs.Tried.{trial_or_query}
 
@@ -70,6 +70,44 @@ module _ (words : List (List ℕ)) where
     part_or_dataset (inl asks) = part_or_query asks.folder asks.area asks.first asks.last asks.words_are
     part_or_dataset (inr (inl asks)) = part_or_select asks.folder asks.area asks.first asks.last asks.sift asks.words_are
     part_or_dataset (inr (inr asks)) = part_or_check asks.folder asks.words_are
+
+  merge_letter : (config out parts : List ℕ) → IsMerge words config out parts → letter words ≡ 109
+  merge_letter config out parts is = same_letter words (codes "merge" ∷ config ∷ out ∷ is.texts) is.words_are
+
+  module _ (path folder parts : List ℕ) (is : IsMerge words path folder parts) where
+    pub merge_or_build : (config out : List ℕ) → IsBuild words config out → ⊥
+    merge_or_build config out other = omega (arith, merge_letter path folder parts is, build_letter config out other)
+
+    pub merge_or_part : (config out : List ℕ) (octants : ℕ) → IsPart words config out octants → ⊥
+    merge_or_part config out octants other = omega (arith, merge_letter path folder parts is, part_letter config out octants other)
+
+    pub merge_or_info : (las : List ℕ) → IsInfo words las → ⊥
+    merge_or_info las other = omega (arith, merge_letter path folder parts is, info_letter las other)
+
+    pub merge_or_query : (out : List ℕ) (box : Box3) (least most : ℕ) → IsQuery words out box least most → ⊥
+    merge_or_query out box least most other = omega (arith, merge_letter path folder parts is, query_letter out box least most other)
+
+    pub merge_or_select : (out : List ℕ) (box : Box3) (least most : ℕ) (sift : Sift) → IsSelect words out box least most sift → ⊥
+    merge_or_select out box least most sift other = omega (arith, merge_letter path folder parts is, select_letter out box least most sift other)
+
+    pub merge_or_check : (out : List ℕ) → IsCheck words out → ⊥
+    merge_or_check out other = omega (arith, merge_letter path folder parts is, check_letter out other)
+
+    pub merge_or_trial : (count workers cache : ℕ) → IsTrial words count workers cache → ⊥
+    merge_or_trial count workers cache other = omega (arith, merge_letter path folder parts is, trial_letter count workers cache other)
+
+    pub merge_asked : AsksMerge words (λ _ _. ⊤)
+    merge_asked = record { path = path; out = folder; parts = parts; words_are = is; holds = tt }
+
+    pub merge_unrefused : (all : Files) (r : Refusal) → IsFaulty words all r → ⊥
+    merge_unrefused all r (inl usage) = usage.1.not_merge path folder parts is
+    merge_unrefused all r (inr (inl asks)) = merge_or_build asks.path asks.out asks.words_are
+    merge_unrefused all r (inr (inr asks)) = merge_or_info asks.path asks.words_are
+
+    pub merge_or_dataset : AsksDataset words → ⊥
+    merge_or_dataset (inl asks) = merge_or_query asks.folder asks.area asks.first asks.last asks.words_are
+    merge_or_dataset (inr (inl asks)) = merge_or_select asks.folder asks.area asks.first asks.last asks.sift asks.words_are
+    merge_or_dataset (inr (inr asks)) = merge_or_check asks.folder asks.words_are
 
   module _ (folder : List ℕ) (area : Box3) (first last : ℕ) (sift : Sift) (is : IsSelect words folder area first last sift) where
     pub select_or_build : (config out : List ℕ) → IsBuild words config out → ⊥

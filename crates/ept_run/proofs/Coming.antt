@@ -13,12 +13,12 @@ use Rattle.ept_query.specs.Complete.{IsDevices}
 use Rattle.ept_filter.specs.declared.sift.Sift.{Sift}
 use Rattle.ept_sample.specs.Nodes.{node_keys}
 use Rattle.ept_meta.specs.Output.{rules_of}
-use Rattle.ept_command.specs.Words.{IsBuild, IsPart, IsInfo, IsTrial, IsUsage}
+use Rattle.ept_command.specs.Words.{IsBuild, IsPart, IsMerge, IsInfo, IsTrial, IsUsage}
 use Rattle.ept_run.specs.Requests.{HasHeader, IsAcceptedAt, IsDoneAt, IsPartAcceptedAt}
 use Rattle.ept_run.specs.Answers.{Yields, AsksPart, AsksInfo, AsksDataset, CanBeDone, a_build, a_part, of_dataset, a_header, a_trial, EndsWell}
 use Rattle.ept_run.specs.Queries.{query_status, GivesWhole, EndsSelection}
 use Rattle.ept_run.specs.Checks.{EndsCheck}
-use Rattle.ept_run.proofs.Apart.{part_or_build, part_or_info, part_or_trial, part_or_dataset, dataset_or_build, dataset_or_info, dataset_or_trial, dataset_or_usage}
+use Rattle.ept_run.proofs.Apart.{merge_or_build, merge_or_part, merge_or_info, merge_or_trial, merge_or_dataset, part_or_build, part_or_info, part_or_trial, part_or_dataset, dataset_or_build, dataset_or_info, dataset_or_trial, dataset_or_usage}
 use Rattle.ept_run.proofs.Asked.{of_build, build_or_info}
 use Rattle.ept_run.proofs.Checked.{check_yields}
 use Rattle.ept_run.proofs.Tried.{trial_or_build, trial_or_info}
@@ -49,6 +49,14 @@ module _ (words : List (List ℕ)) (shelf store : Option Files) (Begins : Files 
   nothing_can usage (of_dataset start kept points told complete asks) = dataset_or_usage words asks usage
   nothing_can usage (a_header all header told asks) = usage.not_info asks.path asks.words_are
   nothing_can usage (a_trial asks) = usage.not_trial asks.count asks.workers asks.cache asks.words_are
+
+  -- nothing is said of what can be merged
+  pub merge_cannot : (path folder parts : List ℕ) → IsMerge words path folder parts → CanBeDone words shelf store Begins → ⊥
+  merge_cannot path folder parts is (a_build all start begins asks) = merge_or_build words path folder parts is asks.path asks.out asks.words_are
+  merge_cannot path folder parts is (a_part all told asks) = merge_or_part words path folder parts is asks.path asks.out asks.octants asks.words_are
+  merge_cannot path folder parts is (of_dataset start kept points told complete asks) = merge_or_dataset words path folder parts is asks
+  merge_cannot path folder parts is (a_header all header told asks) = merge_or_info words path folder parts is asks.path asks.words_are
+  merge_cannot path folder parts is (a_trial asks) = merge_or_trial words path folder parts is asks.count asks.workers asks.cache asks.words_are
 
   module _ (status : ℕ) (failed : Type 0) (fault : status ≡ 7 → failed) where
     well : Yields 0 status → EndsWell status failed

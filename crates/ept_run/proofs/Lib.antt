@@ -2,6 +2,8 @@ mod Apart
 mod Asked
 mod Checked
 mod Coming
+mod Merged
+mod OctantList
 mod Parted
 mod Queried
 mod Refused

@@ -151,7 +151,7 @@ fails_told outcome (inl is) = (AsBuild SourceFault, ap told is, inl refl)
 fails_told outcome (inr (inl is)) = (AsBuild StoreFault, ap told is, inr (inl refl))
 fails_told outcome (inr (inr is)) = (AsBuild Memory, ap told is, inr (inr refl))
 
-tells_both : {X : Type 0} (P Q R : X → Type 0) (o : Option X) → ((x : X) → P x → Q x → R x) → Tells P o → Tells Q o → Tells R o
+pub tells_both : {X : Type 0} (P Q R : X → Type 0) (o : Option X) → ((x : X) → P x → Q x → R x) → Tells P o → Tells Q o → Tells R o
 tells_both P Q R None step p q = tt
 tells_both P Q R (Some x) step p q = step x p q
 
@@ -322,7 +322,7 @@ ends_same path other octants mask status why_not files new settled same said_old
     (subst (λ (o : ℕ). (ends : EndsPart path o status files new settled same said_old said_new source store out) × FailsAsPart ends.outcome why_not) same_octants ends)
 
 module _ (status : ℕ) (old new : Option (List ℕ)) (failed : Type 0) where
-  said_not : (n : ℕ) → n ≢ 0 → n ≢ 7 → (line : List ℕ) → IsSaid line status old new failed → status ≢ n
+  pub said_not : (n : ℕ) → n ≢ 0 → n ≢ 7 → (line : List ℕ) → IsSaid line status old new failed → status ≢ n
   said_not n not_0 not_7 line (inl done) is = not_0 (sym is ∙ done.0)
   said_not n not_0 not_7 line (inr cut) is = not_7 (sym is ∙ cut.0)
 
@@ -366,7 +366,7 @@ module _ (status : ℕ) (old new : Option (List ℕ)) (failed : Type 0) where
 -- ---- how it is reported
 
 module _ (status : ℕ) (why_not : Option Failure) (old new : Option (List ℕ)) (failed : Type 0) where
-  fails_at : (n : ℕ) (f : Failure) → status ≡ n → n ≢ 0 → why_not ≡ Some f → (status ≡ 0) ↔ (why_not ≡ None)
+  pub fails_at : (n : ℕ) (f : Failure) → status ≡ n → n ≢ 0 → why_not ≡ Some f → (status ≡ 0) ↔ (why_not ≡ None)
   fails_at n f is not fails = (λ zero_is. absurd (not (sym is ∙ zero_is)), λ none. absurd (some_or_none f why_not fails none))
 
   pub made_reported : (done : PartDone) (line : Vec ℕ Global) → line.items ≡ summary_text done.points done.nodes → IsSaidFor line status why_not old new failed → IsPartReported (Ok done) status why_not old new failed

@@ -17,7 +17,7 @@ use Rattle.ept_command.specs.declared.ended.Failure.{Failure}
 use Rattle.ept_command.specs.declared.ended.Failure.TheVariants.{Refused, LineNotWritten}
 use Rattle.ept_command.specs.declared.refusal.Refusal.{Refusal}
 use Rattle.ept_command.specs.declared.refusal.Refusal.TheVariants.{Usage, BadConfiguration, BadLas, OutOfBounds, NoBounds, SourceChanged, TooManyPoints, TooManyNodes, Differs, BadCheckpoint, TileDamaged, SourceFault, StoreFault, SpillFault, SpillDamaged, Memory}
-use Rattle.ept_command.specs.Words.{IsBuild, IsPart, IsInfo, IsQuery, IsSelect, IsCheck, IsTrial, IsUsage}
+use Rattle.ept_command.specs.Words.{IsBuild, IsPart, IsMerge, IsInfo, IsQuery, IsSelect, IsCheck, IsTrial, IsUsage}
 use Rattle.ept_command.specs.Statuses.{status_of}
 use Rattle.ept_run.specs.Lines.{summary_text, header_text, line_of}
 use Rattle.ept_command.specs.Configurations.{ConfigurationIsRefused}
@@ -43,6 +43,18 @@ pub record AsksPart (words : List (List ℕ)) (Fact : List ℕ → ℕ → Type 
   pub octants : ℕ
   pub words_are : IsPart words path out octants
   pub holds : Fact path octants
+
+-- a merge of some parts with the configuration of some path, of which this holds
+pub record AsksMerge (words : List (List ℕ)) (Fact : List ℕ → List ℕ → Type 0) : Type 0 where
+  pub path : List ℕ
+  pub out : List ℕ
+  pub parts : List ℕ
+  pub words_are : IsMerge words path out parts
+  pub holds : Fact path parts
+
+-- a part, or a merge of parts
+abbrev pub AsksForParts : List (List ℕ) → Type 0
+AsksForParts words = AsksPart words (λ _ _. ⊤) ⊎ AsksMerge words (λ _ _. ⊤)
 
 -- what is known of the LAS file of some path, of which this holds
 pub record AsksInfo (words : List (List ℕ)) (Fact : List ℕ → Type 0) : Type 0 where
@@ -76,9 +88,9 @@ pub record AsksCheck (words : List (List ℕ)) : Type 0 where
 abbrev pub AsksDataset : List (List ℕ) → Type 0
 AsksDataset words = AsksQuery words ⊎ AsksSelect words ⊎ AsksCheck words
 
--- something whose end has a clause of its own: of a finished dataset, or a part
+-- something whose end has a clause of its own: of a finished dataset, or of parts
 abbrev pub HasOwnEnd : List (List ℕ) → Type 0
-HasOwnEnd words = AsksDataset words ⊎ AsksPart words (λ _ _. ⊤)
+HasOwnEnd words = AsksDataset words ⊎ AsksForParts words
 
 -- a trial of so many points, of which this holds
 pub record AsksTrial (words : List (List ℕ)) (Fact : ℕ → Type 0) : Type 0 where
@@ -88,12 +100,12 @@ pub record AsksTrial (words : List (List ℕ)) (Fact : ℕ → Type 0) : Type 0 
   pub words_are : IsTrial words count workers cache
   pub holds : Fact count
 
--- What the words ask the shelf for, over a store with these files: a build for its configuration, and then for what its build asks for; `info` for its file; all others but a part for nothing.
+-- What the words ask the shelf for, over a store with these files: a build for its configuration, and then for what its build asks for; `info` for its file; all others but a part and a merge for nothing.
 abbrev pub IsAskedFor : List (List ℕ) → Option Files → Files → Option (List (List ℕ)) → Option (List (List ℕ)) → Type 0
 IsAskedFor words shelf start old new =
     AsksBuild words (λ path. AsksForBuild shelf start path old new)
     ⊎ AsksInfo words (λ path. (n : ℕ) × AsksFor (take n (path ∷ [])) old new)
-    ⊎ AsksPart words (λ _ _. ⊤)
+    ⊎ AsksForParts words
     ⊎ (new ≡ old)
 
 -- ---- what is done

@@ -5,3 +5,4 @@ pub mod Answers
 pub mod Queries
 pub mod Checks
 pub mod Parts
+pub mod Merges

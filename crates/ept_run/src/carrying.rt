@@ -12,19 +12,22 @@ ghost use Rattle.ept_save.specs.Opening.{IsBad};
 ghost use Rattle.ept_save.specs.Sound.{IsSound};
 ghost use Rattle.ept_part.specs.Files.{ChangesPart, IsPartSound};
 ghost use Rattle.ept_build.specs.Building.{BeginsWith};
+ghost use Rattle.ept_merge.specs.Merging.{AreSoundParts};
 ghost use Rattle.ept_command.specs.declared.ended.Failure.TheVariants.{Refused};
 ghost use Rattle.ept_command.specs.declared.refusal.Refusal as cause;
 ghost use Rattle.ept_command.specs.declared.refusal.Refusal.TheVariants.{BadCheckpoint};
-ghost use Rattle.ept_command.specs.Words.{bytes_of, IsBuild, IsPart, IsInfo, IsQuery, IsSelect, IsCheck, IsTrial, IsUsage};
+ghost use Rattle.ept_command.specs.Words.{bytes_of, IsBuild, IsPart, IsMerge, IsInfo, IsQuery, IsSelect, IsCheck, IsTrial, IsUsage};
 ghost use Rattle.ept_run.specs.Requests.{IsDoneAt, ComesAt, DiffersAt, ComesToDamageAt, IsConfigured, HasSpilled, IsDefinite};
-ghost use Rattle.ept_run.specs.Answers.{YieldsRefusal, YieldsDifference, YieldsDamage, CanBeDone, EndsWell, SaysOfStore, IsAskedFor, AsksBuild, AsksInfo, AsksPart, AsksQuery, AsksDataset, HasOwnEnd, Ends, IsFaulty, Refuses, IsCut, IsUnwritten, EndsTrial};
+ghost use Rattle.ept_run.specs.Answers.{YieldsRefusal, YieldsDifference, YieldsDamage, CanBeDone, EndsWell, SaysOfStore, IsAskedFor, AsksBuild, AsksInfo, AsksPart, AsksForParts, AsksMerge, AsksQuery, AsksDataset, HasOwnEnd, Ends, IsFaulty, Refuses, IsCut, IsUnwritten, EndsTrial};
 ghost use Rattle.ept_run.specs.Queries.{query_failure, EndsQuery, EndsSelect};
 ghost use Rattle.ept_run.specs.Parts.{EndsPart, FailsAsPart};
+ghost use Rattle.ept_run.specs.Merges.{EndsMerge, FailsAsMerge};
 ghost use Rattle.ept_run.specs.Checks.{EndsCheck, FailsCheck};
 
 use crate::answers::{finish, refuse_usage};
 use crate::checking::answer_check;
 use crate::commands::{build_line, info_line, trial_line};
+use crate::merging::answer_merge;
 use crate::parting::answer_part;
 use crate::querying::{answer_query, answer_select};
 use ept_base::{Gate, Room, Shelf, Sink, Store};
@@ -50,8 +53,9 @@ pub fn carry_out<H: Shelf, T: Store, M: Room, O: Sink, G: Gate + Sync, R: Thread
 where
     H::Source: Send,
     M::File: Send + Sync,
-    // The statuses: 0 done, 2 no command, 3 the configuration, 4 a scan, 5 too many, 6 another configuration, no octants or no
-    // complete dataset, 7 a device, 8 a damaged file or an unfit dataset, 9 memory.
+    // The statuses: 0 done, 2 no command, 3 the configuration, 4 a scan, 5 too many, 6 another configuration, no octants,
+    // parts that are not there or do not belong here, or no complete dataset, 7 a device, 8 a damaged file or an unfit
+    // dataset, 9 memory.
 
     // There is a failure at each status but 0.
     ensures failure { (result.status ≡ 0) ↔ (result.failure ≡ None) }
@@ -122,6 +126,20 @@ where
         → IsSettled (T.files store.old) (T.may_leave store.old) → IsSound all start
         → Moves T.files T.may_leave T.moment T.image_since (λ (a b : Files). IsSound all b) store.old store.new }
 
+    // A merge ends with what the build after it has or a refusal, each with its line, and the failure says which.
+    ensures merge { (path folder parts : List ℕ) → IsMerge (bytes_of words.now) path folder parts
+        → (ends : EndsMerge path parts result.status (H.files shelf.old) (T.files store.old)
+        (BeginsWith M.File.held (H.files shelf.old) (T.files store.old) (T.may_leave store.old)) (T.files store.new)
+        (IsSettled (T.files store.new) (T.may_leave store.new)) (Moves T.files T.may_leave T.moment T.image_since SameFiles store.old store.new)
+        (O.written out.old) (O.written out.new) (Rose (H.faults shelf.old) (H.faults shelf.new))
+        (Rose (T.faults store.old) (T.faults store.new)) (Rose (M.faults room.old) (M.faults room.new))
+        (Rose (O.faults out.old) (O.faults out.new)))
+        × FailsAsMerge ends.outcome result.failure }
+    ensures merge_sound { (path folder parts : List ℕ) → IsMerge (bytes_of words.now) path folder parts
+        → (all start : Files) → BeginsWith M.File.held (H.files shelf.old) (T.files store.old) (T.may_leave store.old) all start
+        → AreSoundParts all start parts
+        → Moves T.files T.may_leave T.moment T.image_since (λ (a b : Files). IsSound all b) store.old store.new }
+
     // A trial ends with the line of what its octree comes to, whatever the files are, or for want of memory.
     ensures trial { (count workers cache : ℕ) → IsTrial (bytes_of words.now) count workers cache
         → EndsTrial count result.status (O.written out.old) (O.written out.new) (Rose (O.faults out.old) (O.faults out.new)) }
@@ -173,13 +191,13 @@ where
     ensures configuration_given { result.status ≡ 3 → H.given shelf.new ≤ H.given shelf.old + (2 ^ 24 + 1) }
 
     // What stays as it was.
-    ensures others_put_nothing { AsksBuild (bytes_of words.now) (λ _. ⊤) ⊎ AsksPart (bytes_of words.now) (λ _ _. ⊤)
+    ensures others_put_nothing { AsksBuild (bytes_of words.now) (λ _. ⊤) ⊎ AsksForParts (bytes_of words.now)
         ⊎ Moves T.files T.may_leave T.moment T.image_since SameFiles store.old store.new }
     ensures same_store { AsksBuild (bytes_of words.now) (λ _. ⊤) ⊎ HasOwnEnd (bytes_of words.now) ⊎ (store.new ≡ store.old) }
     ensures same_shelf { AsksBuild (bytes_of words.now) (λ _. ⊤) ⊎ AsksInfo (bytes_of words.now) (λ _. ⊤)
-        ⊎ AsksPart (bytes_of words.now) (λ _ _. ⊤) ⊎ (shelf.new ≡ shelf.old) }
+        ⊎ AsksForParts (bytes_of words.now) ⊎ (shelf.new ≡ shelf.old) }
     ensures files { H.files shelf.new ≡ H.files shelf.old }
-    ensures same_room { AsksBuild (bytes_of words.now) (λ _. ⊤) ⊎ (room.new ≡ room.old) }
+    ensures same_room { AsksBuild (bytes_of words.now) (λ _. ⊤) ⊎ AsksMerge (bytes_of words.now) (λ _ _. ⊤) ⊎ (room.new ≡ room.old) }
 {
     match command_of(words) {
         Command::Build { config, .. } => {
@@ -212,6 +230,20 @@ where
         } => {
             class_set_law();
             answer_part(alloc, config, octants, shelf, store, out)
+        }
+        Command::Merge { config, parts, .. } => {
+            class_set_law();
+            answer_merge(
+                rt,
+                alloc,
+                config,
+                parts.as_slice(),
+                shelf,
+                store,
+                room,
+                out,
+                gate,
+            )
         }
         Command::Trial {
             points,

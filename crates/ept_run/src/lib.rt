@@ -10,6 +10,7 @@ mod checking;
 mod commands;
 mod files;
 mod lines;
+mod merging;
 mod parting;
 mod querying;
 mod refusal;

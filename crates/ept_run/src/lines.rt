@@ -5,15 +5,17 @@ ghost use Rattle.std.specs.Fmt.{decimal};
 ghost use Rattle.ept_las.specs.LasHeader as las;
 ghost use Rattle.ept_space.specs.KeyText as space;
 ghost use Rattle.ept_run.specs.Lines.{summary_text, fit_text, unfit_text, header_text, trial_text, key_text, config_text, las_text, number_text, record_text, name_of, letter_text, refusal_text, line_of};
+ghost use Rattle.ept_run.specs.Merges.{octants_text, part_text};
 
 use ept_build::Summary;
 use ept_check::Fault;
 use ept_ckpt::Letter;
 use ept_command::Refusal;
 use ept_config_text::ConfigError;
+use ept_grid::OCTANTS;
 use ept_las::{Header, LasError};
 use ept_meta::Field;
-use ept_part::PartDone;
+use ept_part::{PartDone, has_octant};
 use ept_point::PointNumber;
 use ept_space::{Key, key_text};
 use ept_trial::Trial;
@@ -29,8 +31,11 @@ pub(crate) const MEMORY_LINE: &[u8] = b"error 9 memory\n";
 /// The line of a check of a folder without a complete dataset. It takes no memory.
 pub(crate) const NOT_COMPLETE_LINE: &[u8] = b"error 6 complete\n";
 
-/// The line of a part of an octree whose root has no octants. It takes no memory.
+/// The line of a part of an octree, or of a merge, whose root has no octants. It takes no memory.
 pub(crate) const SHALLOW_LINE: &[u8] = b"error 6 shallow\n";
+
+/// The line of a merge into a folder that has a checkpoint. It takes no memory.
+pub(crate) const HAS_CHECKPOINT_LINE: &[u8] = b"error 6 checkpoint\n";
 
 /// The line of a check whose store failed. It takes no memory.
 pub(crate) const STORE_LINE: &[u8] = b"error 7 store\n";
@@ -254,6 +259,32 @@ fn append_tile(line: &mut Vec<u8>, word: &[u8], key: &Key) -> Result<(), AllocEr
     let mut text = [0; 40];
     let length = key_text(key, &mut text);
     append_word(line, word, &text[..length])
+}
+
+/// A word, and behind it the octants of a part.
+#[tactic(auto, unfolding(crate::specs::Merges::part_text))]
+pub(crate) fn octants_line(alloc: Global, word: &[u8], octants: u8) -> Result<Vec<u8>, AllocError>
+    ensures { IfOk result (λ line. line.items ≡ part_text word.now octants) }
+{
+    let mut line = Vec::new(alloc);
+    line.extend_from_slice(word)?;
+    append_octants(&mut line, octants)?;
+    line.extend_from_slice(b"\n")?;
+    Ok(line)
+}
+
+// Octants as words list them.
+fn append_octants(line: &mut Vec<u8>, octants: u8) -> Result<(), AllocError>
+    ensures { OnOk result (line.new.items ≡ line.old.items ++ octants_text octants) }
+{
+    let mut separator: &[u8] = b"";
+    for octant in 0..OCTANTS {
+        if has_octant(octants, octant) {
+            append_number(line, separator, u64::from(octant))?;
+            separator = b",";
+        }
+    }
+    Ok(())
 }
 
 // The name of a field in the build file.

@@ -109,8 +109,8 @@ fn report_made<O: Sink>(alloc: Global, out: &mut O, done: &PartDone) -> Ended
     }
 }
 
-// Writes the line of a part of a root without octants. It takes no memory.
-fn refuse_shallow<O: Sink>(out: &mut O) -> Ended
+/// Writes the line of a part, or a merge, of a root without octants. It takes no memory.
+pub(crate) fn refuse_shallow<O: Sink>(out: &mut O) -> Ended
     ensures { IsPartReported (Err Shallow) result.status result.failure (O.written out.old) (O.written out.new) (Rose (O.faults out.old) (O.faults out.new)) }
 {
     write_line(out, SHALLOW_LINE);

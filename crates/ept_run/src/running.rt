@@ -12,13 +12,15 @@ ghost use Rattle.ept_save.specs.Opening.{IsBad};
 ghost use Rattle.ept_save.specs.Sound.{IsSound};
 ghost use Rattle.ept_part.specs.Files.{ChangesPart, IsPartSound};
 ghost use Rattle.ept_build.specs.Building.{BeginsWith};
+ghost use Rattle.ept_merge.specs.Merging.{AreSoundParts};
 ghost use Rattle.ept_command.specs.declared.refusal.Refusal as cause;
 ghost use Rattle.ept_command.specs.declared.refusal.Refusal.TheVariants.{BadCheckpoint};
-ghost use Rattle.ept_command.specs.Words.{bytes_of, IsBuild, IsPart, IsInfo, IsQuery, IsSelect, IsCheck, IsTrial, IsUsage};
+ghost use Rattle.ept_command.specs.Words.{bytes_of, IsBuild, IsPart, IsMerge, IsInfo, IsQuery, IsSelect, IsCheck, IsTrial, IsUsage};
 ghost use Rattle.ept_run.specs.Requests.{IsDoneAt, ComesAt, DiffersAt, ComesToDamageAt, IsConfigured, HasSpilled, IsDefinite};
-ghost use Rattle.ept_run.specs.Answers.{YieldsRefusal, YieldsDifference, YieldsDamage, CanBeDone, EndsWell, SaysOfStore, IsAskedFor, AsksBuild, AsksInfo, AsksPart, AsksQuery, AsksDataset, HasOwnEnd, Ends, IsFaulty, Refuses, IsCut, EndsTrial};
+ghost use Rattle.ept_run.specs.Answers.{YieldsRefusal, YieldsDifference, YieldsDamage, CanBeDone, EndsWell, SaysOfStore, IsAskedFor, AsksBuild, AsksInfo, AsksPart, AsksForParts, AsksMerge, AsksQuery, AsksDataset, HasOwnEnd, Ends, IsFaulty, Refuses, IsCut, EndsTrial};
 ghost use Rattle.ept_run.specs.Queries.{EndsQuery, EndsSelect};
 ghost use Rattle.ept_run.specs.Parts.{EndsPart};
+ghost use Rattle.ept_run.specs.Merges.{EndsMerge};
 ghost use Rattle.ept_run.specs.Checks.{EndsCheck};
 
 use crate::carrying::carry_out;
@@ -34,13 +36,13 @@ use std::thread::Threads;
 /// octree of their points into the store, and writes how many points and nodes it has to the sink. Nodes past those
 /// that the configuration lets be in memory at a time are in spill files of the room meanwhile. `part CONFIG OUT OCTANTS`
 /// puts one part of that octree, of some octants of the root, into a folder of its own in the store, and writes how many
-/// points and nodes the part has. `info LAS`
-/// reads the header of a LAS file from the shelf and writes what it says to the sink. `query OUT BOX DEPTHS`
-/// writes the packed points of a box and of some depths of the dataset in the store to the sink. `select OUT BOX DEPTHS
-/// CLASSES TIME DIMS` writes of these points those of some classes and of some GPS time, and of each the dimensions that
-/// are asked for. `check OUT` writes whether the dataset in the store is the sampling of its own points. `trial N WORKERS
-/// CACHE` builds the octree of generated scans of N points in memory, and writes what it comes to to the sink. A
-/// refusal is one line on the sink, except that of a query or a selection, and out of memory of a check, which write none.
+/// points and nodes the part has. `merge CONFIG OUT OCTANTS ..` makes a checkpoint of such parts, which have each octant
+/// once, and then does what `build CONFIG OUT` does. `info LAS` reads the header of a LAS file from the shelf and writes
+/// what it says to the sink. `query OUT BOX DEPTHS` writes the packed points of a box and of some depths of the dataset in
+/// the store to the sink. `select OUT BOX DEPTHS CLASSES TIME DIMS` writes of these points those of some classes and of
+/// some GPS time, and of each the dimensions that are asked for. `check OUT` writes whether the dataset in the store is the
+/// sampling of its own points. `trial N WORKERS CACHE` builds the octree of generated scans of N points in memory, and
+/// writes what it comes to to the sink. A refusal is one line on the sink, except that of a query or a selection, and out of memory of a check, which write none.
 pub fn run<H: Shelf, T: Store, M: Room, O: Sink, G: Gate + Sync, R: Threads + Wait + Sync>(
     rt: &R,
     alloc: Global,
@@ -54,8 +56,9 @@ pub fn run<H: Shelf, T: Store, M: Room, O: Sink, G: Gate + Sync, R: Threads + Wa
 where
     H::Source: Send,
     M::File: Send + Sync,
-    // The statuses: 0 done, 2 no command, 3 the configuration, 4 a scan, 5 too many, 6 another configuration, no octants or no
-    // complete dataset, 7 a device, 8 a damaged file or an unfit dataset, 9 memory.
+    // The statuses: 0 done, 2 no command, 3 the configuration, 4 a scan, 5 too many, 6 another configuration, no octants,
+    // parts that are not there or do not belong here, or no complete dataset, 7 a device, 8 a damaged file or an unfit
+    // dataset, 9 memory.
 
     // Words that are no command, and nothing else, are faulty.
     ensures usage { (result ≡ 2) ↔ IsUsage (bytes_of words.now) }
@@ -119,6 +122,19 @@ where
         → IsSettled (T.files store.old) (T.may_leave store.old) → IsSound all start
         → Moves T.files T.may_leave T.moment T.image_since (λ (a b : Files). IsSound all b) store.old store.new }
 
+    // A merge ends with what the build after it has or a refusal, each with its line.
+    ensures merge { (path folder parts : List ℕ) → IsMerge (bytes_of words.now) path folder parts
+        → EndsMerge path parts result (H.files shelf.old) (T.files store.old)
+        (BeginsWith M.File.held (H.files shelf.old) (T.files store.old) (T.may_leave store.old)) (T.files store.new)
+        (IsSettled (T.files store.new) (T.may_leave store.new)) (Moves T.files T.may_leave T.moment T.image_since SameFiles store.old store.new)
+        (O.written out.old) (O.written out.new) (Rose (H.faults shelf.old) (H.faults shelf.new))
+        (Rose (T.faults store.old) (T.faults store.new)) (Rose (M.faults room.old) (M.faults room.new))
+        (Rose (O.faults out.old) (O.faults out.new)) }
+    ensures merge_sound { (path folder parts : List ℕ) → IsMerge (bytes_of words.now) path folder parts
+        → (all start : Files) → BeginsWith M.File.held (H.files shelf.old) (T.files store.old) (T.may_leave store.old) all start
+        → AreSoundParts all start parts
+        → Moves T.files T.may_leave T.moment T.image_since (λ (a b : Files). IsSound all b) store.old store.new }
+
     // A trial ends with the line of what its octree comes to, whatever the files are, or for want of memory.
     ensures trial { (count workers cache : ℕ) → IsTrial (bytes_of words.now) count workers cache
         → EndsTrial count result (O.written out.old) (O.written out.new) (Rose (O.faults out.old) (O.faults out.new)) }
@@ -167,13 +183,13 @@ where
     ensures configuration_given { result ≡ 3 → H.given shelf.new ≤ H.given shelf.old + (2 ^ 24 + 1) }
 
     // What stays as it was.
-    ensures others_put_nothing { AsksBuild (bytes_of words.now) (λ _. ⊤) ⊎ AsksPart (bytes_of words.now) (λ _ _. ⊤)
+    ensures others_put_nothing { AsksBuild (bytes_of words.now) (λ _. ⊤) ⊎ AsksForParts (bytes_of words.now)
         ⊎ Moves T.files T.may_leave T.moment T.image_since SameFiles store.old store.new }
     ensures same_store { AsksBuild (bytes_of words.now) (λ _. ⊤) ⊎ HasOwnEnd (bytes_of words.now) ⊎ (store.new ≡ store.old) }
     ensures same_shelf { AsksBuild (bytes_of words.now) (λ _. ⊤) ⊎ AsksInfo (bytes_of words.now) (λ _. ⊤)
-        ⊎ AsksPart (bytes_of words.now) (λ _ _. ⊤) ⊎ (shelf.new ≡ shelf.old) }
+        ⊎ AsksForParts (bytes_of words.now) ⊎ (shelf.new ≡ shelf.old) }
     ensures files { H.files shelf.new ≡ H.files shelf.old }
-    ensures same_room { AsksBuild (bytes_of words.now) (λ _. ⊤) ⊎ (room.new ≡ room.old) }
+    ensures same_room { AsksBuild (bytes_of words.now) (λ _. ⊤) ⊎ AsksMerge (bytes_of words.now) (λ _ _. ⊤) ⊎ (room.new ≡ room.old) }
 {
     carry_out(rt, alloc, words, shelf, store, room, out, gate).status
 }

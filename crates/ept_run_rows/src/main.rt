@@ -1,4 +1,4 @@
-//! Rows of builds, parts, queries, selections, checks and trials over devices in memory: each line of the input makes a file, lets a call fail,
+//! Rows of builds, parts, merges, queries, selections, checks and trials over devices in memory: each line of the input makes a file, lets a call fail,
 //! runs the words of a command line or looks at what a run left, and the program prints the answer.
 #![tactic(auto)]
 
@@ -76,7 +76,7 @@ fn answer<R: Threads + Wait + Sync>(
             done(out)
         }
         "run" | "query" | "select" | "meet" => runs::answer(rt, bench, call, rest, out),
-        "stops" | "fails" | "spoils" => stops::answer(rt, bench, call, rest, out),
+        "stops" | "halts" | "fails" | "spoils" => stops::answer(rt, bench, call, rest, out),
         "say" | "starve" | "differ" | "differ-hex" => sentences::answer(bench, call, rest, out),
         _ => looks::answer(bench, call, rest, out),
     }

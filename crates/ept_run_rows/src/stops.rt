@@ -1,4 +1,5 @@
-//! Lines that stop a build at each call of a device in turn, or spoil a file that it left, and run it again.
+//! Lines that stop a build, a part or a merge at each call of a device in turn, or spoil a file that a build left, and run
+//! it again.
 
 use crate::bench::Bench;
 use crate::looks::{current, is_as_before, is_same, is_same_output};
@@ -33,6 +34,11 @@ pub(crate) fn answer<R: Threads + Wait + Sync>(
         "fails" => {
             let (calls, line) = range(others)?;
             fails(rt, bench, first, calls, line, out)
+        }
+        "halts" => {
+            let (calls, rest) = range(rest)?;
+            let (words, line) = first_word(rest);
+            halts(rt, bench, calls, words, line, out)
         }
         "spoils" => spoils(rt, bench, first, others, out),
         _ => Err(Miss::Form),
@@ -104,6 +110,73 @@ fn append_checkpoints(seen: &mut Vec<Checkpoint>, out: &mut String) -> Result<()
         write!(out, " {points}/{generation}")?;
     }
     Ok(())
+}
+
+// `halts FIRST LAST WORDS LINE`: stops these words after FIRST, .. calls of the store, up to the first that are carried out
+// all the same, or to LAST, and lets what was not yet flushed be as it was, as it was put, absent or junk. Each time they
+// are run again, or the build if the folder has a checkpoint by then: that ends with this line, and the files are those
+// that are kept. Writes whether it was the build, some time.
+fn halts<R: Threads + Wait + Sync>(
+    rt: &R,
+    bench: &mut Bench,
+    (first, last): (u64, u64),
+    words: &str,
+    line: &str,
+    out: &mut String,
+) -> Result<(), Miss> {
+    let mut is_built = false;
+    for calls in first..last {
+        let mut is_done = false;
+        for how in [Crash::Old, Crash::New, Crash::Absent, Crash::Junk] {
+            is_done = is_halted(rt, bench, calls, words, how)?;
+            if !comes_again(rt, bench, words, line, &mut is_built)? {
+                write!(out, "stopped after {calls}: ")?;
+                return append_end(bench, out);
+            }
+        }
+        if is_done {
+            break;
+        }
+    }
+    out.push_str(if is_built {
+        "each goes on, some by a build"
+    } else {
+        "each goes on"
+    })?;
+    Ok(())
+}
+
+// Runs the words over a new store that fails after so many calls, and then crashes. Whether they were carried out.
+fn is_halted<R: Threads + Wait + Sync>(
+    rt: &R,
+    bench: &mut Bench,
+    calls: u64,
+    words: &str,
+    how: Crash,
+) -> Result<bool, Miss> {
+    renew(bench)?;
+    fuse(bench, calls)?;
+    bench.carry_out(rt, words)?;
+    let is_done = bench.left.status == 0;
+    crash(bench, how)?;
+    Ok(is_done)
+}
+
+// Runs the words again, or the build if they are refused for a checkpoint, which is noted: whether that ends with this
+// line, and the files are those that are kept.
+fn comes_again<R: Threads + Wait + Sync>(
+    rt: &R,
+    bench: &mut Bench,
+    words: &str,
+    line: &str,
+    is_built: &mut bool,
+) -> Result<bool, Miss> {
+    bench.carry_out(rt, words)?;
+    if written(bench) == "error 6 checkpoint" {
+        *is_built = true;
+        return goes_on(rt, bench, line);
+    }
+    Ok(bench.left.status == 0 && written(bench) == line && is_same(bench))
 }
 
 // `fails DEVICE FIRST LAST LINE`: lets the calls FIRST, .. of a device fail in a build, one in each build, up to the first

@@ -47,11 +47,12 @@ fn exists(disk: &HostRuntime, path: &str) -> bool {
     }
 }
 
-/// The folder of a build, a part, a query, a selection or a check, as it is named; empty for other words.
+/// The folder of a build, a part, a merge, a query, a selection or a check, as it is named; empty for other words.
 pub(crate) fn folder_of(words: &[String]) -> &str {
     match command_of(words) {
         Command::Build { out, .. }
         | Command::Part { out, .. }
+        | Command::Merge { out, .. }
         | Command::Query { out, .. }
         | Command::Select { out, .. }
         | Command::Check { out } => out,

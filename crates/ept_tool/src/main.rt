@@ -1,4 +1,4 @@
-//! `ept_tool` builds an Entwine Point Tile folder from LAS files, or a part of it, answers the points of a box of one or
+//! `ept_tool` builds an Entwine Point Tile folder from LAS files, or a part of it, or from such parts, answers the points of a box of one or
 //! what a selection keeps of them, checks whether one is the sampling of its own points, and tells what the header of a LAS
 //! file says, and what an octree of generated scans comes to.
 #![tactic(auto)]
@@ -115,8 +115,8 @@ where
     start_in(rt, disk, words, shelf, &mut store, out)
 }
 
-// Runs the words over this store. The spill files of a build lie in a folder of its folder, and count as no progress;
-// other words make none.
+// Runs the words over this store. The spill files of a build, and of the build after a merge, lie in a folder of its
+// folder, and count as no progress; other words make none.
 fn start_in<H: Shelf, T: Store, O: Sink, R: Threads + Wait + Sync>(
     rt: &R,
     disk: &HostRuntime,
@@ -129,7 +129,9 @@ where
     H::Source: Send,
 {
     let alloc = disk.alloc();
-    let Command::Build { out: folder, .. } = command_of(words) else {
+    let (Command::Build { out: folder, .. } | Command::Merge { out: folder, .. }) = command_of(
+        words,
+    ) else {
         let mut room = MemRoom::new(alloc, Vec::new(alloc), Vec::new(alloc));
         return run_with(rt, alloc, words, shelf, store, &mut room, out);
     };
@@ -139,7 +141,7 @@ where
     }
 }
 
-// Runs the words of a build over this store, with its spill files in this folder.
+// Runs the words of a build, or of a merge, over this store, with its spill files in this folder.
 fn start_build<H: Shelf, T: Store, O: Sink, R: Threads + Wait + Sync>(
     rt: &R,
     disk: &HostRuntime,

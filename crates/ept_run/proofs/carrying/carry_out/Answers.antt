@@ -16,11 +16,14 @@ use Rattle.ept_run.proofs.Tried.{trial_or_build, trial_or_info, trial_or_query, 
 use Rattle.ept_run.proofs.Selected.{select_ends}
 use Rattle.ept_run.proofs.Checked.{check_not_usage, check_rose}
 use Rattle.ept_part.specs.Files.{ChangesPart, IsPartSound}
-use Rattle.ept_command.specs.Words.{IsPart}
+use Rattle.ept_merge.specs.Merging.{AreAllParts, AreSoundParts}
+use Rattle.ept_command.specs.Words.{IsPart, IsMerge}
 use Rattle.ept_command.proofs.OctantTexts.{part_once}
+use Rattle.ept_command.proofs.PartTexts.{merge_once}
+use Rattle.ept_run.proofs.Merged.{merge_same}
 use Rattle.ept_run.proofs.Parted.{ends_same, part_comes}
-use Rattle.ept_run.proofs.Apart.{part_or_build, part_or_info, part_or_query, part_or_select, part_or_check, part_or_trial, part_asked, part_unrefused, select_or_build, select_or_info, select_or_query, select_or_trial, select_asked, select_unrefused, check_or_build, check_or_info, check_or_query, check_or_select, check_or_trial, check_asked, check_unrefused}
-use Rattle.ept_run.proofs.Coming.{build_can, part_can, info_can, query_can, check_can, trial_can, nothing_can}
+use Rattle.ept_run.proofs.Apart.{merge_or_build, merge_or_part, merge_or_info, merge_or_query, merge_or_select, merge_or_check, merge_or_trial, merge_asked, merge_unrefused, part_or_build, part_or_info, part_or_query, part_or_select, part_or_check, part_or_trial, part_asked, part_unrefused, select_or_build, select_or_info, select_or_query, select_or_trial, select_asked, select_unrefused, check_or_build, check_or_info, check_or_query, check_or_select, check_or_trial, check_asked, check_unrefused}
+use Rattle.ept_run.proofs.Coming.{merge_cannot, build_can, part_can, info_can, query_can, check_can, trial_can, nothing_can}
 use Rattle.ept_run.proofs.carrying.carry_out.Given as given
 use Rattle.ept_run.proofs.carrying.carry_out.Goals as goal
 
@@ -453,16 +456,16 @@ pub returns-in-Build-clause-same_room : goal.returns-in-Build-clause-same_room
 returns-in-Build-clause-same_room g c = inl (record { path = c.in-Build.config.now; out = c.in-Build.out.now; words_are = c.in-Build.ensures; holds = tt })
 
 pub returns-in-Info-clause-same_room : goal.returns-in-Info-clause-same_room
-returns-in-Info-clause-same_room g c = inr refl
+returns-in-Info-clause-same_room g c = inr (inr refl)
 
 pub returns-in-Query-clause-same_room : goal.returns-in-Query-clause-same_room
-returns-in-Query-clause-same_room g c = inr refl
+returns-in-Query-clause-same_room g c = inr (inr refl)
 
 pub returns-in-Trial-clause-same_room : goal.returns-in-Trial-clause-same_room
-returns-in-Trial-clause-same_room g c = inr refl
+returns-in-Trial-clause-same_room g c = inr (inr refl)
 
 pub returns-in-Usage-clause-same_room : goal.returns-in-Usage-clause-same_room
-returns-in-Usage-clause-same_room g c = inr refl
+returns-in-Usage-clause-same_room g c = inr (inr refl)
 
 -- ---- select
 
@@ -522,7 +525,7 @@ pub returns-in-Select-clause-same_shelf : goal.returns-in-Select-clause-same_she
 returns-in-Select-clause-same_shelf g c = inr (inr (inr refl))
 
 pub returns-in-Select-clause-same_room : goal.returns-in-Select-clause-same_room
-returns-in-Select-clause-same_room g c = inr refl
+returns-in-Select-clause-same_room g c = inr (inr refl)
 
 pub returns-in-Select-clause-failure : goal.returns-in-Select-clause-failure
 returns-in-Select-clause-failure g c = query_no_failure c.answer_select.ensures.ends.0.answer c.answer_select.result.status c.answer_select.result.failure c.answer_select.ensures.ends.0.status_is c.answer_select.ensures.ends.1
@@ -606,7 +609,7 @@ pub returns-in-Check-clause-same_shelf : goal.returns-in-Check-clause-same_shelf
 returns-in-Check-clause-same_shelf g c = inr (inr (inr refl))
 
 pub returns-in-Check-clause-same_room : goal.returns-in-Check-clause-same_room
-returns-in-Check-clause-same_room g c = inr refl
+returns-in-Check-clause-same_room g c = inr (inr refl)
 
 pub returns-in-Check-clause-failure : goal.returns-in-Check-clause-failure
 returns-in-Check-clause-failure g c = c.answer_check.ensures.failure
@@ -667,7 +670,7 @@ returns-in-Usage-clause-check g c = λ folder is. absurd (c.in-Usage.ensures.not
 -- ---- part
 
 pub returns-in-Part-clause-done : goal.returns-in-Part-clause-done
-returns-in-Part-clause-done g c = λ ok. inr (inr (part_asked (map string_bytes c.args.words.now) c.in-Part.config.now c.in-Part.out.now c.in-Part.octants c.in-Part.ensures))
+returns-in-Part-clause-done g c = λ ok. inr (inr (inl (part_asked (map string_bytes c.args.words.now) c.in-Part.config.now c.in-Part.out.now c.in-Part.octants c.in-Part.ensures)))
 
 pub returns-in-Part-clause-settled : goal.returns-in-Part-clause-settled
 returns-in-Part-clause-settled g c = λ config folder is ok. absurd (part_or_build (map string_bytes c.args.words.now) c.in-Part.config.now c.in-Part.out.now c.in-Part.octants c.in-Part.ensures config folder is)
@@ -679,7 +682,7 @@ pub returns-in-Part-clause-done_already : goal.returns-in-Part-clause-done_alrea
 returns-in-Part-clause-done_already g c = λ all start begins asks. absurd (part_or_build (map string_bytes c.args.words.now) c.in-Part.config.now c.in-Part.out.now c.in-Part.octants c.in-Part.ensures asks.path asks.out asks.words_are)
 
 pub returns-in-Part-clause-others_put_nothing : goal.returns-in-Part-clause-others_put_nothing
-returns-in-Part-clause-others_put_nothing g c = inr (inl (part_asked (map string_bytes c.args.words.now) c.in-Part.config.now c.in-Part.out.now c.in-Part.octants c.in-Part.ensures))
+returns-in-Part-clause-others_put_nothing g c = inr (inl (inl (part_asked (map string_bytes c.args.words.now) c.in-Part.config.now c.in-Part.out.now c.in-Part.octants c.in-Part.ensures)))
 
 pub returns-in-Part-clause-sound : goal.returns-in-Part-clause-sound
 returns-in-Part-clause-sound g c = λ config folder is. absurd (part_or_build (map string_bytes c.args.words.now) c.in-Part.config.now c.in-Part.out.now c.in-Part.octants c.in-Part.ensures config folder is)
@@ -700,7 +703,7 @@ pub returns-in-Part-clause-trial : goal.returns-in-Part-clause-trial
 returns-in-Part-clause-trial g c = λ count workers cache is. absurd (part_or_trial (map string_bytes c.args.words.now) c.in-Part.config.now c.in-Part.out.now c.in-Part.octants c.in-Part.ensures count workers cache is)
 
 pub returns-in-Part-clause-refused : goal.returns-in-Part-clause-refused
-returns-in-Part-clause-refused g c = λ not_ok. inr (inr (inr (part_asked (map string_bytes c.args.words.now) c.in-Part.config.now c.in-Part.out.now c.in-Part.octants c.in-Part.ensures)))
+returns-in-Part-clause-refused g c = λ not_ok. inr (inr (inr (inl (part_asked (map string_bytes c.args.words.now) c.in-Part.config.now c.in-Part.out.now c.in-Part.octants c.in-Part.ensures))))
 
 pub returns-in-Part-clause-refusal_comes : goal.returns-in-Part-clause-refusal_comes
 returns-in-Part-clause-refusal_comes g c =
@@ -719,7 +722,7 @@ pub returns-in-Part-clause-bad_comes : goal.returns-in-Part-clause-bad_comes
 returns-in-Part-clause-bad_comes g c = λ all start letter told stored bad asks. absurd (part_or_build (map string_bytes c.args.words.now) c.in-Part.config.now c.in-Part.out.now c.in-Part.octants c.in-Part.ensures asks.path asks.out asks.words_are)
 
 pub returns-in-Part-clause-asked : goal.returns-in-Part-clause-asked
-returns-in-Part-clause-asked g c = λ start told. inr (inr (inl (part_asked (map string_bytes c.args.words.now) c.in-Part.config.now c.in-Part.out.now c.in-Part.octants c.in-Part.ensures)))
+returns-in-Part-clause-asked g c = λ start told. inr (inr (inl (inl (part_asked (map string_bytes c.args.words.now) c.in-Part.config.now c.in-Part.out.now c.in-Part.octants c.in-Part.ensures))))
 
 pub returns-in-Part-clause-header_given : goal.returns-in-Part-clause-header_given
 returns-in-Part-clause-header_given g c = λ las is. absurd (part_or_info (map string_bytes c.args.words.now) c.in-Part.config.now c.in-Part.out.now c.in-Part.octants c.in-Part.ensures las is)
@@ -728,13 +731,13 @@ pub returns-in-Part-clause-configuration_given : goal.returns-in-Part-clause-con
 returns-in-Part-clause-configuration_given g c = c.answer_part.ensures.given
 
 pub returns-in-Part-clause-same_store : goal.returns-in-Part-clause-same_store
-returns-in-Part-clause-same_store g c = inr (inl (inr (part_asked (map string_bytes c.args.words.now) c.in-Part.config.now c.in-Part.out.now c.in-Part.octants c.in-Part.ensures)))
+returns-in-Part-clause-same_store g c = inr (inl (inr (inl (part_asked (map string_bytes c.args.words.now) c.in-Part.config.now c.in-Part.out.now c.in-Part.octants c.in-Part.ensures))))
 
 pub returns-in-Part-clause-same_shelf : goal.returns-in-Part-clause-same_shelf
-returns-in-Part-clause-same_shelf g c = inr (inr (inl (part_asked (map string_bytes c.args.words.now) c.in-Part.config.now c.in-Part.out.now c.in-Part.octants c.in-Part.ensures)))
+returns-in-Part-clause-same_shelf g c = inr (inr (inl (inl (part_asked (map string_bytes c.args.words.now) c.in-Part.config.now c.in-Part.out.now c.in-Part.octants c.in-Part.ensures))))
 
 pub returns-in-Part-clause-same_room : goal.returns-in-Part-clause-same_room
-returns-in-Part-clause-same_room g c = inr refl
+returns-in-Part-clause-same_room g c = inr (inr refl)
 
 pub returns-in-Part-clause-failure : goal.returns-in-Part-clause-failure
 returns-in-Part-clause-failure g c = c.answer_part.ensures.failure
@@ -860,3 +863,171 @@ returns-in-Usage-clause-part_own g c = λ path folder octants is all start told 
 
 pub returns-in-Usage-clause-part_sound : goal.returns-in-Usage-clause-part_sound
 returns-in-Usage-clause-part_sound g c = λ asks all start stored settled sound. absurd (c.in-Usage.ensures.not_part asks.path asks.out asks.octants asks.words_are)
+
+-- ---- merge
+
+merge_is : (g : given.Over) (c : goal.After-answer_merge g) → IsMerge (map string_bytes c.args.words.now) c.in-Merge.config.now c.in-Merge.out.now c.as_slice.result.now
+merge_is g c = subst (λ (p : List ℕ). IsMerge (map string_bytes c.args.words.now) c.in-Merge.config.now c.in-Merge.out.now p) (sym c.as_slice.ensures) c.in-Merge.ensures
+
+merge_asked_once : (g : given.Over) (c : goal.After-answer_merge g) (path folder parts : List ℕ) → IsMerge (map string_bytes c.args.words.now) path folder parts → (c.in-Merge.config.now ≡ path) × (c.as_slice.result.now ≡ parts)
+merge_asked_once g c path folder parts is = merge_once c.class_set_law-in-Merge.ensures.once (map string_bytes c.args.words.now) c.in-Merge.config.now c.in-Merge.out.now path folder c.as_slice.result.now parts (merge_is g c) is
+
+pub returns-in-Merge-clause-done : goal.returns-in-Merge-clause-done
+returns-in-Merge-clause-done g c = λ ok. inr (inr (inr (merge_asked (map string_bytes c.args.words.now) c.in-Merge.config.now c.in-Merge.out.now c.as_slice.result.now (merge_is g c))))
+
+pub returns-in-Merge-clause-settled : goal.returns-in-Merge-clause-settled
+returns-in-Merge-clause-settled g c = λ config folder is ok. absurd (merge_or_build (map string_bytes c.args.words.now) c.in-Merge.config.now c.in-Merge.out.now c.as_slice.result.now (merge_is g c) config folder is)
+
+pub returns-in-Merge-clause-kept : goal.returns-in-Merge-clause-kept
+returns-in-Merge-clause-kept g c = λ config folder is ok all start begins. absurd (merge_or_build (map string_bytes c.args.words.now) c.in-Merge.config.now c.in-Merge.out.now c.as_slice.result.now (merge_is g c) config folder is)
+
+pub returns-in-Merge-clause-done_already : goal.returns-in-Merge-clause-done_already
+returns-in-Merge-clause-done_already g c = λ all start begins asks. absurd (merge_or_build (map string_bytes c.args.words.now) c.in-Merge.config.now c.in-Merge.out.now c.as_slice.result.now (merge_is g c) asks.path asks.out asks.words_are)
+
+pub returns-in-Merge-clause-others_put_nothing : goal.returns-in-Merge-clause-others_put_nothing
+returns-in-Merge-clause-others_put_nothing g c = inr (inl (inr (merge_asked (map string_bytes c.args.words.now) c.in-Merge.config.now c.in-Merge.out.now c.as_slice.result.now (merge_is g c))))
+
+pub returns-in-Merge-clause-sound : goal.returns-in-Merge-clause-sound
+returns-in-Merge-clause-sound g c = λ config folder is. absurd (merge_or_build (map string_bytes c.args.words.now) c.in-Merge.config.now c.in-Merge.out.now c.as_slice.result.now (merge_is g c) config folder is)
+
+pub returns-in-Merge-clause-query : goal.returns-in-Merge-clause-query
+returns-in-Merge-clause-query g c = λ folder area first last is. absurd (merge_or_query (map string_bytes c.args.words.now) c.in-Merge.config.now c.in-Merge.out.now c.as_slice.result.now (merge_is g c) folder area first last is)
+
+pub returns-in-Merge-clause-query_puts_nothing : goal.returns-in-Merge-clause-query_puts_nothing
+returns-in-Merge-clause-query_puts_nothing g c = λ asks. absurd (merge_or_query (map string_bytes c.args.words.now) c.in-Merge.config.now c.in-Merge.out.now c.as_slice.result.now (merge_is g c) asks.folder asks.area asks.first asks.last asks.words_are)
+
+pub returns-in-Merge-clause-select : goal.returns-in-Merge-clause-select
+returns-in-Merge-clause-select g c = λ folder area first last sift is. absurd (merge_or_select (map string_bytes c.args.words.now) c.in-Merge.config.now c.in-Merge.out.now c.as_slice.result.now (merge_is g c) folder area first last sift is)
+
+pub returns-in-Merge-clause-check : goal.returns-in-Merge-clause-check
+returns-in-Merge-clause-check g c = λ folder is. absurd (merge_or_check (map string_bytes c.args.words.now) c.in-Merge.config.now c.in-Merge.out.now c.as_slice.result.now (merge_is g c) folder is)
+
+pub returns-in-Merge-clause-part : goal.returns-in-Merge-clause-part
+returns-in-Merge-clause-part g c = λ path folder octants is. absurd (merge_or_part (map string_bytes c.args.words.now) c.in-Merge.config.now c.in-Merge.out.now c.as_slice.result.now (merge_is g c) path folder octants is)
+
+pub returns-in-Merge-clause-part_folder : goal.returns-in-Merge-clause-part_folder
+returns-in-Merge-clause-part_folder g c = λ path folder octants is. absurd (merge_or_part (map string_bytes c.args.words.now) c.in-Merge.config.now c.in-Merge.out.now c.as_slice.result.now (merge_is g c) path folder octants is)
+
+pub returns-in-Merge-clause-part_own : goal.returns-in-Merge-clause-part_own
+returns-in-Merge-clause-part_own g c = λ path folder octants is all start told stored settled sound. absurd (merge_or_part (map string_bytes c.args.words.now) c.in-Merge.config.now c.in-Merge.out.now c.as_slice.result.now (merge_is g c) path folder octants is)
+
+pub returns-in-Merge-clause-part_sound : goal.returns-in-Merge-clause-part_sound
+returns-in-Merge-clause-part_sound g c = λ asks all start stored settled sound. absurd (merge_or_part (map string_bytes c.args.words.now) c.in-Merge.config.now c.in-Merge.out.now c.as_slice.result.now (merge_is g c) asks.path asks.out asks.octants asks.words_are)
+
+pub returns-in-Merge-clause-trial : goal.returns-in-Merge-clause-trial
+returns-in-Merge-clause-trial g c = λ count workers cache is. absurd (merge_or_trial (map string_bytes c.args.words.now) c.in-Merge.config.now c.in-Merge.out.now c.as_slice.result.now (merge_is g c) count workers cache is)
+
+pub returns-in-Merge-clause-refused : goal.returns-in-Merge-clause-refused
+returns-in-Merge-clause-refused g c = λ not_ok. inr (inr (inr (inr (merge_asked (map string_bytes c.args.words.now) c.in-Merge.config.now c.in-Merge.out.now c.as_slice.result.now (merge_is g c)))))
+
+pub returns-in-Merge-clause-refusal_comes : goal.returns-in-Merge-clause-refusal_comes
+returns-in-Merge-clause-refusal_comes g c =
+    told_always (λ all. (r : Refusal) → IsDefinite r → IsFaulty (map string_bytes c.args.words.now) all r → YieldsRefusal r c.answer_merge.result.status (g.O.Sink.written c.args.out.now) (g.O.Sink.written c.answer_merge.new.out) (Rose (g.O.Sink.faults c.args.out.now) (g.O.Sink.faults c.answer_merge.new.out))) (g.H.Shelf.files c.args.shelf.now) (λ all r definite faulty. absurd (merge_unrefused (map string_bytes c.args.words.now) c.in-Merge.config.now c.in-Merge.out.now c.as_slice.result.now (merge_is g c) all r faulty))
+
+pub returns-in-Merge-clause-build_refusal_comes : goal.returns-in-Merge-clause-build_refusal_comes
+returns-in-Merge-clause-build_refusal_comes g c = λ all start begins r asks. absurd (merge_or_build (map string_bytes c.args.words.now) c.in-Merge.config.now c.in-Merge.out.now c.as_slice.result.now (merge_is g c) asks.path asks.out asks.words_are)
+
+pub returns-in-Merge-clause-differs_comes : goal.returns-in-Merge-clause-differs_comes
+returns-in-Merge-clause-differs_comes g c = λ all start told stored asks. absurd (merge_or_build (map string_bytes c.args.words.now) c.in-Merge.config.now c.in-Merge.out.now c.as_slice.result.now (merge_is g c) asks.path asks.out asks.words_are)
+
+pub returns-in-Merge-clause-damaged_comes : goal.returns-in-Merge-clause-damaged_comes
+returns-in-Merge-clause-damaged_comes g c = λ all start told stored asks. absurd (merge_or_build (map string_bytes c.args.words.now) c.in-Merge.config.now c.in-Merge.out.now c.as_slice.result.now (merge_is g c) asks.path asks.out asks.words_are)
+
+pub returns-in-Merge-clause-bad_comes : goal.returns-in-Merge-clause-bad_comes
+returns-in-Merge-clause-bad_comes g c = λ all start letter told stored bad asks. absurd (merge_or_build (map string_bytes c.args.words.now) c.in-Merge.config.now c.in-Merge.out.now c.as_slice.result.now (merge_is g c) asks.path asks.out asks.words_are)
+
+pub returns-in-Merge-clause-asked : goal.returns-in-Merge-clause-asked
+returns-in-Merge-clause-asked g c = λ start told. inr (inr (inl (inr (merge_asked (map string_bytes c.args.words.now) c.in-Merge.config.now c.in-Merge.out.now c.as_slice.result.now (merge_is g c)))))
+
+pub returns-in-Merge-clause-header_given : goal.returns-in-Merge-clause-header_given
+returns-in-Merge-clause-header_given g c = λ las is. absurd (merge_or_info (map string_bytes c.args.words.now) c.in-Merge.config.now c.in-Merge.out.now c.as_slice.result.now (merge_is g c) las is)
+
+pub returns-in-Merge-clause-configuration_given : goal.returns-in-Merge-clause-configuration_given
+returns-in-Merge-clause-configuration_given g c = c.answer_merge.ensures.given
+
+pub returns-in-Merge-clause-same_store : goal.returns-in-Merge-clause-same_store
+returns-in-Merge-clause-same_store g c = inr (inl (inr (inr (merge_asked (map string_bytes c.args.words.now) c.in-Merge.config.now c.in-Merge.out.now c.as_slice.result.now (merge_is g c)))))
+
+pub returns-in-Merge-clause-same_shelf : goal.returns-in-Merge-clause-same_shelf
+returns-in-Merge-clause-same_shelf g c = inr (inr (inl (inr (merge_asked (map string_bytes c.args.words.now) c.in-Merge.config.now c.in-Merge.out.now c.as_slice.result.now (merge_is g c)))))
+
+pub returns-in-Merge-clause-same_room : goal.returns-in-Merge-clause-same_room
+returns-in-Merge-clause-same_room g c = inr (inl (merge_asked (map string_bytes c.args.words.now) c.in-Merge.config.now c.in-Merge.out.now c.as_slice.result.now (merge_is g c)))
+
+pub returns-in-Merge-clause-failure : goal.returns-in-Merge-clause-failure
+returns-in-Merge-clause-failure g c = c.answer_merge.ensures.failure
+
+pub returns-in-Merge-clause-usage : goal.returns-in-Merge-clause-usage
+returns-in-Merge-clause-usage g c = (
+  λ is. absurd (c.answer_merge.ensures.not_usage is),
+  λ usage. absurd (usage.not_merge c.in-Merge.config.now c.in-Merge.out.now c.as_slice.result.now (merge_is g c)),
+)
+
+pub returns-in-Merge-clause-fault : goal.returns-in-Merge-clause-fault
+returns-in-Merge-clause-fault g c = c.answer_merge.ensures.fault
+
+pub returns-in-Merge-clause-comes : goal.returns-in-Merge-clause-comes
+returns-in-Merge-clause-comes g c = λ can. absurd (merge_cannot (map string_bytes c.args.words.now) (g.H.Shelf.files c.args.shelf.now) (g.T.Store.files c.args.store.now) (BeginsWith g.M.File.SpillFile.held (g.H.Shelf.files c.args.shelf.now) (g.T.Store.files c.args.store.now) (g.T.Store.may_leave c.args.store.now)) c.in-Merge.config.now c.in-Merge.out.now c.as_slice.result.now (merge_is g c) can)
+
+pub returns-in-Merge-clause-merge : goal.returns-in-Merge-clause-merge
+returns-in-Merge-clause-merge g c = λ path folder parts is.
+    let one = merge_asked_once g c path folder parts is in
+    merge_same c.in-Merge.config.now path c.as_slice.result.now parts c.answer_merge.result.status c.answer_merge.result.failure (g.H.Shelf.files c.args.shelf.now) (g.T.Store.files c.args.store.now) (BeginsWith g.M.File.SpillFile.held (g.H.Shelf.files c.args.shelf.now) (g.T.Store.files c.args.store.now) (g.T.Store.may_leave c.args.store.now)) (g.T.Store.files c.answer_merge.new.store) (IsSettled (g.T.Store.files c.answer_merge.new.store) (g.T.Store.may_leave c.answer_merge.new.store)) (Moves g.T.Store.files g.T.Store.may_leave g.T.Store.moment g.T.Store.image_since SameFiles c.args.store.now c.answer_merge.new.store) (g.O.Sink.written c.args.out.now) (g.O.Sink.written c.answer_merge.new.out) (Rose (g.H.Shelf.faults c.args.shelf.now) (g.H.Shelf.faults c.answer_merge.new.shelf)) (Rose (g.T.Store.faults c.args.store.now) (g.T.Store.faults c.answer_merge.new.store)) (Rose (g.M.Room.faults c.args.room.now) (g.M.Room.faults c.answer_merge.new.room)) (Rose (g.O.Sink.faults c.args.out.now) (g.O.Sink.faults c.answer_merge.new.out)) one.0 one.1 c.answer_merge.ensures.ends
+
+pub returns-in-Merge-clause-merge_sound : goal.returns-in-Merge-clause-merge_sound
+returns-in-Merge-clause-merge_sound g c = λ path folder parts is all start begins sound.
+    c.answer_merge.ensures.sound all start begins (subst (λ (p : List ℕ). AreSoundParts all start p) (sym (merge_asked_once g c path folder parts is).1) sound)
+
+-- ---- no merge
+
+pub returns-in-Build-clause-merge : goal.returns-in-Build-clause-merge
+returns-in-Build-clause-merge g c = λ path folder parts is. absurd (merge_or_build (map string_bytes c.args.words.now) path folder parts is c.in-Build.config.now c.in-Build.out.now c.in-Build.ensures)
+
+pub returns-in-Build-clause-merge_sound : goal.returns-in-Build-clause-merge_sound
+returns-in-Build-clause-merge_sound g c = λ path folder parts is all start begins sound. absurd (merge_or_build (map string_bytes c.args.words.now) path folder parts is c.in-Build.config.now c.in-Build.out.now c.in-Build.ensures)
+
+pub returns-in-Part-clause-merge : goal.returns-in-Part-clause-merge
+returns-in-Part-clause-merge g c = λ path folder parts is. absurd (merge_or_part (map string_bytes c.args.words.now) path folder parts is c.in-Part.config.now c.in-Part.out.now c.in-Part.octants c.in-Part.ensures)
+
+pub returns-in-Part-clause-merge_sound : goal.returns-in-Part-clause-merge_sound
+returns-in-Part-clause-merge_sound g c = λ path folder parts is all start begins sound. absurd (merge_or_part (map string_bytes c.args.words.now) path folder parts is c.in-Part.config.now c.in-Part.out.now c.in-Part.octants c.in-Part.ensures)
+
+pub returns-in-Info-clause-merge : goal.returns-in-Info-clause-merge
+returns-in-Info-clause-merge g c = λ path folder parts is. absurd (merge_or_info (map string_bytes c.args.words.now) path folder parts is c.in-Info.las.now c.in-Info.ensures)
+
+pub returns-in-Info-clause-merge_sound : goal.returns-in-Info-clause-merge_sound
+returns-in-Info-clause-merge_sound g c = λ path folder parts is all start begins sound. absurd (merge_or_info (map string_bytes c.args.words.now) path folder parts is c.in-Info.las.now c.in-Info.ensures)
+
+pub returns-in-Query-clause-merge : goal.returns-in-Query-clause-merge
+returns-in-Query-clause-merge g c = λ path folder parts is. absurd (merge_or_query (map string_bytes c.args.words.now) path folder parts is c.in-Query.out.now c.in-Query.area c.in-Query.depths.0 c.in-Query.depths.1 c.in-Query.ensures)
+
+pub returns-in-Query-clause-merge_sound : goal.returns-in-Query-clause-merge_sound
+returns-in-Query-clause-merge_sound g c = λ path folder parts is all start begins sound. absurd (merge_or_query (map string_bytes c.args.words.now) path folder parts is c.in-Query.out.now c.in-Query.area c.in-Query.depths.0 c.in-Query.depths.1 c.in-Query.ensures)
+
+pub returns-in-Select-clause-merge : goal.returns-in-Select-clause-merge
+returns-in-Select-clause-merge g c = λ path folder parts is. absurd (merge_or_select (map string_bytes c.args.words.now) path folder parts is c.in-Select.out.now c.in-Select.area c.in-Select.depths.0 c.in-Select.depths.1 c.in-Select.sift c.in-Select.ensures)
+
+pub returns-in-Select-clause-merge_sound : goal.returns-in-Select-clause-merge_sound
+returns-in-Select-clause-merge_sound g c = λ path folder parts is all start begins sound. absurd (merge_or_select (map string_bytes c.args.words.now) path folder parts is c.in-Select.out.now c.in-Select.area c.in-Select.depths.0 c.in-Select.depths.1 c.in-Select.sift c.in-Select.ensures)
+
+pub returns-in-Check-clause-merge : goal.returns-in-Check-clause-merge
+returns-in-Check-clause-merge g c = λ path folder parts is. absurd (merge_or_check (map string_bytes c.args.words.now) path folder parts is c.in-Check.out.now c.in-Check.ensures)
+
+pub returns-in-Check-clause-merge_sound : goal.returns-in-Check-clause-merge_sound
+returns-in-Check-clause-merge_sound g c = λ path folder parts is all start begins sound. absurd (merge_or_check (map string_bytes c.args.words.now) path folder parts is c.in-Check.out.now c.in-Check.ensures)
+
+pub returns-in-Trial-clause-merge : goal.returns-in-Trial-clause-merge
+returns-in-Trial-clause-merge g c = λ path folder parts is. absurd (merge_or_trial (map string_bytes c.args.words.now) path folder parts is c.in-Trial.points c.in-Trial.workers c.in-Trial.cache c.in-Trial.ensures)
+
+pub returns-in-Trial-clause-merge_sound : goal.returns-in-Trial-clause-merge_sound
+returns-in-Trial-clause-merge_sound g c = λ path folder parts is all start begins sound. absurd (merge_or_trial (map string_bytes c.args.words.now) path folder parts is c.in-Trial.points c.in-Trial.workers c.in-Trial.cache c.in-Trial.ensures)
+
+pub returns-in-Usage-clause-merge : goal.returns-in-Usage-clause-merge
+returns-in-Usage-clause-merge g c = λ path folder parts is. absurd (c.in-Usage.ensures.not_merge path folder parts is)
+
+pub returns-in-Usage-clause-merge_sound : goal.returns-in-Usage-clause-merge_sound
+returns-in-Usage-clause-merge_sound g c = λ path folder parts is all start begins sound. absurd (c.in-Usage.ensures.not_merge path folder parts is)
+
+-- the parts that words ask for have each octant once
+pub answer_merge-requires-clause-all : goal.answer_merge-requires-clause-all
+answer_merge-requires-clause-all g c κs within = subst AreAllParts (sym c.as_slice.ensures) c.in-Merge.ensures.parts_are.all

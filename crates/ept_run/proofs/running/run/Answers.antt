@@ -15,3 +15,6 @@ returns-clause-check g c = λ folder is. (c.carry_out.ensures.check folder is).0
 
 pub returns-clause-part : goal.returns-clause-part
 returns-clause-part g c = λ path folder octants is. (c.carry_out.ensures.part path folder octants is).0
+
+pub returns-clause-merge : goal.returns-clause-merge
+returns-clause-merge g c = λ path folder parts is. (c.carry_out.ensures.merge path folder parts is).0

@@ -1,0 +1,592 @@
+-- What a merge comes to, and how it ends.
+use Rattle.std.proofs.Common.{◌≡◌, ◌≢◌, ◌⊎◌, inl, inr, ⊎_elim, ℕ, ◌≤◌, List, Option, None, Some, Ok, Err, refl, sym, ◌∙◌, ap, subst, arith}
+use Rattle.std.specs.Prelude.{◌↔◌, Result, Vec, IfOk, IfErr, OnOk, ⊤}
+use Rattle.std.specs.Io.KnownBytes.{Appends}
+use Rattle.std.specs.declared.alloc.Global.{Global}
+use Rattle.ept_base.specs.Devices.{AppendsPrefix}
+use Rattle.ept_base.specs.Files.{Files, StepsBy, Tells}
+use Rattle.ept_base.specs.Moves.{Moves, IsSettled}
+use Rattle.ept_base.proofs.Moving.{moves_both}
+use Rattle.ept_config.specs.declared.config.Config.{Config}
+use Rattle.ept_config_text.specs.declared.config_error.ConfigError.{ConfigError}
+use Rattle.ept_save.specs.Sound.{IsSound}
+use Rattle.ept_build.specs.declared.error.BuildError.{BuildError}
+use Rattle.ept_build.specs.declared.error.BuildError.TheVariants as build
+use Rattle.ept_build.specs.declared.summary.Summary.{Summary}
+use Rattle.ept_build.specs.Building as building
+use Rattle.ept_merge.specs.declared.error.MergeError.{MergeError}
+use Rattle.ept_merge.specs.declared.error.MergeError.TheVariants as merge
+use Rattle.ept_merge.specs.Errors.{IsOfTiles}
+use Rattle.ept_merge.specs.Merging as merging
+use Rattle.ept_command.specs.declared.ended.Failure.{Failure}
+use Rattle.ept_command.specs.declared.ended.Failure.TheVariants as failure
+use Rattle.ept_command.specs.declared.refusal.Refusal.{Refusal}
+use Rattle.ept_command.specs.declared.refusal.Refusal.TheVariants.{Usage, BadConfiguration, BadLas, OutOfBounds, NoBounds, SourceChanged, TooManyPoints, TooManyNodes, Differs, BadCheckpoint, TileDamaged, SourceFault, StoreFault, SpillFault, SpillDamaged, Memory}
+use Rattle.ept_command.specs.declared.refusal.PartRefusal.TheVariants.{AsBuild, Shallow}
+use Rattle.ept_command.specs.declared.refusal.MergeRefusal.{MergeRefusal}
+use Rattle.ept_command.specs.declared.refusal.MergeRefusal.TheVariants.{AsPart, HasCheckpoint, NoPart, PartDiffers, PartDamaged}
+use Rattle.ept_command.specs.Statuses.{status_of}
+use Rattle.ept_command.specs.Configurations.{HasConfiguration, ConfigurationIsRefused, IsOfConfiguration}
+use Rattle.ept_run.specs.Errors.{of_build}
+use Rattle.ept_run.specs.Lines.{summary_text, line_of}
+use Rattle.ept_run.specs.Answers.{Says, IsSaid, IsSaidFor, IsReported}
+use Rattle.ept_run.specs.Parts.{IsPartReported}
+use Rattle.ept_run.specs.Merges.{Outcome, as_build, of_merge, merge_status, merge_line, part_text, IsFaultOfParts, IsEarlyMerge, AfterMerge, OfSound, IsMergedAt, MergeIsRefused, AreOwnAt, ComesToMerge, SaysMerge, merge_failure, FailsAsMerge, IsMergeReported, EndsMerge}
+use Rattle.ept_run.proofs.Asked.{told_as, told_always}
+use Rattle.ept_run.proofs.Parted.{tells_both, fails_at, said_not}
+use Rattle.ept_run.proofs.Refused.{one_config}
+use Rattle.ept_run.proofs.Runs.{usage_only, device_only, configuration_only, never_done}
+
+-- ---- refusals
+
+inside : (a b : Refusal) → as_build a ≡ as_build b → a ≡ b
+inside a b same = cc
+
+merge_inside : (a b : MergeRefusal) → ◌≡◌ {A = Outcome} (Err a) (Err b) → a ≡ b
+merge_inside a b same = cc
+
+ok_is_no_err : (summary : Summary) (r : MergeRefusal) → ◌≡◌ {A = Outcome} (Ok summary) (Err r) → ⊥
+ok_is_no_err summary r same = cc
+
+pub merge_source : (e : MergeError) → of_merge e ≡ as_build SourceFault → e ≡ merge.SourceFault
+merge_source merge.StoreFault is = absurd cc
+merge_source (merge.BadCheckpoint letter) is = absurd cc
+merge_source (merge.HasCheckpoint generation) is = absurd cc
+merge_source merge.SourceFault is = refl
+merge_source (merge.BadLas source fault) is = absurd cc
+merge_source (merge.OutOfBounds source number) is = absurd cc
+merge_source (merge.TooManyPoints source) is = absurd cc
+merge_source merge.NoBounds is = absurd cc
+merge_source merge.Shallow is = absurd cc
+merge_source (merge.NoPart octants) is = absurd cc
+merge_source (merge.PartDiffers octants) is = absurd cc
+merge_source (merge.PartDamaged octants key) is = absurd cc
+merge_source merge.TooManyNodes is = absurd cc
+merge_source merge.Memory is = absurd cc
+
+pub merge_store : (e : MergeError) → of_merge e ≡ as_build StoreFault → e ≡ merge.StoreFault
+merge_store merge.StoreFault is = refl
+merge_store (merge.BadCheckpoint letter) is = absurd cc
+merge_store (merge.HasCheckpoint generation) is = absurd cc
+merge_store merge.SourceFault is = absurd cc
+merge_store (merge.BadLas source fault) is = absurd cc
+merge_store (merge.OutOfBounds source number) is = absurd cc
+merge_store (merge.TooManyPoints source) is = absurd cc
+merge_store merge.NoBounds is = absurd cc
+merge_store merge.Shallow is = absurd cc
+merge_store (merge.NoPart octants) is = absurd cc
+merge_store (merge.PartDiffers octants) is = absurd cc
+merge_store (merge.PartDamaged octants key) is = absurd cc
+merge_store merge.TooManyNodes is = absurd cc
+merge_store merge.Memory is = absurd cc
+
+-- no refusal of merging is that of the words, of spill files or of a configuration
+abbrev ForeignCause : Refusal → Type 0
+ForeignCause Usage = ⊤
+ForeignCause (BadConfiguration error) = ⊤
+ForeignCause (BadLas source fault) = ⊥
+ForeignCause (OutOfBounds source number) = ⊥
+ForeignCause NoBounds = ⊥
+ForeignCause (SourceChanged source number) = ⊥
+ForeignCause (TooManyPoints source) = ⊥
+ForeignCause TooManyNodes = ⊥
+ForeignCause (Differs field) = ⊥
+ForeignCause (BadCheckpoint letter) = ⊥
+ForeignCause (TileDamaged key) = ⊥
+ForeignCause SourceFault = ⊥
+ForeignCause StoreFault = ⊥
+ForeignCause SpillFault = ⊤
+ForeignCause SpillDamaged = ⊥
+ForeignCause Memory = ⊥
+
+abbrev IsForeign : MergeRefusal → Type 0
+IsForeign r = (r ≡ as_build Usage) ⊎ (r ≡ as_build SpillFault) ⊎ ((error : ConfigError) × (r ≡ as_build (BadConfiguration error)))
+
+abbrev Foreign : MergeRefusal → Type 0
+Foreign (AsPart (AsBuild r)) = ForeignCause r
+Foreign (AsPart Shallow) = ⊥
+Foreign HasCheckpoint = ⊥
+Foreign (NoPart octants) = ⊥
+Foreign (PartDiffers octants) = ⊥
+Foreign (PartDamaged octants key) = ⊥
+
+foreign_of : (r : MergeRefusal) → IsForeign r → Foreign r
+foreign_of r (inl is) = subst Foreign (sym is) tt
+foreign_of r (inr (inl is)) = subst Foreign (sym is) tt
+foreign_of r (inr (inr (error, is))) = subst Foreign (sym is) tt
+
+merge_foreign : (e : MergeError) → ¬ IsForeign (of_merge e)
+merge_foreign e is = none e (foreign_of (of_merge e) is)
+  where
+    none : (e : MergeError) → Foreign (of_merge e) → ⊥
+    none merge.StoreFault of = of
+    none (merge.BadCheckpoint letter) of = of
+    none (merge.HasCheckpoint generation) of = of
+    none merge.SourceFault of = of
+    none (merge.BadLas source fault) of = of
+    none (merge.OutOfBounds source number) of = of
+    none (merge.TooManyPoints source) of = of
+    none merge.NoBounds of = of
+    none merge.Shallow of = of
+    none (merge.NoPart octants) of = of
+    none (merge.PartDiffers octants) of = of
+    none (merge.PartDamaged octants key) of = of
+    none merge.TooManyNodes of = of
+    none merge.Memory of = of
+
+-- which of the refusals of merging are of the parts, and which are early
+abbrev OfParts : MergeRefusal → Type 0
+OfParts (AsPart r) = ⊥
+OfParts HasCheckpoint = ⊥
+OfParts (NoPart octants) = ⊥
+OfParts (PartDiffers octants) = ⊤
+OfParts (PartDamaged octants key) = ⊤
+
+of_parts : (r : MergeRefusal) → IsFaultOfParts r → OfParts r
+of_parts r (inl (octants, is)) = subst OfParts (sym is) tt
+of_parts r (inr (octants, key, is)) = subst OfParts (sym is) tt
+
+fault_of : (e : MergeError) → OfParts (of_merge e) → merging.IsPartFault e
+fault_of merge.StoreFault of = absurd of
+fault_of (merge.BadCheckpoint letter) of = absurd of
+fault_of (merge.HasCheckpoint generation) of = absurd of
+fault_of merge.SourceFault of = absurd of
+fault_of (merge.BadLas source fault) of = absurd of
+fault_of (merge.OutOfBounds source number) of = absurd of
+fault_of (merge.TooManyPoints source) of = absurd of
+fault_of merge.NoBounds of = absurd of
+fault_of merge.Shallow of = absurd of
+fault_of (merge.NoPart octants) of = absurd of
+fault_of (merge.PartDiffers octants) of = inl (octants, refl)
+fault_of (merge.PartDamaged octants key) of = inr (octants, key, refl)
+fault_of merge.TooManyNodes of = absurd of
+fault_of merge.Memory of = absurd of
+
+pub never_parts : (e : MergeError) → ¬ merging.IsPartFault e → ¬ IsFaultOfParts (of_merge e)
+never_parts e none fault = none (fault_of e (of_parts (of_merge e) fault))
+
+abbrev OfTiles : MergeError → Type 0
+OfTiles merge.StoreFault = ⊤
+OfTiles (merge.BadCheckpoint letter) = ⊥
+OfTiles (merge.HasCheckpoint generation) = ⊥
+OfTiles merge.SourceFault = ⊥
+OfTiles (merge.BadLas source fault) = ⊥
+OfTiles (merge.OutOfBounds source number) = ⊥
+OfTiles (merge.TooManyPoints source) = ⊥
+OfTiles merge.NoBounds = ⊥
+OfTiles merge.Shallow = ⊥
+OfTiles (merge.NoPart octants) = ⊥
+OfTiles (merge.PartDiffers octants) = ⊥
+OfTiles (merge.PartDamaged octants None) = ⊥
+OfTiles (merge.PartDamaged octants (Some key)) = ⊤
+OfTiles merge.TooManyNodes = ⊥
+OfTiles merge.Memory = ⊤
+
+of_tiles : (e : MergeError) → IsOfTiles e → OfTiles e
+of_tiles e (inl (inl is)) = subst OfTiles (sym is) tt
+of_tiles e (inl (inr is)) = subst OfTiles (sym is) tt
+of_tiles e (inr (octants, key, is)) = subst OfTiles (sym is) tt
+
+not_both : (e : MergeError) → OfTiles e → IsEarlyMerge (of_merge e) → ⊥
+not_both merge.StoreFault of early = never_bad StoreFault (λ error same. cc) early
+  where
+    never_bad : (r : Refusal) → ((error : ConfigError) → r ≡ BadConfiguration error → ⊥) → ((error : ConfigError) × (r ≡ BadConfiguration error)) → ⊥
+    never_bad r never is = never is.0 is.1
+not_both (merge.BadCheckpoint letter) of early = of
+not_both (merge.HasCheckpoint generation) of early = of
+not_both merge.SourceFault of early = of
+not_both (merge.BadLas source fault) of early = of
+not_both (merge.OutOfBounds source number) of early = of
+not_both (merge.TooManyPoints source) of early = of
+not_both merge.NoBounds of early = of
+not_both merge.Shallow of early = of
+not_both (merge.NoPart octants) of early = of
+not_both (merge.PartDiffers octants) of early = of
+not_both (merge.PartDamaged octants None) of early = of
+not_both (merge.PartDamaged octants (Some key)) of early = early
+not_both merge.TooManyNodes of early = of
+not_both merge.Memory of early = never_bad Memory (λ error same. cc) early
+  where
+    never_bad : (r : Refusal) → ((error : ConfigError) → r ≡ BadConfiguration error → ⊥) → ((error : ConfigError) × (r ≡ BadConfiguration error)) → ⊥
+    never_bad r never is = never is.0 is.1
+
+pub before_tiles : (e : MergeError) → IsEarlyMerge (of_merge e) → ¬ IsOfTiles e
+before_tiles e early tiles = not_both e (of_tiles e tiles) early
+
+pub refused_foreign : (r : MergeRefusal) (e : MergeError) → r ≡ of_merge e → ¬ IsForeign r
+refused_foreign r e is foreign = merge_foreign e (subst IsForeign is foreign)
+
+-- of a build that follows
+pub never_of_parts : (r : Refusal) → ¬ IsFaultOfParts (as_build r)
+never_of_parts r (inl (octants, is)) = cc
+never_of_parts r (inr (octants, key, is)) = cc
+
+-- a fault of a device, and of which one
+abbrev IsDevice : Refusal → Type 0
+IsDevice Usage = ⊥
+IsDevice (BadConfiguration error) = ⊥
+IsDevice (BadLas source fault) = ⊥
+IsDevice (OutOfBounds source number) = ⊥
+IsDevice NoBounds = ⊥
+IsDevice (SourceChanged source number) = ⊥
+IsDevice (TooManyPoints source) = ⊥
+IsDevice TooManyNodes = ⊥
+IsDevice (Differs field) = ⊥
+IsDevice (BadCheckpoint letter) = ⊥
+IsDevice (TileDamaged key) = ⊥
+IsDevice SourceFault = ⊤
+IsDevice StoreFault = ⊤
+IsDevice SpillFault = ⊤
+IsDevice SpillDamaged = ⊥
+IsDevice Memory = ⊥
+
+abbrev WhichDevice : BuildError → Refusal → Type 0
+WhichDevice e r = ((e ≡ build.StoreFault) × (r ≡ StoreFault)) ⊎ ((e ≡ build.SourceFault) × (r ≡ SourceFault)) ⊎ ((e ≡ build.SpillFault) × (r ≡ SpillFault))
+
+build_words : (e : BuildError) → of_build e ≢ Usage
+build_words build.StoreFault is = cc
+build_words build.SpillFault is = cc
+build_words (build.SpillDamaged kept found at) is = cc
+build_words (build.BadCheckpoint letter) is = cc
+build_words (build.TileDamaged key) is = cc
+build_words (build.Differs field kept given) is = cc
+build_words build.SourceFault is = cc
+build_words (build.BadLas source fault) is = cc
+build_words (build.OutOfBounds source number) is = cc
+build_words (build.TooManyPoints source) is = cc
+build_words build.NoBounds is = cc
+build_words (build.SourceChanged source number) is = cc
+build_words build.TooManyNodes is = cc
+build_words build.Memory is = cc
+
+build_config : (e : BuildError) (error : ConfigError) → of_build e ≢ BadConfiguration error
+build_config build.StoreFault error is = cc
+build_config build.SpillFault error is = cc
+build_config (build.SpillDamaged kept found at) error is = cc
+build_config (build.BadCheckpoint letter) error is = cc
+build_config (build.TileDamaged key) error is = cc
+build_config (build.Differs field kept given) error is = cc
+build_config build.SourceFault error is = cc
+build_config (build.BadLas source fault) error is = cc
+build_config (build.OutOfBounds source number) error is = cc
+build_config (build.TooManyPoints source) error is = cc
+build_config build.NoBounds error is = cc
+build_config (build.SourceChanged source number) error is = cc
+build_config build.TooManyNodes error is = cc
+build_config build.Memory error is = cc
+
+build_device : (e : BuildError) (r : Refusal) → of_build e ≡ r → IsDevice r → WhichDevice e r
+build_device build.StoreFault r is device = inl (refl, sym is)
+build_device build.SpillFault r is device = inr (inr (refl, sym is))
+build_device (build.SpillDamaged kept found at) r is device = absurd (subst IsDevice (sym is) device)
+build_device (build.BadCheckpoint letter) r is device = absurd (subst IsDevice (sym is) device)
+build_device (build.TileDamaged key) r is device = absurd (subst IsDevice (sym is) device)
+build_device (build.Differs field kept given) r is device = absurd (subst IsDevice (sym is) device)
+build_device build.SourceFault r is device = inr (inl (refl, sym is))
+build_device (build.BadLas source fault) r is device = absurd (subst IsDevice (sym is) device)
+build_device (build.OutOfBounds source number) r is device = absurd (subst IsDevice (sym is) device)
+build_device (build.TooManyPoints source) r is device = absurd (subst IsDevice (sym is) device)
+build_device build.NoBounds r is device = absurd (subst IsDevice (sym is) device)
+build_device (build.SourceChanged source number) r is device = absurd (subst IsDevice (sym is) device)
+build_device build.TooManyNodes r is device = absurd (subst IsDevice (sym is) device)
+build_device build.Memory r is device = absurd (subst IsDevice (sym is) device)
+
+pub built_source : (e : BuildError) → as_build (of_build e) ≡ as_build SourceFault → e ≡ build.SourceFault
+built_source e is = by (build_device e SourceFault (inside (of_build e) SourceFault is) tt)
+  where
+    by : WhichDevice e SourceFault → e ≡ build.SourceFault
+    by (inl (same, other)) = absurd cc
+    by (inr (inl (same, other))) = same
+    by (inr (inr (same, other))) = absurd cc
+
+pub built_store : (e : BuildError) → as_build (of_build e) ≡ as_build StoreFault → e ≡ build.StoreFault
+built_store e is = by (build_device e StoreFault (inside (of_build e) StoreFault is) tt)
+  where
+    by : WhichDevice e StoreFault → e ≡ build.StoreFault
+    by (inl (same, other)) = same
+    by (inr (inl (same, other))) = absurd cc
+    by (inr (inr (same, other))) = absurd cc
+
+pub built_spill : (e : BuildError) → as_build (of_build e) ≡ as_build SpillFault → e ≡ build.SpillFault
+built_spill e is = by (build_device e SpillFault (inside (of_build e) SpillFault is) tt)
+  where
+    by : WhichDevice e SpillFault → e ≡ build.SpillFault
+    by (inl (same, other)) = absurd cc
+    by (inr (inl (same, other))) = absurd cc
+    by (inr (inr (same, other))) = same
+
+-- a refusal inside an answer
+pub answer_inside : {A : Type 0} (a b : MergeRefusal) → ◌≡◌ {A = Result A MergeRefusal} (Err a) (Err b) → a ≡ b
+answer_inside a b same = cc
+
+-- ---- what a merge comes to
+
+-- files between the merge and the build are sound, and the build begins with them
+pub between_of : {F : Type 0} (held : F → Option (List ℕ)) (all : Files) (config : Config) (shelf later store mid : Option Files) (may after : Files → Type 0) (start : Files)
+    → later ≡ shelf → building.BeginsWith held shelf store may all start → StepsBy (λ (a b : Files). IsSound all b) store mid → Tells (merging.HasMerged all config) mid → IsSettled mid after
+    → (between : Files) × building.BeginsWith held later mid after all between × merging.HasMerged all config between
+between_of held all config shelf later store mid may after start same begins steps merged settled =
+    by mid refl (subst (λ (o : Option Files). StepsBy (λ (a b : Files). IsSound all b) o mid) begins.told steps) merged
+  where
+    by : (o : Option Files) → mid ≡ o → StepsBy (λ (a b : Files). IsSound all b) (Some start) o → Tells (merging.HasMerged all config) o → (between : Files) × building.BeginsWith held later mid after all between × merging.HasMerged all config between
+    by None is steps merged = absurd steps
+    by (Some between) is sound merged = (between, record { spills = begins.spills; shelf_told = same ∙ begins.shelf_told; told = is; settled = settled; sound = sound }, merged)
+
+module _ (path parts : List ℕ) (old : Option Files) (Begins : Files → Files → Type 0) (new : Option Files) (flushed same source store room : Type 0) where
+  -- the configuration can't be read
+  pub unread_merge : (files : Option Files) (r : Refusal) → IsOfConfiguration r → Tells (λ all. ConfigurationIsRefused all path r) files → same → (r ≡ SourceFault → source)
+      → ComesToMerge path parts (Err (as_build r)) files old Begins new flushed same source store room
+  unread_merge files r of refused unchanged cause = record {
+    merged = tt;
+    settled = tt;
+    refused = told_as (λ all. ConfigurationIsRefused all path r) (λ all. MergeIsRefused all old Begins path parts (as_build r)) files (λ all is. inl (r, refl, is)) refused;
+    own = told_always (λ all. Tells (λ start. AreOwnAt all start path parts → ¬ IsFaultOfParts (as_build r)) old) files (λ all. told_always (λ start. AreOwnAt all start path parts → ¬ IsFaultOfParts (as_build r)) old (λ start own. never_of_parts r));
+    early = λ is. unchanged;
+    sources = λ is. cause (inside r SourceFault (merge_inside (as_build r) (as_build SourceFault) is));
+    stores = λ is. absurd (subst IsOfConfiguration (inside r StoreFault (merge_inside (as_build r) (as_build StoreFault) is)) of);
+    spills = λ is. absurd (subst IsOfConfiguration (inside r SpillFault (merge_inside (as_build r) (as_build SpillFault) is)) of);
+  }
+
+  module _ (files : Option Files) (config : Config) (configures : Tells (λ all. HasConfiguration all path config) files) where
+    own_asked : (r : MergeRefusal) → ((all start : Files) → files ≡ Some all → old ≡ Some start → merging.AreOwnParts all config start parts → ¬ IsFaultOfParts r)
+        → Tells (λ all. Tells (λ start. AreOwnAt all start path parts → ¬ IsFaultOfParts r) old) files
+    own_asked r own = by files old refl refl configures
+      where
+        by : (f o : Option Files) → files ≡ f → old ≡ o → Tells (λ all. HasConfiguration all path config) f → Tells (λ all. Tells (λ start. AreOwnAt all start path parts → ¬ IsFaultOfParts r) o) f
+        by None o is told has = tt
+        by (Some all) None is told has = tt
+        by (Some all) (Some start) is told has = λ asked. own all start is told (subst (λ (c : Config). merging.AreOwnParts all c start parts) (one_config all path asked.config config asked.configures has) asked.own)
+
+    -- the parts are not merged
+    pub unmerged : (r : MergeRefusal) (error : MergeError) → r ≡ of_merge error → Tells (λ all. Tells (λ start. merging.IsRefused all start config parts error) old) files
+        → ((all start : Files) → files ≡ Some all → old ≡ Some start → merging.AreOwnParts all config start parts → ¬ IsFaultOfParts r)
+        → (IsEarlyMerge r → same) → (r ≡ as_build SourceFault → source) → (r ≡ as_build StoreFault → store)
+        → ComesToMerge path parts (Err r) files old Begins new flushed same source store room
+    unmerged r error r_is refused own early sources stores = record {
+      merged = tt;
+      settled = tt;
+      refused = tells_both (λ all. HasConfiguration all path config) (λ all. Tells (λ start. merging.IsRefused all start config parts error) old) (λ all. MergeIsRefused all old Begins path parts r) files
+          (λ all has is. inr (inl (config, error, r_is, has, is))) configures refused;
+      own = own_asked r own;
+      early = early;
+      sources = λ is. sources (merge_inside r (as_build SourceFault) is);
+      stores = λ is. stores (merge_inside r (as_build StoreFault) is);
+      spills = λ is. absurd (refused_foreign r error r_is (inr (inl (merge_inside r (as_build SpillFault) is))));
+    }
+
+    -- they are, and the build that follows comes to this
+    module _ (accepted : Tells (λ all. Tells (λ start. merging.WereMerged all start config parts) old) files) where
+      pub built_after : (summary : Summary) → flushed
+          → ((all start : Files) → files ≡ Some all → Begins all start → merging.AreSoundParts all start parts → Tells (λ after. AfterMerge all config (λ between. building.IsBuilt all config between summary after)) new)
+          → ComesToMerge path parts (Ok summary) files old Begins new flushed same source store room
+      built_after summary settled built = record {
+        merged = by files refl configures accepted;
+        settled = settled;
+        refused = tt;
+        own = tt;
+        early = tt;
+        sources = λ is. absurd (ok_is_no_err summary (as_build SourceFault) is);
+        stores = λ is. absurd (ok_is_no_err summary (as_build StoreFault) is);
+        spills = λ is. absurd (ok_is_no_err summary (as_build SpillFault) is);
+      }
+        where
+          by : (f : Option Files) → files ≡ f → Tells (λ all. HasConfiguration all path config) f → Tells (λ all. Tells (λ start. merging.WereMerged all start config parts) old) f → Tells (λ all. IsMergedAt all old Begins path parts summary new) f
+          by None is has were = tt
+          by (Some all) is has were = record { config = config; configures = has; accepted = were; built = λ start begins sound. built all start is begins sound }
+
+      pub unbuilt_after : (r : MergeRefusal) (error : BuildError) → r ≡ as_build (of_build error)
+          → ((all start : Files) → files ≡ Some all → Begins all start → merging.AreSoundParts all start parts → AfterMerge all config (λ between. building.IsRefused all config between error))
+          → (r ≡ as_build SourceFault → source) → (r ≡ as_build StoreFault → store) → (r ≡ as_build SpillFault → room)
+          → ComesToMerge path parts (Err r) files old Begins new flushed same source store room
+      unbuilt_after r error r_is refused sources stores spills = record {
+        merged = tt;
+        settled = tt;
+        refused = by files refl configures;
+        own = own_asked r (λ all start told stored own. subst (λ (x : MergeRefusal). ¬ IsFaultOfParts x) (sym r_is) (never_of_parts (of_build error)));
+        early = λ is. absurd (late (subst IsEarlyMerge r_is is));
+        sources = λ is. sources (merge_inside r (as_build SourceFault) is);
+        stores = λ is. stores (merge_inside r (as_build StoreFault) is);
+        spills = λ is. spills (merge_inside r (as_build SpillFault) is);
+      }
+        where
+          late : IsEarlyMerge (as_build (of_build error)) → ⊥
+          late early = build_config error early.0 early.1
+
+          by : (f : Option Files) → files ≡ f → Tells (λ all. HasConfiguration all path config) f → Tells (λ all. MergeIsRefused all old Begins path parts r) f
+          by None is has = tt
+          by (Some all) is has = inr (inr (config, error, r_is, has, λ start begins sound. refused all start is begins sound))
+
+module _ (path parts : List ℕ) (old : Option Files) (Begins : Files → Files → Type 0) (new : Option Files) (flushed same source store room : Type 0) (files : Option Files) (config : Config) (configures : Tells (λ all. HasConfiguration all path config) files) where
+  -- what comes of the build that follows, which begins as Again says
+  pub came_after : Tells (λ all. Tells (λ start. merging.WereMerged all start config parts) old) files → (Again : Files → Files → Type 0) → ((all between : Files) → Again all between → IsSound all between)
+      → ((all start : Files) → files ≡ Some all → Begins all start → merging.AreSoundParts all start parts → (between : Files) × Again all between × merging.HasMerged all config between)
+      → (outcome : Outcome) → OnOk outcome flushed
+      → ((all start : Files) → Again all start → IfOk outcome (λ summary. Tells (building.IsBuilt all config start summary) new))
+      → IfErr outcome (λ r. (error : BuildError) × (r ≡ as_build (of_build error)) × ((all start : Files) → Again all start → building.IsRefused all config start error))
+      → (outcome ≡ Err (as_build SourceFault) → source) → (outcome ≡ Err (as_build StoreFault) → store) → (outcome ≡ Err (as_build SpillFault) → room)
+      → ComesToMerge path parts outcome files old Begins new flushed same source store room
+  came_after accepted Again sound_of again (Ok summary) settled built refused sources stores spills =
+      built_after path parts old Begins new flushed same source store room files config configures accepted summary settled (λ all start told begins sound.
+      let m = again all start told begins sound in
+      told_as (λ after. building.IsBuilt all config m.0 summary after) (λ after. AfterMerge all config (λ between. building.IsBuilt all config between summary after)) new
+      (λ after is. record { between = m.0; merged = m.2; sound = sound_of all m.0 m.1; holds = is }) (built all m.0 m.1))
+  came_after accepted Again sound_of again (Err r) settled built refused sources stores spills =
+      unbuilt_after path parts old Begins new flushed same source store room files config configures accepted r refused.0 refused.1 (λ all start told begins sound.
+      let m = again all start told begins sound in
+      record { between = m.0; merged = m.2; sound = sound_of all m.0 m.1; holds = refused.2 all m.0 m.1 })
+      (λ is. sources (ap (λ (x : MergeRefusal). Err x) is)) (λ is. stores (ap (λ (x : MergeRefusal). Err x) is)) (λ is. spills (ap (λ (x : MergeRefusal). Err x) is))
+
+pub unread_words : (r : Refusal) → IsOfConfiguration r → as_build r ≢ as_build Usage
+unread_words r of is = subst IsOfConfiguration (inside r Usage is) of
+
+pub unbuilt_words : (r : MergeRefusal) (error : BuildError) → r ≡ as_build (of_build error) → r ≢ as_build Usage
+unbuilt_words r error r_is is = build_words error (inside (of_build error) Usage (sym r_is ∙ is))
+
+pub unbuilt_config : (r : MergeRefusal) (error : BuildError) → r ≡ as_build (of_build error) → (bad : ConfigError) → r ≢ as_build (BadConfiguration bad)
+unbuilt_config r error r_is bad is = build_config error bad (inside (of_build error) (BadConfiguration bad) (sym r_is ∙ is))
+
+-- ---- its moments
+
+module _ {D : Type 0} (files : D → Option Files) (may_leave : D → Files → Type 0) (moment : D → ℕ) (image_since : D → ℕ → Files → Type 0) where
+  pub sound_both : (all : Files) (old mid new : D) → Moves files may_leave moment image_since (λ (a b : Files). IsSound all b) old mid → Moves files may_leave moment image_since (λ (a b : Files). IsSound all b) mid new
+      → Moves files may_leave moment image_since (λ (a b : Files). IsSound all b) old new
+  sound_both all old mid new = moves_both files may_leave moment image_since (λ (a b : Files). IsSound all b) (λ (a b : Files). IsSound all b) (λ (a b : Files). IsSound all b) (λ a b c first second. second) (λ a b first. first) old mid new
+
+-- ---- how it is reported
+
+module _ (status : ℕ) (why_not : Option Failure) (old new : Option (List ℕ)) (failed : Type 0) where
+  pub built_reported : (summary : Summary) (line : Vec ℕ Global) → line.items ≡ summary_text summary.points summary.nodes → IsSaidFor line status why_not old new failed → IsMergeReported (Ok summary) status why_not old new failed
+  built_reported summary line same (inl ok) = record {
+    says = inl (ok.0, subst (λ (text : List ℕ). Appends old new text) same ok.2);
+    fails = inl ok.1;
+    unless_done = (λ is. ok.1, λ none. ok.0);
+  }
+  built_reported summary line same (inr cut) = record {
+    says = inr (cut.0, cut.2, subst (λ (text : List ℕ). AppendsPrefix old new text) same cut.3);
+    fails = inr (line, cut.1, same);
+    unless_done = fails_at status why_not old new failed 7 (failure.LineNotWritten line) cut.0 (omega arith) cut.1;
+  }
+
+  -- a refusal that a build may have too
+  pub cause_reported : (r : Refusal) → IsReported r status why_not old new failed
+      → IsMergeReported (Err (as_build r)) status why_not old new failed ⊎ IsMergeReported (Err (as_build Memory)) status why_not old new failed
+  cause_reported r reports = ⊎_elim (λ is. inl (by r is)) (λ is. inr (by Memory is)) reports.0.told_is
+    where
+      by : (x : Refusal) → reports.0.told ≡ x → IsMergeReported (Err (as_build x)) status why_not old new failed
+      by x is = record {
+        says = (sym reports.0.status_is ∙ ap status_of is, subst (λ (y : Refusal). Says (line_of y) old new failed) is reports.0.says);
+        fails = reports.1 ∙ ap (λ (y : Refusal). Some (failure.Refused y)) is;
+        unless_done = fails_at status why_not old new failed (status_of reports.0.told) (failure.Refused reports.0.told) (sym reports.0.status_is) (never_done reports.0.told) reports.1;
+      }
+
+  -- out of memory, for which the same line is written
+  pub lack_reported : status ≡ 9 → why_not ≡ Some (failure.Refused Memory) → Says (line_of Memory) old new failed → IsMergeReported (Err (as_build Memory)) status why_not old new failed
+  lack_reported is fails says = record { says = (is, says); fails = fails; unless_done = fails_at status why_not old new failed 9 (failure.Refused Memory) is (omega arith) fails }
+
+  -- a root without octants, as of a part
+  pub depth_reported : IsPartReported (Err Shallow) status why_not old new failed → IsMergeReported (Err (AsPart Shallow)) status why_not old new failed
+  depth_reported reported = record { says = reported.says; fails = reported.fails; unless_done = reported.unless_done }
+
+  pub checkpoint_reported : status ≡ 6 → why_not ≡ Some (failure.MergeRefused HasCheckpoint) → Says (merge_line HasCheckpoint) old new failed → IsMergeReported (Err HasCheckpoint) status why_not old new failed
+  checkpoint_reported is fails says = record { says = (is, says); fails = fails; unless_done = fails_at status why_not old new failed 6 (failure.MergeRefused HasCheckpoint) is (omega arith) fails }
+
+  -- a part that is not there, that differs, or that is damaged
+  pub named_reported : (r : MergeRefusal) (n : ℕ) → merge_failure r ≡ failure.MergeRefused r → merge_status r ≡ n → n ≢ 0 → (line : List ℕ) → merge_line r ≡ line
+      → ((status ≡ n) × (why_not ≡ Some (failure.MergeRefused r)) × Says line old new failed) ⊎ IsMergeReported (Err (as_build Memory)) status why_not old new failed
+      → IsMergeReported (Err r) status why_not old new failed ⊎ IsMergeReported (Err (as_build Memory)) status why_not old new failed
+  named_reported r n names at not_0 line says_line (inr lacks) = inr lacks
+  named_reported r n names at not_0 line says_line (inl told) = inl (record {
+    says = (told.0 ∙ sym at, subst (λ (l : List ℕ). Says l old new failed) (sym says_line) told.2);
+    fails = told.1 ∙ ap (λ (f : Failure). Some f) (sym names);
+    unless_done = fails_at status why_not old new failed n (failure.MergeRefused r) told.0 not_0 told.1;
+  })
+
+-- ---- what a report says
+
+merge_status_of : (r : MergeRefusal) (n : ℕ) → n ≢ 6 → n ≢ 8 → merge_status r ≡ n → (cause : Refusal) × (r ≡ as_build cause) × (status_of cause ≡ n)
+merge_status_of (AsPart (AsBuild cause)) n not_6 not_8 is = (cause, refl, is)
+merge_status_of (AsPart Shallow) n not_6 not_8 is = absurd (not_6 (sym is))
+merge_status_of HasCheckpoint n not_6 not_8 is = absurd (not_6 (sym is))
+merge_status_of (NoPart octants) n not_6 not_8 is = absurd (not_6 (sym is))
+merge_status_of (PartDiffers octants) n not_6 not_8 is = absurd (not_6 (sym is))
+merge_status_of (PartDamaged octants key) n not_6 not_8 is = absurd (not_8 (sym is))
+
+module _ (status : ℕ) (why_not : Option Failure) (old new : Option (List ℕ)) (failed : Type 0) where
+  words_of : (outcome : Outcome) → IfErr outcome (λ r. r ≢ as_build Usage) → SaysMerge outcome status old new failed → status ≢ 2
+  words_of (Ok summary) named says = said_not status old new failed 2 (omega arith) (omega arith) (summary_text summary.points summary.nodes) says
+  words_of (Err r) named says = λ is. let cause = merge_status_of r 2 (omega arith) (omega arith) (sym says.0 ∙ is) in named (cause.1 ∙ ap as_build (usage_only cause.0 cause.2))
+
+  pub merge_not_usage : (outcome : Outcome) → IfErr outcome (λ r. r ≢ as_build Usage) → IsMergeReported outcome status why_not old new failed ⊎ IsMergeReported (Err (as_build Memory)) status why_not old new failed → status ≢ 2
+  merge_not_usage outcome named (inl reported) = words_of outcome named reported.says
+  merge_not_usage outcome named (inr reported) = λ is. omega (arith, reported.says.0, is)
+
+  config_of : (outcome : Outcome) → SaysMerge outcome status old new failed → status ≡ 3 → (e : ConfigError) × (outcome ≡ Err (as_build (BadConfiguration e)))
+  config_of (Ok summary) says is = absurd (said_not status old new failed 3 (omega arith) (omega arith) (summary_text summary.points summary.nodes) says is)
+  config_of (Err r) says is =
+      let cause = merge_status_of r 3 (omega arith) (omega arith) (sym says.0 ∙ is) in
+      let bad = configuration_only cause.0 cause.2 in
+      (bad.0, ap (λ (x : MergeRefusal). Err x) (cause.1 ∙ ap as_build bad.1))
+
+  pub merge_configured : (outcome : Outcome) → IsMergeReported outcome status why_not old new failed ⊎ IsMergeReported (Err (as_build Memory)) status why_not old new failed → status ≡ 3 → (e : ConfigError) × (outcome ≡ Err (as_build (BadConfiguration e)))
+  merge_configured outcome (inl reported) is = config_of outcome reported.says is
+  merge_configured outcome (inr reported) is = absurd (omega (arith, reported.says.0, is))
+
+  module _ (path parts : List ℕ) (files before : Option Files) (Begins : Files → Files → Type 0) (after : Option Files) (flushed same source store room : Type 0) where
+    device_of : (outcome : Outcome) → ComesToMerge path parts outcome files before Begins after flushed same source store room → SaysMerge outcome status old new failed → status ≡ 7 → source ⊎ store ⊎ room ⊎ failed
+    device_of (Ok summary) comes (inl ok) is = absurd (omega (arith, ok.0, is))
+    device_of (Ok summary) comes (inr cut) is = inr (inr (inr cut.1))
+    device_of (Err r) comes says is = let cause = merge_status_of r 7 (omega arith) (omega arith) (sym says.0 ∙ is) in by cause.0 cause.1 (device_only cause.0 cause.2)
+      where
+        by : (cause : Refusal) → r ≡ as_build cause → (cause ≡ SourceFault) ⊎ (cause ≡ StoreFault) ⊎ (cause ≡ SpillFault) → source ⊎ store ⊎ room ⊎ failed
+        by cause r_is (inl is_source) = inl (comes.sources (ap (λ (x : MergeRefusal). Err x) (r_is ∙ ap as_build is_source)))
+        by cause r_is (inr (inl is_store)) = inr (inl (comes.stores (ap (λ (x : MergeRefusal). Err x) (r_is ∙ ap as_build is_store))))
+        by cause r_is (inr (inr is_spill)) = inr (inr (inl (comes.spills (ap (λ (x : MergeRefusal). Err x) (r_is ∙ ap as_build is_spill)))))
+
+    pub merge_rose : (outcome : Outcome) → ComesToMerge path parts outcome files before Begins after flushed same source store room
+        → IsMergeReported outcome status why_not old new failed ⊎ IsMergeReported (Err (as_build Memory)) status why_not old new failed → status ≡ 7 → source ⊎ store ⊎ room ⊎ failed
+    merge_rose outcome comes (inl reported) is = device_of outcome comes reported.says is
+    merge_rose outcome comes (inr reported) is = absurd (omega (arith, reported.says.0, is))
+
+    lacking : ComesToMerge path parts (Err (as_build Memory)) files before Begins after flushed same source store room
+    lacking = record {
+      merged = tt;
+      settled = tt;
+      refused = told_always (λ all. MergeIsRefused all before Begins path parts (as_build Memory)) files (λ all. inl (Memory, refl, tt));
+      own = told_always (λ all. Tells (λ start. AreOwnAt all start path parts → ¬ IsFaultOfParts (as_build Memory)) before) files (λ all. told_always (λ start. AreOwnAt all start path parts → ¬ IsFaultOfParts (as_build Memory)) before (λ start own. never_of_parts Memory));
+      early = λ is. absurd (not_bad is.0 is.1);
+      sources = λ is. absurd (not_source (inside Memory SourceFault (merge_inside (as_build Memory) (as_build SourceFault) is)));
+      stores = λ is. absurd (not_store (inside Memory StoreFault (merge_inside (as_build Memory) (as_build StoreFault) is)));
+      spills = λ is. absurd (not_spill (inside Memory SpillFault (merge_inside (as_build Memory) (as_build SpillFault) is)));
+    }
+      where
+        not_bad : (e : ConfigError) → ◌≡◌ {A = Refusal} Memory (BadConfiguration e) → ⊥
+        not_bad e is = cc
+
+        not_source : ◌≡◌ {A = Refusal} Memory SourceFault → ⊥
+        not_source is = cc
+
+        not_store : ◌≡◌ {A = Refusal} Memory StoreFault → ⊥
+        not_store is = cc
+
+        not_spill : ◌≡◌ {A = Refusal} Memory SpillFault → ⊥
+        not_spill is = cc
+
+    pub merge_ends : (outcome : Outcome) → ComesToMerge path parts outcome files before Begins after flushed same source store room
+        → IsMergeReported outcome status why_not old new failed ⊎ IsMergeReported (Err (as_build Memory)) status why_not old new failed
+        → (ends : EndsMerge path parts status files before Begins after flushed same old new source store room failed) × FailsAsMerge ends.outcome why_not
+    merge_ends outcome comes (inl reported) = (record { outcome = outcome; says = reported.says; comes_to = comes }, reported.fails)
+    merge_ends outcome comes (inr reported) = (record { outcome = Err (as_build Memory); says = reported.says; comes_to = lacking }, reported.fails)
+
+pub merge_unless_done : (outcome : Outcome) (status : ℕ) (why_not : Option Failure) (old new : Option (List ℕ)) (failed : Type 0)
+    → IsMergeReported outcome status why_not old new failed ⊎ IsMergeReported (Err (as_build Memory)) status why_not old new failed → (status ≡ 0) ↔ (why_not ≡ None)
+merge_unless_done outcome status why_not old new failed (inl reported) = reported.unless_done
+merge_unless_done outcome status why_not old new failed (inr reported) = reported.unless_done
+
+-- ends of the same words are the same
+pub merge_same : (path other parts others : List ℕ) (status : ℕ) (why_not : Option Failure) (files before : Option Files) (Begins : Files → Files → Type 0) (after : Option Files) (flushed same : Type 0) (old new : Option (List ℕ)) (source store room failed : Type 0)
+    → path ≡ other → parts ≡ others
+    → ((ends : EndsMerge path parts status files before Begins after flushed same old new source store room failed) × FailsAsMerge ends.outcome why_not)
+    → (ends : EndsMerge other others status files before Begins after flushed same old new source store room failed) × FailsAsMerge ends.outcome why_not
+merge_same path other parts others status why_not files before Begins after flushed same old new source store room failed same_path same_parts ends =
+    subst (λ (p : List ℕ). (ends : EndsMerge p others status files before Begins after flushed same old new source store room failed) × FailsAsMerge ends.outcome why_not) same_path
+    (subst (λ (q : List ℕ). (ends : EndsMerge path q status files before Begins after flushed same old new source store room failed) × FailsAsMerge ends.outcome why_not) same_parts ends)
