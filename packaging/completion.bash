@@ -16,10 +16,10 @@ _ept_tool() {
   local word=${COMP_WORDS[COMP_CWORD]}
   case $COMP_CWORD:${COMP_WORDS[1]} in
     1:*) COMPREPLY=($(compgen -W "@COMMANDS@" -- "$word")) ;;
-    2:build | 2:part) _ept_files "$word" json ;;
-    3:build | 3:part | 2:query | 2:select | 2:check) _ept_folders "$word" ;;
+    2:build | 2:part | 2:merge) _ept_files "$word" json ;;
+    3:build | 3:part | 3:merge | 2:query | 2:select | 2:check) _ept_folders "$word" ;;
     2:info) _ept_files "$word" las ;;
-    4:part) COMPREPLY=($(compgen -W "0 1 2 3 4 5 6 7" -- "$word")) ;;
+    4:part | [456789]:merge | 1[01]:merge) COMPREPLY=($(compgen -W "0 1 2 3 4 5 6 7" -- "$word")) ;;
     4:query | 4:select) COMPREPLY=($(compgen -W "0,32" -- "$word")) ;;
     [567]:select) COMPREPLY=($(compgen -W "-" -- "$word")) ;;
     *) COMPREPLY=() ;;
