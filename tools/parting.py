@@ -19,8 +19,9 @@ LINES = {"NoPart": "error 6 part {octants}", "PartDiffers": "error 6 differs {oc
 
 
 def are_offered():
-    """Whether the program makes parts. It is asked for one of a configuration that is missing."""
-    done = subprocess.run([PROGRAM, "part", "/none/none.json", "/none/none", "0"], capture_output=True, check=False)
+    """Whether the program makes parts and merges them. It is asked for a merge by a configuration that is missing."""
+    words = ["merge", "/none/none.json", "/none/none", ",".join(map(str, EVERY))]
+    done = subprocess.run([PROGRAM, *words], capture_output=True, check=False)
     return done.stdout != b"error 2 usage\n"
 
 
