@@ -228,18 +228,12 @@ static PART_CALLS: [(Call<'static>, &str); 9] = [
         Call::Put("ept-work/part-07/body"),
         "test: saving, 5 MB; files put 2, flushed 0\n",
     ),
-    (
-        Call::Sync,
-        "test: saving, 5 MB; files put 2, flushed 2\n",
-    ),
+    (Call::Sync, "test: saving, 5 MB; files put 2, flushed 2\n"),
     (
         Call::Put("ept-work/part-07/gate"),
         "test: saving, 5 MB; files put 3, flushed 2\n",
     ),
-    (
-        Call::Sync,
-        "test: saving, 5 MB; files put 3, flushed 3\n",
-    ),
+    (Call::Sync, "test: saving, 5 MB; files put 3, flushed 3\n"),
 ];
 
 // The calls of a merge, and of the build that follows it.
@@ -261,10 +255,7 @@ static MERGE_CALLS: [(Call<'static>, &str); 12] = [
         Call::Put("ept-work/body-b"),
         "test: merging, 1 MB; files put 2, flushed 0\n",
     ),
-    (
-        Call::Sync,
-        "test: merging, 1 MB; files put 2, flushed 3\n",
-    ),
+    (Call::Sync, "test: merging, 1 MB; files put 2, flushed 3\n"),
     (Call::Get("ept-work/done-2"), ""),
     (
         Call::Get("ept-work/a/0-0-0-0.bin"),
