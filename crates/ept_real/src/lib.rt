@@ -1,6 +1,6 @@
 //! The outside world over the real machine: the shelf that opens files by their paths and the sources
 //! that it opens, a store in a folder, a room in a folder for spill files, a sink over a writer, a link over a stream, and the machine as one that
-//! tells how far a build is.
+//! reports how far a run is.
 //!
 //! What they hold is not told: clauses on contents say nothing of them. Each keeps its counts, of
 //! faults, of bytes given and of gets, in 64 bits, and a count stands still at its last value.
@@ -27,7 +27,7 @@ mod unsynced;
 pub use link::RealLink;
 pub use path_disk::PathDisk;
 pub use path_files::PathFiles;
-pub use progress::{Ending, Telling};
+pub use progress::{Ending, Run, Telling};
 pub use read_store::ReadStore;
 pub use real_disk::RealDisk;
 pub use real_files::RealFiles;

@@ -1,4 +1,4 @@
-//! How far a build or a check is, told on standard error.
+//! How far a build, a part, a merge or a check is, told on standard error.
 
 ghost use Rattle.std.specs.Prelude.{◌≡◌, IfOk};
 
@@ -33,10 +33,14 @@ pub enum Telling {
 }
 
 /// What a run does with its folder.
-#[derive(Clone, Copy)]
-pub(crate) enum Run {
+#[derive(Clone, Copy, Debug)]
+pub enum Run {
     /// It builds it.
     Build,
+    /// It makes a part of a build in it.
+    Part,
+    /// It merges the parts in it, and finishes the build.
+    Merge,
     /// It reads all of it.
     Check,
 }
@@ -48,18 +52,19 @@ pub(crate) enum Run {
 /// changes nothing.
 ///
 /// What is read of a file outside of the folder is of the inputs: of their first reading until the done gate is
-/// asked for, which a build closes before it puts anything, and of the second from then on.
+/// asked for, which a build closes before it puts anything, and of the second from then on. A part asks for no done gate,
+/// so its two readings count as one. A merge has one reading, and then asks for the done gate once the parts are merged.
 #[derive(Drop)]
 pub(crate) struct Progress<R: Clock + Eprint + Drop> {
     machine: R,
     program: String,
-    telling: Telling,
     run: Run,
+    telling: Telling,
     began: Option<Instant>,
     // When the next line is due, in milliseconds from the start; at the greatest number none is.
     due: AtomicU64,
     is_told: AtomicBool,
-    is_second: AtomicBool,
+    is_past_gate: AtomicBool,
     scanned: AtomicU64,
     loaded: AtomicU64,
     inserted: AtomicU64,
@@ -77,8 +82,8 @@ impl<R: Clock + Eprint + Drop> Progress<R> {
         alloc: Global,
         machine: R,
         program: &str,
-        telling: Telling,
         run: Run,
+        telling: Telling,
     ) -> Result<Self, AllocError>
         ensures { IfOk result (λ progress. machine_of progress ≡ machine) }
     {
@@ -87,11 +92,11 @@ impl<R: Clock + Eprint + Drop> Progress<R> {
             began: Instant::now(&machine).ok(),
             machine,
             program,
-            telling,
             run,
+            telling,
             due: AtomicU64::new(first_due(telling)),
             is_told: AtomicBool::new(false),
-            is_second: AtomicBool::new(false),
+            is_past_gate: AtomicBool::new(false),
             scanned: AtomicU64::new(0),
             loaded: AtomicU64::new(0),
             inserted: AtomicU64::new(0),
@@ -112,20 +117,17 @@ impl<R: Clock + Eprint + Drop> Progress<R> {
     /// A file was asked for.
     pub(crate) fn note_opened(&self, role: Role) {
         if role == Role::Done {
-            self.is_second.store(true, Ordering::SeqCst);
+            self.is_past_gate.store(true, Ordering::SeqCst);
         }
         self.opened.fetch_add(1, Ordering::SeqCst);
     }
 
     /// So many bytes of a file were read.
     pub(crate) fn count_read(&self, role: Role, bytes: u64) {
-        let stage = match self.run {
-            Run::Build => stage_of_read(role, self.is_second.load(Ordering::SeqCst)),
-            Run::Check => Stage::Checking,
-        };
+        let stage = stage_of_read(self.run, role, self.is_past_gate.load(Ordering::SeqCst));
         let total = match stage {
             Stage::Scanning => &self.scanned,
-            Stage::Inserting => &self.inserted,
+            Stage::Reading | Stage::Inserting => &self.inserted,
             _ => &self.loaded,
         };
         total.fetch_add(bytes, Ordering::SeqCst);
@@ -138,13 +140,18 @@ impl<R: Clock + Eprint + Drop> Progress<R> {
             self.checkpoints.fetch_add(1, Ordering::SeqCst);
         }
         self.put.fetch_add(1, Ordering::SeqCst);
-        self.tell(stage_of_put(role));
+        self.tell(self.stage_of_put(role));
     }
 
     /// A file was flushed.
     pub(crate) fn count_flushed(&self, role: Role) {
         self.flushed.fetch_add(1, Ordering::SeqCst);
-        self.tell(stage_of_put(role));
+        self.tell(self.stage_of_put(role));
+    }
+
+    /// What the run is at that puts a file of this role or flushes one.
+    fn stage_of_put(&self, role: Role) -> Stage {
+        stage_of_put(self.run, role, self.is_past_gate.load(Ordering::SeqCst))
     }
 
     /// Tells nothing from now on, and clears the line on a terminal.
@@ -185,10 +192,11 @@ impl<R: Clock + Eprint + Drop> Progress<R> {
     fn line(&self, stage: Stage) -> Line {
         let bytes = match stage {
             Stage::Scanning => &self.scanned,
-            Stage::Loading | Stage::Checking => &self.loaded,
+            Stage::Loading | Stage::Merging | Stage::Checking => &self.loaded,
             _ => &self.inserted,
         };
         Line {
+            run: self.run,
             stage,
             megabytes: bytes.load(Ordering::SeqCst) / 1_000_000,
             opened: self.opened.load(Ordering::SeqCst),
@@ -261,6 +269,8 @@ fn name_in<'p>(folder: &str, path: &'p str) -> Option<&'p str> {
 #[derive(Clone, Copy, Debug, PartialEq, Eq)]
 enum Stage {
     Scanning,
+    Reading,
+    Merging,
     Loading,
     Inserting,
     Saving,
@@ -268,20 +278,26 @@ enum Stage {
     Checking,
 }
 
-/// What a build is at that reads a file. Behind the first reading it reads a tile only to compare it.
-fn stage_of_read(role: Role, is_second: bool) -> Stage {
-    match (role, is_second) {
-        (Role::Input, false) => Stage::Scanning,
-        (Role::Input, true) => Stage::Inserting,
-        (_, false) => Stage::Loading,
-        (_, true) => Stage::Saving,
+/// What a run is at that reads a file, before or after it asked for the done gate. After that a build reads a tile only to
+/// compare it, and a merge loads what it merged.
+fn stage_of_read(run: Run, role: Role, is_past_gate: bool) -> Stage {
+    match (run, role, is_past_gate) {
+        (Run::Build, Role::Input, false) => Stage::Scanning,
+        (Run::Build, Role::Input, true) => Stage::Inserting,
+        (Run::Part, Role::Input, _) | (Run::Merge, Role::Input, _) => Stage::Reading,
+        (Run::Build, _, false) | (Run::Merge, _, true) => Stage::Loading,
+        (Run::Build, _, true) | (Run::Part, _, _) => Stage::Saving,
+        (Run::Merge, _, false) => Stage::Merging,
+        (Run::Check, _, _) => Stage::Checking,
     }
 }
 
-/// What a build is at that puts a file or flushes one.
-fn stage_of_put(role: Role) -> Stage {
-    match role {
-        Role::Output => Stage::Publishing,
+/// What a run is at that puts a file or flushes one, before or after it asked for the done gate. A merge puts the files for
+/// viewers after that, and the tiles of the parts before.
+fn stage_of_put(run: Run, role: Role, is_past_gate: bool) -> Stage {
+    match (run, role, is_past_gate) {
+        (Run::Merge, _, false) => Stage::Merging,
+        (Run::Merge, _, true) | (_, Role::Output, _) => Stage::Publishing,
         _ => Stage::Saving,
     }
 }
@@ -290,6 +306,8 @@ impl fmt::Display for Stage {
     fn fmt<W: fmt::Write>(&self, f: &mut fmt::Formatter<W>) -> fmt::Result {
         f.write_str(match self {
             Stage::Scanning => "reading 1",
+            Stage::Reading => "reading",
+            Stage::Merging => "merging",
             Stage::Loading => "loading",
             Stage::Inserting => "reading 2",
             Stage::Saving => "saving",
@@ -299,10 +317,11 @@ impl fmt::Display for Stage {
     }
 }
 
-/// What is told: the stage and the megabytes of the reading. Of a build it is also told how many checkpoints were made,
-/// and how many files were put and flushed; of a check how many files were opened.
+/// What is told: the stage and the megabytes of the reading. Of a check it is also told how many files were opened, of any
+/// other run how many were put and flushed, and of a build how many checkpoints were made.
 #[derive(Drop)]
 struct Line {
+    run: Run,
     stage: Stage,
     megabytes: u64,
     opened: u64,
@@ -314,14 +333,18 @@ struct Line {
 impl fmt::Display for Line {
     fn fmt<W: fmt::Write>(&self, f: &mut fmt::Formatter<W>) -> fmt::Result {
         let (stage, megabytes, opened) = (self.stage, self.megabytes, self.opened);
-        if stage == Stage::Checking {
-            return write!(f, "{stage}, {megabytes} MB; files read {opened}");
-        }
         let (checkpoints, put, flushed) = (self.checkpoints, self.put, self.flushed);
-        write!(
-            f,
-            "{stage}, {megabytes} MB; checkpoints {checkpoints}; files put {put}, flushed {flushed}"
-        )
+        match self.run {
+            Run::Build => write!(
+                f,
+                "{stage}, {megabytes} MB; checkpoints {checkpoints}; files put {put}, flushed {flushed}"
+            ),
+            Run::Part | Run::Merge => write!(
+                f,
+                "{stage}, {megabytes} MB; files put {put}, flushed {flushed}"
+            ),
+            Run::Check => write!(f, "{stage}, {megabytes} MB; files read {opened}"),
+        }
     }
 }
 

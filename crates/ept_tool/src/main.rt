@@ -10,7 +10,7 @@ use ept_base::{OpenGate, Room, Shelf, Sink, Store};
 use ept_command::status::OK;
 use ept_command::{Command, Ended, Refusal, command_of};
 use ept_mem::{MemRoom, MemStore};
-use ept_real::{RealRoom, RealShelf, RealSink, RealStore, SeenFiles, Telling};
+use ept_real::{RealRoom, RealShelf, RealSink, RealStore, Run, SeenFiles, Telling};
 use ept_run::{carry_out, refuse};
 use std::alloc::{AllocError, Global};
 use std::env;
@@ -54,24 +54,40 @@ fn run_words<R: Threads + Wait + Sync>(rt: &R, disk: &HostRuntime, words: &[Stri
     }
 }
 
-// The machine's files, as a progress of these words sees them: of a build and of a check it is told on standard error.
+// The machine's files, as the progress of these words sees them.
 fn files_for(disk: &HostRuntime, words: &[String]) -> Result<SeenFiles<HostRuntime>, AllocError> {
     let (alloc, machine) = (disk.alloc(), disk.clone()?);
-    let (folder, telling) = (folder_of(words), telling_of(disk, words));
-    match command_of(words) {
-        Command::Check { .. } => SeenFiles::of_check(alloc, machine, "ept_tool", folder, telling),
-        _ => SeenFiles::new(alloc, machine, "ept_tool", folder, telling),
+    let folder = folder_of(words);
+    match run_of(words) {
+        Some(run) => SeenFiles::new(alloc, machine, "ept_tool", folder, run, telling_of(disk)),
+        None => SeenFiles::new(
+            alloc,
+            machine,
+            "ept_tool",
+            folder,
+            Run::Build,
+            Telling::Silent,
+        ),
     }
 }
 
-// Where the progress of these words is told: of a build and of a check on standard error, of nothing else.
-fn telling_of(disk: &HostRuntime, words: &[String]) -> Telling {
+// What these words do with their folder, if its progress is reported.
+fn run_of(words: &[String]) -> Option<Run> {
     match command_of(words) {
-        Command::Build { .. } | Command::Check { .. } if disk.stderr().is_terminal() => {
-            Telling::Terminal
-        }
-        Command::Build { .. } | Command::Check { .. } => Telling::Lines,
-        _ => Telling::Silent,
+        Command::Build { .. } => Some(Run::Build),
+        Command::Part { .. } => Some(Run::Part),
+        Command::Merge { .. } => Some(Run::Merge),
+        Command::Check { .. } => Some(Run::Check),
+        _ => None,
+    }
+}
+
+// How progress is reported on standard error.
+fn telling_of(disk: &HostRuntime) -> Telling {
+    if disk.stderr().is_terminal() {
+        Telling::Terminal
+    } else {
+        Telling::Lines
     }
 }
 
