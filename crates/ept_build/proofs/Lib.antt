@@ -7,6 +7,7 @@ mod Phased
 mod Counting
 mod Asking
 mod Ending
+mod Ended
 mod Ground
 mod Refusals
 pub mod Found
