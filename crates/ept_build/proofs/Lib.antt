@@ -18,5 +18,6 @@ pub mod TakenUp
 mod UnderWay
 mod Damage
 mod Renewed
+mod Caused
 mod Finished
 mod Spilled

@@ -3,3 +3,4 @@ pub mod Building
 pub mod Ends
 pub mod Reached
 pub mod Phases
+pub mod Starting

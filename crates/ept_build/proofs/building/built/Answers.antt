@@ -21,6 +21,7 @@ use Rattle.ept_build.specs.Building.{IsUnderWay}
 use Rattle.ept_build.specs.Reached.{IsThrough}
 use Rattle.ept_build.specs.Phases.{AreMany}
 use Rattle.ept_build.proofs.Asking.{asks-none}
+use Rattle.ept_build.proofs.Caused.{start-phase}
 use Rattle.ept_build.proofs.Causes.{tells-some}
 use Rattle.ept_build.proofs.Ended.{asks-alike, no-refusal, cause-none, cause-after, cause-last, finds-none, kept-after}
 use Rattle.ept_build.proofs.Ground.{IsGround, ground as ground-of, extent-found, many-at}
@@ -28,7 +29,7 @@ use Rattle.ept_build.proofs.Damage.{loading-tells, end-no-tile, first-more, slot
 use Rattle.ept_build.proofs.Judging.{err-one, end-refused, end-not-many, end-no-source}
 use Rattle.ept_build.proofs.Moved.{moves-then}
 use Rattle.ept_build.proofs.Numbers.{nodes-number}
-use Rattle.ept_build.proofs.Refusals.{phase-refused, end-phase}
+use Rattle.ept_build.proofs.Refusals.{phase-refused, start-refused, end-phase}
 use Rattle.ept_build.proofs.Roomy.{many-phases}
 use Rattle.ept_build.proofs.Running.{few-lines}
 use Rattle.ept_build.proofs.TakenUp.{inserted-few, taken-inputs, taken-of}
@@ -52,30 +53,33 @@ returns-in-Err-clause-ends g c = λ all start shelf_told starts.
       under_way = first-moves all start c.args.config.now c.args.at.saved.current c.args.plan.now c.whole_extent-extent.result it starts.ready.has_current g.T.Store.files g.T.Store.may_leave g.T.Store.moment g.T.Store.image_since c.args.store.now c.take_up.new.store (inserted-few c.args.config.now c.args.at.saved.current c.args.plan.now c.requires.plan) (c.take_up.ensures.sound all start starts.ready);
       stopped = λ is. (
           let its = ap (λ (w : BuildError). Err w) (err-one is) in
-          let untouched = c.in-Err.ensures.untouched its in
+          let untouched = c.in-Err.ensures.refused.untouched its in
           let now = stepped SameFiles (g.T.Store.files c.args.store.now) (g.T.Store.files c.take_up.new.store) start starts.ready.told untouched.0.reads in (
             settled-stays start (g.T.Store.files c.args.store.now) (g.T.Store.files c.take_up.new.store) (g.T.Store.may_leave c.args.store.now) (g.T.Store.may_leave c.take_up.new.store) starts.ready.told starts.ready.settled now.0 now.1 now.2 untouched.1,
-            inl (too-many-already all start c.args.config.now c.args.at.saved.current c.args.plan.now c.whole_extent-extent.result it starts.ready.has_current c.requires.plan.inserted_is (less (c.in-Err.ensures.too_many its)), untouched.0),
+            inl (too-many-already all start c.args.config.now c.args.at.saved.current c.args.plan.now c.whole_extent-extent.result it starts.ready.has_current c.requires.plan.inserted_is (less (c.in-Err.ensures.refused.too_many its)), untouched.0),
           ));
-      refused = phase-refused all c.args.config.now c.args.at.saved.current c.in-Err.refused c.in-Err.ensures.only (λ key same. c.in-Err.ensures.undamaged all start starts.ready key (ap (λ (w : BuildError). Err w) same)) (λ source number same. c.in-Err.ensures.no_change source number (ap (λ (w : BuildError). Err w) same)) (λ kept found number same. c.in-Err.ensures.no_damage kept found number (ap (λ (w : BuildError). Err w) same))
-          (λ same. many-at c.node_law.ensures.more_nodes all start c.args.config.now c.args.at.saved.current c.args.plan.now c.whole_extent-extent.result it c.args.plan.now.inserted (less (c.in-Err.ensures.too_many (ap (λ (w : BuildError). Err w) same))));
+      refused = start-refused all c.args.config.now c.args.at.saved.current c.in-Err.refused c.in-Err.ensures.only (λ key same. c.in-Err.ensures.refused.undamaged all start starts.ready key (ap (λ (w : BuildError). Err w) same))
+          (λ same. many-at c.node_law.ensures.more_nodes all start c.args.config.now c.args.at.saved.current c.args.plan.now c.whole_extent-extent.result it c.args.plan.now.inserted (less (c.in-Err.ensures.refused.too_many (ap (λ (w : BuildError). Err w) same))));
     }
+
+pub returns-in-Err-clause-only : goal.returns-in-Err-clause-only
+returns-in-Err-clause-only g c = start-phase c.in-Err.refused c.in-Err.ensures.only
 
 pub returns-in-Err-clause-damaged : goal.returns-in-Err-clause-damaged
 returns-in-Err-clause-damaged g c = λ key is stands.
-    (c.args.at.saved.current, c.in-Err.ensures.damaged key (ap (λ (w : BuildError). Err w) (err-one is)) stands)
+    (c.args.at.saved.current, c.in-Err.ensures.refused.damaged key (ap (λ (w : BuildError). Err w) (err-one is)) stands)
 
 pub returns-in-Err-clause-damage : goal.returns-in-Err-clause-damage
 returns-in-Err-clause-damage g c = λ start told.
     let current = c.args.at.saved.current in record {
       first = λ key other damaged is. (
-          let found = c.in-Err.ensures.first_damaged other start told (ap (λ (w : BuildError). Err w) (err-one is)) in
+          let found = c.in-Err.ensures.refused.first other start told (ap (λ (w : BuildError). Err w) (err-one is)) in
           (first-more current (most_of c.args.at.octree) c.args.config.now.max_nodes other start c.requires.room.few found.0, found.1));
-      comes = λ key slot damaged. loading-tells (Err c.in-Err.refused) c.in-Err.refused refl c.in-Err.ensures.only (λ same. c.in-Err.ensures.no_source (ap (λ (w : BuildError). Err w) same)) (λ source number same. c.in-Err.ensures.no_change source number (ap (λ (w : BuildError). Err w) same)) (λ kept found number same. c.in-Err.ensures.no_damage kept found number (ap (λ (w : BuildError). Err w) same))
+      comes = λ key slot damaged. loading-tells (Err c.in-Err.refused) c.in-Err.refused refl c.in-Err.ensures.only
           (λ same. (
           let its = ap (λ (w : BuildError). Err w) same in
-          let wide : most_of c.args.at.octree ≡ c.args.config.now.max_nodes = c.requires.room.for_lines (c.in-Err.ensures.too_many its) in
-          let intact = told_some (AreIntact current (take (most_of c.args.at.octree) (lines_of current))) (g.T.Store.files c.args.store.now) start told (c.in-Err.ensures.too_many_intact its) in
+          let wide : most_of c.args.at.octree ≡ c.args.config.now.max_nodes = c.requires.room.for_lines (c.in-Err.ensures.refused.too_many its) in
+          let intact = told_some (AreIntact current (take (most_of c.args.at.octree) (lines_of current))) (g.T.Store.files c.args.store.now) start told (c.in-Err.ensures.refused.intact its) in
           slot-intact current c.args.config.now.max_nodes key start slot (subst (λ (n : ℕ). AreIntact current (take n (lines_of current)) start) wide intact) damaged));
     }
 
