@@ -33,7 +33,7 @@ use Rattle.ept_plan.specs.declared.error.PlanError.{PlanError}
 use Rattle.ept_plan.specs.declared.error.PlanError.TheVariants as plan
 use Rattle.ept_build.specs.Errors.{of_save, of_scan, of_plan, of_put}
 use Rattle.ept_build.specs.Building.{TellsDamage, Fails}
-use Rattle.ept_build.specs.Phases.{HasDamage, IsPhaseFault, IsRoomFault, IsStoreFault, IsEndFault}
+use Rattle.ept_build.specs.Phases.{HasDamage, IsStartFault, IsRoomFault, IsStoreFault, IsEndFault}
 
 -- a tile is damaged as before
 pub damaged-same : (current : Current) (key : VoxelKey) (old new : Files) → SameFiles old new → IsDamaged current key new → IsDamaged current key old
@@ -121,21 +121,21 @@ same-damage view key (Some a) (Some b) stands same line damaged = (line, (subst 
 
 module _ (r : Result Summary BuildError) where
   -- the nodes are not loaded
-  pub loading-tells : (e : BuildError) → r ≡ Err e → IsPhaseFault e → e ≢ SourceFault → ((source number : ℕ) → e ≢ SourceChanged source number) → ((kept found number : ℕ) → e ≢ SpillDamaged kept found number) → e ≢ TooManyNodes → TellsDamage r ⊎ Fails r
-  loading-tells StoreFault is only source same whole many = inr (inl is)
-  loading-tells Memory is only source same whole many = inr (inr (inr (inr is)))
-  loading-tells SpillFault is only source same whole many = inr (inr (inr (inl is)))
-  loading-tells (SpillDamaged kept found number) is only source same whole many = absurd (whole kept found number refl)
-  loading-tells (TileDamaged key) is only source same whole many = inl (key, is)
-  loading-tells SourceFault is only source same whole many = absurd (source refl)
-  loading-tells (SourceChanged s n) is only source same whole many = absurd (same s n refl)
-  loading-tells TooManyNodes is only source same whole many = absurd (many refl)
-  loading-tells (BadCheckpoint letter) is only source same whole many = absurd only
-  loading-tells (Differs field kept given) is only source same whole many = absurd only
-  loading-tells (BadLas s fault) is only source same whole many = absurd only
-  loading-tells (OutOfBounds s number) is only source same whole many = absurd only
-  loading-tells (TooManyPoints s) is only source same whole many = absurd only
-  loading-tells NoBounds is only source same whole many = absurd only
+  pub loading-tells : (e : BuildError) → r ≡ Err e → IsStartFault e → e ≢ TooManyNodes → TellsDamage r ⊎ Fails r
+  loading-tells StoreFault is only many = inr (inl is)
+  loading-tells Memory is only many = inr (inr (inr (inr is)))
+  loading-tells SpillFault is only many = inr (inr (inr (inl is)))
+  loading-tells (TileDamaged key) is only many = inl (key, is)
+  loading-tells TooManyNodes is only many = absurd (many refl)
+  loading-tells SourceFault is only many = absurd only
+  loading-tells (SourceChanged s n) is only many = absurd only
+  loading-tells (SpillDamaged kept found number) is only many = absurd only
+  loading-tells (BadCheckpoint letter) is only many = absurd only
+  loading-tells (Differs field kept given) is only many = absurd only
+  loading-tells (BadLas s fault) is only many = absurd only
+  loading-tells (OutOfBounds s number) is only many = absurd only
+  loading-tells (TooManyPoints s) is only many = absurd only
+  loading-tells NoBounds is only many = absurd only
 
   -- the checkpoints are not opened
   pub opening-fails : (e : SaveError) → r ≡ Err (of_save e) → IsStores e → Fails r

@@ -194,6 +194,23 @@ IsPhaseFault (OutOfBounds source number) = ⊥
 IsPhaseFault (TooManyPoints source) = ⊥
 IsPhaseFault NoBounds = ⊥
 
+-- a cause that the taking up of the current checkpoint may have
+abbrev pub IsStartFault : BuildError → Type 0
+IsStartFault StoreFault = ⊤
+IsStartFault (TileDamaged key) = ⊤
+IsStartFault SpillFault = ⊤
+IsStartFault TooManyNodes = ⊤
+IsStartFault Memory = ⊤
+IsStartFault SourceFault = ⊥
+IsStartFault (SourceChanged source number) = ⊥
+IsStartFault (SpillDamaged kept found at) = ⊥
+IsStartFault (BadCheckpoint letter) = ⊥
+IsStartFault (Differs field kept given) = ⊥
+IsStartFault (BadLas source fault) = ⊥
+IsStartFault (OutOfBounds source number) = ⊥
+IsStartFault (TooManyPoints source) = ⊥
+IsStartFault NoBounds = ⊥
+
 -- a fault of the room, or want of memory
 abbrev pub IsRoomFault : BuildError → Type 0
 IsRoomFault e = (e ≡ SpillFault) ⊎ (e ≡ Memory)
@@ -201,6 +218,10 @@ IsRoomFault e = (e ≡ SpillFault) ⊎ (e ≡ Memory)
 -- a fault of the store, or want of memory
 abbrev pub IsStoreFault : BuildError → Type 0
 IsStoreFault e = (e ≡ StoreFault) ⊎ (e ≡ Memory)
+
+-- the same, or a damaged tile
+abbrev pub IsRenewFault : BuildError → Type 0
+IsRenewFault e = IsStoreFault e ⊎ ((key : VoxelKey) × (e ≡ TileDamaged key))
 
 -- a fault of the store, a spill file that does not give back the points of its node, or want of memory
 abbrev pub IsEndFault : BuildError → Type 0

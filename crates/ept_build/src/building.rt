@@ -18,11 +18,12 @@ ghost use Rattle.ept_save.specs.Opening.{IsBad};
 ghost use Rattle.ept_save.specs.Tiles.{IsOfLayout};
 ghost use Rattle.ept_save.specs.View.{StandsFor};
 ghost use Rattle.ept_point.specs.declared.layout.Layout.TheVariants.{Old};
-ghost use Rattle.ept_phase.specs.Loaded.{HasSlot, IsFirstDamaged};
+ghost use Rattle.ept_phase.specs.Loaded.{IsFirstDamaged};
 ghost use Rattle.ept_meta.specs.declared.fields.Field.{Field};
 ghost use Rattle.ept_plan.specs.Plans.{IsPlan, IsDefinite, GoesOn, DiffersBy};
 ghost use Rattle.ept_few.specs.Few.{TilesAreFew};
-ghost use Rattle.ept_build.specs.Building.{BeginsWith, Starts, InputsAreRefused, HasTooManyNodes, HasTooManyAlready, TellsDifference, IsBuilt, IsUnderWay, IsStopped, AsksInOrder, ComesToDamage, TellsDamage, IsDoneAlready, HasKeptBut, IsAccepted, IsRefusedAt, IsRefused, IsEarly, Fails};
+ghost use Rattle.ept_build.specs.Building.{BeginsWith, Starts, InputsAreRefused, HasTooManyNodes, HasTooManyAlready, TellsDifference, IsBuilt, IsUnderWay, IsStopped, AsksInOrder, ComesToDamage, TellsDamage, IsDoneAlready, HasKeptBut, IsAccepted, IsRefused, IsEarly, Fails};
+ghost use Rattle.ept_build.specs.Ends.{EndsSoundly, FindsDamage};
 ghost use Rattle.ept_build.specs.Errors.{of_scan};
 ghost use Rattle.ept_build.specs.Phases.{HasAll, IsBegun, HasRoom, HasDamage, IsPhaseFault, IsStoreFault};
 
@@ -215,33 +216,17 @@ where
     requires plan { IsPlan config.now at.saved.current plan.now }
     requires begun { IsBegun F.held F.faults F.keeps plan.now at.inserted at.octree at.saved }
     requires room { HasRoom plan.now at.saved.current config.now.max_nodes (most_of at.octree) }
-    ensures built { (all start : Files) → H.files shelf.old ≡ Some all
+    ensures ends { (all start : Files) → H.files shelf.old ≡ Some all
         → Starts F.held all config.now at.saved plan.now start (T.files store.old) (T.may_leave store.old)
-        → IfOk result.1 (λ summary. Tells (IsBuilt all config.now start summary) (T.files store.new)) }
+        → EndsSoundly T.files T.may_leave T.moment T.image_since all config.now at.saved.current start result.1 store.old store.new }
     ensures few { IfOk result.1 (λ summary. summary.nodes ≤ config.now.max_nodes) }
     ensures settled { OnOk result.1 (IsSettled (T.files store.new) (T.may_leave store.new)) }
-    ensures sound { (all start : Files) → H.files shelf.old ≡ Some all
-        → Starts F.held all config.now at.saved plan.now start (T.files store.old) (T.may_leave store.old)
-        → Moves T.files T.may_leave T.moment T.image_since (λ (a b : Files). IsUnderWay all config.now start b) store.old store.new }
-    ensures stops { result.1 ≡ Err BuildError.TooManyNodes → (all start : Files) → H.files shelf.old ≡ Some all
-        → Starts F.held all config.now at.saved plan.now start (T.files store.old) (T.may_leave store.old)
-        → IsSettled (T.files store.new) (T.may_leave store.new)
-        × ((HasTooManyAlready all config.now start × Moves T.files T.may_leave T.moment T.image_since SameFiles store.old store.new)
-        ⊎ Tells (IsStopped all config.now start) (T.files store.new)) }
     ensures only { IfErr result.1 IsPhaseFault }
     ensures damaged { (key : VoxelKey) → result.1 ≡ Err (BuildError.TileDamaged key)
         → StandsFor at.saved (T.files store.old) (T.may_leave store.old)
         → (current : Current) × HasDamage current key (T.files store.new) }
-    ensures damaged_first { (start : Files) (key other : VoxelKey) → T.files store.old ≡ Some start
-        → IsDamaged at.saved.current key start → result.1 ≡ Err (BuildError.TileDamaged other)
-        → IsFirstDamaged at.saved.current config.now.max_nodes other start
-        × Moves T.files T.may_leave T.moment T.image_since SameFiles store.old store.new }
-    ensures damaged_comes { (start : Files) (key : VoxelKey) → T.files store.old ≡ Some start
-        → HasSlot at.saved.current config.now.max_nodes key → IsDamaged at.saved.current key start
-        → TellsDamage result.1 ⊎ Fails result.1 }
-    ensures refused { (all start : Files) → H.files shelf.old ≡ Some all
-        → Starts F.held all config.now at.saved plan.now start (T.files store.old) (T.may_leave store.old)
-        → IfErr result.1 (IsRefusedAt all config.now at.saved.current) }
+    ensures damage { (start : Files) → T.files store.old ≡ Some start
+        → FindsDamage T.files T.may_leave T.moment T.image_since config.now at.saved.current start result.1 store.old store.new }
     ensures asked { (n : ℕ) × AsksFor (take n (paths_left plan.now.kept.inputs plan.now.counts plan.now.inserted))
         (H.asked shelf.old) (H.asked shelf.new) }
     ensures files { H.files shelf.new ≡ H.files shelf.old }
