@@ -23,6 +23,8 @@ mod Public
 mod Once
 mod Divided
 mod Own
+mod Judging
 mod Found
+mod Ready
 mod Outcome
 mod Committing

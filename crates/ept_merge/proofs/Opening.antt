@@ -26,6 +26,7 @@ use Rattle.ept_plan.specs.Steps.{IsFound}
 use Rattle.ept_part.specs.Scanned.{rules_by}
 use Rattle.ept_merge.specs.declared.error.MergeError.TheVariants.{SourceFault, StoreFault, Shallow}
 use Rattle.ept_merge.specs.Errors.{of_scan, of_save}
+use Rattle.ept_merge.specs.Merging.{IsInRange}
 use Rattle.ept_merge.specs.Steps.{IsFresh, IsOpenFault, IsPlanFault}
 use Rattle.ept_merge.proofs.Reading.{tells-more, tells-always}
 
@@ -87,4 +88,5 @@ rules-same config plan is done same = λ i. record { cube = cube_of (sym same i)
 pub shallow-refused : (files : Option Files) (config : Config) (plan : Plan) → IsPlan config None plan → Tells (λ all. (points : List Point) × HasPoints all config None plan points) files → (rules_of plan.kept).cube.depth ≡ 0 → Tells (λ all. IsPlanFault all config Shallow) files
 shallow-refused files config plan is has flat =
     let found : ScanDone = record { counts = plan.counts; bounds = plan.kept.bounds } in
-    tells-more _ _ (λ all h. (h.0, found, h.1, subst (λ (r : Rules). r.cube.depth ≡ 0) (rules-same config plan is found refl) flat)) files has
+    let in_range : IsInRange found = record { bounds = plan.kept.has_bounds; extents = is.extents } in
+    tells-more _ _ (λ all h. (h.0, found, h.1, (subst (λ (r : Rules). r.cube.depth ≡ 0) (rules-same config plan is found refl) flat, in_range))) files has

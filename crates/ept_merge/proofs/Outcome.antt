@@ -1,6 +1,6 @@
 -- What a merge's result says, for whatever is visible of the shelf and of the store.
 use Rattle.std.proofs.Common.{◌≡◌, ◌∙◌, ◌⊎◌, inl, inr, ℕ, ◌<◌, ◌≤◌, List, ◌++◌, length, refl, subst, Option, Some, None}
-use Rattle.std.specs.Prelude.{Result, Ok, Err, OnOk, IfErr}
+use Rattle.std.specs.Prelude.{Result, Ok, Err, IsOk, OnOk, IfErr}
 use Rattle.ept_base.specs.Files.{Files, Tells}
 use Rattle.ept_point.specs.declared.point.Point.{Point}
 use Rattle.ept_point.specs.Laws.{ReadInOneWay}
@@ -10,6 +10,7 @@ use Rattle.ept_ckpt.specs.Laws.{BodyOnce}
 use Rattle.ept_meta.specs.Output.{rules_of}
 use Rattle.ept_meta.specs.OutputLaws.{PointsCanBeSampled}
 use Rattle.ept_save.specs.Current.{HasCurrent}
+use Rattle.ept_save.specs.SoundLaws.{CurrentIsOne, CurrentIsNotBad}
 use Rattle.ept_save.proofs.Standing.{told_some}
 use Rattle.ept_plan.specs.declared.plan.Plan.{Plan}
 use Rattle.ept_plan.specs.Plans.{IsPlan, HasPoints}
@@ -18,16 +19,22 @@ use Rattle.ept_merge.specs.declared.error.MergeError.TheVariants.{TooManyNodes, 
 use Rattle.ept_merge.specs.declared.bodies.PartBody.{PartBody}
 use Rattle.ept_merge.specs.declared.joining.PartNode.{PartNode}
 use Rattle.ept_merge.specs.Steps.{IsOpenFault, IsPlanFault}
-use Rattle.ept_merge.specs.Merging.{AreAllParts, HasMerged, WereMerged, IsRefused, AreOwnParts, IsPartFault}
+use Rattle.ept_merge.specs.Merging.{AreAllParts, HasMerged, WereMerged, IsRefused, IsDefinite, Fails, Reports, AreReady, AreOwnParts, IsPartFault}
 use Rattle.ept_merge.specs.Joining.{octants_of, bodies_in, roots_of}
 use Rattle.ept_merge.specs.Putting.{AreLike, HasBodies, HaveParts, IsBodiesFault, AreIntact, IsNodesFault, FitTogether, IsMisfit, AreMergeable, WereMergeable, IsMergeFault, IsPartsFault, IsCommitted}
 use Rattle.ept_merge.proofs.Reading.{tells-more, tells-always, tells-both}
-use Rattle.ept_merge.proofs.Public.{points-number, has-merged, parts-say, were-merged}
+use Rattle.ept_merge.proofs.Public.{open-says, plan-says, points-number, has-merged, parts-say, were-merged}
 use Rattle.ept_merge.proofs.Found.{scan-kept, scan-can}
 use Rattle.ept_merge.proofs.Own.{parts-not}
+use Rattle.ept_merge.proofs.Ready.{fails, open-fault, plan-fault, parts-fault}
+use Rattle.ept_merge.proofs.Judging.{Says, says-refused, says-merged, completes, comes}
 
 abbrev Outcome : Type 0
 Outcome = Result (Unit {0}) MergeError
+
+-- a success, a fault of a device, or out of memory
+abbrev Ends : Outcome → Type 0
+Ends r = IsOk r ⊎ Fails r
 
 -- ---- by the nodes
 
@@ -105,6 +112,14 @@ module _ (shelf : Option Files) (config : Config) (plan : Plan) (is : IsPlan con
         let f : IsPartsFault plan config.max_nodes octants e start = told_some (IsPartsFault plan config.max_nodes octants e) between start (reads ∙ told) refused in
         parts-not once all start config plan is h.0 h.1 read (scan-can can all plan.kept plan.counts h.0 (scan-kept all config plan is h.0 h.1)) (points-number all config plan is h.0 h.1) octants divided own config.max_nodes e f
 
+    pub ready-told : BodyOnce → ReadInOneWay → PointsCanBeSampled → AreAllParts octants → (result : Outcome) → IfErr result (λ e. Tells (IsPartsFault plan config.max_nodes octants e) between) → Tells (λ all. Tells (λ start. AreReady all start config octants → Ends result) before) shelf
+    ready-told once read can divided (Ok u) refused = tells-always _ (λ all. tells-always _ (λ start ready. inl refl) before) shelf
+    ready-told once read can divided (Err e) refused =
+        tells-more (λ all. (points : List Point) × HasPoints all config None plan points) (λ all. Tells (λ start. AreReady all start config octants → Ends (Err e)) before) (λ all h.
+        tells-more (IsPartsFault plan config.max_nodes octants e) (λ start. AreReady all start config octants → Ends (Err e)) (λ start f ready.
+        inr (fails (Err e) e refl (parts-fault all start config octants ready plan is h.0 h.1 once read can divided e f))) before
+        (subst (λ (o : Option Files). Tells (IsPartsFault plan config.max_nodes octants e) o) reads refused)) shelf scan
+
 -- ---- before that no part is at fault
 
 pub open-not : (start : Files) (e : MergeError) → IsOpenFault start e → ¬ IsPartFault e
@@ -114,3 +129,60 @@ open-not start e f (inr d) = subst (λ (w : MergeError). IsOpenFault start w) d.
 pub plan-not : (all : Files) (config : Config) (e : MergeError) → IsPlanFault all config e → ¬ IsPartFault e
 plan-not all config e f (inl d) = subst (λ (w : MergeError). IsPlanFault all config w) d.1 f
 plan-not all config e f (inr d) = subst (λ (w : MergeError). IsPlanFault all config w) d.2 f
+
+-- ---- what each refusal says
+
+module _ (config : Config) (octants : List ℕ) (shelf before : Option Files) where
+  -- this holds of the inputs and of the folder, if both are visible
+  abbrev Tell : (Files → Files → Type 0) → Type 0
+  Tell fact = Tells (λ all. Tells (λ start. fact all start) before) shelf
+
+  tell-more : (P Q : Files → Files → Type 0) → ((all start : Files) → P all start → Q all start) → Tell P → Tell Q
+  tell-more P Q more told =
+      tells-more (λ all. Tells (λ start. P all start) before) (λ all. Tells (λ start. Q all start) before) (λ all. tells-more (λ start. P all start) (λ start. Q all start) (more all) before) shelf told
+
+  pub open-told : (e : MergeError) → Tells (λ start. IsOpenFault start e) before → Tell (λ all start. IsRefused all start config octants e)
+  open-told e fault =
+      tells-always (λ all. Tells (λ start. IsRefused all start config octants e) before) (λ all. tells-more (λ start. IsOpenFault start e) (λ start. IsRefused all start config octants e) (λ start f. open-says all start config octants e f) before fault) shelf
+
+  pub plan-told : (e : MergeError) → Tells (HasCurrent None) before → Tells (λ all. IsPlanFault all config e) shelf → Tell (λ all start. IsRefused all start config octants e)
+  plan-told e fresh fault =
+      tells-more (λ all. IsPlanFault all config e) (λ all. Tells (λ start. IsRefused all start config octants e) before) (λ all f. tells-more (HasCurrent None) (λ start. IsRefused all start config octants e) (λ start none. plan-says all start config octants e none f) before fresh) shelf fault
+
+  -- ---- parts that are ready
+
+  abbrev IsDone : Outcome → Type 0
+  IsDone r = Tell (λ all start. AreReady all start config octants → Ends r)
+
+  pub open-ready : CurrentIsNotBad → (r : Outcome) (e : MergeError) → r ≡ Err e → Tells (λ start. IsOpenFault start e) before → IsDone r
+  open-ready not_bad r e is fault =
+      tells-always (λ all. Tells (λ start. AreReady all start config octants → Ends r) before) (λ all. tells-more (λ start. IsOpenFault start e) (λ start. AreReady all start config octants → Ends r) (λ start f ready.
+      inr (fails r e is (open-fault all start config octants ready not_bad e f))) before fault) shelf
+
+  pub plan-ready : (r : Outcome) (e : MergeError) → r ≡ Err e → Tells (λ all. IsPlanFault all config e) shelf → IsDone r
+  plan-ready r e is fault =
+      tells-more (λ all. IsPlanFault all config e) (λ all. Tells (λ start. AreReady all start config octants → Ends r) before) (λ all f.
+      tells-always (λ start. AreReady all start config octants → Ends r) (λ start ready. inr (fails r e is (plan-fault all start config octants ready e f))) before) shelf fault
+
+  -- ---- so each verdict is reported
+
+  module _ (once : BodyOnce) (one_current : CurrentIsOne) (not_bad : CurrentIsNotBad) where
+    abbrev pub TellsVerdict : Outcome → Type 0
+    TellsVerdict r = Tell (λ all start. Says once one_current not_bad all start config octants r)
+
+    pub err-verdict : (r : Outcome) (e : MergeError) → r ≡ Err e → Tell (λ all start. IsRefused all start config octants e) → TellsVerdict r
+    err-verdict r e is refused =
+        tell-more (λ all start. IsRefused all start config octants e) (λ all start. Says once one_current not_bad all start config octants r) (λ all start f. says-refused once one_current not_bad all start config octants r e is f) refused
+
+    pub either-verdict : (r : Outcome) → OnOk r (Tell (λ all start. WereMerged all start config octants)) → IfErr r (λ e. Tell (λ all start. IsRefused all start config octants e)) → TellsVerdict r
+    either-verdict (Err e) merged refused = err-verdict (Err e) e refl refused
+    either-verdict (Ok u) merged refused =
+        tell-more (λ all start. WereMerged all start config octants) (λ all start. Says once one_current not_bad all start config octants (Ok u)) (λ all start m. says-merged once one_current not_bad all start config octants (Ok u) refl m) merged
+
+    pub complete-told : (r : Outcome) → TellsVerdict r → Tell (λ all start. WereMerged all start config octants → Ends r)
+    complete-told r says =
+        tell-more (λ all start. Says once one_current not_bad all start config octants r) (λ all start. WereMerged all start config octants → Ends r) (λ all start s. completes once one_current not_bad all start config octants r s) says
+
+    pub comes-told : (r : Outcome) → TellsVerdict r → Tell (λ all start. (e : MergeError) → IsDefinite e → IsRefused all start config octants e → Reports e r ⊎ Fails r)
+    comes-told r says =
+        tell-more (λ all start. Says once one_current not_bad all start config octants r) (λ all start. (e : MergeError) → IsDefinite e → IsRefused all start config octants e → Reports e r ⊎ Fails r) (λ all start s. comes once one_current not_bad all start config octants r s) says

@@ -1,6 +1,8 @@
--- Parts that were made from these inputs with this configuration are never at fault.
-use Rattle.std.proofs.Common.{◌≡◌, ◌≢◌, ◌∙◌, ◌⊎◌, inl, inr, ℕ, ◌<◌, ◌≤◌, ◌^◌, true, List, [], ◌∷◌, ◌++◌, refl, sym, ap, subst, arith, map, length, count_by, Option, Some, None, Ok}
+-- Parts that were made from these inputs with this configuration are never at fault. If all are there, they are merged.
+use Rattle.std.proofs.Common.{◌≡◌, ◌≢◌, ◌∙◌, ◌⊎◌, inl, inr, ℕ, ◌+◌, ◌<◌, ◌≤◌, ◌^◌, true, List, [], ◌∷◌, ◌++◌, refl, sym, ap, subst, arith, map, length, count_by, Option, Some, None, Ok}
+use Rattle.std.specs.Prelude.{All}
 use Rattle.std.specs.List.{AllZip}
+use Rattle.std.proofs.lemmas.List.{length-map}
 use Rattle.ept_base.specs.Files.{Files}
 use Rattle.ept_point.specs.declared.layout.Layout.TheVariants.{New}
 use Rattle.ept_point.specs.declared.point.Point.{Point}
@@ -12,13 +14,16 @@ use Rattle.ept_space.specs.VoxelKey.{VoxelKey, IsKey, root, child}
 use Rattle.ept_sample.specs.Arrivals.{octant}
 use Rattle.ept_sample.specs.declared.tiles.Tile.{Tile}
 use Rattle.ept_sample.specs.Members.{IsMember}
-use Rattle.ept_sample.specs.Nodes.{node_keys}
+use Rattle.ept_sample.specs.Nodes.{node_keys, sampled}
 use Rattle.ept_sample.specs.Sampling.{sampling, is_node}
 use Rattle.ept_sample.specs.SamplingLaws.{CanBeSampled}
 use Rattle.ept_sample.proofs.Choices.{either, not_both}
 use Rattle.ept_sample.proofs.IdLaws.{IsAscending-IsRising}
 use Rattle.ept_sample.proofs.Members.{IsMember-map, member-map, all-member, All-members}
-use Rattle.ept_sample.proofs.SamplingLaws.{IsRising-sampling}
+use Rattle.ept_sample.proofs.KeyOrder.{key_before, key_order, IsRising-AllPairs}
+use Rattle.ept_sample.proofs.MorePoints.{length-rising}
+use Rattle.ept_sample.proofs.NodeLaws.{node_keys-IsMember}
+use Rattle.ept_sample.proofs.SamplingLaws.{IsRising-sampling, is_node-root}
 use Rattle.ept_config.specs.declared.config.Config.{Config}
 use Rattle.ept_config.specs.declared.kept.Kept.{Kept}
 use Rattle.ept_config.specs.KeptOf.{IsKeptOf}
@@ -49,21 +54,23 @@ use Rattle.ept_plan.specs.Plans.{IsPlan, HasPoints}
 use Rattle.ept_plan.proofs.Fields.{kept-once}
 use Rattle.ept_parts.specs.Parts.{part_of, AreAllOctants}
 use Rattle.ept_parts.specs.MergeLaws.{part_nodes}
-use Rattle.ept_parts.proofs.Below.{part-can, part-points, part-no_other}
+use Rattle.ept_parts.proofs.Below.{part-can, part-points, part-nodes, part-no_other}
 use Rattle.ept_part.specs.Names.{part_gate, part_tile, part_tile_of}
 use Rattle.ept_part.specs.Files.{HasPart}
 use Rattle.ept_part.specs.Scanned.{IsScanOf, found_by}
 use Rattle.ept_merge.specs.declared.error.MergeError.{MergeError}
-use Rattle.ept_merge.specs.declared.error.MergeError.TheVariants.{StoreFault, PartDiffers, PartDamaged, TooManyNodes, Memory}
+use Rattle.ept_merge.specs.declared.error.MergeError.TheVariants.{StoreFault, BadCheckpoint, HasCheckpoint, SourceFault, BadLas, OutOfBounds, TooManyPoints, NoBounds, Shallow, NoPart, PartDiffers, PartDamaged, TooManyNodes, Memory}
 use Rattle.ept_merge.specs.declared.bodies.PartBody.{PartBody}
+use Rattle.ept_merge.specs.declared.joining.PartNode.{PartNode}
 use Rattle.ept_merge.specs.Errors.{IsStores}
 use Rattle.ept_merge.specs.Merging.{AreAllParts, HasBody, AreTogether, IsTileDamaged, IsPartFault, IsOwnPart, AreOwnParts}
-use Rattle.ept_merge.specs.Joining.{IsLike, octants_of, bodies_in, roots_of}
+use Rattle.ept_merge.specs.Joining.{IsLike, octants_of, bodies_in, keys_of, AreInOrder, roots_of}
 use Rattle.ept_merge.specs.Putting.{HasBodies, IsFirstFault, IsBodiesFault, HaveParts, AreIntact, IsNodeDamaged, IsMergeFault, IsPartsFault}
 use Rattle.ept_merge.proofs.Once.{counts-once}
 use Rattle.ept_merge.proofs.Divided.{lengths-all, inserted-lengths, in-octant, none-or-one, no-more, keys-saved}
-use Rattle.ept_merge.proofs.Whole.{among-member}
-use Rattle.ept_merge.proofs.Fits.{misfit-together, damaged-part}
+use Rattle.ept_merge.proofs.Whole.{not-root, among-member, member-among}
+use Rattle.ept_merge.proofs.Loads.{part-rooted}
+use Rattle.ept_merge.proofs.Fits.{line-below, node-part, fit-ascends, misfit-together, damaged-part}
 use Rattle.ept_merge.proofs.MergedTiles.{zip-right, tile-points}
 use Rattle.ept_merge.proofs.Public.{zip-part}
 
@@ -109,8 +116,11 @@ module _ (once : BodyOnce) (all start : Files) (config : Config) (plan : Plan) (
   middle-member [] x later = inl refl
   middle-member (b ∷ before) x later = inr (middle-member before x later)
 
+  first-member : (parts : List ℕ) (e : MergeError) (f : IsFirstFault start plan parts e) → IsMember f.octants parts
+  first-member parts e f = subst (λ (w : List ℕ). IsMember f.octants w) (sym f.among) (middle-member f.before f.octants f.later)
+
   first-own : (parts : List ℕ) → AreOwnParts all config start parts → (e : MergeError) (f : IsFirstFault start plan parts e) → IsOwnPart all config start f.octants
-  first-own parts own e f = all-member (IsOwnPart all config start) f.octants parts own (subst (λ (w : List ℕ). IsMember f.octants w) (sym f.among) (middle-member f.before f.octants f.later))
+  first-own parts own e f = all-member (IsOwnPart all config start) f.octants parts own (first-member parts e f)
 
   differs-not : (parts : List ℕ) → AreOwnParts all config start parts → (o : ℕ) → IsFirstFault start plan parts (PartDiffers o) → ⊥
   differs-not parts own o f =
@@ -235,6 +245,49 @@ module _ (once : BodyOnce) (all start : Files) (config : Config) (plan : Plan) (
             outside (All-members (λ (p : Point). opened part.octants (octant rules 0 p) ≡ true) others (λ p n.
             (part-points rules (opened part.octants) points line.key p (subst (λ (w : List Point). IsMember p w) (sym same ∙ its) n)).1))
 
+    -- ---- nor are there too many nodes
+
+    -- a node of a part is one of all points
+    node-there : (part : PartBody) → IsMember part parts → (key : VoxelKey) → key ≢ root → is_among (octree.keys_of part.body.nodes) key ≡ true → is_node rules points key ≡ true
+    node-there part m key lower among =
+        let at = in-octant key (body-key part key among) lower in
+        let its : is_node rules (mine part) key ≡ true = sym (among-is part m key) ∙ among in
+        elim (either (opened part.octants at.0)) [
+          | inl here ↦ sym (part-nodes rules (opened part.octants) points at.0 key can at.1 here at.2).node ∙ its
+          | inr closed ↦ absurd (not_both (is_node rules (mine part) key) its (part-no_other rules (opened part.octants) points at.0 key can at.1 closed at.2))
+        ]
+
+    -- so they have no more nodes together than the sampling of all points
+    nodes-few : (nodes : List PartNode) → AreInOrder parts nodes → 1 + length nodes ≤ length (sampled rules points)
+    nodes-few nodes order =
+        omega (
+          arith,
+          length-rising key_before key_order (root ∷ keys_of nodes) (node_keys rules points) (IsRising-AllPairs (root ∷ keys_of nodes) (fit-ascends parts nodes order)) there-too,
+          length-map nodes (λ (n : PartNode). n.line.key),
+          ap length (keys-sampled rules points),
+          length-map (sampled rules points) (λ (t : Tile). t.key),
+        )
+      where
+        there-too : (key : VoxelKey) → IsMember key (root ∷ keys_of nodes) → IsMember key (node_keys rules points)
+        there-too key (inl is) = node_keys-IsMember rules points key can.cube can.inside (subst (λ (k : VoxelKey). is_node rules points k ≡ true) is (is_node-root rules points))
+        there-too key (inr m) =
+            let n = member-map (λ (node : PartNode). node.line.key) key nodes m in
+            let b = node-part parts nodes order n.0 n.1 in
+            let among = member-among (octree.keys_of b.part.body.nodes) n.0.line.key (IsMember-map (λ (l : NodeLine). l.key) n.0.line b.part.body.nodes (line-below b.part n.0.line b.line)) in
+            subst (λ (k : VoxelKey). IsMember k (node_keys rules points)) n.2
+            (node_keys-IsMember rules points n.0.line.key can.cube can.inside (node-there b.part b.among n.0.line.key (not-root n.0.line.key ((part-rooted b.part).others n.0.line b.line)) among))
+
+    -- so the store itself failed, or memory ran out
+    merge-stores : (number : length points ≡ plan.points) (most : ℕ) → length (sampled rules points) ≤ most → (e : MergeError) → IsMergeFault rules start most parts plan.points e → IsStores e
+    merge-stores number most few e (inl stores) = stores
+    merge-stores number most few e (inr (inl (o, is_e, last, misfit))) = absurd (misfit-together parts plan.points misfit (fit number))
+    merge-stores number most few e (inr (inr f)) = by_fault f.fault
+      where
+        by_fault : IsNodeDamaged rules start (roots_of parts ++ f.nodes) e ⊎ ((e ≡ TooManyNodes) × AreIntact rules start (roots_of parts ++ f.nodes) × (most ≤ length f.nodes)) → IsStores e
+        by_fault (inl damaged) =
+            let d = damaged-part rules start parts f.nodes f.fit.order e damaged in absurd (tile-not d.part d.among d.line d.in_body d.byte d.damaged)
+        by_fault (inr many) = absurd (omega (arith, many.2, few, nodes-few f.nodes f.fit.order))
+
     merge-not : (number : length points ≡ plan.points) (most : ℕ) (e : MergeError) → IsMergeFault rules start most parts plan.points e → ¬ IsPartFault e
     merge-not number most e (inl stores) fault = stores-not e stores fault
     merge-not number most e (inr (inl (o, is_e, last, misfit))) fault = misfit-together parts plan.points misfit (fit number)
@@ -249,3 +302,30 @@ module _ (once : BodyOnce) (all start : Files) (config : Config) (plan : Plan) (
   pub parts-not : ReadInOneWay → CanBeSampled (rules_of plan.kept) points → length points ≡ plan.points → (octants : List ℕ) → AreAllParts octants → AreOwnParts all config start octants → (most : ℕ) (e : MergeError) → IsPartsFault plan most octants e start → ¬ IsPartFault e
   parts-not read can number octants divided own most e (inl f) = bodies-not octants own e f
   parts-not read can number octants divided own most e (inr (parts, there, f)) = merge-not read can octants divided own parts there number most e f
+
+  -- ---- parts that are all there
+
+  abbrev AreThere : List ℕ → Type 0
+  AreThere octants = All (λ (o : ℕ). IsOpen start (part_gate o)) octants
+
+  first-stores : (octants : List ℕ) → AreOwnParts all config start octants → AreThere octants → (e : MergeError) → IsFirstFault start plan octants e → IsStores e
+  first-stores octants own there StoreFault f = inl refl
+  first-stores octants own there (BadCheckpoint letter) f = absurd f.fault
+  first-stores octants own there (HasCheckpoint generation) f = absurd f.fault
+  first-stores octants own there SourceFault f = absurd f.fault
+  first-stores octants own there (BadLas source fault) f = absurd f.fault
+  first-stores octants own there (OutOfBounds source number) f = absurd f.fault
+  first-stores octants own there (TooManyPoints source) f = absurd f.fault
+  first-stores octants own there NoBounds f = absurd f.fault
+  first-stores octants own there Shallow f = absurd f.fault
+  first-stores octants own there (NoPart o) f =
+      absurd (f.fault.1 (all-member (λ (p : ℕ). IsOpen start (part_gate p)) f.octants octants there (first-member octants (NoPart o) f)))
+  first-stores octants own there (PartDiffers o) f = absurd (differs-not octants own o f)
+  first-stores octants own there (PartDamaged o key) f = absurd (damaged-not octants own o key f)
+  first-stores octants own there TooManyNodes f = absurd f.fault
+  first-stores octants own there Memory f = inr refl
+
+  pub parts-stores : ReadInOneWay → CanBeSampled (rules_of plan.kept) points → length points ≡ plan.points → (octants : List ℕ) → AreAllParts octants → AreOwnParts all config start octants → AreThere octants → (most : ℕ) → length (sampled (rules_of plan.kept) points) ≤ most → (e : MergeError) → IsPartsFault plan most octants e start → IsStores e
+  parts-stores read can number octants divided own there most few e (inl (inl stores)) = stores
+  parts-stores read can number octants divided own there most few e (inl (inr f)) = first-stores octants own there e f
+  parts-stores read can number octants divided own there most few e (inr (parts, have, f)) = merge-stores read can octants divided own parts have number most few e f

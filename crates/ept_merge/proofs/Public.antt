@@ -32,7 +32,7 @@ use Rattle.ept_merge.specs.declared.bodies.PartBody.{PartBody}
 use Rattle.ept_merge.specs.declared.joining.PartNode.{PartNode}
 use Rattle.ept_merge.specs.Errors.{IsStores}
 use Rattle.ept_merge.specs.Steps.{IsOpenFault, IsPlanFault}
-use Rattle.ept_merge.specs.Merging.{IsOfScan, IsBroken, IsPartOfScan, DiffersFromScan, HaveBodies, IsFirst, IsLast, AreTogether, IsIntact, IsBegun, HasMerged, WereMerged, IsTileDamaged, IsRefused}
+use Rattle.ept_merge.specs.Merging.{IsInRange, IsOfScan, IsBroken, IsPartOfScan, DiffersFromScan, HaveBodies, IsFirst, IsLast, AreTogether, IsIntact, IsBegun, HasMerged, WereMerged, IsTileDamaged, IsRefused}
 use Rattle.ept_merge.specs.Joining.{IsLike, octants_of, bodies_in, roots_of}
 use Rattle.ept_merge.specs.Putting.{HasBodies, IsFirstFault, IsBodiesFault, HaveParts, AreIntact, IsNodeDamaged, IsLastPart, IsMisfit, IsFault, IsMergeFault, FitTogether, AreMergeable, WereMergeable, IsPartsFault, IsCommitted}
 use Rattle.ept_merge.proofs.Opening.{rules-same}
@@ -105,6 +105,9 @@ module _ (all : Files) (config : Config) (plan : Plan) (is : IsPlan config None 
   rules-are : rules_of plan.kept ≡ rules_by config done
   rules-are = rules-same config plan is done refl
 
+  pub in-range : IsInRange done
+  in-range = record { bounds = plan.kept.has_bounds; extents = is.extents }
+
   pub points-number : length points ≡ plan.points
   points-number = ap length has.points_are ∙ (total-lists has.lists plan.counts has.counts_are ∙ sym is.points_are)
 
@@ -140,7 +143,7 @@ module _ (all : Files) (config : Config) (plan : Plan) (is : IsPlan config None 
 
   module _ (start : Files) (fresh : HasCurrent None start) (deep : 0 < (rules_of plan.kept).cube.depth) where
     begun : IsBegun all start config points done
-    begun = record { fresh = fresh; scanned = has; deep = subst (λ (r : Rules). 0 < r.cube.depth) rules-are deep }
+    begun = record { fresh = fresh; scanned = has; in_range = in-range; deep = subst (λ (r : Rules). 0 < r.cube.depth) rules-are deep }
 
     have : (octants : List ℕ) (bodies : List Checkpoint) → HasBodies start plan octants bodies → HaveBodies start config done octants bodies
     have [] [] all = tt

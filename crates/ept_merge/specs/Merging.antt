@@ -1,5 +1,5 @@
 -- Parts of a build, merged: what they are together, what a merge leaves, and why there is none.
-use Rattle.std.specs.Prelude.{◌≡◌, ◌≢◌, ◌⊎◌, ℕ, ◌+◌, ◌-◌, ◌<◌, ◌≤◌, true, List, [], ◌∷◌, ◌++◌, length, map, sum_by, count_by, Option, Some, None, All, ⊤}
+use Rattle.std.specs.Prelude.{◌≡◌, ◌≢◌, ◌⊎◌, ℕ, ◌+◌, ◌-◌, ◌<◌, ◌≤◌, true, List, [], ◌∷◌, ◌++◌, length, map, sum_by, count_by, Option, Some, None, Result, Err, All, ⊤}
 use Rattle.std.specs.List.{AllZip}
 use Rattle.ept_base.specs.Files.{Files}
 use Rattle.ept_point.specs.declared.layout.Layout.TheVariants.{New}
@@ -9,9 +9,11 @@ use Rattle.ept_space.specs.declared.cube.Rules.{Rules}
 use Rattle.ept_space.specs.VoxelKey.{VoxelKey, root}
 use Rattle.ept_sample.specs.Arrivals.{octant}
 use Rattle.ept_sample.specs.Members.{IsMember}
+use Rattle.ept_sample.specs.Nodes.{sampled}
 use Rattle.ept_grid.specs.Mask.{opened}
 use Rattle.ept_config.specs.declared.config.Config.{Config}
 use Rattle.ept_config.specs.KeptOf.{IsKeptOf}
+use Rattle.ept_config.specs.Ranges.{BoundsInRange}
 use Rattle.ept_scan.specs.declared.scan_done.ScanDone.{ScanDone}
 use Rattle.ept_scan.specs.declared.scan_error.ScanError.TheVariants as scan
 use Rattle.ept_ckpt.specs.declared.letter.Letter.{Letter}
@@ -20,6 +22,7 @@ use Rattle.ept_ckpt.specs.declared.checkpoint.Checkpoint.{Checkpoint}
 use Rattle.ept_ckpt.specs.Body.{body}
 use Rattle.ept_ckpt.specs.Facts.{facts}
 use Rattle.ept_ckpt.specs.Octree.{keys_of, is_among}
+use Rattle.ept_ckpt.specs.Valid.{ExtentInRange}
 use Rattle.ept_ckpt.specs.Versions.{layout_of}
 use Rattle.ept_save.specs.Gates.{IsOpen}
 use Rattle.ept_save.specs.Current.{HasCurrent}
@@ -35,6 +38,11 @@ use Rattle.ept_merge.specs.declared.error.MergeError.TheVariants.{StoreFault, Ba
 -- each octant is in exactly one of these parts
 abbrev pub AreAllParts : List ℕ → Type 0
 AreAllParts parts = AreAllOctants (map opened parts)
+
+-- What a scan finds is in range: the bounds, and the extent of each input, have numbers of 32 bits. So inputs have one.
+pub record IsInRange (done : ScanDone) : Type 0 where
+  pub bounds : BoundsInRange done.bounds
+  pub extents : All ExtentInRange done.counts
 
 -- ---- one part
 
@@ -106,6 +114,7 @@ nodes_together bodies = 1 + sum_by (λ (c : Checkpoint). length c.nodes - 1) bod
 pub record IsBegun (shelf files : Files) (config : Config) (points : List Point) (done : ScanDone) : Type 0 where
   pub fresh : HasCurrent None files
   pub scanned : IsScanOf shelf config points done
+  pub in_range : IsInRange done
   pub deep : 0 < (rules_by config done).cube.depth
 
 -- of a merge that came so far this holds
@@ -152,7 +161,7 @@ IsRefused shelf files config parts (BadLas source fault) = HasCurrent None files
 IsRefused shelf files config parts (OutOfBounds source number) = HasCurrent None files × AreRefused shelf config (scan.OutOfBounds source number)
 IsRefused shelf files config parts (TooManyPoints source) = HasCurrent None files × AreRefused shelf config (scan.TooManyPoints source)
 IsRefused shelf files config parts NoBounds = HasCurrent None files × AreRefused shelf config scan.NoBounds
-IsRefused shelf files config parts Shallow = HasCurrent None files × OfScan shelf config (λ points done. (rules_by config done).cube.depth ≡ 0)
+IsRefused shelf files config parts Shallow = HasCurrent None files × OfScan shelf config (λ points done. ((rules_by config done).cube.depth ≡ 0) × IsInRange done)
 IsRefused shelf files config parts (NoPart octants) =
     OfBegun shelf files config (λ points done. IsFirst files config done parts octants (¬ IsOpen files (part_gate octants)))
 IsRefused shelf files config parts (PartDiffers octants) =
@@ -166,6 +175,19 @@ IsRefused shelf files config parts TooManyNodes =
     OfTiles shelf files config parts (λ done bodies. AllZip (IsIntact (rules_by config done) files) parts bodies × (config.max_nodes < nodes_together bodies))
 IsRefused shelf files config parts Memory = ⊤
 
+-- a cause that lies in the inputs or in the folder: no fault of a device, and not out of memory
+abbrev pub IsDefinite : MergeError → Type 0
+IsDefinite e = (e ≢ StoreFault) × (e ≢ SourceFault) × (e ≢ Memory)
+
+-- the result is a fault of a device, or out of memory
+abbrev pub Fails : {T : Type 0} → Result T MergeError → Type 0
+Fails answer = (answer ≡ Err StoreFault) ⊎ (answer ≡ Err SourceFault) ⊎ (answer ≡ Err Memory)
+
+-- the result is this refusal; of several damaged tiles, one is reported
+abbrev pub Reports : {T : Type 0} → MergeError → Result T MergeError → Type 0
+Reports (PartDamaged octants (Some key)) answer = (o : ℕ) × (k : VoxelKey) × (answer ≡ Err (PartDamaged o (Some k)))
+Reports e answer = answer ≡ Err e
+
 -- a fault of the parts: their bodies or their tiles
 abbrev pub IsPartFault : MergeError → Type 0
 IsPartFault e = ((octants : ℕ) × (e ≡ PartDiffers octants)) ⊎ ((octants : ℕ) × (key : Option VoxelKey) × (e ≡ PartDamaged octants key))
@@ -177,6 +199,14 @@ IsOwnPart shelf config files octants =
 
 abbrev pub AreOwnParts : Files → Config → Files → List ℕ → Type 0
 AreOwnParts shelf config files parts = All (IsOwnPart shelf config files) parts
+
+-- Parts that can be merged. The folder has no checkpoint, the inputs are accepted and the root has octants. Each part is
+-- there, made from these inputs with this configuration.
+pub record AreReady (shelf files : Files) (config : Config) (parts : List ℕ) : Type 0 where
+  pub fresh : HasCurrent None files
+  pub accepted : OfScan shelf config (λ points done. (0 < (rules_by config done).cube.depth) × (length (sampled (rules_by config done) points) ≤ config.max_nodes) × IsInRange done)
+  pub there : All (λ octants. IsOpen files (part_gate octants)) parts
+  pub own : AreOwnParts shelf config files parts
 
 -- each of the parts is sound
 abbrev pub AreSoundParts : Files → Files → List ℕ → Type 0

@@ -11,6 +11,7 @@ use Rattle.ept_save.specs.View.{View}
 use Rattle.ept_part.specs.Scanned.{AreRefused, rules_by, OfScan}
 use Rattle.ept_merge.specs.declared.error.MergeError.{MergeError}
 use Rattle.ept_merge.specs.declared.error.MergeError.TheVariants.{StoreFault, BadCheckpoint, HasCheckpoint, SourceFault, BadLas, OutOfBounds, TooManyPoints, NoBounds, Shallow, NoPart, PartDiffers, PartDamaged, TooManyNodes, Memory}
+use Rattle.ept_merge.specs.Merging.{IsInRange}
 
 -- no checkpoint is current, and no line is there for the next one
 abbrev pub IsFresh : View → Type 0
@@ -43,7 +44,7 @@ IsPlanFault shelf config (BadLas source fault) = AreRefused shelf config (scan.B
 IsPlanFault shelf config (OutOfBounds source number) = AreRefused shelf config (scan.OutOfBounds source number)
 IsPlanFault shelf config (TooManyPoints source) = AreRefused shelf config (scan.TooManyPoints source)
 IsPlanFault shelf config NoBounds = AreRefused shelf config scan.NoBounds
-IsPlanFault shelf config Shallow = OfScan shelf config (λ points done. (rules_by config done).cube.depth ≡ 0)
+IsPlanFault shelf config Shallow = OfScan shelf config (λ points done. ((rules_by config done).cube.depth ≡ 0) × IsInRange done)
 IsPlanFault shelf config (NoPart octants) = ⊥
 IsPlanFault shelf config (PartDiffers octants) = ⊥
 IsPlanFault shelf config (PartDamaged octants key) = ⊥

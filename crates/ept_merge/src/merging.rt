@@ -1,6 +1,6 @@
 //! Parts of a build, merged.
 
-ghost use Rattle.std.specs.Prelude.{◌≡◌, ◌≢◌, ◌<◌, ◌++◌, [], List, Some, Err, IfOk, IfErr, OnOk, length};
+ghost use Rattle.std.specs.Prelude.{◌≡◌, ◌≢◌, ◌⊎◌, ◌<◌, ◌++◌, [], List, Some, Err, IsOk, IfOk, IfErr, OnOk, length};
 ghost use Rattle.ept_base.specs.Causes.{HasCauseOf};
 ghost use Rattle.ept_base.specs.Files.{Files, SameFiles, Tells};
 ghost use Rattle.ept_base.specs.Moves.{Moves, IsSettled};
@@ -10,7 +10,7 @@ ghost use Rattle.ept_save.specs.Current.{HasCurrent};
 ghost use Rattle.ept_save.specs.Sound.{IsSound};
 ghost use Rattle.ept_plan.specs.Plans.{IsPlan, HasPoints};
 ghost use Rattle.ept_merge.specs.Errors.{IsOfTiles};
-ghost use Rattle.ept_merge.specs.Merging.{AreAllParts, HasMerged, WereMerged, IsRefused, AreOwnParts, IsPartFault, AreSoundParts};
+ghost use Rattle.ept_merge.specs.Merging.{AreAllParts, HasMerged, WereMerged, IsRefused, IsDefinite, Fails, Reports, AreReady, AreOwnParts, IsPartFault, AreSoundParts};
 ghost use Rattle.ept_merge.specs.Steps.{IsFresh};
 ghost use Rattle.ept_merge.specs.Joining.{roots_of};
 ghost use Rattle.ept_merge.specs.Putting.{AreIntact, AreLike, IsPartsFault, WereMergeable, IsMergeFault, IsNodesFault, AreMergeable, FitTogether, IsCommitted, AreOfParts};
@@ -64,6 +64,15 @@ pub fn merge<H: Shelf, T: Store>(
         → Moves T.files T.may_leave T.moment T.image_since
         (λ (old : Files) (new : Files). IsSound all new) store.old store.new }
 
+    // What comes of it: parts that nothing refuses are merged, and so are those that were made from these inputs with
+    // this configuration. What refuses them is reported. Each unless a device fails or memory runs out.
+    ensures complete { Tells (λ all. Tells (λ start. WereMerged all start config.now parts.now → IsOk result ⊎ Fails result)
+        (T.files store.old)) (H.files shelf.old) }
+    ensures ready { Tells (λ all. Tells (λ start. AreReady all start config.now parts.now → IsOk result ⊎ Fails result)
+        (T.files store.old)) (H.files shelf.old) }
+    ensures comes { Tells (λ all. Tells (λ start. (e : MergeError) → IsDefinite e
+        → IsRefused all start config.now parts.now e → Reports e result ⊎ Fails result) (T.files store.old)) (H.files shelf.old) }
+
     // Why it is refused: never for parts that are sound and made from these inputs with this configuration. Nothing is
     // put before a refusal, except one of the store, out of memory, or a damaged tile.
     ensures refused { IfErr result (λ e. Tells (λ all. Tells (λ start. IsRefused all start config.now parts.now e)
@@ -76,6 +85,7 @@ pub fn merge<H: Shelf, T: Store>(
     ensures sources { HasCauseOf MergeError.SourceFault (H.faults shelf.old) (H.faults shelf.new) result }
     ensures stores { HasCauseOf MergeError.StoreFault (T.faults store.old) (T.faults store.new) result }
 {
+    sound_law();
     sound_steps_law();
     body_once_law();
     tile_once_law();

@@ -8,11 +8,9 @@ use Rattle.ept_save.proofs.Standing.{told_some}
 use Rattle.ept_plan.specs.Plans.{HasPoints}
 use Rattle.ept_merge.specs.declared.error.MergeError.{MergeError}
 use Rattle.ept_merge.specs.Steps.{IsOpenFault, IsPlanFault}
-use Rattle.ept_merge.specs.Merging.{IsRefused}
-use Rattle.ept_merge.proofs.Reading.{tells-more, tells-always, reads-files}
-use Rattle.ept_merge.proofs.Public.{open-says, plan-says}
+use Rattle.ept_merge.proofs.Reading.{reads-files}
 use Rattle.ept_merge.proofs.Sounding.{same-sound, settled-reads, stays-both}
-use Rattle.ept_merge.proofs.Outcome.{merged-told, accepted-told, refused-told, own-told, open-not, plan-not}
+use Rattle.ept_merge.proofs.Outcome.{merged-told, accepted-told, refused-told, own-told, open-not, plan-not, open-told, plan-told, err-verdict, either-verdict, complete-told, open-ready, plan-ready, ready-told, comes-told}
 use Rattle.ept_merge.proofs.NoSource.{passed-no_source}
 use Rattle.ept_merge.proofs.Early.{early-both}
 use Rattle.ept_merge.proofs.merging.merge.Goals as goal
@@ -27,10 +25,43 @@ merge_plan-requires-clause-none g c =
 pub returns-in_err-saved-clause-refused : goal.returns-in_err-saved-clause-refused
 returns-in_err-saved-clause-refused g c =
     let p = err_from_is_err_and c.from_residual.result c.from_residual.ensures.1 in
+    rw (p.1, p.2) (open-told c.args.config.now c.args.parts.now (g.H.Shelf.files c.args.shelf.now) (g.T.Store.files c.args.store.now) c.in_err-saved.field-0.0 c.in_err-saved.ensures.refused)
+
+pub returns-in_err-saved-clause-complete : goal.returns-in_err-saved-clause-complete
+returns-in_err-saved-clause-complete g c =
+    let shelf = g.H.Shelf.files c.args.shelf.now in
+    let before = g.T.Store.files c.args.store.now in
+    let config = c.args.config.now in
+    let parts = c.args.parts.now in
+    let r = c.from_residual.result in
     let e = c.in_err-saved.field-0.0 in
-    rw (p.1, p.2)
-    (tells-always (λ all. Tells (λ start. IsRefused all start c.args.config.now c.args.parts.now e) (g.T.Store.files c.args.store.now)) (λ all.
-    tells-more (λ start. IsOpenFault start e) (λ start. IsRefused all start c.args.config.now c.args.parts.now e) (λ start f. open-says all start c.args.config.now c.args.parts.now e f) (g.T.Store.files c.args.store.now) c.in_err-saved.ensures.refused) (g.H.Shelf.files c.args.shelf.now))
+    let p = err_from_is_err_and r c.from_residual.ensures.1 in
+    let once = c.body_once_law.ensures.once in
+    let one = c.sound_law.ensures.one in
+    let not_bad = c.sound_law.ensures.not_bad in
+    complete-told config parts shelf before once one not_bad r
+    (err-verdict config parts shelf before once one not_bad r e (p.1 ∙ ap (λ (x : MergeError). Err x) p.2) (open-told config parts shelf before e c.in_err-saved.ensures.refused))
+
+pub returns-in_err-saved-clause-ready : goal.returns-in_err-saved-clause-ready
+returns-in_err-saved-clause-ready g c =
+    let e = c.in_err-saved.field-0.0 in
+    let p = err_from_is_err_and c.from_residual.result c.from_residual.ensures.1 in
+    open-ready c.args.config.now c.args.parts.now (g.H.Shelf.files c.args.shelf.now) (g.T.Store.files c.args.store.now) c.sound_law.ensures.not_bad c.from_residual.result e (p.1 ∙ ap (λ (x : MergeError). Err x) p.2) c.in_err-saved.ensures.refused
+
+pub returns-in_err-saved-clause-comes : goal.returns-in_err-saved-clause-comes
+returns-in_err-saved-clause-comes g c =
+    let shelf = g.H.Shelf.files c.args.shelf.now in
+    let before = g.T.Store.files c.args.store.now in
+    let config = c.args.config.now in
+    let parts = c.args.parts.now in
+    let r = c.from_residual.result in
+    let e = c.in_err-saved.field-0.0 in
+    let p = err_from_is_err_and r c.from_residual.ensures.1 in
+    let once = c.body_once_law.ensures.once in
+    let one = c.sound_law.ensures.one in
+    let not_bad = c.sound_law.ensures.not_bad in
+    comes-told config parts shelf before once one not_bad r
+    (err-verdict config parts shelf before once one not_bad r e (p.1 ∙ ap (λ (x : MergeError). Err x) p.2) (open-told config parts shelf before e c.in_err-saved.ensures.refused))
 
 pub returns-in_err-saved-clause-own : goal.returns-in_err-saved-clause-own
 returns-in_err-saved-clause-own g c = λ all start told_shelf told own.
@@ -62,10 +93,44 @@ returns-in_err-saved-clause-sound g c = λ all start told_shelf told settled sou
 pub returns-in_err-plan-clause-refused : goal.returns-in_err-plan-clause-refused
 returns-in_err-plan-clause-refused g c =
     let p = err_from_is_err_and c.from_residual-in_err-plan.result c.from_residual-in_err-plan.ensures.1 in
-    let e = c.in_err-plan.field-0.0 in
     rw (p.1, p.2)
-    (tells-more (λ all. IsPlanFault all c.args.config.now e) (λ all. Tells (λ start. IsRefused all start c.args.config.now c.args.parts.now e) (g.T.Store.files c.args.store.now)) (λ all f.
-    tells-more (HasCurrent None) (λ start. IsRefused all start c.args.config.now c.args.parts.now e) (λ start none. plan-says all start c.args.config.now c.args.parts.now e none f) (g.T.Store.files c.args.store.now) c.in_ok-saved.ensures.none) (g.H.Shelf.files c.args.shelf.now) c.in_err-plan.ensures.refused)
+    (plan-told c.args.config.now c.args.parts.now (g.H.Shelf.files c.args.shelf.now) (g.T.Store.files c.args.store.now) c.in_err-plan.field-0.0 c.in_ok-saved.ensures.none c.in_err-plan.ensures.refused)
+
+pub returns-in_err-plan-clause-complete : goal.returns-in_err-plan-clause-complete
+returns-in_err-plan-clause-complete g c =
+    let shelf = g.H.Shelf.files c.args.shelf.now in
+    let before = g.T.Store.files c.args.store.now in
+    let config = c.args.config.now in
+    let parts = c.args.parts.now in
+    let r = c.from_residual-in_err-plan.result in
+    let e = c.in_err-plan.field-0.0 in
+    let p = err_from_is_err_and r c.from_residual-in_err-plan.ensures.1 in
+    let once = c.body_once_law.ensures.once in
+    let one = c.sound_law.ensures.one in
+    let not_bad = c.sound_law.ensures.not_bad in
+    complete-told config parts shelf before once one not_bad r
+    (err-verdict config parts shelf before once one not_bad r e (p.1 ∙ ap (λ (x : MergeError). Err x) p.2) (plan-told config parts shelf before e c.in_ok-saved.ensures.none c.in_err-plan.ensures.refused))
+
+pub returns-in_err-plan-clause-ready : goal.returns-in_err-plan-clause-ready
+returns-in_err-plan-clause-ready g c =
+    let e = c.in_err-plan.field-0.0 in
+    let p = err_from_is_err_and c.from_residual-in_err-plan.result c.from_residual-in_err-plan.ensures.1 in
+    plan-ready c.args.config.now c.args.parts.now (g.H.Shelf.files c.args.shelf.now) (g.T.Store.files c.args.store.now) c.from_residual-in_err-plan.result e (p.1 ∙ ap (λ (x : MergeError). Err x) p.2) c.in_err-plan.ensures.refused
+
+pub returns-in_err-plan-clause-comes : goal.returns-in_err-plan-clause-comes
+returns-in_err-plan-clause-comes g c =
+    let shelf = g.H.Shelf.files c.args.shelf.now in
+    let before = g.T.Store.files c.args.store.now in
+    let config = c.args.config.now in
+    let parts = c.args.parts.now in
+    let r = c.from_residual-in_err-plan.result in
+    let e = c.in_err-plan.field-0.0 in
+    let p = err_from_is_err_and r c.from_residual-in_err-plan.ensures.1 in
+    let once = c.body_once_law.ensures.once in
+    let one = c.sound_law.ensures.one in
+    let not_bad = c.sound_law.ensures.not_bad in
+    comes-told config parts shelf before once one not_bad r
+    (err-verdict config parts shelf before once one not_bad r e (p.1 ∙ ap (λ (x : MergeError). Err x) p.2) (plan-told config parts shelf before e c.in_ok-saved.ensures.none c.in_err-plan.ensures.refused))
 
 pub returns-in_err-plan-clause-own : goal.returns-in_err-plan-clause-own
 returns-in_err-plan-clause-own g c = λ all start told_shelf told own.
@@ -100,6 +165,38 @@ returns-clause-refused g c =
     let s = g.T.Store in
     refused-told (g.H.Shelf.files c.args.shelf.now) c.args.config.now c.in_ok-plan.plan c.in_ok-plan.ensures.plan c.in_ok-plan.ensures.deep c.in_ok-plan.ensures.scan c.args.parts.now (s.files c.args.store.now) (s.files c.open_fresh.new.store) c.in_ok-saved.ensures.none
     (reads-files s.files s.may_leave s.moment s.image_since c.args.store.now c.open_fresh.new.store c.open_fresh.ensures.any_moment) c.merge_plan.result c.merge_plan.ensures.refused
+
+pub returns-clause-complete : goal.returns-clause-complete
+returns-clause-complete g c =
+    let shelf = g.H.Shelf.files c.args.shelf.now in
+    let before = g.T.Store.files c.args.store.now in
+    let config = c.args.config.now in
+    let parts = c.args.parts.now in
+    let r = c.merge_plan.result in
+    let once = c.body_once_law.ensures.once in
+    let one = c.sound_law.ensures.one in
+    let not_bad = c.sound_law.ensures.not_bad in
+    complete-told config parts shelf before once one not_bad r
+    (either-verdict config parts shelf before once one not_bad r (returns-clause-accepted g c) (returns-clause-refused g c))
+
+pub returns-clause-ready : goal.returns-clause-ready
+returns-clause-ready g c =
+    let s = g.T.Store in
+    ready-told (g.H.Shelf.files c.args.shelf.now) c.args.config.now c.in_ok-plan.plan c.in_ok-plan.ensures.plan c.in_ok-plan.ensures.deep c.in_ok-plan.ensures.scan c.args.parts.now (s.files c.args.store.now) (s.files c.open_fresh.new.store) c.in_ok-saved.ensures.none
+    (reads-files s.files s.may_leave s.moment s.image_since c.args.store.now c.open_fresh.new.store c.open_fresh.ensures.any_moment) c.body_once_law.ensures.once c.tile_once_law.ensures.once c.output_once_law.ensures.sampled c.requires c.merge_plan.result c.merge_plan.ensures.refused
+
+pub returns-clause-comes : goal.returns-clause-comes
+returns-clause-comes g c =
+    let shelf = g.H.Shelf.files c.args.shelf.now in
+    let before = g.T.Store.files c.args.store.now in
+    let config = c.args.config.now in
+    let parts = c.args.parts.now in
+    let r = c.merge_plan.result in
+    let once = c.body_once_law.ensures.once in
+    let one = c.sound_law.ensures.one in
+    let not_bad = c.sound_law.ensures.not_bad in
+    comes-told config parts shelf before once one not_bad r
+    (either-verdict config parts shelf before once one not_bad r (returns-clause-accepted g c) (returns-clause-refused g c))
 
 pub returns-clause-sources : goal.returns-clause-sources
 returns-clause-sources g c = record {
