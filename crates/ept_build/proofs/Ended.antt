@@ -1,4 +1,4 @@
--- How what is left of a build ends: what its answer says of devices and of damaged tiles, after the calls before it.
+-- How what is left of a build ends: what its result says of devices and of damaged tiles, after the calls before it.
 use Rattle.std.proofs.Common.{◌≡◌, ℕ, ◌+◌, ◌≤◌, List, subst, arith, Option}
 use Rattle.std.specs.Prelude.{Result, Ok, Err}
 use Rattle.ept_base.specs.Causes.{HasCauseOf, Rose}
@@ -45,7 +45,7 @@ finds-none files may_leave moment image_since config current start answer old ne
 
 -- ---- what the shelf is asked for
 
--- the paths are left for as many records as are inserted
+-- the paths that are left depend only on the number of records that are inserted
 pub asks-alike : (inputs : List Input) (counts : List SourceCount) (one other : ℕ) (old new : Option Paths) → one ≡ other → AsksFront (paths_left inputs counts one) old new → AsksFront (paths_left inputs counts other) old new
 asks-alike inputs counts one other old new same asked = subst (λ (k : ℕ). AsksFront (paths_left inputs counts k) old new) same asked
 

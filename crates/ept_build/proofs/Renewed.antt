@@ -88,7 +88,7 @@ module _ (same_sound : SameIsSound) (migrating : MigratingKeepsSound) (shelf sta
     pub renew-images : (image : Files) → may_leave new image → IsSoundUndone shelf image
     renew-images = (all-after files may_leave moment image_since (IsShutAt shelf from) (Renews from start) old new (IsSoundUndone shelf) (λ a b shut step. record { sound = (renewed-sound from at a b shut step).sound; undone = renewed-undone from at a b shut step }) all_shut renews).images
 
--- ---- behind a load
+-- ---- after a load
 
 module _ (shelf : Files) (from : Current) {D : Type 0} (files : D → Option Files) (may_leave : D → Files → Type 0) (moment : D → ℕ) (image_since : D → ℕ → Files → Type 0) where
   -- a call that leaves the checkpoint as it was
@@ -114,7 +114,7 @@ pub renews-same : (current : Current) (start a b : Files) → SameFiles a b → 
 renews-same None start a b same = same
 renews-same (Some (letter, c)) start a b same = inl same
 
--- where there is nothing to migrate
+-- if there is nothing to migrate
 pub renews-none : {D : Type 0} (files : D → Option Files) (may_leave : D → Files → Type 0) (moment : D → ℕ) (image_since : D → ℕ → Files → Type 0) (current : Current) (start : Files) (d : D) → Moves files may_leave moment image_since (Renews current start) d d
 renews-none files may_leave moment image_since current start d = record {
   reads = read (files d);

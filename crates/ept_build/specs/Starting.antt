@@ -1,4 +1,4 @@
--- Why the work is not taken up where the current checkpoint stands.
+-- Why the work is not taken up at the current checkpoint.
 use Rattle.std.specs.Prelude.{◌≡◌, ◌≢◌, ℕ, ◌<◌, take, length, Option, Some, Result, Err}
 use Rattle.ept_base.specs.Files.{Files, SameFiles, Tells}
 use Rattle.ept_base.specs.Moves.{Moves, SameImages}
@@ -11,7 +11,9 @@ use Rattle.ept_build.specs.declared.error.BuildError.TheVariants.{TileDamaged, T
 use Rattle.ept_build.specs.Phases.{HasDamage, IsReady}
 
 module _ {D : Type 0} (files : D → Option Files) (may_leave : D → Files → Type 0) (moment : D → ℕ) (image_since : D → ℕ → Files → Type 0) where
-  -- If there are too many nodes, the checkpoint has more than there are slots, no tile of those that have one is damaged, and nothing was put. If a tile is reported, it is damaged, the first one of those that have slots, and nothing was put. None of sound files is reported.
+  -- If there are too many nodes, the checkpoint has more than there are slots. No tile of the nodes that have slots is
+  -- then damaged, and nothing was put. If a tile is reported, it is the first damaged one of the nodes that have slots,
+  -- and nothing was put. No tile of sound files is reported.
   pub record FindsCause (view : View) (slots : ℕ) (answer : Result (Unit {0}) BuildError) (old new : D) : Type 0 where
     pub too_many : answer ≡ Err TooManyNodes → slots < length (lines_of view.current)
     pub intact : answer ≡ Err TooManyNodes → Tells (AreIntact view.current (take slots (lines_of view.current))) (files old)

@@ -1,4 +1,4 @@
-//! The beginning of what is left to be done: the nodes of the current checkpoint, behind a closed done gate.
+//! The start of the remaining work: the nodes of the current checkpoint are loaded, and the done gate is closed.
 
 ghost use Rattle.std.specs.Prelude.{◌≡◌, ◌<◌, ◌≤◌, ◌↔◌, List, Some, Err, IsTrue, IfOk, IfErr, OnOk, length};
 ghost use Rattle.ept_base.specs.Causes.{HasCauseOf};
@@ -34,8 +34,8 @@ use ept_save::{Saved, close_done, migrate, sound_law, sound_steps_law};
 use ept_space::Rules;
 use std::alloc::Global;
 
-/// The octree of no points, with slots for all nodes that it can come to have, and a spill file of the room for each.
-/// Of its nodes as many may be in memory as the configuration says. After a refusal the room has its files back.
+/// The octree of no points, with a slot for each node that it can come to have. Each slot has a spill file of the room.
+/// At most `config.cache` of its nodes may be in memory at a time. After a refusal the room has its files back.
 pub(crate) fn start<M: Room>(
     alloc: Global,
     config: &Config,
@@ -67,8 +67,8 @@ pub(crate) fn start<M: Room>(
     }
 }
 
-// How many slots the nodes can need: as many as there may be, or, where these are fewer, as the checkpoint and so many
-// points can have. Slots are memory, and each phase goes through them.
+// How many slots the nodes can need: the most nodes that the checkpoint or the points of the plan can have, but at most
+// `max`. Slots take memory, and each phase goes through all of them.
 fn slots_for(rules: &Rules, saved: &Saved, plan: &Plan, max: u32) -> u32
     requires rules { rules.now ≡ meta.rules_of plan.now.kept }
     requires some { 1 ≤ max }
@@ -91,8 +91,8 @@ pub(crate) fn lines_in(saved: &Saved) -> u32
     }
 }
 
-/// Takes up the work where the current checkpoint stands: its nodes are loaded, the done gate is closed, and if its tiles are of
-/// the old layout it is migrated.
+/// Takes up the work at the current checkpoint: loads its nodes, and closes the done gate. If its tiles are of the old
+/// layout, the checkpoint is migrated.
 pub(crate) fn take_up<F: SpillFile, T: Store>(
     alloc: Global,
     store: &mut T,

@@ -1,4 +1,4 @@
-//! How far a build, a part, a merge or a check is, told on standard error.
+//! The progress of a build, a part, a merge or a check, as reported on standard error.
 
 ghost use Rattle.std.specs.Prelude.{◌≡◌, IfOk};
 
@@ -9,19 +9,20 @@ use std::sync::Arc;
 use std::sync::atomic::{AtomicBool, AtomicU64, Ordering};
 use std::time::{Clock, Instant};
 
-/// After how many milliseconds a terminal is told at first, and how often from then on.
+/// After how many milliseconds progress is first reported on a terminal, and how many pass between reports from then
+/// on.
 const FIRST: u64 = 2_000;
 
 const NEXT: u64 = 250;
 
-/// After how many milliseconds a line comes elsewhere.
+/// How many milliseconds pass before each line if standard error is not a terminal.
 const APART: u64 = 10_000;
 
 /// Blanks over a line of a terminal of 80 columns.
 const BLANK: &str =
     "                                                                               ";
 
-/// Where the progress of a run is told.
+/// Where the progress of a run is reported.
 #[derive(Clone, Copy, Debug, PartialEq, Eq)]
 pub enum Telling {
     /// Nowhere.
@@ -48,12 +49,13 @@ pub enum Run {
 /// The machine, and how far a run is: what was read of its files, put and flushed, as
 /// [`SeenFiles`](crate::SeenFiles) sees it.
 ///
-/// It is told on standard error. A clock that can't be read tells nothing, and a line that can't be written
-/// changes nothing.
+/// Progress is reported on standard error. If the clock can't be read nothing is reported, and a line that can't be
+/// written changes nothing.
 ///
-/// What is read of a file outside of the folder is of the inputs: of their first reading until the done gate is
-/// asked for, which a build closes before it puts anything, and of the second from then on. A part asks for no done gate,
-/// so its two readings count as one. A merge has one reading, and then asks for the done gate once the parts are merged.
+/// Bytes of a file outside the folder are bytes of the inputs. They belong to the first reading until the done gate is
+/// asked for, and to the second from then on. A build closes that gate before it puts anything. A part asks for no done
+/// gate, so its two readings count as one. A merge has one reading, and then asks for the done gate once the parts are
+/// merged.
 #[derive(Drop)]
 pub(crate) struct Progress<R: Clock + Eprint + Drop> {
     machine: R,
@@ -122,7 +124,7 @@ impl<R: Clock + Eprint + Drop> Progress<R> {
         self.opened.fetch_add(1, Ordering::SeqCst);
     }
 
-    /// So many bytes of a file were read.
+    /// This number of bytes of a file was read.
     pub(crate) fn count_read(&self, role: Role, bytes: u64) {
         let stage = stage_of_read(self.run, role, self.is_past_gate.load(Ordering::SeqCst));
         let total = match stage {
@@ -149,12 +151,12 @@ impl<R: Clock + Eprint + Drop> Progress<R> {
         self.tell(self.stage_of_put(role));
     }
 
-    /// What the run is at that puts a file of this role or flushes one.
+    /// The stage of the run as it puts or flushes a file of this role.
     fn stage_of_put(&self, role: Role) -> Stage {
         stage_of_put(self.run, role, self.is_past_gate.load(Ordering::SeqCst))
     }
 
-    /// Tells nothing from now on, and clears the line on a terminal.
+    /// Reports nothing from now on, and clears the line on a terminal.
     pub(crate) fn end(&self) {
         self.due.store(u64::MAX, Ordering::SeqCst);
         if self.telling == Telling::Terminal && self.is_told.swap(false, Ordering::SeqCst) {
@@ -162,7 +164,7 @@ impl<R: Clock + Eprint + Drop> Progress<R> {
         }
     }
 
-    /// Tells how far the run is, where that is due.
+    /// Reports how far the run is, if a report is due.
     fn tell(&self, stage: Stage) {
         let due = self.due.load(Ordering::SeqCst);
         let Some(now) = self.milliseconds() else {
@@ -188,7 +190,7 @@ impl<R: Clock + Eprint + Drop> Progress<R> {
         u64::try_from(elapsed.as_millis()).ok()
     }
 
-    /// What is to be told at this stage.
+    /// What is to be reported at this stage.
     fn line(&self, stage: Stage) -> Line {
         let bytes = match stage {
             Stage::Scanning => &self.scanned,
@@ -265,7 +267,7 @@ fn name_in<'p>(folder: &str, path: &'p str) -> Option<&'p str> {
     path.strip_prefix(folder)?.strip_prefix('/')
 }
 
-/// What a run is at.
+/// The stage of a run.
 #[derive(Clone, Copy, Debug, PartialEq, Eq)]
 enum Stage {
     Scanning,
@@ -278,8 +280,8 @@ enum Stage {
     Checking,
 }
 
-/// What a run is at that reads a file, before or after it asked for the done gate. After that a build reads a tile only to
-/// compare it, and a merge loads what it merged.
+/// The stage of a run as it reads a file, before or after it asked for the done gate. After that a build reads a tile
+/// only to compare it, and a merge loads what it merged.
 fn stage_of_read(run: Run, role: Role, is_past_gate: bool) -> Stage {
     match (run, role, is_past_gate) {
         (Run::Build, Role::Input, false) => Stage::Scanning,
@@ -292,8 +294,8 @@ fn stage_of_read(run: Run, role: Role, is_past_gate: bool) -> Stage {
     }
 }
 
-/// What a run is at that puts a file or flushes one, before or after it asked for the done gate. A merge puts the files for
-/// viewers after that, and the tiles of the parts before.
+/// The stage of a run as it puts or flushes a file, before or after it asked for the done gate. A merge puts the files
+/// for viewers after that, and the tiles of the parts before.
 fn stage_of_put(run: Run, role: Role, is_past_gate: bool) -> Stage {
     match (run, role, is_past_gate) {
         (Run::Merge, _, false) => Stage::Merging,
@@ -317,8 +319,8 @@ impl fmt::Display for Stage {
     }
 }
 
-/// What is told: the stage and the megabytes of the reading. Of a check it is also told how many files were opened, of any
-/// other run how many were put and flushed, and of a build how many checkpoints were made.
+/// What is reported: the stage, and how many megabytes were read. For a check it also has how many files were opened,
+/// and for any other run how many were put and flushed. For a build it has how many checkpoints were made too.
 #[derive(Drop)]
 struct Line {
     run: Run,
@@ -348,8 +350,8 @@ impl fmt::Display for Line {
     }
 }
 
-/// A writer that ends the progress of a run with its first write, so that what is written does not stand behind
-/// the line of a terminal.
+/// A writer that ends the progress of a run with its first write. So what is written does not follow the line of a
+/// terminal.
 #[derive(Drop)]
 pub struct Ending<R: Clock + Eprint + Drop, W: Write + Drop> {
     pub(crate) progress: Arc<Progress<R>>,

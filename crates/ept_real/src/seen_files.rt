@@ -8,8 +8,8 @@ use std::rt::Files;
 use std::sync::Arc;
 use std::time::Clock;
 
-/// The machine's files, of which each call that reads, puts or flushes one counts as progress of a run with a folder,
-/// which is reported on standard error.
+/// The machine's files. Each call that reads, puts or flushes one counts as progress of a run with a folder. The
+/// progress is reported on standard error.
 #[derive(Drop)]
 pub struct SeenFiles<R: Files + Clock + Eprint + Drop> {
     progress: Arc<Progress<R>>,
@@ -17,7 +17,8 @@ pub struct SeenFiles<R: Files + Clock + Eprint + Drop> {
 }
 
 impl<R: Files + Clock + Eprint + Drop> SeenFiles<R> {
-    /// The files of this machine, as this run of the program of this name with this folder sees them. The run begins now.
+    /// The files of this machine, as this run of the program of this name with this folder sees them. The run begins
+    /// now.
     pub fn new(
         alloc: Global,
         machine: R,
@@ -40,7 +41,7 @@ impl<R: Files + Clock + Eprint + Drop> SeenFiles<R> {
         })
     }
 
-    /// Tells nothing from now on, and clears the line on a terminal.
+    /// Reports nothing from now on, and clears the line on a terminal.
     pub fn end(&self) {
         self.progress.end();
     }

@@ -1,6 +1,7 @@
-//! `ept_tool` builds an Entwine Point Tile folder from LAS files, or a part of it, or from such parts, answers the points of a box of one or
-//! what a selection keeps of them, checks whether one is the sampling of its own points, and tells what the header of a LAS
-//! file says, and what an octree of generated scans comes to.
+//! `ept_tool` builds an Entwine Point Tile folder from LAS files, makes a part of one, and merges such parts. It writes
+//! the points of a folder that lie in a box, or those of them that a selection keeps. It checks whether a folder is the
+//! sampling of its own points. It also reports what the header of a LAS file says, and what an octree of generated
+//! scans comes to.
 #![tactic(auto)]
 
 mod failing;
@@ -27,7 +28,7 @@ fn main(rt: HostRuntime) -> ExitCode {
     }
 }
 
-// The words behind the program's name. Words that are not text are faulty ones.
+// The words after the program's name. Words that are not text are faulty ones.
 fn given_words(rt: &HostRuntime) -> Result<Vec<String>, Refusal> {
     match env::args(rt) {
         Ok(args) => args
@@ -131,8 +132,8 @@ where
     start_in(rt, disk, words, shelf, &mut store, out)
 }
 
-// Runs the words over this store. The spill files of a build, and of the build after a merge, lie in a folder of its
-// folder, and count as no progress; other words make none.
+// Runs the words over this store. A build, and the build after a merge, has its spill files in a folder of its folder.
+// They count as no progress. Other words make no spill files.
 fn start_in<H: Shelf, T: Store, O: Sink, R: Threads + Wait + Sync>(
     rt: &R,
     disk: &HostRuntime,
@@ -174,7 +175,8 @@ where
     let mut room = RealRoom::new(alloc, disk, spill);
     let ended = run_with(rt, alloc, words, shelf, store, &mut room, out);
     if ended.status == OK {
-        // What a build left that was killed as it ended: where nothing is to be done no room is asked for a file.
+        // Removes what is left of a build that was killed as it ended. If nothing is to be done, no room is asked for a
+        // file.
         let _ = disk.remove_dir_all(alloc, spill);
     }
     ended
