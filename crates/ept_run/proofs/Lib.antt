@@ -6,6 +6,7 @@ mod Merged
 mod OctantList
 mod Parted
 mod Queried
+mod Ready
 mod Refused
 mod Runs
 mod Selected

@@ -200,7 +200,7 @@ module _ (all : Files) (path : List ℕ) where
 
   module _ (config : Config) (configures : HasConfiguration all path config) where
     -- then it is not refused
-    not_refused : (r : Refusal) → IsDefinite r → ConfigurationIsRefused all path r → ⊥
+    pub not_refused : (r : Refusal) → IsDefinite r → ConfigurationIsRefused all path r → ⊥
     not_refused (BadConfiguration e) definite why = not_both config e configures why
     not_refused Usage definite why = why
     not_refused (BadLas source fault) definite why = why
@@ -459,7 +459,7 @@ module _ (files : Option Files) (path : List ℕ) {A : Type 0} (answer : Result 
   refused_told all told = subst (λ (o : Option Files). Tells (λ all. ConfigurationIsRefused all path e) o) told refused
 
   -- it is none, so it is refused for want of memory or a fault of the shelf
-  only_fails : (all : Files) (config : Config) → files ≡ Some all → HasConfiguration all path config → Fails answer
+  pub only_fails : (all : Files) (config : Config) → files ≡ Some all → HasConfiguration all path config → Fails answer
   only_fails all config told has = by e is (refused_told all told)
     where
       by : (r : Refusal) → answer ≡ Err r → ConfigurationIsRefused all path r → Fails answer

@@ -20,10 +20,10 @@ use Rattle.ept_merge.specs.Merging.{AreAllParts, AreSoundParts}
 use Rattle.ept_command.specs.Words.{IsPart, IsMerge}
 use Rattle.ept_command.proofs.OctantTexts.{part_once}
 use Rattle.ept_command.proofs.PartTexts.{merge_once}
-use Rattle.ept_run.proofs.Merged.{merge_same}
+use Rattle.ept_run.proofs.Merged.{merge_same, merge_comes}
 use Rattle.ept_run.proofs.Parted.{ends_same, part_comes}
 use Rattle.ept_run.proofs.Apart.{merge_or_build, merge_or_part, merge_or_info, merge_or_query, merge_or_select, merge_or_check, merge_or_trial, merge_asked, merge_unrefused, part_or_build, part_or_info, part_or_query, part_or_select, part_or_check, part_or_trial, part_asked, part_unrefused, select_or_build, select_or_info, select_or_query, select_or_trial, select_asked, select_unrefused, check_or_build, check_or_info, check_or_query, check_or_select, check_or_trial, check_asked, check_unrefused}
-use Rattle.ept_run.proofs.Coming.{merge_cannot, build_can, part_can, info_can, query_can, check_can, trial_can, nothing_can}
+use Rattle.ept_run.proofs.Coming.{build_can, part_can, merge_can, info_can, query_can, check_can, trial_can, nothing_can}
 use Rattle.ept_run.proofs.carrying.carry_out.Given as given
 use Rattle.ept_run.proofs.carrying.carry_out.Goals as goal
 
@@ -967,7 +967,12 @@ pub returns-in-Merge-clause-fault : goal.returns-in-Merge-clause-fault
 returns-in-Merge-clause-fault g c = c.answer_merge.ensures.fault
 
 pub returns-in-Merge-clause-comes : goal.returns-in-Merge-clause-comes
-returns-in-Merge-clause-comes g c = λ can. absurd (merge_cannot (map string_bytes c.args.words.now) (g.H.Shelf.files c.args.shelf.now) (g.T.Store.files c.args.store.now) (BeginsWith g.M.File.SpillFile.held (g.H.Shelf.files c.args.shelf.now) (g.T.Store.files c.args.store.now) (g.T.Store.may_leave c.args.store.now)) c.in-Merge.config.now c.in-Merge.out.now c.as_slice.result.now (merge_is g c) can)
+returns-in-Merge-clause-comes g c =
+    merge_can (map string_bytes c.args.words.now) (g.H.Shelf.files c.args.shelf.now) (g.T.Store.files c.args.store.now) (BeginsWith g.M.File.SpillFile.held (g.H.Shelf.files c.args.shelf.now) (g.T.Store.files c.args.store.now) (g.T.Store.may_leave c.args.store.now)) c.answer_merge.result.status (Rose (g.H.Shelf.faults c.args.shelf.now) (g.H.Shelf.faults c.answer_merge.new.shelf) ⊎ Rose (g.T.Store.faults c.args.store.now) (g.T.Store.faults c.answer_merge.new.store) ⊎ Rose (g.M.Room.faults c.args.room.now) (g.M.Room.faults c.answer_merge.new.room) ⊎ Rose (g.O.Sink.faults c.args.out.now) (g.O.Sink.faults c.answer_merge.new.out)) c.answer_merge.ensures.fault
+    c.in-Merge.config.now c.in-Merge.out.now c.as_slice.result.now (merge_is g c)
+    (λ all start begins asks.
+    merge_comes (map string_bytes c.args.words.now) c.in-Merge.config.now c.in-Merge.out.now c.as_slice.result.now (merge_is g c) c.class_set_law-in-Merge.ensures.once (g.H.Shelf.files c.args.shelf.now) (g.T.Store.files c.args.store.now) (BeginsWith g.M.File.SpillFile.held (g.H.Shelf.files c.args.shelf.now) (g.T.Store.files c.args.store.now) (g.T.Store.may_leave c.args.store.now)) (g.T.Store.files c.answer_merge.new.store) (IsSettled (g.T.Store.files c.answer_merge.new.store) (g.T.Store.may_leave c.answer_merge.new.store)) (Moves g.T.Store.files g.T.Store.may_leave g.T.Store.moment g.T.Store.image_since SameFiles c.args.store.now c.answer_merge.new.store) c.answer_merge.result.status (g.O.Sink.written c.args.out.now) (g.O.Sink.written c.answer_merge.new.out) (Rose (g.H.Shelf.faults c.args.shelf.now) (g.H.Shelf.faults c.answer_merge.new.shelf)) (Rose (g.T.Store.faults c.args.store.now) (g.T.Store.faults c.answer_merge.new.store)) (Rose (g.M.Room.faults c.args.room.now) (g.M.Room.faults c.answer_merge.new.room)) (Rose (g.O.Sink.faults c.args.out.now) (g.O.Sink.faults c.answer_merge.new.out))
+    c.answer_merge.ensures.ends.0 all start begins.shelf_told begins.told begins asks)
 
 pub returns-in-Merge-clause-merge : goal.returns-in-Merge-clause-merge
 returns-in-Merge-clause-merge g c = λ path folder parts is.
