@@ -1,5 +1,6 @@
 mod Apart
 mod Asked
+mod Built
 mod Checked
 mod Coming
 mod Merged

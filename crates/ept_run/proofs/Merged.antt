@@ -251,7 +251,7 @@ IsDevice Memory = ⊥
 abbrev WhichDevice : BuildError → Refusal → Type 0
 WhichDevice e r = ((e ≡ build.StoreFault) × (r ≡ StoreFault)) ⊎ ((e ≡ build.SourceFault) × (r ≡ SourceFault)) ⊎ ((e ≡ build.SpillFault) × (r ≡ SpillFault))
 
-build_words : (e : BuildError) → of_build e ≢ Usage
+pub build_words : (e : BuildError) → of_build e ≢ Usage
 build_words build.StoreFault is = cc
 build_words build.SpillFault is = cc
 build_words (build.SpillDamaged kept found at) is = cc

@@ -32,8 +32,8 @@ use Rattle.ept_run.proofs.carrying.carry_out.Goals as goal
 build_known : (g : given.Over) (c : goal.After-finish g) → Carries (map string_bytes c.args.words.now) (g.H.Shelf.files c.args.shelf.now) (BeginsWith g.M.File.SpillFile.held (g.H.Shelf.files c.args.shelf.now) (g.T.Store.files c.args.store.now) (g.T.Store.may_leave c.args.store.now)) (SaysOfStore (map string_bytes c.args.words.now) (g.H.Shelf.files c.args.shelf.now) (g.T.Store.files c.args.store.now) (g.T.Store.files c.build_line-line.new.store) (IsSettled (g.T.Store.files c.args.store.now) (g.T.Store.may_leave c.args.store.now))) (g.T.Store.files c.build_line-line.new.store) (Rose (g.H.Shelf.faults c.args.shelf.now) (g.H.Shelf.faults c.build_line-line.new.shelf)) (Rose (g.T.Store.faults c.args.store.now) (g.T.Store.faults c.build_line-line.new.store)) (Rose (g.M.Room.faults c.args.room.now) (g.M.Room.faults c.build_line-line.new.room)) (Moves g.T.Store.files g.T.Store.may_leave g.T.Store.moment g.T.Store.image_since SameFiles c.args.store.now c.build_line-line.new.store) c.build_line-line.result
 build_known g c =
     build_carries (map string_bytes c.args.words.now) c.in-Build.config.now c.in-Build.out.now c.in-Build.ensures c.build_line-line.result (g.H.Shelf.files c.args.shelf.now) (g.T.Store.files c.args.store.now) (IsSettled (g.T.Store.files c.args.store.now) (g.T.Store.may_leave c.args.store.now)) (BeginsWith g.M.File.SpillFile.held (g.H.Shelf.files c.args.shelf.now) (g.T.Store.files c.args.store.now) (g.T.Store.may_leave c.args.store.now)) (g.T.Store.files c.build_line-line.new.store) (Rose (g.H.Shelf.faults c.args.shelf.now) (g.H.Shelf.faults c.build_line-line.new.shelf)) (Rose (g.T.Store.faults c.args.store.now) (g.T.Store.faults c.build_line-line.new.store)) (Rose (g.M.Room.faults c.args.room.now) (g.M.Room.faults c.build_line-line.new.room)) (Moves g.T.Store.files g.T.Store.may_leave g.T.Store.moment g.T.Store.image_since SameFiles c.args.store.now c.build_line-line.new.store)
-    c.build_line-line.ensures.said c.build_line-line.ensures.built c.build_line-line.ensures.causes c.build_line-line.ensures.refused c.build_line-line.ensures.of_store c.build_line-line.ensures.sources.failed c.build_line-line.ensures.stores.failed c.build_line-line.ensures.spills.failed
-    c.build_line-line.ensures.early c.build_line-line.ensures.refusal_comes
+    c.build_line-line.ensures.said c.build_line-line.ensures.built c.build_line-line.ensures.comes_to.causes c.build_line-line.ensures.comes_to.refused c.build_line-line.ensures.comes_to.of_store c.build_line-line.ensures.sources.failed c.build_line-line.ensures.stores.failed c.build_line-line.ensures.spills.failed
+    c.build_line-line.ensures.comes_to.early c.build_line-line.ensures.comes_to.refusal_comes
 
 build_ended : (g : given.Over) (c : goal.After-finish g) → EndsWith c.build_line-line.result c.finish.result.status (g.O.Sink.written c.args.out.now) (g.O.Sink.written c.finish.new.out) (Rose (g.O.Sink.faults c.args.out.now) (g.O.Sink.faults c.finish.new.out))
 build_ended g c = ends_with c.finish.result.status (g.O.Sink.written c.args.out.now) (g.O.Sink.written c.finish.new.out) (Rose (g.O.Sink.faults c.args.out.now) (g.O.Sink.faults c.finish.new.out)) c.build_line-line.result c.finish.result.failure c.finish.ensures
@@ -229,19 +229,19 @@ returns-in-Usage-clause-query_puts_nothing g c = λ asks. absurd (c.in-Usage.ens
 
 pub returns-in-Build-clause-build_refusal_comes : goal.returns-in-Build-clause-build_refusal_comes
 returns-in-Build-clause-build_refusal_comes g c = λ all start begins r asks.
-    comes_yields c.finish.result.status (g.O.Sink.written c.args.out.now) (g.O.Sink.written c.finish.new.out) (Rose (g.O.Sink.faults c.args.out.now) (g.O.Sink.faults c.finish.new.out)) c.build_line-line.result r (c.build_line-line.ensures.comes all start begins r (of_build (map string_bytes c.args.words.now) c.in-Build.config.now c.in-Build.out.now c.in-Build.ensures {P = ComesAt all start r} asks)) (build_ended g c)
+    comes_yields c.finish.result.status (g.O.Sink.written c.args.out.now) (g.O.Sink.written c.finish.new.out) (Rose (g.O.Sink.faults c.args.out.now) (g.O.Sink.faults c.finish.new.out)) c.build_line-line.result r (c.build_line-line.ensures.comes_to.comes all start begins r (of_build (map string_bytes c.args.words.now) c.in-Build.config.now c.in-Build.out.now c.in-Build.ensures {P = ComesAt all start r} asks)) (build_ended g c)
 
 pub returns-in-Build-clause-differs_comes : goal.returns-in-Build-clause-differs_comes
 returns-in-Build-clause-differs_comes g c = λ all start told stored asks.
-    differs_yields c.finish.result.status (g.O.Sink.written c.args.out.now) (g.O.Sink.written c.finish.new.out) (Rose (g.O.Sink.faults c.args.out.now) (g.O.Sink.faults c.finish.new.out)) c.build_line-line.result (c.build_line-line.ensures.differs_comes all start told stored (of_build (map string_bytes c.args.words.now) c.in-Build.config.now c.in-Build.out.now c.in-Build.ensures {P = DiffersAt all start} asks)) (build_ended g c)
+    differs_yields c.finish.result.status (g.O.Sink.written c.args.out.now) (g.O.Sink.written c.finish.new.out) (Rose (g.O.Sink.faults c.args.out.now) (g.O.Sink.faults c.finish.new.out)) c.build_line-line.result (c.build_line-line.ensures.comes_to.differs_comes all start told stored (of_build (map string_bytes c.args.words.now) c.in-Build.config.now c.in-Build.out.now c.in-Build.ensures {P = DiffersAt all start} asks)) (build_ended g c)
 
 pub returns-in-Build-clause-damaged_comes : goal.returns-in-Build-clause-damaged_comes
 returns-in-Build-clause-damaged_comes g c = λ all start told stored asks.
-    damage_yields c.finish.result.status (g.O.Sink.written c.args.out.now) (g.O.Sink.written c.finish.new.out) (Rose (g.O.Sink.faults c.args.out.now) (g.O.Sink.faults c.finish.new.out)) c.build_line-line.result (c.build_line-line.ensures.damaged_comes all start told stored (of_build (map string_bytes c.args.words.now) c.in-Build.config.now c.in-Build.out.now c.in-Build.ensures {P = ComesToDamageAt all start} asks)) (build_ended g c)
+    damage_yields c.finish.result.status (g.O.Sink.written c.args.out.now) (g.O.Sink.written c.finish.new.out) (Rose (g.O.Sink.faults c.args.out.now) (g.O.Sink.faults c.finish.new.out)) c.build_line-line.result (c.build_line-line.ensures.comes_to.damaged_comes all start told stored (of_build (map string_bytes c.args.words.now) c.in-Build.config.now c.in-Build.out.now c.in-Build.ensures {P = ComesToDamageAt all start} asks)) (build_ended g c)
 
 pub returns-in-Build-clause-bad_comes : goal.returns-in-Build-clause-bad_comes
 returns-in-Build-clause-bad_comes g c = λ all start letter told stored bad asks.
-    comes_yields c.finish.result.status (g.O.Sink.written c.args.out.now) (g.O.Sink.written c.finish.new.out) (Rose (g.O.Sink.faults c.args.out.now) (g.O.Sink.faults c.finish.new.out)) c.build_line-line.result (BadCheckpoint letter) (c.build_line-line.ensures.bad_comes all start letter told stored bad (of_build (map string_bytes c.args.words.now) c.in-Build.config.now c.in-Build.out.now c.in-Build.ensures {P = IsConfigured all} asks)) (build_ended g c)
+    comes_yields c.finish.result.status (g.O.Sink.written c.args.out.now) (g.O.Sink.written c.finish.new.out) (Rose (g.O.Sink.faults c.args.out.now) (g.O.Sink.faults c.finish.new.out)) c.build_line-line.result (BadCheckpoint letter) (c.build_line-line.ensures.comes_to.bad_comes all start letter told stored bad (of_build (map string_bytes c.args.words.now) c.in-Build.config.now c.in-Build.out.now c.in-Build.ensures {P = IsConfigured all} asks)) (build_ended g c)
 
 pub returns-in-Usage-clause-build_refusal_comes : goal.returns-in-Usage-clause-build_refusal_comes
 returns-in-Usage-clause-build_refusal_comes g c = λ all start begins r asks. absurd (c.in-Usage.ensures.not_build asks.path asks.out asks.words_are)
@@ -381,7 +381,7 @@ returns-in-Build-clause-comes g c =
     build_can (map string_bytes c.args.words.now) (g.H.Shelf.files c.args.shelf.now) (g.T.Store.files c.args.store.now) (BeginsWith g.M.File.SpillFile.held (g.H.Shelf.files c.args.shelf.now) (g.T.Store.files c.args.store.now) (g.T.Store.may_leave c.args.store.now)) c.finish.result.status (Rose (g.H.Shelf.faults c.args.shelf.now) (g.H.Shelf.faults c.build_line-line.new.shelf) ⊎ Rose (g.T.Store.faults c.args.store.now) (g.T.Store.faults c.build_line-line.new.store) ⊎ Rose (g.M.Room.faults c.args.room.now) (g.M.Room.faults c.build_line-line.new.room) ⊎ Rose (g.O.Sink.faults c.args.out.now) (g.O.Sink.faults c.finish.new.out)) (returns-in-Build-clause-fault g c)
     c.in-Build.config.now c.in-Build.out.now c.in-Build.ensures
     (λ all start begins asked. accepted_yields c.finish.result.status (g.O.Sink.written c.args.out.now) (g.O.Sink.written c.finish.new.out) (Rose (g.O.Sink.faults c.args.out.now) (g.O.Sink.faults c.finish.new.out)) c.build_line-line.result
-    (⊎_elim (λ accepted. c.build_line-line.ensures.accepted all start begins accepted) (λ done. c.build_line-line.ensures.done_comes all start begins done) asked) (build_ended g c))
+    (⊎_elim (λ accepted. c.build_line-line.ensures.comes_to.accepted all start begins accepted) (λ done. c.build_line-line.ensures.comes_to.done_comes all start begins done) asked) (build_ended g c))
 
 pub returns-in-Info-clause-comes : goal.returns-in-Info-clause-comes
 returns-in-Info-clause-comes g c =
