@@ -143,7 +143,7 @@ pub record MergingIsRefusedAt (files start : Files) (path parts : List ℕ) (err
   pub refused : merging.IsRefused files start config parts error
 
 -- What it comes to. Old are the store's files before and new those after. Flushed says that the store is settled now, same that nothing was put,
--- and source, store and room that the count of that device rose.
+-- and source, store and room that the count of that device rose. Parts that are ready are merged and built. A cause for which merging is refused, or the configuration, is reported. Each unless a device fails or memory runs out.
 pub record ComesToMerge (path parts : List ℕ) (outcome : Outcome) (files old : Option Files) (Begins : Files → Files → Type 0) (new : Option Files) (flushed same source store room : Type 0) : Type 0 where
   pub merged : IfOk outcome (λ summary. Tells (λ all. IsMergedAt all old Begins path parts summary new) files)
   pub settled : OnOk outcome flushed
