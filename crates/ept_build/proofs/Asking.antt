@@ -17,7 +17,7 @@ use Rattle.ept_build.specs.Building.{AsksInOrder, HasCounts}
 abbrev pub Paths : Type 0
 Paths = List (List ℕ)
 
--- the front of these paths was asked for
+-- the first of these paths, or all of them, were asked for
 abbrev pub AsksFront : Paths → Option Paths → Option Paths → Type 0
 AsksFront paths old new = (n : ℕ) × AsksFor (take n paths) old new
 
@@ -26,7 +26,7 @@ pub asks-none : (old : Option Paths) → AsksFor [] old old
 asks-none None = tt
 asks-none (Some before) = sym (append-nil before)
 
--- whether all were asked for, or a front of them
+-- whatever the result, the first of these paths, or all of them, were asked for
 pub opens-front : {T E : Type 0} (paths : Paths) (r : Result T E) (old new : Option Paths) → OpensThese paths r old new → AsksFront paths old new
 opens-front paths (Ok v) old new opens = (length paths, subst (λ (w : Paths). AsksFor w old new) (sym (take_all (length paths) paths (omega arith))) opens)
 opens-front paths (Err e) old new opens = opens
@@ -40,14 +40,14 @@ asks-then one two (Some a) None new first second = absurd first
 asks-then one two (Some a) (Some b) None first second = absurd second
 asks-then one two (Some a) (Some b) (Some c) first second = second ∙ (ap (λ (w : Paths). w ++ two) first ∙ append_assoc a one two)
 
--- a front of some is one of these with more behind them, and no longer than they are
+-- the first paths of `one` are also the first of `one ++ two`, and are at most all of `one`
 pub front-more : (one two : Paths) (old new : Option Paths) → AsksFront one old new → (n : ℕ) × (n ≤ length one) × AsksFor (take n (one ++ two)) old new
 front-more one two old new front = elim (cases_lt front.0 (length one)) [
   | inl less ↦ (front.0, omega (arith, less), subst (λ (w : Paths). AsksFor w old new) (sym (take-append-le front.0 one two (omega (arith, less)))) front.1)
   | inr past ↦ (length one, omega arith, subst (λ (w : Paths). AsksFor w old new) (take_all front.0 one (omega (arith, past)) ∙ (sym (take_all (length one) one (omega arith)) ∙ sym (take-append-le (length one) one two (omega arith)))) front.1)
 ]
 
--- all of some, and a front of others behind them
+-- all of `one` and then the first of `two` are the first of `one ++ two`
 pub front-then : (one two : Paths) (old mid new : Option Paths) → AsksFor one old mid → AsksFront two mid new → (n : ℕ) × AsksFor (take n (one ++ two)) old new
 front-then one two old mid new first second = (
   length one + second.0,

@@ -1,4 +1,4 @@
--- Which refusal of a layer below was told.
+-- Which refusal of a layer below was reported.
 use Rattle.std.proofs.Common.{◌≡◌, ◌∙◌, inl, inr, ℕ, ◌<◌, List, get_or, sym, ap, subst, arith, Option, Some, None}
 use Rattle.std.specs.List.{Any}
 use Rattle.std.proofs.lemmas.List.Sums.{get_or-le-sum_by}
@@ -124,7 +124,7 @@ phase-no-source phase.TooManyNodes is = cc
 phase-no-source phase.SpillFault is = cc
 phase-no-source (phase.SpillDamaged a b d) is = cc
 
--- a refusal of devices tells of no tile
+-- a refusal of devices names no tile
 pub stores-undamaged : (e : SaveError) (key : VoxelKey) → IsStores e → of_save e ≡ TileDamaged key → ⊥
 stores-undamaged e key (inl fault) is = let told : of_save save.StoreFault ≡ TileDamaged key = sym (ap of_save fault) ∙ is in cc
 stores-undamaged e key (inr memory) is = let told : of_save save.Memory ≡ TileDamaged key = sym (ap of_save memory) ∙ is in cc
@@ -147,21 +147,21 @@ publish-damage publish.SpillFault kept found number is = absurd (cc)
 publish-damage (publish.SpillDamaged a b d) kept found number is = cc
 publish-damage publish.Memory kept found number is = absurd (cc)
 
--- what follows of a told fact is told
+-- what follows from a fact about visible contents holds of them too
 pub tells-more : {X : Type 0} (P Q : X → Type 0) → ((x : X) → P x → Q x) → (o : Option X) → Tells P o → Tells Q o
 tells-more P Q more None told = tt
 tells-more P Q more (Some x) told = more x told
 
--- what holds of all is told
+-- what holds of all contents holds of visible ones
 pub tells-all : {X : Type 0} (P : X → Type 0) → ((x : X) → P x) → (o : Option X) → Tells P o
 tells-all P all None = tt
 tells-all P all (Some x) = all x
 
--- what is told of this
+-- and what holds of the visible contents holds of these, if these are visible
 pub tells-some : {X : Type 0} (P : X → Type 0) (o : Option X) (x : X) → o ≡ Some x → Tells P o → P x
 tells-some {X} P o x is told = subst (λ (w : Option X). Tells P w) is told
 
--- what holds of a refusal holds where it is answered
+-- what holds of an error holds of the result that returns it
 pub if-refused : {T E : Type 0} (P : E → Type 0) (r : Result T E) (e : E) → r ≡ Err e → P e → IfErr r P
 if-refused P r e is holds = subst (λ (w : Result _ _). IfErr w P) (sym is) holds
 

@@ -26,7 +26,7 @@ pub keeps-of : (plan : Plan) (current : Current) → IsOf plan current → Keeps
 keeps-of plan None is = absurd is
 keeps-of plan (Some (letter, c)) is = is.0
 
--- ---- so many phases
+-- ---- a number of phases
 
 pub after-none : (from : Current) (kept : Kept) (step all : ℕ) → inserted_by from ≤ all → IsAfter from kept step all 0 from
 after-none from kept step all most = record {
@@ -60,7 +60,7 @@ module _ (from now : Current) (kept : Kept) (step all phases : ℕ) (after : IsA
 
 -- ---- no fewer would do
 
--- each number of phases that brings in what is left, and is not 0 where an input is new, is no smaller
+-- each number of phases that inserts what is left, and is not 0 if an input is new, is no smaller
 abbrev pub NoFewer : ℕ → ℕ → ℕ → ℕ → Type 0
 NoFewer left inputs step phases = (others : ℕ) → left ≤ others * step → (0 < inputs → 0 < others) → phases ≤ others
 
@@ -78,7 +78,7 @@ module _ (plan : Plan) (from now : Current) (step phases : ℕ) (after : IsAfter
         | inr past ↦ omega (arith, past, least, ap inputs_by (after.unchanged none))
       ]
 
-  -- where something is left to do, one phase more is needed
+  -- if something is left to do, one phase more is needed
   pub no-fewer-next : ¬ HasAll plan now → NoFewer (plan.points - inserted_by from) (length plan.kept.inputs - inputs_by from) step (phases + 1)
   no-fewer-next not_all others enough one = elim (cases_lt phases others) [
     | inl less ↦ omega (arith, less)
@@ -88,7 +88,7 @@ module _ (plan : Plan) (from now : Current) (step phases : ℕ) (after : IsAfter
         absurd (not_all (record { inserted = omega (arith, after.inserted, enough, product, most); inputs = all_inputs others same one }))
   ]
 
-  -- and once all is done, as many were needed
+  -- and once all is done, this number of phases was needed
   pub through : HasAll plan now → IsThrough from plan.kept step plan.points (length plan.kept.inputs) now
   through all = record {
     phases = phases;
@@ -103,7 +103,7 @@ module _ (plan : Plan) (from now : Current) (step phases : ℕ) (after : IsAfter
     };
   }
 
--- where nothing is left, none is needed
+-- if nothing is left, none is needed
 pub nothing-needed : (from : Current) (kept : Kept) (step all inputs : ℕ) → inserted_by from ≡ all → inputs_by from ≡ inputs → IsThrough from kept step all inputs from
 nothing-needed from kept step all inputs inserted same = record {
   phases = 0;
@@ -126,7 +126,7 @@ goes-either view kept counts inserted nodes old new has goes = by goes.either
 
 -- ---- the points of the next phase
 
--- at most so many more, or all that are left
+-- at most `step` more, or all that are left
 pub take-most : (n step all : ℕ) (points : List Point) → length points ≡ all → n ≤ all → take (n + min step (all - n)) points ≡ take (n + step) points
 take-most n step all points is most = elim (cases_lt (n + step) all) [
   | inl less ↦ ap (λ (k : ℕ). take k points) (omega (arith, less))

@@ -33,7 +33,7 @@ use Rattle.ept_plan.specs.declared.error.PlanError.{PlanError}
 use Rattle.ept_plan.specs.declared.error.PlanError.TheVariants as plan
 use Rattle.ept_build.specs.Errors.{of_save, of_scan, of_plan, of_put}
 use Rattle.ept_build.specs.Building.{TellsDamage, Fails}
-use Rattle.ept_build.specs.Phases.{HasDamage, IsPhaseFault, IsRoomFault, IsStoreFault, IsEndFault}
+use Rattle.ept_build.specs.Phases.{HasDamage, IsStartFault, IsRoomFault, IsStoreFault, IsEndFault}
 
 -- a tile is damaged as before
 pub damaged-same : (current : Current) (key : VoxelKey) (old new : Files) → SameFiles old new → IsDamaged current key new → IsDamaged current key old
@@ -51,7 +51,7 @@ pub first-damage : (current : Current) (slots : ℕ) (key : VoxelKey) (files : O
 first-damage current slots key None told = tt
 first-damage current slots key (Some all) told = told.damaged
 
--- also where there are more slots
+-- also if there are more slots
 pub first-more : (current : Current) (slots more : ℕ) (key : VoxelKey) (files : Files) → slots ≤ more → IsFirstDamaged current slots key files → IsFirstDamaged current more key files
 first-more current slots more key files wide first = record {
   slot = record { front = first.slot.front; line = first.slot.line; rest = first.slot.rest; lines = first.slot.lines; few = omega (arith, first.slot.few, wide); key_is = first.slot.key_is };
@@ -75,12 +75,12 @@ in_front [] line rest (suc n) low = inl refl
 in_front (f ∷ fs) line rest zero low = absurd (omega (arith, low))
 in_front (f ∷ fs) line rest (suc n) low = inr (in_front fs line rest n (omega (arith, low)))
 
--- where no tile of those is damaged, its own is not
+-- if no tile of those is damaged, its own is not
 pub slot-intact : (current : Current) (slots : ℕ) (key : VoxelKey) (files : Files) → HasSlot current slots key → AreIntact current (take slots (lines_of current)) files → IsDamaged current key files → ⊥
 slot-intact current slots key files slot intact damaged =
     intact slot.line (subst (λ (w : List NodeLine). IsMember slot.line (take slots w)) (sym slot.lines) (in_front slot.front slot.line slot.rest slots slot.few)) (subst (λ (k : VoxelKey). IsDamaged current k files) (sym slot.key_is) damaged)
 
--- where the current checkpoint is kept, it is that of what is left
+-- if the current checkpoint is kept, it is that of what is left
 pub kept-damage : (view : View) (key : VoxelKey) (old new : Option Files) {may : Files → Type 0} → StandsFor view old may → StepsBy (Keeps view.current) old new → HasLine view.current key → Tells (IsDamaged view.current key) new → HasDamage view.current key new
 kept-damage view key old None stands keeps line damaged = (line, tt)
 kept-damage view key None (Some b) stands keeps line damaged = absurd keeps
@@ -89,7 +89,7 @@ kept-damage view key (Some a) (Some b) stands keeps line damaged = (line, (keeps
     some-one : {x y : Files} → Some x ≡ Some y → x ≡ y
     some-one is = cc
 
--- no tile is damaged where nothing but the done gate changes
+-- no tile is damaged if only the done gate changes
 no_damage_kept : (current : Current) (old mid new : Files) → HasNoDamage current old → SameFiles old mid → SameBut done_name mid new → HasNoDamage current new
 no_damage_kept current old mid new whole same but = λ key line damaged. whole key line (damaged-before current key old new (λ l found. but (tile_of_line l) (λ is. done-apart (inr (inr (l.letter, l.key, sym is)))) ∙ same (tile_of_line l)) damaged)
 
@@ -99,7 +99,7 @@ still-whole current old None (Some c) whole same but = absurd but
 still-whole current None (Some b) (Some c) whole same but = absurd same
 still-whole current (Some a) (Some b) (Some c) whole same but = no_damage_kept current a b c whole same but
 
--- nothing but the done gate changes
+-- only the done gate changes
 pub gate-steps : (old mid new : Option Files) → StepsBy SameFiles old mid → StepsBy (SameBut done_name) mid new → StepsBy (SameBut done_name) old new
 gate-steps None None None same but = tt
 gate-steps None None (Some c) same but = absurd but
@@ -108,7 +108,7 @@ gate-steps (Some a) None new same but = absurd same
 gate-steps (Some a) (Some b) None same but = absurd but
 gate-steps (Some a) (Some b) (Some c) same but = λ name other. but name other ∙ same name
 
--- and where the files are as they were
+-- and if the files are as they were
 pub same-damage : (view : View) (key : VoxelKey) (old new : Option Files) {may : Files → Type 0} → StandsFor view new may → StepsBy SameFiles old new → HasLine view.current key → Tells (IsDamaged view.current key) old → HasDamage view.current key new
 same-damage view key old None stands same line damaged = (line, tt)
 same-damage view key None (Some b) stands same line damaged = absurd same
@@ -117,32 +117,32 @@ same-damage view key (Some a) (Some b) stands same line damaged = (line, (subst 
     some-one : {x y : Files} → Some x ≡ Some y → x ≡ y
     some-one is = cc
 
--- ---- a refusal where a tile is damaged
+-- ---- a refusal if a tile is damaged
 
 module _ (r : Result Summary BuildError) where
   -- the nodes are not loaded
-  pub loading-tells : (e : BuildError) → r ≡ Err e → IsPhaseFault e → e ≢ SourceFault → ((source number : ℕ) → e ≢ SourceChanged source number) → ((kept found number : ℕ) → e ≢ SpillDamaged kept found number) → e ≢ TooManyNodes → TellsDamage r ⊎ Fails r
-  loading-tells StoreFault is only source same whole many = inr (inl is)
-  loading-tells Memory is only source same whole many = inr (inr (inr (inr is)))
-  loading-tells SpillFault is only source same whole many = inr (inr (inr (inl is)))
-  loading-tells (SpillDamaged kept found number) is only source same whole many = absurd (whole kept found number refl)
-  loading-tells (TileDamaged key) is only source same whole many = inl (key, is)
-  loading-tells SourceFault is only source same whole many = absurd (source refl)
-  loading-tells (SourceChanged s n) is only source same whole many = absurd (same s n refl)
-  loading-tells TooManyNodes is only source same whole many = absurd (many refl)
-  loading-tells (BadCheckpoint letter) is only source same whole many = absurd only
-  loading-tells (Differs field kept given) is only source same whole many = absurd only
-  loading-tells (BadLas s fault) is only source same whole many = absurd only
-  loading-tells (OutOfBounds s number) is only source same whole many = absurd only
-  loading-tells (TooManyPoints s) is only source same whole many = absurd only
-  loading-tells NoBounds is only source same whole many = absurd only
+  pub loading-tells : (e : BuildError) → r ≡ Err e → IsStartFault e → e ≢ TooManyNodes → TellsDamage r ⊎ Fails r
+  loading-tells StoreFault is only many = inr (inl is)
+  loading-tells Memory is only many = inr (inr (inr (inr is)))
+  loading-tells SpillFault is only many = inr (inr (inr (inl is)))
+  loading-tells (TileDamaged key) is only many = inl (key, is)
+  loading-tells TooManyNodes is only many = absurd (many refl)
+  loading-tells SourceFault is only many = absurd only
+  loading-tells (SourceChanged s n) is only many = absurd only
+  loading-tells (SpillDamaged kept found number) is only many = absurd only
+  loading-tells (BadCheckpoint letter) is only many = absurd only
+  loading-tells (Differs field kept given) is only many = absurd only
+  loading-tells (BadLas s fault) is only many = absurd only
+  loading-tells (OutOfBounds s number) is only many = absurd only
+  loading-tells (TooManyPoints s) is only many = absurd only
+  loading-tells NoBounds is only many = absurd only
 
   -- the checkpoints are not opened
   pub opening-fails : (e : SaveError) → r ≡ Err (of_save e) → IsStores e → Fails r
   opening-fails e is (inl fault) = inl (is ∙ ap (λ (w : SaveError). Err (of_save w)) fault)
   opening-fails e is (inr memory) = inr (inr (inr (is ∙ ap (λ (w : SaveError). Err (of_save w)) memory)))
 
--- ---- a refusal that tells of no tile
+-- ---- a refusal that names no tile
 
 pub saved-damaged : (e : SaveError) (key : VoxelKey) → of_save e ≡ TileDamaged key → e ≡ save.TileDamaged key
 saved-damaged save.StoreFault key is = absurd (cc)

@@ -1,4 +1,4 @@
--- The end of a build: the output is put behind the closed done gate, which is then opened.
+-- The end of a build: the output is put while the done gate is closed, and the gate is then opened.
 use Rattle.std.proofs.Common.{◌≡◌, ◌∙◌, inl, inr, ℕ, List, length, map, refl, sym, ap, subst, Option, Some, None}
 use Rattle.std.specs.Prelude.{All, Contains}
 use Rattle.std.specs.List.{AllZip}

@@ -1,4 +1,4 @@
--- Where nothing is to be done, and where the rest of a build begins.
+-- When nothing is to be done, and where the rest of a build begins.
 use Rattle.std.proofs.Common.{◌≡◌, ◌∙◌, ◌⊎◌, inl, inr, ℕ, List, length, take, refl, sym, ap, subst, Option, Some, None}
 use Rattle.ept_base.specs.Files.{Files, SameFiles, Tells}
 use Rattle.ept_base.specs.Moves.{IsSettled, Moves}
@@ -192,7 +192,8 @@ done-scan one published all start config current has sound done =
         let scan : IsScan all config.scale (Some c.kept.bounds) c.kept.inputs 0 of.0 found = subst (λ (k : ℕ). IsScan all k (Some c.kept.bounds) c.kept.inputs 0 of.0 found) kept_is.scale_is of.2 in
         (of.0, found, subst (λ (w : List Input). IsScan all config.scale (Some c.kept.bounds) w 0 of.0 found) kept_is.inputs_is scan)
 
--- where it has all points of all inputs and no tiles of the old layout, and the done gate is open, nothing is to be done
+-- The checkpoint has all points of all inputs and no tiles of the old layout. If the done gate is open too, nothing is
+-- to be done.
 pub already-done : (config : Config) (start : Files) (current : Current) (plan : Plan) → IsPlan config current plan → HasCurrent current start → HasAll plan current → IsDone start → ¬ IsOfLayout Old current → IsDoneAlready config start
 already-done config start current plan is has all done newest = record {
   done = done;

@@ -11,7 +11,7 @@ use Rattle.ept_sample.specs.Place.{place}
 use Rattle.ept_sample.specs.Ids.{same_id, HasDistinctIds}
 use Rattle.ept_sample.specs.SamplingLaws.{CanBeSampled}
 
--- so many, and the next ones
+-- the first `n`, and the next `k`
 pub front-then : (n k : ℕ) (points : List Point) → take n points ++ take k (drop n points) ≡ take (n + k) points
 front-then n k points = sym (take-add n k points)
 

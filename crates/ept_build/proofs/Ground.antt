@@ -1,4 +1,4 @@
--- What a build stands on: the points of all inputs, and of which of them the current checkpoint tells.
+-- What a build starts from: the points of all inputs, and which of them the current checkpoint has.
 use Rattle.std.proofs.Common.{◌≡◌, ◌∙◌, ℕ, ◌<◌, ◌≤◌, List, [], ◌∷◌, ◌++◌, length, take, drop, refl, sym, ap, subst, arith, Option, Some, None, length-append}
 use Rattle.std.specs.Prelude.{All, Contains}
 use Rattle.std.specs.List.{AllZip}
@@ -81,7 +81,7 @@ has-counts shelf start config current plan scans has sound =
     let it = scans first.0 first.1 in
     (it.0, plan.kept.bounds, it.1)
 
--- of a store that tells, the tiles of the checkpoint are those at the start
+-- if the contents of the store are visible, the tiles of the checkpoint are those at the start
 told-tiles : (current : Current) (nodes : List Branch) (files : Option Files) (start : Files) → files ≡ Some start → OfCurrent current (λ (c : Checkpoint). Tells (λ all. NameTiles (layout_of c.version) all nodes c.nodes) files) → OfCurrent current (λ (c : Checkpoint). NameTiles (layout_of c.version) start nodes c.nodes)
 told-tiles None nodes files start told of = tt
 told-tiles (Some (letter, c)) nodes files start told of = told_some (λ (all : Files). NameTiles (layout_of c.version) all nodes c.nodes) files start told of
@@ -103,7 +103,7 @@ pub record IsGround (shelf start : Files) (config : Config) (current : Current) 
 pub extent-found : (counts given : List SourceCount) (extent : Option Bounds) → given ≡ counts → ((lists : List (List Point)) → AllZip IsCountOf lists given → HasExtent (in_order lists) extent) → (lists : List (List Point)) → AllZip IsCountOf lists counts → HasExtent (in_order lists) extent
 extent-found counts given extent same found lists zip = found lists (subst (λ (w : List SourceCount). AllZip IsCountOf lists w) (sym same) zip)
 
--- where a part of the points has too many nodes, all have
+-- if a part of the points has too many nodes, all have
 pub many-at : MorePointsHaveMoreNodes → (shelf start : Files) (config : Config) (current : Current) (plan : Plan) (extent : Option Bounds) (ground : IsGround shelf start config current plan extent) (n : ℕ) → config.max_nodes < length (sampled (rules_of plan.kept) (take n ground.points)) → HasTooManyNodes shelf config current
 many-at more shelf start config current plan extent ground n many = record {
   kept = plan.kept;
@@ -199,7 +199,7 @@ module _ (one_output : OutputIsOne) (can_be : PointsCanBeSampled) (grow : NamesG
           (subst (λ (w : List Point). AreSampled (rules_of plan.kept) w nodes) fronts
           (subst (λ (r : Rules). AreSampled r (take c.inserted first) nodes) (sym stay.0) are_nodes))
 
-  -- the checkpoint has as many lines as the sampling of what is inserted has nodes, or fewer
+  -- the checkpoint has no more lines than the sampling of what is inserted has nodes
   lines-few : length (lines_of current) ≤ length (sampled (rules_of plan.kept) (take plan.inserted points))
   lines-few = at current refl its is.rules_stay
     where

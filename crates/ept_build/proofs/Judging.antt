@@ -1,4 +1,4 @@
--- What an answer says of each cause.
+-- What a result says of each cause.
 use Rattle.std.proofs.Common.{◌≡◌, ◌≢◌, ◌∙◌, ◌⊎◌, inl, inr, ℕ, ◌<◌, ◌≤◌, List, refl, sym, ap, subst, arith, Option, Some}
 use Rattle.std.specs.Prelude.{Vec, Result, Ok, Err, IsOk, IfOk, IfErr}
 use Rattle.std.specs.declared.alloc.Global.{Global}

@@ -7,6 +7,7 @@ mod Phased
 mod Counting
 mod Asking
 mod Ending
+mod Ended
 mod Ground
 mod Refusals
 pub mod Found
@@ -17,5 +18,6 @@ pub mod TakenUp
 mod UnderWay
 mod Damage
 mod Renewed
+mod Caused
 mod Finished
 mod Spilled

@@ -18,7 +18,7 @@ use Rattle.ept_build.proofs.Fronts.{can-front}
 
 -- ---- points of nodes
 
--- nodes have as many points as their lines tell
+-- the nodes have the number of points that their lines state
 pub told-number : (nodes : List Branch) (lines : List NodeLine) → TellNodes nodes lines → length (points_in nodes) ≡ ckpt.points_in lines
 told-number [] [] told = refl
 told-number [] (l ∷ lines) told = absurd told

@@ -52,7 +52,7 @@ entry_key [] key m = absurd m
 entry_key (b ∷ nodes) key (inl is) = inl is
 entry_key (b ∷ nodes) key (inr m) = inr (entry_key nodes key m)
 
--- each node of the checkpoint is still there, where no node is gone
+-- each node of the checkpoint is still there, if no node is gone
 pub each-stays : (current : Current) (old new : List Branch) → KeepsNodes (map entry_of old) (map entry_of new) → HasEachNodeOf current old → HasEachNodeOf current new
 each-stays current old new keeps each =
     All-members (λ (line : NodeLine). is_among (keys_in new) line.key ≡ true) (lines_of current) (λ line m.
@@ -60,7 +60,7 @@ each-stays current old new keeps each =
     let here : has_node (map entry_of old) line.key ≡ true = key-has_node (map entry_of old) line.key (key_entry old line.key (among-member (keys_in old) line.key was)) in
     member-among (keys_in new) line.key (entry_key new line.key (has_node-key (map entry_of new) line.key (keeps line.key here))))
 
--- and each is where its lines tell of the nodes
+-- and each is there if the lines of the checkpoint describe the nodes
 told_key : (nodes : List Branch) (lines : List NodeLine) → TellNodes nodes lines → (line : NodeLine) → IsMember line lines → IsMember line.key (keys_in nodes)
 told_key [] [] told line m = absurd m
 told_key [] (l ∷ lines) told line m = absurd told
@@ -109,7 +109,7 @@ module _ (plan : Plan) (old new : View) (inserted : ℕ) (nodes : List Branch) (
   pub saved-of : IsOf plan new.current
   saved-of = subst (IsOf plan) (sym now) (saved.is_next.kept_is, saved.is_next.counts_are)
 
--- ---- so many points, and the next ones
+-- ---- the first points, and the next ones
 
 module _ (own rules : Rules) (same : own ≡ rules) (n k : ℕ) (points : List Point) where
   abbrev both : List Point
@@ -123,7 +123,7 @@ module _ (own rules : Rules) (same : own ≡ rules) (n k : ℕ) (points : List P
 
 -- ---- the octree of the first points, and a reader that has the others
 
--- where each spill file tells, those of the nodes do
+-- if the contents of all spill files are visible, so are those of the nodes' files
 files-tell : {F : Type 0} (held : F → Option (List ℕ)) (octree : Octree F) → IsTelling held → FilesTell held octree
 files-tell held octree telling k d within = telling (file_of (get_or (forests.nodes_of (tree.forest_of octree)) k d))
 
@@ -140,7 +140,7 @@ module _ {F S : Type 0} (held : F → Option (List ℕ)) (whole : S → Option (
   pub next-sampled : (k : ℕ) (new : List Branch) → ((first left : List Point) → StandsBetween held whole grown reader first left → AreSampled (tree.rules_of grown) (first ++ take k left) new) → AreSampled (rules_of plan.kept) (take (n + k) points) new
   next-sampled k new inserted = sampled-then (tree.rules_of grown) (rules_of plan.kept) same n k points new (inserted (take n points) (drop n points) stands-between)
 
--- ---- the octree behind a phase
+-- ---- the octree after a phase
 
 pub next-tree : {F : Type 0} (held : F → Option (List ℕ)) (faults keeps : F → ℕ) (plan : Plan) (inserted : ℕ) (grown next : Octree F) (old new : View) → tree.rules_of grown ≡ rules_of plan.kept → tree.IsWhole held grown → length (tree.points_of held grown) ≡ inserted → tree.nodes_of held next ≡ tree.nodes_of held grown → tree.rules_of next ≡ tree.rules_of grown → tree.IsLinked held next → tree.AgreesWithFiles held faults keeps next → tree.IsUnbroken next
     → IsSaved old new plan.kept plan.counts inserted (tree.nodes_of held grown) → IsTreeOf held faults keeps plan inserted next new

@@ -1,10 +1,8 @@
 -- What is left by a migration, whole or not: sound files, with the checkpoint as it was or the next one.
 use Rattle.std.proofs.Common.{◌≡◌, ◌∙◌, ◌⊎◌, inl, inr, ℕ, refl, sym, ap, subst, arith, Option, Some, None}
-use Rattle.std.specs.Prelude.{⊤}
 use Rattle.ept_base.specs.Files.{Files, SameFiles, StepsBy}
 use Rattle.ept_base.specs.Moves.{IsSettled, Moves}
 use Rattle.ept_base.proofs.Moving.{moves_weaker}
-use Rattle.ept_space.specs.VoxelKey.{VoxelKey}
 use Rattle.ept_point.specs.declared.layout.Layout.TheVariants.{Old, New}
 use Rattle.ept_ckpt.specs.declared.letter.Letter.{Letter}
 use Rattle.ept_ckpt.specs.declared.checkpoint.Checkpoint.{Checkpoint}
@@ -17,15 +15,12 @@ use Rattle.ept_save.specs.Errors.{IsStores}
 use Rattle.ept_save.specs.Tiles.{IsOfLayout}
 use Rattle.ept_save.specs.View.{View}
 use Rattle.ept_save.specs.declared.error.SaveError.{SaveError}
-use Rattle.ept_save.specs.declared.error.SaveError.TheVariants as save
 use Rattle.ept_save.specs.SoundLaws.{SameIsSound, MigratingKeepsSound}
 use Rattle.ept_save.proofs.NamesDiffer.{done-apart}
 use Rattle.ept_save.proofs.TileFiles.{not-old}
 use Rattle.ept_save.proofs.Turning.{has-turn, same-turn, the-old}
-use Rattle.ept_build.specs.declared.error.BuildError.{BuildError}
-use Rattle.ept_build.specs.declared.error.BuildError.TheVariants.{StoreFault, BadCheckpoint, TileDamaged, Differs, SourceFault, BadLas, OutOfBounds, TooManyPoints, NoBounds, SourceChanged, SpillFault, SpillDamaged, TooManyNodes, Memory}
 use Rattle.ept_build.specs.Errors.{of_save}
-use Rattle.ept_build.specs.Phases.{IsSoundAt, IsSoundUndone, IsSoundTaken, IsPhaseFault, IsStoreFault, Renews}
+use Rattle.ept_build.specs.Phases.{IsSoundAt, IsSoundUndone, IsSoundTaken, IsStoreFault, Renews}
 use Rattle.ept_build.specs.Reached.{HasTurned}
 use Rattle.ept_build.proofs.Moved.{AllAre, all-settled, all-after, moves-after, moves-wider}
 use Rattle.ept_build.proofs.Running.{sound-same}
@@ -93,7 +88,7 @@ module _ (same_sound : SameIsSound) (migrating : MigratingKeepsSound) (shelf sta
     pub renew-images : (image : Files) → may_leave new image → IsSoundUndone shelf image
     renew-images = (all-after files may_leave moment image_since (IsShutAt shelf from) (Renews from start) old new (IsSoundUndone shelf) (λ a b shut step. record { sound = (renewed-sound from at a b shut step).sound; undone = renewed-undone from at a b shut step }) all_shut renews).images
 
--- ---- behind a load
+-- ---- after a load
 
 module _ (shelf : Files) (from : Current) {D : Type 0} (files : D → Option Files) (may_leave : D → Files → Type 0) (moment : D → ℕ) (image_since : D → ℕ → Files → Type 0) where
   -- a call that leaves the checkpoint as it was
@@ -119,7 +114,7 @@ pub renews-same : (current : Current) (start a b : Files) → SameFiles a b → 
 renews-same None start a b same = same
 renews-same (Some (letter, c)) start a b same = inl same
 
--- where there is nothing to migrate
+-- if there is nothing to migrate
 pub renews-none : {D : Type 0} (files : D → Option Files) (may_leave : D → Files → Type 0) (moment : D → ℕ) (image_since : D → ℕ → Files → Type 0) (current : Current) (start : Files) (d : D) → Moves files may_leave moment image_since (Renews current start) d d
 renews-none files may_leave moment image_since current start d = record {
   reads = read (files d);
@@ -149,34 +144,6 @@ migrated-newest old new m is_old =
     not-old (layout_of m.next.version) newest of
 
 -- ---- a refusal of a checkpoint
-
--- a refusal that one may be
-abbrev pub IsSaveKind : BuildError → Type 0
-IsSaveKind StoreFault = ⊤
-IsSaveKind (TileDamaged key) = ⊤
-IsSaveKind (BadCheckpoint letter) = ⊤
-IsSaveKind Memory = ⊤
-IsSaveKind SourceFault = ⊥
-IsSaveKind (SourceChanged source number) = ⊥
-IsSaveKind SpillFault = ⊥
-IsSaveKind (SpillDamaged kept found at) = ⊥
-IsSaveKind TooManyNodes = ⊥
-IsSaveKind (Differs field kept given) = ⊥
-IsSaveKind (BadLas source fault) = ⊥
-IsSaveKind (OutOfBounds source number) = ⊥
-IsSaveKind (TooManyPoints source) = ⊥
-IsSaveKind NoBounds = ⊥
-
-pub save-kind : (e : SaveError) → IsSaveKind (of_save e)
-save-kind save.StoreFault = tt
-save-kind (save.BadCheckpoint letter) = tt
-save-kind (save.TileDamaged key) = tt
-save-kind save.Memory = tt
-
-pub save-phase : (e : SaveError) → ((key : VoxelKey) × (e ≡ save.TileDamaged key)) ⊎ IsStores e → IsPhaseFault (of_save e)
-save-phase e (inl tile) = subst (λ (w : SaveError). IsPhaseFault (of_save w)) (sym tile.1) tt
-save-phase e (inr (inl fault)) = subst (λ (w : SaveError). IsPhaseFault (of_save w)) (sym fault) tt
-save-phase e (inr (inr memory)) = subst (λ (w : SaveError). IsPhaseFault (of_save w)) (sym memory) tt
 
 pub save-stores : (e : SaveError) → IsStores e → IsStoreFault (of_save e)
 save-stores e (inl fault) = inl (ap of_save fault)

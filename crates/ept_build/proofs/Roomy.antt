@@ -1,4 +1,4 @@
--- Slots that are enough for the nodes of so many points.
+-- Slots that are enough for the nodes of the points.
 use Rattle.std.proofs.Common.{◌≡◌, ℕ, ◌+◌, ◌<◌, ◌≤◌, List, length, take, drop, ap, arith, length-append}
 use Rattle.std.proofs.lemmas.List.{take-append-drop}
 use Rattle.ept_point.specs.declared.point.Point.{Point}
@@ -16,7 +16,7 @@ fewer : (n : ℕ) (points : List Point) → length (take n points) ≤ length po
 fewer n points = omega (arith, length-append (take n points) (drop n points), ap (λ (w : List Point). length w) (take-append-drop n points))
 
 module _ (law : TilesAreFew) (plan : Plan) (current : Current) (max slots : ℕ) (room : HasRoom plan current max slots) (points : List Point) (can : CanBeSampled (rules_of plan.kept) points) (number : length points ≡ plan.points) where
-  -- where the nodes of the first points are more than the slots, they are more than there may be
+  -- if the nodes of the first points are more than the slots, they are more than there may be
   pub many-front : (n : ℕ) → slots < length (sampled (rules_of plan.kept) (take n points)) → max < length (sampled (rules_of plan.kept) (take n points))
   many-front n many =
       let few = law (rules_of plan.kept) (take n points) plan.points (can-front (rules_of plan.kept) n points can) (omega (arith, number, fewer n points)) in

@@ -1,4 +1,4 @@
--- What is left of a build: the nodes are loaded, the done gate is closed, and all points of the inputs are brought in.
+-- What is left of a build: the nodes are loaded, the done gate is closed, and all points of the inputs are inserted.
 use Rattle.std.proofs.Common.{◌≡◌, ◌∙◌, ◌⊎◌, inl, inr, ℕ, true, ◌<◌, ◌≤◌, List, length, refl, sym, ap, subst, arith, Option, Some, None}
 use Rattle.std.proofs.lemmas.List.Elements.{All-nil}
 use Rattle.ept_base.specs.Files.{Files, SameFiles, Tells}
@@ -86,7 +86,7 @@ module _ (same_sound : SameIsSound) (published : DoneIsPublished) (guarding : Gu
         by (inl done) = moves-after files may_leave moment image_since (IsSoundAt shelf current) (Guards start) old new (IsSoundAt shelf current) (λ a b. closes a b done) all (guards guarded)
         by (inr undone) = same-moves old new all (stood_shut start told undone)
 
-  -- once it is closed, and all is stable, no image has an open one
+  -- once the gate is closed, and this is flushed, no image has an open one
   pub closed-images : (d : D) → AllSound d → (now : Files) → files d ≡ Some now → Tells (λ all. ¬ IsDone all) (files d) → IsSettled (files d) (may_leave d) → (image : Files) → may_leave d image → IsSoundUndone shelf image
   closed-images d all now told closed settled image may = record {
     sound = (all.images image may).sound;

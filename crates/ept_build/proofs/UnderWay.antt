@@ -1,4 +1,4 @@
--- What lies on the way of a build: sound files, some phases behind the start.
+-- What a build leaves on its way: sound files, some phases after the start.
 use Rattle.std.proofs.Common.{◌≡◌, ◌∙◌, ◌⊎◌, inl, inr, ℕ, ◌<◌, ◌≤◌, length, take, sym, subst, arith, Option, Some, None}
 use Rattle.ept_base.specs.Files.{Files, SameFiles, StepsBy, Tells}
 use Rattle.ept_base.specs.Moves.{IsSettled, Moves, SameImages}
@@ -50,7 +50,7 @@ module _ (all start : Files) (config : Config) (current : Current) (plan : Plan)
     });
   }
 
-  -- the next one of the same points, where that is taken up
+  -- the next one of the same points, if that is taken up
   pub under-way-taken : inserted_by current ≤ plan.points → (files : Files) → IsSoundTaken all current files → IsUnderWay all config start files
   under-way-taken most files at = by at.taken
     where
@@ -83,7 +83,7 @@ module _ (all start : Files) (config : Config) (current : Current) (plan : Plan)
 
   -- ---- the end
 
-  -- complete files, as many phases later as were needed
+  -- complete files, later by the number of phases that were needed
   pub complete-end : (base : Current) → IsTakenUp current base → (now : Current) → IsThrough base plan.kept config.checkpoint plan.points (length config.inputs) now → (nodes : ℕ) → nodes ≡ node_count plan.kept ground.points → (old new : Option Files) → StepsBy (λ (a b : Files). IsSoundAt all now b) old new → Tells (IsComplete plan.kept ground.points) new → Tells (IsBuilt all config start (record { points = plan.points; nodes = nodes })) new
   complete-end base taken now through nodes counted None None moved complete = tt
   complete-end base taken now through nodes counted None (Some b) moved complete = absurd moved

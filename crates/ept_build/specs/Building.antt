@@ -1,4 +1,5 @@
--- What a build of a configuration is of, over a shelf and a store with these files, what it leaves, and why it is refused.
+-- What a build of a configuration is of, over a shelf and a store with these files, what it leaves, and why it is
+-- refused.
 use Rattle.std.specs.Prelude.{◌≡◌, ◌⊎◌, ℕ, ◌+◌, ◌-◌, ◌<◌, ◌≤◌, ◌++◌, take, List, Option, Result, Err, Some, Vec, length, ⊤}
 use Rattle.std.specs.declared.alloc.Global.{Global}
 use Rattle.ept_base.specs.Devices.{counts_on}
@@ -40,7 +41,8 @@ use Rattle.ept_build.specs.Reached.{HasReached, HasGoneThrough}
 
 -- ---- what a build begins with
 
--- The spill files, the shelf and the store tell. The store is settled, and its files are sound for the shelf.
+-- The contents of the spill files, the shelf and the store are visible. The store is settled, and its files are sound
+-- for the shelf.
 pub record BeginsWith {F : Type 0} (held : F → Option (List ℕ)) (shelf files : Option Files) (may_leave : Files → Type 0) (all start : Files) : Type 0 where
   pub spills : IsTelling held
   pub shelf_told : shelf ≡ Some all
@@ -48,7 +50,9 @@ pub record BeginsWith {F : Type 0} (held : F → Option (List ℕ)) (shelf files
   pub settled : IsSettled files may_leave
   pub sound : IsSound all start
 
--- The inputs of the configuration have these points, all in order, within the bounds that the current checkpoint keeps; where there is none, within the given ones, or else within their extent. With the bounds this is kept of the configuration.
+-- The inputs of the configuration have these points, all in order, within the bounds. The bounds are those that the
+-- current checkpoint keeps, or if there is none the given ones, or else the extent of the points. Together with the
+-- bounds, this is kept of the configuration.
 pub record HasPoints (all : Files) (config : Config) (current : Current) (kept : Kept) (points : List Point) : Type 0 where
   pub done : ScanDone
   pub scan : IsScan all config.scale (limits_by config.bounds current) config.inputs 0 points done
@@ -58,7 +62,8 @@ pub record HasPoints (all : Files) (config : Config) (current : Current) (kept :
 abbrev pub node_count : Kept → List Point → ℕ
 node_count kept points = length (sampled (rules_of kept) points)
 
--- what is left to be done begins with such files, where the spill files tell, the current checkpoint is known and there is a plan
+-- What is left to be done begins with such files. The contents of the spill files are visible, the current checkpoint
+-- is known, and there is a plan.
 pub record Starts {F : Type 0} (held : F → Option (List ℕ)) (all : Files) (config : Config) (view : View) (plan : Plan) (start : Files) (files : Option Files) (may_leave : Files → Type 0) : Type 0 where
   pub spills : IsTelling held
   pub ready : IsReady all start view files may_leave
@@ -66,7 +71,8 @@ pub record Starts {F : Type 0} (held : F → Option (List ℕ)) (all : Files) (c
 
 -- ---- what it leaves
 
--- The configuration continues from the current checkpoint. The files are complete for the points of its inputs, after the phases that were needed, and the summary has their numbers.
+-- The configuration continues from the current checkpoint. The files are complete for the points of its inputs, after
+-- the phases that were needed, and the summary has their numbers.
 pub record IsBuilt (all : Files) (config : Config) (start : Files) (summary : Summary) (files : Files) : Type 0 where
   pub current : Current
   pub has_current : HasCurrent current start
@@ -79,7 +85,8 @@ pub record IsBuilt (all : Files) (config : Config) (start : Files) (summary : Su
   pub points_are : summary.points ≡ length points
   pub nodes_are : summary.nodes ≡ node_count kept points
 
--- The configuration continues from the checkpoint that was current when the build began, and its inputs have points. The current one of the files is one that the build reaches by phases.
+-- The configuration continues from the checkpoint that was current when the build began, and its inputs have points.
+-- The current one of the files is one that the build reaches by phases.
 pub record HasContinued (all : Files) (config : Config) (current : Current) (files : Files) : Type 0 where
   pub goes_on : GoesOn config current
   pub kept : Kept
@@ -94,7 +101,8 @@ pub record IsUnderWay (all : Files) (config : Config) (start files : Files) : Ty
   pub has_current : HasCurrent current start
   pub either : HasCurrent current files ⊎ HasContinued all config current files
 
--- the done gate is open, and the current checkpoint has all inputs of the configuration, with what is kept of it, and no tiles of the old layout
+-- The done gate is open. The current checkpoint has all inputs of the configuration, with what is kept of it, and no
+-- tiles of the old layout.
 pub record IsDoneAlready (config : Config) (start : Files) : Type 0 where
   pub done : IsDone start
   pub current : Current
@@ -103,18 +111,20 @@ pub record IsDoneAlready (config : Config) (start : Files) : Type 0 where
   pub no_more : inputs_by current ≡ length config.inputs
   pub newest : ¬ IsOfLayout Old current
 
--- the files of a room were asked to keep something, as far as its count tells, at least as often as there are nodes past those that may be in memory
+-- the files of a room were asked at least `nodes - cache` times to keep something, as far as the room's count goes
 abbrev pub HasKeptBut : ℕ → ℕ → ℕ → ℕ → Type 0
 HasKeptBut cache nodes old new = counts_on old (nodes - cache) ≤ forest.told new
 
 -- ---- what the shelf is asked for
 
--- so many records the inputs have, which are accepted
+-- the inputs are accepted, and have these counts of records
 abbrev pub HasCounts : Files → Config → Current → List SourceCount → Type 0
 HasCounts all config current counts =
     (points : List Point) × (bounds : Bounds) × IsScan all config.scale (limits_by config.bounds current) config.inputs 0 points (record { counts = counts; bounds = bounds })
 
--- First the new inputs, to be scanned, then those that have records left behind the ones that are inserted, to be read: all of these, in this order, or a front of them. Behind the new ones only where all inputs are accepted.
+-- The shelf is asked first for the new inputs, to scan them, and then for those with records after the inserted ones,
+-- to read them. It is asked for all of these, in this order, or for the first ones only. It is asked for more than the
+-- new inputs only if all inputs are accepted.
 pub record AsksInOrder (shelf : Option Files) (config : Config) (start : Files) (current : Current) (old new : Option (List (List ℕ))) : Type 0 where
   pub counts : List SourceCount
   pub number : ℕ
@@ -149,7 +159,8 @@ pub record HasTooManyAlready (all : Files) (config : Config) (start : Files) : T
   pub has_points : HasPoints all config current kept points
   pub many : config.max_nodes < node_count kept (take (inserted_by current) points)
 
--- The configuration continues from the current checkpoint. The one of the files is some phases later, and its points have few enough nodes; with those of the next phase they have too many.
+-- The configuration continues from the current checkpoint. The checkpoint of the files is some phases later, and its
+-- points have few enough nodes. With the points of the next phase there are too many.
 pub record IsStopped (all : Files) (config : Config) (start files : Files) : Type 0 where
   pub current : Current
   pub has_current : HasCurrent current start
@@ -161,7 +172,9 @@ pub record IsStopped (all : Files) (config : Config) (start files : Files) : Typ
   pub few : node_count kept (take (inserted_by reached.gone.now) points) ≤ config.max_nodes
   pub many : config.max_nodes < node_count kept (take (inserted_by reached.gone.now + config.checkpoint) points)
 
--- The build comes to the octree of the current checkpoint: this goes on, and the inputs are accepted; the done gate is not open, or an input is new. Of the nodes for which there are slots, the tile of a key is damaged.
+-- The build gets to the octree of the current checkpoint. The configuration continues from this, and the inputs are
+-- accepted. The done gate is not open, or an input is new. A node for which there is a slot has a damaged tile, that of
+-- the key.
 pub record ComesToDamage (all : Files) (config : Config) (start : Files) (current : Current) : Type 0 where
   pub goes_on : GoesOn config current
   pub points : List Point
@@ -176,7 +189,8 @@ pub record ComesToDamage (all : Files) (config : Config) (start : Files) (curren
 abbrev pub InputsAreRefused : Files → Config → Current → ScanError → Type 0
 InputsAreRefused all config current error = GoesOn config current × AreRefused all config current error
 
--- Why a build is refused that began with sound files. Faults of devices and want of memory say nothing of the files. Files that are told stay as they are, those of the store, of the shelf and the spill files.
+-- Why a build that began with sound files is refused. A fault of a device or a lack of memory says nothing of the
+-- files. Visible files stay as they are, those of the store, of the shelf and the spill files.
 abbrev pub IsRefusedAt : Files → Config → Current → BuildError → Type 0
 IsRefusedAt all config current StoreFault = ⊤
 IsRefusedAt all config current SourceFault = ⊤
@@ -199,19 +213,19 @@ pub record IsRefused (all : Files) (config : Config) (start : Files) (error : Bu
   pub has_current : HasCurrent current start
   pub because : IsRefusedAt all config current error
 
--- a fault of a device, or want of memory
+-- a fault of a device, or out of memory
 abbrev pub IsFault : BuildError → Type 0
 IsFault e = (e ≡ StoreFault) ⊎ (e ≡ SourceFault) ⊎ (e ≡ SpillFault) ⊎ (e ≡ Memory)
 
--- the answer is a fault of a device, or want of memory
+-- the result is a fault of a device, or out of memory
 abbrev pub Fails : Result Summary BuildError → Type 0
 Fails answer = (answer ≡ Err StoreFault) ⊎ (answer ≡ Err SourceFault) ⊎ (answer ≡ Err SpillFault) ⊎ (answer ≡ Err Memory)
 
--- the answer is a field that differs
+-- the result reports a field that differs
 abbrev pub TellsDifference : Result Summary BuildError → Type 0
 TellsDifference answer = (field : Field) × (kept : Vec ℕ Global) × (given : Vec ℕ Global) × (answer ≡ Err (Differs field kept given))
 
--- the answer is a damaged tile
+-- the result reports a damaged tile
 abbrev pub TellsDamage : Result Summary BuildError → Type 0
 TellsDamage answer = (key : VoxelKey) × (answer ≡ Err (TileDamaged key))
 

@@ -1,4 +1,4 @@
--- What the refusals of the layers below are told as.
+-- How the refusals of the layers below are reported.
 use Rattle.ept_base.specs.declared.errors.PutError.{PutError}
 use Rattle.ept_base.specs.declared.errors.PutError.TheVariants as put
 use Rattle.ept_scan.specs.declared.scan_error.ScanError.{ScanError}

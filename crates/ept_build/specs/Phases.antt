@@ -58,7 +58,8 @@ pub record HasAll (plan : Plan) (current : Current) : Type 0 where
 
 -- ---- the octree, the reader and the checkpoint
 
--- The octree is that of no points, with its root in memory, under the rules that are kept, whose cube is that of the bounds. As many points are inserted as the checkpoint has, from which the plan goes on.
+-- The octree is that of no points, with its root in memory. Its rules are those that are kept, whose cube is that of
+-- the bounds. The number of points that count as inserted is that of the checkpoint from which the plan continues.
 pub record IsBegun {F : Type 0} (held : F → Option (List ℕ)) (faults keeps : F → ℕ) (plan : Plan) (inserted : ℕ) (octree : Octree F) (view : View) : Type 0 where
   pub rules : tree.rules_of octree ≡ rules_of plan.kept
   pub of_bounds : IsCubeOf plan.kept.bounds plan.kept.s plan.kept.max_depth (rules_of plan.kept).cube
@@ -72,7 +73,9 @@ pub record IsBegun {F : Type 0} (held : F → Option (List ℕ)) (faults keeps :
   pub by_checkpoint : inserted_by view.current ≡ inserted
   pub inputs_least : inputs_by view.current ≤ length plan.kept.inputs
 
--- The octree is a whole one of so many points, under the rules that are kept, none of its nodes is broken, and each agrees with its file. It has each node of the checkpoint, which has as many points inserted, and no tiles of the old layout.
+-- The octree is whole and has `inserted` points, under the rules that are kept. Each of its nodes is unbroken and
+-- agrees with its file. It has each node of the checkpoint. The checkpoint too has `inserted` points inserted, and no
+-- tiles of the old layout.
 pub record IsTreeOf {F : Type 0} (held : F → Option (List ℕ)) (faults keeps : F → ℕ) (plan : Plan) (inserted : ℕ) (octree : Octree F) (view : View) : Type 0 where
   pub rules : tree.rules_of octree ≡ rules_of plan.kept
   pub whole : tree.IsWhole held octree
@@ -86,13 +89,15 @@ pub record IsTreeOf {F : Type 0} (held : F → Option (List ℕ)) (faults keeps 
   pub by_checkpoint : inserted_by view.current ≡ inserted
   pub inputs_least : inputs_by view.current ≤ length plan.kept.inputs
 
--- The nodes are those of the checkpoint: its lines tell of them, and name their tiles, in its layout. Where there is none, they are those of no points.
+-- The nodes are those of the checkpoint: its lines describe them, and name their tiles, in its layout. If there is no
+-- checkpoint, the nodes are those of no points.
 pub record AreLoaded (plan : Plan) (current : Current) (nodes : List Branch) (files : Option Files) : Type 0 where
   pub told : OfCurrent current (λ (c : Checkpoint). TellNodes nodes c.nodes)
   pub tiles : OfCurrent current (λ (c : Checkpoint). Tells (λ all. NameTiles (layout_of c.version) all nodes c.nodes) files)
   pub begun : current ≡ None → AreSampled (rules_of plan.kept) [] nodes
 
--- So many slots are enough: as many as there may be nodes, or no fewer than the checkpoint has nodes, and than so many points have at most.
+-- The slots are enough, and at most `max`. If they are fewer than `max`, they suffice for the nodes of the checkpoint
+-- and for the most nodes that the points can have.
 pub record HasRoom (plan : Plan) (current : Current) (max slots : ℕ) : Type 0 where
   pub few : slots ≤ max
   pub for_lines : slots < length (lines_of current) → slots ≡ max
@@ -106,9 +111,9 @@ pub record ReadsRest {S : Type 0} (whole left : S → Option (List ℕ)) (given 
   pub to_come : left_of reader + inserted ≡ plan.points
   pub inside : (p : Point) → LiesIn (files_of whole reader) p → InCube (rules_of plan.kept).cube (place p)
 
--- ---- of devices that tell
+-- ---- of devices with visible contents
 
--- The store is settled with these files, which are sound for the shelf, and stands for their current checkpoint.
+-- The store is settled with these files, which are sound for the shelf, and represents their current checkpoint.
 pub record IsReady (shelf start : Files) (view : View) (files : Option Files) (may_leave : Files → Type 0) : Type 0 where
   pub told : files ≡ Some start
   pub settled : IsSettled files may_leave
@@ -116,13 +121,14 @@ pub record IsReady (shelf start : Files) (view : View) (files : Option Files) (m
   pub has_current : HasCurrent view.current start
   pub stands : StandsFor view files may_leave
 
--- the spill files tell, the octree is that of the first points, and the reader has the others
+-- the contents of the spill files are visible, the octree is that of the first points, and the reader has the others
 pub record HasInserted {F S : Type 0} (held : F → Option (List ℕ)) (whole : S → Option (List ℕ)) (plan : Plan) (points : List Point) (inserted : ℕ) (reader : Reader S) (octree : Octree F) : Type 0 where
   pub telling : IsTelling held
   pub sampled : AreSampled (rules_of plan.kept) (take inserted points) (tree.nodes_of held octree)
   pub rest : IsRest whole reader (drop inserted points)
 
--- What is known of the checkpoints is as it was, or, if the tiles of the current one were of the old layout, of the next one.
+-- What is known of the checkpoints is as it was, unless the tiles of the current checkpoint were of the old layout.
+-- Then the next one is current now.
 pub record TakesUp (old new : View) : Type 0 where
   pub taken : IsTakenUp old.current new.current
   pub fresh : old.lines ≡ lines_of old.current → new.lines ≡ lines_of new.current
@@ -150,7 +156,7 @@ pub record IsSoundTaken (shelf : Files) (from : Current) (files : Files) : Type 
   pub has_now : HasCurrent now files
   pub taken : (now ≡ from) ⊎ HasTurned from now
 
--- ---- a shelf and a store that tell
+-- ---- a shelf and a store with visible contents
 
 -- all inputs have these points, which can be sampled, and this is their output
 pub record AreOfShelf (shelf : Files) (plan : Plan) (points : List Point) (output : List File) : Type 0 where
@@ -158,7 +164,7 @@ pub record AreOfShelf (shelf : Files) (plan : Plan) (points : List Point) (outpu
   pub can : CanBeSampled (rules_of plan.kept) points
   pub is_output : IsOutput plan.kept points output
 
--- The store stands for the checkpoint, whose output has no other names; and each image is sound, with a closed done gate.
+-- The store represents the checkpoint, whose output has no other names. Each image is sound, with a closed done gate.
 pub record IsOnWay (shelf : Files) (output : List File) (view : View) (files : Option Files) (may_leave : Files → Type 0) : Type 0 where
   pub names : HasNamesOf shelf view.current (names_of output)
   pub stands : StandsFor view files may_leave
@@ -170,7 +176,8 @@ pub record IsOnWay (shelf : Files) (output : List File) (view : View) (files : O
 abbrev pub HasDamage : Current → VoxelKey → Option Files → Type 0
 HasDamage current key files = HasLine current key × Tells (λ all. HasCurrent current all × IsDamaged current key all) files
 
--- Some phases later, at this checkpoint, the sampling of the points that are inserted has few enough nodes, and with those of the next phase more than there may be.
+-- This checkpoint is some phases later. The sampling of the points that it has inserted has few enough nodes. With the
+-- points of the next phase there are more than there may be.
 pub record AreMany (plan : Plan) (from : Current) (step most : ℕ) (points : List Point) (now : Current) : Type 0 where
   pub phases : ℕ
   pub after : IsAfter from plan.kept step plan.points phases now
@@ -194,14 +201,35 @@ IsPhaseFault (OutOfBounds source number) = ⊥
 IsPhaseFault (TooManyPoints source) = ⊥
 IsPhaseFault NoBounds = ⊥
 
--- a fault of the room, or want of memory
+-- a cause that the taking up of the current checkpoint may have
+abbrev pub IsStartFault : BuildError → Type 0
+IsStartFault StoreFault = ⊤
+IsStartFault (TileDamaged key) = ⊤
+IsStartFault SpillFault = ⊤
+IsStartFault TooManyNodes = ⊤
+IsStartFault Memory = ⊤
+IsStartFault SourceFault = ⊥
+IsStartFault (SourceChanged source number) = ⊥
+IsStartFault (SpillDamaged kept found at) = ⊥
+IsStartFault (BadCheckpoint letter) = ⊥
+IsStartFault (Differs field kept given) = ⊥
+IsStartFault (BadLas source fault) = ⊥
+IsStartFault (OutOfBounds source number) = ⊥
+IsStartFault (TooManyPoints source) = ⊥
+IsStartFault NoBounds = ⊥
+
+-- a fault of the room, or out of memory
 abbrev pub IsRoomFault : BuildError → Type 0
 IsRoomFault e = (e ≡ SpillFault) ⊎ (e ≡ Memory)
 
--- a fault of the store, or want of memory
+-- a fault of the store, or out of memory
 abbrev pub IsStoreFault : BuildError → Type 0
 IsStoreFault e = (e ≡ StoreFault) ⊎ (e ≡ Memory)
 
--- a fault of the store, a spill file that does not give back the points of its node, or want of memory
+-- the same, or a damaged tile
+abbrev pub IsRenewFault : BuildError → Type 0
+IsRenewFault e = IsStoreFault e ⊎ ((key : VoxelKey) × (e ≡ TileDamaged key))
+
+-- a fault of the store, a spill file that does not return the points of its node, or out of memory
 abbrev pub IsEndFault : BuildError → Type 0
 IsEndFault e = IsStoreFault e ⊎ (e ≡ SpillFault) ⊎ ((kept : ℕ) × (found : ℕ) × (at : ℕ) × (e ≡ SpillDamaged kept found at))

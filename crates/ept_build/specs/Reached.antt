@@ -1,4 +1,4 @@
--- How far a build comes, phase by phase, behind the checkpoint that it began with.
+-- How far a build comes, phase by phase, after the checkpoint that it began with.
 use Rattle.std.specs.Prelude.{◌≡◌, ◌⊎◌, ℕ, ◌+◌, ◌-◌, ◌*◌, ◌<◌, ◌≤◌, min, Some, None}
 use Rattle.ept_base.specs.Files.{Files}
 use Rattle.ept_point.specs.declared.layout.Layout.TheVariants.{Old}
@@ -27,7 +27,8 @@ pub record HasTurned (from base : Current) : Type 0 where
   pub turns : IsTurnOf c next
   pub is : base ≡ Some (other letter, next)
 
--- what a build continues from: the checkpoint that it begins with, or, if the tiles of that are of the old layout, the next one
+-- what a build continues from: the checkpoint that it begins with, or, if the tiles of that are of the old layout, the
+-- next one
 abbrev pub IsTakenUp : Current → Current → Type 0
 IsTakenUp from base = (¬ IsOfLayout Old from × (base ≡ from)) ⊎ HasTurned from base
 
@@ -36,7 +37,8 @@ abbrev pub KeepsAs : Kept → Current → Type 0
 KeepsAs kept None = ⊥
 KeepsAs kept (Some (letter, c)) = c.kept ≡ kept
 
--- It is `phases` phases later. Each made a checkpoint that keeps this of the configuration, with `step` points more inserted, or with all if fewer were left. Without a phase it is the checkpoint as it was, or none.
+-- It is `phases` phases later. Each made a checkpoint that keeps this of the configuration, with `step` points more
+-- inserted, or with all if fewer were left. Without a phase it is the checkpoint as it was, or none.
 pub record IsAfter (from : Current) (kept : Kept) (step all phases : ℕ) (now : Current) : Type 0 where
   pub generation : generation_by now ≡ generation_by from + phases
   pub inserted : inserted_by now ≡ min all (inserted_by from + phases * step)
@@ -56,19 +58,21 @@ pub record HasReached (from : Current) (kept : Kept) (step all : ℕ) (files : F
   pub taken_up : IsTakenUp from base
   pub gone : HasGone base kept step all files
 
--- So many phases are needed for so many points that are left, and new inputs: the fewest that bring all points in, and one at least where an input is new.
+-- For `left` points that are left and `inputs` new inputs, `phases` phases of `step` points are needed. This is the
+-- least number that inserts all points, and at least one if an input is new.
 pub record AreNeeded (left inputs step phases : ℕ) : Type 0 where
   pub enough : left ≤ phases * step
   pub one : 0 < inputs → 0 < phases
   pub fewest : (others : ℕ) → left ≤ others * step → (0 < inputs → 0 < others) → phases ≤ others
 
--- It is as many phases later as were needed for all points and inputs.
+-- It is later by the number of phases that were needed for all points and inputs.
 pub record IsThrough (from : Current) (kept : Kept) (step all inputs : ℕ) (now : Current) : Type 0 where
   pub phases : ℕ
   pub after : IsAfter from kept step all phases now
   pub needed : AreNeeded (all - inserted_by from) (inputs - inputs_by from) step phases
 
--- the current checkpoint of the files is that one, behind what the build continues from
+-- the current checkpoint of the files is later than what the build continues from, by the phases that were needed for
+-- all points and inputs
 pub record HasGoneThrough (from : Current) (kept : Kept) (step all inputs : ℕ) (files : Files) : Type 0 where
   pub base : Current
   pub taken_up : IsTakenUp from base
@@ -76,7 +80,8 @@ pub record HasGoneThrough (from : Current) (kept : Kept) (step all inputs : ℕ)
   pub has_now : HasCurrent now files
   pub through : IsThrough base kept step all inputs now
 
--- the current checkpoint of the files is this one, or the next one, which keeps this of the configuration, with this number of points inserted
+-- the current checkpoint of the files is this one, or the next one, which keeps this of the configuration, with this
+-- number of points inserted
 abbrev pub HasThisOrNext : Current → Kept → ℕ → Files → Type 0
 HasThisOrNext current kept inserted files =
     HasCurrent current files

@@ -18,11 +18,12 @@ ghost use Rattle.ept_save.specs.Opening.{IsBad};
 ghost use Rattle.ept_save.specs.Tiles.{IsOfLayout};
 ghost use Rattle.ept_save.specs.View.{StandsFor};
 ghost use Rattle.ept_point.specs.declared.layout.Layout.TheVariants.{Old};
-ghost use Rattle.ept_phase.specs.Loaded.{HasSlot, IsFirstDamaged};
+ghost use Rattle.ept_phase.specs.Loaded.{IsFirstDamaged};
 ghost use Rattle.ept_meta.specs.declared.fields.Field.{Field};
 ghost use Rattle.ept_plan.specs.Plans.{IsPlan, IsDefinite, GoesOn, DiffersBy};
 ghost use Rattle.ept_few.specs.Few.{TilesAreFew};
-ghost use Rattle.ept_build.specs.Building.{BeginsWith, Starts, InputsAreRefused, HasTooManyNodes, HasTooManyAlready, TellsDifference, IsBuilt, IsUnderWay, IsStopped, AsksInOrder, ComesToDamage, TellsDamage, IsDoneAlready, HasKeptBut, IsAccepted, IsRefusedAt, IsRefused, IsEarly, Fails};
+ghost use Rattle.ept_build.specs.Building.{BeginsWith, Starts, InputsAreRefused, HasTooManyNodes, HasTooManyAlready, TellsDifference, IsBuilt, IsUnderWay, IsStopped, AsksInOrder, ComesToDamage, TellsDamage, IsDoneAlready, HasKeptBut, IsAccepted, IsRefused, IsEarly, Fails};
+ghost use Rattle.ept_build.specs.Ends.{EndsSoundly, FindsDamage};
 ghost use Rattle.ept_build.specs.Errors.{of_scan};
 ghost use Rattle.ept_build.specs.Phases.{HasAll, IsBegun, HasRoom, HasDamage, IsPhaseFault, IsStoreFault};
 
@@ -47,23 +48,23 @@ use std::alloc::Global;
 use std::sync::Wait;
 use std::thread::Threads;
 
-/// Builds the octree of the points of all inputs of the configuration, and puts its files into the store: the
+/// Builds the octree of the points of all inputs of the configuration, and puts its files into the store. These are the
 /// tile of each node, the hierarchy, the metadata, the manifest and the build file.
 ///
-/// As many nodes may be in memory at a time as the configuration says; the others are in spill files of the room.
+/// At most `config.cache` nodes are in memory at a time; the others are in spill files of the room.
 ///
-/// It goes on from the current checkpoint of the store: the inputs that this has are not read again but for the
-/// records that are not inserted yet, and after each `checkpoint` records the octree is the next checkpoint. The
-/// done gate is closed meanwhile, and opened once all files of the output are stable. Where the current checkpoint
-/// has all inputs and no tiles of the old layout, and the gate is open, nothing is put.
+/// The build resumes from the current checkpoint of the store. An input that this checkpoint has is read again only for
+/// the records that are not inserted yet. After each `config.checkpoint` records the octree becomes the next
+/// checkpoint. The done gate is closed meanwhile, and is opened once all files of the output are flushed. If the gate
+/// is open and the current checkpoint has all inputs and no tiles of the old layout, nothing is put.
 ///
-/// If the tiles of the current checkpoint are of the old layout, the first checkpoint of the build has the same points in
+/// If the tiles of the current checkpoint have the old layout, the build's first checkpoint has the same points in
 /// tiles of the new one.
 ///
 /// # Errors
 ///
-/// The first cause in the order in which [`BuildError`] tells. At any refusal the store can be opened anew and
-/// the build run again.
+/// The first cause, in the order that [`BuildError`] states. After any refusal the store can be opened again and the
+/// build run again.
 pub fn build<H: Shelf, T: Store, M: Room, G: Gate + Sync, R: Threads + Wait + Sync>(
     rt: &R,
     alloc: Global,
@@ -81,19 +82,19 @@ where
         → IfOk result (λ summary. Tells (IsBuilt all config.now start summary) (T.files store.new)) }
     ensures settled { OnOk result (IsSettled (T.files store.new) (T.may_leave store.new)) }
 
-    // Whatever the moment, each image is sound, and some phases behind the start.
+    // At any moment each image is sound, and some phases after the start.
     ensures sound { (all start : Files) → BeginsWith M.File.held (H.files shelf.old) (T.files store.old) (T.may_leave store.old) all start
         → Moves T.files T.may_leave T.moment T.image_since (λ (a b : Files). IsUnderWay all config.now start b) store.old store.new }
 
-    // What it leaves where there are too many nodes: nothing is put where there were already, or the phases are
-    // kept before the one that has too many.
+    // What it leaves if there are too many nodes. If there were too many already, nothing is put. Otherwise the phases
+    // before the one that has too many are kept.
     ensures stops { result ≡ Err BuildError.TooManyNodes
         → (all start : Files) → BeginsWith M.File.held (H.files shelf.old) (T.files store.old) (T.may_leave store.old) all start
         → IsSettled (T.files store.new) (T.may_leave store.new)
         × ((HasTooManyAlready all config.now start × Moves T.files T.may_leave T.moment T.image_since SameFiles store.old store.new)
         ⊎ Tells (IsStopped all config.now start) (T.files store.new)) }
 
-    // Nothing is put where nothing is to be done, and none where the inputs are refused.
+    // Nothing is put if nothing is to be done, or if the inputs are refused.
     ensures done_already { (all start : Files) → BeginsWith M.File.held (H.files shelf.old) (T.files store.old) (T.may_leave store.old) all start
         → IsDoneAlready config.now start
         → Moves T.files T.may_leave T.moment T.image_since SameFiles store.old store.new }
@@ -134,13 +135,14 @@ where
     ensures sources { HasCauseOf BuildError.SourceFault (H.faults shelf.old) (H.faults shelf.new) result }
     ensures stores { HasCauseOf BuildError.StoreFault (T.faults store.old) (T.faults store.new) result }
 
-    // What it opens: the new inputs, and then what is left to be read, in order. Files that are told stay.
+    // What it opens, in order: the new inputs, and then those with records left to read. Visible files of the shelf
+    // stay as they are.
     ensures asked { (start : Files) (current : Current) → T.files store.old ≡ Some start → HasCurrent current start
         → AsksInOrder (H.files shelf.old) config.now start current (H.asked shelf.old) (H.asked shelf.new) }
     ensures files { H.files shelf.new ≡ H.files shelf.old }
     ensures spills { HasCauseOf BuildError.SpillFault (M.faults room.old) (M.faults room.new) result }
 
-    // Spill files were asked to keep something as often at least as there are nodes past those that may be in memory.
+    // The spill files were asked to keep something at least once for each node beyond those that may be in memory.
     ensures kept { (start : Files) → T.files store.old ≡ Some start → ¬ IsDoneAlready config.now start
         → IfOk result (λ summary. HasKeptBut config.now.cache summary.nodes (M.keeps room.old) (M.keeps room.new)) }
 {
@@ -166,8 +168,8 @@ where
     answer
 }
 
-// Whether nothing is to be done: the current checkpoint has all points of all inputs and no tiles of the old layout, and
-// the done gate is open.
+// Whether nothing is to be done. Then the done gate is open, and the current checkpoint has all points of all inputs
+// and no tiles of the old layout.
 fn is_finished<T: Store>(
     alloc: Global,
     store: &mut T,
@@ -188,14 +190,14 @@ fn is_finished<T: Store>(
     Ok(is_done(alloc, store)?)
 }
 
-// So many points have no more nodes than so many slots can hold.
+// The slots for a number of points can hold all nodes of their sampling.
 fn room_law()
     ensures { TilesAreFew }
 {
     few_nodes_law();
 }
 
-// Brings what is left into the octree, and puts the files of the output. The nodes come back, to be retired.
+// Inserts what is left into the octree, and puts the files of the output. The nodes are returned, to be retired.
 fn built<H, T, F, G, R>(
     crew: &Crew<R, G>,
     alloc: Global,
@@ -215,33 +217,17 @@ where
     requires plan { IsPlan config.now at.saved.current plan.now }
     requires begun { IsBegun F.held F.faults F.keeps plan.now at.inserted at.octree at.saved }
     requires room { HasRoom plan.now at.saved.current config.now.max_nodes (most_of at.octree) }
-    ensures built { (all start : Files) → H.files shelf.old ≡ Some all
+    ensures ends { (all start : Files) → H.files shelf.old ≡ Some all
         → Starts F.held all config.now at.saved plan.now start (T.files store.old) (T.may_leave store.old)
-        → IfOk result.1 (λ summary. Tells (IsBuilt all config.now start summary) (T.files store.new)) }
+        → EndsSoundly T.files T.may_leave T.moment T.image_since all config.now at.saved.current start result.1 store.old store.new }
     ensures few { IfOk result.1 (λ summary. summary.nodes ≤ config.now.max_nodes) }
     ensures settled { OnOk result.1 (IsSettled (T.files store.new) (T.may_leave store.new)) }
-    ensures sound { (all start : Files) → H.files shelf.old ≡ Some all
-        → Starts F.held all config.now at.saved plan.now start (T.files store.old) (T.may_leave store.old)
-        → Moves T.files T.may_leave T.moment T.image_since (λ (a b : Files). IsUnderWay all config.now start b) store.old store.new }
-    ensures stops { result.1 ≡ Err BuildError.TooManyNodes → (all start : Files) → H.files shelf.old ≡ Some all
-        → Starts F.held all config.now at.saved plan.now start (T.files store.old) (T.may_leave store.old)
-        → IsSettled (T.files store.new) (T.may_leave store.new)
-        × ((HasTooManyAlready all config.now start × Moves T.files T.may_leave T.moment T.image_since SameFiles store.old store.new)
-        ⊎ Tells (IsStopped all config.now start) (T.files store.new)) }
     ensures only { IfErr result.1 IsPhaseFault }
     ensures damaged { (key : VoxelKey) → result.1 ≡ Err (BuildError.TileDamaged key)
         → StandsFor at.saved (T.files store.old) (T.may_leave store.old)
         → (current : Current) × HasDamage current key (T.files store.new) }
-    ensures damaged_first { (start : Files) (key other : VoxelKey) → T.files store.old ≡ Some start
-        → IsDamaged at.saved.current key start → result.1 ≡ Err (BuildError.TileDamaged other)
-        → IsFirstDamaged at.saved.current config.now.max_nodes other start
-        × Moves T.files T.may_leave T.moment T.image_since SameFiles store.old store.new }
-    ensures damaged_comes { (start : Files) (key : VoxelKey) → T.files store.old ≡ Some start
-        → HasSlot at.saved.current config.now.max_nodes key → IsDamaged at.saved.current key start
-        → TellsDamage result.1 ⊎ Fails result.1 }
-    ensures refused { (all start : Files) → H.files shelf.old ≡ Some all
-        → Starts F.held all config.now at.saved plan.now start (T.files store.old) (T.may_leave store.old)
-        → IfErr result.1 (IsRefusedAt all config.now at.saved.current) }
+    ensures damage { (start : Files) → T.files store.old ≡ Some start
+        → FindsDamage T.files T.may_leave T.moment T.image_since config.now at.saved.current start result.1 store.old store.new }
     ensures asked { (n : ℕ) × AsksFor (take n (paths_left plan.now.kept.inputs plan.now.counts plan.now.inserted))
         (H.asked shelf.old) (H.asked shelf.new) }
     ensures files { H.files shelf.new ≡ H.files shelf.old }

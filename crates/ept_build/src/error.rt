@@ -19,18 +19,18 @@ use ept_space::Key;
 pub enum BuildError {
     /// A call of the store failed: its count of faults rose.
     StoreFault,
-    /// The body of this letter, whose gate is open, is absent or that of no checkpoint, or has the generation of
-    /// the other one.
+    /// The gate of this letter is open, but its body is missing, is not a checkpoint, or has the generation of the
+    /// other letter's body.
     BadCheckpoint {
         letter: Letter,
     },
-    /// The tile that the current checkpoint names for this key is absent or not the node's.
+    /// The tile that the current checkpoint names for this key is missing, or is not the node's.
     TileDamaged {
         key: Key,
     },
-    /// This is the first field of the configuration that differs from what an earlier build kept. Both values
-    /// are as the build file has them; of the inputs they are the first that differs, and what is given is
-    /// empty where the list ends before it.
+    /// The first field of the configuration that differs from what an earlier build kept. Both values are in the form
+    /// of the build file. For the inputs, they are those of the first input that differs, and `given` is empty if the
+    /// list ends before it.
     Differs {
         field: Field,
         kept: Vec<u8>,
@@ -54,16 +54,16 @@ pub enum BuildError {
     },
     /// No bounds are given, and no input has a point.
     NoBounds,
-    /// This input is not what the first reading has found: its header is not, which is told as record 0, or
-    /// the record of this number ends early or lies elsewhere.
+    /// This input is not as the first reading found it. Either the record of this number ends early or lies elsewhere,
+    /// or the header differs, which is reported as record 0.
     SourceChanged {
         source: u32,
         number: PointNumber,
     },
     /// A spill file can't be made or failed: the room's count of faults rose.
     SpillFault,
-    /// A spill file gave back other bytes than those of its node's tile, in whose place it has `found` bytes instead of
-    /// the `kept` ones; or the point of the number `at`, from 0, is the first that does not fit the node.
+    /// A spill file returned other bytes than those of its node's tile. Either it has `found` bytes instead of the
+    /// `kept` ones, or point `at`, from 0, is the first that does not fit the node.
     SpillDamaged {
         kept: u64,
         found: u64,

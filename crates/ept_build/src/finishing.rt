@@ -26,8 +26,8 @@ use ept_save::{open_done, sound_law, sound_steps_law};
 use ept_space::Bounds;
 use std::alloc::Global;
 
-/// Puts the files of the output, of which the current checkpoint has all points, and opens the done gate once
-/// they are stable.
+/// Puts the files of the output, and opens the done gate once they are flushed. The current checkpoint has all points
+/// of the output.
 pub(crate) fn finish<F: SpillFile, T: Store>(
     alloc: Global,
     store: &mut T,

@@ -1,4 +1,4 @@
-//! The phases: so many records at a time are brought into the octree, which then becomes the next checkpoint.
+//! The phases: each inserts at most a given number of records into the octree, which then becomes the next checkpoint.
 
 ghost use Rattle.std.specs.Prelude.{◌≡◌, ◌≢◌, ◌≤◌, ◌<◌, ◌+◌, ◌↔◌, ℕ, List, IsTrue, IfOk, IfErr, length, take};
 ghost use Rattle.ept_base.specs.Causes.{Rose};
@@ -51,8 +51,8 @@ pub(crate) fn has_all(saved: &Saved, plan: &Plan) -> bool
     }
 }
 
-/// Reads the points that are not inserted yet, and brings them into the octree, at most `step` of them in a phase.
-/// Behind each phase the octree is the current checkpoint.
+/// Reads the points that are not inserted yet, and inserts them into the octree, at most `step` of them in a phase.
+/// After each phase the octree is the current checkpoint.
 pub(crate) fn grow<H, T, F, G, R>(
     crew: &Crew<R, G>,
     alloc: Global,
@@ -85,7 +85,8 @@ where
         → Moves T.files T.may_leave T.moment T.image_since
         (λ (a b : Files). HasGone at.saved.current plan.now.kept step plan.now.points b) store.old store.new }
 
-    // Of devices and spill files that tell: the octree is then that of all points, and each image is sound meanwhile.
+    // If the contents of the devices and spill files are visible, the octree is then that of all points. Meanwhile each
+    // image is sound.
     ensures sampled { IsTelling F.held → IfOk result (λ end. Tells (λ all. (points : List Point)
         → IsKeptScan all plan.now.kept plan.now.counts points → CanBeSampled (rules_of plan.now.kept) points
         → AreSampled (rules_of plan.now.kept) (take at.inserted points) (nodes_of F.held at.octree)
@@ -163,7 +164,8 @@ where
     }
 }
 
-// Phase after phase, until the current checkpoint has all points of all inputs. The reader comes back.
+// Runs phase after phase, until the current checkpoint has all points of all inputs. The reader is returned in any
+// case.
 fn phases<S, T, F, G, R>(
     crew: &Crew<R, G>,
     alloc: Global,
@@ -243,7 +245,8 @@ where
     Ok((at, reader))
 }
 
-// Brings so many of the next records into the octree, and makes this the next checkpoint. The reader comes back.
+// Inserts the next `count` records into the octree, and makes this the next checkpoint. The reader is returned in any
+// case.
 fn phase<S, T, F, G, R>(
     crew: &Crew<R, G>,
     alloc: Global,
@@ -360,7 +363,7 @@ where
     }
 }
 
-// What is left where the records are not inserted.
+// What is left if the records are not inserted.
 fn not_inserted<F, S>(saved: Saved, refused: Refused<F, S>) -> (Stopped<F>, Reader<S>)
     ensures saved { result.0.saved ≡ saved }
     ensures forest { result.0.forest ≡ refused.forest }

@@ -1,8 +1,9 @@
 //! The builder: from scans on a shelf to the files of an octree of tiles in a store.
 //!
-//! The inputs are read twice: first to find the number of their points and where they lie, then in batches,
-//! whose points workers bring into an octree. After so many points the octree is the current checkpoint, from
-//! which a later build goes on. Once all points are in it, the files of the output are put.
+//! The inputs are read twice. The first reading finds the number of their points and where these lie. The second reads
+//! them in batches, whose points workers insert into an octree. Each time a configured number of records has been
+//! inserted, the octree becomes the current checkpoint, from which a later build resumes. Once all points are in it,
+//! the files of the output are put.
 #![tactic(auto)]
 
 mod building;

@@ -9,10 +9,10 @@ use ept_forest::Forest;
 use ept_octree::Octree;
 use ept_save::Saved;
 
-/// How far a build has come: the first points of its inputs are in an octree, and so many of them are in the
-/// current checkpoint.
+/// How far a build has come: the first points of its inputs are in an octree, some or all of these in the current
+/// checkpoint.
 ///
-/// It can't be dropped where the octree's spill files can't.
+/// It can't be dropped if the octree's spill files can't.
 pub(crate) struct Progress<F> {
     /// What is known of the checkpoints.
     pub(crate) saved: Saved,
@@ -33,7 +33,7 @@ pub(crate) struct Stopped<F> {
 }
 
 impl<F: SpillFile> Progress<F> {
-    /// What is left where the build is refused for this cause.
+    /// What is left if the build is refused for this cause.
     pub(crate) fn stop(self, error: BuildError) -> Stopped<F>
         ensures saved { result.saved ≡ self.saved }
         ensures forest { result.forest ≡ forest_of self.octree }

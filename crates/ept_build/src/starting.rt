@@ -1,10 +1,9 @@
-//! The beginning of what is left to be done: the nodes of the current checkpoint, behind a closed done gate.
+//! The start of the remaining work: the nodes of the current checkpoint are loaded, and the done gate is closed.
 
-ghost use Rattle.std.specs.Prelude.{◌≡◌, ◌≢◌, ◌<◌, ◌≤◌, ◌↔◌, ℕ, List, Some, Err, IsTrue, IfOk, IfErr, OnOk, take, length};
+ghost use Rattle.std.specs.Prelude.{◌≡◌, ◌<◌, ◌≤◌, ◌↔◌, List, Some, Err, IsTrue, IfOk, IfErr, OnOk, length};
 ghost use Rattle.ept_base.specs.Causes.{HasCauseOf};
-ghost use Rattle.ept_base.specs.Files.{Files, SameFiles, SameBut, StepsBy, Tells};
-ghost use Rattle.ept_base.specs.Moves.{IsSettled, Moves, SameImages};
-ghost use Rattle.ept_space.specs.VoxelKey.{VoxelKey};
+ghost use Rattle.ept_base.specs.Files.{Files, SameBut, StepsBy, Tells};
+ghost use Rattle.ept_base.specs.Moves.{IsSettled, Moves};
 ghost use Rattle.ept_meta.specs.Output as meta;
 ghost use Rattle.ept_meta.specs.Output.{File, names_of};
 ghost use Rattle.ept_node.specs.Shown.{IsTelling};
@@ -18,9 +17,9 @@ ghost use Rattle.ept_point.specs.declared.layout.Layout.TheVariants.{Old};
 ghost use Rattle.ept_save.specs.Tiles.{IsOfLayout};
 ghost use Rattle.ept_save.specs.View.{View, StandsFor};
 ghost use Rattle.ept_save.specs.Loading.{HasNoDamage};
-ghost use Rattle.ept_phase.specs.Loaded.{AreIntact, IsFirstDamaged};
 ghost use Rattle.ept_plan.specs.Plans.{IsPlan};
-ghost use Rattle.ept_build.specs.Phases.{IsBegun, HasRoom, IsTreeOf, AreLoaded, IsReady, IsOnWay, IsSoundAt, IsSoundTaken, TakesUp, Renews, HasDamage, IsPhaseFault, IsRoomFault, IsStoreFault};
+ghost use Rattle.ept_build.specs.Phases.{IsBegun, HasRoom, IsTreeOf, AreLoaded, IsReady, IsOnWay, IsSoundAt, IsSoundTaken, TakesUp, Renews, IsStartFault, IsRenewFault, IsRoomFault, IsStoreFault};
+ghost use Rattle.ept_build.specs.Starting.{FindsCause};
 
 use crate::error::BuildError;
 use crate::progress::Progress;
@@ -35,8 +34,8 @@ use ept_save::{Saved, close_done, migrate, sound_law, sound_steps_law};
 use ept_space::Rules;
 use std::alloc::Global;
 
-/// The octree of no points, with slots for all nodes that it can come to have, and a spill file of the room for each.
-/// Of its nodes as many may be in memory as the configuration says. After a refusal the room has its files back.
+/// The octree of no points, with a slot for each node that it can come to have. Each slot has a spill file of the room.
+/// At most `config.cache` of its nodes may be in memory at a time. After a refusal the room has its files back.
 pub(crate) fn start<M: Room>(
     alloc: Global,
     config: &Config,
@@ -68,8 +67,8 @@ pub(crate) fn start<M: Room>(
     }
 }
 
-// How many slots the nodes can need: as many as there may be, or, where these are fewer, as the checkpoint and so many
-// points can have. Slots are memory, and each phase goes through them.
+// How many slots the nodes can need: the most nodes that the checkpoint or the points of the plan can have, but at most
+// `max`. Slots take memory, and each phase goes through all of them.
 fn slots_for(rules: &Rules, saved: &Saved, plan: &Plan, max: u32) -> u32
     requires rules { rules.now ≡ meta.rules_of plan.now.kept }
     requires some { 1 ≤ max }
@@ -92,8 +91,8 @@ pub(crate) fn lines_in(saved: &Saved) -> u32
     }
 }
 
-/// Takes up the work where the current checkpoint stands: its nodes are loaded, the done gate is closed, and if its tiles are of
-/// the old layout it is migrated.
+/// Takes up the work at the current checkpoint: loads its nodes, and closes the done gate. If its tiles are of the old
+/// layout, the checkpoint is migrated.
 pub(crate) fn take_up<F: SpillFile, T: Store>(
     alloc: Global,
     store: &mut T,
@@ -121,29 +120,12 @@ pub(crate) fn take_up<F: SpillFile, T: Store>(
         (λ (a b : Files). IsSoundTaken shelf at.old.saved.current b) store.old store.new }
 
     // Why it is refused.
-    ensures only { IfErr result IsPhaseFault }
-    ensures too_many { result ≡ Err BuildError.TooManyNodes → most_of at.old.octree < length (lines_of at.old.saved.current) }
-    ensures untouched { result ≡ Err BuildError.TooManyNodes
-        → Moves T.files T.may_leave T.moment T.image_since SameFiles store.old store.new
-        × SameImages (T.may_leave store.old) (T.may_leave store.new) }
-    ensures damaged { (key : VoxelKey) → result ≡ Err (BuildError.TileDamaged key)
-        → StandsFor at.old.saved (T.files store.old) (T.may_leave store.old)
-        → HasDamage at.old.saved.current key (T.files store.new) }
-    ensures first_damaged { (key : VoxelKey) (start : Files) → T.files store.old ≡ Some start
-        → result ≡ Err (BuildError.TileDamaged key)
-        → IsFirstDamaged at.old.saved.current (most_of at.old.octree) key start
-        × Moves T.files T.may_leave T.moment T.image_since SameFiles store.old store.new }
-    ensures too_many_intact { result ≡ Err BuildError.TooManyNodes
-        → Tells (AreIntact at.old.saved.current (take (most_of at.old.octree) (lines_of at.old.saved.current))) (T.files store.old) }
+    ensures only { IfErr result IsStartFault }
+    ensures refused { FindsCause T.files T.may_leave T.moment T.image_since at.old.saved (most_of at.old.octree) result
+        store.old store.new }
     ensures damaged_comes { OnOk result (Tells (HasNoDamage at.old.saved.current) (T.files store.old)) }
-    ensures undamaged { (shelf start : Files)
-        → IsReady shelf start at.old.saved (T.files store.old) (T.may_leave store.old)
-        → (key : VoxelKey) → result ≢ Err (BuildError.TileDamaged key) }
-    ensures no_change { (source number : ℕ) → result ≢ Err (BuildError.SourceChanged source number) }
-    ensures no_source { result ≢ Err BuildError.SourceFault }
     ensures spill { result ≡ Err BuildError.SpillFault
         → 0 < trees.faults_of F.faults (trees.nodes_of (forest_of at.new.octree)) }
-    ensures no_damage { (kept found number : ℕ) → result ≢ Err (BuildError.SpillDamaged kept found number) }
     ensures stores { HasCauseOf BuildError.StoreFault (T.faults store.old) (T.faults store.new) result }
 {
     sound_steps_law();
@@ -180,29 +162,12 @@ fn load<F: SpillFile, T: Store>(
         (λ (a b : Files). IsSoundAt shelf at.old.saved.current b) store.old store.new }
 
     // Why it is refused.
-    ensures only { IfErr result IsPhaseFault }
-    ensures too_many { result ≡ Err BuildError.TooManyNodes → most_of at.old.octree < length (lines_of at.old.saved.current) }
-    ensures untouched { result ≡ Err BuildError.TooManyNodes
-        → Moves T.files T.may_leave T.moment T.image_since SameFiles store.old store.new
-        × SameImages (T.may_leave store.old) (T.may_leave store.new) }
-    ensures damaged { (key : VoxelKey) → result ≡ Err (BuildError.TileDamaged key)
-        → StandsFor at.old.saved (T.files store.old) (T.may_leave store.old)
-        → HasDamage at.old.saved.current key (T.files store.new) }
-    ensures first_damaged { (key : VoxelKey) (start : Files) → T.files store.old ≡ Some start
-        → result ≡ Err (BuildError.TileDamaged key)
-        → IsFirstDamaged at.old.saved.current (most_of at.old.octree) key start
-        × Moves T.files T.may_leave T.moment T.image_since SameFiles store.old store.new }
-    ensures too_many_intact { result ≡ Err BuildError.TooManyNodes
-        → Tells (AreIntact at.old.saved.current (take (most_of at.old.octree) (lines_of at.old.saved.current))) (T.files store.old) }
+    ensures only { IfErr result IsStartFault }
+    ensures refused { FindsCause T.files T.may_leave T.moment T.image_since at.old.saved (most_of at.old.octree) result
+        store.old store.new }
     ensures damaged_comes { OnOk result (Tells (HasNoDamage at.old.saved.current) (T.files store.old)) }
-    ensures undamaged { (shelf start : Files)
-        → IsReady shelf start at.old.saved (T.files store.old) (T.may_leave store.old)
-        → (key : VoxelKey) → result ≢ Err (BuildError.TileDamaged key) }
-    ensures no_change { (source number : ℕ) → result ≢ Err (BuildError.SourceChanged source number) }
-    ensures no_source { result ≢ Err BuildError.SourceFault }
     ensures spill { result ≡ Err BuildError.SpillFault
         → 0 < trees.faults_of F.faults (trees.nodes_of (forest_of at.new.octree)) }
-    ensures no_damage { (kept found number : ℕ) → result ≢ Err (BuildError.SpillDamaged kept found number) }
     ensures stores { HasCauseOf BuildError.StoreFault (T.faults store.old) (T.faults store.new) result }
 {
     sound_law();
@@ -223,14 +188,9 @@ fn renew<T: Store>(alloc: Global, store: &mut T, saved: &mut Saved) -> Result<()
         → StandsFor saved.new (T.files store.new) (T.may_leave store.new)) }
     ensures settled { OnOk result (IsSettled (T.files store.old) (T.may_leave store.old)
         → IsSettled (T.files store.new) (T.may_leave store.new)) }
-    ensures only { IfErr result IsPhaseFault }
+    ensures only { IfErr result IsRenewFault }
     ensures undamaged { (all : Files) → T.files store.old ≡ Some all → HasNoDamage saved.old.current all
         → IfErr result IsStoreFault }
-    ensures not_many { result ≢ Err BuildError.TooManyNodes }
-    ensures no_change { (source number : ℕ) → result ≢ Err (BuildError.SourceChanged source number) }
-    ensures no_source { result ≢ Err BuildError.SourceFault }
-    ensures no_spill { result ≢ Err BuildError.SpillFault }
-    ensures no_damage { (kept found number : ℕ) → result ≢ Err (BuildError.SpillDamaged kept found number) }
     ensures stores { HasCauseOf BuildError.StoreFault (T.faults store.old) (T.faults store.new) result }
 {
     if !is_old(saved) {

@@ -1,10 +1,10 @@
-//! What is told of a build and of a check, and when.
+//! What is told of a build, of a part, of a merge and of a check, and when.
 
 use crate::disk::{Disk, Seen};
 use crate::folder::{enter, pattern};
 use crate::streams::Pieces;
 use ept_base::{Shelf, Sink, Source, Store};
-use ept_real::{RealShelf, RealSink, RealStore, SeenFiles, Telling};
+use ept_real::{RealShelf, RealSink, RealStore, Run, SeenFiles, Telling};
 use std::alloc::AllocError;
 use std::fs;
 use std::io::{self, ErrorKind, Read, Write};
@@ -13,15 +13,16 @@ use std::rt::Files;
 use std::sync::Arc;
 use std::test::Fail;
 
-// The machine's files, as a build into this folder sees them.
+// The machine's files, as a run with this folder sees them.
 fn files_of(
     machine: &HostRuntime,
     seen: &Arc<Seen>,
     folder: &str,
+    run: Run,
     telling: Telling,
 ) -> Result<SeenFiles<Disk>, AllocError> {
     let disk = Disk::new(machine, seen)?;
-    SeenFiles::new(machine.alloc(), disk, "test", folder, telling)
+    SeenFiles::new(machine.alloc(), disk, "test", folder, run, telling)
 }
 
 // What is told of a file of each role when it is read, and then when it is put. The reading of the done gate begins
@@ -79,7 +80,7 @@ fn expect_role(
     let seen = Seen::new(machine.alloc())?;
     seen.step.set(10_000);
     seen.is_one.set(true);
-    let files = files_of(machine, &seen, folder, Telling::Lines)?;
+    let files = files_of(machine, &seen, folder, Run::Build, Telling::Lines)?;
     assert!(rt; read_one(&files, path).is_ok());
     assert!(rt; seen.was_said(of_read));
     assert!(rt; put_one(&files, path).is_ok());
@@ -127,8 +128,7 @@ fn a_check_tells_how_far_it_is(rt: HostRuntime) -> Result<(), Fail> {
     let seen = Seen::new(rt.alloc())?;
     seen.step.set(10_000);
     seen.is_one.set(true);
-    let disk = Disk::new(&rt, &seen)?;
-    let files = SeenFiles::of_check(rt.alloc(), disk, "test", "out", Telling::Lines)?;
+    let files = files_of(&rt, &seen, "out", Run::Check, Telling::Lines)?;
     for (path, told) in CHECKED {
         assert!(rt; read_one(&files, path).is_ok());
         assert!(rt; seen.was_said_last(told));
@@ -136,7 +136,7 @@ fn a_check_tells_how_far_it_is(rt: HostRuntime) -> Result<(), Fail> {
     Ok(())
 }
 
-// A call of the devices of a build.
+// A call of the devices of a run.
 #[derive(Clone, Copy)]
 enum Call<'a> {
     Read(&'a str),
@@ -205,6 +205,80 @@ static CALLS: [(Call<'static>, &str); 16] = [
     (Call::Sync, ""),
 ];
 
+// The calls of a part, which reads its input twice, and the last line that each of them tells.
+static PART_CALLS: [(Call<'static>, &str); 9] = [
+    (
+        Call::Read("survey.json"),
+        "test: reading, 0 MB; files put 0, flushed 0\n",
+    ),
+    (
+        Call::Read("a.las"),
+        "test: reading, 2 MB; files put 0, flushed 0\n",
+    ),
+    (
+        Call::Read("a.las"),
+        "test: reading, 5 MB; files put 0, flushed 0\n",
+    ),
+    (Call::Get("ept-work/part-07/gate"), ""),
+    (
+        Call::Put("ept-work/part-07/0-0-0-0.bin"),
+        "test: saving, 5 MB; files put 1, flushed 0\n",
+    ),
+    (
+        Call::Put("ept-work/part-07/body"),
+        "test: saving, 5 MB; files put 2, flushed 0\n",
+    ),
+    (Call::Sync, "test: saving, 5 MB; files put 2, flushed 2\n"),
+    (
+        Call::Put("ept-work/part-07/gate"),
+        "test: saving, 5 MB; files put 3, flushed 2\n",
+    ),
+    (Call::Sync, "test: saving, 5 MB; files put 3, flushed 3\n"),
+];
+
+// The calls of a merge, and of the build that follows it.
+static MERGE_CALLS: [(Call<'static>, &str); 12] = [
+    (Call::Get("ept-work/gate-b"), ""),
+    (
+        Call::Read("a.las"),
+        "test: reading, 2 MB; files put 0, flushed 0\n",
+    ),
+    (
+        Call::Get("ept-work/part-07/0-0-0-0.bin"),
+        "test: merging, 1 MB; files put 0, flushed 0\n",
+    ),
+    (
+        Call::Put("ept-work/b/0-0-0-0.bin"),
+        "test: merging, 1 MB; files put 1, flushed 0\n",
+    ),
+    (
+        Call::Put("ept-work/body-b"),
+        "test: merging, 1 MB; files put 2, flushed 0\n",
+    ),
+    (Call::Sync, "test: merging, 1 MB; files put 2, flushed 3\n"),
+    (Call::Get("ept-work/done-2"), ""),
+    (
+        Call::Get("ept-work/a/0-0-0-0.bin"),
+        "test: loading, 2 MB; files put 2, flushed 3\n",
+    ),
+    (
+        Call::Put("ept-data/0-0-0-0.bin"),
+        "test: publishing, 2 MB; files put 3, flushed 3\n",
+    ),
+    (
+        Call::Sync,
+        "test: publishing, 2 MB; files put 3, flushed 5\n",
+    ),
+    (
+        Call::Put("ept-work/done-2"),
+        "test: publishing, 2 MB; files put 4, flushed 5\n",
+    ),
+    (
+        Call::Sync,
+        "test: publishing, 2 MB; files put 4, flushed 6\n",
+    ),
+];
+
 // Makes a call; whether it is answered.
 fn is_made<H: Shelf, T: Store>(
     shelf: &mut H,
@@ -244,42 +318,49 @@ fn has_end<S: Source>(source: &mut S) -> bool {
     false
 }
 
-// The files of that build.
-fn prepare(rt: &HostRuntime) -> Result<(), Fail> {
-    enter(rt, "progress")?;
+// The files of these runs, in a folder of this name.
+fn prepare(rt: &HostRuntime, name: &str) -> Result<(), Fail> {
+    enter(rt, name)?;
     fs::create_dir_all(rt, "out/ept-work/a")?;
+    fs::create_dir_all(rt, "out/ept-work/part-07")?;
     fs::write(rt, "survey.json", "{}")?;
     fs::write(rt, "a.las", pattern(rt.alloc(), 2_600_000)?)?;
     fs::write(rt, "out/ept-work/body-a", "EPTW")?;
-    fs::write(
-        rt,
-        "out/ept-work/a/0-0-0-0.bin",
-        pattern(rt.alloc(), 1_200_000)?,
-    )?;
+    for tile in TILES {
+        fs::write(rt, tile, pattern(rt.alloc(), 1_200_000)?)?;
+    }
     Ok(())
 }
 
-// Makes the calls of that build, and compares what each tells last; nothing where nothing is told.
+const TILES: [&str; 2] = [
+    "out/ept-work/a/0-0-0-0.bin",
+    "out/ept-work/part-07/0-0-0-0.bin",
+];
+
+// Makes the calls of a run, and compares what each tells last; nothing where nothing is told.
 fn expect_calls<R: Files>(
     rt: &impl Abort,
     seen: &Seen,
     files: &R,
     into: &mut Vec<u8>,
+    calls: &[(Call<'_>, &str)],
     is_told: bool,
 ) {
     let alloc = *into.allocator();
     let mut shelf = RealShelf::new(alloc, files);
     let mut store = RealStore::new(alloc, files, "out");
-    for (call, want) in &CALLS {
+    for (call, want) in calls {
         assert!(rt; is_made(&mut shelf, &mut store, into, call));
         assert!(rt; seen.was_said_last(if is_told { want } else { "" }));
     }
 }
 
-// Makes them over a disk, and ends the build.
-fn expect_build(
+// Makes them over a disk, and ends the run.
+fn expect_run(
     rt: &impl Abort,
     machine: &HostRuntime,
+    run: Run,
+    calls: &[(Call<'_>, &str)],
     telling: Telling,
     is_mute: bool,
 ) -> Result<(), AllocError> {
@@ -287,8 +368,9 @@ fn expect_build(
     seen.is_mute.set(is_mute);
     seen.step.set(10_000);
     let mut into = Vec::new(machine.alloc());
-    let files = files_of(machine, &seen, "out", telling)?;
-    expect_calls(rt, &seen, &files, &mut into, telling == Telling::Lines);
+    let files = files_of(machine, &seen, "out", run, telling)?;
+    let is_told = telling == Telling::Lines;
+    expect_calls(rt, &seen, &files, &mut into, calls, is_told);
     files.end();
     assert!(rt; seen.was_said(""));
     Ok(())
@@ -303,11 +385,25 @@ fn a_build_tells_how_far_it_is(rt: HostRuntime) -> Result<(), Fail> {
         (Telling::Terminal, true),
         (Telling::Silent, false),
     ] {
-        prepare(&rt)?;
-        expect_build(&rt, &rt, telling, is_mute)?;
+        prepare(&rt, "progress")?;
+        expect_run(&rt, &rt, Run::Build, &CALLS, telling, is_mute)?;
         let put = fs::read(&rt, "out/ept-data/0-0-0-0.bin")?;
         assert!(rt; put.as_slice() == b"points".as_slice());
     }
+    Ok(())
+}
+
+#[test]
+fn a_part_tells_how_far_it_is(rt: HostRuntime) -> Result<(), Fail> {
+    prepare(&rt, "part_progress")?;
+    expect_run(&rt, &rt, Run::Part, &PART_CALLS, Telling::Lines, false)?;
+    Ok(())
+}
+
+#[test]
+fn a_merge_tells_how_far_it_is(rt: HostRuntime) -> Result<(), Fail> {
+    prepare(&rt, "merge_progress")?;
+    expect_run(&rt, &rt, Run::Merge, &MERGE_CALLS, Telling::Lines, false)?;
     Ok(())
 }
 
@@ -321,7 +417,7 @@ fn expect_told(
 ) -> Result<(), Fail> {
     let mut into = vec![in machine.alloc(); 0u8; 1_000_000]?;
     let seen = Seen::new(machine.alloc())?;
-    let files = files_of(machine, &seen, "out", telling)?;
+    let files = files_of(machine, &seen, "out", Run::Build, telling)?;
     assert!(rt; read_in_time(&seen, &files, &mut into).is_ok());
     write_line(&files, Pieces::new(machine.alloc(), 9))?;
     seen.now.set(90_000);

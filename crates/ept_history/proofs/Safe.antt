@@ -35,7 +35,8 @@ later-pairs step later pairs = λ i j d lt within. pairs (suc i) (suc j) d (omeg
 
 -- ---- from build to build
 
--- The files are sound for a shelf, and each later build finds the inputs of their current checkpoint as they are on it. `Holds` is what is known of this checkpoint.
+-- The files are sound for a shelf, and each later build finds the inputs of their current checkpoint as they are on it.
+-- `Holds` is what is known of this checkpoint.
 pub record IsSafe (Holds : Files → Current → Type 0) (files : Files) (later : List Step) : Type 0 where
   pub current : Current
   pub has_current : HasCurrent current files

@@ -72,7 +72,7 @@ module _ (all : Files) (scale : ℕ) (limits : Option Bounds) (inputs : List Inp
         has = record { file = has.has.file; content = has.has.content; are = file-free has.reading has.has.file points has.has.are };
       }
 
-  -- where the bounds are the extent of the points
+  -- if the bounds are the extent of the points
   pub scan-free : (from : ℕ) (points : List Point) (done : ScanDone) → IsExtentOf points done.bounds → IsScan all scale limits inputs from points done → IsScan all scale None inputs from points done
   scan-free from points done extent scan = record {
     lists = scan.lists;

@@ -9,7 +9,8 @@ use Rattle.ept_save.specs.SoundLaws.{no_files}
 use Rattle.ept_build.specs.declared.summary.Summary.{Summary}
 use Rattle.ept_build.specs.Building.{IsBuilt, IsUnderWay}
 
--- One build: the files on the shelf, the configuration, and the files that it left. It left them at its end, or after a crash at any moment.
+-- One build: the files on the shelf, the configuration, and the files that it left. It left them at its end, or after a
+-- crash at any moment.
 pub record Step : Type 0 where
   pub shelf : Files
   pub config : Config
@@ -19,12 +20,14 @@ pub record Step : Type 0 where
 abbrev pub IsStepFrom : Files → Step → Type 0
 IsStepFrom start step = IsSound step.shelf start → IsUnderWay step.shelf step.config start step.left
 
--- A build that moved a store from old to new left these files: they are read, or a crash may leave them now. Or it may have left them since the build began, and not before.
+-- A build that moved a store from old to new left these files: they are read, or a crash may leave them now. Or it may
+-- have left them since the build began, and not before.
 abbrev pub IsLeftOf : {D : Type 0} (files : D → Option Files) (may_leave : D → Files → Type 0) (moment : D → ℕ) (image_since : D → ℕ → Files → Type 0) → D → D → Files → Type 0
 IsLeftOf files may_leave moment image_since old new left =
     (files new ≡ Some left) ⊎ may_leave new left ⊎ (image_since new (moment old) left × ¬ image_since old (moment old) left)
 
--- These are builds one after another, the first of these files, each other of those that the one before it left.
+-- These are builds one after another. The first begins with these files, and each later one with those that the one
+-- before it left.
 abbrev pub AreStepsFrom : Files → List Step → Type 0
 AreStepsFrom start [] = ⊤
 AreStepsFrom start (step ∷ later) = IsStepFrom start step × AreStepsFrom step.left later

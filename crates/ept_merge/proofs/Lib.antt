@@ -11,6 +11,7 @@ mod Valid
 mod Sounding
 mod Steps
 mod Early
+mod Staying
 mod Loads
 mod Counted
 mod Unions

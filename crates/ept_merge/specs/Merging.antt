@@ -29,7 +29,7 @@ use Rattle.ept_save.specs.Current.{HasCurrent}
 use Rattle.ept_save.specs.Opening.{IsBad}
 use Rattle.ept_save.specs.Loading.{IsDamagedUnder}
 use Rattle.ept_parts.specs.Parts.{AreAllOctants}
-use Rattle.ept_part.specs.Names.{part_gate, part_body, part_tile}
+use Rattle.ept_part.specs.Names.{part_gate, part_body, part_tile, IsPartName}
 use Rattle.ept_part.specs.Files.{HasPart, IsPartSound}
 use Rattle.ept_part.specs.Scanned.{IsScanOf, AreRefused, rules_by, found_by, OfScan}
 use Rattle.ept_merge.specs.declared.error.MergeError.{MergeError}
@@ -207,6 +207,10 @@ pub record AreReady (shelf files : Files) (config : Config) (parts : List ℕ) :
   pub accepted : OfScan shelf config (λ points done. (0 < (rules_by config done).cube.depth) × (length (sampled (rules_by config done) points) ≤ config.max_nodes) × IsInRange done)
   pub there : All (λ octants. IsOpen files (part_gate octants)) parts
   pub own : AreOwnParts shelf config files parts
+
+-- no name in the folder of a part changes
+abbrev pub KeepsParts : Files → Files → Type 0
+KeepsParts old new = (octants : ℕ) (name : List ℕ) → IsPartName octants name → new name ≡ old name
 
 -- each of the parts is sound
 abbrev pub AreSoundParts : Files → Files → List ℕ → Type 0

@@ -10,7 +10,7 @@ ghost use Rattle.ept_save.specs.Current.{HasCurrent};
 ghost use Rattle.ept_save.specs.Sound.{IsSound};
 ghost use Rattle.ept_plan.specs.Plans.{IsPlan, HasPoints};
 ghost use Rattle.ept_merge.specs.Errors.{IsOfTiles};
-ghost use Rattle.ept_merge.specs.Merging.{AreAllParts, HasMerged, WereMerged, IsRefused, IsDefinite, Fails, Reports, AreReady, AreOwnParts, IsPartFault, AreSoundParts};
+ghost use Rattle.ept_merge.specs.Merging.{AreAllParts, HasMerged, WereMerged, IsRefused, IsDefinite, Fails, Reports, AreReady, AreOwnParts, IsPartFault, KeepsParts, AreSoundParts};
 ghost use Rattle.ept_merge.specs.Steps.{IsFresh};
 ghost use Rattle.ept_merge.specs.Joining.{roots_of};
 ghost use Rattle.ept_merge.specs.Putting.{AreIntact, AreLike, IsPartsFault, WereMergeable, IsMergeFault, IsNodesFault, AreMergeable, FitTogether, IsCommitted, AreOfParts};
@@ -58,7 +58,8 @@ pub fn merge<H: Shelf, T: Store>(
         (T.files store.old)) (H.files shelf.old)) }
     ensures settled { OnOk result (IsSettled (T.files store.new) (T.may_leave store.new)) }
 
-    // Whatever the moment, the files are sound, if they and the parts were so.
+    // Whatever the moment, the files of the parts are as before, and the files are sound, if they and the parts were so.
+    ensures parts_stay { Moves T.files T.may_leave T.moment T.image_since KeepsParts store.old store.new }
     ensures sound { (all start : Files) → H.files shelf.old ≡ Some all → T.files store.old ≡ Some start
         → IsSettled (T.files store.old) (T.may_leave store.old) → IsSound all start → AreSoundParts all start parts.now
         → Moves T.files T.may_leave T.moment T.image_since
@@ -112,6 +113,7 @@ fn merge_plan<T: Store>(
     ensures merged { OnOk result (Tells (IsCommitted plan.now) (T.files store.new)) }
     ensures accepted { OnOk result (Tells (WereMergeable plan.now config.now.max_nodes parts.now) (T.files store.old)) }
     ensures settled { OnOk result (IsSettled (T.files store.new) (T.may_leave store.new)) }
+    ensures parts_stay { Moves T.files T.may_leave T.moment T.image_since KeepsParts store.old store.new }
     ensures sound { (all start : Files) (points : List p.Point) → T.files store.old ≡ Some start
         → IsSettled (T.files store.old) (T.may_leave store.old) → IsSound all start
         → HasPoints all config.now None plan.now points → AreSoundParts all start parts.now
@@ -151,6 +153,7 @@ fn merge_bodies<T: Store>(
     ensures accepted { OnOk result (Tells (λ all. AreMergeable rules.now all config.now.max_nodes parts.now plan.now.points)
         (T.files store.old)) }
     ensures settled { OnOk result (IsSettled (T.files store.new) (T.may_leave store.new)) }
+    ensures parts_stay { Moves T.files T.may_leave T.moment T.image_since KeepsParts store.old store.new }
     ensures sound { (all start : Files) (points : List p.Point) → T.files store.old ≡ Some start
         → IsSettled (T.files store.old) (T.may_leave store.old) → IsSound all start
         → AreOfParts all start plan.now rules.now parts.now points
@@ -200,6 +203,7 @@ fn place<T: Store>(
     ensures accepted { OnOk result (Tells (λ all. AreMergeable rules.now all config.now.max_nodes parts.now plan.now.points)
         (T.files store.old)) }
     ensures settled { OnOk result (IsSettled (T.files store.new) (T.may_leave store.new)) }
+    ensures parts_stay { Moves T.files T.may_leave T.moment T.image_since KeepsParts store.old store.new }
     ensures sound { (all start : Files) (points : List p.Point) → T.files store.old ≡ Some start
         → IsSettled (T.files store.old) (T.may_leave store.old) → IsSound all start
         → AreOfParts all start plan.now rules.now parts.now points
@@ -245,6 +249,7 @@ fn put_all<T: Store>(
     ensures merged { OnOk result (Tells (IsCommitted plan.now) (T.files store.new)) }
     ensures intact { OnOk result (Tells (λ all. AreIntact rules.now all (roots_of parts.now ++ nodes.now)) (T.files store.old)) }
     ensures settled { OnOk result (IsSettled (T.files store.new) (T.may_leave store.new)) }
+    ensures parts_stay { Moves T.files T.may_leave T.moment T.image_since KeepsParts store.old store.new }
     ensures sound { (all start : Files) (points : List p.Point) → T.files store.old ≡ Some start
         → IsSettled (T.files store.old) (T.may_leave store.old) → IsSound all start
         → AreOfParts all start plan.now rules.now parts.now points

@@ -29,7 +29,8 @@ left_next last above before next is e h = left_cases last above next e (subst (�
     left_cases last above next e (inl h) = inl h
     left_cases last above next e (inr up) = inr (left_up last above next e up)
 
--- The folder of the path that was taken is there, by the text that was added. So what was there or was to be taken is there.
+-- The folder of the path that was taken is there, by the text that was added. So what was there or was to be taken is
+-- there.
 pub taken : (last text added path : List ℕ) (before : Option (List ℕ)) (old new : List (List ℕ)) → Some last ≡ before → text ≡ last → added ≡ folder_path text → Contains new added → ((other : List ℕ) → Contains old other → Contains new other) → Contains old path ⊎ (option_map folder_path before ≡ Some path) → Contains new path
 taken last text added path before old new is same e has still (inl h) = still path h
 taken last text added path before old new is same e has still (inr h) =

@@ -37,11 +37,11 @@ IsFlushed store = (names_to_flush store ≡ []) × (folders_to_flush store ≡ [
 abbrev pub KeepsToFlush : {R D F G : Type 0} → RealStore R D F G → RealStore R D F G → Type 0
 KeepsToFlush old new = Keeps (names_to_flush old) (names_to_flush new) × Keeps (folders_to_flush old) (folders_to_flush new)
 
--- the same, but for the file of this name
+-- the same, except for the file of this name
 abbrev pub KeepsToFlushBut : {R D F G : Type 0} → List ℕ → RealStore R D F G → RealStore R D F G → Type 0
 KeepsToFlushBut name old new = KeepsBut name (names_to_flush old) (names_to_flush new) × Keeps (folders_to_flush old) (folders_to_flush new)
 
--- a folder of the machine tells no image, now or since any moment
+-- no image of a folder of the machine is visible, now or since any moment
 abbrev pub no_image : Files → Type 0
 no_image _ = ⊥
 

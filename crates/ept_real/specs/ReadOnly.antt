@@ -1,4 +1,5 @@
--- A store that only reads: what its folder holds, if the machine's files are visible. Nothing changes, so what is read is the one image.
+-- A store that only reads: what its folder holds, if the machine's files are visible. Nothing changes, so what is read
+-- is the one image.
 use Rattle.std.specs.Prelude.{◌≡◌, ℕ, List, Option, Some, None, option_map, refl}
 use Rattle.ept_base.specs.Devices.{counts_on}
 use Rattle.ept_base.specs.Files.{Files, Tells}

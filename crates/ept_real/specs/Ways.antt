@@ -7,7 +7,7 @@ use Rattle.ept_real.specs.Joined.{joined, folder_path}
 abbrev pub Keeps : List (List ℕ) → List (List ℕ) → Type 0
 Keeps old new = (path : List ℕ) → Contains old path → Contains new path
 
--- the same, but for this one
+-- the same, except for this path
 abbrev pub KeepsBut : List ℕ → List (List ℕ) → List (List ℕ) → Type 0
 KeepsBut path old new = (other : List ℕ) → other ≢ path → Contains old other → Contains new other
 
@@ -20,6 +20,7 @@ pub data IsAbove : List ℕ → List ℕ → Type 0 where
 abbrev pub IsHolder : List ℕ → List ℕ → Type 0
 IsHolder folder path = option_map folder_path (path_parent folder) ≡ Some path
 
--- the folders whose entries lead to a name of a store in this folder: that folder and those below it on the way, and the one that it is in
+-- The folders whose entries lead to a name of a store in this folder. They are the folder itself, those below it on the
+-- way, and the one that it is in.
 abbrev pub IsOnWay : List ℕ → List ℕ → List ℕ → Type 0
 IsOnWay folder name path = IsHolder folder path ⊎ ((above : List ℕ) × IsAbove name above × (path ≡ joined folder above))

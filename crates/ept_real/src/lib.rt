@@ -1,9 +1,9 @@
-//! The outside world over the real machine: the shelf that opens files by their paths and the sources
-//! that it opens, a store in a folder, a room in a folder for spill files, a sink over a writer, a link over a stream, and the machine as one that
-//! tells how far a build is.
+//! The outside world over the real machine. The shelf opens files by their paths, each as a source. A store and a room
+//! for spill files each lie in a folder. A sink is over a writer, and a link over a stream. [`SeenFiles`] is the
+//! machine as one that reports how far a run is.
 //!
-//! What they hold is not told: clauses on contents say nothing of them. Each keeps its counts, of
-//! faults, of bytes given and of gets, in 64 bits, and a count stands still at its last value.
+//! The contents of these devices are not visible: clauses on contents say nothing of them. Each device keeps its
+//! counts, of faults, of bytes given and of gets, in 64 bits. A count that reaches its greatest value stays there.
 #![tactic(auto)]
 
 mod link;
@@ -27,7 +27,7 @@ mod unsynced;
 pub use link::RealLink;
 pub use path_disk::PathDisk;
 pub use path_files::PathFiles;
-pub use progress::{Ending, Telling};
+pub use progress::{Ending, Run, Telling};
 pub use read_store::ReadStore;
 pub use real_disk::RealDisk;
 pub use real_files::RealFiles;

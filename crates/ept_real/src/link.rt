@@ -17,7 +17,7 @@ const BLOCK: usize = 8192;
 #[derive(Drop)]
 pub struct RealLink<S: Read + Write + Drop> {
     stream: S,
-    // What a read takes before it is handed on, so that a read that fails changes nothing.
+    // What a read takes before it is passed to the caller, so that a read that fails changes nothing.
     block: [u8; 8192],
     faults: u64,
 }

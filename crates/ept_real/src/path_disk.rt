@@ -14,8 +14,8 @@ pub trait PathDisk {
         ensures bytes { IfOk result (λ found. Tells (λ all. option_map (λ bytes. bytes.items) found ≡ all path.now) (files self.old)) }
         ensures same { files self.new ≡ files self.old };
 
-    /// Writes the whole of a file, and makes the folders that its path needs. After a refusal the file may be missing or
-    /// hold any bytes.
+    /// Writes the whole of a file, and makes the folders that its path needs. After a refusal the file may be missing
+    /// or hold any bytes.
     fn write(&mut self, path: &str, bytes: &[u8]) -> Result<(), Failed>
         ensures ok { OnOk result (StepsBy (Puts path.now bytes.now) (files self.old) (files self.new)) }
         ensures alone { StepsBy (SameBut path.now) (files self.old) (files self.new) };

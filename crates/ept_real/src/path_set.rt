@@ -51,7 +51,7 @@ impl PathSet {
         Ok(())
     }
 
-    /// Removes a path, where it is there.
+    /// Removes a path, if it is there.
     pub(crate) fn remove(&mut self, path: &str)
         ensures gone { Contains self.new path.now → ⊥ }
         ensures still { KeepsBut path.now self.old self.new }

@@ -1,4 +1,4 @@
-//! How far a build or a check is, told on standard error.
+//! The progress of a build, a part, a merge or a check, as reported on standard error.
 
 ghost use Rattle.std.specs.Prelude.{◌≡◌, IfOk};
 
@@ -9,19 +9,20 @@ use std::sync::Arc;
 use std::sync::atomic::{AtomicBool, AtomicU64, Ordering};
 use std::time::{Clock, Instant};
 
-/// After how many milliseconds a terminal is told at first, and how often from then on.
+/// After how many milliseconds progress is first reported on a terminal, and how many pass between reports from then
+/// on.
 const FIRST: u64 = 2_000;
 
 const NEXT: u64 = 250;
 
-/// After how many milliseconds a line comes elsewhere.
+/// How many milliseconds pass before each line if standard error is not a terminal.
 const APART: u64 = 10_000;
 
 /// Blanks over a line of a terminal of 80 columns.
 const BLANK: &str =
     "                                                                               ";
 
-/// Where the progress of a run is told.
+/// Where the progress of a run is reported.
 #[derive(Clone, Copy, Debug, PartialEq, Eq)]
 pub enum Telling {
     /// Nowhere.
@@ -33,10 +34,14 @@ pub enum Telling {
 }
 
 /// What a run does with its folder.
-#[derive(Clone, Copy)]
-pub(crate) enum Run {
+#[derive(Clone, Copy, Debug)]
+pub enum Run {
     /// It builds it.
     Build,
+    /// It makes a part of a build in it.
+    Part,
+    /// It merges the parts in it, and finishes the build.
+    Merge,
     /// It reads all of it.
     Check,
 }
@@ -44,22 +49,24 @@ pub(crate) enum Run {
 /// The machine, and how far a run is: what was read of its files, put and flushed, as
 /// [`SeenFiles`](crate::SeenFiles) sees it.
 ///
-/// It is told on standard error. A clock that can't be read tells nothing, and a line that can't be written
-/// changes nothing.
+/// Progress is reported on standard error. If the clock can't be read nothing is reported, and a line that can't be
+/// written changes nothing.
 ///
-/// What is read of a file outside of the folder is of the inputs: of their first reading until the done gate is
-/// asked for, which a build closes before it puts anything, and of the second from then on.
+/// Bytes of a file outside the folder are bytes of the inputs. They belong to the first reading until the done gate is
+/// asked for, and to the second from then on. A build closes that gate before it puts anything. A part asks for no done
+/// gate, so its two readings count as one. A merge has one reading, and then asks for the done gate once the parts are
+/// merged.
 #[derive(Drop)]
 pub(crate) struct Progress<R: Clock + Eprint + Drop> {
     machine: R,
     program: String,
-    telling: Telling,
     run: Run,
+    telling: Telling,
     began: Option<Instant>,
     // When the next line is due, in milliseconds from the start; at the greatest number none is.
     due: AtomicU64,
     is_told: AtomicBool,
-    is_second: AtomicBool,
+    is_past_gate: AtomicBool,
     scanned: AtomicU64,
     loaded: AtomicU64,
     inserted: AtomicU64,
@@ -77,8 +84,8 @@ impl<R: Clock + Eprint + Drop> Progress<R> {
         alloc: Global,
         machine: R,
         program: &str,
-        telling: Telling,
         run: Run,
+        telling: Telling,
     ) -> Result<Self, AllocError>
         ensures { IfOk result (λ progress. machine_of progress ≡ machine) }
     {
@@ -87,11 +94,11 @@ impl<R: Clock + Eprint + Drop> Progress<R> {
             began: Instant::now(&machine).ok(),
             machine,
             program,
-            telling,
             run,
+            telling,
             due: AtomicU64::new(first_due(telling)),
             is_told: AtomicBool::new(false),
-            is_second: AtomicBool::new(false),
+            is_past_gate: AtomicBool::new(false),
             scanned: AtomicU64::new(0),
             loaded: AtomicU64::new(0),
             inserted: AtomicU64::new(0),
@@ -112,20 +119,17 @@ impl<R: Clock + Eprint + Drop> Progress<R> {
     /// A file was asked for.
     pub(crate) fn note_opened(&self, role: Role) {
         if role == Role::Done {
-            self.is_second.store(true, Ordering::SeqCst);
+            self.is_past_gate.store(true, Ordering::SeqCst);
         }
         self.opened.fetch_add(1, Ordering::SeqCst);
     }
 
-    /// So many bytes of a file were read.
+    /// This number of bytes of a file was read.
     pub(crate) fn count_read(&self, role: Role, bytes: u64) {
-        let stage = match self.run {
-            Run::Build => stage_of_read(role, self.is_second.load(Ordering::SeqCst)),
-            Run::Check => Stage::Checking,
-        };
+        let stage = stage_of_read(self.run, role, self.is_past_gate.load(Ordering::SeqCst));
         let total = match stage {
             Stage::Scanning => &self.scanned,
-            Stage::Inserting => &self.inserted,
+            Stage::Reading | Stage::Inserting => &self.inserted,
             _ => &self.loaded,
         };
         total.fetch_add(bytes, Ordering::SeqCst);
@@ -138,16 +142,21 @@ impl<R: Clock + Eprint + Drop> Progress<R> {
             self.checkpoints.fetch_add(1, Ordering::SeqCst);
         }
         self.put.fetch_add(1, Ordering::SeqCst);
-        self.tell(stage_of_put(role));
+        self.tell(self.stage_of_put(role));
     }
 
     /// A file was flushed.
     pub(crate) fn count_flushed(&self, role: Role) {
         self.flushed.fetch_add(1, Ordering::SeqCst);
-        self.tell(stage_of_put(role));
+        self.tell(self.stage_of_put(role));
     }
 
-    /// Tells nothing from now on, and clears the line on a terminal.
+    /// The stage of the run as it puts or flushes a file of this role.
+    fn stage_of_put(&self, role: Role) -> Stage {
+        stage_of_put(self.run, role, self.is_past_gate.load(Ordering::SeqCst))
+    }
+
+    /// Reports nothing from now on, and clears the line on a terminal.
     pub(crate) fn end(&self) {
         self.due.store(u64::MAX, Ordering::SeqCst);
         if self.telling == Telling::Terminal && self.is_told.swap(false, Ordering::SeqCst) {
@@ -155,7 +164,7 @@ impl<R: Clock + Eprint + Drop> Progress<R> {
         }
     }
 
-    /// Tells how far the run is, where that is due.
+    /// Reports how far the run is, if a report is due.
     fn tell(&self, stage: Stage) {
         let due = self.due.load(Ordering::SeqCst);
         let Some(now) = self.milliseconds() else {
@@ -181,14 +190,15 @@ impl<R: Clock + Eprint + Drop> Progress<R> {
         u64::try_from(elapsed.as_millis()).ok()
     }
 
-    /// What is to be told at this stage.
+    /// What is to be reported at this stage.
     fn line(&self, stage: Stage) -> Line {
         let bytes = match stage {
             Stage::Scanning => &self.scanned,
-            Stage::Loading | Stage::Checking => &self.loaded,
+            Stage::Loading | Stage::Merging | Stage::Checking => &self.loaded,
             _ => &self.inserted,
         };
         Line {
+            run: self.run,
             stage,
             megabytes: bytes.load(Ordering::SeqCst) / 1_000_000,
             opened: self.opened.load(Ordering::SeqCst),
@@ -257,10 +267,12 @@ fn name_in<'p>(folder: &str, path: &'p str) -> Option<&'p str> {
     path.strip_prefix(folder)?.strip_prefix('/')
 }
 
-/// What a run is at.
+/// The stage of a run.
 #[derive(Clone, Copy, Debug, PartialEq, Eq)]
 enum Stage {
     Scanning,
+    Reading,
+    Merging,
     Loading,
     Inserting,
     Saving,
@@ -268,20 +280,26 @@ enum Stage {
     Checking,
 }
 
-/// What a build is at that reads a file. Behind the first reading it reads a tile only to compare it.
-fn stage_of_read(role: Role, is_second: bool) -> Stage {
-    match (role, is_second) {
-        (Role::Input, false) => Stage::Scanning,
-        (Role::Input, true) => Stage::Inserting,
-        (_, false) => Stage::Loading,
-        (_, true) => Stage::Saving,
+/// The stage of a run as it reads a file, before or after it asked for the done gate. After that a build reads a tile
+/// only to compare it, and a merge loads what it merged.
+fn stage_of_read(run: Run, role: Role, is_past_gate: bool) -> Stage {
+    match (run, role, is_past_gate) {
+        (Run::Build, Role::Input, false) => Stage::Scanning,
+        (Run::Build, Role::Input, true) => Stage::Inserting,
+        (Run::Part, Role::Input, _) | (Run::Merge, Role::Input, _) => Stage::Reading,
+        (Run::Build, _, false) | (Run::Merge, _, true) => Stage::Loading,
+        (Run::Build, _, true) | (Run::Part, _, _) => Stage::Saving,
+        (Run::Merge, _, false) => Stage::Merging,
+        (Run::Check, _, _) => Stage::Checking,
     }
 }
 
-/// What a build is at that puts a file or flushes one.
-fn stage_of_put(role: Role) -> Stage {
-    match role {
-        Role::Output => Stage::Publishing,
+/// The stage of a run as it puts or flushes a file, before or after it asked for the done gate. A merge puts the files
+/// for viewers after that, and the tiles of the parts before.
+fn stage_of_put(run: Run, role: Role, is_past_gate: bool) -> Stage {
+    match (run, role, is_past_gate) {
+        (Run::Merge, _, false) => Stage::Merging,
+        (Run::Merge, _, true) | (_, Role::Output, _) => Stage::Publishing,
         _ => Stage::Saving,
     }
 }
@@ -290,6 +308,8 @@ impl fmt::Display for Stage {
     fn fmt<W: fmt::Write>(&self, f: &mut fmt::Formatter<W>) -> fmt::Result {
         f.write_str(match self {
             Stage::Scanning => "reading 1",
+            Stage::Reading => "reading",
+            Stage::Merging => "merging",
             Stage::Loading => "loading",
             Stage::Inserting => "reading 2",
             Stage::Saving => "saving",
@@ -299,10 +319,11 @@ impl fmt::Display for Stage {
     }
 }
 
-/// What is told: the stage and the megabytes of the reading. Of a build it is also told how many checkpoints were made,
-/// and how many files were put and flushed; of a check how many files were opened.
+/// What is reported: the stage, and how many megabytes were read. For a check it also has how many files were opened,
+/// and for any other run how many were put and flushed. For a build it has how many checkpoints were made too.
 #[derive(Drop)]
 struct Line {
+    run: Run,
     stage: Stage,
     megabytes: u64,
     opened: u64,
@@ -314,19 +335,23 @@ struct Line {
 impl fmt::Display for Line {
     fn fmt<W: fmt::Write>(&self, f: &mut fmt::Formatter<W>) -> fmt::Result {
         let (stage, megabytes, opened) = (self.stage, self.megabytes, self.opened);
-        if stage == Stage::Checking {
-            return write!(f, "{stage}, {megabytes} MB; files read {opened}");
-        }
         let (checkpoints, put, flushed) = (self.checkpoints, self.put, self.flushed);
-        write!(
-            f,
-            "{stage}, {megabytes} MB; checkpoints {checkpoints}; files put {put}, flushed {flushed}"
-        )
+        match self.run {
+            Run::Build => write!(
+                f,
+                "{stage}, {megabytes} MB; checkpoints {checkpoints}; files put {put}, flushed {flushed}"
+            ),
+            Run::Part | Run::Merge => write!(
+                f,
+                "{stage}, {megabytes} MB; files put {put}, flushed {flushed}"
+            ),
+            Run::Check => write!(f, "{stage}, {megabytes} MB; files read {opened}"),
+        }
     }
 }
 
-/// A writer that ends the progress of a run with its first write, so that what is written does not stand behind
-/// the line of a terminal.
+/// A writer that ends the progress of a run with its first write. So what is written does not follow the line of a
+/// terminal.
 #[derive(Drop)]
 pub struct Ending<R: Clock + Eprint + Drop, W: Write + Drop> {
     pub(crate) progress: Arc<Progress<R>>,

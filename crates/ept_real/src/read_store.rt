@@ -27,8 +27,8 @@ impl<'a, D: PathFiles + Drop> ReadStore<'a, D> {
     ghost use Rattle.ept_real.specs.Joined.{joined, folder_path};
     ghost use Rattle.ept_real.specs.ReadOnly.{read_disk, read_folder, read_files, read_refused, read_faults, read_gets};
 
-    /// The store in this folder, without a get, and without a call that was to write. An empty path is that of the folder
-    /// in which the program runs.
+    /// The store in this folder, without a get, and without a call that was to write. An empty path is that of the
+    /// folder in which the program runs.
     pub fn new(alloc: Global, disk: D, folder: &'a str) -> Self
         ensures unwritten { read_refused result ≡ 0 }
         ensures unread { read_gets result ≡ 0 }

@@ -4,8 +4,8 @@ ghost use Rattle.std.specs.Io.KnownBytes.{Consumes, IsAtEnd};
 use std::alloc::Global;
 use std::io::{self, Read};
 
-/// All the bytes of a reader. If it has no more than `size` bytes, and gives them at once, that takes two reads: one of
-/// the bytes and one of their end.
+/// All the bytes of a reader. If it has at most `size` bytes, and gives them at once, two reads are enough: one for the
+/// bytes and one for their end.
 pub(crate) fn read_all<F: Read>(alloc: Global, reader: &mut F, size: u64) -> io::Result<Vec<u8>>
     ensures { IfOk result (λ bytes. IfSome (F.remaining reader.old) (λ all. bytes.items ≡ all)) }
 {

@@ -10,7 +10,7 @@ use std::path::Path;
 use std::rt::Files;
 
 /// The files of the machine that the program runs on. A file that can't be read, written or removed is a fault, and so
-/// is a path below a file; one that is absent is not.
+/// is a path below a file. A missing file is no fault.
 #[derive(Drop)]
 pub struct RealDisk<'a, R: Files> {
     machine: &'a R,
@@ -42,7 +42,7 @@ pub(crate) fn write_file(files: &impl Files, path: &str, bytes: &[u8]) -> io::Re
     fs::write(files, path, bytes)
 }
 
-/// Removes a file, where it is there.
+/// Removes a file, if it is there.
 pub(crate) fn remove_file(files: &impl Files, path: &str) -> io::Result<()> {
     match fs::remove_file(files, path) {
         Err(error) if error.kind() == ErrorKind::NotFound => Ok(()),

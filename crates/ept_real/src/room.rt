@@ -9,7 +9,7 @@ use std::rt::Files;
 use std::{fs, io};
 
 /// A spill file in a folder of the machine. It is there from its first `keep` on, until its room takes it back, and is
-/// open only within a call. One that was never kept is empty.
+/// open only within a call. A spill file that was never kept is empty.
 #[derive(Drop)]
 pub struct RealSpill<'a, R: Files> {
     files: &'a R,
@@ -42,7 +42,7 @@ impl<'a, R: Files> RealSpill<'a, R> {
         read_file(self.files, self.alloc, path.as_str())
     }
 
-    /// Removes the file, where it may be there.
+    /// Removes the file, if it may be there.
     fn remove(&self) -> io::Result<()> {
         if self.keeps == 0 {
             return Ok(());
@@ -90,9 +90,9 @@ impl<'a, R: Files> SpillFile for RealSpill<'a, R> {
     }
 }
 
-/// A folder of the machine for spill files. It is made at the first `keep` of one, and removed with the last one that is
-/// taken back. What an earlier program left there, which was stopped, is removed before the first file is made. So a room
-/// is never the folder in which the program runs: with an empty path it makes no file.
+/// A folder of the machine for spill files. It is made at the first `keep` of one, and removed with the last one that
+/// is taken back. What an earlier program left there, which was stopped, is removed before the first file is made. So a
+/// room is never the folder in which the program runs: with an empty path it makes no file.
 #[derive(Drop)]
 pub struct RealRoom<'a, R: Files> {
     files: &'a R,

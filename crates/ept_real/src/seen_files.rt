@@ -8,8 +8,8 @@ use std::rt::Files;
 use std::sync::Arc;
 use std::time::Clock;
 
-/// The machine's files, of which each call that reads, puts or flushes one counts as progress of a build into a
-/// folder or of a check of one, which is told on standard error.
+/// The machine's files. Each call that reads, puts or flushes one counts as progress of a run with a folder. The
+/// progress is reported on standard error.
 #[derive(Drop)]
 pub struct SeenFiles<R: Files + Clock + Eprint + Drop> {
     progress: Arc<Progress<R>>,
@@ -17,41 +17,18 @@ pub struct SeenFiles<R: Files + Clock + Eprint + Drop> {
 }
 
 impl<R: Files + Clock + Eprint + Drop> SeenFiles<R> {
-    /// The files of this machine, as a build into this folder by the program of this name sees them. The build
-    /// begins now.
+    /// The files of this machine, as this run of the program of this name with this folder sees them. The run begins
+    /// now.
     pub fn new(
         alloc: Global,
         machine: R,
         program: &str,
         folder: &str,
-        telling: Telling,
-    ) -> Result<Self, AllocError> {
-        Self::of_run(alloc, machine, program, folder, telling, Run::Build)
-    }
-
-    /// The files of this machine, as a check of this folder by the program of this name sees them. The check
-    /// begins now.
-    pub fn of_check(
-        alloc: Global,
-        machine: R,
-        program: &str,
-        folder: &str,
-        telling: Telling,
-    ) -> Result<Self, AllocError> {
-        Self::of_run(alloc, machine, program, folder, telling, Run::Check)
-    }
-
-    // The files of this machine, as a run with this folder sees them.
-    fn of_run(
-        alloc: Global,
-        machine: R,
-        program: &str,
-        folder: &str,
-        telling: Telling,
         run: Run,
+        telling: Telling,
     ) -> Result<Self, AllocError> {
         let folder = String::from_str(alloc, folder)?;
-        let progress = Progress::new(alloc, machine, program, telling, run)?;
+        let progress = Progress::new(alloc, machine, program, run, telling)?;
         let progress = Arc::new(alloc, progress)?;
         Ok(SeenFiles { progress, folder })
     }
@@ -64,7 +41,7 @@ impl<R: Files + Clock + Eprint + Drop> SeenFiles<R> {
         })
     }
 
-    /// Tells nothing from now on, and clears the line on a terminal.
+    /// Reports nothing from now on, and clears the line on a terminal.
     pub fn end(&self) {
         self.progress.end();
     }

@@ -77,7 +77,7 @@ impl<'a, R: Files> RealShelf<'a, R> {
     }
 }
 
-/// Opens and closes a path, which is refused where it is absent or the path of a folder.
+/// Opens and closes a path, which is refused if it is missing or is the path of a folder.
 fn try_open(files: &impl Files, path: &str) -> io::Result<()> {
     let file = fs::open(files, path)?;
     if file.metadata()?.is_dir() {

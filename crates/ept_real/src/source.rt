@@ -10,22 +10,22 @@ use std::rt::Files;
 /// How many bytes a source reads at a time.
 const BLOCK: usize = 1 << 16;
 
-/// Where a source stands. Its file is open only where it reads.
+/// Where a source is. Its file is open only while it is being read.
 #[derive(Drop)]
 enum Place<F: Read + Drop> {
     /// Before the first byte.
     Start,
     /// In the file.
     Within(BufReader<F>),
-    /// Behind the last byte.
+    /// After the last byte.
     End,
 }
 
-/// A file of the machine, which is read from its front in blocks of 64 KiB.
+/// A file of the machine, which is read from its start in blocks of 64 KiB.
 ///
-/// It is open only from the first read to the end of the file or to a rewind, so that many sources may
-/// stand at their start at once. After a rewind the file is opened anew. A file that can't be opened
-/// or read is a fault, and so is want of memory for a block.
+/// It is open only from the first read to the end of the file or to a rewind. A source at its start has no open file,
+/// so there may be any number of these at once. After a rewind the file is opened again. A file that can't be opened or
+/// read is a fault, and so is running out of memory for a block.
 #[derive(Drop)]
 pub struct RealSource<'a, R: Files> {
     files: &'a R,
@@ -76,7 +76,7 @@ impl<'a, R: Files> RealSource<'a, R> {
         self.given
     }
 
-    /// Opens the file where the place is at its start.
+    /// Opens the file, if the source is at its start.
     fn open(&mut self) -> io::Result<()>
         ensures faults { source_faults self.new ≡ source_faults self.old }
         ensures given { source_given self.new ≡ source_given self.old }
@@ -88,7 +88,7 @@ impl<'a, R: Files> RealSource<'a, R> {
         Ok(())
     }
 
-    /// Reads the next bytes into the front of `into`, and closes the file where there are no more.
+    /// Reads the next bytes into the start of `into`, and closes the file if there are no more.
     fn read_next(&mut self, into: &mut [u8]) -> io::Result<usize>
         ensures bound { ReadsAtMost result into.new }
         ensures unchanged { OnErr result (into.new ≡ into.old) }

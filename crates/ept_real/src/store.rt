@@ -15,18 +15,17 @@ use std::alloc::{AllocError, Global};
 use std::path::Path;
 use std::rt::Files;
 
-/// A folder of the machine, which is made where it is not there. A name is a path below it.
+/// A folder of the machine, which is made if it is missing. A name is a path below it.
 ///
-/// `sync` flushes the files that were put, and those that were got and that this store has not flushed
-/// yet, since another program may have written them and been stopped before it flushed them. It also
-/// flushes the folders on the way to each name that was put, got or removed: those below the store's
-/// folder, the store's folder, the one that it is in, and any above that had to be made. So each of
-/// these folders must be readable.
+/// `sync` flushes the files that were put, and those that were got and that this store has not flushed yet. Another
+/// program may have written the latter, and been stopped before it flushed them. The folders on the way to each name
+/// that was put, got or removed are flushed as well. These are the folders below the store's folder, the store's
+/// folder, the one that it is in, and any above that had to be made. So each of these folders must be readable.
 ///
-/// After a refused `sync` each later one is refused: the system tells that a write was lost once, and may
-/// then answer as if nothing had been.
+/// After a refused `sync` each later one is refused. The system reports a lost write only once, and may then act as if
+/// nothing had been lost.
 ///
-/// A name below a file is a fault; one that is absent is not.
+/// A name below a file is a fault; a missing name is not.
 #[derive(Drop)]
 pub struct RealStore<'a, R: Files, D: PathDisk + Drop = RealDisk<'a, R>> {
     files: &'a R,
@@ -155,7 +154,7 @@ impl<'a, R: Files, D: PathDisk + Drop> RealStore<'a, R, D> {
         self.unsynced.note_way(self.files, self.folder, name)
     }
 
-    /// The file of this name, which was read, is to be flushed, where this store has not flushed it.
+    /// The file of this name, which was read, is to be flushed, unless this store has flushed it.
     fn note_read(&mut self, name: &str) -> Result<(), AllocError>
         ensures ok { OnOk result (HasToFlush self.new name.now ⊎ Contains (flushed self.new) name.now) }
         ensures still { KeepsToFlush self.old self.new }
@@ -168,7 +167,7 @@ impl<'a, R: Files, D: PathDisk + Drop> RealStore<'a, R, D> {
         self.unsynced.names.add(name)
     }
 
-    /// The file of this name is no longer to be flushed, where it is not there.
+    /// The file of this name is no longer to be flushed, if it is missing.
     fn forget_absent(&mut self, name: &str, path: &str)
         ensures still { KeepsBut name.now (names_to_flush self.old) (names_to_flush self.new) }
         ensures folders { folders_to_flush self.new ≡ folders_to_flush self.old }
@@ -179,7 +178,7 @@ impl<'a, R: Files, D: PathDisk + Drop> RealStore<'a, R, D> {
         }
     }
 
-    /// Writes the file of this name, which is to be flushed from then on, where it is there.
+    /// Writes the file of this name, which is to be flushed from then on, if it is there.
     fn write(&mut self, name: &str, path: &str, bytes: &[u8]) -> Result<(), PutError>
         ensures ok { OnOk result (Contains (names_to_flush self.new) name.now) }
         ensures still { KeepsBut name.now (names_to_flush self.old) (names_to_flush self.new) }
@@ -359,7 +358,7 @@ impl<'a, R: Files, D: PathDisk + Drop> Store for RealStore<'a, R, D> {
         ensures only { result ≢ Err PutError.Memory }
         ensures files { D.files (store_disk self.new) ≡ D.files (store_disk self.old) }
 
-        // At Ok nothing is left to flush, and after a refusal all is.
+        // On success nothing is left to flush, and after a refusal all is.
         ensures none_left { OnOk result (IsFlushed self.new) }
         ensures names { OnErr result (names_to_flush self.new ≡ names_to_flush self.old) }
         ensures folders { OnErr result (folders_to_flush self.new ≡ folders_to_flush self.old) }

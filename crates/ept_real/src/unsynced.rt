@@ -33,9 +33,8 @@ impl Unsynced {
         }
     }
 
-    /// The folders on the way to a name in this folder are to be flushed: those that the name goes
-    /// through, this folder, the one that it is in, and each one above that up to the first that is
-    /// there.
+    /// The folders on the way to a name in this folder are to be flushed. They are those that the name goes through,
+    /// this folder, and the one that it is in. Each one above that is among them too, up to the first that is there.
     pub(crate) fn note_way(
         &mut self,
         files: &impl Files,
@@ -109,7 +108,7 @@ fn flush_folders(files: &impl Files, paths: &BTreeSet<String>) -> io::Result<()>
     Ok(())
 }
 
-/// Flushes the entries of a folder. One that is not there has none.
+/// Flushes the entries of a folder. A folder that is not there has none.
 fn flush_folder(files: &impl Files, path: &str) -> io::Result<()> {
     match fs::open(files, path) {
         Ok(folder) => folder.sync_all(),

@@ -1,6 +1,7 @@
-//! `ept_tool` builds an Entwine Point Tile folder from LAS files, or a part of it, or from such parts, answers the points of a box of one or
-//! what a selection keeps of them, checks whether one is the sampling of its own points, and tells what the header of a LAS
-//! file says, and what an octree of generated scans comes to.
+//! `ept_tool` builds an Entwine Point Tile folder from LAS files, makes a part of one, and merges such parts. It writes
+//! the points of a folder that lie in a box, or those of them that a selection keeps. It checks whether a folder is the
+//! sampling of its own points. It also reports what the header of a LAS file says, and what an octree of generated
+//! scans comes to.
 #![tactic(auto)]
 
 mod failing;
@@ -10,7 +11,7 @@ use ept_base::{OpenGate, Room, Shelf, Sink, Store};
 use ept_command::status::OK;
 use ept_command::{Command, Ended, Refusal, command_of};
 use ept_mem::{MemRoom, MemStore};
-use ept_real::{RealRoom, RealShelf, RealSink, RealStore, SeenFiles, Telling};
+use ept_real::{RealRoom, RealShelf, RealSink, RealStore, Run, SeenFiles, Telling};
 use ept_run::{carry_out, refuse};
 use std::alloc::{AllocError, Global};
 use std::env;
@@ -27,7 +28,7 @@ fn main(rt: HostRuntime) -> ExitCode {
     }
 }
 
-// The words behind the program's name. Words that are not text are faulty ones.
+// The words after the program's name. Words that are not text are faulty ones.
 fn given_words(rt: &HostRuntime) -> Result<Vec<String>, Refusal> {
     match env::args(rt) {
         Ok(args) => args
@@ -54,24 +55,40 @@ fn run_words<R: Threads + Wait + Sync>(rt: &R, disk: &HostRuntime, words: &[Stri
     }
 }
 
-// The machine's files, as a progress of these words sees them: of a build and of a check it is told on standard error.
+// The machine's files, as the progress of these words sees them.
 fn files_for(disk: &HostRuntime, words: &[String]) -> Result<SeenFiles<HostRuntime>, AllocError> {
     let (alloc, machine) = (disk.alloc(), disk.clone()?);
-    let (folder, telling) = (folder_of(words), telling_of(disk, words));
-    match command_of(words) {
-        Command::Check { .. } => SeenFiles::of_check(alloc, machine, "ept_tool", folder, telling),
-        _ => SeenFiles::new(alloc, machine, "ept_tool", folder, telling),
+    let folder = folder_of(words);
+    match run_of(words) {
+        Some(run) => SeenFiles::new(alloc, machine, "ept_tool", folder, run, telling_of(disk)),
+        None => SeenFiles::new(
+            alloc,
+            machine,
+            "ept_tool",
+            folder,
+            Run::Build,
+            Telling::Silent,
+        ),
     }
 }
 
-// Where the progress of these words is told: of a build and of a check on standard error, of nothing else.
-fn telling_of(disk: &HostRuntime, words: &[String]) -> Telling {
+// What these words do with their folder, if its progress is reported.
+fn run_of(words: &[String]) -> Option<Run> {
     match command_of(words) {
-        Command::Build { .. } | Command::Check { .. } if disk.stderr().is_terminal() => {
-            Telling::Terminal
-        }
-        Command::Build { .. } | Command::Check { .. } => Telling::Lines,
-        _ => Telling::Silent,
+        Command::Build { .. } => Some(Run::Build),
+        Command::Part { .. } => Some(Run::Part),
+        Command::Merge { .. } => Some(Run::Merge),
+        Command::Check { .. } => Some(Run::Check),
+        _ => None,
+    }
+}
+
+// How progress is reported on standard error.
+fn telling_of(disk: &HostRuntime) -> Telling {
+    if disk.stderr().is_terminal() {
+        Telling::Terminal
+    } else {
+        Telling::Lines
     }
 }
 
@@ -115,8 +132,8 @@ where
     start_in(rt, disk, words, shelf, &mut store, out)
 }
 
-// Runs the words over this store. The spill files of a build, and of the build after a merge, lie in a folder of its
-// folder, and count as no progress; other words make none.
+// Runs the words over this store. A build, and the build after a merge, has its spill files in a folder of its folder.
+// They count as no progress. Other words make no spill files.
 fn start_in<H: Shelf, T: Store, O: Sink, R: Threads + Wait + Sync>(
     rt: &R,
     disk: &HostRuntime,
@@ -158,7 +175,8 @@ where
     let mut room = RealRoom::new(alloc, disk, spill);
     let ended = run_with(rt, alloc, words, shelf, store, &mut room, out);
     if ended.status == OK {
-        // What a build left that was killed as it ended: where nothing is to be done no room is asked for a file.
+        // Removes what is left of a build that was killed as it ended. If nothing is to be done, no room is asked for a
+        // file.
         let _ = disk.remove_dir_all(alloc, spill);
     }
     ended

@@ -28,7 +28,7 @@ word-at n rest small =
     ap (λ (m : ℕ). cast_signed w32 m) (little_number-reads_back 4 n rest wide) ∙ signed-small n small
 
 module _ (at i : ℕ) where
-  -- the bytes behind X, Y, Z and the intensity
+  -- the bytes after X, Y, Z and the intensity
   behind-z : List ℕ
   behind-z = little_bytes 2 (i % 65536) ++ replicate 6 0
 

@@ -1,4 +1,4 @@
--- So many points come to one thing.
+-- Trials of the same number of points have the same result.
 use Rattle.std.proofs.Common.{◌≡◌, ◌∙◌, ℕ, List, refl, sym, ap, subst}
 use Rattle.std.specs.Prelude.{map, ◌%◌, ◌^◌, length}
 use Rattle.ept_space.specs.VoxelKey.{VoxelKey}

@@ -8,7 +8,7 @@ use Rattle.std.proofs.Math.Seq.{drop-append_seam, take-append_seam}
 use Rattle.ept_trial.specs.Trials.{state}
 use Rattle.ept_trial.specs.Scans.{drawn, record_bytes, first_records}
 
--- the record of the point behind so many of an input
+-- the record of the point after the first `n` of an input
 abbrev pub record-of : ℕ → ℕ → ℕ → List ℕ
 record-of count input n = record_bytes (state count (3 * (4 * n + input))) (4 * n + input)
 
@@ -24,7 +24,7 @@ length-records count input (suc n) =
     let all = length-append (first_records count input n) (record_bytes (state count (3 * (4 * n + input))) (4 * n + input)) in
     omega (arith, rest, one, all)
 
--- behind records of so many bytes stand the others
+-- after the first `n` bytes come the others
 drop-at : (n : ℕ) (xs ys : List ℕ) → length xs ≡ n → drop n (xs ++ ys) ≡ ys
 drop-at n xs ys is = subst (λ (m : ℕ). drop m (xs ++ ys) ≡ ys) is (drop-append_seam xs ys)
 

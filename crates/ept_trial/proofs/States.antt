@@ -13,7 +13,7 @@ state-add first a (suc b) =
 pub state-next : (first a b : ℕ) → b ≡ suc a → state first b ≡ after (state first a)
 state-next first a b is = ap (λ (n : ℕ). state first n) is
 
--- twelve steps lead from the record of a point to that of the fourth point behind it
+-- twelve steps lead from the record of a point to that of the fourth point after it
 pub state-fourth : (count input n at mid end : ℕ) → at ≡ state count (3 * (4 * n + input)) → mid ≡ state at 3 → end ≡ state mid 9 → end ≡ state count (3 * (4 * (n + 1) + input))
 state-fourth count input n at mid end is now then =
     let m : ℕ = 3 * (4 * n + input) in

@@ -18,7 +18,7 @@ pub record HasTrial (count : ℕ) (files : Files) : Type 0 where
   pub rules_are : rules_of kept ≡ trial_rules
   pub complete : IsComplete kept points files
 
--- the bytes of the tile of a key, none where it is not there
+-- the bytes of the tile of a key, none if it is not there
 abbrev pub bytes_at : Files → VoxelKey → List ℕ
 bytes_at files key = unwrap_or (files (tile_name key)) []
 

@@ -9,7 +9,8 @@ use Rattle.ept_trial.specs.Trials.{state}
 abbrev pub drawn : ℕ → ℕ → ℕ
 drawn at below = (at / 2 ^ 33) % below
 
--- The record of point i, where the generator is in a state: X, Y and Z of the next three states, the intensity, and six bytes 0.
+-- The record of point i, if the generator is in this state: X, Y and Z of the next three states, the intensity, and six
+-- bytes 0.
 unfoldable pub record_bytes : ℕ → ℕ → List ℕ
 record_bytes at i =
     little_bytes 4 (drawn (after at) 100000)
@@ -18,17 +19,19 @@ record_bytes at i =
     ++ little_bytes 2 (i % 65536)
     ++ replicate 6 0
 
--- the records of the first points of an input: each fourth of so many in all, from the one on whose number is that of the input
+-- The records of the first points of an input. Its points are every fourth of the `count` points, beginning with the
+-- one whose number is that of the input.
 abbrev pub first_records : ℕ → ℕ → ℕ → List ℕ
 first_records count input zero = []
 first_records count input (suc n) =
     first_records count input n ++ record_bytes (state count (3 * (4 * n + input))) (4 * n + input)
 
--- how many of so many points are those of an input
+-- how many of `count` points are those of an input
 abbrev pub records_of : ℕ → ℕ → ℕ
 records_of count input = (count + 3 - input) / 4
 
--- a header of 227 bytes: the signature, the version, its size and the place of the first record, the format and the length of a record, and the number of records
+-- A header of 227 bytes: the signature, the version, its size, and the place of the first record. Then come the format
+-- and the length of a record, and the number of records.
 unfoldable pub header_bytes : ℕ → List ℕ
 header_bytes records =
     codes "LASF" ++ replicate 20 0 ++ 1 ∷ 2 ∷ [] ++ replicate 68 0

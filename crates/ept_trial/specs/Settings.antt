@@ -18,7 +18,7 @@ pub record IsTrialInput (path : List ℕ) (input : Input) : Type 0 where
 abbrev pub AreTrialInputs : List Input → Type 0
 AreTrialInputs inputs = AllZip IsTrialInput paths inputs
 
--- the configuration, but for the threads and the nodes in memory
+-- the configuration, except for the threads and the nodes in memory
 pub record IsTrialConfig (config : Config) : Type 0 where
   pub scale_is : config.scale ≡ 2
   pub bounds_is : config.bounds ≡ Some trial_bounds

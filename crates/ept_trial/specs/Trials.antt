@@ -14,7 +14,7 @@ use Rattle.ept_trial.specs.declared.trial.Trial.{Trial}
 
 -- ---- the points
 
--- the state of the generator after so many steps from the first one
+-- the state of the generator after this number of steps from the first one
 abbrev pub state : ℕ → ℕ → ℕ
 state first zero = first
 state first (suc steps) = after (state first steps)
@@ -23,7 +23,8 @@ state first (suc steps) = after (state first steps)
 abbrev pub draw : ℕ → ℕ → ℕ → ℕ
 draw first step below = (state first step / 2 ^ 33) % below
 
--- Point i of so many, from 0: its coordinates are the next three numbers that are drawn from a generator which begins with the number of points. It is record i / 4 of input i mod 4.
+-- Point i of `count`, from 0. Its coordinates are the next three numbers that are drawn from a generator which begins
+-- with the number of points. It is record i / 4 of input i mod 4.
 pub record IsTrialPoint (count i : ℕ) (p : Point) : Type 0 where
   pub x_is : p.x ≡ pos (draw count (3 * i + 1) 100000)
   pub y_is : p.y ≡ pos (draw count (3 * i + 2) 100000)
@@ -47,7 +48,7 @@ pub record IsTrialPoint (count i : ℕ) (p : Point) : Type 0 where
   pub origin_is : p.origin ≡ i % 4
   pub number_is : p.number ≡ i / 4
 
--- a point of a list is point i of so many
+-- a point of a list is point i of `count`
 abbrev pub HasTrialPoint : ℕ → List Point → ℕ → Type 0
 HasTrialPoint count points i = (p : Point) × Contains points p × IsTrialPoint count i p
 
@@ -55,7 +56,7 @@ HasTrialPoint count points i = (p : Point) × Contains points p × IsTrialPoint 
 abbrev pub IsTrialPointOf : ℕ → Point → Type 0
 IsTrialPointOf count p = (i : ℕ) × (i < count) × IsTrialPoint count i p
 
--- these are the points of the generated scans, input by input, as they are read: so many, each of them and no others
+-- these are the `count` points of the generated scans, input by input, as they are read: each of them and no others
 pub record AreTrialPoints (count : ℕ) (points : List Point) : Type 0 where
   pub ascend : IsAscending points
   pub length_is : length points ≡ count
@@ -72,7 +73,7 @@ trial_bounds = record { min = pos 0 ∷ pos 0 ∷ pos 0 ∷ []; max = pos 99999 
 abbrev pub trial_rules : Rules
 trial_rules = plain_rules (cube_of trial_bounds 7 32) 4096
 
--- the greatest of some numbers, or 0 where there is none
+-- the greatest of some numbers, or 0 if there is none
 abbrev pub greatest : List ℕ → ℕ
 greatest [] = 0
 greatest (n ∷ ns) = max n (greatest ns)
@@ -81,7 +82,8 @@ greatest (n ∷ ns) = max n (greatest ns)
 abbrev pub sum_of_bytes : List Point → ℕ
 sum_of_bytes points = sum_by (λ byte. byte) (flat_map (λ t. tile t.points) (sampled trial_rules points))
 
--- what the octree of the generated scans of so many points comes to: how many points and nodes there are, how deep the deepest node lies, and the sum of all bytes of all tiles modulo 2^64
+-- What the octree of the generated scans of `count` points comes to: how many points and nodes it has, and its greatest
+-- depth. The sum is that of all bytes of all tiles, modulo 2^64.
 pub record IsTrialOf (count : ℕ) (trial : Trial) : Type 0 where
   pub points : List Point
   pub are : AreTrialPoints count points
@@ -90,6 +92,6 @@ pub record IsTrialOf (count : ℕ) (trial : Trial) : Type 0 where
   pub depth_is : trial.depth ≡ greatest (map (λ key. key.depth) (node_keys trial_rules points))
   pub sum_is : trial.sum ≡ sum_of_bytes points % 2 ^ 64
 
--- so many points come to one thing. The statement stands on the contract of a function of `laws`
+-- Trials of the same number of points have the same result. The contract of a function of `laws` states it.
 abbrev pub TrialIsOne : Type 0
 TrialIsOne = (count : ℕ) (a b : Trial) → IsTrialOf count a → IsTrialOf count b → a ≡ b

@@ -26,13 +26,13 @@ use std::alloc::Global;
 use std::sync::Wait;
 use std::thread::Threads;
 
-/// Builds the octree of the generated scans of so many points in memory, with so many threads and, while these
-/// run, so many nodes in memory at a time, and says what it comes to. The answer depends on the number of points
-/// alone.
+/// Builds the octree of the generated scans of `points` points in memory, and returns what it comes to. The build has
+/// `workers` threads, and while these run at most `cache` nodes are in memory at a time. The result depends on the
+/// number of points alone.
 ///
 /// # Errors
 ///
-/// Want of memory, and nothing else.
+/// [`Memory`] if memory runs out, and nothing else.
 pub fn build_trial<R: Threads + Wait + Sync>(
     rt: &R,
     alloc: Global,
@@ -54,8 +54,8 @@ pub fn build_trial<R: Threads + Wait + Sync>(
     tallied(alloc, &mut store, points)
 }
 
-// Builds the files of a trial. Over devices that never fail, of scans that are good and whose octree has few enough
-// nodes, a build is refused for want of memory alone.
+// Builds the files of a trial. The devices never fail, the scans are good, and their octree has few enough nodes. So
+// the build is refused only when memory runs out.
 fn build_files<R: Threads + Wait + Sync>(
     rt: &R,
     alloc: Global,

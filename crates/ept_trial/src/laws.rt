@@ -4,7 +4,7 @@ ghost use Rattle.ept_trial.specs.Trials.{TrialIsOne};
 
 use ept_point::packed_once_law;
 
-/// A trial of so many points comes to one thing, whatever else it is run with.
+/// Trials of the same number of points have the same result, whatever else they are run with.
 pub fn trial_once_law()
     ensures { TrialIsOne }
 {

@@ -17,7 +17,7 @@ const HIGH: u32 = 1_000;
 // How many steps of the generator the three points of the other inputs take.
 const OTHERS: u32 = 9;
 
-/// The file of an input of four, where there are so many points in all.
+/// The file of one of the four inputs, if there are `count` points in all.
 #[tactic(auto, unfolding(crate::specs::Scans::scan_bytes))]
 pub(crate) fn scan_of(alloc: Global, count: u32, input: u32) -> Result<Vec<u8>, Memory>
     requires few { count ≤ 10000000 }
@@ -34,7 +34,7 @@ pub(crate) fn scan_of(alloc: Global, count: u32, input: u32) -> Result<Vec<u8>, 
     Ok(bytes)
 }
 
-// The header of a file of so many records.
+// The header of a file with this number of records.
 #[tactic(auto, unfolding(crate::specs::Scans::header_bytes))]
 fn header(alloc: Global, records: u32) -> Result<Vec<u8>, Memory>
     ensures { IfOk result (λ bytes. bytes.items ≡ header_bytes records) }
@@ -49,7 +49,7 @@ fn header(alloc: Global, records: u32) -> Result<Vec<u8>, Memory>
     Ok(bytes)
 }
 
-// The state of the generator after so many steps.
+// The state of the generator after this number of steps.
 fn stepped(from: u64, steps: u32) -> u64
     ensures { result ≡ state from steps }
 {
@@ -60,7 +60,7 @@ fn stepped(from: u64, steps: u32) -> u64
     at
 }
 
-// Appends the record of the point of that number, and answers the state of the generator behind it.
+// Appends the record of the point of this number, and returns the state of the generator after it.
 #[tactic(auto, unfolding(crate::specs::Scans::record_bytes))]
 fn append_record(out: &mut Vec<u8>, at: u64, number: u32) -> Result<u64, Memory>
     ensures state { IfOk result (λ next. next ≡ state at 3) }

@@ -15,7 +15,7 @@ use ept_space::Bounds;
 use ept_sure::SureShelf;
 use std::alloc::Global;
 
-/// The configuration of a trial with so many threads, and so many nodes in memory while these run.
+/// The configuration of a trial with `workers` threads, and with at most `cache` nodes in memory while these run.
 pub(crate) fn config_of(alloc: Global, workers: u32, cache: u32) -> Result<Config, Memory>
     requires some { 1 ≤ workers }
     requires threads { workers ≤ 64 }
@@ -81,7 +81,7 @@ fn input(alloc: Global, path: &str) -> Result<Input, Memory>
     })
 }
 
-// A text without control bytes that is not empty nor long is a path.
+// A text without control bytes that is neither empty nor long is a path.
 fn path_law(path: &str)
     requires shown { list_all is_shown path.now ≡ true }
     requires some { 1 ≤ length path.now }
@@ -89,7 +89,7 @@ fn path_law(path: &str)
     ensures { is_path path.now ≡ true }
 {}
 
-/// A shelf that has the generated scans of so many points.
+/// A shelf that has the generated scans of `count` points.
 pub(crate) fn shelf_of(alloc: Global, count: u32) -> Result<SureShelf, Memory>
     requires { count ≤ 10000000 }
     ensures { IfOk result (λ shelf. HasScans count (shelf_files_of shelf)) }

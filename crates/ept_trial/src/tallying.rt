@@ -18,7 +18,7 @@ use ept_space::{Box3, Key};
 use ept_sure::SureStore;
 use std::alloc::Global;
 
-/// What the files of a trial of so many points come to.
+/// What the files of a trial of this number of points come to.
 pub(crate) fn tallied(alloc: Global, store: &mut SureStore, points: u32) -> Result<Trial, Memory>
     requires { HasTrial points (store_files_of store.old) }
     ensures { IfOk result (IsTrialOf points) }
@@ -80,7 +80,7 @@ fn tally(alloc: Global, store: &SureStore, plan: &QueryPlan, points: u32) -> Res
     })
 }
 
-// A sum, and the bytes of the tile of a key besides.
+// This sum plus the bytes of the tile of a key.
 fn with_tile(alloc: Global, store: &SureStore, key: &Key, sum: u64) -> Result<u64, Memory>
     ensures { IfOk result (λ total. total
         ≡ (sum + sum_by (λ byte. byte) (bytes_at (store_files_of store.now) key.now)) % 2 ^ 64) }
@@ -92,7 +92,7 @@ fn with_tile(alloc: Global, store: &SureStore, key: &Key, sum: u64) -> Result<u6
     }
 }
 
-// A sum, and some bytes besides.
+// This sum plus these bytes.
 fn with_bytes(bytes: &[u8], sum: u64) -> u64
     ensures { result ≡ (sum + sum_by (λ byte. byte) bytes.now) % 2 ^ 64 }
 {

@@ -1,4 +1,4 @@
-use Rattle.std.proofs.Common.{rules, ◌≡◌, ◌∙◌, inr, Bool, ℕ, refl, sym, ap, subst, arith, Some, ◌≤◌, List, length}
+use Rattle.std.proofs.Common.{rules, ◌≡◌, ◌∙◌, inr, Bool, ℕ, refl, sym, ap, subst, arith, Some, List, length}
 use Rattle.std.specs.Prelude.{Result, Ok, Err, IfErr}
 use Rattle.std.proofs.lemmas.Result.{IfOk-weaker, IfErr-weaker, err_from_is_err_and}
 use Rattle.ept_base.specs.Devices.{counts_on}
@@ -179,7 +179,7 @@ returns-clause-built g c = λ all start begins.
     let stands = same-stands g.T.Store.files g.T.Store.may_leave g.T.Store.moment g.T.Store.image_since c.in_ok-saved.saved c.open.new.store c.is_finished.new.store c.is_finished.ensures.any_moment (c.in_ok-saved.ensures.stands start begins.told begins.settled) in
     let starts = starts-again c.sound_steps_law.ensures.same all start at_two.0 c.args.config.now c.in_ok-saved.saved c.in_ok-plan.plan cur begins.sound at_two.2 g.T.Store.files g.T.Store.may_leave g.T.Store.moment g.T.Store.image_since c.args.store.now c.is_finished.new.store begins.told begins.settled at_two.1 (same_twice g.T.Store.files g.T.Store.may_leave g.T.Store.moment g.T.Store.image_since c.args.store.now c.open.new.store c.is_finished.new.store c.open.ensures.any_moment c.is_finished.ensures.any_moment) g.M.File.SpillFile.held begins.spills stands (tells-some _ (g.H.Shelf.files c.args.shelf.now) all begins.shelf_told c.in_ok-plan.ensures.scan) in
     let begins_at = subst (λ (v : View). Starts g.M.File.SpillFile.held all c.args.config.now v c.in_ok-plan.plan at_two.0 (g.T.Store.files c.is_finished.new.store) (g.T.Store.may_leave c.is_finished.new.store)) (sym c.in_ok-at.ensures.saved) starts in
-    IfOk-weaker c.built-forest.result.1 _ _ (λ summary. built-from all c.args.config.now start at_two.0 at_two.2 summary (g.T.Store.files c.built-forest.new.store)) (c.built-forest.ensures.built all at_two.0 told begins_at)
+    IfOk-weaker c.built-forest.result.1 _ _ (λ summary. built-from all c.args.config.now start at_two.0 at_two.2 summary (g.T.Store.files c.built-forest.new.store)) (c.built-forest.ensures.ends all at_two.0 told begins_at).built
 
 pub returns-clause-sound : goal.returns-clause-sound
 returns-clause-sound g c = λ all start begins.
@@ -191,7 +191,7 @@ returns-clause-sound g c = λ all start begins.
     let begins_at = subst (λ (v : View). Starts g.M.File.SpillFile.held all c.args.config.now v c.in_ok-plan.plan at_two.0 (g.T.Store.files c.is_finished.new.store) (g.T.Store.may_leave c.is_finished.new.store)) (sym c.in_ok-at.ensures.saved) starts in
     moves-then g.T.Store.files g.T.Store.may_leave g.T.Store.moment g.T.Store.image_since (IsUnderWay all c.args.config.now start) c.args.store.now c.is_finished.new.store c.built-forest.new.store
     (early-moves c.sound_steps_law.ensures.same c.sound_law.ensures.published c.sound_steps_law.ensures.guarding all c.args.config.now start g.T.Store.files g.T.Store.may_leave g.T.Store.moment g.T.Store.image_since c.args.store.now c.is_finished.new.store begins.told begins.settled begins.sound (same_twice g.T.Store.files g.T.Store.may_leave g.T.Store.moment g.T.Store.image_since c.args.store.now c.open.new.store c.is_finished.new.store c.open.ensures.any_moment c.is_finished.ensures.any_moment))
-    (moves-wider g.T.Store.files g.T.Store.may_leave g.T.Store.moment g.T.Store.image_since (IsUnderWay all c.args.config.now at_two.0) (IsUnderWay all c.args.config.now start) (under-way-from all c.args.config.now start at_two.0 at_two.2) c.is_finished.new.store c.built-forest.new.store (c.built-forest.ensures.sound all at_two.0 told begins_at))
+    (moves-wider g.T.Store.files g.T.Store.may_leave g.T.Store.moment g.T.Store.image_since (IsUnderWay all c.args.config.now at_two.0) (IsUnderWay all c.args.config.now start) (under-way-from all c.args.config.now start at_two.0 at_two.2) c.is_finished.new.store c.built-forest.new.store (c.built-forest.ensures.ends all at_two.0 told begins_at).under_way)
 
 pub returns-clause-done_already : goal.returns-clause-done_already
 returns-clause-done_already g c = λ all start begins done.
@@ -217,7 +217,7 @@ returns-clause-refused g c = λ all start begins.
     let stands = same-stands g.T.Store.files g.T.Store.may_leave g.T.Store.moment g.T.Store.image_since c.in_ok-saved.saved c.open.new.store c.is_finished.new.store c.is_finished.ensures.any_moment (c.in_ok-saved.ensures.stands start begins.told begins.settled) in
     let starts = starts-again c.sound_steps_law.ensures.same all start at_two.0 c.args.config.now c.in_ok-saved.saved c.in_ok-plan.plan cur begins.sound at_two.2 g.T.Store.files g.T.Store.may_leave g.T.Store.moment g.T.Store.image_since c.args.store.now c.is_finished.new.store begins.told begins.settled at_two.1 (same_twice g.T.Store.files g.T.Store.may_leave g.T.Store.moment g.T.Store.image_since c.args.store.now c.open.new.store c.is_finished.new.store c.open.ensures.any_moment c.is_finished.ensures.any_moment) g.M.File.SpillFile.held begins.spills stands (tells-some _ (g.H.Shelf.files c.args.shelf.now) all begins.shelf_told c.in_ok-plan.ensures.scan) in
     let begins_at = subst (λ (v : View). Starts g.M.File.SpillFile.held all c.args.config.now v c.in_ok-plan.plan at_two.0 (g.T.Store.files c.is_finished.new.store) (g.T.Store.may_leave c.is_finished.new.store)) (sym c.in_ok-at.ensures.saved) starts in
-    IfErr-weaker c.built-forest.result.1 (IsRefusedAt all c.args.config.now c.in_ok-saved.saved.current) (IsRefused all c.args.config.now start) (λ e because. record { current = c.in_ok-saved.saved.current; has_current = cur; because = because }) (subst (λ (v : View). IfErr c.built-forest.result.1 (IsRefusedAt all c.args.config.now v.current)) c.in_ok-at.ensures.saved (c.built-forest.ensures.refused all at_two.0 told begins_at))
+    IfErr-weaker c.built-forest.result.1 (IsRefusedAt all c.args.config.now c.in_ok-saved.saved.current) (IsRefused all c.args.config.now start) (λ e because. record { current = c.in_ok-saved.saved.current; has_current = cur; because = because }) (subst (λ (v : View). IfErr c.built-forest.result.1 (IsRefusedAt all c.args.config.now v.current)) c.in_ok-at.ensures.saved (c.built-forest.ensures.ends all at_two.0 told begins_at).refused)
 
 pub returns-clause-accepted : goal.returns-clause-accepted
 returns-clause-accepted g c = λ all start begins acc.
@@ -228,7 +228,7 @@ returns-clause-accepted g c = λ all start begins acc.
     let starts = starts-again c.sound_steps_law.ensures.same all start at_two.0 c.args.config.now c.in_ok-saved.saved c.in_ok-plan.plan cur begins.sound at_two.2 g.T.Store.files g.T.Store.may_leave g.T.Store.moment g.T.Store.image_since c.args.store.now c.is_finished.new.store begins.told begins.settled at_two.1 (same_twice g.T.Store.files g.T.Store.may_leave g.T.Store.moment g.T.Store.image_since c.args.store.now c.open.new.store c.is_finished.new.store c.open.ensures.any_moment c.is_finished.ensures.any_moment) g.M.File.SpillFile.held begins.spills stands (tells-some _ (g.H.Shelf.files c.args.shelf.now) all begins.shelf_told c.in_ok-plan.ensures.scan) in
     let begins_at = subst (λ (v : View). Starts g.M.File.SpillFile.held all c.args.config.now v c.in_ok-plan.plan at_two.0 (g.T.Store.files c.is_finished.new.store) (g.T.Store.may_leave c.is_finished.new.store)) (sym c.in_ok-at.ensures.saved) starts in
     let same : acc.current ≡ c.in_ok-saved.saved.current = c.sound_law.ensures.one start acc.current c.in_ok-saved.saved.current acc.has_current cur in
-    built-accepted c.built-forest.result.1 all c.args.config.now c.in_ok-saved.saved.current c.built-forest.ensures.only (subst (λ (v : View). IfErr c.built-forest.result.1 (IsRefusedAt all c.args.config.now v.current)) c.in_ok-at.ensures.saved (c.built-forest.ensures.refused all at_two.0 told begins_at)) acc.kept acc.points (subst (λ (w : Current). HasPoints all c.args.config.now w acc.kept acc.points) same acc.has_points) acc.few
+    built-accepted c.built-forest.result.1 all c.args.config.now c.in_ok-saved.saved.current c.built-forest.ensures.only (subst (λ (v : View). IfErr c.built-forest.result.1 (IsRefusedAt all c.args.config.now v.current)) c.in_ok-at.ensures.saved (c.built-forest.ensures.ends all at_two.0 told begins_at).refused) acc.kept acc.points (subst (λ (w : Current). HasPoints all c.args.config.now w acc.kept acc.points) same acc.has_points) acc.few
 
 pub returns-in_err-plan-clause-differs_comes : goal.returns-in_err-plan-clause-differs_comes
 returns-in_err-plan-clause-differs_comes g c = λ start current told has not_on.
@@ -283,8 +283,8 @@ returns-clause-too_many_comes g c = λ all start begins current has on not_done 
     let starts = starts-again c.sound_steps_law.ensures.same all start at_two.0 c.args.config.now c.in_ok-saved.saved c.in_ok-plan.plan cur begins.sound at_two.2 g.T.Store.files g.T.Store.may_leave g.T.Store.moment g.T.Store.image_since c.args.store.now c.is_finished.new.store begins.told begins.settled at_two.1 (same_twice g.T.Store.files g.T.Store.may_leave g.T.Store.moment g.T.Store.image_since c.args.store.now c.open.new.store c.is_finished.new.store c.open.ensures.any_moment c.is_finished.ensures.any_moment) g.M.File.SpillFile.held begins.spills stands (tells-some _ (g.H.Shelf.files c.args.shelf.now) all begins.shelf_told c.in_ok-plan.ensures.scan) in
     let begins_at = subst (λ (v : View). Starts g.M.File.SpillFile.held all c.args.config.now v c.in_ok-plan.plan at_two.0 (g.T.Store.files c.is_finished.new.store) (g.T.Store.may_leave c.is_finished.new.store)) (sym c.in_ok-at.ensures.saved) starts in
     let same : current ≡ c.in_ok-saved.saved.current = c.sound_law.ensures.one start current c.in_ok-saved.saved.current has cur in
-    let end = stepped (λ (a b : Files). IsUnderWay all c.args.config.now at_two.0 b) (g.T.Store.files c.is_finished.new.store) (g.T.Store.files c.built-forest.new.store) at_two.0 at_two.1 (c.built-forest.ensures.sound all at_two.0 told begins_at).reads in
-    built-many c.built-forest.result.1 all c.args.config.now c.in_ok-saved.saved.current at_two.0 (g.T.Store.files c.built-forest.new.store) end.0 end.1 c.built-forest.ensures.only (subst (λ (v : View). IfErr c.built-forest.result.1 (IsRefusedAt all c.args.config.now v.current)) c.in_ok-at.ensures.saved (c.built-forest.ensures.refused all at_two.0 told begins_at)) c.built-forest.ensures.few (c.built-forest.ensures.built all at_two.0 told begins_at)
+    let end = stepped (λ (a b : Files). IsUnderWay all c.args.config.now at_two.0 b) (g.T.Store.files c.is_finished.new.store) (g.T.Store.files c.built-forest.new.store) at_two.0 at_two.1 (c.built-forest.ensures.ends all at_two.0 told begins_at).under_way.reads in
+    built-many c.built-forest.result.1 all c.args.config.now c.in_ok-saved.saved.current at_two.0 (g.T.Store.files c.built-forest.new.store) end.0 end.1 c.built-forest.ensures.only (subst (λ (v : View). IfErr c.built-forest.result.1 (IsRefusedAt all c.args.config.now v.current)) c.in_ok-at.ensures.saved (c.built-forest.ensures.ends all at_two.0 told begins_at).refused) c.built-forest.ensures.few (c.built-forest.ensures.ends all at_two.0 told begins_at).built
     (λ other its. c.sound_law.ensures.one at_two.0 other c.in_ok-saved.saved.current its starts.ready.has_current) many.kept many.points (subst (λ (w : Current). HasPoints all c.args.config.now w many.kept many.points) same many.has_points) many.many
 
 pub returns-in_err-saved-clause-stops : goal.returns-in_err-saved-clause-stops
@@ -319,7 +319,7 @@ returns-clause-stops g c = λ is all start begins.
     let stands = same-stands g.T.Store.files g.T.Store.may_leave g.T.Store.moment g.T.Store.image_since c.in_ok-saved.saved c.open.new.store c.is_finished.new.store c.is_finished.ensures.any_moment (c.in_ok-saved.ensures.stands start begins.told begins.settled) in
     let starts = starts-again c.sound_steps_law.ensures.same all start at_two.0 c.args.config.now c.in_ok-saved.saved c.in_ok-plan.plan cur begins.sound at_two.2 g.T.Store.files g.T.Store.may_leave g.T.Store.moment g.T.Store.image_since c.args.store.now c.is_finished.new.store begins.told begins.settled at_two.1 (same_twice g.T.Store.files g.T.Store.may_leave g.T.Store.moment g.T.Store.image_since c.args.store.now c.open.new.store c.is_finished.new.store c.open.ensures.any_moment c.is_finished.ensures.any_moment) g.M.File.SpillFile.held begins.spills stands (tells-some _ (g.H.Shelf.files c.args.shelf.now) all begins.shelf_told c.in_ok-plan.ensures.scan) in
     let begins_at = subst (λ (v : View). Starts g.M.File.SpillFile.held all c.args.config.now v c.in_ok-plan.plan at_two.0 (g.T.Store.files c.is_finished.new.store) (g.T.Store.may_leave c.is_finished.new.store)) (sym c.in_ok-at.ensures.saved) starts in
-    let its = c.built-forest.ensures.stops is all at_two.0 told begins_at in
+    let its = (c.built-forest.ensures.ends all at_two.0 told begins_at).stopped is in
     (its.0, stops-from all c.args.config.now start at_two.0 at_two.2 g.T.Store.files g.T.Store.may_leave g.T.Store.moment g.T.Store.image_since c.args.store.now c.is_finished.new.store c.built-forest.new.store (same_twice g.T.Store.files g.T.Store.may_leave g.T.Store.moment g.T.Store.image_since c.args.store.now c.open.new.store c.is_finished.new.store c.open.ensures.any_moment c.is_finished.ensures.any_moment) its.1)
 
 pub returns-in_err-saved-clause-asked : goal.returns-in_err-saved-clause-asked
@@ -458,7 +458,7 @@ returns-clause-damaged_comes g c = λ all start current shelf_told told has come
     let same : current ≡ c.in_ok-saved.saved.current = c.sound_law.ensures.one start current c.in_ok-saved.saved.current has cur in
     let at_two = stepped SameFiles (g.T.Store.files c.args.store.now) (g.T.Store.files c.is_finished.new.store) start told (same_twice g.T.Store.files g.T.Store.may_leave g.T.Store.moment g.T.Store.image_since c.args.store.now c.open.new.store c.is_finished.new.store c.open.ensures.any_moment c.is_finished.ensures.any_moment).reads in
     let mine : current ≡ c.in_ok-at.at.saved.current = same ∙ ap (λ (v : View). v.current) (sym c.in_ok-at.ensures.saved) in
-    c.built-forest.ensures.damaged_comes at_two.0 comes.key at_two.1 (subst (λ (w : Current). HasSlot w c.args.config.now.max_nodes comes.key) mine comes.slot)
+    (c.built-forest.ensures.damage at_two.0 at_two.1).comes comes.key (subst (λ (w : Current). HasSlot w c.args.config.now.max_nodes comes.key) mine comes.slot)
     (damaged-same c.in_ok-at.at.saved.current comes.key at_two.0 start (λ name. sym (at_two.2 name)) (subst (λ (w : Current). IsDamaged w comes.key start) mine comes.damaged))
 
 pub returns-clause-damaged_first : goal.returns-clause-damaged_first
@@ -469,7 +469,7 @@ returns-clause-damaged_first g c = λ start current key other told has damaged i
     let at_two = stepped SameFiles (g.T.Store.files c.args.store.now) (g.T.Store.files c.is_finished.new.store) start told two.reads in
     let mine : current ≡ c.in_ok-at.at.saved.current = same ∙ ap (λ (v : View). v.current) (sym c.in_ok-at.ensures.saved) in
     let bad = damaged-same c.in_ok-at.at.saved.current key at_two.0 start (λ name. sym (at_two.2 name)) (subst (λ (w : Current). IsDamaged w key start) mine damaged) in
-    let first = c.built-forest.ensures.damaged_first at_two.0 key other at_two.1 bad is in (
+    let first = (c.built-forest.ensures.damage at_two.0 at_two.1).first key other bad is in (
       subst (λ (w : Current). IsFirstDamaged w c.args.config.now.max_nodes other start) (sym mine) (first-same c.in_ok-at.at.saved.current c.args.config.now.max_nodes other start at_two.0 at_two.2 first.0),
       same_twice g.T.Store.files g.T.Store.may_leave g.T.Store.moment g.T.Store.image_since c.args.store.now c.is_finished.new.store c.built-forest.new.store two first.1,
     )

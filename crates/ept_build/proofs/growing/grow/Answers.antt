@@ -32,7 +32,7 @@ phases-requires-clause-reader g c lives within =
       inside = λ p lies. lies-in-cube c.args.plan.now.kept c.args.plan.now.counts files (rules_of c.args.plan.now.kept).cube c.requires.of_bounds c.requires.fit.counted (subst (λ (w : List SourceCount). All (IsFileOf c.args.plan.now.kept w) files) c.as_slice-counts.ensures r.inputs) p lies;
     }
 
--- ---- all is brought in
+-- ---- all points are inserted
 
 pub returns-in-Ok-phases-clause-sampled : goal.returns-in-Ok-phases-clause-sampled
 returns-in-Ok-phases-clause-sampled g c = λ telling.

@@ -1,10 +1,10 @@
-use Rattle.std.proofs.Common.{rules, ◌≡◌, ◌∙◌, sym, subst}
+use Rattle.std.proofs.Common.{rules, ◌≡◌}
 use Rattle.std.specs.Prelude.{Err}
 use Rattle.ept_build.specs.Errors.{of_save}
+use Rattle.ept_build.proofs.Caused.{save-renew}
 use Rattle.ept_build.proofs.Causes.{if-refused}
-use Rattle.ept_build.proofs.Judging.{err-one}
-use Rattle.ept_build.specs.Phases.{IsPhaseFault, IsStoreFault}
-use Rattle.ept_build.proofs.Renewed.{IsSaveKind, renews-none, renews-migrated, migrated-newest, save-kind, save-phase, save-stores}
+use Rattle.ept_build.specs.Phases.{IsRenewFault, IsStoreFault}
+use Rattle.ept_build.proofs.Renewed.{renews-none, renews-migrated, migrated-newest, save-stores}
 use Rattle.ept_build.proofs.TakenUp.{takes-same, takes-migrated}
 use Rattle.ept_build.proofs.starting.renew.Goals as goal
 
@@ -35,43 +35,13 @@ pub returns-in_err-migrate-clause-only : goal.returns-in_err-migrate-clause-only
 returns-in_err-migrate-clause-only g c =
     let e = c.in_err-migrate.field-0.0 in
     let its : c.from_residual.result ≡ Err (of_save e) = search rules in
-    if-refused IsPhaseFault c.from_residual.result (of_save e) its (save-phase e c.in_err-migrate.ensures.only)
+    if-refused IsRenewFault c.from_residual.result (of_save e) its (save-renew e c.in_err-migrate.ensures.only)
 
 pub returns-in_err-migrate-clause-undamaged : goal.returns-in_err-migrate-clause-undamaged
 returns-in_err-migrate-clause-undamaged g c = λ all told whole.
     let e = c.in_err-migrate.field-0.0 in
     let its : c.from_residual.result ≡ Err (of_save e) = search rules in
     if-refused IsStoreFault c.from_residual.result (of_save e) its (save-stores e (c.in_err-migrate.ensures.undamaged all told whole))
-
-pub returns-in_err-migrate-clause-not_many : goal.returns-in_err-migrate-clause-not_many
-returns-in_err-migrate-clause-not_many g c = λ is.
-    let e = c.in_err-migrate.field-0.0 in
-    let its : c.from_residual.result ≡ Err (of_save e) = search rules in
-    subst IsSaveKind (err-one (sym its ∙ is)) (save-kind e)
-
-pub returns-in_err-migrate-clause-no_change : goal.returns-in_err-migrate-clause-no_change
-returns-in_err-migrate-clause-no_change g c = λ source number is.
-    let e = c.in_err-migrate.field-0.0 in
-    let its : c.from_residual.result ≡ Err (of_save e) = search rules in
-    subst IsSaveKind (err-one (sym its ∙ is)) (save-kind e)
-
-pub returns-in_err-migrate-clause-no_source : goal.returns-in_err-migrate-clause-no_source
-returns-in_err-migrate-clause-no_source g c = λ is.
-    let e = c.in_err-migrate.field-0.0 in
-    let its : c.from_residual.result ≡ Err (of_save e) = search rules in
-    subst IsSaveKind (err-one (sym its ∙ is)) (save-kind e)
-
-pub returns-in_err-migrate-clause-no_spill : goal.returns-in_err-migrate-clause-no_spill
-returns-in_err-migrate-clause-no_spill g c = λ is.
-    let e = c.in_err-migrate.field-0.0 in
-    let its : c.from_residual.result ≡ Err (of_save e) = search rules in
-    subst IsSaveKind (err-one (sym its ∙ is)) (save-kind e)
-
-pub returns-in_err-migrate-clause-no_damage : goal.returns-in_err-migrate-clause-no_damage
-returns-in_err-migrate-clause-no_damage g c = λ kept found number is.
-    let e = c.in_err-migrate.field-0.0 in
-    let its : c.from_residual.result ≡ Err (of_save e) = search rules in
-    subst IsSaveKind (err-one (sym its ∙ is)) (save-kind e)
 
 pub returns-clause-taken_up : goal.returns-clause-taken_up
 returns-clause-taken_up g c =

@@ -21,7 +21,7 @@ returns-clause-sound c = λ steps next are stay.
     safe-last Known (λ (step : Step). ⊤) enough c.sound_law.ensures.one (λ one two current same known. tt) (λ step current letter it among known sound on has keeps. tt) (λ shelf from base turned known. tt) _ steps next (safe-first Known c.sound_law.ensures.empty tt (steps ++ next ∷ [])) (λ k d lt. tt) are stay in
     safe-next Known enough (left_by steps) next [] safe
 
--- where no build of the history states its bounds, those of the current checkpoint are the extent of its points
+-- if no build of the history states its bounds, those of the current checkpoint are the extent of its points
 extent-left : ScanInOneWay → ScanIsKept → ScanLiesWithin → ScanFront → EmptyIsSound → CurrentIsOne → InputsAreEnough → (steps : List Step) (last : Step) → IsHistory steps → ScansStay (steps ++ last ∷ []) → All (λ (step : Step). step.config.bounds ≡ None) steps → (current : Current) → HasCurrent current (left_by steps) → KeepsExtent last.shelf current
 extent-left once kept placed front empty one enough steps last are stay none current has =
     let safe : IsSafe KeepsExtent (left_by steps) (last ∷ []) =

@@ -13,6 +13,7 @@ use Rattle.ept_merge.proofs.Sounding.{same-sound, settled-reads, stays-both}
 use Rattle.ept_merge.proofs.Outcome.{merged-told, accepted-told, refused-told, own-told, open-not, plan-not, open-told, plan-told, err-verdict, either-verdict, complete-told, open-ready, plan-ready, ready-told, comes-told}
 use Rattle.ept_merge.proofs.NoSource.{passed-no_source}
 use Rattle.ept_merge.proofs.Early.{early-both}
+use Rattle.ept_merge.proofs.Staying.{read-stays, both-stay}
 use Rattle.ept_merge.proofs.merging.merge.Goals as goal
 
 pub merge_plan-requires-clause-none : goal.merge_plan-requires-clause-none
@@ -223,3 +224,20 @@ returns-clause-sound g c = λ all start told_shelf told settled sound parts.
     stays-both s.files s.may_leave s.moment s.image_since all c.args.store.now c.open_fresh.new.store c.merge_plan.new.store
     (same-sound s.files s.may_leave s.moment s.image_since c.sound_steps_law.ensures.same all c.args.store.now c.open_fresh.new.store start told settled sound c.open_fresh.ensures.any_moment)
     (c.merge_plan.ensures.sound all start h.0 (reads ∙ told) (settled-reads s.files s.may_leave s.moment s.image_since c.args.store.now c.open_fresh.new.store start told settled c.open_fresh.ensures.any_moment) sound h.1 parts)
+
+-- ---- the parts stay
+
+pub returns-in_err-saved-clause-parts_stay : goal.returns-in_err-saved-clause-parts_stay
+returns-in_err-saved-clause-parts_stay g c =
+    let s = g.T.Store in
+    read-stays s.files s.may_leave s.moment s.image_since c.args.store.now c.open_fresh.new.store c.open_fresh.ensures.any_moment
+
+pub returns-in_err-plan-clause-parts_stay : goal.returns-in_err-plan-clause-parts_stay
+returns-in_err-plan-clause-parts_stay g c =
+    let s = g.T.Store in
+    read-stays s.files s.may_leave s.moment s.image_since c.args.store.now c.open_fresh.new.store c.open_fresh.ensures.any_moment
+
+pub returns-clause-parts_stay : goal.returns-clause-parts_stay
+returns-clause-parts_stay g c =
+    let s = g.T.Store in
+    both-stay s.files s.may_leave s.moment s.image_since c.args.store.now c.open_fresh.new.store c.merge_plan.new.store (read-stays s.files s.may_leave s.moment s.image_since c.args.store.now c.open_fresh.new.store c.open_fresh.ensures.any_moment) c.merge_plan.ensures.parts_stay

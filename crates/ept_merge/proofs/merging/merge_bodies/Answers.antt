@@ -6,6 +6,7 @@ use Rattle.ept_merge.proofs.Reading.{reads-none}
 use Rattle.ept_merge.proofs.Sounding.{same-sound}
 use Rattle.ept_merge.proofs.Outcome.{misfit-fault}
 use Rattle.ept_merge.proofs.NoSource.{misfit-no_source, passed-no_source}
+use Rattle.ept_merge.proofs.Staying.{none-stays}
 use Rattle.ept_merge.proofs.merging.merge_bodies.Goals as goal
 
 pub place-requires-clause-fit : goal.place-requires-clause-fit
@@ -31,3 +32,8 @@ pub returns-in_err-nodes-clause-sound : goal.returns-in_err-nodes-clause-sound
 returns-in_err-nodes-clause-sound g c = λ all start points told settled sound of.
     let s = g.T.Store in
     same-sound s.files s.may_leave s.moment s.image_since c.sound_steps_law.ensures.same all c.args.store.now c.args.store.now start told settled sound (reads-none s.files s.may_leave s.moment s.image_since c.args.store.now)
+
+pub returns-in_err-nodes-clause-parts_stay : goal.returns-in_err-nodes-clause-parts_stay
+returns-in_err-nodes-clause-parts_stay g c =
+    let s = g.T.Store in
+    none-stays s.files s.may_leave s.moment s.image_since c.args.store.now

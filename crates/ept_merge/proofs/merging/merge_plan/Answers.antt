@@ -13,6 +13,7 @@ use Rattle.ept_merge.proofs.Sounding.{same-sound, settled-reads, stays-both}
 use Rattle.ept_merge.proofs.Found.{parts-some, of-parts}
 use Rattle.ept_merge.proofs.Outcome.{parts-accepted, parts-refused, bodies-refused}
 use Rattle.ept_merge.proofs.Early.{early-both}
+use Rattle.ept_merge.proofs.Staying.{read-stays, both-stay}
 use Rattle.ept_merge.proofs.merging.merge_plan.Goals as goal
 
 pub merge_bodies-requires-clause-some : goal.merge_bodies-requires-clause-some
@@ -98,3 +99,15 @@ returns-clause-sound g c = λ all start points told settled sound has parts.
     stays-both s.files s.may_leave s.moment s.image_since all c.args.store.now c.bodies_of.new.store c.merge_bodies.new.store
     (same-sound s.files s.may_leave s.moment s.image_since c.sound_steps_law.ensures.same all c.args.store.now c.bodies_of.new.store start told settled sound c.bodies_of.ensures.any_moment)
     (c.merge_bodies.ensures.sound all start points (reads ∙ told) (settled-reads s.files s.may_leave s.moment s.image_since c.args.store.now c.bodies_of.new.store start told settled c.bodies_of.ensures.any_moment) sound of)
+
+-- ---- the parts stay
+
+pub returns-in_err-bodies-clause-parts_stay : goal.returns-in_err-bodies-clause-parts_stay
+returns-in_err-bodies-clause-parts_stay g c =
+    let s = g.T.Store in
+    read-stays s.files s.may_leave s.moment s.image_since c.args.store.now c.bodies_of.new.store c.bodies_of.ensures.any_moment
+
+pub returns-clause-parts_stay : goal.returns-clause-parts_stay
+returns-clause-parts_stay g c =
+    let s = g.T.Store in
+    both-stay s.files s.may_leave s.moment s.image_since c.args.store.now c.bodies_of.new.store c.merge_bodies.new.store (read-stays s.files s.may_leave s.moment s.image_since c.args.store.now c.bodies_of.new.store c.bodies_of.ensures.any_moment) c.merge_bodies.ensures.parts_stay

@@ -6,6 +6,7 @@ use Rattle.ept_merge.proofs.Sounding.{same-sound}
 use Rattle.ept_merge.proofs.Outcome.{nodes-fault, too-many, placed-accepted, placed-refused}
 use Rattle.ept_merge.proofs.NoSource.{passed-no_source}
 use Rattle.ept_merge.proofs.Early.{tiles-no_source, put-no_source, early-put}
+use Rattle.ept_merge.proofs.Staying.{read-stays}
 use Rattle.ept_merge.proofs.merging.place.Goals as goal
 
 pub judge-requires-clause-rules : goal.judge-requires-clause-rules
@@ -61,3 +62,13 @@ returns-clause-refused g c =
 
 pub returns-clause-early : goal.returns-clause-early
 returns-clause-early g c = λ none. c.judge.ensures.any_moment
+
+pub returns-in_err-judge-clause-parts_stay : goal.returns-in_err-judge-clause-parts_stay
+returns-in_err-judge-clause-parts_stay g c =
+    let s = g.T.Store in
+    read-stays s.files s.may_leave s.moment s.image_since c.args.store.now c.judge.new.store c.judge.ensures.any_moment
+
+pub returns-clause-parts_stay : goal.returns-clause-parts_stay
+returns-clause-parts_stay g c =
+    let s = g.T.Store in
+    read-stays s.files s.may_leave s.moment s.image_since c.args.store.now c.judge.new.store c.judge.ensures.any_moment

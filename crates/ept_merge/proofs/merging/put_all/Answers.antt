@@ -21,6 +21,7 @@ use Rattle.ept_merge.proofs.Fits.{fit-ascends, fit-low}
 use Rattle.ept_merge.proofs.PutAll.{of-rules, none-old, begun-same, begun-stands, tells-if, stepped-back, view-valid, next-committed}
 use Rattle.ept_merge.proofs.Committing.{begun-sound, put-sound, committed-sound}
 use Rattle.ept_merge.proofs.Early.{saved-tiles}
+use Rattle.ept_merge.proofs.Staying.{begin-stays, put-stays, commit-stays, both-stay}
 use Rattle.ept_merge.proofs.merging.put_all.Goals as goal
 
 pub put_nodes-requires-clause-rules : goal.put_nodes-requires-clause-rules
@@ -156,3 +157,25 @@ returns-clause-intact g c =
     let s = g.T.Store in
     let closes = subst (λ (w : Current). StepsBy (Closes (gate_name (next_letter w))) (s.files c.args.store.now) (s.files c.begin.new.store)) (ap (λ (v : View). v.current) c.requires.fresh) c.in_ok-begin.ensures.puts in
     subst (λ (o : Option Files). Tells (λ all. AreIntact c.args.rules.now all (roots_of c.args.parts.now ++ c.args.nodes.now)) o) (begun-same (s.files c.args.store.now) (s.files c.begin.new.store) c.requires.none closes) c.in_ok-put_nodes.ensures.intact
+
+-- ---- the parts stay
+
+pub returns-in_err-begin-clause-parts_stay : goal.returns-in_err-begin-clause-parts_stay
+returns-in_err-begin-clause-parts_stay g c =
+    let s = g.T.Store in
+    begin-stays s.files s.may_leave s.moment s.image_since (next_letter c.args.saved.now.current) c.args.store.now c.begin.new.store c.begin.ensures.gate
+
+pub returns-in_err-put_nodes-clause-parts_stay : goal.returns-in_err-put_nodes-clause-parts_stay
+returns-in_err-put_nodes-clause-parts_stay g c =
+    let s = g.T.Store in
+    both-stay s.files s.may_leave s.moment s.image_since c.args.store.now c.begin.new.store c.put_nodes.new.store (begin-stays s.files s.may_leave s.moment s.image_since (next_letter c.args.saved.now.current) c.args.store.now c.begin.new.store c.begin.ensures.gate) (put-stays s.files s.may_leave s.moment s.image_since c.begin.new.store c.put_nodes.new.store c.put_nodes.ensures.keeps)
+
+pub returns-in_err-commit-clause-parts_stay : goal.returns-in_err-commit-clause-parts_stay
+returns-in_err-commit-clause-parts_stay g c =
+    let s = g.T.Store in
+    both-stay s.files s.may_leave s.moment s.image_since c.args.store.now c.put_nodes.new.store c.commit.new.store (both-stay s.files s.may_leave s.moment s.image_since c.args.store.now c.begin.new.store c.put_nodes.new.store (begin-stays s.files s.may_leave s.moment s.image_since (next_letter c.args.saved.now.current) c.args.store.now c.begin.new.store c.begin.ensures.gate) (put-stays s.files s.may_leave s.moment s.image_since c.begin.new.store c.put_nodes.new.store c.put_nodes.ensures.keeps)) (commit-stays s.files s.may_leave s.moment s.image_since (next_letter c.put_nodes.new.saved.current) c.put_nodes.new.store c.commit.new.store c.commit.ensures.names)
+
+pub returns-clause-parts_stay : goal.returns-clause-parts_stay
+returns-clause-parts_stay g c =
+    let s = g.T.Store in
+    both-stay s.files s.may_leave s.moment s.image_since c.args.store.now c.put_nodes.new.store c.commit.new.store (both-stay s.files s.may_leave s.moment s.image_since c.args.store.now c.begin.new.store c.put_nodes.new.store (begin-stays s.files s.may_leave s.moment s.image_since (next_letter c.args.saved.now.current) c.args.store.now c.begin.new.store c.begin.ensures.gate) (put-stays s.files s.may_leave s.moment s.image_since c.begin.new.store c.put_nodes.new.store c.put_nodes.ensures.keeps)) (commit-stays s.files s.may_leave s.moment s.image_since (next_letter c.put_nodes.new.saved.current) c.put_nodes.new.store c.commit.new.store c.commit.ensures.names)

@@ -8,7 +8,7 @@ use Rattle.ept_trial.proofs.Faults.{no-fault}
 use Rattle.ept_trial.proofs.Outcomes.{begins, built-trial, refused-memory}
 use Rattle.ept_trial.proofs.building.build_files.Goals as goal
 
--- the files of the room tell what they hold
+-- the contents of the room's files are visible
 abbrev held-by : SureFile → Option (List ℕ)
 held-by file = Some (file_bytes_of file)
 

@@ -1,9 +1,9 @@
 use Rattle.std.proofs.Common.{◌≡◌, ◌+◌, ap, arith}
 use Rattle.std.specs.List.{sum_by}
 use Rattle.ept_slots.specs.Seating.{key_of}
-use Rattle.ept_slots_tests.specs.Trade.{number}
-use Rattle.ept_slots_tests.proofs.Trading.{joins, ends}
-use Rattle.ept_slots_tests.proofs.trade.finish.Goals as goal
+use Rattle.ept_table_tests.specs.Trade.{number}
+use Rattle.ept_table_tests.proofs.Trading.{joins, ends}
+use Rattle.ept_table_tests.proofs.trade.finish.Goals as goal
 
 pub join-requires-clause-rule : goal.join-requires-clause-rule
 join-requires-clause-rule c = let half : c.args.trader.me.0.parts ≡ 2147483648 = c.requires.halves.0 in joins _ _ _ _ _ _ (omega arith)

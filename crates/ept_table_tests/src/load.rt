@@ -2,8 +2,8 @@
 ghost use Rattle.std.specs.Prelude.{◌≡◌, ◌+◌, ◌<◌, ◌≤◌, length, IfOk, ⊤};
 ghost use Rattle.std.specs.List.{sum_by};
 ghost use Rattle.ept_slots.specs.Seating.{view, count_of, IsSeatOf};
-ghost use Rattle.ept_slots_tests.specs.Trade.{one};
-ghost use Rattle.ept_slots_tests.specs.Loads.{load_of, Anything, IsIdleWith};
+ghost use Rattle.ept_table_tests.specs.Trade.{one};
+ghost use Rattle.ept_table_tests.specs.Loads.{load_of, Anything, IsIdleWith};
 
 use atomic_table::{Join, Split};
 use ept_slots::{Ending, Give, Refused, SlotRule, SlotSeat, Slots, Take};

@@ -3,7 +3,7 @@ ghost use Rattle.std.specs.Prelude.{◌≡◌, ℕ, ◌+◌, ◌<◌, ◌≤◌,
 ghost use Rattle.std.specs.List.{sum_by};
 ghost use Rattle.ept_slots.specs.Views.{HoldsNothing};
 ghost use Rattle.ept_slots.specs.Seating.{view, count_of, key_of, IsSeatOf};
-ghost use Rattle.ept_slots_tests.specs.Trade.{AddsUp, one, KeepsNote, IsFreeWith, number};
+ghost use Rattle.ept_table_tests.specs.Trade.{AddsUp, one, KeepsNote, IsFreeWith, number};
 
 use atomic_table::{Join, Split};
 use ept_slots::{Draw, Ending, Give, Look, Note, Refused, SlotRule, SlotSeat, Slots, Take};

@@ -10,7 +10,7 @@ use Rattle.ept_slots.specs.Asks.{Takes, Gives, Notes, Looks, Draws, IsRefused, S
 use Rattle.ept_slots.specs.Seating.{Ended}
 use Rattle.ept_slots.proofs.Sums.{sum-put, sum-none}
 use Rattle.ept_slots.proofs.Holders.{each-put, each-last}
-use Rattle.ept_slots_tests.specs.Trade.{Known, carried_of, number, IsDone, AddsUp, KeepsNote}
+use Rattle.ept_table_tests.specs.Trade.{Known, carried_of, number, IsDone, AddsUp, KeepsNote}
 
 -- one view changes, and its note does not
 same-note : (total drawn drawn' : ℕ) (items : List ℕ) (views : List Known) (id : ℕ) (v w : Known) → AddsUp total drawn items views → At views id v → w.note ≡ v.note → w.parts ≡ v.parts → AddsUp total drawn' items (set views id w)

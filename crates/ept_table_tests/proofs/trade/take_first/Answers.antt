@@ -1,8 +1,8 @@
 use Rattle.std.proofs.Common.{◌+◌, ap, ◌∙◌, sym}
 use Rattle.std.specs.List.{sum_by}
-use Rattle.ept_slots_tests.specs.Trade.{number}
-use Rattle.ept_slots_tests.proofs.Trading.{ends, no-permits}
-use Rattle.ept_slots_tests.proofs.trade.take_first.Goals as goal
+use Rattle.ept_table_tests.specs.Trade.{number}
+use Rattle.ept_table_tests.proofs.Trading.{ends, no-permits}
+use Rattle.ept_table_tests.proofs.trade.take_first.Goals as goal
 
 pub new-requires-clause-permits : goal.new-requires-clause-permits
 new-requires-clause-permits c = no-permits c.args.items.items

@@ -1,6 +1,6 @@
 use Rattle.std.proofs.Common.{sym, ap, ◌∙◌, subst, ℕ, ◌<◌}
-use Rattle.ept_slots_tests.proofs.Trading.{takes, gives}
-use Rattle.ept_slots_tests.proofs.trade.trade.Goals as goal
+use Rattle.ept_table_tests.proofs.Trading.{takes, gives}
+use Rattle.ept_table_tests.proofs.trade.trade.Goals as goal
 
 pub take-found-requires-clause-rule : goal.take-found-requires-clause-rule
 take-found-requires-clause-rule g c = takes _ _ _ _ _

@@ -1,7 +1,7 @@
 use Rattle.std.proofs.Common.{◌≡◌, ap, ◌∙◌, arith}
 use Rattle.ept_slots.specs.Views.{whole}
-use Rattle.ept_slots_tests.proofs.Trading.{splits, no-permits}
-use Rattle.ept_slots_tests.proofs.trade.trade_apart.Goals as goal
+use Rattle.ept_table_tests.proofs.Trading.{splits, no-permits}
+use Rattle.ept_table_tests.proofs.trade.trade_apart.Goals as goal
 
 pub new-requires-clause-permits : goal.new-requires-clause-permits
 new-requires-clause-permits g c = no-permits c.args.items.items

@@ -1,6 +1,6 @@
 use Rattle.std.proofs.Common.{sym, ap, ◌∙◌, subst, ℕ, ◌<◌}
-use Rattle.ept_slots_tests.proofs.Trading.{takes, gives, notes}
-use Rattle.ept_slots_tests.proofs.trade.try_once.Goals as goal
+use Rattle.ept_table_tests.proofs.Trading.{takes, gives, notes}
+use Rattle.ept_table_tests.proofs.trade.try_once.Goals as goal
 
 pub try_take-requires-clause-rule : goal.try_take-requires-clause-rule
 try_take-requires-clause-rule c = takes _ _ _ _ _

@@ -1,8 +1,8 @@
 use Rattle.std.proofs.Common.{◌≡◌, ◌+◌, ap, ◌∙◌, arith}
 use Rattle.std.specs.List.{sum_by}
-use Rattle.ept_slots_tests.specs.Trade.{number}
-use Rattle.ept_slots_tests.proofs.Trading.{looks, draws, refuses, ends, kept-note, first-drawn, no-permits}
-use Rattle.ept_slots_tests.proofs.trade.draw_twice.Goals as goal
+use Rattle.ept_table_tests.specs.Trade.{number}
+use Rattle.ept_table_tests.proofs.Trading.{looks, draws, refuses, ends, kept-note, first-drawn, no-permits}
+use Rattle.ept_table_tests.proofs.trade.draw_twice.Goals as goal
 
 pub new-requires-clause-permits : goal.new-requires-clause-permits
 new-requires-clause-permits c = no-permits c.args.items.items

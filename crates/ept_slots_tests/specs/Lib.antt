@@ -1,2 +1,0 @@
-pub mod Trade
-pub mod Loads
