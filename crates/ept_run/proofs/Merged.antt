@@ -1,6 +1,6 @@
 -- What a merge comes to, and how it ends.
 use Rattle.std.proofs.Common.{◌≡◌, ◌≢◌, ◌⊎◌, inl, inr, ⊎_elim, ℕ, ◌≤◌, List, Option, None, Some, Ok, Err, refl, sym, ◌∙◌, ap, subst, arith}
-use Rattle.std.specs.Prelude.{◌↔◌, Result, Vec, IfOk, IfErr, OnOk, ⊤}
+use Rattle.std.specs.Prelude.{◌↔◌, Result, Vec, IsOk, IfOk, IfErr, OnOk, ⊤}
 use Rattle.std.specs.Io.KnownBytes.{Appends}
 use Rattle.std.specs.declared.alloc.Global.{Global}
 use Rattle.ept_base.specs.Devices.{AppendsPrefix}
@@ -26,15 +26,20 @@ use Rattle.ept_command.specs.declared.refusal.PartRefusal.TheVariants.{AsBuild, 
 use Rattle.ept_command.specs.declared.refusal.MergeRefusal.{MergeRefusal}
 use Rattle.ept_command.specs.declared.refusal.MergeRefusal.TheVariants.{AsPart, HasCheckpoint, NoPart, PartDiffers, PartDamaged}
 use Rattle.ept_command.specs.Statuses.{status_of}
+use Rattle.ept_command.specs.Words.{IsMerge}
 use Rattle.ept_command.specs.Configurations.{HasConfiguration, ConfigurationIsRefused, IsOfConfiguration}
+use Rattle.ept_command.proofs.PartTexts.{merge_once}
+use Rattle.ept_class.specs.Laws.{MembersMakeTheSet}
 use Rattle.ept_run.specs.Errors.{of_build}
+use Rattle.ept_run.specs.Requests.{IsMergeReadyAt, IsDefinite}
 use Rattle.ept_run.specs.Lines.{summary_text, line_of}
-use Rattle.ept_run.specs.Answers.{Says, IsSaid, IsSaidFor, IsReported}
+use Rattle.ept_run.specs.Answers.{Yields, AsksMerge, Says, IsSaid, IsSaidFor, IsReported}
 use Rattle.ept_run.specs.Parts.{IsPartReported}
-use Rattle.ept_run.specs.Merges.{Outcome, as_build, of_merge, merge_status, merge_line, part_text, IsFaultOfParts, IsEarlyMerge, AfterMerge, OfSound, IsMergedAt, MergeIsRefused, AreOwnAt, ComesToMerge, SaysMerge, merge_failure, FailsAsMerge, IsMergeReported, EndsMerge}
+use Rattle.ept_run.specs.Merges.{Outcome, as_build, of_merge, merge_status, merge_line, part_text, FailsMerge, ReportsMerge, IsFaultOfParts, IsEarlyMerge, AfterMerge, OfSound, IsMergedAt, MergeIsRefused, MergingIsRefusedAt, AreOwnAt, ComesToMerge, SaysMerge, merge_failure, FailsAsMerge, IsMergeReported, EndsMerge}
 use Rattle.ept_run.proofs.Asked.{told_as, told_always}
 use Rattle.ept_run.proofs.Parted.{tells_both, fails_at, said_not}
-use Rattle.ept_run.proofs.Refused.{one_config}
+use Rattle.ept_run.proofs.Ready.{unread_fails, unread_cause, accepted_after, ready_sound}
+use Rattle.ept_run.proofs.Refused.{one_config, not_refused}
 use Rattle.ept_run.proofs.Runs.{usage_only, device_only, configuration_only, never_done}
 
 -- ---- refusals
@@ -44,6 +49,9 @@ inside a b same = cc
 
 merge_inside : (a b : MergeRefusal) → ◌≡◌ {A = Outcome} (Err a) (Err b) → a ≡ b
 merge_inside a b same = cc
+
+is_ok : (summary : Summary) → IsOk {T = Summary} {E = MergeRefusal} (Ok summary)
+is_ok summary = refl
 
 ok_is_no_err : (summary : Summary) (r : MergeRefusal) → ◌≡◌ {A = Outcome} (Ok summary) (Err r) → ⊥
 ok_is_no_err summary r same = cc
@@ -243,7 +251,7 @@ IsDevice Memory = ⊥
 abbrev WhichDevice : BuildError → Refusal → Type 0
 WhichDevice e r = ((e ≡ build.StoreFault) × (r ≡ StoreFault)) ⊎ ((e ≡ build.SourceFault) × (r ≡ SourceFault)) ⊎ ((e ≡ build.SpillFault) × (r ≡ SpillFault))
 
-build_words : (e : BuildError) → of_build e ≢ Usage
+pub build_words : (e : BuildError) → of_build e ≢ Usage
 build_words build.StoreFault is = cc
 build_words build.SpillFault is = cc
 build_words (build.SpillDamaged kept found at) is = cc
@@ -332,7 +340,23 @@ between_of held all config shelf later store mid may after start same begins ste
     by None is steps merged = absurd steps
     by (Some between) is sound merged = (between, record { spills = begins.spills; shelf_told = same ∙ begins.shelf_told; told = is; settled = settled; sound = sound }, merged)
 
+-- a fact of the shelf's files and the store's, of those that they are
+pub of_both : (P : Files → Files → Type 0) (files old : Option Files) (all start : Files) → files ≡ Some all → old ≡ Some start → Tells (λ a. Tells (λ s. P a s) old) files → P all start
+of_both P files old all start told stored tells =
+    let at_all : Tells (λ s. P all s) old = subst (λ (o : Option Files). Tells (λ a. Tells (λ s. P a s) old) o) told tells in
+    subst (λ (o : Option Files). Tells (λ s. P all s) o) stored at_all
+
 module _ (path parts : List ℕ) (old : Option Files) (Begins : Files → Files → Type 0) (new : Option Files) (flushed same source store room : Type 0) where
+  -- what comes of parts that are ready, of a merge that is refused, and of a configuration that is
+  abbrev Ready : Outcome → Files → Files → Type 0
+  Ready outcome all start = Begins all start → IsMergeReadyAt all start path parts → IsOk outcome ⊎ FailsMerge outcome
+
+  abbrev Comes : Outcome → Files → Files → Type 0
+  Comes outcome all start = (error : MergeError) → MergingIsRefusedAt all start path parts error → ReportsMerge (of_merge error) outcome ⊎ FailsMerge outcome
+
+  abbrev Unread : Outcome → Files → Type 0
+  Unread outcome all = (cause : Refusal) → IsDefinite cause → ConfigurationIsRefused all path cause → (outcome ≡ Err (as_build cause)) ⊎ FailsMerge outcome
+
   -- the configuration can't be read
   pub unread_merge : (files : Option Files) (r : Refusal) → IsOfConfiguration r → Tells (λ all. ConfigurationIsRefused all path r) files → same → (r ≡ SourceFault → source)
       → ComesToMerge path parts (Err (as_build r)) files old Begins new flushed same source store room
@@ -340,6 +364,12 @@ module _ (path parts : List ℕ) (old : Option Files) (Begins : Files → Files 
     merged = tt;
     settled = tt;
     refused = told_as (λ all. ConfigurationIsRefused all path r) (λ all. MergeIsRefused all old Begins path parts (as_build r)) files (λ all is. inl (r, refl, is)) refused;
+    ready = told_as (λ all. ConfigurationIsRefused all path r) (λ all. Tells (λ start. Ready (Err (as_build r)) all start) old) files
+        (λ all is. told_always (λ start. Ready (Err (as_build r)) all start) old (λ start begins asked. inr (unread_fails all path r asked.config is asked.configures))) refused;
+    comes = told_as (λ all. ConfigurationIsRefused all path r) (λ all. Tells (λ start. Comes (Err (as_build r)) all start) old) files
+        (λ all is. told_always (λ start. Comes (Err (as_build r)) all start) old (λ start error asked. inr (unread_fails all path r asked.config is asked.configures))) refused;
+    unread = told_as (λ all. ConfigurationIsRefused all path r) (λ all. Unread (Err (as_build r)) all) files
+        (λ all is cause definite also. unread_cause all path r cause is definite also) refused;
     own = told_always (λ all. Tells (λ start. AreOwnAt all start path parts → ¬ IsFaultOfParts (as_build r)) old) files (λ all. told_always (λ start. AreOwnAt all start path parts → ¬ IsFaultOfParts (as_build r)) old (λ start own. never_of_parts r));
     early = λ is. unchanged;
     sources = λ is. cause (inside r SourceFault (merge_inside (as_build r) (as_build SourceFault) is));
@@ -357,16 +387,42 @@ module _ (path parts : List ℕ) (old : Option Files) (Begins : Files → Files 
         by (Some all) None is told has = tt
         by (Some all) (Some start) is told has = λ asked. own all start is told (subst (λ (c : Config). merging.AreOwnParts all c start parts) (one_config all path asked.config config asked.configures has) asked.own)
 
+    -- what is asked of the configuration that the shelf has is asked of this one
+    ready_asked : (outcome : Outcome) → ((all start : Files) → files ≡ Some all → old ≡ Some start → Begins all start → merging.AreReady all start config parts → IsOk outcome ⊎ FailsMerge outcome) → Tells (λ all. Tells (λ start. Ready outcome all start) old) files
+    ready_asked outcome comes = by files old refl refl configures
+      where
+        by : (f o : Option Files) → files ≡ f → old ≡ o → Tells (λ all. HasConfiguration all path config) f → Tells (λ all. Tells (λ start. Ready outcome all start) o) f
+        by None o is told has = tt
+        by (Some all) None is told has = tt
+        by (Some all) (Some start) is told has = λ begins asked. comes all start is told begins (subst (λ (c : Config). merging.AreReady all start c parts) (one_config all path asked.config config asked.configures has) asked.ready)
+
+    comes_asked : (outcome : Outcome) → ((all start : Files) → files ≡ Some all → old ≡ Some start → (error : MergeError) → merging.IsDefinite error → merging.IsRefused all start config parts error → ReportsMerge (of_merge error) outcome ⊎ FailsMerge outcome) → Tells (λ all. Tells (λ start. Comes outcome all start) old) files
+    comes_asked outcome comes = by files old refl refl configures
+      where
+        by : (f o : Option Files) → files ≡ f → old ≡ o → Tells (λ all. HasConfiguration all path config) f → Tells (λ all. Tells (λ start. Comes outcome all start) o) f
+        by None o is told has = tt
+        by (Some all) None is told has = tt
+        by (Some all) (Some start) is told has = λ error asked. comes all start is told error asked.definite (subst (λ (c : Config). merging.IsRefused all start c parts error) (one_config all path asked.config config asked.configures has) asked.refused)
+
+    -- it is not refused
+    is_read : (outcome : Outcome) → Tells (λ all. Unread outcome all) files
+    is_read outcome = told_as (λ all. HasConfiguration all path config) (λ all. Unread outcome all) files (λ all has cause definite refused. absurd (not_refused all path config has cause definite refused)) configures
+
     -- the parts are not merged
     pub unmerged : (r : MergeRefusal) (error : MergeError) → r ≡ of_merge error → Tells (λ all. Tells (λ start. merging.IsRefused all start config parts error) old) files
+        → ((all start : Files) → files ≡ Some all → old ≡ Some start → merging.AreReady all start config parts → IsOk {T = Summary} {E = MergeRefusal} (Err r) ⊎ FailsMerge {A = Summary} (Err r))
+        → ((all start : Files) → files ≡ Some all → old ≡ Some start → (error : MergeError) → merging.IsDefinite error → merging.IsRefused all start config parts error → ReportsMerge {A = Summary} (of_merge error) (Err r) ⊎ FailsMerge {A = Summary} (Err r))
         → ((all start : Files) → files ≡ Some all → old ≡ Some start → merging.AreOwnParts all config start parts → ¬ IsFaultOfParts r)
         → (IsEarlyMerge r → same) → (r ≡ as_build SourceFault → source) → (r ≡ as_build StoreFault → store)
         → ComesToMerge path parts (Err r) files old Begins new flushed same source store room
-    unmerged r error r_is refused own early sources stores = record {
+    unmerged r error r_is refused ready comes own early sources stores = record {
       merged = tt;
       settled = tt;
       refused = tells_both (λ all. HasConfiguration all path config) (λ all. Tells (λ start. merging.IsRefused all start config parts error) old) (λ all. MergeIsRefused all old Begins path parts r) files
           (λ all has is. inr (inl (config, error, r_is, has, is))) configures refused;
+      ready = ready_asked (Err r) (λ all start told stored begins is. ready all start told stored is);
+      comes = comes_asked (Err r) comes;
+      unread = is_read (Err r);
       own = own_asked r own;
       early = early;
       sources = λ is. sources (merge_inside r (as_build SourceFault) is);
@@ -375,7 +431,7 @@ module _ (path parts : List ℕ) (old : Option Files) (Begins : Files → Files 
     }
 
     -- they are, and the build that follows comes to this
-    module _ (accepted : Tells (λ all. Tells (λ start. merging.WereMerged all start config parts) old) files) where
+    module _ (accepted : Tells (λ all. Tells (λ start. merging.WereMerged all start config parts) old) files) (never : (all start : Files) → files ≡ Some all → old ≡ Some start → (error : MergeError) → merging.IsDefinite error → merging.IsRefused all start config parts error → ⊥) where
       pub built_after : (summary : Summary) → flushed
           → ((all start : Files) → files ≡ Some all → Begins all start → merging.AreSoundParts all start parts → Tells (λ after. AfterMerge all config (λ between. building.IsBuilt all config between summary after)) new)
           → ComesToMerge path parts (Ok summary) files old Begins new flushed same source store room
@@ -383,6 +439,9 @@ module _ (path parts : List ℕ) (old : Option Files) (Begins : Files → Files 
         merged = by files refl configures accepted;
         settled = settled;
         refused = tt;
+        ready = ready_asked (Ok summary) (λ all start told stored begins ready. inl (is_ok summary));
+        comes = comes_asked (Ok summary) (λ all start told stored error definite refused. absurd (never all start told stored error definite refused));
+        unread = is_read (Ok summary);
         own = tt;
         early = tt;
         sources = λ is. absurd (ok_is_no_err summary (as_build SourceFault) is);
@@ -395,13 +454,17 @@ module _ (path parts : List ℕ) (old : Option Files) (Begins : Files → Files 
           by (Some all) is has were = record { config = config; configures = has; accepted = were; built = λ start begins sound. built all start is begins sound }
 
       pub unbuilt_after : (r : MergeRefusal) (error : BuildError) → r ≡ as_build (of_build error)
+          → ((all start : Files) → files ≡ Some all → old ≡ Some start → Begins all start → merging.AreReady all start config parts → IsOk {T = Summary} {E = MergeRefusal} (Err r) ⊎ FailsMerge {A = Summary} (Err r))
           → ((all start : Files) → files ≡ Some all → Begins all start → merging.AreSoundParts all start parts → AfterMerge all config (λ between. building.IsRefused all config between error))
           → (r ≡ as_build SourceFault → source) → (r ≡ as_build StoreFault → store) → (r ≡ as_build SpillFault → room)
           → ComesToMerge path parts (Err r) files old Begins new flushed same source store room
-      unbuilt_after r error r_is refused sources stores spills = record {
+      unbuilt_after r error r_is ready refused sources stores spills = record {
         merged = tt;
         settled = tt;
         refused = by files refl configures;
+        ready = ready_asked (Err r) ready;
+        comes = comes_asked (Err r) (λ all start told stored error definite refused. absurd (never all start told stored error definite refused));
+        unread = is_read (Err r);
         own = own_asked r (λ all start told stored own. subst (λ (x : MergeRefusal). ¬ IsFaultOfParts x) (sym r_is) (never_of_parts (of_build error)));
         early = λ is. absurd (late (subst IsEarlyMerge r_is is));
         sources = λ is. sources (merge_inside r (as_build SourceFault) is);
@@ -418,20 +481,26 @@ module _ (path parts : List ℕ) (old : Option Files) (Begins : Files → Files 
 
 module _ (path parts : List ℕ) (old : Option Files) (Begins : Files → Files → Type 0) (new : Option Files) (flushed same source store room : Type 0) (files : Option Files) (config : Config) (configures : Tells (λ all. HasConfiguration all path config) files) where
   -- what comes of the build that follows, which begins as Again says
-  pub came_after : Tells (λ all. Tells (λ start. merging.WereMerged all start config parts) old) files → (Again : Files → Files → Type 0) → ((all between : Files) → Again all between → IsSound all between)
+  pub came_after : Tells (λ all. Tells (λ start. merging.WereMerged all start config parts) old) files → ((all start : Files) → files ≡ Some all → old ≡ Some start → (error : MergeError) → merging.IsDefinite error → merging.IsRefused all start config parts error → ⊥)
+      → (Again : Files → Files → Type 0) → ((all between : Files) → Again all between → IsSound all between)
       → ((all start : Files) → files ≡ Some all → Begins all start → merging.AreSoundParts all start parts → (between : Files) × Again all between × merging.HasMerged all config between)
       → (outcome : Outcome) → OnOk outcome flushed
       → ((all start : Files) → Again all start → IfOk outcome (λ summary. Tells (building.IsBuilt all config start summary) new))
       → IfErr outcome (λ r. (error : BuildError) × (r ≡ as_build (of_build error)) × ((all start : Files) → Again all start → building.IsRefused all config start error))
+      → ((all start : Files) → Again all start → building.IsAccepted all config start → IsOk outcome ⊎ FailsMerge outcome)
       → (outcome ≡ Err (as_build SourceFault) → source) → (outcome ≡ Err (as_build StoreFault) → store) → (outcome ≡ Err (as_build SpillFault) → room)
       → ComesToMerge path parts outcome files old Begins new flushed same source store room
-  came_after accepted Again sound_of again (Ok summary) settled built refused sources stores spills =
-      built_after path parts old Begins new flushed same source store room files config configures accepted summary settled (λ all start told begins sound.
+  came_after accepted never Again sound_of again (Ok summary) settled built refused accepts sources stores spills =
+      built_after path parts old Begins new flushed same source store room files config configures accepted never summary settled (λ all start told begins sound.
       let m = again all start told begins sound in
       told_as (λ after. building.IsBuilt all config m.0 summary after) (λ after. AfterMerge all config (λ between. building.IsBuilt all config between summary after)) new
       (λ after is. record { between = m.0; merged = m.2; sound = sound_of all m.0 m.1; holds = is }) (built all m.0 m.1))
-  came_after accepted Again sound_of again (Err r) settled built refused sources stores spills =
-      unbuilt_after path parts old Begins new flushed same source store room files config configures accepted r refused.0 refused.1 (λ all start told begins sound.
+  came_after accepted never Again sound_of again (Err r) settled built refused accepts sources stores spills =
+      unbuilt_after path parts old Begins new flushed same source store room files config configures accepted never r refused.0 refused.1
+      (λ all start told stored begins ready.
+      let m = again all start told begins (ready_sound all start config parts ready.own) in
+      accepts all m.0 m.1 (accepted_after all start m.0 config parts m.2 ready))
+      (λ all start told begins sound.
       let m = again all start told begins sound in
       record { between = m.0; merged = m.2; sound = sound_of all m.0 m.1; holds = refused.2 all m.0 m.1 })
       (λ is. sources (ap (λ (x : MergeRefusal). Err x) is)) (λ is. stores (ap (λ (x : MergeRefusal). Err x) is)) (λ is. spills (ap (λ (x : MergeRefusal). Err x) is))
@@ -547,11 +616,20 @@ module _ (status : ℕ) (why_not : Option Failure) (old new : Option (List ℕ))
     merge_rose outcome comes (inl reported) is = device_of outcome comes reported.says is
     merge_rose outcome comes (inr reported) is = absurd (omega (arith, reported.says.0, is))
 
+    abbrev lack : Outcome
+    lack = Err (as_build Memory)
+
+    lack_fails : FailsMerge lack
+    lack_fails = inr (inr (inr refl))
+
     lacking : ComesToMerge path parts (Err (as_build Memory)) files before Begins after flushed same source store room
     lacking = record {
       merged = tt;
       settled = tt;
       refused = told_always (λ all. MergeIsRefused all before Begins path parts (as_build Memory)) files (λ all. inl (Memory, refl, tt));
+      ready = told_always (λ all. Tells (λ start. Begins all start → IsMergeReadyAt all start path parts → IsOk lack ⊎ FailsMerge lack) before) files (λ all. told_always (λ start. Begins all start → IsMergeReadyAt all start path parts → IsOk lack ⊎ FailsMerge lack) before (λ start begins asked. inr lack_fails));
+      comes = told_always (λ all. Tells (λ start. (error : MergeError) → MergingIsRefusedAt all start path parts error → ReportsMerge (of_merge error) lack ⊎ FailsMerge lack) before) files (λ all. told_always (λ start. (error : MergeError) → MergingIsRefusedAt all start path parts error → ReportsMerge (of_merge error) lack ⊎ FailsMerge lack) before (λ start error asked. inr lack_fails));
+      unread = told_always (λ all. (cause : Refusal) → IsDefinite cause → ConfigurationIsRefused all path cause → (lack ≡ Err (as_build cause)) ⊎ FailsMerge lack) files (λ all cause definite refused. inr lack_fails);
       own = told_always (λ all. Tells (λ start. AreOwnAt all start path parts → ¬ IsFaultOfParts (as_build Memory)) before) files (λ all. told_always (λ start. AreOwnAt all start path parts → ¬ IsFaultOfParts (as_build Memory)) before (λ start own. never_of_parts Memory));
       early = λ is. absurd (not_bad is.0 is.1);
       sources = λ is. absurd (not_source (inside Memory SourceFault (merge_inside (as_build Memory) (as_build SourceFault) is)));
@@ -581,6 +659,33 @@ pub merge_unless_done : (outcome : Outcome) (status : ℕ) (why_not : Option Fai
     → IsMergeReported outcome status why_not old new failed ⊎ IsMergeReported (Err (as_build Memory)) status why_not old new failed → (status ≡ 0) ↔ (why_not ≡ None)
 merge_unless_done outcome status why_not old new failed (inl reported) = reported.unless_done
 merge_unless_done outcome status why_not old new failed (inr reported) = reported.unless_done
+
+-- ---- what can be done
+
+module _ (status : ℕ) (old new : Option (List ℕ)) (failed : Type 0) where
+  -- parts that are ready are merged and built, or a device fails, or memory runs out
+  pub merge_yields : (outcome : Outcome) → IsOk outcome ⊎ FailsMerge outcome → SaysMerge outcome status old new failed → Yields 0 status
+  merge_yields (Ok summary) came (inl ok) = inl ok.0
+  merge_yields (Ok summary) came (inr cut) = inr (inl cut.0)
+  merge_yields (Err r) (inl ok) says = absurd cc
+  merge_yields (Err r) (inr fails) says = by fails
+    where
+      by : FailsMerge {A = Summary} (Err r) → Yields 0 status
+      by (inl is) = inr (inl (says.0 ∙ ap merge_status (merge_inside r (as_build SourceFault) is)))
+      by (inr (inl is)) = inr (inl (says.0 ∙ ap merge_status (merge_inside r (as_build StoreFault) is)))
+      by (inr (inr (inl is))) = inr (inl (says.0 ∙ ap merge_status (merge_inside r (as_build SpillFault) is)))
+      by (inr (inr (inr is))) = inr (inr (says.0 ∙ ap merge_status (merge_inside r (as_build Memory) is)))
+
+-- of words that ask for this merge
+pub merge_comes : (words : List (List ℕ)) (path out parts : List ℕ) → IsMerge words path out parts → MembersMakeTheSet → (files before : Option Files) (Begins : Files → Files → Type 0) (after : Option Files) (flushed same : Type 0) (status : ℕ) (old new : Option (List ℕ)) (source store room failed : Type 0)
+    → EndsMerge path parts status files before Begins after flushed same old new source store room failed
+    → (all start : Files) → files ≡ Some all → before ≡ Some start → Begins all start → AsksMerge words (λ p q. IsMergeReadyAt all start p q) → Yields 0 status
+merge_comes words path out parts is once files before Begins after flushed same status old new source store room failed ends all start told stored begins asks =
+    let one = merge_once once words asks.path asks.out path out asks.parts parts asks.words_are is in
+    let mine : IsMergeReadyAt all start path parts = subst (λ (p : List ℕ). IsMergeReadyAt all start p parts) one.0 (subst (λ (q : List ℕ). IsMergeReadyAt all start asks.path q) one.1 asks.holds) in
+    let comes : Begins all start → IsMergeReadyAt all start path parts → IsOk ends.outcome ⊎ FailsMerge ends.outcome =
+    of_both (λ a s. Begins a s → IsMergeReadyAt a s path parts → IsOk ends.outcome ⊎ FailsMerge ends.outcome) files before all start told stored ends.comes_to.ready in
+    merge_yields status old new failed ends.outcome (comes begins mine) ends.says
 
 -- ends of the same words are the same
 pub merge_same : (path other parts others : List ℕ) (status : ℕ) (why_not : Option Failure) (files before : Option Files) (Begins : Files → Files → Type 0) (after : Option Files) (flushed same : Type 0) (old new : Option (List ℕ)) (source store room failed : Type 0)

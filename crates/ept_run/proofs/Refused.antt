@@ -71,7 +71,7 @@ err_same x y same = cc
 differ : {A E : Type 0} (x : A) (y : E) → ◌≡◌ {A = Result A E} (Ok x) (Err y) → ⊥
 differ x y same = cc
 
-is_err : {A E : Type 0} (r : Result A E) (e : E) → IsErrAnd r (λ x. x ≡ e) → r ≡ Err e
+pub is_err : {A E : Type 0} (r : Result A E) (e : E) → IsErrAnd r (λ x. x ≡ e) → r ≡ Err e
 is_err (Ok x) e h = absurd h
 is_err (Err x) e h = ap Err h
 
@@ -158,25 +158,6 @@ module _ (all : Files) (path : List ℕ) where
   came_before SpillFault r is definite why = absurd is
   came_before SpillDamaged r is definite why = absurd is
 
-  -- it has no build
-  pub not_accepted : {A : Type 0} (answer : Result A Refusal) (e : Refusal) (start : Files) → answer ≡ Err e → ConfigurationIsRefused all path e → IsAcceptedAt all start path → IsOk answer ⊎ Fails answer
-  not_accepted answer (BadConfiguration e) start err is asked = absurd (not_both asked.config e asked.configures is)
-  not_accepted answer SourceFault start err is asked = inr (inl err)
-  not_accepted answer Memory start err is asked = inr (inr (inr (inr err)))
-  not_accepted answer Usage start err is asked = absurd is
-  not_accepted answer (BadLas source fault) start err is asked = absurd is
-  not_accepted answer (OutOfBounds source number) start err is asked = absurd is
-  not_accepted answer NoBounds start err is asked = absurd is
-  not_accepted answer (SourceChanged source number) start err is asked = absurd is
-  not_accepted answer (TooManyPoints source) start err is asked = absurd is
-  not_accepted answer TooManyNodes start err is asked = absurd is
-  not_accepted answer (Differs field) start err is asked = absurd is
-  not_accepted answer (BadCheckpoint letter) start err is asked = absurd is
-  not_accepted answer (TileDamaged key) start err is asked = absurd is
-  not_accepted answer StoreFault start err is asked = absurd is
-  not_accepted answer SpillFault start err is asked = absurd is
-  not_accepted answer SpillDamaged start err is asked = absurd is
-
   -- why a configuration is refused is why its build is
   pub refused_before : (Begins : Files → Files → Type 0) (e : Refusal) → ConfigurationIsRefused all path e → BuildIsRefused all Begins path e
   refused_before Begins (BadConfiguration e) is = is
@@ -200,7 +181,7 @@ module _ (all : Files) (path : List ℕ) where
 
   module _ (config : Config) (configures : HasConfiguration all path config) where
     -- then it is not refused
-    not_refused : (r : Refusal) → IsDefinite r → ConfigurationIsRefused all path r → ⊥
+    pub not_refused : (r : Refusal) → IsDefinite r → ConfigurationIsRefused all path r → ⊥
     not_refused (BadConfiguration e) definite why = not_both config e configures why
     not_refused Usage definite why = why
     not_refused (BadLas source fault) definite why = why
@@ -459,7 +440,7 @@ module _ (files : Option Files) (path : List ℕ) {A : Type 0} (answer : Result 
   refused_told all told = subst (λ (o : Option Files). Tells (λ all. ConfigurationIsRefused all path e) o) told refused
 
   -- it is none, so it is refused for want of memory or a fault of the shelf
-  only_fails : (all : Files) (config : Config) → files ≡ Some all → HasConfiguration all path config → Fails answer
+  pub only_fails : (all : Files) (config : Config) → files ≡ Some all → HasConfiguration all path config → Fails answer
   only_fails all config told has = by e is (refused_told all told)
     where
       by : (r : Refusal) → answer ≡ Err r → ConfigurationIsRefused all path r → Fails answer
@@ -479,18 +460,6 @@ module _ (files : Option Files) (path : List ℕ) {A : Type 0} (answer : Result 
       by StoreFault same why = absurd why
       by SpillFault same why = absurd why
       by SpillDamaged same why = absurd why
-
-  pub never_comes : {F : Type 0} (held : F → Option (List ℕ)) (store : Option Files) (may : Files → Type 0) (all start : Files) → building.BeginsWith held files store may all start → (r : Refusal) → ComesAt all start r path → (answer ≡ Err r) ⊎ Fails answer
-  never_comes held store may all start b r asked = inr (only_fails all asked.config b.shelf_told asked.configures)
-
-  pub never_differs : (store : Option Files) (all start : Files) → files ≡ Some all → store ≡ Some start → DiffersAt all start path → TellsDifference answer ⊎ Fails answer
-  never_differs store all start told stored asked = inr (only_fails all asked.config told asked.configures)
-
-  pub never_damaged : (store : Option Files) (all start : Files) → files ≡ Some all → store ≡ Some start → ComesToDamageAt all start path → TellsDamage answer ⊎ Fails answer
-  never_damaged store all start told stored asked = inr (only_fails all asked.config told asked.configures)
-
-  pub never_bad : (store : Option Files) (all start : Files) (letter : Letter) → files ≡ Some all → store ≡ Some start → IsBad start letter → IsConfigured all path → (answer ≡ Err (BadCheckpoint letter)) ⊎ Fails answer
-  never_bad store all start letter told stored bad asked = inr (only_fails all asked.0 told asked.1)
 
 -- a difference that is passed on comes as it came
 pub carried_difference : {A B : Type 0} (a : Result A Refusal) (b : Result B Refusal) (e : Refusal) → a ≡ Err e → IsErrAnd b (λ x. x ≡ e) → TellsDifference a ⊎ Fails a → TellsDifference b ⊎ Fails b

@@ -21,7 +21,7 @@ use Rattle.ept_command.specs.Words.{IsBuild, IsPart, IsMerge, IsInfo, IsQuery, I
 use Rattle.ept_command.specs.Statuses.{status_of}
 use Rattle.ept_run.specs.Lines.{summary_text, header_text, line_of}
 use Rattle.ept_command.specs.Configurations.{ConfigurationIsRefused}
-use Rattle.ept_run.specs.Requests.{HasBuilt, HasTold, HasTrial, HasHeader, IsAcceptedAt, IsDoneAt, IsPartAcceptedAt, AsksForBuild, BuildIsRefused, InfoIsRefused, IsOfStore, IsEarly}
+use Rattle.ept_run.specs.Requests.{HasBuilt, HasTold, HasTrial, HasHeader, IsAcceptedAt, IsDoneAt, IsPartAcceptedAt, IsMergeReadyAt, AsksForBuild, BuildIsRefused, InfoIsRefused, IsOfStore, IsEarly}
 
 -- this status, if no device failed and memory sufficed
 abbrev pub Yields : ℕ → ℕ → Type 0
@@ -252,10 +252,11 @@ YieldsDamage status old new failed =
 
 -- ---- what can be done
 
--- The devices tell, and what the words ask for can be done: a build that begins with sound files, and whose inputs are accepted or of which nothing is left to be done; a part whose inputs are accepted; a query, a selection or a check of complete files; the header of a file that has one; a trial.
+-- The devices tell, and what the words ask for can be done: a build that begins with sound files, and whose inputs are accepted or of which nothing is left to be done; a part whose inputs are accepted; a merge that begins with sound files, of parts that are all there and were made of its inputs with its configuration; a query, a selection or a check of complete files; the header of a file that has one; a trial.
 pub data CanBeDone (words : List (List ℕ)) (shelf store : Option Files) (Begins : Files → Files → Type 0) : Type 0 where
   a_build : (all start : Files) → Begins all start → AsksBuild words (λ path. IsAcceptedAt all start path ⊎ IsDoneAt all start path) → CanBeDone words shelf store Begins
   a_part : (all : Files) → shelf ≡ Some all → AsksPart words (λ path octants. IsPartAcceptedAt all path octants) → CanBeDone words shelf store Begins
+  a_merge : (all start : Files) → Begins all start → AsksMerge words (λ path parts. IsMergeReadyAt all start path parts) → CanBeDone words shelf store Begins
   of_dataset : (start : Files) (kept : Kept) (points : List Point) → store ≡ Some start → IsComplete kept points start → AsksDataset words → CanBeDone words shelf store Begins
   a_header : (all : Files) (header : Header) → shelf ≡ Some all → AsksInfo words (λ path. HasHeader all path header) → CanBeDone words shelf store Begins
   a_trial : AsksTrial words (λ _. ⊤) → CanBeDone words shelf store Begins

@@ -22,6 +22,7 @@ use Rattle.ept_build.specs.declared.summary.Summary.{Summary}
 use Rattle.ept_build.specs.Building as building
 use Rattle.ept_build.specs.Phases.{HasDamage}
 use Rattle.ept_part.specs.Making as part
+use Rattle.ept_merge.specs.Merging as merging
 use Rattle.ept_trial.specs.declared.trial.Trial.{Trial}
 use Rattle.ept_trial.specs.Trials.{IsTrialOf}
 use Rattle.ept_command.specs.Configurations.{HasConfiguration, HasBadConfiguration}
@@ -179,6 +180,14 @@ pub record IsPartAcceptedAt (files : Files) (path : List ℕ) (octants : ℕ) : 
   pub config : Config
   pub configures : HasConfiguration files path config
   pub accepted : part.IsAccepted files config octants
+
+-- ---- a merge of parts
+
+-- it is a configuration, and the parts are ready to be merged
+pub record IsMergeReadyAt (files start : Files) (path parts : List ℕ) : Type 0 where
+  pub config : Config
+  pub configures : HasConfiguration files path config
+  pub ready : merging.AreReady files start config parts
 
 -- ---- what is known of a LAS file
 
