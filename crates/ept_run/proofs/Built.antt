@@ -1,4 +1,4 @@
--- How a build of the configuration of a path comes out follows from how the configuration is read, and from how its build comes out.
+-- How a build of the configuration of a path comes out, from how the configuration is read and how its build ends.
 use Rattle.std.proofs.Common.{◌≡◌, ◌⊎◌, inl, inr, ℕ, List, Option, Some, Ok, Err, refl, sym, subst}
 use Rattle.std.specs.Prelude.{Result, Vec, IsOk, IsErrAnd, IfErr}
 use Rattle.std.specs.declared.alloc.Global.{Global}

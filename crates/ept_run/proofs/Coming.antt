@@ -1,4 +1,4 @@
--- Where no device fails, what the words ask for is done, or memory runs out.
+-- What the words ask for is done, unless a device fails or memory runs out.
 use Rattle.std.proofs.Common.{◌≡◌, ◌⊎◌, inl, inr, ℕ, List, Option, None, Some, Ok, Err, refl, sym, subst}
 use Rattle.std.specs.Prelude.{Result, length}
 use Rattle.ept_base.specs.Files.{Files}
@@ -23,7 +23,7 @@ use Rattle.ept_run.proofs.Asked.{of_build, build_or_info}
 use Rattle.ept_run.proofs.Checked.{check_yields}
 use Rattle.ept_run.proofs.Tried.{trial_or_build, trial_or_info}
 
--- a query of complete files, or a selection from them, answers, or a device fails, or memory runs out
+-- a query of complete files, or a selection from them, succeeds, unless a device fails or memory runs out
 whole_devices : (sift : Option Sift) (kept : Kept) (points : List Point) (area : Box3) (first last : ℕ) (old new : Option (List ℕ)) (error : QueryError)
     → GivesWhole sift kept points area first last old new (Err error) → IsDevices error
 whole_devices None kept points area first last old new error whole = whole.1

@@ -323,7 +323,7 @@ built_spill e is = by (build_device e SpillFault (inside (of_build e) SpillFault
     by (inr (inl (same, other))) = absurd cc
     by (inr (inr (same, other))) = same
 
--- a refusal inside an answer
+-- a refusal inside a result
 pub answer_inside : {A : Type 0} (a b : MergeRefusal) → ◌≡◌ {A = Result A MergeRefusal} (Err a) (Err b) → a ≡ b
 answer_inside a b same = cc
 
@@ -676,7 +676,7 @@ module _ (status : ℕ) (old new : Option (List ℕ)) (failed : Type 0) where
       by (inr (inr (inl is))) = inr (inl (says.0 ∙ ap merge_status (merge_inside r (as_build SpillFault) is)))
       by (inr (inr (inr is))) = inr (inr (says.0 ∙ ap merge_status (merge_inside r (as_build Memory) is)))
 
--- of words that ask for this merge
+-- for words that ask for this merge
 pub merge_comes : (words : List (List ℕ)) (path out parts : List ℕ) → IsMerge words path out parts → MembersMakeTheSet → (files before : Option Files) (Begins : Files → Files → Type 0) (after : Option Files) (flushed same : Type 0) (status : ℕ) (old new : Option (List ℕ)) (source store room failed : Type 0)
     → EndsMerge path parts status files before Begins after flushed same old new source store room failed
     → (all start : Files) → files ≡ Some all → before ≡ Some start → Begins all start → AsksMerge words (λ p q. IsMergeReadyAt all start p q) → Yields 0 status

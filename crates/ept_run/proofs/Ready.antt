@@ -1,4 +1,4 @@
--- Parts that are ready are merged and built, unless a device fails or memory runs out; and what refuses them is reported.
+-- Parts that are ready are merged and built, unless a device fails or memory runs out. What refuses them is reported.
 use Rattle.std.proofs.Common.{◌≡◌, ◌⊎◌, inl, inr, ⊎_elim, ℕ, ◌≤◌, List, [], Option, None, Some, Ok, Err, refl, sym, ◌∙◌, ap, subst, get_or}
 use Rattle.std.specs.Prelude.{Result, length, IsOk}
 use Rattle.std.proofs.lemmas.List.{append-nil}
@@ -201,7 +201,7 @@ module _ {A : Type 0} (result : Result A MergeRefusal) (x : A) (is : result ≡ 
 pub ready_sound : (all start : Files) (config : Config) (parts : List ℕ) → merging.AreOwnParts all config start parts → merging.AreSoundParts all start parts
 ready_sound all start config parts own = λ k d lt opens. let part = own k d lt opens in (part.0, part.1, part.2)
 
--- what is kept goes on from itself
+-- what is kept continues from itself
 as_kept : (kept : Kept) (f : Field) → IsAsKept kept kept f
 as_kept kept field.Scale = refl
 as_kept kept field.Offset = refl

@@ -32,7 +32,7 @@ use Rattle.ept_command.specs.Configurations.{HasConfiguration, HasBadConfigurati
 use Rattle.ept_run.specs.Requests.{IsAcceptedAt, IsDoneAt, IsBuiltAt, Comes, ComesAt, DiffersAt, ComesToDamageAt, HasDifference, IsOfStore, IsConfigured, HasSpilled, TellsDifference, TellsDamage, BuildIsRefused, IsDefinite, IsEarly, Fails}
 use Rattle.ept_config.proofs.FactsTell.{config_same}
 
--- a fact of a told thing gives another
+-- a fact of a visible thing gives another
 pub tells_as : {X : Type 0} (P Q : X → Type 0) (told : Option X) → ((x : X) → P x → Q x) → Tells P told → Tells Q told
 tells_as P Q None step p = tt
 tells_as P Q (Some x) step p = step x p
@@ -88,7 +88,7 @@ pub carried_comes : {A B : Type 0} (files : Option Files) (Why : Files → Refus
 carried_comes None Why a b e is_a is_b comes = tt
 carried_comes (Some all) Why a b e is_a is_b comes = λ r definite why. carried a b e r is_a (is_err b e is_b) (comes r definite why)
 
--- so does one of an answer that is accepted
+-- so does one of a command that is accepted
 no_ok : {A : Type 0} (a : Result A Refusal) (e : Refusal) → a ≡ Err e → IsOk a → ⊥
 no_ok (Ok x) e same ok = differ x e same
 no_ok (Err x) e same ok = cc
@@ -177,7 +177,7 @@ module _ (all : Files) (path : List ℕ) where
   refused_before Begins SpillFault is = absurd is
   refused_before Begins SpillDamaged is = absurd is
 
-  -- ---- the configuration is read, and its build answers
+  -- ---- the configuration is read, and its build returns
 
   module _ (config : Config) (configures : HasConfiguration all path config) where
     -- then it is not refused
@@ -227,7 +227,7 @@ module _ (all : Files) (path : List ℕ) where
       fails_as (inr (inr (inl is))) = inr (inr (inl (ap told_as is)))
       fails_as (inr (inr (inr is))) = inr (inr (inr (ap told_as is)))
 
-      -- what a build answers Ok, or for a fault, the command does
+      -- if a build returns Ok or a fault, so does the command
       passed_on : IsOk answer ⊎ building.Fails answer → IsOk (told_as answer) ⊎ Fails (told_as answer)
       passed_on came = ⊎_elim (λ is. inl (ok_as answer is)) (λ fails. inr (fails_as fails)) came
         where
@@ -279,14 +279,14 @@ unstored shelf old new settled path SpillFault of = tt
 unstored shelf old new settled path SpillDamaged of = tt
 unstored shelf old new settled path Memory of = tt
 
--- ---- the same of a shelf that may tell
+-- ---- the same of a shelf whose files may be visible
 
 module _ {F : Type 0} (held : F → Option (List ℕ)) (shelf later : Option Files) (same : later ≡ shelf) (path : List ℕ) (config : Config) (configures : Tells (λ all. HasConfiguration all path config) shelf) (store : Option Files) (may : Files → Type 0) where
   -- what the build begins with is what the command does
   begins : (all start : Files) → building.BeginsWith held shelf store may all start → building.BeginsWith held later store may all start
   begins all start b = record { spills = b.spills; shelf_told = same ∙ b.shelf_told; told = b.told; settled = b.settled; sound = b.sound }
 
-  -- a shelf that tells has the configuration
+  -- a shelf with visible files has the configuration
   known : (all start : Files) → building.BeginsWith held shelf store may all start → HasConfiguration all path config
   known all start b = subst (λ (o : Option Files). Tells (λ all. HasConfiguration all path config) o) b.shelf_told configures
 
@@ -439,7 +439,7 @@ module _ (files : Option Files) (path : List ℕ) {A : Type 0} (answer : Result 
   refused_told : (all : Files) → files ≡ Some all → ConfigurationIsRefused all path e
   refused_told all told = subst (λ (o : Option Files). Tells (λ all. ConfigurationIsRefused all path e) o) told refused
 
-  -- it is none, so it is refused for want of memory or a fault of the shelf
+  -- it is none, so it is refused because memory ran out or the shelf failed
   pub only_fails : (all : Files) (config : Config) → files ≡ Some all → HasConfiguration all path config → Fails answer
   only_fails all config told has = by e is (refused_told all told)
     where
@@ -479,7 +479,7 @@ carried_damage {A} a b e is_a is_b (inr (inr (inr (inr lack)))) = inr (inr (inr 
 pub carried_one : {A B : Type 0} (a : Result A Refusal) (b : Result B Refusal) (e r : Refusal) → a ≡ Err e → IsErrAnd b (λ x. x ≡ e) → (a ≡ Err r) ⊎ Fails a → (b ≡ Err r) ⊎ Fails b
 carried_one a b e r is_a is_b came = carried a b e r is_a (is_err b e is_b) came
 
--- an answer that is accepted comes to no refusal
+-- a result that is Ok is no fault
 ok_fails : {A : Type 0} (a : Result A Refusal) (x : A) → a ≡ Ok x → Fails a → ⊥
 ok_fails a x is (inl fault) = differ x SourceFault (sym is ∙ fault)
 ok_fails a x is (inr (inl fault)) = differ x StoreFault (sym is ∙ fault)

@@ -14,7 +14,7 @@ use Rattle.ept_run.specs.Answers.{AsksInfo, AsksTrial, SaysOfStore, IsAnswer, Is
 use Rattle.ept_run.proofs.Asked.{told_always, ok_weaker, err_weaker}
 use Rattle.ept_run.proofs.Runs.{Carries}
 
--- want of memory is no other refusal
+-- out of memory is no other refusal
 only_memory : (r : Refusal) → r ≡ Memory → (r ≢ Usage) × (r ≢ SourceFault) × (r ≢ StoreFault) × (r ≢ SpillFault)
 only_memory r is = (λ usage. not_usage (sym is ∙ usage), λ source. not_source (sym is ∙ source), λ store. not_store (sym is ∙ store), λ spill. not_spill (sym is ∙ spill))
   where
@@ -103,7 +103,7 @@ pub trial_ends : (count status : ℕ) (old new : Option (List ℕ)) (failed : Ty
 trial_ends count status old new failed (Ok line) told lacks said = inl (line.items, told, said)
 trial_ends count status old new failed (Err r) told lacks said = inr (subst (λ (x : Refusal). IsTold x status old new failed) lacks said)
 
--- it ends with its line, or for want of memory, or where the sink failed
+-- it ends with its line, or because memory runs out or the sink failed
 pub trial_yields : (count status : ℕ) (old new : Option (List ℕ)) (failed : Type 0) → EndsTrial count status old new failed → Yields 0 status
 trial_yields count status old new failed (inl (line, has, inl said)) = inl said.0
 trial_yields count status old new failed (inl (line, has, inr device)) = inr (inl device.0)

@@ -8,8 +8,9 @@ use Rattle.ept_command.specs.declared.refusal.Refusal.TheVariants.{BadCheckpoint
 use Rattle.ept_command.specs.Configurations.{ConfigurationIsRefused}
 use Rattle.ept_run.specs.Requests.{IsAcceptedAt, IsDoneAt, ComesAt, DiffersAt, ComesToDamageAt, IsConfigured, IsOfStore, BuildIsRefused, IsOfBuild, IsDefinite, IsEarly, Fails, TellsDifference, TellsDamage}
 
--- What a build comes to, over a shelf with these files and a store with the old ones, which are the new ones after. Begins says of the shelf's files and the store's that the build begins with them,
--- settled that the store was settled before, and same that nothing was put.
+-- What a build comes to, over a shelf with these files and a store with the old ones before and the new ones after.
+-- Begins says that the build begins with these files of the shelf and of the store. Settled says that the store was
+-- settled before, and same that nothing was put.
 pub record ComesToBuild {A : Type 0} (path : List ℕ) (result : Result A Refusal) (files old : Option Files) (Begins : Files → Files → Type 0) (new : Option Files) (settled same : Type 0) : Type 0 where
   pub refused : IfErr result (λ r. Tells (λ all. BuildIsRefused all Begins path r) files)
   pub causes : IfErr result IsOfBuild

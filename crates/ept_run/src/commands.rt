@@ -1,4 +1,4 @@
-//! The commands: each answers the line that it ends with, or why it is refused.
+//! The commands: each returns the line that it ends with, or why it is refused.
 
 ghost use Rattle.std.specs.Prelude.{◌≡◌, ◌⊎◌, ◌≤◌, ◌+◌, ◌^◌, ℕ, [], ◌∷◌, take, Err, Some, IsOk, IfOk, IfErr, OnOk};
 ghost use Rattle.ept_base.specs.Causes.{HasCauseOf};
@@ -25,11 +25,11 @@ use std::alloc::Global;
 use std::sync::Wait;
 use std::thread::Threads;
 
-/// Builds the octree of the configuration of this path, and answers the line that says so.
+/// Builds the octree of the configuration of this path, and returns the line that says so.
 ///
 /// # Errors
 ///
-/// Those of the configuration, and then those of [`build`]; `Memory` may come when all is built, and the
+/// Those of the configuration, and then those of [`build`]. `Memory` may also come after all is built, if the
 /// line can't be made.
 pub(crate) fn build_line<H: Shelf, T: Store, M: Room, G: Gate + Sync, R: Threads + Wait + Sync>(
     rt: &R,
@@ -118,7 +118,7 @@ where
     }
 }
 
-/// The line that tells what the header of the LAS file of this path says.
+/// The line that reports what the header of the LAS file of this path says.
 ///
 /// # Errors
 ///
@@ -146,12 +146,12 @@ pub(crate) fn info_line<H: Shelf>(
     Ok(line)
 }
 
-/// Builds the octree of the generated scans of so many points in memory, with so many workers and so many nodes
-/// at a time, and answers the line that tells what it comes to.
+/// Builds the octree of the generated scans of `points` points in memory, with `workers` workers and `cache` nodes
+/// at a time. Returns the line that reports what it comes to.
 ///
 /// # Errors
 ///
-/// Want of memory, and nothing else.
+/// `Memory`, and nothing else.
 pub(crate) fn trial_line<R: Threads + Wait + Sync>(
     rt: &R,
     alloc: Global,
