@@ -1,6 +1,6 @@
 -- What a merge comes to, and how it ends.
-use Rattle.std.proofs.Common.{◌≡◌, ◌≢◌, ◌⊎◌, inl, inr, ⊎_elim, ℕ, ◌≤◌, List, Option, None, Some, Ok, Err, refl, sym, ◌∙◌, ap, subst, arith}
-use Rattle.std.specs.Prelude.{◌↔◌, Result, Vec, IsOk, IfOk, IfErr, OnOk, ⊤}
+use Rattle.std.proofs.Common.{◌≡◌, ◌≢◌, ◌⊎◌, inl, inr, ℕ, List, Option, None, Some, Ok, Err, refl, sym, ◌∙◌, ap, subst, arith}
+use Rattle.std.specs.Prelude.{Vec, IsOk, IfOk, IfErr, OnOk, ⊤}
 use Rattle.std.specs.Io.KnownBytes.{Appends}
 use Rattle.std.specs.declared.alloc.Global.{Global}
 use Rattle.ept_base.specs.Devices.{AppendsPrefix}
@@ -25,22 +25,19 @@ use Rattle.ept_command.specs.declared.refusal.Refusal.TheVariants.{Usage, BadCon
 use Rattle.ept_command.specs.declared.refusal.PartRefusal.TheVariants.{AsBuild, Shallow}
 use Rattle.ept_command.specs.declared.refusal.MergeRefusal.{MergeRefusal}
 use Rattle.ept_command.specs.declared.refusal.MergeRefusal.TheVariants.{AsPart, HasCheckpoint, NoPart, PartDiffers, PartDamaged}
-use Rattle.ept_command.specs.Statuses.{status_of}
 use Rattle.ept_command.specs.Words.{IsMerge}
 use Rattle.ept_command.specs.Configurations.{HasConfiguration, ConfigurationIsRefused, IsOfConfiguration}
 use Rattle.ept_command.proofs.PartTexts.{merge_once}
 use Rattle.ept_class.specs.Laws.{MembersMakeTheSet}
 use Rattle.ept_run.specs.Errors.{of_build}
 use Rattle.ept_run.specs.Requests.{IsMergeReadyAt, IsDefinite}
-use Rattle.ept_run.specs.Lines.{summary_text, line_of}
-use Rattle.ept_run.specs.Answers.{Yields, AsksMerge, Says, IsSaid, IsSaidFor, IsReported}
-use Rattle.ept_run.specs.Parts.{IsPartReported}
-use Rattle.ept_run.specs.Merges.{Outcome, as_build, of_merge, merge_status, merge_line, part_text, FailsMerge, ReportsMerge, IsFaultOfParts, IsEarlyMerge, AfterMerge, OfSound, IsMergedAt, MergeIsRefused, MergingIsRefusedAt, AreOwnAt, ComesToMerge, SaysMerge, merge_failure, FailsAsMerge, IsMergeReported, EndsMerge}
+use Rattle.ept_run.specs.Lines.{summary_text}
+use Rattle.ept_run.specs.Answers.{Yields, AsksMerge, Says, IsSaidFor}
+use Rattle.ept_run.specs.Merges.{Outcome, as_build, of_merge, merge_status, merge_line, FailsMerge, ReportsMerge, IsFaultOfParts, IsEarlyMerge, AfterMerge, IsMergedAt, MergeIsRefused, MergingIsRefusedAt, AreOwnAt, ComesToMerge, SaysMerge, merge_failure, FailsAsMerge, IsMergeReported, EndsMerge}
 use Rattle.ept_run.proofs.Asked.{told_as, told_always}
-use Rattle.ept_run.proofs.Parted.{tells_both, fails_at, said_not}
+use Rattle.ept_run.proofs.Parted.{tells_both, fails_at}
 use Rattle.ept_run.proofs.Ready.{unread_fails, unread_cause, accepted_after, ready_sound}
 use Rattle.ept_run.proofs.Refused.{one_config, not_refused}
-use Rattle.ept_run.proofs.Runs.{usage_only, device_only, configuration_only, never_done}
 
 -- ---- refusals
 
@@ -55,38 +52,6 @@ is_ok summary = refl
 
 ok_is_no_err : (summary : Summary) (r : MergeRefusal) → ◌≡◌ {A = Outcome} (Ok summary) (Err r) → ⊥
 ok_is_no_err summary r same = cc
-
-pub merge_source : (e : MergeError) → of_merge e ≡ as_build SourceFault → e ≡ merge.SourceFault
-merge_source merge.StoreFault is = absurd cc
-merge_source (merge.BadCheckpoint letter) is = absurd cc
-merge_source (merge.HasCheckpoint generation) is = absurd cc
-merge_source merge.SourceFault is = refl
-merge_source (merge.BadLas source fault) is = absurd cc
-merge_source (merge.OutOfBounds source number) is = absurd cc
-merge_source (merge.TooManyPoints source) is = absurd cc
-merge_source merge.NoBounds is = absurd cc
-merge_source merge.Shallow is = absurd cc
-merge_source (merge.NoPart octants) is = absurd cc
-merge_source (merge.PartDiffers octants) is = absurd cc
-merge_source (merge.PartDamaged octants key) is = absurd cc
-merge_source merge.TooManyNodes is = absurd cc
-merge_source merge.Memory is = absurd cc
-
-pub merge_store : (e : MergeError) → of_merge e ≡ as_build StoreFault → e ≡ merge.StoreFault
-merge_store merge.StoreFault is = refl
-merge_store (merge.BadCheckpoint letter) is = absurd cc
-merge_store (merge.HasCheckpoint generation) is = absurd cc
-merge_store merge.SourceFault is = absurd cc
-merge_store (merge.BadLas source fault) is = absurd cc
-merge_store (merge.OutOfBounds source number) is = absurd cc
-merge_store (merge.TooManyPoints source) is = absurd cc
-merge_store merge.NoBounds is = absurd cc
-merge_store merge.Shallow is = absurd cc
-merge_store (merge.NoPart octants) is = absurd cc
-merge_store (merge.PartDiffers octants) is = absurd cc
-merge_store (merge.PartDamaged octants key) is = absurd cc
-merge_store merge.TooManyNodes is = absurd cc
-merge_store merge.Memory is = absurd cc
 
 -- no refusal of merging is that of the words, of spill files or of a configuration
 abbrev ForeignCause : Refusal → Type 0
@@ -229,28 +194,6 @@ pub never_of_parts : (r : Refusal) → ¬ IsFaultOfParts (as_build r)
 never_of_parts r (inl (octants, is)) = cc
 never_of_parts r (inr (octants, key, is)) = cc
 
--- a fault of a device, and of which one
-abbrev IsDevice : Refusal → Type 0
-IsDevice Usage = ⊥
-IsDevice (BadConfiguration error) = ⊥
-IsDevice (BadLas source fault) = ⊥
-IsDevice (OutOfBounds source number) = ⊥
-IsDevice NoBounds = ⊥
-IsDevice (SourceChanged source number) = ⊥
-IsDevice (TooManyPoints source) = ⊥
-IsDevice TooManyNodes = ⊥
-IsDevice (Differs field) = ⊥
-IsDevice (BadCheckpoint letter) = ⊥
-IsDevice (TileDamaged key) = ⊥
-IsDevice SourceFault = ⊤
-IsDevice StoreFault = ⊤
-IsDevice SpillFault = ⊤
-IsDevice SpillDamaged = ⊥
-IsDevice Memory = ⊥
-
-abbrev WhichDevice : BuildError → Refusal → Type 0
-WhichDevice e r = ((e ≡ build.StoreFault) × (r ≡ StoreFault)) ⊎ ((e ≡ build.SourceFault) × (r ≡ SourceFault)) ⊎ ((e ≡ build.SpillFault) × (r ≡ SpillFault))
-
 pub build_words : (e : BuildError) → of_build e ≢ Usage
 build_words build.StoreFault is = cc
 build_words build.SpillFault is = cc
@@ -282,50 +225,6 @@ build_config build.NoBounds error is = cc
 build_config (build.SourceChanged source number) error is = cc
 build_config build.TooManyNodes error is = cc
 build_config build.Memory error is = cc
-
-build_device : (e : BuildError) (r : Refusal) → of_build e ≡ r → IsDevice r → WhichDevice e r
-build_device build.StoreFault r is device = inl (refl, sym is)
-build_device build.SpillFault r is device = inr (inr (refl, sym is))
-build_device (build.SpillDamaged kept found at) r is device = absurd (subst IsDevice (sym is) device)
-build_device (build.BadCheckpoint letter) r is device = absurd (subst IsDevice (sym is) device)
-build_device (build.TileDamaged key) r is device = absurd (subst IsDevice (sym is) device)
-build_device (build.Differs field kept given) r is device = absurd (subst IsDevice (sym is) device)
-build_device build.SourceFault r is device = inr (inl (refl, sym is))
-build_device (build.BadLas source fault) r is device = absurd (subst IsDevice (sym is) device)
-build_device (build.OutOfBounds source number) r is device = absurd (subst IsDevice (sym is) device)
-build_device (build.TooManyPoints source) r is device = absurd (subst IsDevice (sym is) device)
-build_device build.NoBounds r is device = absurd (subst IsDevice (sym is) device)
-build_device (build.SourceChanged source number) r is device = absurd (subst IsDevice (sym is) device)
-build_device build.TooManyNodes r is device = absurd (subst IsDevice (sym is) device)
-build_device build.Memory r is device = absurd (subst IsDevice (sym is) device)
-
-pub built_source : (e : BuildError) → as_build (of_build e) ≡ as_build SourceFault → e ≡ build.SourceFault
-built_source e is = by (build_device e SourceFault (inside (of_build e) SourceFault is) tt)
-  where
-    by : WhichDevice e SourceFault → e ≡ build.SourceFault
-    by (inl (same, other)) = absurd cc
-    by (inr (inl (same, other))) = same
-    by (inr (inr (same, other))) = absurd cc
-
-pub built_store : (e : BuildError) → as_build (of_build e) ≡ as_build StoreFault → e ≡ build.StoreFault
-built_store e is = by (build_device e StoreFault (inside (of_build e) StoreFault is) tt)
-  where
-    by : WhichDevice e StoreFault → e ≡ build.StoreFault
-    by (inl (same, other)) = same
-    by (inr (inl (same, other))) = absurd cc
-    by (inr (inr (same, other))) = absurd cc
-
-pub built_spill : (e : BuildError) → as_build (of_build e) ≡ as_build SpillFault → e ≡ build.SpillFault
-built_spill e is = by (build_device e SpillFault (inside (of_build e) SpillFault is) tt)
-  where
-    by : WhichDevice e SpillFault → e ≡ build.SpillFault
-    by (inl (same, other)) = absurd cc
-    by (inr (inl (same, other))) = absurd cc
-    by (inr (inr (same, other))) = same
-
--- a refusal inside a result
-pub answer_inside : {A : Type 0} (a b : MergeRefusal) → ◌≡◌ {A = Result A MergeRefusal} (Err a) (Err b) → a ≡ b
-answer_inside a b same = cc
 
 -- ---- what a merge comes to
 
@@ -505,15 +404,6 @@ module _ (path parts : List ℕ) (old : Option Files) (Begins : Files → Files 
       record { between = m.0; merged = m.2; sound = sound_of all m.0 m.1; holds = refused.2 all m.0 m.1 })
       (λ is. sources (ap (λ (x : MergeRefusal). Err x) is)) (λ is. stores (ap (λ (x : MergeRefusal). Err x) is)) (λ is. spills (ap (λ (x : MergeRefusal). Err x) is))
 
-pub unread_words : (r : Refusal) → IsOfConfiguration r → as_build r ≢ as_build Usage
-unread_words r of is = subst IsOfConfiguration (inside r Usage is) of
-
-pub unbuilt_words : (r : MergeRefusal) (error : BuildError) → r ≡ as_build (of_build error) → r ≢ as_build Usage
-unbuilt_words r error r_is is = build_words error (inside (of_build error) Usage (sym r_is ∙ is))
-
-pub unbuilt_config : (r : MergeRefusal) (error : BuildError) → r ≡ as_build (of_build error) → (bad : ConfigError) → r ≢ as_build (BadConfiguration bad)
-unbuilt_config r error r_is bad is = build_config error bad (inside (of_build error) (BadConfiguration bad) (sym r_is ∙ is))
-
 -- ---- its moments
 
 module _ {D : Type 0} (files : D → Option Files) (may_leave : D → Files → Type 0) (moment : D → ℕ) (image_since : D → ℕ → Files → Type 0) where
@@ -536,29 +426,6 @@ module _ (status : ℕ) (why_not : Option Failure) (old new : Option (List ℕ))
     unless_done = fails_at status why_not old new failed 7 (failure.LineNotWritten line) cut.0 (omega arith) cut.1;
   }
 
-  -- a refusal that a build may have too
-  pub cause_reported : (r : Refusal) → IsReported r status why_not old new failed
-      → IsMergeReported (Err (as_build r)) status why_not old new failed ⊎ IsMergeReported (Err (as_build Memory)) status why_not old new failed
-  cause_reported r reports = ⊎_elim (λ is. inl (by r is)) (λ is. inr (by Memory is)) reports.0.told_is
-    where
-      by : (x : Refusal) → reports.0.told ≡ x → IsMergeReported (Err (as_build x)) status why_not old new failed
-      by x is = record {
-        says = (sym reports.0.status_is ∙ ap status_of is, subst (λ (y : Refusal). Says (line_of y) old new failed) is reports.0.says);
-        fails = reports.1 ∙ ap (λ (y : Refusal). Some (failure.Refused y)) is;
-        unless_done = fails_at status why_not old new failed (status_of reports.0.told) (failure.Refused reports.0.told) (sym reports.0.status_is) (never_done reports.0.told) reports.1;
-      }
-
-  -- out of memory, for which the same line is written
-  pub lack_reported : status ≡ 9 → why_not ≡ Some (failure.Refused Memory) → Says (line_of Memory) old new failed → IsMergeReported (Err (as_build Memory)) status why_not old new failed
-  lack_reported is fails says = record { says = (is, says); fails = fails; unless_done = fails_at status why_not old new failed 9 (failure.Refused Memory) is (omega arith) fails }
-
-  -- a root without octants, as of a part
-  pub depth_reported : IsPartReported (Err Shallow) status why_not old new failed → IsMergeReported (Err (AsPart Shallow)) status why_not old new failed
-  depth_reported reported = record { says = reported.says; fails = reported.fails; unless_done = reported.unless_done }
-
-  pub checkpoint_reported : status ≡ 6 → why_not ≡ Some (failure.MergeRefused HasCheckpoint) → Says (merge_line HasCheckpoint) old new failed → IsMergeReported (Err HasCheckpoint) status why_not old new failed
-  checkpoint_reported is fails says = record { says = (is, says); fails = fails; unless_done = fails_at status why_not old new failed 6 (failure.MergeRefused HasCheckpoint) is (omega arith) fails }
-
   -- a part that is not there, that differs, or that is damaged
   pub named_reported : (r : MergeRefusal) (n : ℕ) → merge_failure r ≡ failure.MergeRefused r → merge_status r ≡ n → n ≢ 0 → (line : List ℕ) → merge_line r ≡ line
       → ((status ≡ n) × (why_not ≡ Some (failure.MergeRefused r)) × Says line old new failed) ⊎ IsMergeReported (Err (as_build Memory)) status why_not old new failed
@@ -572,50 +439,8 @@ module _ (status : ℕ) (why_not : Option Failure) (old new : Option (List ℕ))
 
 -- ---- what a report says
 
-merge_status_of : (r : MergeRefusal) (n : ℕ) → n ≢ 6 → n ≢ 8 → merge_status r ≡ n → (cause : Refusal) × (r ≡ as_build cause) × (status_of cause ≡ n)
-merge_status_of (AsPart (AsBuild cause)) n not_6 not_8 is = (cause, refl, is)
-merge_status_of (AsPart Shallow) n not_6 not_8 is = absurd (not_6 (sym is))
-merge_status_of HasCheckpoint n not_6 not_8 is = absurd (not_6 (sym is))
-merge_status_of (NoPart octants) n not_6 not_8 is = absurd (not_6 (sym is))
-merge_status_of (PartDiffers octants) n not_6 not_8 is = absurd (not_6 (sym is))
-merge_status_of (PartDamaged octants key) n not_6 not_8 is = absurd (not_8 (sym is))
-
 module _ (status : ℕ) (why_not : Option Failure) (old new : Option (List ℕ)) (failed : Type 0) where
-  words_of : (outcome : Outcome) → IfErr outcome (λ r. r ≢ as_build Usage) → SaysMerge outcome status old new failed → status ≢ 2
-  words_of (Ok summary) named says = said_not status old new failed 2 (omega arith) (omega arith) (summary_text summary.points summary.nodes) says
-  words_of (Err r) named says = λ is. let cause = merge_status_of r 2 (omega arith) (omega arith) (sym says.0 ∙ is) in named (cause.1 ∙ ap as_build (usage_only cause.0 cause.2))
-
-  pub merge_not_usage : (outcome : Outcome) → IfErr outcome (λ r. r ≢ as_build Usage) → IsMergeReported outcome status why_not old new failed ⊎ IsMergeReported (Err (as_build Memory)) status why_not old new failed → status ≢ 2
-  merge_not_usage outcome named (inl reported) = words_of outcome named reported.says
-  merge_not_usage outcome named (inr reported) = λ is. omega (arith, reported.says.0, is)
-
-  config_of : (outcome : Outcome) → SaysMerge outcome status old new failed → status ≡ 3 → (e : ConfigError) × (outcome ≡ Err (as_build (BadConfiguration e)))
-  config_of (Ok summary) says is = absurd (said_not status old new failed 3 (omega arith) (omega arith) (summary_text summary.points summary.nodes) says is)
-  config_of (Err r) says is =
-      let cause = merge_status_of r 3 (omega arith) (omega arith) (sym says.0 ∙ is) in
-      let bad = configuration_only cause.0 cause.2 in
-      (bad.0, ap (λ (x : MergeRefusal). Err x) (cause.1 ∙ ap as_build bad.1))
-
-  pub merge_configured : (outcome : Outcome) → IsMergeReported outcome status why_not old new failed ⊎ IsMergeReported (Err (as_build Memory)) status why_not old new failed → status ≡ 3 → (e : ConfigError) × (outcome ≡ Err (as_build (BadConfiguration e)))
-  merge_configured outcome (inl reported) is = config_of outcome reported.says is
-  merge_configured outcome (inr reported) is = absurd (omega (arith, reported.says.0, is))
-
   module _ (path parts : List ℕ) (files before : Option Files) (Begins : Files → Files → Type 0) (after : Option Files) (flushed same source store room : Type 0) where
-    device_of : (outcome : Outcome) → ComesToMerge path parts outcome files before Begins after flushed same source store room → SaysMerge outcome status old new failed → status ≡ 7 → source ⊎ store ⊎ room ⊎ failed
-    device_of (Ok summary) comes (inl ok) is = absurd (omega (arith, ok.0, is))
-    device_of (Ok summary) comes (inr cut) is = inr (inr (inr cut.1))
-    device_of (Err r) comes says is = let cause = merge_status_of r 7 (omega arith) (omega arith) (sym says.0 ∙ is) in by cause.0 cause.1 (device_only cause.0 cause.2)
-      where
-        by : (cause : Refusal) → r ≡ as_build cause → (cause ≡ SourceFault) ⊎ (cause ≡ StoreFault) ⊎ (cause ≡ SpillFault) → source ⊎ store ⊎ room ⊎ failed
-        by cause r_is (inl is_source) = inl (comes.sources (ap (λ (x : MergeRefusal). Err x) (r_is ∙ ap as_build is_source)))
-        by cause r_is (inr (inl is_store)) = inr (inl (comes.stores (ap (λ (x : MergeRefusal). Err x) (r_is ∙ ap as_build is_store))))
-        by cause r_is (inr (inr is_spill)) = inr (inr (inl (comes.spills (ap (λ (x : MergeRefusal). Err x) (r_is ∙ ap as_build is_spill)))))
-
-    pub merge_rose : (outcome : Outcome) → ComesToMerge path parts outcome files before Begins after flushed same source store room
-        → IsMergeReported outcome status why_not old new failed ⊎ IsMergeReported (Err (as_build Memory)) status why_not old new failed → status ≡ 7 → source ⊎ store ⊎ room ⊎ failed
-    merge_rose outcome comes (inl reported) is = device_of outcome comes reported.says is
-    merge_rose outcome comes (inr reported) is = absurd (omega (arith, reported.says.0, is))
-
     abbrev lack : Outcome
     lack = Err (as_build Memory)
 
@@ -654,11 +479,6 @@ module _ (status : ℕ) (why_not : Option Failure) (old new : Option (List ℕ))
         → (ends : EndsMerge path parts status files before Begins after flushed same old new source store room failed) × FailsAsMerge ends.outcome why_not
     merge_ends outcome comes (inl reported) = (record { outcome = outcome; says = reported.says; comes_to = comes }, reported.fails)
     merge_ends outcome comes (inr reported) = (record { outcome = Err (as_build Memory); says = reported.says; comes_to = lacking }, reported.fails)
-
-pub merge_unless_done : (outcome : Outcome) (status : ℕ) (why_not : Option Failure) (old new : Option (List ℕ)) (failed : Type 0)
-    → IsMergeReported outcome status why_not old new failed ⊎ IsMergeReported (Err (as_build Memory)) status why_not old new failed → (status ≡ 0) ↔ (why_not ≡ None)
-merge_unless_done outcome status why_not old new failed (inl reported) = reported.unless_done
-merge_unless_done outcome status why_not old new failed (inr reported) = reported.unless_done
 
 -- ---- what can be done
 

@@ -32,7 +32,7 @@ use Rattle.ept_run.specs.Requests.{IsPartAcceptedAt}
 use Rattle.ept_class.specs.Laws.{MembersMakeTheSet}
 use Rattle.ept_command.specs.Words.{IsPart}
 use Rattle.ept_run.specs.Answers.{Yields, AsksPart, Says, IsSaid, IsSaidFor, IsReported}
-use Rattle.ept_run.specs.Parts.{Outcome, of_part, part_status, part_line, PartIsRefused, IsPartFault, FailsPart, IsPartMadeAt, ComesToPart, SaysPart, FailsAsPart, IsPartReported, EndsPart}
+use Rattle.ept_run.specs.Parts.{Outcome, of_part, part_status, PartIsRefused, IsPartFault, FailsPart, IsPartMadeAt, ComesToPart, SaysPart, FailsAsPart, IsPartReported, EndsPart}
 use Rattle.ept_run.proofs.Asked.{told_as, told_always}
 use Rattle.ept_command.proofs.OctantTexts.{part_once}
 use Rattle.ept_run.proofs.Refused.{one_config, not_both, one_error, stays}
@@ -396,9 +396,6 @@ module _ (status : ℕ) (why_not : Option Failure) (old new : Option (List ℕ))
   -- out of memory, for which the same line is written
   pub memory_reported : status ≡ 9 → why_not ≡ Some (failure.Refused Memory) → Says (line_of Memory) old new failed → IsPartReported (Err (AsBuild Memory)) status why_not old new failed
   memory_reported is fails says = record { says = (is, says); fails = fails; unless_done = fails_at 9 (failure.Refused Memory) is (omega arith) fails }
-
-  pub shallow_reported : status ≡ 6 → why_not ≡ Some failure.Shallow → Says (part_line Shallow) old new failed → IsPartReported (Err Shallow) status why_not old new failed
-  shallow_reported is fails says = record { says = (is, says); fails = fails; unless_done = fails_at 6 failure.Shallow is (omega arith) fails }
 
 -- ---- the build next to it
 

@@ -10,7 +10,7 @@ use Rattle.ept_command.specs.declared.refusal.Refusal.TheVariants.{Usage, Source
 use Rattle.ept_command.specs.Words.{IsBuild, IsInfo, IsQuery, IsTrial}
 use Rattle.ept_command.specs.Statuses.{status_of}
 use Rattle.ept_run.specs.Requests.{HasTrial, IsDefinite, IsEarly, Fails}
-use Rattle.ept_run.specs.Answers.{AsksInfo, AsksTrial, SaysOfStore, IsAnswer, IsDone, IsFaulty, IsRefused, IsTold, EndsTrial, EndsWith, Yields}
+use Rattle.ept_run.specs.Answers.{AsksTrial, SaysOfStore, IsAnswer, IsDone, IsFaulty, IsRefused, IsTold, EndsTrial, EndsWith, Yields}
 use Rattle.ept_run.proofs.Asked.{told_always, ok_weaker, err_weaker}
 use Rattle.ept_run.proofs.Runs.{Carries}
 
@@ -60,9 +60,6 @@ module _ (words : List (List ℕ)) (count workers cache : ℕ) (is : IsTrial wor
   trial_unrefused all r (inl usage) = usage.1.not_trial count workers cache is
   trial_unrefused all r (inr (inl asks)) = trial_or_build asks.path asks.out asks.words_are
   trial_unrefused all r (inr (inr asks)) = trial_or_info asks.path asks.words_are
-
-  pub trial_untold : {Fact : List ℕ → Type 0} → AsksInfo words Fact → ⊥
-  trial_untold asks = trial_or_info asks.path asks.words_are
 
   -- words ask for one number of points
   pub one_count : (n w k : ℕ) → IsTrial words n w k → count ≡ n

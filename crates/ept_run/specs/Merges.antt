@@ -1,5 +1,5 @@
 -- How a merge of parts ends, and the build that follows it.
-use Rattle.std.specs.Prelude.{◌≡◌, ◌≢◌, ◌⊎◌, ◌↔◌, ℕ, ◌++◌, Option, None, Some, List, Result, Ok, Err, IsOk, IfOk, IfErr, OnOk, map, filter, codes, decimal, ⊤}
+use Rattle.std.specs.Prelude.{◌≡◌, ◌⊎◌, ◌↔◌, ℕ, ◌++◌, Option, None, Some, List, Result, Ok, Err, IsOk, IfOk, IfErr, OnOk, map, filter, codes, decimal, ⊤}
 use Rattle.std.specs.List.{join_with_byte}
 use Rattle.ept_base.specs.Files.{Files, Tells}
 use Rattle.ept_space.specs.VoxelKey.{VoxelKey}

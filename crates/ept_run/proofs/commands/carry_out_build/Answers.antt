@@ -1,4 +1,4 @@
-use Rattle.std.proofs.Common.{rules, ◌≡◌, ◌⊎◌, inl, inr, Option, Err, Ok, sym, subst, ap, ◌∙◌}
+use Rattle.std.proofs.Common.{rules, inl, inr, Option, Err, sym, subst, ap, ◌∙◌}
 use Rattle.std.specs.Prelude.{Result}
 use Rattle.ept_base.specs.Files.{Files, SameFiles}
 use Rattle.ept_base.specs.Moves.{Moves, IsSettled}

@@ -1,4 +1,4 @@
-use Rattle.std.proofs.Common.{◌≡◌, ◌⊎◌, ◌∙◌, ap, sym, subst, arith, inl, Option, Some, Err}
+use Rattle.std.proofs.Common.{◌⊎◌, ◌∙◌, ap, subst, arith, inl, Option, Err}
 use Rattle.std.specs.Prelude.{IsOk}
 use Rattle.std.proofs.lemmas.Result.{err_from_is_err_and}
 use Rattle.ept_base.specs.Causes.{Rose}
