@@ -10,7 +10,7 @@ one_number m n text fits_m fits_n a b = signed_decimal_injective m n fits_m.sfit
 pub small : (n most : ℕ) → n ≤ most → most < 2 ^ 32 → FitsSigned w64 (pos n)
 small n most few fits = record { sfits = omega (arith, few, fits) }
 
--- what is known where nothing comes, seen in another way
+-- what is known if nothing is found, in another form
 pub if_none : {T : Type 0} (r : Option T) (P Q : Type 0) → IfNone r P → (P → Q) → IfNone r Q
 if_none None P Q h f = f h
 if_none (Some x) P Q h f = tt

@@ -8,16 +8,16 @@ use Rattle.ept_filter.specs.SiftText.{IsSiftText, IsClassesText}
 use Rattle.ept_filter.proofs.Once.{one-classes}
 use Rattle.ept_command.specs.Words.{IsOctantsText, ClassesAreSelected, IsPart}
 
--- a text of no selection lists no octants
+-- a text that is not one of a selection lists no octants
 pub lists_none : ClassesAreSelected → (text : List ℕ) → ((sift : Sift) → ¬ IsSiftText text (codes "-") (codes "-") sift) → (octants : ℕ) → ¬ IsOctantsText text octants
 lists_none selected text none octants is = let made = selected text is.numbers is.text_is in none made.0 made.1
 
 module _ (once : MembersMakeTheSet) (text : List ℕ) where
-  -- of a text that lists octants the selection has them as classes
+  -- the selection of a text that lists octants has them as its classes
   lists_these : (classes : Option ClassSet) (sift : Sift) → IsSiftText text (codes "-") (codes "-") sift → sift.classes ≡ classes → (octants : ℕ) (is : IsOctantsText text octants) → classes ≡ Some is.numbers
   lists_these classes sift has are octants is = sym are ∙ one-classes once text sift.classes (Some is.numbers) has.classes_are is.text_is
 
-  -- so one of any class lists none
+  -- so the text of a selection of any class lists no octants
   pub lists_no_class : (sift : Sift) → IsSiftText text (codes "-") (codes "-") sift → sift.classes ≡ None → (octants : ℕ) → ¬ IsOctantsText text octants
   lists_no_class sift has any octants is = apart (lists_these None sift has any octants is)
     where
@@ -30,7 +30,7 @@ module _ (once : MembersMakeTheSet) (text : List ℕ) where
       inside : ◌≡◌ {A = Option ClassSet} (Some a) (Some b) → a ≡ b
       inside same = cc
 
-  -- and one of a set that has other members
+  -- nor does the text of a set that has other members
   pub lists_others : (sift : Sift) (numbers : ClassSet) → IsSiftText text (codes "-") (codes "-") sift → sift.classes ≡ Some numbers
       → ((octants : ℕ) → numbers.bytes ≡ octants ∷ replicate 31 0 → octants ≢ 0 → ⊥) → (octants : ℕ) → ¬ IsOctantsText text octants
   lists_others sift numbers has are other octants is = other octants (same_bytes numbers is.numbers (lists_these (Some numbers) sift has are octants is) ∙ is.below_8) is.some
@@ -41,7 +41,7 @@ module _ (once : MembersMakeTheSet) (text : List ℕ) where
       first : a ∷ replicate 31 0 ≡ b ∷ replicate 31 0 → a ≡ b
       first same = cc
 
--- what comes of the set of a selection
+-- what the set of a selection gives
 pub lists_some : (text : List ℕ) (sift : Sift) (numbers : ClassSet) (found : Option ℕ) → IsSiftText text (codes "-") (codes "-") sift → sift.classes ≡ Some numbers
     → IfSome found (λ octants. numbers.bytes ≡ octants ∷ replicate 31 0) → IfSome found (λ octants. octants ≢ 0) → IfSome found (IsOctantsText text)
 lists_some text sift numbers None has are below some = tt

@@ -6,11 +6,11 @@ use Rattle.std.proofs.lemmas.Fmt.{decimal_injective}
 use Rattle.std.proofs.lemmas.List.{length-map}
 use Rattle.ept_command.specs.Words.{bytes_of, IsOctantsText, NoMerge, IsMerge, IsTrial, IsUsage}
 
--- where the first word is another one there is no merge
+-- there is no merge if the first word is another one
 pub no_merge : (words : List (List ℕ)) → NoMerge words → (config out parts : List ℕ) → ¬ IsMerge words config out parts
 no_merge words none config out parts is = none (config ∷ out ∷ is.texts) is.words_are
 
--- words of another number than those of a command
+-- words whose number is not that of any command
 pub no_command : (words : List (String Global)) → NoMerge (bytes_of words) → length words ≢ 2 → length words ≢ 3 → length words ≢ 4 → length words ≢ 7 → IsUsage (bytes_of words)
 no_command words none two three four seven =
     let size : length (bytes_of words) ≡ length words = length-map words string_bytes in

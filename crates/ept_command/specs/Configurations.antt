@@ -8,7 +8,7 @@ use Rattle.ept_config.specs.Facts.{facts}
 use Rattle.ept_command.specs.declared.refusal.Refusal.{Refusal}
 use Rattle.ept_command.specs.declared.refusal.Refusal.TheVariants.{Usage, BadConfiguration, BadLas, OutOfBounds, NoBounds, SourceChanged, TooManyPoints, TooManyNodes, Differs, BadCheckpoint, TileDamaged, SourceFault, StoreFault, SpillFault, SpillDamaged, Memory}
 
--- these are the first bytes of the file of this path: so many, or all
+-- these are the first `most` bytes of the file of this path, or all of them if there are fewer
 pub record HasFront (files : Files) (path : List ℕ) (most : ℕ) (front : List ℕ) : Type 0 where
   pub bytes : List ℕ
   pub content : files path ≡ Some bytes
@@ -26,7 +26,7 @@ pub record HasBadConfiguration (files : Files) (path : List ℕ) (error : Config
   pub content : files path ≡ Some bytes
   pub refused : reading bytes ≡ Err error
 
--- why it can't be read; a fault of the shelf and want of memory say nothing of files
+-- why it can't be read; a fault of the shelf and out of memory say nothing of files
 abbrev pub ConfigurationIsRefused : Files → List ℕ → Refusal → Type 0
 ConfigurationIsRefused files path Usage = ⊥
 ConfigurationIsRefused files path (BadConfiguration error) = HasBadConfiguration files path error

@@ -22,7 +22,8 @@ pub record IsBuild (words : List (List ℕ)) (config out : List ℕ) : Type 0 wh
   pub config_is : config ≢ []
   pub out_is : out ≢ []
 
--- Octants are written as the classes of a selection are: numbers that ascend, with commas between them. All are below 8, and the mask has a bit for each.
+-- Octants are written as the classes of a selection are: numbers that ascend, with commas between them. All are below
+-- 8, and the mask has a bit for each.
 pub record IsOctantsText (text : List ℕ) (octants : ℕ) : Type 0 where
   pub numbers : ClassSet
   pub text_is : IsClassesText text (Some numbers)
@@ -45,7 +46,8 @@ pub record IsPart (words : List (List ℕ)) (config out : List ℕ) (octants : �
 abbrev pub masks_in : Parts → List ℕ
 masks_in parts = take parts.len parts.masks
 
--- The words list octants, each word those of a part, and each octant is in exactly one of the parts. So there are at most eight.
+-- The words list octants, each word those of a part, and each octant is in exactly one of the parts. So there are at
+-- most eight.
 pub record ArePartsTexts (texts : List (List ℕ)) (parts : List ℕ) : Type 0 where
   pub few : length texts ≤ 8
   pub octants_are : AllZip IsOctantsText texts parts
@@ -95,7 +97,8 @@ pub record IsCheck (words : List (List ℕ)) (out : List ℕ) : Type 0 where
   pub words_are : words ≡ codes "check" ∷ out ∷ []
   pub out_is : out ≢ []
 
--- `trial` and three numbers, each in its one spelling: of points, at most 10,000,000; of workers, from 1 to 64; and of nodes that are in memory at a time, as many as there are workers or more, at most 65,536
+-- `trial` and three numbers, each in its one spelling. The first is of points, at most 10,000,000. The second is of
+-- workers, from 1 to 64. The third is of nodes in memory at a time, from the number of workers to 65,536.
 pub record IsTrial (words : List (List ℕ)) (count workers cache : ℕ) : Type 0 where
   pub words_are : words ≡ codes "trial" ∷ decimal count ∷ decimal workers ∷ decimal cache ∷ []
   pub few : count ≤ 10000000

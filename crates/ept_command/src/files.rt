@@ -45,7 +45,7 @@ pub fn read_configuration<H: Shelf>(
     }
 }
 
-/// Reads the first bytes of the file of this path: so many, or all.
+/// Reads the first `most` bytes of the file of this path, or all of them if there are fewer.
 pub fn read_front<H: Shelf>(
     alloc: Global,
     shelf: &mut H,
@@ -66,7 +66,7 @@ pub fn read_front<H: Shelf>(
     front
 }
 
-// Reads the next bytes of a source: so many, or up to its end.
+// Reads the next `most` bytes of a source, or those up to its end if there are fewer.
 fn read_up_to<S: Source>(alloc: Global, source: &mut S, most: usize) -> Result<Vec<u8>, GetError>
     ensures front { IfOk result (λ front. Tells
         (λ left. front.items ≡ take most left) (S.left source.old)) }

@@ -34,9 +34,9 @@ pub enum Refusal {
     TooManyNodes,
     /// This is the first field of the configuration that differs from what an earlier build kept.
     Differs { field: Field },
-    /// The checkpoint of this letter is absent or damaged.
+    /// The checkpoint of this letter is missing or damaged.
     BadCheckpoint { letter: Letter },
-    /// The tile that the current checkpoint names for this key is absent or not the node's.
+    /// The tile that the current checkpoint names for this key is missing or not the node's.
     TileDamaged { key: Key },
     /// A file of the shelf can't be opened or read: the shelf's count of faults rose.
     SourceFault,
@@ -44,7 +44,7 @@ pub enum Refusal {
     StoreFault,
     /// A spill file can't be made or failed: the room's count of faults rose.
     SpillFault,
-    /// A spill file gave back other bytes than were kept.
+    /// A spill file returned other bytes than were kept.
     SpillDamaged,
     /// Memory ran out.
     Memory,
@@ -156,8 +156,8 @@ pub enum MergeRefusal {
     NoPart { octants: u8 },
     /// The part of these octants was made with another configuration, or of other inputs.
     PartDiffers { octants: u8 },
-    /// The part of these octants is damaged: the tile of a key, or else its body; or the bodies of all parts do not fit
-    /// together, and this is the last one.
+    /// The part of these octants is damaged: the tile of this key, or its body if there is no key. There is also no key
+    /// if the bodies of all parts do not fit together; this part is then the last one.
     PartDamaged { octants: u8, key: Option<Key> },
 }
 

@@ -24,15 +24,15 @@ pub const DIFFERS: u8 = 6;
 /// The octree of a part, or of a merge, has the root alone, which has no octants.
 pub const SHALLOW: u8 = 6;
 
-/// The folder of a merge has a checkpoint, or one of the parts is not there, or was made with another configuration or
+/// The folder of a merge has a checkpoint. Or one of the parts is missing, or was made with another configuration or
 /// of other inputs.
 pub const NOT_MERGED: u8 = 6;
 
 /// A device failed: the shelf, the store, the room or the sink.
 pub const DEVICE: u8 = 7;
 
-/// A file of the dataset, of a part, or a checkpoint of a build, is absent, or not of its form; or a checked dataset is not the
-/// sampling of its own points; or a spill file gave back other bytes than were kept.
+/// A file of the dataset or of a part, or a checkpoint of a build, is missing or malformed. Or a checked dataset is not
+/// the sampling of its own points. Or a spill file returned other bytes than were kept.
 pub const DAMAGED: u8 = 8;
 
 /// There was no memory.

@@ -37,36 +37,36 @@ pub enum Command<'a> {
         out: &'a str,
         parts: Parts,
     },
-    /// Tell what the header of this LAS file says.
+    /// Report what the header of this LAS file says.
     Info {
         las: &'a str,
     },
-    /// Answer the points of this box, in the nodes of these depths, of the dataset in this folder.
+    /// Write the points of the dataset in this folder that are in this box, from the nodes of these depths.
     Query {
         out: &'a str,
         area: Box3,
         depths: (u8, u8),
     },
-    /// Answer what a selection keeps of the points of this box, in the nodes of these depths, of the dataset in this
-    /// folder.
+    /// Write what a selection keeps of the points of the dataset in this folder that are in this box, from the nodes of
+    /// these depths.
     Select {
         out: &'a str,
         area: Box3,
         depths: (u8, u8),
         sift: Sift,
     },
-    /// Tell whether the dataset in this folder is the sampling of its own points.
+    /// Report whether the dataset in this folder is the sampling of its own points.
     Check {
         out: &'a str,
     },
-    /// Build the octree of generated scans of so many points in memory, with so many workers and so many nodes
-    /// at a time.
+    /// Build the octree of generated scans in memory, from `points` points, with `workers` workers and `cache` nodes at
+    /// a time.
     Trial {
         points: u32,
         workers: u32,
         cache: u32,
     },
-    /// None of these.
+    /// The words are no command.
     Usage,
 }
 
@@ -80,7 +80,7 @@ pub fn command_of(words: &[String]) -> Command<'_>
     }
 }
 
-// The words behind `merge`, if that is the first one.
+// The words after `merge`, if that is the first one.
 fn behind_merge(words: &[String]) -> Option<&[String]>
     ensures some { IfSome result (λ rest. bytes_of words.now ≡ codes "merge" ∷ bytes_of rest.now) }
     ensures none { IfNone result (NoMerge (bytes_of words.now)) }
@@ -97,7 +97,7 @@ fn is_merge(first: &str) -> bool
     first == "merge"
 }
 
-// The command of `merge` with these words behind it.
+// The command of `merge` with these words after it.
 fn merge_of(rest: &[String]) -> Command<'_>
     ensures { IsCommand (codes "merge" ∷ bytes_of rest.now) result }
 {
@@ -107,7 +107,7 @@ fn merge_of(rest: &[String]) -> Command<'_>
     }
 }
 
-// The command of `merge` with a configuration, a folder and these words behind them.
+// The command of `merge` with a configuration, a folder and these words after them.
 fn merge_of_parts<'a>(config: &'a str, out: &'a str, texts: &[String]) -> Command<'a>
     ensures { IsCommand (codes "merge" ∷ config.now ∷ out.now ∷ bytes_of texts.now) result }
 {
@@ -120,7 +120,7 @@ fn merge_of_parts<'a>(config: &'a str, out: &'a str, texts: &[String]) -> Comman
     }
 }
 
-// The command that words are of which `merge` is not the first.
+// The command that these words are. The first of them is not `merge`.
 fn other_command(words: &[String]) -> Command<'_>
     requires { NoMerge (bytes_of words.now) }
     ensures { IsCommand (bytes_of words.now) result }
@@ -136,7 +136,7 @@ fn other_command(words: &[String]) -> Command<'_>
     }
 }
 
-// Fewer or more words are no command.
+// Any other number of words is no command.
 #[tactic(auto, using(crate::proofs::Usages::no_command))]
 fn no_command(words: &[String]) -> Command<'_>
     requires no_merge { NoMerge (bytes_of words.now) }
@@ -224,7 +224,7 @@ fn is_query(first: &str) -> bool
     first == "query"
 }
 
-// The command of `query` with these words behind it.
+// The command of `query` with these words after it.
 fn query_of<'a>(out: &'a str, area: &str, depths: &str) -> Command<'a>
     ensures { IsCommand (codes "query" ∷ out.now ∷ area.now ∷ depths.now ∷ []) result }
 {
@@ -243,7 +243,7 @@ fn is_part(first: &str) -> bool
     first == "part"
 }
 
-// The command of `part` with these words behind it.
+// The command of `part` with these words after it.
 fn part_of<'a>(config: &'a str, out: &'a str, octants: &str) -> Command<'a>
     ensures { IsCommand (codes "part" ∷ config.now ∷ out.now ∷ octants.now ∷ []) result }
 {
@@ -286,7 +286,7 @@ fn is_select(first: &str) -> bool
     first == "select"
 }
 
-// The command of `select` with these words behind it.
+// The command of `select` with these words after it.
 fn select_of<'a>(
     out: &'a str,
     area: &str,
@@ -322,7 +322,7 @@ fn is_trial(first: &str) -> bool
     first == "trial"
 }
 
-// The command of `trial` with these words behind it.
+// The command of `trial` with these words after it.
 fn trial_of<'a>(points: &str, workers: &str, cache: &str) -> Command<'a>
     ensures { IsCommand (codes "trial" ∷ points.now ∷ workers.now ∷ cache.now ∷ []) result }
 {
@@ -343,7 +343,7 @@ fn trial_of<'a>(points: &str, workers: &str, cache: &str) -> Command<'a>
     }
 }
 
-// The number that a word spells, where it is at most this one.
+// The number that a word spells, if it is at most `most`.
 fn read_number(word: &str, most: u32) -> Option<u32>
     ensures some { IfSome result (λ n. (word.now ≡ decimal n) × (n ≤ most)) }
     ensures none { IfNone result ((n : ℕ) → n ≤ most → word.now ≢ decimal n) }
@@ -352,7 +352,7 @@ fn read_number(word: &str, most: u32) -> Option<u32>
     number_of(whole, most)
 }
 
-// The number, where it is at most this one.
+// The number, if it is at most `most`.
 fn number_of(whole: i64, most: u32) -> Option<u32>
     ensures some { IfSome result (λ n. (whole ≡ pos n) × (n ≤ most)) }
     ensures none { IfNone result ((n : ℕ) → whole ≡ pos n → n ≤ most → ⊥) }

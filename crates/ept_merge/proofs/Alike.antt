@@ -36,7 +36,7 @@ nothing : {X : Type 0} (xs : List X) → length xs ≡ 0 → xs ≡ []
 nothing [] none = refl
 nothing (x ∷ xs) none = absurd (omega (arith, none))
 
--- nothing differs, and there are as many inputs
+-- nothing differs, and the number of inputs is the same
 same-kept : (kept given : Kept) → GoesOnFrom kept given → length kept.inputs ≡ length given.inputs → given ≡ kept
 same-kept kept given on number =
     let first : ArePrefix kept.inputs given.inputs = on 10 field.Scale (omega arith) in

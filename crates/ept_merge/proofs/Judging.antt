@@ -72,7 +72,7 @@ both-ok v w is also = subst (λ (x : Outcome). Agrees x w) (sym is) (subst (λ (
 
 -- ---- a step of judging
 
--- it ends with this result, or passes and goes on
+-- it ends with this result, or passes and the rest is judged
 abbrev Step : {W : Type 0} → (Outcome → Type 0) → (W → Outcome → Type 0) → Outcome → Type 0
 Step {W} ends rest v = ends v ⊎ ((w : W) × rest w v)
 

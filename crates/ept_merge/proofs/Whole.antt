@@ -213,7 +213,7 @@ module _ (parts : List Lines) (are : AreRooted parts) where
       member-among (all_keys parts) (parent key)
       (part-all p.0 (parent key) p.1 (among-member (keys_of p.0) (parent key) (all-member (HasParent (keys_of p.0)) key (keys_of p.0) r.whole.parents (below-key p.0 r key p.2).0 deep)))
 
-  -- the masks below the root tell the children
+  -- the masks below the root state the children
   module _ (once : Once (keys_of (below parts))) where
     children-below : (lines : Lines) (line : NodeLine) → IsMember lines parts → IsMember line (drop 1 lines) → TellsChildren (all_keys parts) line
     children-below lines line among m o low =

@@ -200,8 +200,8 @@ IsOwnPart shelf config files octants =
 abbrev pub AreOwnParts : Files → Config → Files → List ℕ → Type 0
 AreOwnParts shelf config files parts = All (IsOwnPart shelf config files) parts
 
--- Parts that can be merged. The folder has no checkpoint, the inputs are accepted and the root has octants. Each part is
--- there, made from these inputs with this configuration.
+-- Parts that can be merged. The folder has no checkpoint, the inputs are accepted and the root has octants. Each part
+-- is there, made from these inputs with this configuration.
 pub record AreReady (shelf files : Files) (config : Config) (parts : List ℕ) : Type 0 where
   pub fresh : HasCurrent None files
   pub accepted : OfScan shelf config (λ points done. (0 < (rules_by config done).cube.depth) × (length (sampled (rules_by config done) points) ≤ config.max_nodes) × IsInRange done)

@@ -38,8 +38,8 @@ pub enum MergeError {
     PartDiffers { octants: u8 },
     /// The part with these octants is damaged. With a key, the tile of that key is missing, malformed, or has a point
     /// outside the part. Without one, the part's body is missing, malformed, or that of a checkpoint with tiles of the
-    /// old layout. Or it is the last part, and the bodies do not fit together: a key below the root is in two of them, or
-    /// they do not have all points.
+    /// old layout. Or the bodies do not fit together, and this is the last part. They do not fit if a key below the
+    /// root is in two of them, or if they do not have all points.
     PartDamaged { octants: u8, key: Option<Key> },
     /// The parts have more nodes together than there may be.
     TooManyNodes,

@@ -58,7 +58,7 @@ pub fn merge<H: Shelf, T: Store>(
         (T.files store.old)) (H.files shelf.old)) }
     ensures settled { OnOk result (IsSettled (T.files store.new) (T.may_leave store.new)) }
 
-    // Whatever the moment, the files of the parts are as before, and the files are sound, if they and the parts were so.
+    // At every moment the files of the parts are as before, and the files are sound, if they and the parts were so.
     ensures parts_stay { Moves T.files T.may_leave T.moment T.image_since KeepsParts store.old store.new }
     ensures sound { (all start : Files) → H.files shelf.old ≡ Some all → T.files store.old ≡ Some start
         → IsSettled (T.files store.old) (T.may_leave store.old) → IsSound all start → AreSoundParts all start parts.now

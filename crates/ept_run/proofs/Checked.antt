@@ -67,7 +67,7 @@ module _ (status : ℕ) (old new : Option (List ℕ)) (failed : Type 0) where
   said_yields line (inl done) = inl done.0
   said_yields line (inr cut) = inr (inl cut.0)
 
-  -- of complete files the dataset is fit, or a device fails, or memory runs out
+  -- the dataset of complete files is fit, or a device fails, or memory runs out
   pub check_yields : (points nodes : ℕ) (answer : Answer) → ComesOrFails (Ok (Fit points nodes)) answer → SaysCheck answer status old new failed → Yields 0 status
   check_yields points nodes answer (inl is) says =
       said_yields (fit_text points nodes) (subst (λ (a : Answer). SaysCheck a status old new failed) is says)

@@ -1,11 +1,13 @@
 mod Apart
 mod Asked
+mod Built
 mod Checked
 mod Coming
 mod Merged
 mod OctantList
 mod Parted
 mod Queried
+mod Ready
 mod Refused
 mod Runs
 mod Selected

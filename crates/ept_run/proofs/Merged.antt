@@ -1,6 +1,6 @@
 -- What a merge comes to, and how it ends.
-use Rattle.std.proofs.Common.{◌≡◌, ◌≢◌, ◌⊎◌, inl, inr, ⊎_elim, ℕ, ◌≤◌, List, Option, None, Some, Ok, Err, refl, sym, ◌∙◌, ap, subst, arith}
-use Rattle.std.specs.Prelude.{◌↔◌, Result, Vec, IfOk, IfErr, OnOk, ⊤}
+use Rattle.std.proofs.Common.{◌≡◌, ◌≢◌, ◌⊎◌, inl, inr, ℕ, List, Option, None, Some, Ok, Err, refl, sym, ◌∙◌, ap, subst, arith}
+use Rattle.std.specs.Prelude.{Vec, IsOk, IfOk, IfErr, OnOk, ⊤}
 use Rattle.std.specs.Io.KnownBytes.{Appends}
 use Rattle.std.specs.declared.alloc.Global.{Global}
 use Rattle.ept_base.specs.Devices.{AppendsPrefix}
@@ -25,17 +25,19 @@ use Rattle.ept_command.specs.declared.refusal.Refusal.TheVariants.{Usage, BadCon
 use Rattle.ept_command.specs.declared.refusal.PartRefusal.TheVariants.{AsBuild, Shallow}
 use Rattle.ept_command.specs.declared.refusal.MergeRefusal.{MergeRefusal}
 use Rattle.ept_command.specs.declared.refusal.MergeRefusal.TheVariants.{AsPart, HasCheckpoint, NoPart, PartDiffers, PartDamaged}
-use Rattle.ept_command.specs.Statuses.{status_of}
+use Rattle.ept_command.specs.Words.{IsMerge}
 use Rattle.ept_command.specs.Configurations.{HasConfiguration, ConfigurationIsRefused, IsOfConfiguration}
+use Rattle.ept_command.proofs.PartTexts.{merge_once}
+use Rattle.ept_class.specs.Laws.{MembersMakeTheSet}
 use Rattle.ept_run.specs.Errors.{of_build}
-use Rattle.ept_run.specs.Lines.{summary_text, line_of}
-use Rattle.ept_run.specs.Answers.{Says, IsSaid, IsSaidFor, IsReported}
-use Rattle.ept_run.specs.Parts.{IsPartReported}
-use Rattle.ept_run.specs.Merges.{Outcome, as_build, of_merge, merge_status, merge_line, part_text, IsFaultOfParts, IsEarlyMerge, AfterMerge, OfSound, IsMergedAt, MergeIsRefused, AreOwnAt, ComesToMerge, SaysMerge, merge_failure, FailsAsMerge, IsMergeReported, EndsMerge}
+use Rattle.ept_run.specs.Requests.{IsMergeReadyAt, IsDefinite}
+use Rattle.ept_run.specs.Lines.{summary_text}
+use Rattle.ept_run.specs.Answers.{Yields, AsksMerge, Says, IsSaidFor}
+use Rattle.ept_run.specs.Merges.{Outcome, as_build, of_merge, merge_status, merge_line, FailsMerge, ReportsMerge, IsFaultOfParts, IsEarlyMerge, AfterMerge, IsMergedAt, MergeIsRefused, MergingIsRefusedAt, AreOwnAt, ComesToMerge, SaysMerge, merge_failure, FailsAsMerge, IsMergeReported, EndsMerge}
 use Rattle.ept_run.proofs.Asked.{told_as, told_always}
-use Rattle.ept_run.proofs.Parted.{tells_both, fails_at, said_not}
-use Rattle.ept_run.proofs.Refused.{one_config}
-use Rattle.ept_run.proofs.Runs.{usage_only, device_only, configuration_only, never_done}
+use Rattle.ept_run.proofs.Parted.{tells_both, fails_at}
+use Rattle.ept_run.proofs.Ready.{unread_fails, unread_cause, accepted_after, ready_sound}
+use Rattle.ept_run.proofs.Refused.{one_config, not_refused}
 
 -- ---- refusals
 
@@ -45,40 +47,11 @@ inside a b same = cc
 merge_inside : (a b : MergeRefusal) → ◌≡◌ {A = Outcome} (Err a) (Err b) → a ≡ b
 merge_inside a b same = cc
 
+is_ok : (summary : Summary) → IsOk {T = Summary} {E = MergeRefusal} (Ok summary)
+is_ok summary = refl
+
 ok_is_no_err : (summary : Summary) (r : MergeRefusal) → ◌≡◌ {A = Outcome} (Ok summary) (Err r) → ⊥
 ok_is_no_err summary r same = cc
-
-pub merge_source : (e : MergeError) → of_merge e ≡ as_build SourceFault → e ≡ merge.SourceFault
-merge_source merge.StoreFault is = absurd cc
-merge_source (merge.BadCheckpoint letter) is = absurd cc
-merge_source (merge.HasCheckpoint generation) is = absurd cc
-merge_source merge.SourceFault is = refl
-merge_source (merge.BadLas source fault) is = absurd cc
-merge_source (merge.OutOfBounds source number) is = absurd cc
-merge_source (merge.TooManyPoints source) is = absurd cc
-merge_source merge.NoBounds is = absurd cc
-merge_source merge.Shallow is = absurd cc
-merge_source (merge.NoPart octants) is = absurd cc
-merge_source (merge.PartDiffers octants) is = absurd cc
-merge_source (merge.PartDamaged octants key) is = absurd cc
-merge_source merge.TooManyNodes is = absurd cc
-merge_source merge.Memory is = absurd cc
-
-pub merge_store : (e : MergeError) → of_merge e ≡ as_build StoreFault → e ≡ merge.StoreFault
-merge_store merge.StoreFault is = refl
-merge_store (merge.BadCheckpoint letter) is = absurd cc
-merge_store (merge.HasCheckpoint generation) is = absurd cc
-merge_store merge.SourceFault is = absurd cc
-merge_store (merge.BadLas source fault) is = absurd cc
-merge_store (merge.OutOfBounds source number) is = absurd cc
-merge_store (merge.TooManyPoints source) is = absurd cc
-merge_store merge.NoBounds is = absurd cc
-merge_store merge.Shallow is = absurd cc
-merge_store (merge.NoPart octants) is = absurd cc
-merge_store (merge.PartDiffers octants) is = absurd cc
-merge_store (merge.PartDamaged octants key) is = absurd cc
-merge_store merge.TooManyNodes is = absurd cc
-merge_store merge.Memory is = absurd cc
 
 -- no refusal of merging is that of the words, of spill files or of a configuration
 abbrev ForeignCause : Refusal → Type 0
@@ -221,29 +194,7 @@ pub never_of_parts : (r : Refusal) → ¬ IsFaultOfParts (as_build r)
 never_of_parts r (inl (octants, is)) = cc
 never_of_parts r (inr (octants, key, is)) = cc
 
--- a fault of a device, and of which one
-abbrev IsDevice : Refusal → Type 0
-IsDevice Usage = ⊥
-IsDevice (BadConfiguration error) = ⊥
-IsDevice (BadLas source fault) = ⊥
-IsDevice (OutOfBounds source number) = ⊥
-IsDevice NoBounds = ⊥
-IsDevice (SourceChanged source number) = ⊥
-IsDevice (TooManyPoints source) = ⊥
-IsDevice TooManyNodes = ⊥
-IsDevice (Differs field) = ⊥
-IsDevice (BadCheckpoint letter) = ⊥
-IsDevice (TileDamaged key) = ⊥
-IsDevice SourceFault = ⊤
-IsDevice StoreFault = ⊤
-IsDevice SpillFault = ⊤
-IsDevice SpillDamaged = ⊥
-IsDevice Memory = ⊥
-
-abbrev WhichDevice : BuildError → Refusal → Type 0
-WhichDevice e r = ((e ≡ build.StoreFault) × (r ≡ StoreFault)) ⊎ ((e ≡ build.SourceFault) × (r ≡ SourceFault)) ⊎ ((e ≡ build.SpillFault) × (r ≡ SpillFault))
-
-build_words : (e : BuildError) → of_build e ≢ Usage
+pub build_words : (e : BuildError) → of_build e ≢ Usage
 build_words build.StoreFault is = cc
 build_words build.SpillFault is = cc
 build_words (build.SpillDamaged kept found at) is = cc
@@ -275,50 +226,6 @@ build_config (build.SourceChanged source number) error is = cc
 build_config build.TooManyNodes error is = cc
 build_config build.Memory error is = cc
 
-build_device : (e : BuildError) (r : Refusal) → of_build e ≡ r → IsDevice r → WhichDevice e r
-build_device build.StoreFault r is device = inl (refl, sym is)
-build_device build.SpillFault r is device = inr (inr (refl, sym is))
-build_device (build.SpillDamaged kept found at) r is device = absurd (subst IsDevice (sym is) device)
-build_device (build.BadCheckpoint letter) r is device = absurd (subst IsDevice (sym is) device)
-build_device (build.TileDamaged key) r is device = absurd (subst IsDevice (sym is) device)
-build_device (build.Differs field kept given) r is device = absurd (subst IsDevice (sym is) device)
-build_device build.SourceFault r is device = inr (inl (refl, sym is))
-build_device (build.BadLas source fault) r is device = absurd (subst IsDevice (sym is) device)
-build_device (build.OutOfBounds source number) r is device = absurd (subst IsDevice (sym is) device)
-build_device (build.TooManyPoints source) r is device = absurd (subst IsDevice (sym is) device)
-build_device build.NoBounds r is device = absurd (subst IsDevice (sym is) device)
-build_device (build.SourceChanged source number) r is device = absurd (subst IsDevice (sym is) device)
-build_device build.TooManyNodes r is device = absurd (subst IsDevice (sym is) device)
-build_device build.Memory r is device = absurd (subst IsDevice (sym is) device)
-
-pub built_source : (e : BuildError) → as_build (of_build e) ≡ as_build SourceFault → e ≡ build.SourceFault
-built_source e is = by (build_device e SourceFault (inside (of_build e) SourceFault is) tt)
-  where
-    by : WhichDevice e SourceFault → e ≡ build.SourceFault
-    by (inl (same, other)) = absurd cc
-    by (inr (inl (same, other))) = same
-    by (inr (inr (same, other))) = absurd cc
-
-pub built_store : (e : BuildError) → as_build (of_build e) ≡ as_build StoreFault → e ≡ build.StoreFault
-built_store e is = by (build_device e StoreFault (inside (of_build e) StoreFault is) tt)
-  where
-    by : WhichDevice e StoreFault → e ≡ build.StoreFault
-    by (inl (same, other)) = same
-    by (inr (inl (same, other))) = absurd cc
-    by (inr (inr (same, other))) = absurd cc
-
-pub built_spill : (e : BuildError) → as_build (of_build e) ≡ as_build SpillFault → e ≡ build.SpillFault
-built_spill e is = by (build_device e SpillFault (inside (of_build e) SpillFault is) tt)
-  where
-    by : WhichDevice e SpillFault → e ≡ build.SpillFault
-    by (inl (same, other)) = absurd cc
-    by (inr (inl (same, other))) = absurd cc
-    by (inr (inr (same, other))) = same
-
--- a refusal inside an answer
-pub answer_inside : {A : Type 0} (a b : MergeRefusal) → ◌≡◌ {A = Result A MergeRefusal} (Err a) (Err b) → a ≡ b
-answer_inside a b same = cc
-
 -- ---- what a merge comes to
 
 -- files between the merge and the build are sound, and the build begins with them
@@ -332,7 +239,23 @@ between_of held all config shelf later store mid may after start same begins ste
     by None is steps merged = absurd steps
     by (Some between) is sound merged = (between, record { spills = begins.spills; shelf_told = same ∙ begins.shelf_told; told = is; settled = settled; sound = sound }, merged)
 
+-- a fact of the shelf's files and the store's, of those that they are
+pub of_both : (P : Files → Files → Type 0) (files old : Option Files) (all start : Files) → files ≡ Some all → old ≡ Some start → Tells (λ a. Tells (λ s. P a s) old) files → P all start
+of_both P files old all start told stored tells =
+    let at_all : Tells (λ s. P all s) old = subst (λ (o : Option Files). Tells (λ a. Tells (λ s. P a s) old) o) told tells in
+    subst (λ (o : Option Files). Tells (λ s. P all s) o) stored at_all
+
 module _ (path parts : List ℕ) (old : Option Files) (Begins : Files → Files → Type 0) (new : Option Files) (flushed same source store room : Type 0) where
+  -- what comes of parts that are ready, of a merge that is refused, and of a configuration that is
+  abbrev Ready : Outcome → Files → Files → Type 0
+  Ready outcome all start = Begins all start → IsMergeReadyAt all start path parts → IsOk outcome ⊎ FailsMerge outcome
+
+  abbrev Comes : Outcome → Files → Files → Type 0
+  Comes outcome all start = (error : MergeError) → MergingIsRefusedAt all start path parts error → ReportsMerge (of_merge error) outcome ⊎ FailsMerge outcome
+
+  abbrev Unread : Outcome → Files → Type 0
+  Unread outcome all = (cause : Refusal) → IsDefinite cause → ConfigurationIsRefused all path cause → (outcome ≡ Err (as_build cause)) ⊎ FailsMerge outcome
+
   -- the configuration can't be read
   pub unread_merge : (files : Option Files) (r : Refusal) → IsOfConfiguration r → Tells (λ all. ConfigurationIsRefused all path r) files → same → (r ≡ SourceFault → source)
       → ComesToMerge path parts (Err (as_build r)) files old Begins new flushed same source store room
@@ -340,6 +263,12 @@ module _ (path parts : List ℕ) (old : Option Files) (Begins : Files → Files 
     merged = tt;
     settled = tt;
     refused = told_as (λ all. ConfigurationIsRefused all path r) (λ all. MergeIsRefused all old Begins path parts (as_build r)) files (λ all is. inl (r, refl, is)) refused;
+    ready = told_as (λ all. ConfigurationIsRefused all path r) (λ all. Tells (λ start. Ready (Err (as_build r)) all start) old) files
+        (λ all is. told_always (λ start. Ready (Err (as_build r)) all start) old (λ start begins asked. inr (unread_fails all path r asked.config is asked.configures))) refused;
+    comes = told_as (λ all. ConfigurationIsRefused all path r) (λ all. Tells (λ start. Comes (Err (as_build r)) all start) old) files
+        (λ all is. told_always (λ start. Comes (Err (as_build r)) all start) old (λ start error asked. inr (unread_fails all path r asked.config is asked.configures))) refused;
+    unread = told_as (λ all. ConfigurationIsRefused all path r) (λ all. Unread (Err (as_build r)) all) files
+        (λ all is cause definite also. unread_cause all path r cause is definite also) refused;
     own = told_always (λ all. Tells (λ start. AreOwnAt all start path parts → ¬ IsFaultOfParts (as_build r)) old) files (λ all. told_always (λ start. AreOwnAt all start path parts → ¬ IsFaultOfParts (as_build r)) old (λ start own. never_of_parts r));
     early = λ is. unchanged;
     sources = λ is. cause (inside r SourceFault (merge_inside (as_build r) (as_build SourceFault) is));
@@ -357,16 +286,42 @@ module _ (path parts : List ℕ) (old : Option Files) (Begins : Files → Files 
         by (Some all) None is told has = tt
         by (Some all) (Some start) is told has = λ asked. own all start is told (subst (λ (c : Config). merging.AreOwnParts all c start parts) (one_config all path asked.config config asked.configures has) asked.own)
 
+    -- what is asked of the configuration that the shelf has is asked of this one
+    ready_asked : (outcome : Outcome) → ((all start : Files) → files ≡ Some all → old ≡ Some start → Begins all start → merging.AreReady all start config parts → IsOk outcome ⊎ FailsMerge outcome) → Tells (λ all. Tells (λ start. Ready outcome all start) old) files
+    ready_asked outcome comes = by files old refl refl configures
+      where
+        by : (f o : Option Files) → files ≡ f → old ≡ o → Tells (λ all. HasConfiguration all path config) f → Tells (λ all. Tells (λ start. Ready outcome all start) o) f
+        by None o is told has = tt
+        by (Some all) None is told has = tt
+        by (Some all) (Some start) is told has = λ begins asked. comes all start is told begins (subst (λ (c : Config). merging.AreReady all start c parts) (one_config all path asked.config config asked.configures has) asked.ready)
+
+    comes_asked : (outcome : Outcome) → ((all start : Files) → files ≡ Some all → old ≡ Some start → (error : MergeError) → merging.IsDefinite error → merging.IsRefused all start config parts error → ReportsMerge (of_merge error) outcome ⊎ FailsMerge outcome) → Tells (λ all. Tells (λ start. Comes outcome all start) old) files
+    comes_asked outcome comes = by files old refl refl configures
+      where
+        by : (f o : Option Files) → files ≡ f → old ≡ o → Tells (λ all. HasConfiguration all path config) f → Tells (λ all. Tells (λ start. Comes outcome all start) o) f
+        by None o is told has = tt
+        by (Some all) None is told has = tt
+        by (Some all) (Some start) is told has = λ error asked. comes all start is told error asked.definite (subst (λ (c : Config). merging.IsRefused all start c parts error) (one_config all path asked.config config asked.configures has) asked.refused)
+
+    -- it is not refused
+    is_read : (outcome : Outcome) → Tells (λ all. Unread outcome all) files
+    is_read outcome = told_as (λ all. HasConfiguration all path config) (λ all. Unread outcome all) files (λ all has cause definite refused. absurd (not_refused all path config has cause definite refused)) configures
+
     -- the parts are not merged
     pub unmerged : (r : MergeRefusal) (error : MergeError) → r ≡ of_merge error → Tells (λ all. Tells (λ start. merging.IsRefused all start config parts error) old) files
+        → ((all start : Files) → files ≡ Some all → old ≡ Some start → merging.AreReady all start config parts → IsOk {T = Summary} {E = MergeRefusal} (Err r) ⊎ FailsMerge {A = Summary} (Err r))
+        → ((all start : Files) → files ≡ Some all → old ≡ Some start → (error : MergeError) → merging.IsDefinite error → merging.IsRefused all start config parts error → ReportsMerge {A = Summary} (of_merge error) (Err r) ⊎ FailsMerge {A = Summary} (Err r))
         → ((all start : Files) → files ≡ Some all → old ≡ Some start → merging.AreOwnParts all config start parts → ¬ IsFaultOfParts r)
         → (IsEarlyMerge r → same) → (r ≡ as_build SourceFault → source) → (r ≡ as_build StoreFault → store)
         → ComesToMerge path parts (Err r) files old Begins new flushed same source store room
-    unmerged r error r_is refused own early sources stores = record {
+    unmerged r error r_is refused ready comes own early sources stores = record {
       merged = tt;
       settled = tt;
       refused = tells_both (λ all. HasConfiguration all path config) (λ all. Tells (λ start. merging.IsRefused all start config parts error) old) (λ all. MergeIsRefused all old Begins path parts r) files
           (λ all has is. inr (inl (config, error, r_is, has, is))) configures refused;
+      ready = ready_asked (Err r) (λ all start told stored begins is. ready all start told stored is);
+      comes = comes_asked (Err r) comes;
+      unread = is_read (Err r);
       own = own_asked r own;
       early = early;
       sources = λ is. sources (merge_inside r (as_build SourceFault) is);
@@ -375,7 +330,7 @@ module _ (path parts : List ℕ) (old : Option Files) (Begins : Files → Files 
     }
 
     -- they are, and the build that follows comes to this
-    module _ (accepted : Tells (λ all. Tells (λ start. merging.WereMerged all start config parts) old) files) where
+    module _ (accepted : Tells (λ all. Tells (λ start. merging.WereMerged all start config parts) old) files) (never : (all start : Files) → files ≡ Some all → old ≡ Some start → (error : MergeError) → merging.IsDefinite error → merging.IsRefused all start config parts error → ⊥) where
       pub built_after : (summary : Summary) → flushed
           → ((all start : Files) → files ≡ Some all → Begins all start → merging.AreSoundParts all start parts → Tells (λ after. AfterMerge all config (λ between. building.IsBuilt all config between summary after)) new)
           → ComesToMerge path parts (Ok summary) files old Begins new flushed same source store room
@@ -383,6 +338,9 @@ module _ (path parts : List ℕ) (old : Option Files) (Begins : Files → Files 
         merged = by files refl configures accepted;
         settled = settled;
         refused = tt;
+        ready = ready_asked (Ok summary) (λ all start told stored begins ready. inl (is_ok summary));
+        comes = comes_asked (Ok summary) (λ all start told stored error definite refused. absurd (never all start told stored error definite refused));
+        unread = is_read (Ok summary);
         own = tt;
         early = tt;
         sources = λ is. absurd (ok_is_no_err summary (as_build SourceFault) is);
@@ -395,13 +353,17 @@ module _ (path parts : List ℕ) (old : Option Files) (Begins : Files → Files 
           by (Some all) is has were = record { config = config; configures = has; accepted = were; built = λ start begins sound. built all start is begins sound }
 
       pub unbuilt_after : (r : MergeRefusal) (error : BuildError) → r ≡ as_build (of_build error)
+          → ((all start : Files) → files ≡ Some all → old ≡ Some start → Begins all start → merging.AreReady all start config parts → IsOk {T = Summary} {E = MergeRefusal} (Err r) ⊎ FailsMerge {A = Summary} (Err r))
           → ((all start : Files) → files ≡ Some all → Begins all start → merging.AreSoundParts all start parts → AfterMerge all config (λ between. building.IsRefused all config between error))
           → (r ≡ as_build SourceFault → source) → (r ≡ as_build StoreFault → store) → (r ≡ as_build SpillFault → room)
           → ComesToMerge path parts (Err r) files old Begins new flushed same source store room
-      unbuilt_after r error r_is refused sources stores spills = record {
+      unbuilt_after r error r_is ready refused sources stores spills = record {
         merged = tt;
         settled = tt;
         refused = by files refl configures;
+        ready = ready_asked (Err r) ready;
+        comes = comes_asked (Err r) (λ all start told stored error definite refused. absurd (never all start told stored error definite refused));
+        unread = is_read (Err r);
         own = own_asked r (λ all start told stored own. subst (λ (x : MergeRefusal). ¬ IsFaultOfParts x) (sym r_is) (never_of_parts (of_build error)));
         early = λ is. absurd (late (subst IsEarlyMerge r_is is));
         sources = λ is. sources (merge_inside r (as_build SourceFault) is);
@@ -418,32 +380,29 @@ module _ (path parts : List ℕ) (old : Option Files) (Begins : Files → Files 
 
 module _ (path parts : List ℕ) (old : Option Files) (Begins : Files → Files → Type 0) (new : Option Files) (flushed same source store room : Type 0) (files : Option Files) (config : Config) (configures : Tells (λ all. HasConfiguration all path config) files) where
   -- what comes of the build that follows, which begins as Again says
-  pub came_after : Tells (λ all. Tells (λ start. merging.WereMerged all start config parts) old) files → (Again : Files → Files → Type 0) → ((all between : Files) → Again all between → IsSound all between)
+  pub came_after : Tells (λ all. Tells (λ start. merging.WereMerged all start config parts) old) files → ((all start : Files) → files ≡ Some all → old ≡ Some start → (error : MergeError) → merging.IsDefinite error → merging.IsRefused all start config parts error → ⊥)
+      → (Again : Files → Files → Type 0) → ((all between : Files) → Again all between → IsSound all between)
       → ((all start : Files) → files ≡ Some all → Begins all start → merging.AreSoundParts all start parts → (between : Files) × Again all between × merging.HasMerged all config between)
       → (outcome : Outcome) → OnOk outcome flushed
       → ((all start : Files) → Again all start → IfOk outcome (λ summary. Tells (building.IsBuilt all config start summary) new))
       → IfErr outcome (λ r. (error : BuildError) × (r ≡ as_build (of_build error)) × ((all start : Files) → Again all start → building.IsRefused all config start error))
+      → ((all start : Files) → Again all start → building.IsAccepted all config start → IsOk outcome ⊎ FailsMerge outcome)
       → (outcome ≡ Err (as_build SourceFault) → source) → (outcome ≡ Err (as_build StoreFault) → store) → (outcome ≡ Err (as_build SpillFault) → room)
       → ComesToMerge path parts outcome files old Begins new flushed same source store room
-  came_after accepted Again sound_of again (Ok summary) settled built refused sources stores spills =
-      built_after path parts old Begins new flushed same source store room files config configures accepted summary settled (λ all start told begins sound.
+  came_after accepted never Again sound_of again (Ok summary) settled built refused accepts sources stores spills =
+      built_after path parts old Begins new flushed same source store room files config configures accepted never summary settled (λ all start told begins sound.
       let m = again all start told begins sound in
       told_as (λ after. building.IsBuilt all config m.0 summary after) (λ after. AfterMerge all config (λ between. building.IsBuilt all config between summary after)) new
       (λ after is. record { between = m.0; merged = m.2; sound = sound_of all m.0 m.1; holds = is }) (built all m.0 m.1))
-  came_after accepted Again sound_of again (Err r) settled built refused sources stores spills =
-      unbuilt_after path parts old Begins new flushed same source store room files config configures accepted r refused.0 refused.1 (λ all start told begins sound.
+  came_after accepted never Again sound_of again (Err r) settled built refused accepts sources stores spills =
+      unbuilt_after path parts old Begins new flushed same source store room files config configures accepted never r refused.0 refused.1
+      (λ all start told stored begins ready.
+      let m = again all start told begins (ready_sound all start config parts ready.own) in
+      accepts all m.0 m.1 (accepted_after all start m.0 config parts m.2 ready))
+      (λ all start told begins sound.
       let m = again all start told begins sound in
       record { between = m.0; merged = m.2; sound = sound_of all m.0 m.1; holds = refused.2 all m.0 m.1 })
       (λ is. sources (ap (λ (x : MergeRefusal). Err x) is)) (λ is. stores (ap (λ (x : MergeRefusal). Err x) is)) (λ is. spills (ap (λ (x : MergeRefusal). Err x) is))
-
-pub unread_words : (r : Refusal) → IsOfConfiguration r → as_build r ≢ as_build Usage
-unread_words r of is = subst IsOfConfiguration (inside r Usage is) of
-
-pub unbuilt_words : (r : MergeRefusal) (error : BuildError) → r ≡ as_build (of_build error) → r ≢ as_build Usage
-unbuilt_words r error r_is is = build_words error (inside (of_build error) Usage (sym r_is ∙ is))
-
-pub unbuilt_config : (r : MergeRefusal) (error : BuildError) → r ≡ as_build (of_build error) → (bad : ConfigError) → r ≢ as_build (BadConfiguration bad)
-unbuilt_config r error r_is bad is = build_config error bad (inside (of_build error) (BadConfiguration bad) (sym r_is ∙ is))
 
 -- ---- its moments
 
@@ -467,29 +426,6 @@ module _ (status : ℕ) (why_not : Option Failure) (old new : Option (List ℕ))
     unless_done = fails_at status why_not old new failed 7 (failure.LineNotWritten line) cut.0 (omega arith) cut.1;
   }
 
-  -- a refusal that a build may have too
-  pub cause_reported : (r : Refusal) → IsReported r status why_not old new failed
-      → IsMergeReported (Err (as_build r)) status why_not old new failed ⊎ IsMergeReported (Err (as_build Memory)) status why_not old new failed
-  cause_reported r reports = ⊎_elim (λ is. inl (by r is)) (λ is. inr (by Memory is)) reports.0.told_is
-    where
-      by : (x : Refusal) → reports.0.told ≡ x → IsMergeReported (Err (as_build x)) status why_not old new failed
-      by x is = record {
-        says = (sym reports.0.status_is ∙ ap status_of is, subst (λ (y : Refusal). Says (line_of y) old new failed) is reports.0.says);
-        fails = reports.1 ∙ ap (λ (y : Refusal). Some (failure.Refused y)) is;
-        unless_done = fails_at status why_not old new failed (status_of reports.0.told) (failure.Refused reports.0.told) (sym reports.0.status_is) (never_done reports.0.told) reports.1;
-      }
-
-  -- out of memory, for which the same line is written
-  pub lack_reported : status ≡ 9 → why_not ≡ Some (failure.Refused Memory) → Says (line_of Memory) old new failed → IsMergeReported (Err (as_build Memory)) status why_not old new failed
-  lack_reported is fails says = record { says = (is, says); fails = fails; unless_done = fails_at status why_not old new failed 9 (failure.Refused Memory) is (omega arith) fails }
-
-  -- a root without octants, as of a part
-  pub depth_reported : IsPartReported (Err Shallow) status why_not old new failed → IsMergeReported (Err (AsPart Shallow)) status why_not old new failed
-  depth_reported reported = record { says = reported.says; fails = reported.fails; unless_done = reported.unless_done }
-
-  pub checkpoint_reported : status ≡ 6 → why_not ≡ Some (failure.MergeRefused HasCheckpoint) → Says (merge_line HasCheckpoint) old new failed → IsMergeReported (Err HasCheckpoint) status why_not old new failed
-  checkpoint_reported is fails says = record { says = (is, says); fails = fails; unless_done = fails_at status why_not old new failed 6 (failure.MergeRefused HasCheckpoint) is (omega arith) fails }
-
   -- a part that is not there, that differs, or that is damaged
   pub named_reported : (r : MergeRefusal) (n : ℕ) → merge_failure r ≡ failure.MergeRefused r → merge_status r ≡ n → n ≢ 0 → (line : List ℕ) → merge_line r ≡ line
       → ((status ≡ n) × (why_not ≡ Some (failure.MergeRefused r)) × Says line old new failed) ⊎ IsMergeReported (Err (as_build Memory)) status why_not old new failed
@@ -503,55 +439,22 @@ module _ (status : ℕ) (why_not : Option Failure) (old new : Option (List ℕ))
 
 -- ---- what a report says
 
-merge_status_of : (r : MergeRefusal) (n : ℕ) → n ≢ 6 → n ≢ 8 → merge_status r ≡ n → (cause : Refusal) × (r ≡ as_build cause) × (status_of cause ≡ n)
-merge_status_of (AsPart (AsBuild cause)) n not_6 not_8 is = (cause, refl, is)
-merge_status_of (AsPart Shallow) n not_6 not_8 is = absurd (not_6 (sym is))
-merge_status_of HasCheckpoint n not_6 not_8 is = absurd (not_6 (sym is))
-merge_status_of (NoPart octants) n not_6 not_8 is = absurd (not_6 (sym is))
-merge_status_of (PartDiffers octants) n not_6 not_8 is = absurd (not_6 (sym is))
-merge_status_of (PartDamaged octants key) n not_6 not_8 is = absurd (not_8 (sym is))
-
 module _ (status : ℕ) (why_not : Option Failure) (old new : Option (List ℕ)) (failed : Type 0) where
-  words_of : (outcome : Outcome) → IfErr outcome (λ r. r ≢ as_build Usage) → SaysMerge outcome status old new failed → status ≢ 2
-  words_of (Ok summary) named says = said_not status old new failed 2 (omega arith) (omega arith) (summary_text summary.points summary.nodes) says
-  words_of (Err r) named says = λ is. let cause = merge_status_of r 2 (omega arith) (omega arith) (sym says.0 ∙ is) in named (cause.1 ∙ ap as_build (usage_only cause.0 cause.2))
-
-  pub merge_not_usage : (outcome : Outcome) → IfErr outcome (λ r. r ≢ as_build Usage) → IsMergeReported outcome status why_not old new failed ⊎ IsMergeReported (Err (as_build Memory)) status why_not old new failed → status ≢ 2
-  merge_not_usage outcome named (inl reported) = words_of outcome named reported.says
-  merge_not_usage outcome named (inr reported) = λ is. omega (arith, reported.says.0, is)
-
-  config_of : (outcome : Outcome) → SaysMerge outcome status old new failed → status ≡ 3 → (e : ConfigError) × (outcome ≡ Err (as_build (BadConfiguration e)))
-  config_of (Ok summary) says is = absurd (said_not status old new failed 3 (omega arith) (omega arith) (summary_text summary.points summary.nodes) says is)
-  config_of (Err r) says is =
-      let cause = merge_status_of r 3 (omega arith) (omega arith) (sym says.0 ∙ is) in
-      let bad = configuration_only cause.0 cause.2 in
-      (bad.0, ap (λ (x : MergeRefusal). Err x) (cause.1 ∙ ap as_build bad.1))
-
-  pub merge_configured : (outcome : Outcome) → IsMergeReported outcome status why_not old new failed ⊎ IsMergeReported (Err (as_build Memory)) status why_not old new failed → status ≡ 3 → (e : ConfigError) × (outcome ≡ Err (as_build (BadConfiguration e)))
-  merge_configured outcome (inl reported) is = config_of outcome reported.says is
-  merge_configured outcome (inr reported) is = absurd (omega (arith, reported.says.0, is))
-
   module _ (path parts : List ℕ) (files before : Option Files) (Begins : Files → Files → Type 0) (after : Option Files) (flushed same source store room : Type 0) where
-    device_of : (outcome : Outcome) → ComesToMerge path parts outcome files before Begins after flushed same source store room → SaysMerge outcome status old new failed → status ≡ 7 → source ⊎ store ⊎ room ⊎ failed
-    device_of (Ok summary) comes (inl ok) is = absurd (omega (arith, ok.0, is))
-    device_of (Ok summary) comes (inr cut) is = inr (inr (inr cut.1))
-    device_of (Err r) comes says is = let cause = merge_status_of r 7 (omega arith) (omega arith) (sym says.0 ∙ is) in by cause.0 cause.1 (device_only cause.0 cause.2)
-      where
-        by : (cause : Refusal) → r ≡ as_build cause → (cause ≡ SourceFault) ⊎ (cause ≡ StoreFault) ⊎ (cause ≡ SpillFault) → source ⊎ store ⊎ room ⊎ failed
-        by cause r_is (inl is_source) = inl (comes.sources (ap (λ (x : MergeRefusal). Err x) (r_is ∙ ap as_build is_source)))
-        by cause r_is (inr (inl is_store)) = inr (inl (comes.stores (ap (λ (x : MergeRefusal). Err x) (r_is ∙ ap as_build is_store))))
-        by cause r_is (inr (inr is_spill)) = inr (inr (inl (comes.spills (ap (λ (x : MergeRefusal). Err x) (r_is ∙ ap as_build is_spill)))))
+    abbrev lack : Outcome
+    lack = Err (as_build Memory)
 
-    pub merge_rose : (outcome : Outcome) → ComesToMerge path parts outcome files before Begins after flushed same source store room
-        → IsMergeReported outcome status why_not old new failed ⊎ IsMergeReported (Err (as_build Memory)) status why_not old new failed → status ≡ 7 → source ⊎ store ⊎ room ⊎ failed
-    merge_rose outcome comes (inl reported) is = device_of outcome comes reported.says is
-    merge_rose outcome comes (inr reported) is = absurd (omega (arith, reported.says.0, is))
+    lack_fails : FailsMerge lack
+    lack_fails = inr (inr (inr refl))
 
     lacking : ComesToMerge path parts (Err (as_build Memory)) files before Begins after flushed same source store room
     lacking = record {
       merged = tt;
       settled = tt;
       refused = told_always (λ all. MergeIsRefused all before Begins path parts (as_build Memory)) files (λ all. inl (Memory, refl, tt));
+      ready = told_always (λ all. Tells (λ start. Begins all start → IsMergeReadyAt all start path parts → IsOk lack ⊎ FailsMerge lack) before) files (λ all. told_always (λ start. Begins all start → IsMergeReadyAt all start path parts → IsOk lack ⊎ FailsMerge lack) before (λ start begins asked. inr lack_fails));
+      comes = told_always (λ all. Tells (λ start. (error : MergeError) → MergingIsRefusedAt all start path parts error → ReportsMerge (of_merge error) lack ⊎ FailsMerge lack) before) files (λ all. told_always (λ start. (error : MergeError) → MergingIsRefusedAt all start path parts error → ReportsMerge (of_merge error) lack ⊎ FailsMerge lack) before (λ start error asked. inr lack_fails));
+      unread = told_always (λ all. (cause : Refusal) → IsDefinite cause → ConfigurationIsRefused all path cause → (lack ≡ Err (as_build cause)) ⊎ FailsMerge lack) files (λ all cause definite refused. inr lack_fails);
       own = told_always (λ all. Tells (λ start. AreOwnAt all start path parts → ¬ IsFaultOfParts (as_build Memory)) before) files (λ all. told_always (λ start. AreOwnAt all start path parts → ¬ IsFaultOfParts (as_build Memory)) before (λ start own. never_of_parts Memory));
       early = λ is. absurd (not_bad is.0 is.1);
       sources = λ is. absurd (not_source (inside Memory SourceFault (merge_inside (as_build Memory) (as_build SourceFault) is)));
@@ -577,10 +480,32 @@ module _ (status : ℕ) (why_not : Option Failure) (old new : Option (List ℕ))
     merge_ends outcome comes (inl reported) = (record { outcome = outcome; says = reported.says; comes_to = comes }, reported.fails)
     merge_ends outcome comes (inr reported) = (record { outcome = Err (as_build Memory); says = reported.says; comes_to = lacking }, reported.fails)
 
-pub merge_unless_done : (outcome : Outcome) (status : ℕ) (why_not : Option Failure) (old new : Option (List ℕ)) (failed : Type 0)
-    → IsMergeReported outcome status why_not old new failed ⊎ IsMergeReported (Err (as_build Memory)) status why_not old new failed → (status ≡ 0) ↔ (why_not ≡ None)
-merge_unless_done outcome status why_not old new failed (inl reported) = reported.unless_done
-merge_unless_done outcome status why_not old new failed (inr reported) = reported.unless_done
+-- ---- what can be done
+
+module _ (status : ℕ) (old new : Option (List ℕ)) (failed : Type 0) where
+  -- parts that are ready are merged and built, or a device fails, or memory runs out
+  pub merge_yields : (outcome : Outcome) → IsOk outcome ⊎ FailsMerge outcome → SaysMerge outcome status old new failed → Yields 0 status
+  merge_yields (Ok summary) came (inl ok) = inl ok.0
+  merge_yields (Ok summary) came (inr cut) = inr (inl cut.0)
+  merge_yields (Err r) (inl ok) says = absurd cc
+  merge_yields (Err r) (inr fails) says = by fails
+    where
+      by : FailsMerge {A = Summary} (Err r) → Yields 0 status
+      by (inl is) = inr (inl (says.0 ∙ ap merge_status (merge_inside r (as_build SourceFault) is)))
+      by (inr (inl is)) = inr (inl (says.0 ∙ ap merge_status (merge_inside r (as_build StoreFault) is)))
+      by (inr (inr (inl is))) = inr (inl (says.0 ∙ ap merge_status (merge_inside r (as_build SpillFault) is)))
+      by (inr (inr (inr is))) = inr (inr (says.0 ∙ ap merge_status (merge_inside r (as_build Memory) is)))
+
+-- for words that ask for this merge
+pub merge_comes : (words : List (List ℕ)) (path out parts : List ℕ) → IsMerge words path out parts → MembersMakeTheSet → (files before : Option Files) (Begins : Files → Files → Type 0) (after : Option Files) (flushed same : Type 0) (status : ℕ) (old new : Option (List ℕ)) (source store room failed : Type 0)
+    → EndsMerge path parts status files before Begins after flushed same old new source store room failed
+    → (all start : Files) → files ≡ Some all → before ≡ Some start → Begins all start → AsksMerge words (λ p q. IsMergeReadyAt all start p q) → Yields 0 status
+merge_comes words path out parts is once files before Begins after flushed same status old new source store room failed ends all start told stored begins asks =
+    let one = merge_once once words asks.path asks.out path out asks.parts parts asks.words_are is in
+    let mine : IsMergeReadyAt all start path parts = subst (λ (p : List ℕ). IsMergeReadyAt all start p parts) one.0 (subst (λ (q : List ℕ). IsMergeReadyAt all start asks.path q) one.1 asks.holds) in
+    let comes : Begins all start → IsMergeReadyAt all start path parts → IsOk ends.outcome ⊎ FailsMerge ends.outcome =
+    of_both (λ a s. Begins a s → IsMergeReadyAt a s path parts → IsOk ends.outcome ⊎ FailsMerge ends.outcome) files before all start told stored ends.comes_to.ready in
+    merge_yields status old new failed ends.outcome (comes begins mine) ends.says
 
 -- ends of the same words are the same
 pub merge_same : (path other parts others : List ℕ) (status : ℕ) (why_not : Option Failure) (files before : Option Files) (Begins : Files → Files → Type 0) (after : Option Files) (flushed same : Type 0) (old new : Option (List ℕ)) (source store room failed : Type 0)

@@ -8,7 +8,7 @@ use Rattle.ept_sample.proofs.Parts.{numbers_below}
 use Rattle.ept_grid.specs.Mask.{opened}
 use Rattle.ept_run.specs.Merges.{octants_text}
 
--- what stands before the next one
+-- the separator before the next one
 abbrev pub separator_of : List ℕ → List ℕ
 separator_of [] = []
 separator_of (o ∷ octants) = 44 ∷ []

@@ -32,7 +32,7 @@ use Rattle.ept_run.specs.Requests.{IsPartAcceptedAt}
 use Rattle.ept_class.specs.Laws.{MembersMakeTheSet}
 use Rattle.ept_command.specs.Words.{IsPart}
 use Rattle.ept_run.specs.Answers.{Yields, AsksPart, Says, IsSaid, IsSaidFor, IsReported}
-use Rattle.ept_run.specs.Parts.{Outcome, of_part, part_status, part_line, PartIsRefused, IsPartFault, FailsPart, IsPartMadeAt, ComesToPart, SaysPart, FailsAsPart, IsPartReported, EndsPart}
+use Rattle.ept_run.specs.Parts.{Outcome, of_part, part_status, PartIsRefused, IsPartFault, FailsPart, IsPartMadeAt, ComesToPart, SaysPart, FailsAsPart, IsPartReported, EndsPart}
 use Rattle.ept_run.proofs.Asked.{told_as, told_always}
 use Rattle.ept_command.proofs.OctantTexts.{part_once}
 use Rattle.ept_run.proofs.Refused.{one_config, not_both, one_error, stays}
@@ -397,10 +397,7 @@ module _ (status : ℕ) (why_not : Option Failure) (old new : Option (List ℕ))
   pub memory_reported : status ≡ 9 → why_not ≡ Some (failure.Refused Memory) → Says (line_of Memory) old new failed → IsPartReported (Err (AsBuild Memory)) status why_not old new failed
   memory_reported is fails says = record { says = (is, says); fails = fails; unless_done = fails_at 9 (failure.Refused Memory) is (omega arith) fails }
 
-  pub shallow_reported : status ≡ 6 → why_not ≡ Some failure.Shallow → Says (part_line Shallow) old new failed → IsPartReported (Err Shallow) status why_not old new failed
-  shallow_reported is fails says = record { says = (is, says); fails = fails; unless_done = fails_at 6 failure.Shallow is (omega arith) fails }
-
--- ---- the build beside it
+-- ---- the build next to it
 
 module _ {D : Type 0} (files : D → Option Files) (may_leave : D → Files → Type 0) (moment : D → ℕ) (image_since : D → ℕ → Files → Type 0) where
   -- files that are sound stay so whatever a part does, at each moment
@@ -425,7 +422,7 @@ module _ {D : Type 0} (files : D → Option Files) (may_leave : D → Files → 
 
 -- ---- what can be done
 
--- of words that ask for this part
+-- for words that ask for this part
 pub part_comes : (words : List (List ℕ)) (path out : List ℕ) (octants : ℕ) → IsPart words path out octants → MembersMakeTheSet → (files new : Option Files) (settled same : Type 0) (status : ℕ) (said_old said_new : Option (List ℕ)) (source store sink : Type 0)
     → EndsPart path octants status files new settled same said_old said_new source store sink
     → (all : Files) → files ≡ Some all → AsksPart words (λ p o. IsPartAcceptedAt all p o) → Yields 0 status
@@ -455,7 +452,7 @@ carried_from path octants new settled same source store files later are config c
 pub rose_after : (a b c : ℕ) → a ≤ b → Rose b c → Rose a c
 rose_after a b c later rose = omega (arith, later, rose)
 
--- ---- where nothing is put
+-- ---- if nothing is put
 
 module _ {D : Type 0} (files : D → Option Files) (may_leave : D → Files → Type 0) (moment : D → ℕ) (image_since : D → ℕ → Files → Type 0) (octants : ℕ) (d : D) where
   pub stays_folder : Moves files may_leave moment image_since (ChangesPart octants) d d

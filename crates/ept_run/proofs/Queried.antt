@@ -12,7 +12,7 @@ use Rattle.ept_command.specs.declared.ended.Failure.TheVariants.{QueryRefused}
 use Rattle.ept_command.specs.declared.refusal.Refusal.{Refusal}
 use Rattle.ept_filter.specs.declared.sift.Sift.{Sift}
 use Rattle.ept_command.specs.Words.{IsBuild, IsInfo, IsQuery}
-use Rattle.ept_run.specs.Answers.{AsksInfo, AsksDataset, IsFaulty}
+use Rattle.ept_run.specs.Answers.{AsksDataset, IsFaulty}
 use Rattle.ept_run.specs.Queries.{query_status, query_failure, EndsSelection, EndsQuery}
 use Rattle.ept_run.proofs.Runs.{some_or_none}
 
@@ -38,9 +38,6 @@ module _ (words : List (List ℕ)) (out : List ℕ) (area : Box3) (first last : 
   query_unrefused all r (inl usage) = usage.1.not_query out area first last is
   query_unrefused all r (inr (inl asks)) = query_or_build asks.path asks.out asks.words_are
   query_unrefused all r (inr (inr asks)) = query_or_info asks.path asks.words_are
-
-  pub query_untold : {Fact : List ℕ → Type 0} → AsksInfo words Fact → ⊥
-  query_untold asks = query_or_info asks.path asks.words_are
 
 -- how a query or a selection ends is how it does that asks for the same, with its failure
 abbrev pub EndsAsked : Option Sift → Box3 → ℕ → ℕ → ℕ → Option Failure → Option Files → Option (List ℕ) → Option (List ℕ) → Type 0 → Type 0 → Type 0

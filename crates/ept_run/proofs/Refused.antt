@@ -32,7 +32,7 @@ use Rattle.ept_command.specs.Configurations.{HasConfiguration, HasBadConfigurati
 use Rattle.ept_run.specs.Requests.{IsAcceptedAt, IsDoneAt, IsBuiltAt, Comes, ComesAt, DiffersAt, ComesToDamageAt, HasDifference, IsOfStore, IsConfigured, HasSpilled, TellsDifference, TellsDamage, BuildIsRefused, IsDefinite, IsEarly, Fails}
 use Rattle.ept_config.proofs.FactsTell.{config_same}
 
--- a fact of a told thing gives another
+-- a fact of a visible thing gives another
 pub tells_as : {X : Type 0} (P Q : X → Type 0) (told : Option X) → ((x : X) → P x → Q x) → Tells P told → Tells Q told
 tells_as P Q None step p = tt
 tells_as P Q (Some x) step p = step x p
@@ -71,7 +71,7 @@ err_same x y same = cc
 differ : {A E : Type 0} (x : A) (y : E) → ◌≡◌ {A = Result A E} (Ok x) (Err y) → ⊥
 differ x y same = cc
 
-is_err : {A E : Type 0} (r : Result A E) (e : E) → IsErrAnd r (λ x. x ≡ e) → r ≡ Err e
+pub is_err : {A E : Type 0} (r : Result A E) (e : E) → IsErrAnd r (λ x. x ≡ e) → r ≡ Err e
 is_err (Ok x) e h = absurd h
 is_err (Err x) e h = ap Err h
 
@@ -88,7 +88,7 @@ pub carried_comes : {A B : Type 0} (files : Option Files) (Why : Files → Refus
 carried_comes None Why a b e is_a is_b comes = tt
 carried_comes (Some all) Why a b e is_a is_b comes = λ r definite why. carried a b e r is_a (is_err b e is_b) (comes r definite why)
 
--- so does one of an answer that is accepted
+-- so does one of a command that is accepted
 no_ok : {A : Type 0} (a : Result A Refusal) (e : Refusal) → a ≡ Err e → IsOk a → ⊥
 no_ok (Ok x) e same ok = differ x e same
 no_ok (Err x) e same ok = cc
@@ -158,25 +158,6 @@ module _ (all : Files) (path : List ℕ) where
   came_before SpillFault r is definite why = absurd is
   came_before SpillDamaged r is definite why = absurd is
 
-  -- it has no build
-  pub not_accepted : {A : Type 0} (answer : Result A Refusal) (e : Refusal) (start : Files) → answer ≡ Err e → ConfigurationIsRefused all path e → IsAcceptedAt all start path → IsOk answer ⊎ Fails answer
-  not_accepted answer (BadConfiguration e) start err is asked = absurd (not_both asked.config e asked.configures is)
-  not_accepted answer SourceFault start err is asked = inr (inl err)
-  not_accepted answer Memory start err is asked = inr (inr (inr (inr err)))
-  not_accepted answer Usage start err is asked = absurd is
-  not_accepted answer (BadLas source fault) start err is asked = absurd is
-  not_accepted answer (OutOfBounds source number) start err is asked = absurd is
-  not_accepted answer NoBounds start err is asked = absurd is
-  not_accepted answer (SourceChanged source number) start err is asked = absurd is
-  not_accepted answer (TooManyPoints source) start err is asked = absurd is
-  not_accepted answer TooManyNodes start err is asked = absurd is
-  not_accepted answer (Differs field) start err is asked = absurd is
-  not_accepted answer (BadCheckpoint letter) start err is asked = absurd is
-  not_accepted answer (TileDamaged key) start err is asked = absurd is
-  not_accepted answer StoreFault start err is asked = absurd is
-  not_accepted answer SpillFault start err is asked = absurd is
-  not_accepted answer SpillDamaged start err is asked = absurd is
-
   -- why a configuration is refused is why its build is
   pub refused_before : (Begins : Files → Files → Type 0) (e : Refusal) → ConfigurationIsRefused all path e → BuildIsRefused all Begins path e
   refused_before Begins (BadConfiguration e) is = is
@@ -196,11 +177,11 @@ module _ (all : Files) (path : List ℕ) where
   refused_before Begins SpillFault is = absurd is
   refused_before Begins SpillDamaged is = absurd is
 
-  -- ---- the configuration is read, and its build answers
+  -- ---- the configuration is read, and its build returns
 
   module _ (config : Config) (configures : HasConfiguration all path config) where
     -- then it is not refused
-    not_refused : (r : Refusal) → IsDefinite r → ConfigurationIsRefused all path r → ⊥
+    pub not_refused : (r : Refusal) → IsDefinite r → ConfigurationIsRefused all path r → ⊥
     not_refused (BadConfiguration e) definite why = not_both config e configures why
     not_refused Usage definite why = why
     not_refused (BadLas source fault) definite why = why
@@ -246,7 +227,7 @@ module _ (all : Files) (path : List ℕ) where
       fails_as (inr (inr (inl is))) = inr (inr (inl (ap told_as is)))
       fails_as (inr (inr (inr is))) = inr (inr (inr (ap told_as is)))
 
-      -- what a build answers Ok, or for a fault, the command does
+      -- if a build returns Ok or a fault, so does the command
       passed_on : IsOk answer ⊎ building.Fails answer → IsOk (told_as answer) ⊎ Fails (told_as answer)
       passed_on came = ⊎_elim (λ is. inl (ok_as answer is)) (λ fails. inr (fails_as fails)) came
         where
@@ -298,14 +279,14 @@ unstored shelf old new settled path SpillFault of = tt
 unstored shelf old new settled path SpillDamaged of = tt
 unstored shelf old new settled path Memory of = tt
 
--- ---- the same of a shelf that may tell
+-- ---- the same of a shelf whose files may be visible
 
 module _ {F : Type 0} (held : F → Option (List ℕ)) (shelf later : Option Files) (same : later ≡ shelf) (path : List ℕ) (config : Config) (configures : Tells (λ all. HasConfiguration all path config) shelf) (store : Option Files) (may : Files → Type 0) where
   -- what the build begins with is what the command does
   begins : (all start : Files) → building.BeginsWith held shelf store may all start → building.BeginsWith held later store may all start
   begins all start b = record { spills = b.spills; shelf_told = same ∙ b.shelf_told; told = b.told; settled = b.settled; sound = b.sound }
 
-  -- a shelf that tells has the configuration
+  -- a shelf with visible files has the configuration
   known : (all start : Files) → building.BeginsWith held shelf store may all start → HasConfiguration all path config
   known all start b = subst (λ (o : Option Files). Tells (λ all. HasConfiguration all path config) o) b.shelf_told configures
 
@@ -458,8 +439,8 @@ module _ (files : Option Files) (path : List ℕ) {A : Type 0} (answer : Result 
   refused_told : (all : Files) → files ≡ Some all → ConfigurationIsRefused all path e
   refused_told all told = subst (λ (o : Option Files). Tells (λ all. ConfigurationIsRefused all path e) o) told refused
 
-  -- it is none, so it is refused for want of memory or a fault of the shelf
-  only_fails : (all : Files) (config : Config) → files ≡ Some all → HasConfiguration all path config → Fails answer
+  -- it is none, so it is refused because memory ran out or the shelf failed
+  pub only_fails : (all : Files) (config : Config) → files ≡ Some all → HasConfiguration all path config → Fails answer
   only_fails all config told has = by e is (refused_told all told)
     where
       by : (r : Refusal) → answer ≡ Err r → ConfigurationIsRefused all path r → Fails answer
@@ -480,18 +461,6 @@ module _ (files : Option Files) (path : List ℕ) {A : Type 0} (answer : Result 
       by SpillFault same why = absurd why
       by SpillDamaged same why = absurd why
 
-  pub never_comes : {F : Type 0} (held : F → Option (List ℕ)) (store : Option Files) (may : Files → Type 0) (all start : Files) → building.BeginsWith held files store may all start → (r : Refusal) → ComesAt all start r path → (answer ≡ Err r) ⊎ Fails answer
-  never_comes held store may all start b r asked = inr (only_fails all asked.config b.shelf_told asked.configures)
-
-  pub never_differs : (store : Option Files) (all start : Files) → files ≡ Some all → store ≡ Some start → DiffersAt all start path → TellsDifference answer ⊎ Fails answer
-  never_differs store all start told stored asked = inr (only_fails all asked.config told asked.configures)
-
-  pub never_damaged : (store : Option Files) (all start : Files) → files ≡ Some all → store ≡ Some start → ComesToDamageAt all start path → TellsDamage answer ⊎ Fails answer
-  never_damaged store all start told stored asked = inr (only_fails all asked.config told asked.configures)
-
-  pub never_bad : (store : Option Files) (all start : Files) (letter : Letter) → files ≡ Some all → store ≡ Some start → IsBad start letter → IsConfigured all path → (answer ≡ Err (BadCheckpoint letter)) ⊎ Fails answer
-  never_bad store all start letter told stored bad asked = inr (only_fails all asked.0 told asked.1)
-
 -- a difference that is passed on comes as it came
 pub carried_difference : {A B : Type 0} (a : Result A Refusal) (b : Result B Refusal) (e : Refusal) → a ≡ Err e → IsErrAnd b (λ x. x ≡ e) → TellsDifference a ⊎ Fails a → TellsDifference b ⊎ Fails b
 carried_difference {A} a b e is_a is_b (inl told) = inl (told.0, is_err b e is_b ∙ ap Err (err_same {A = A} e (Differs told.0) (sym is_a ∙ told.1)))
@@ -510,7 +479,7 @@ carried_damage {A} a b e is_a is_b (inr (inr (inr (inr lack)))) = inr (inr (inr 
 pub carried_one : {A B : Type 0} (a : Result A Refusal) (b : Result B Refusal) (e r : Refusal) → a ≡ Err e → IsErrAnd b (λ x. x ≡ e) → (a ≡ Err r) ⊎ Fails a → (b ≡ Err r) ⊎ Fails b
 carried_one a b e r is_a is_b came = carried a b e r is_a (is_err b e is_b) came
 
--- an answer that is accepted comes to no refusal
+-- a result that is Ok is no fault
 ok_fails : {A : Type 0} (a : Result A Refusal) (x : A) → a ≡ Ok x → Fails a → ⊥
 ok_fails a x is (inl fault) = differ x SourceFault (sym is ∙ fault)
 ok_fails a x is (inr (inl fault)) = differ x StoreFault (sym is ∙ fault)

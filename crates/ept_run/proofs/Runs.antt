@@ -1,4 +1,4 @@
--- What a run answers follows from what its command does, and from how its line is said.
+-- How a run ends follows from what its command does, and from how its line is said.
 use Rattle.std.proofs.Common.{◌≡◌, ◌≢◌, ◌⊎◌, inl, inr, ⊎_elim, ℕ, List, Option, Some, None, Ok, Err, refl, sym, ◌∙◌, ap, subst, arith}
 use Rattle.std.specs.Prelude.{◌↔◌, Result, Vec, IfOk, IfErr, IsOk, OnOk}
 use Rattle.std.specs.Io.KnownBytes.{Appends}
@@ -114,7 +114,9 @@ some_or_none x o some none = cc
 
 -- ---- what a command does
 
--- What is known of a command whose answer is a line or a refusal: shelf, store and room say that the count of that device rose, same that nothing was put, Begins of the shelf's files and the store's that a build begins with them, and OfStore of a refusal what it says of the store.
+-- What is known of a command whose result is a line or a refusal. Shelf, store and room say that the count of that
+-- device rose, and same that nothing was put. Begins says that a build begins with these files of the shelf and of the
+-- store. OfStore says what a refusal says of the store.
 pub record Carries (words : List (List ℕ)) (files : Option Files) (Begins : Files → Files → Type 0) (OfStore : Refusal → Type 0) (new : Option Files) (shelf store room same : Type 0) (answer : Result (Vec ℕ Global) Refusal) : Type 0 where
   pub is_answer : IfOk answer (λ line. IsAnswer words line.items)
   pub done : IfOk answer (λ line. Tells (λ all. IsDone words all Begins line.items new) files)
@@ -236,7 +238,7 @@ module _ (status : ℕ) (said_old said_new : Option (List ℕ)) (failed : Type 0
       reports.1,
     )
 
-  -- where the shelf tells, an answer that comes is told
+  -- if the files of the shelf are visible, a refusal that comes is reported
   pub refusal_yields : (answer : Result (Vec ℕ Global) Refusal) (files : Option Files) (Why : Files → Refusal → Type 0) → EndsWith answer status said_old said_new failed
       → Tells (λ all. (r : Refusal) → IsDefinite r → Why all r → (answer ≡ Err r) ⊎ Fails answer) files
       → Tells (λ all. (r : Refusal) → IsDefinite r → Why all r → YieldsRefusal r status said_old said_new failed) files

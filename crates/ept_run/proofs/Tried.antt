@@ -10,11 +10,11 @@ use Rattle.ept_command.specs.declared.refusal.Refusal.TheVariants.{Usage, Source
 use Rattle.ept_command.specs.Words.{IsBuild, IsInfo, IsQuery, IsTrial}
 use Rattle.ept_command.specs.Statuses.{status_of}
 use Rattle.ept_run.specs.Requests.{HasTrial, IsDefinite, IsEarly, Fails}
-use Rattle.ept_run.specs.Answers.{AsksInfo, AsksTrial, SaysOfStore, IsAnswer, IsDone, IsFaulty, IsRefused, IsTold, EndsTrial, EndsWith, Yields}
+use Rattle.ept_run.specs.Answers.{AsksTrial, SaysOfStore, IsAnswer, IsDone, IsFaulty, IsRefused, IsTold, EndsTrial, EndsWith, Yields}
 use Rattle.ept_run.proofs.Asked.{told_always, ok_weaker, err_weaker}
 use Rattle.ept_run.proofs.Runs.{Carries}
 
--- want of memory is no other refusal
+-- out of memory is no other refusal
 only_memory : (r : Refusal) → r ≡ Memory → (r ≢ Usage) × (r ≢ SourceFault) × (r ≢ StoreFault) × (r ≢ SpillFault)
 only_memory r is = (λ usage. not_usage (sym is ∙ usage), λ source. not_source (sym is ∙ source), λ store. not_store (sym is ∙ store), λ spill. not_spill (sym is ∙ spill))
   where
@@ -61,9 +61,6 @@ module _ (words : List (List ℕ)) (count workers cache : ℕ) (is : IsTrial wor
   trial_unrefused all r (inr (inl asks)) = trial_or_build asks.path asks.out asks.words_are
   trial_unrefused all r (inr (inr asks)) = trial_or_info asks.path asks.words_are
 
-  pub trial_untold : {Fact : List ℕ → Type 0} → AsksInfo words Fact → ⊥
-  trial_untold asks = trial_or_info asks.path asks.words_are
-
   -- words ask for one number of points
   pub one_count : (n w k : ℕ) → IsTrial words n w k → count ≡ n
   one_count n w k other = decimal_injective count n (omega (arith, is.few)) (omega (arith, other.few)) (second (sym is.words_are ∙ other.words_are))
@@ -103,7 +100,7 @@ pub trial_ends : (count status : ℕ) (old new : Option (List ℕ)) (failed : Ty
 trial_ends count status old new failed (Ok line) told lacks said = inl (line.items, told, said)
 trial_ends count status old new failed (Err r) told lacks said = inr (subst (λ (x : Refusal). IsTold x status old new failed) lacks said)
 
--- it ends with its line, or for want of memory, or where the sink failed
+-- it ends with its line, or because memory runs out or the sink failed
 pub trial_yields : (count status : ℕ) (old new : Option (List ℕ)) (failed : Type 0) → EndsTrial count status old new failed → Yields 0 status
 trial_yields count status old new failed (inl (line, has, inl said)) = inl said.0
 trial_yields count status old new failed (inl (line, has, inr device)) = inr (inl device.0)

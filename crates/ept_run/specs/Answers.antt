@@ -1,4 +1,4 @@
--- What a run answers, and what it leaves.
+-- How a run ends, and what it leaves.
 use Rattle.std.specs.Prelude.{◌≡◌, ◌⊎◌, ℕ, Option, None, Some, List, [], ◌∷◌, take, Vec, Result, Ok, Err, ⊤}
 use Rattle.std.specs.Io.KnownBytes.{Appends}
 use Rattle.std.specs.declared.alloc.Global.{Global}
@@ -21,7 +21,7 @@ use Rattle.ept_command.specs.Words.{IsBuild, IsPart, IsMerge, IsInfo, IsQuery, I
 use Rattle.ept_command.specs.Statuses.{status_of}
 use Rattle.ept_run.specs.Lines.{summary_text, header_text, line_of}
 use Rattle.ept_command.specs.Configurations.{ConfigurationIsRefused}
-use Rattle.ept_run.specs.Requests.{HasBuilt, HasTold, HasTrial, HasHeader, IsAcceptedAt, IsDoneAt, IsPartAcceptedAt, AsksForBuild, BuildIsRefused, InfoIsRefused, IsOfStore, IsEarly}
+use Rattle.ept_run.specs.Requests.{HasBuilt, HasTold, HasTrial, HasHeader, IsAcceptedAt, IsDoneAt, IsPartAcceptedAt, IsMergeReadyAt, AsksForBuild, BuildIsRefused, InfoIsRefused, IsOfStore, IsEarly}
 
 -- this status, if no device failed and memory sufficed
 abbrev pub Yields : ℕ → ℕ → Type 0
@@ -92,7 +92,7 @@ AsksDataset words = AsksQuery words ⊎ AsksSelect words ⊎ AsksCheck words
 abbrev pub HasOwnEnd : List (List ℕ) → Type 0
 HasOwnEnd words = AsksDataset words ⊎ AsksForParts words
 
--- a trial of so many points, of which this holds
+-- a trial of some number of points, of which this holds
 pub record AsksTrial (words : List (List ℕ)) (Fact : ℕ → Type 0) : Type 0 where
   pub count : ℕ
   pub workers : ℕ
@@ -100,7 +100,8 @@ pub record AsksTrial (words : List (List ℕ)) (Fact : ℕ → Type 0) : Type 0 
   pub words_are : IsTrial words count workers cache
   pub holds : Fact count
 
--- What the words ask the shelf for, over a store with these files: a build for its configuration, and then for what its build asks for; `info` for its file; all others but a part and a merge for nothing.
+-- What the words ask the shelf for, over a store with these files. A build asks for its configuration, and then for
+-- what its build asks for. `info` asks for its file. All other words, except a part and a merge, ask for nothing.
 abbrev pub IsAskedFor : List (List ℕ) → Option Files → Files → Option (List (List ℕ)) → Option (List (List ℕ)) → Type 0
 IsAskedFor words shelf start old new =
     AsksBuild words (λ path. AsksForBuild shelf start path old new)
@@ -117,14 +118,15 @@ IsAnswer words line =
     ⊎ AsksInfo words (λ _. (header : Header) × (line ≡ header_text header))
     ⊎ AsksTrial words (λ count. HasTrial count line)
 
--- The store has the output of a build, a LAS file has a header, or a trial was made; and this is the line that tells it. Begins says of the shelf's files and the store's that the build begins with them.
+-- The store has the output of a build, a LAS file has a header, or a trial was made, and this line reports it. Begins
+-- says that the build begins with these files of the shelf and of the store.
 abbrev pub IsDone : List (List ℕ) → Files → (Files → Files → Type 0) → List ℕ → Option Files → Type 0
 IsDone words files Begins line new =
     AsksBuild words (λ path. HasBuilt files Begins path line new)
     ⊎ AsksInfo words (λ path. HasTold files path line)
     ⊎ AsksTrial words (λ count. HasTrial count line)
 
--- A command is carried out, and so much of its line is said.
+-- A command is carried out, and its line is said, as far as Said says.
 pub record Ends (words : List (List ℕ)) (files : Option Files) (Begins : Files → Files → Type 0) (new : Option Files)
     (Said : List ℕ → Type 0) : Type 0 where
   pub line : List ℕ
@@ -140,14 +142,14 @@ IsFaulty words files r =
     ((r ≡ Usage) × IsUsage words)
     ⊎ AsksBuild words (λ path. ConfigurationIsRefused files path r) ⊎ AsksInfo words (λ path. InfoIsRefused files path r)
 
--- the words, or the files that they name, are refused for this cause; a trial has none but want of memory
+-- the words, or the files that they name, are refused for this cause; a trial is refused only if memory runs out
 abbrev pub IsRefused : List (List ℕ) → Files → (Files → Files → Type 0) → Refusal → Type 0
 IsRefused words files Begins r =
     ((r ≡ Usage) × IsUsage words)
     ⊎ AsksBuild words (λ path. BuildIsRefused files Begins path r) ⊎ AsksInfo words (λ path. InfoIsRefused files path r)
     ⊎ AsksTrial words (λ _. r ≡ Memory)
 
--- the count of a device rose, where the refusal is that device's fault: of the shelf, of the store, or of the room
+-- the count of a device rose, if the refusal is that device's fault: of the shelf, of the store, or of the room
 abbrev pub HasRisen : Refusal → Type 0 → Type 0 → Type 0 → Type 0
 HasRisen SourceFault shelf store room = shelf
 HasRisen StoreFault shelf store room = store
@@ -166,18 +168,18 @@ HasRisen (TileDamaged key) shelf store room = ⊤
 HasRisen SpillDamaged shelf store room = ⊤
 HasRisen Memory shelf store room = ⊤
 
--- the sink has gained this line, or, where it failed, a prefix of it
+-- the sink has gained this line, or a prefix of it if the sink failed
 abbrev pub Says : List ℕ → Option (List ℕ) → Option (List ℕ) → Type 0 → Type 0
 Says line old new failed = Appends old new line ⊎ (failed × AppendsPrefix old new line)
 
--- a refusal is told by its line and its status; where memory doesn't suffice for that, want of memory is told
+-- a refusal is reported by its line and its status; if memory does not suffice for that, out of memory is reported
 pub record IsTold (r : Refusal) (status : ℕ) (old new : Option (List ℕ)) (failed : Type 0) : Type 0 where
   pub told : Refusal
   pub told_is : (told ≡ r) ⊎ (told ≡ Memory)
   pub status_is : status_of told ≡ status
   pub says : Says (line_of told) old new failed
 
--- the same, and the failure is the refusal that is told
+-- the same, and the failure is the refusal that is reported
 abbrev pub IsReported : Refusal → ℕ → Option Failure → Option (List ℕ) → Option (List ℕ) → Type 0 → Type 0
 IsReported r status failure old new failed =
     (reports : IsTold r status old new failed) × (failure ≡ Some (Refused reports.told))
@@ -196,7 +198,7 @@ IsSaidFor line status failure old new failed = ((status ≡ 0) × (failure ≡ N
 abbrev pub IsUnwritten : Option Failure → List ℕ → Type 0
 IsUnwritten failure line = (kept : Vec ℕ Global) × (failure ≡ Some (LineNotWritten kept)) × (kept.items ≡ line)
 
--- a trial of so many points ends: its line is said, or want of memory is told
+-- a trial of this number of points ends: its line is said, or out of memory is reported
 abbrev pub EndsTrial : ℕ → ℕ → Option (List ℕ) → Option (List ℕ) → Type 0 → Type 0
 EndsTrial count status old new failed =
     ((line : List ℕ) × HasTrial count line × IsSaid line status old new failed) ⊎ IsTold Memory status old new failed
@@ -217,7 +219,9 @@ EndsFor (Err r) status failure old new failed = IsReported r status failure old 
 abbrev pub SaysOfStore : List (List ℕ) → Option Files → Option Files → Option Files → Type 0 → Refusal → Type 0
 SaysOfStore words shelf old new settled r = (path out : List ℕ) → IsBuild words path out → IsOfStore shelf old new settled path r
 
--- A run is refused for a cause, with its status and its line: the device that it names has failed (shelf, store, room and out say that the count of that one rose), the cause is one that the store gives (OfStore), and nothing was put where the cause is an early one (same).
+-- A run is refused for a cause, with its status and its line. The device that the cause names has failed: shelf, store,
+-- room and out say that the count of that device rose. The cause is one that the store gives, as OfStore says. If the
+-- cause is an early one, nothing was put, as same says.
 pub record Refuses (words : List (List ℕ)) (files : Option Files) (Begins : Files → Files → Type 0) (OfStore : Refusal → Type 0) (status : ℕ) (shelf store room out : Type 0)
     (old new : Option (List ℕ)) (same : Type 0) : Type 0 where
   pub cause : Refusal
@@ -235,31 +239,36 @@ pub record IsCut (words : List (List ℕ)) (files : Option Files) (Begins : File
   pub risen : failed
   pub ends : Ends words files Begins new (AppendsPrefix said_old said_new)
 
--- this refusal is told, if no device failed and memory sufficed
+-- this refusal is reported, if no device failed and memory sufficed
 abbrev pub YieldsRefusal : Refusal → ℕ → Option (List ℕ) → Option (List ℕ) → Type 0 → Type 0
 YieldsRefusal r status old new failed =
     ((status ≡ status_of r) × Says (line_of r) old new failed) ⊎ (status ≡ 7) ⊎ (status ≡ 9)
 
--- some field is told as one that differs, if no device failed and memory sufficed
+-- some field is reported as one that differs, if no device failed and memory sufficed
 abbrev pub YieldsDifference : ℕ → Option (List ℕ) → Option (List ℕ) → Type 0 → Type 0
 YieldsDifference status old new failed =
     ((field : Field) × (status ≡ 6) × Says (line_of (Differs field)) old new failed) ⊎ (status ≡ 7) ⊎ (status ≡ 9)
 
--- the tile of some key is told as damaged, if no device failed and memory sufficed
+-- the tile of some key is reported as damaged, if no device failed and memory sufficed
 abbrev pub YieldsDamage : ℕ → Option (List ℕ) → Option (List ℕ) → Type 0 → Type 0
 YieldsDamage status old new failed =
     ((key : VoxelKey) × (status ≡ 8) × Says (line_of (TileDamaged key)) old new failed) ⊎ (status ≡ 7) ⊎ (status ≡ 9)
 
 -- ---- what can be done
 
--- The devices tell, and what the words ask for can be done: a build that begins with sound files, and whose inputs are accepted or of which nothing is left to be done; a part whose inputs are accepted; a query, a selection or a check of complete files; the header of a file that has one; a trial.
+-- The contents of the devices are visible, and what the words ask for can be done. A build can if it begins with sound
+-- files, and its inputs are accepted or nothing of it is left to be done. A part can if its inputs are accepted. A
+-- merge can if it begins with sound files, and its parts are all there and were made of its inputs with its
+-- configuration. A query, a selection or a check can if the files are complete. An `info` can if the file has a header.
+-- A trial always can.
 pub data CanBeDone (words : List (List ℕ)) (shelf store : Option Files) (Begins : Files → Files → Type 0) : Type 0 where
   a_build : (all start : Files) → Begins all start → AsksBuild words (λ path. IsAcceptedAt all start path ⊎ IsDoneAt all start path) → CanBeDone words shelf store Begins
   a_part : (all : Files) → shelf ≡ Some all → AsksPart words (λ path octants. IsPartAcceptedAt all path octants) → CanBeDone words shelf store Begins
+  a_merge : (all start : Files) → Begins all start → AsksMerge words (λ path parts. IsMergeReadyAt all start path parts) → CanBeDone words shelf store Begins
   of_dataset : (start : Files) (kept : Kept) (points : List Point) → store ≡ Some start → IsComplete kept points start → AsksDataset words → CanBeDone words shelf store Begins
   a_header : (all : Files) (header : Header) → shelf ≡ Some all → AsksInfo words (λ path. HasHeader all path header) → CanBeDone words shelf store Begins
   a_trial : AsksTrial words (λ _. ⊤) → CanBeDone words shelf store Begins
 
--- status 0, or 9 where memory ran out, or 7 where a device failed
+-- status 0, or 9 if memory ran out, or 7 if a device failed
 abbrev pub EndsWell : ℕ → Type 0 → Type 0
 EndsWell status failed = (status ≡ 0) ⊎ (status ≡ 9) ⊎ ((status ≡ 7) × failed)

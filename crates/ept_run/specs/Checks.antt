@@ -14,8 +14,8 @@ use Rattle.ept_command.specs.declared.ended.Failure.TheVariants as failure
 use Rattle.ept_run.specs.Lines.{fit_text, unfit_text}
 use Rattle.ept_run.specs.Answers.{Says, IsSaid, IsUnwritten}
 
--- The status of a check that answers this, and its line, which the sink has gained, or, where it failed, a prefix of it. Out of
--- memory has no line.
+-- The status of a check with this result, and its line. The sink has gained the line, or a prefix of it if the sink
+-- failed. Out of memory has no line.
 abbrev pub SaysCheck : Answer → ℕ → Option (List ℕ) → Option (List ℕ) → Type 0 → Type 0
 SaysCheck (Ok (Fit points nodes)) status old new failed = IsSaid (fit_text points nodes) status old new failed
 SaysCheck (Ok (Unfit key why)) status old new failed = (status ≡ 8) × Says (unfit_text key why) old new failed
@@ -30,14 +30,14 @@ FailsCheck (Ok (Fit points nodes)) why_not = (why_not ≡ None) ⊎ IsUnwritten 
 FailsCheck (Ok (Unfit key why)) why_not = why_not ≡ Some (failure.Unfit key why)
 FailsCheck (Err error) why_not = why_not ≡ Some (failure.CheckRefused error)
 
--- a check that answers this is reported by this status, failure and line
+-- a check with this result is reported by this status, failure and line
 pub record IsCheckReported (answer : Answer) (status : ℕ) (why_not : Option Failure) (old new : Option (List ℕ)) (failed : Type 0) : Type 0 where
   pub says : SaysCheck answer status old new failed
   pub fails : FailsCheck answer why_not
   pub unless_done : (status ≡ 0) ↔ (why_not ≡ None)
 
--- A check ends with a status: it answers a verdict or a refusal, which these files call for, with its status and its line.
--- Store and out say that the count of that device rose.
+-- A check ends with a status. Its result is a verdict or a refusal, which these files call for, and has this status and
+-- its line. Store and out say that the count of that device rose.
 pub record EndsCheck (status : ℕ) (files : Option Files) (old new : Option (List ℕ)) (store out : Type 0) : Type 0 where
   pub answer : Answer
   pub says : SaysCheck answer status old new out

@@ -2,6 +2,7 @@ pub mod Errors
 pub mod Lines
 pub mod Requests
 pub mod Answers
+pub mod Builds
 pub mod Queries
 pub mod Checks
 pub mod Parts

@@ -19,15 +19,15 @@ use Rattle.ept_trial.specs.declared.trial.Trial.{Trial}
 use Rattle.ept_command.specs.declared.refusal.Refusal.{Refusal}
 use Rattle.ept_command.specs.declared.refusal.Refusal.TheVariants as refusal
 
--- what a build says of so many points in so many nodes
+-- what a build says of these numbers of points and nodes
 unfoldable pub summary_text : ℕ → ℕ → List ℕ
 summary_text points nodes = codes "points " ++ decimal points ++ codes " nodes " ++ decimal nodes ++ codes "\n"
 
--- what is said of a dataset that is the sampling of its own points, so many in so many nodes
+-- what is said of a dataset that is the sampling of its own points, with these numbers of points and nodes
 unfoldable pub fit_text : ℕ → ℕ → List ℕ
 fit_text points nodes = codes "fit points " ++ decimal points ++ codes " nodes " ++ decimal nodes ++ codes "\n"
 
--- what is said of one that is not: a node, and the number of what is wrong with it
+-- what is said of a dataset that is not: a node, and the number of what is wrong with it
 unfoldable pub unfit_text : VoxelKey → Fault → List ℕ
 unfit_text key why = codes "unfit " ++ space.key_text key ++ codes " " ++ decimal (number_of why) ++ codes "\n"
 

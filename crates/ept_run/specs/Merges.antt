@@ -1,5 +1,5 @@
 -- How a merge of parts ends, and the build that follows it.
-use Rattle.std.specs.Prelude.{◌≡◌, ◌≢◌, ◌⊎◌, ◌↔◌, ℕ, ◌++◌, Option, None, Some, List, Result, Ok, Err, IfOk, IfErr, OnOk, map, filter, codes, decimal, ⊤}
+use Rattle.std.specs.Prelude.{◌≡◌, ◌⊎◌, ◌↔◌, ℕ, ◌++◌, Option, None, Some, List, Result, Ok, Err, IsOk, IfOk, IfErr, OnOk, map, filter, codes, decimal, ⊤}
 use Rattle.std.specs.List.{join_with_byte}
 use Rattle.ept_base.specs.Files.{Files, Tells}
 use Rattle.ept_space.specs.VoxelKey.{VoxelKey}
@@ -24,6 +24,7 @@ use Rattle.ept_command.specs.declared.refusal.MergeRefusal.TheVariants.{AsPart, 
 use Rattle.ept_command.specs.Configurations.{HasConfiguration, ConfigurationIsRefused}
 use Rattle.ept_run.specs.Errors.{of_build}
 use Rattle.ept_run.specs.Lines.{summary_text}
+use Rattle.ept_run.specs.Requests.{IsMergeReadyAt, IsDefinite}
 use Rattle.ept_run.specs.Answers.{Says, IsSaid, IsUnwritten}
 use Rattle.ept_run.specs.Parts.{part_status, part_line}
 
@@ -92,9 +93,19 @@ IsEarlyMerge (PartDiffers octants) = ⊤
 IsEarlyMerge (PartDamaged octants None) = ⊤
 IsEarlyMerge (PartDamaged octants (Some key)) = ⊥
 
+-- the result is a fault of a device, or out of memory
+abbrev pub FailsMerge : {A : Type 0} → Result A MergeRefusal → Type 0
+FailsMerge result = (result ≡ Err (as_build refusal.SourceFault)) ⊎ (result ≡ Err (as_build refusal.StoreFault)) ⊎ (result ≡ Err (as_build refusal.SpillFault)) ⊎ (result ≡ Err (as_build refusal.Memory))
+
+-- the result is this refusal; of several damaged tiles, one is reported
+abbrev pub ReportsMerge : {A : Type 0} → MergeRefusal → Result A MergeRefusal → Type 0
+ReportsMerge (PartDamaged octants (Some key)) result = (other : ℕ) × (tile : VoxelKey) × (result ≡ Err (PartDamaged other (Some tile)))
+ReportsMerge r result = result ≡ Err r
+
 -- ---- what a merge comes to
 
--- Files between the merge and the build that follows it: sound ones, whose current checkpoint has all points of the inputs. Of them this holds.
+-- Files between the merge and the build that follows it, of which this holds. They are sound, and their current
+-- checkpoint has all points of the inputs.
 pub record AfterMerge (files : Files) (config : Config) (fact : Files → Type 0) : Type 0 where
   pub between : Files
   pub merged : merging.HasMerged files config between
@@ -105,7 +116,8 @@ pub record AfterMerge (files : Files) (config : Config) (fact : Files → Type 0
 abbrev pub OfSound : Files → (Files → Files → Type 0) → List ℕ → Type 0 → Type 0
 OfSound files Begins parts fact = (start : Files) → Begins files start → merging.AreSoundParts files start parts → fact
 
--- The file of this path is a configuration, and nothing refused the parts. Where the files and the parts were sound, the store has the output of the build that followed.
+-- The file of this path is a configuration, and nothing refused the parts. If the files and the parts were sound, the
+-- store has the output of the build that followed.
 pub record IsMergedAt (files : Files) (old : Option Files) (Begins : Files → Files → Type 0) (path parts : List ℕ) (summary : Summary) (new : Option Files) : Type 0 where
   pub config : Config
   pub configures : HasConfiguration files path config
@@ -125,12 +137,25 @@ pub record AreOwnAt (files start : Files) (path parts : List ℕ) : Type 0 where
   pub configures : HasConfiguration files path config
   pub own : merging.AreOwnParts files config start parts
 
--- What it comes to. Old are the store's files before and new those after. Flushed says that the store is settled now, same that nothing was put,
--- and source, store and room that the count of that device rose.
+-- The file of this path is a configuration, and merging these parts is refused for this cause. The cause lies in the
+-- inputs, in the folder or in the parts.
+pub record MergingIsRefusedAt (files start : Files) (path parts : List ℕ) (error : MergeError) : Type 0 where
+  pub config : Config
+  pub configures : HasConfiguration files path config
+  pub definite : merging.IsDefinite error
+  pub refused : merging.IsRefused files start config parts error
+
+-- What it comes to. Old are the store's files before and new those after. Flushed says that the store is settled now,
+-- and same that nothing was put. Source, store and room say that the count of that device rose. Parts that are ready
+-- are merged and built. A cause for which merging, or the configuration, is refused is reported. Both hold unless a
+-- device fails or memory runs out.
 pub record ComesToMerge (path parts : List ℕ) (outcome : Outcome) (files old : Option Files) (Begins : Files → Files → Type 0) (new : Option Files) (flushed same source store room : Type 0) : Type 0 where
   pub merged : IfOk outcome (λ summary. Tells (λ all. IsMergedAt all old Begins path parts summary new) files)
   pub settled : OnOk outcome flushed
   pub refused : IfErr outcome (λ r. Tells (λ all. MergeIsRefused all old Begins path parts r) files)
+  pub ready : Tells (λ all. Tells (λ start. Begins all start → IsMergeReadyAt all start path parts → IsOk outcome ⊎ FailsMerge outcome) old) files
+  pub comes : Tells (λ all. Tells (λ start. (error : MergeError) → MergingIsRefusedAt all start path parts error → ReportsMerge (of_merge error) outcome ⊎ FailsMerge outcome) old) files
+  pub unread : Tells (λ all. (cause : Refusal) → IsDefinite cause → ConfigurationIsRefused all path cause → (outcome ≡ Err (as_build cause)) ⊎ FailsMerge outcome) files
   pub own : IfErr outcome (λ r. Tells (λ all. Tells (λ start. AreOwnAt all start path parts → ¬ IsFaultOfParts r) old) files)
   pub early : IfErr outcome (λ r. IsEarlyMerge r → same)
   pub sources : outcome ≡ Err (as_build refusal.SourceFault) → source
@@ -139,7 +164,8 @@ pub record ComesToMerge (path parts : List ℕ) (outcome : Outcome) (files old :
 
 -- ---- how it ends
 
--- the status of a merge that comes to this, and its line, which the sink has gained, or, where it failed, a prefix of it
+-- The status of a merge that comes to this, and its line. The sink has gained the line, or a prefix of it if the sink
+-- failed.
 abbrev pub SaysMerge : Outcome → ℕ → Option (List ℕ) → Option (List ℕ) → Type 0 → Type 0
 SaysMerge (Ok summary) status old new failed = IsSaid (summary_text summary.points summary.nodes) status old new failed
 SaysMerge (Err r) status old new failed = (status ≡ merge_status r) × Says (merge_line r) old new failed
@@ -164,8 +190,8 @@ pub record IsMergeReported (outcome : Outcome) (status : ℕ) (why_not : Option 
   pub fails : FailsAsMerge outcome why_not
   pub unless_done : (status ≡ 0) ↔ (why_not ≡ None)
 
--- A merge of these parts, with the configuration of this path, ends with a status: what it comes to is reported by its status and its line.
--- Out says that the count of the sink rose.
+-- A merge of these parts, with the configuration of this path, ends with a status. What it comes to is reported by its
+-- status and its line. Out says that the count of the sink rose.
 pub record EndsMerge (path parts : List ℕ) (status : ℕ) (files old : Option Files) (Begins : Files → Files → Type 0) (new : Option Files) (settled same : Type 0) (said_old said_new : Option (List ℕ)) (source store room out : Type 0) : Type 0 where
   pub outcome : Outcome
   pub says : SaysMerge outcome status said_old said_new out

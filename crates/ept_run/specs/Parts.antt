@@ -63,14 +63,15 @@ FailsPart outcome = (r : PartRefusal) × (outcome ≡ Err r) × IsPartFault r
 
 -- ---- what a part comes to
 
--- The file of this path is a configuration, and the store's files have its part of these octants, which has so much.
+-- The file of this path is a configuration, and the store's files have its part of these octants, with these numbers
+-- of points and nodes.
 pub record IsPartMadeAt (files : Files) (path : List ℕ) (octants : ℕ) (done : PartDone) (new : Option Files) : Type 0 where
   pub config : Config
   pub configures : HasConfiguration files path config
   pub made : Tells (IsMade files config octants done) new
 
--- What it comes to, and when. Flushed says that the store is settled now, same that the store is as it was, and source
--- and store that the count of that device rose.
+-- What it comes to, and when. Flushed says that the store is settled now, and same that it is as it was. Source and
+-- store say that the count of that device rose.
 pub record ComesToPart (path : List ℕ) (octants : ℕ) (outcome : Outcome) (files new : Option Files) (flushed same source store : Type 0) : Type 0 where
   pub made : IfOk outcome (λ done. Tells (λ all. IsPartMadeAt all path octants done new) files)
   pub settled : OnOk outcome flushed
@@ -83,7 +84,8 @@ pub record ComesToPart (path : List ℕ) (octants : ℕ) (outcome : Outcome) (fi
 
 -- ---- how it ends
 
--- the status of a part that comes to this, and its line, which the sink has gained, or, where it failed, a prefix of it
+-- The status of a part that comes to this, and its line. The sink has gained the line, or a prefix of it if the sink
+-- failed.
 abbrev pub SaysPart : Outcome → ℕ → Option (List ℕ) → Option (List ℕ) → Type 0 → Type 0
 SaysPart (Ok done) status old new failed = IsSaid (summary_text done.points done.nodes) status old new failed
 SaysPart (Err r) status old new failed = (status ≡ part_status r) × Says (part_line r) old new failed

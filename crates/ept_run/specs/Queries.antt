@@ -14,7 +14,7 @@ use Rattle.ept_query.specs.Refusals.{RefusesQuery, CallsOfQuery, RefusesAsCalled
 use Rattle.ept_command.specs.declared.ended.Failure.{Failure}
 use Rattle.ept_command.specs.declared.ended.Failure.TheVariants.{QueryRefused}
 
--- the status of what a query answers
+-- the status of a query with this result
 abbrev pub query_status : Result ℕ QueryError → ℕ
 query_status (Ok count) = 0
 query_status (Err NotComplete) = 6
@@ -23,18 +23,18 @@ query_status (Err (Damaged file)) = 8
 query_status (Err SinkFault) = 7
 query_status (Err Memory) = 9
 
--- why a query that answers this does not end with status 0
+-- why a query with this result does not end with status 0
 abbrev pub query_failure : Result ℕ QueryError → Option Failure
 query_failure (Ok count) = None
 query_failure (Err error) = Some (QueryRefused error)
 
--- what is answered of complete files: all that a query gives, or what a selection keeps of it
+-- what is returned for complete files: all that a query gives, or what a selection keeps of it
 abbrev pub GivesWhole : Option Sift → Kept → List Point → Box3 → ℕ → ℕ → Option (List ℕ) → Option (List ℕ) → Result ℕ QueryError → Type 0
 GivesWhole None kept points area first last old new answer = AnswersWhole kept points area first last old new answer
 GivesWhole (Some sift) kept points area first last old new answer = SelectsWhole sift kept points area first last old new answer
 
--- A query of an area and depths, or a selection from it, ends with a status: it answers the points, or a refusal, whose
--- status this is. Store and out say that the count of that device rose.
+-- A query of an area and depths, or a selection from it, ends with a status. This is the status of its result: the
+-- points, or a refusal. Store and out say that the count of that device rose.
 pub record EndsSelection (sift : Option Sift) (area : Box3) (first last : ℕ) (status : ℕ) (files : Option Files) (old new : Option (List ℕ)) (store out : Type 0) : Type 0 where
   pub answer : Result ℕ QueryError
   pub status_is : status ≡ query_status answer

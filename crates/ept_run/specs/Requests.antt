@@ -22,6 +22,7 @@ use Rattle.ept_build.specs.declared.summary.Summary.{Summary}
 use Rattle.ept_build.specs.Building as building
 use Rattle.ept_build.specs.Phases.{HasDamage}
 use Rattle.ept_part.specs.Making as part
+use Rattle.ept_merge.specs.Merging as merging
 use Rattle.ept_trial.specs.declared.trial.Trial.{Trial}
 use Rattle.ept_trial.specs.Trials.{IsTrialOf}
 use Rattle.ept_command.specs.Configurations.{HasConfiguration, HasBadConfiguration}
@@ -31,7 +32,8 @@ use Rattle.ept_run.specs.Lines.{summary_text, header_text, trial_text}
 
 -- ---- a build
 
--- The file is a configuration, and its build over a store that begins with sound files is refused for this cause. Begins says of the shelf's files and the store's that the build begins with them.
+-- The file is a configuration, and its build over a store that begins with sound files is refused for this cause.
+-- Begins says that the build begins with these files of the shelf and of the store.
 abbrev pub HasBadBuild : Files → (Files → Files → Type 0) → List ℕ → BuildError → Type 0
 HasBadBuild files Begins path error =
     (config : Config) × HasConfiguration files path config × ((start : Files) → Begins files start → building.IsRefused files config start error)
@@ -69,7 +71,7 @@ pub record ComesAt (files start : Files) (r : Refusal) (path : List ℕ) : Type 
   pub has_current : HasCurrent current start
   pub because : Comes files config start current r
 
--- it is a configuration that does not go on from what the current checkpoint of these files keeps
+-- it is a configuration that does not continue from what the current checkpoint of these files keeps
 pub record DiffersAt (files start : Files) (path : List ℕ) : Type 0 where
   pub config : Config
   pub configures : HasConfiguration files path config
@@ -77,7 +79,8 @@ pub record DiffersAt (files start : Files) (path : List ℕ) : Type 0 where
   pub has_current : HasCurrent current start
   pub differs : ¬ GoesOn config current
 
--- it is a configuration, and its build over a store with these files comes to the octree of the current checkpoint, of which a tile is damaged
+-- It is a configuration, and its build over a store with these files comes to the octree of the current checkpoint. A
+-- tile of this octree is damaged.
 pub record ComesToDamageAt (files start : Files) (path : List ℕ) : Type 0 where
   pub config : Config
   pub configures : HasConfiguration files path config
@@ -85,14 +88,16 @@ pub record ComesToDamageAt (files start : Files) (path : List ℕ) : Type 0 wher
   pub has_current : HasCurrent current start
   pub comes : building.ComesToDamage files config start current
 
--- it is a configuration, and this is the first field in which it differs from what a current checkpoint of the store keeps, if the store tells
+-- It is a configuration. If the files of the store are visible, this is the first field in which it differs from what
+-- their current checkpoint keeps.
 pub record HasDifference (files : Files) (store : Option Files) (path : List ℕ) (field : Field) : Type 0 where
   pub config : Config
   pub configures : HasConfiguration files path config
   pub differs : (start : Files) (current : Current) → store ≡ Some start → HasCurrent current start
       → (kept : Vec ℕ Global) × (given : Vec ℕ Global) × DiffersBy config current (record { field = field; kept = kept; given = given })
 
--- What the refusal of a build says of the store, whether its files are sound or not. The store told the files `old` when the build began, was settled then if that is said, and tells `new` when it ends.
+-- What the refusal of a build says of the store, whether its files are sound or not. The visible files of the store are
+-- `old` when the build begins, and `new` when it ends. Settled says that the store is settled when the build begins.
 abbrev pub IsOfStore : Option Files → Option Files → Option Files → Type 0 → List ℕ → Refusal → Type 0
 IsOfStore shelf old new settled path (Differs field) = Tells (λ files. HasDifference files old path field) shelf
 IsOfStore shelf old new settled path (BadCheckpoint letter) = Tells (λ start. IsBad start letter) old
@@ -111,7 +116,8 @@ IsOfStore shelf old new settled path SpillFault = ⊤
 IsOfStore shelf old new settled path SpillDamaged = ⊤
 IsOfStore shelf old new settled path Memory = ⊤
 
--- What a build of the configuration of this path asks the shelf for: this path, and then, where it is a configuration, what its build asks for over a store with these files.
+-- What a build of the configuration of this path asks the shelf for: this path, and then what its build asks for. The
+-- build is over a store with these files, and there is none if the file of the path is no configuration.
 abbrev pub AsksForBuild : Option Files → Files → List ℕ → Option (List (List ℕ)) → Option (List (List ℕ)) → Type 0
 AsksForBuild shelf start path old new =
     ((n : ℕ) × AsksFor (take n (path ∷ [])) old new)
@@ -142,7 +148,9 @@ pub record HasBuilt (files : Files) (Begins : Files → Files → Type 0) (path 
   pub built : IsBuiltAt files Begins path summary new
   pub line_is : line ≡ summary_text summary.points summary.nodes
 
--- It is a configuration, and its inputs have points. Where its build was not done already over a store with these files, the files of a room were asked to keep something, as far as its count tells, at least as often as the sampling has nodes past those that may be in memory.
+-- It is a configuration, and its inputs have points. Unless its build over a store with these files was done already, a
+-- room was asked to keep what was not in memory. As far as its count goes, it was asked at least once for each node of
+-- the sampling beyond those that may be in memory.
 pub record HasSpilled (files start : Files) (old new : ℕ) (path : List ℕ) : Type 0 where
   pub config : Config
   pub configures : HasConfiguration files path config
@@ -153,7 +161,7 @@ pub record HasSpilled (files start : Files) (old new : ℕ) (path : List ℕ) : 
   pub has_points : building.HasPoints files config current kept points
   pub spilled : ¬ building.IsDoneAlready config start → building.HasKeptBut config.cache (building.node_count kept points) old new
 
--- why a build of the configuration of this path is refused; device faults and want of memory say nothing of files
+-- why a build of the configuration of this path is refused; device faults and out of memory say nothing of files
 abbrev pub BuildIsRefused : Files → (Files → Files → Type 0) → List ℕ → Refusal → Type 0
 BuildIsRefused files Begins path Usage = ⊥
 BuildIsRefused files Begins path (BadConfiguration error) = HasBadConfiguration files path error
@@ -180,6 +188,14 @@ pub record IsPartAcceptedAt (files : Files) (path : List ℕ) (octants : ℕ) : 
   pub configures : HasConfiguration files path config
   pub accepted : part.IsAccepted files config octants
 
+-- ---- a merge of parts
+
+-- it is a configuration, and the parts are ready to be merged
+pub record IsMergeReadyAt (files start : Files) (path parts : List ℕ) : Type 0 where
+  pub config : Config
+  pub configures : HasConfiguration files path config
+  pub ready : merging.AreReady files start config parts
+
 -- ---- what is known of a LAS file
 
 -- the file of this path has this header
@@ -194,13 +210,13 @@ pub record HasBadHeader (files : Files) (path : List ℕ) (fault : LasError) : T
   pub content : files path ≡ Some bytes
   pub faulty : HeaderReadsAs (head_of bytes) None (Err fault)
 
--- it has a header, and this line tells it
+-- it has a header, and this line reports it
 pub record HasTold (files : Files) (path line : List ℕ) : Type 0 where
   pub header : Header
   pub has_header : HasHeader files path header
   pub line_is : line ≡ header_text header
 
--- why it can't be told what is known of the LAS file of this path, which is source 0
+-- why what is known of the LAS file of this path, which is source 0, can't be reported
 abbrev pub InfoIsRefused : Files → List ℕ → Refusal → Type 0
 InfoIsRefused files path Usage = ⊥
 InfoIsRefused files path (BadConfiguration error) = ⊥
@@ -221,7 +237,7 @@ InfoIsRefused files path Memory = ⊤
 
 -- ---- a trial
 
--- this line tells what the octree of the generated scans of so many points comes to
+-- this line reports what the octree of the generated scans of this number of points comes to
 pub record HasTrial (count : ℕ) (line : List ℕ) : Type 0 where
   pub trial : Trial
   pub is_trial : IsTrialOf count trial
@@ -229,7 +245,7 @@ pub record HasTrial (count : ℕ) (line : List ℕ) : Type 0 where
 
 -- ---- causes
 
--- a fault of a device, or want of memory
+-- a fault of a device, or out of memory
 abbrev pub IsFault : Refusal → Type 0
 IsFault r = (r ≡ SourceFault) ⊎ (r ≡ StoreFault) ⊎ (r ≡ SpillFault) ⊎ (r ≡ Memory)
 
@@ -237,15 +253,15 @@ IsFault r = (r ≡ SourceFault) ⊎ (r ≡ StoreFault) ⊎ (r ≡ SpillFault) �
 abbrev pub IsDefinite : Refusal → Type 0
 IsDefinite r = IsFault r → ⊥
 
--- the answer is a fault of a device, or want of memory
+-- the result is a fault of a device, or out of memory
 abbrev pub Fails : {A : Type 0} → Result A Refusal → Type 0
 Fails answer = (answer ≡ Err SourceFault) ⊎ (answer ≡ Err StoreFault) ⊎ (answer ≡ Err SpillFault) ⊎ (answer ≡ Err Memory)
 
--- the answer is a field that differs
+-- the result is a field that differs
 abbrev pub TellsDifference : {A : Type 0} → Result A Refusal → Type 0
 TellsDifference answer = (field : Field) × (answer ≡ Err (Differs field))
 
--- the answer is a damaged tile
+-- the result is a damaged tile
 abbrev pub TellsDamage : {A : Type 0} → Result A Refusal → Type 0
 TellsDamage answer = (key : VoxelKey) × (answer ≡ Err (TileDamaged key))
 

@@ -1,4 +1,4 @@
-//! The answer of a command: how it ends, and the line that is written for it.
+//! How a command ends, and the line that is written for it.
 
 ghost use Rattle.std.specs.Prelude.{◌≡◌, Some};
 ghost use Rattle.ept_base.specs.Causes.{Rose};
@@ -39,8 +39,8 @@ pub(crate) fn say<O: Sink>(out: &mut O, line: Vec<u8>) -> Ended
 }
 
 /// Writes the line of a refusal. If the line can't be written, the run ends in the same way. If there is no
-/// memory to make the line, that of [`Refusal::Memory`] is written in its place, which takes none, and the
-/// run ends with that refusal.
+/// memory to make the line, that of [`Refusal::Memory`] is written instead, which takes no memory. The run
+/// then ends with that refusal.
 pub fn refuse<O: Sink>(alloc: Global, out: &mut O, refusal: Refusal) -> Ended
     ensures { IsReported refusal result.status result.failure (O.written out.old) (O.written out.new)
         (Rose (O.faults out.old) (O.faults out.new)) }

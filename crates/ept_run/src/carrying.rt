@@ -53,9 +53,9 @@ pub fn carry_out<H: Shelf, T: Store, M: Room, O: Sink, G: Gate + Sync, R: Thread
 where
     H::Source: Send,
     M::File: Send + Sync,
-    // The statuses: 0 done, 2 no command, 3 the configuration, 4 a scan, 5 too many, 6 another configuration, no octants,
-    // parts that are not there or do not belong here, or no complete dataset, 7 a device, 8 a damaged file or an unfit
-    // dataset, 9 memory.
+    // The statuses: 0 done; 2 no command; 3 the configuration; 4 a scan; 5 too many; 6 another configuration, no
+    // octants, parts that are missing or do not belong here, or no complete dataset; 7 a device; 8 a damaged file or an
+    // unfit dataset; 9 memory.
 
     // There is a failure at each status but 0.
     ensures failure { (result.status ≡ 0) ↔ (result.failure ≡ None) }
@@ -77,19 +77,20 @@ where
         → AsksBuild (bytes_of words.now) (IsDoneAt all start)
         → Moves T.files T.may_leave T.moment T.image_since SameFiles store.old store.new }
 
-    // Where no device fails, what can be done is done, or memory runs out.
+    // What can be done is done, unless a device fails or memory runs out.
     ensures comes { CanBeDone (bytes_of words.now) (H.files shelf.old) (T.files store.old)
         (BeginsWith M.File.held (H.files shelf.old) (T.files store.old) (T.may_leave store.old))
         → EndsWell result.status
         (Rose (H.faults shelf.old) (H.faults shelf.new) ⊎ Rose (T.faults store.old) (T.faults store.new)
         ⊎ Rose (M.faults room.old) (M.faults room.new) ⊎ Rose (O.faults out.old) (O.faults out.new)) }
 
-    // Whatever a build answers and whenever it stops, each image that is left is sound.
+    // Whatever a build returns and whenever it stops, each image that is left is sound.
     ensures sound { (config folder : List ℕ) → IsBuild (bytes_of words.now) config folder
         → (all start : Files) → BeginsWith M.File.held (H.files shelf.old) (T.files store.old) (T.may_leave store.old) all start
         → Moves T.files T.may_leave T.moment T.image_since (λ (a b : Files). IsSound all b) store.old store.new }
 
-    // A query ends as the query of its area and depths does, whose refusal the failure is, and leaves the store as it was.
+    // A query ends as the query of its area and depths does, whose refusal is the failure, and leaves the store as it
+    // was.
     ensures query { (folder : List ℕ) (area : space.Box3) (first last : ℕ) → IsQuery (bytes_of words.now) folder area first last
         → (ends : EndsQuery area first last result.status (T.files store.old) (O.written out.old) (O.written out.new)
         (Rose (T.faults store.old) (T.faults store.new)) (Rose (O.faults out.old) (O.faults out.new)))
@@ -140,12 +141,12 @@ where
         → AreSoundParts all start parts
         → Moves T.files T.may_leave T.moment T.image_since (λ (a b : Files). IsSound all b) store.old store.new }
 
-    // A trial ends with the line of what its octree comes to, whatever the files are, or for want of memory.
+    // A trial ends with the line of what its octree comes to, whatever the files are, or because memory runs out.
     ensures trial { (count workers cache : ℕ) → IsTrial (bytes_of words.now) count workers cache
         → EndsTrial count result.status (O.written out.old) (O.written out.new) (Rose (O.faults out.old) (O.faults out.new)) }
 
-    // Each other refusal has its cause, which the failure is, and its line, but where the line of a command that is
-    // carried out is cut: then the failure has this line.
+    // Any other refusal has its cause, which is the failure, and its line. If a command is carried out but its line is
+    // cut, the failure has this line.
     ensures refused { result.status ≢ 0
         → ((refuses : Refuses (bytes_of words.now) (H.files shelf.old)
         (BeginsWith M.File.held (H.files shelf.old) (T.files store.old) (T.may_leave store.old))
@@ -182,8 +183,8 @@ where
         ⊎ Rose (T.faults store.old) (T.faults store.new) ⊎ Rose (M.faults room.old) (M.faults room.new)
         ⊎ Rose (O.faults out.old) (O.faults out.new) }
 
-    // What is opened, and how much of a file is read: of a LAS file its first 375 bytes by `info`, and of what is no
-    // configuration at most 16 MiB and one byte.
+    // What is opened, and how much of a file is read. `info` reads the first 375 bytes of a LAS file. At most 16 MiB
+    // and one byte of a file that is no configuration are read.
     ensures asked { (start : Files) → T.files store.old ≡ Some start
         → IsAskedFor (bytes_of words.now) (H.files shelf.old) start (H.asked shelf.old) (H.asked shelf.new) }
     ensures header_given { (las : List ℕ) → IsInfo (bytes_of words.now) las

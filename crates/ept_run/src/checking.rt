@@ -19,7 +19,8 @@ use ept_command::{Ended, Failure};
 use ept_space::Key;
 use std::alloc::Global;
 
-/// Checks whether the dataset in a store is the sampling of its own points, and writes the line that says so, or why not.
+/// Checks whether the dataset in a store is the sampling of its own points, and writes the line that says so, or why
+/// not.
 pub(crate) fn answer_check<T: Store, O: Sink>(alloc: Global, store: &mut T, out: &mut O) -> Ended
     ensures ends { (ends : EndsCheck result.status (T.files store.old) (O.written out.old) (O.written out.new)
         (Rose (T.faults store.old) (T.faults store.new)) (Rose (O.faults out.old) (O.faults out.new)))
@@ -31,7 +32,7 @@ pub(crate) fn answer_check<T: Store, O: Sink>(alloc: Global, store: &mut T, out:
     report(alloc, out, answer)
 }
 
-// Writes the line of what a check answers. Where there is no memory to make it, the check ends as one that ran out of it.
+// Writes the line of what a check returns. If there is no memory to make it, the check ends as one that ran out of it.
 fn report<O: Sink>(alloc: Global, out: &mut O, answer: Result<Verdict, CheckError>) -> Ended
     ensures { IsCheckReported answer result.status result.failure (O.written out.old) (O.written out.new) (Rose (O.faults out.old) (O.faults out.new))
         ⊎ IsCheckReported (Err Memory) result.status result.failure (O.written out.old) (O.written out.new) (Rose (O.faults out.old) (O.faults out.new)) }
@@ -64,7 +65,7 @@ fn report_fit<O: Sink>(alloc: Global, out: &mut O, points: u64, nodes: u64) -> E
     }
 }
 
-// Writes the line of one that is unfit.
+// Writes the line of a dataset that is unfit.
 fn report_unfit<O: Sink>(alloc: Global, out: &mut O, key: &Key, why: Fault) -> Ended
     ensures { IsCheckReported (Ok (Unfit key.now why)) result.status result.failure (O.written out.old) (O.written out.new) (Rose (O.faults out.old) (O.faults out.new))
         ⊎ IsCheckReported (Err Memory) result.status result.failure (O.written out.old) (O.written out.new) (Rose (O.faults out.old) (O.faults out.new)) }

@@ -1,4 +1,4 @@
-//! The commands: each answers the line that it ends with, or why it is refused.
+//! The commands: each returns the line that it ends with, or why it is refused.
 
 ghost use Rattle.std.specs.Prelude.{◌≡◌, ◌⊎◌, ◌≤◌, ◌+◌, ◌^◌, ℕ, [], ◌∷◌, take, Err, Some, IsOk, IfOk, IfErr, OnOk};
 ghost use Rattle.ept_base.specs.Causes.{HasCauseOf};
@@ -7,13 +7,11 @@ ghost use Rattle.ept_base.specs.Moves.{Moves, IsSettled};
 ghost use Rattle.ept_config_text.specs.declared.config_error.ConfigError.{ConfigError};
 ghost use Rattle.ept_scan.specs.Asking.{AsksFor};
 ghost use Rattle.ept_las.specs.declared.header.Header as found;
-ghost use Rattle.ept_ckpt.specs.declared.letter.Letter.{Letter};
-ghost use Rattle.ept_save.specs.Opening.{IsBad};
 ghost use Rattle.ept_save.specs.Sound.{IsSound};
 ghost use Rattle.ept_build.specs.Building.{BeginsWith};
+ghost use Rattle.ept_run.specs.Builds.{ComesToBuild};
 ghost use Rattle.ept_run.specs.Lines.{summary_text, header_text};
-ghost use Rattle.ept_command.specs.Configurations.{ConfigurationIsRefused};
-ghost use Rattle.ept_run.specs.Requests.{IsBuiltAt, HasBuilt, AsksForBuild, IsAcceptedAt, IsDoneAt, ComesAt, DiffersAt, ComesToDamageAt, IsConfigured, IsOfStore, HasSpilled, TellsDifference, TellsDamage, BuildIsRefused, HasTold, HasHeader, InfoIsRefused, IsOfBuild, IsOfHeader, IsDefinite, IsEarly, Fails, HasTrial};
+ghost use Rattle.ept_run.specs.Requests.{IsBuiltAt, HasBuilt, AsksForBuild, IsDoneAt, HasSpilled, HasTold, HasHeader, InfoIsRefused, IsOfHeader, IsDefinite, Fails, HasTrial};
 
 use crate::files::read_file_header;
 use crate::lines::{header_line, outcome_line, summary_line};
@@ -27,11 +25,11 @@ use std::alloc::Global;
 use std::sync::Wait;
 use std::thread::Threads;
 
-/// Builds the octree of the configuration of this path, and answers the line that says so.
+/// Builds the octree of the configuration of this path, and returns the line that says so.
 ///
 /// # Errors
 ///
-/// Those of the configuration, and then those of [`build`]; `Memory` may come when all is built, and the
+/// Those of the configuration, and then those of [`build`]. `Memory` may also come after all is built, if the
 /// line can't be made.
 pub(crate) fn build_line<H: Shelf, T: Store, M: Room, G: Gate + Sync, R: Threads + Wait + Sync>(
     rt: &R,
@@ -52,26 +50,10 @@ where
     ensures settled { OnOk result (IsSettled (T.files store.new) (T.may_leave store.new)) }
     ensures kept { (all start : Files) → BeginsWith M.File.held (H.files shelf.old) (T.files store.old) (T.may_leave store.old) all start
         → OnOk result (HasSpilled all start (M.keeps room.old) (M.keeps room.new) path.now) }
-    ensures refused { IfErr result (λ r. Tells
-        (λ all. BuildIsRefused all (BeginsWith M.File.held (H.files shelf.old) (T.files store.old) (T.may_leave store.old)) path.now r) (H.files shelf.old)) }
-    ensures refusal_comes { Tells (λ all. (r : Refusal) → IsDefinite r → ConfigurationIsRefused all path.now r
-        → (result ≡ Err r) ⊎ Fails result) (H.files shelf.old) }
-    ensures accepted { (all start : Files) → BeginsWith M.File.held (H.files shelf.old) (T.files store.old) (T.may_leave store.old) all start
-        → IsAcceptedAt all start path.now → IsOk result ⊎ Fails result }
-    ensures done_comes { (all start : Files) → BeginsWith M.File.held (H.files shelf.old) (T.files store.old) (T.may_leave store.old) all start
-        → IsDoneAt all start path.now → IsOk result ⊎ Fails result }
-    ensures comes { (all start : Files) → BeginsWith M.File.held (H.files shelf.old) (T.files store.old) (T.may_leave store.old) all start
-        → (r : Refusal) → ComesAt all start r path.now → (result ≡ Err r) ⊎ Fails result }
-    ensures of_store { IfErr result
-        (IsOfStore (H.files shelf.old) (T.files store.old) (T.files store.new) (IsSettled (T.files store.old) (T.may_leave store.old)) path.now) }
-    ensures differs_comes { (all start : Files) → H.files shelf.old ≡ Some all → T.files store.old ≡ Some start
-        → DiffersAt all start path.now → TellsDifference result ⊎ Fails result }
-    ensures damaged_comes { (all start : Files) → H.files shelf.old ≡ Some all → T.files store.old ≡ Some start
-        → ComesToDamageAt all start path.now → TellsDamage result ⊎ Fails result }
-    ensures bad_comes { (all start : Files) (letter : Letter) → H.files shelf.old ≡ Some all
-        → T.files store.old ≡ Some start → IsBad start letter → IsConfigured all path.now
-        → (result ≡ Err (Refusal.BadCheckpoint letter)) ⊎ Fails result }
-    ensures causes { IfErr result IsOfBuild }
+    ensures comes_to { ComesToBuild path.now result (H.files shelf.old) (T.files store.old)
+        (BeginsWith M.File.held (H.files shelf.old) (T.files store.old) (T.may_leave store.old)) (T.files store.new)
+        (IsSettled (T.files store.old) (T.may_leave store.old))
+        (Moves T.files T.may_leave T.moment T.image_since SameFiles store.old store.new) }
     ensures sources { HasCauseOf Refusal.SourceFault (H.faults shelf.old) (H.faults shelf.new) result }
     ensures stores { HasCauseOf Refusal.StoreFault (T.faults store.old) (T.faults store.new) result }
     ensures spills { HasCauseOf Refusal.SpillFault (M.faults room.old) (M.faults room.new) result }
@@ -80,8 +62,6 @@ where
     ensures done_already { (all start : Files) → BeginsWith M.File.held (H.files shelf.old) (T.files store.old) (T.may_leave store.old) all start
         → IsDoneAt all start path.now
         → Moves T.files T.may_leave T.moment T.image_since SameFiles store.old store.new }
-    ensures early { IfErr result (λ r. IsEarly r
-        → Moves T.files T.may_leave T.moment T.image_since SameFiles store.old store.new) }
     ensures asked { (start : Files) → T.files store.old ≡ Some start
         → AsksForBuild (H.files shelf.old) start path.now (H.asked shelf.old) (H.asked shelf.new) }
     ensures given { (error : ConfigError) → result ≡ Err (Refusal.BadConfiguration error)
@@ -112,26 +92,10 @@ where
     ensures settled { OnOk result (IsSettled (T.files store.new) (T.may_leave store.new)) }
     ensures kept { (all start : Files) → BeginsWith M.File.held (H.files shelf.old) (T.files store.old) (T.may_leave store.old) all start
         → OnOk result (HasSpilled all start (M.keeps room.old) (M.keeps room.new) path.now) }
-    ensures refused { IfErr result (λ r. Tells
-        (λ all. BuildIsRefused all (BeginsWith M.File.held (H.files shelf.old) (T.files store.old) (T.may_leave store.old)) path.now r) (H.files shelf.old)) }
-    ensures refusal_comes { Tells (λ all. (r : Refusal) → IsDefinite r → ConfigurationIsRefused all path.now r
-        → (result ≡ Err r) ⊎ Fails result) (H.files shelf.old) }
-    ensures accepted { (all start : Files) → BeginsWith M.File.held (H.files shelf.old) (T.files store.old) (T.may_leave store.old) all start
-        → IsAcceptedAt all start path.now → IsOk result ⊎ Fails result }
-    ensures done_comes { (all start : Files) → BeginsWith M.File.held (H.files shelf.old) (T.files store.old) (T.may_leave store.old) all start
-        → IsDoneAt all start path.now → IsOk result ⊎ Fails result }
-    ensures comes { (all start : Files) → BeginsWith M.File.held (H.files shelf.old) (T.files store.old) (T.may_leave store.old) all start
-        → (r : Refusal) → ComesAt all start r path.now → (result ≡ Err r) ⊎ Fails result }
-    ensures of_store { IfErr result
-        (IsOfStore (H.files shelf.old) (T.files store.old) (T.files store.new) (IsSettled (T.files store.old) (T.may_leave store.old)) path.now) }
-    ensures differs_comes { (all start : Files) → H.files shelf.old ≡ Some all → T.files store.old ≡ Some start
-        → DiffersAt all start path.now → TellsDifference result ⊎ Fails result }
-    ensures damaged_comes { (all start : Files) → H.files shelf.old ≡ Some all → T.files store.old ≡ Some start
-        → ComesToDamageAt all start path.now → TellsDamage result ⊎ Fails result }
-    ensures bad_comes { (all start : Files) (letter : Letter) → H.files shelf.old ≡ Some all
-        → T.files store.old ≡ Some start → IsBad start letter → IsConfigured all path.now
-        → (result ≡ Err (Refusal.BadCheckpoint letter)) ⊎ Fails result }
-    ensures causes { IfErr result IsOfBuild }
+    ensures comes_to { ComesToBuild path.now result (H.files shelf.old) (T.files store.old)
+        (BeginsWith M.File.held (H.files shelf.old) (T.files store.old) (T.may_leave store.old)) (T.files store.new)
+        (IsSettled (T.files store.old) (T.may_leave store.old))
+        (Moves T.files T.may_leave T.moment T.image_since SameFiles store.old store.new) }
     ensures sources { HasCauseOf Refusal.SourceFault (H.faults shelf.old) (H.faults shelf.new) result }
     ensures stores { HasCauseOf Refusal.StoreFault (T.faults store.old) (T.faults store.new) result }
     ensures spills { HasCauseOf Refusal.SpillFault (M.faults room.old) (M.faults room.new) result }
@@ -140,8 +104,6 @@ where
     ensures done_already { (all start : Files) → BeginsWith M.File.held (H.files shelf.old) (T.files store.old) (T.may_leave store.old) all start
         → IsDoneAt all start path.now
         → Moves T.files T.may_leave T.moment T.image_since SameFiles store.old store.new }
-    ensures early { IfErr result (λ r. IsEarly r
-        → Moves T.files T.may_leave T.moment T.image_since SameFiles store.old store.new) }
     ensures asked { (start : Files) → T.files store.old ≡ Some start
         → AsksForBuild (H.files shelf.old) start path.now (H.asked shelf.old) (H.asked shelf.new) }
     ensures given { (error : ConfigError) → result ≡ Err (Refusal.BadConfiguration error)
@@ -156,7 +118,7 @@ where
     }
 }
 
-/// The line that tells what the header of the LAS file of this path says.
+/// The line that reports what the header of the LAS file of this path says.
 ///
 /// # Errors
 ///
@@ -184,12 +146,12 @@ pub(crate) fn info_line<H: Shelf>(
     Ok(line)
 }
 
-/// Builds the octree of the generated scans of so many points in memory, with so many workers and so many nodes
-/// at a time, and answers the line that tells what it comes to.
+/// Builds the octree of the generated scans of `points` points in memory, with `workers` workers and `cache` nodes
+/// at a time. Returns the line that reports what it comes to.
 ///
 /// # Errors
 ///
-/// Want of memory, and nothing else.
+/// `Memory`, and nothing else.
 pub(crate) fn trial_line<R: Threads + Wait + Sync>(
     rt: &R,
     alloc: Global,

@@ -15,8 +15,8 @@ use ept_las::{HEAD_LENGTH, Header, read_header};
 ///
 /// # Errors
 ///
-/// `BadLas` of source 0 with the first fault of the header, `SourceFault`, and `Memory` where the shelf has
-/// none to open the file.
+/// `BadLas` of source 0 with the first fault of the header, `SourceFault`, and `Memory` if the shelf has none
+/// to open the file.
 pub(crate) fn read_file_header<H: Shelf>(shelf: &mut H, path: &str) -> Result<Header, Refusal>
     ensures ok { IfOk result (λ header. Tells (λ all. HasHeader all path.now header) (H.files shelf.old)) }
     ensures refused { IfErr result (λ r. Tells (λ all. InfoIsRefused all path.now r) (H.files shelf.old)) }
@@ -35,7 +35,8 @@ pub(crate) fn read_file_header<H: Shelf>(shelf: &mut H, path: &str) -> Result<He
     }
 }
 
-// Reads the first bytes of the file of this path, as many as the buffer takes, and answers how many.
+// Reads the first bytes of the file of this path into the buffer, until that is full or the file ends. Returns their
+// number.
 fn read_head<H: Shelf>(shelf: &mut H, path: &str, buffer: &mut [u8]) -> Result<usize, GetError>
     ensures front { IfOk result (λ count. Tells
         (λ all. HasFront all path.now (length buffer.old) (take count buffer.new)) (H.files shelf.old)) }

@@ -1,5 +1,5 @@
-//! A run of the program, over any devices: what is done for the command that its words are, the line that reports it,
-//! and the status.
+//! A run of the program, over any devices: what is done for the command in its words, the line that reports it, and
+//! the status.
 //!
 //! [`run`] is the whole of it, and [`carry_out`] is the same with the reason if the status is not 0.
 #![tactic(auto)]

@@ -25,7 +25,7 @@ use std::alloc::{AllocError, Global};
 /// The line of words that are no command. It takes no memory.
 pub(crate) const USAGE_LINE: &[u8] = b"error 2 usage\n";
 
-/// The line of want of memory. It takes no memory.
+/// The line of a run that is out of memory. It takes no memory.
 pub(crate) const MEMORY_LINE: &[u8] = b"error 9 memory\n";
 
 /// The line of a check of a folder without a complete dataset. It takes no memory.
@@ -50,7 +50,7 @@ fn append(line: &mut Vec<u8>, text: &[u8]) -> Result<(), AllocError>
     Ok(())
 }
 
-// Appends a number behind its word.
+// Appends a number after its word.
 fn append_number(line: &mut Vec<u8>, word: &[u8], number: u64) -> Result<(), AllocError>
     ensures { OnOk result (line.new.items ≡ line.old.items ++ word.now ++ decimal number) }
 {
@@ -73,7 +73,7 @@ pub(crate) fn part_line(alloc: Global, done: &PartDone) -> Result<Vec<u8>, Alloc
     counts_line(alloc, done.points, done.nodes)
 }
 
-// So many points, and so many nodes.
+// The line of these numbers of points and nodes.
 #[tactic(auto, unfolding(crate::specs::Lines::summary_text))]
 fn counts_line(alloc: Global, points: u64, nodes: u32) -> Result<Vec<u8>, AllocError>
     ensures { IfOk result (λ line. line.items ≡ summary_text points nodes) }
@@ -97,7 +97,7 @@ pub(crate) fn fit_line(alloc: Global, points: u64, nodes: u64) -> Result<Vec<u8>
     Ok(line)
 }
 
-/// What is said of one that is not: the first node with which anything is wrong, and the number of what is.
+/// What is said of a dataset that is not: the first node with which anything is wrong, and the number of what is.
 #[tactic(auto, unfolding(crate::specs::Lines::unfit_text))]
 pub(crate) fn unfit_line(alloc: Global, key: &Key, why: Fault) -> Result<Vec<u8>, AllocError>
     ensures { IfOk result (λ line. line.items ≡ unfit_text key.now why) }
@@ -125,8 +125,8 @@ pub(crate) fn header_line(alloc: Global, header: Header) -> Result<Vec<u8>, Allo
     Ok(line)
 }
 
-/// What is said of a trial: how many points and nodes there are, the greatest depth of a node, and the sum of
-/// all bytes of all tiles.
+/// What is said of a trial: the numbers of points and nodes, the greatest depth of a node, and the sum of all
+/// tiles' bytes.
 #[tactic(auto, unfolding(crate::specs::Lines::trial_text))]
 pub(crate) fn outcome_line(alloc: Global, trial: Trial) -> Result<Vec<u8>, AllocError>
     ensures { IfOk result (λ line. line.items ≡ trial_text trial) }
@@ -220,7 +220,7 @@ fn append_end(line: &mut Vec<u8>, fault: LasError) -> Result<(), AllocError>
     }
 }
 
-// The number of an input, behind its word.
+// The number of an input, after its word.
 fn append_input(line: &mut Vec<u8>, word: &[u8], source: u32) -> Result<(), AllocError>
     ensures { OnOk result (line.new.items ≡ line.old.items ++ word.now ++ decimal source) }
 {
@@ -228,7 +228,7 @@ fn append_input(line: &mut Vec<u8>, word: &[u8], source: u32) -> Result<(), Allo
     Ok(())
 }
 
-// The numbers of an input, behind its word, and of one of its records.
+// The numbers of an input, after its word, and of one of its records.
 #[tactic(auto, unfolding(crate::specs::Lines::record_text))]
 fn append_record(
     line: &mut Vec<u8>,
@@ -243,7 +243,7 @@ fn append_record(
     Ok(())
 }
 
-// Appends a text behind its word.
+// Appends a text after its word.
 fn append_word(line: &mut Vec<u8>, word: &[u8], text: &[u8]) -> Result<(), AllocError>
     ensures { OnOk result (line.new.items ≡ line.old.items ++ word.now ++ text.now) }
 {
@@ -252,7 +252,7 @@ fn append_word(line: &mut Vec<u8>, word: &[u8], text: &[u8]) -> Result<(), Alloc
     Ok(())
 }
 
-// Appends the text of a key behind its word.
+// Appends the text of a key after its word.
 fn append_tile(line: &mut Vec<u8>, word: &[u8], key: &Key) -> Result<(), AllocError>
     ensures { OnOk result (line.new.items ≡ line.old.items ++ word.now ++ space.key_text key.now) }
 {
@@ -261,7 +261,7 @@ fn append_tile(line: &mut Vec<u8>, word: &[u8], key: &Key) -> Result<(), AllocEr
     append_word(line, word, &text[..length])
 }
 
-/// A word, and behind it the octants of a part.
+/// A word, and after it the octants of a part.
 #[tactic(auto, unfolding(crate::specs::Merges::part_text))]
 pub(crate) fn octants_line(alloc: Global, word: &[u8], octants: u8) -> Result<Vec<u8>, AllocError>
     ensures { IfOk result (λ line. line.items ≡ part_text word.now octants) }

@@ -1,6 +1,6 @@
 //! The merge of a run, and the build that follows it.
 
-ghost use Rattle.std.specs.Prelude.{◌≡◌, ◌≢◌, ◌⊎◌, ◌↔◌, ◌≤◌, ◌+◌, ◌^◌, ℕ, List, None, Some, Ok, Err, IfOk, IfErr, OnOk};
+ghost use Rattle.std.specs.Prelude.{◌≡◌, ◌≢◌, ◌⊎◌, ◌↔◌, ◌≤◌, ◌+◌, ◌^◌, ℕ, List, None, Some, Ok, Err, IsOk, IfOk, IfErr, OnOk};
 ghost use Rattle.ept_base.specs.Causes.{Rose, HasCauseOf};
 ghost use Rattle.ept_base.specs.Files.{Files, SameFiles, Tells};
 ghost use Rattle.ept_base.specs.Moves.{Moves, IsSettled};
@@ -17,7 +17,7 @@ ghost use Rattle.ept_command.specs.declared.refusal.Refusal.TheVariants as refus
 ghost use Rattle.ept_command.specs.declared.refusal.MergeRefusal.TheVariants.{HasCheckpoint};
 ghost use Rattle.ept_run.specs.Errors.{of_build};
 ghost use Rattle.ept_run.specs.Answers.{Says};
-ghost use Rattle.ept_run.specs.Merges.{of_merge, as_build, part_text, IsFaultOfParts, IsEarlyMerge, ComesToMerge, IsMergeReported, EndsMerge, FailsAsMerge};
+ghost use Rattle.ept_run.specs.Merges.{of_merge, as_build, part_text, IsFaultOfParts, IsEarlyMerge, FailsMerge, ReportsMerge, ComesToMerge, IsMergeReported, EndsMerge, FailsAsMerge};
 
 use crate::answers::{refuse, refuse_memory, say, write_line};
 use crate::lines::{HAS_CHECKPOINT_LINE, octants_line, summary_line};
@@ -132,6 +132,11 @@ fn merge_parts<H: Shelf, T: Store>(
         → Moves T.files T.may_leave T.moment T.image_since (λ (a b : Files). IsSound all b) store.old store.new }
     ensures refused { IfErr result (λ r. (error : merge.MergeError) × (r ≡ of_merge error)
         × Tells (λ all. Tells (λ start. merging.IsRefused all start config.now parts.now error) (T.files store.old)) (H.files shelf.old)) }
+    ensures ready { Tells (λ all. Tells (λ start. merging.AreReady all start config.now parts.now
+        → IsOk result ⊎ FailsMerge result) (T.files store.old)) (H.files shelf.old) }
+    ensures comes { Tells (λ all. Tells (λ start. (error : merge.MergeError) → merging.IsDefinite error
+        → merging.IsRefused all start config.now parts.now error
+        → ReportsMerge (of_merge error) result ⊎ FailsMerge result) (T.files store.old)) (H.files shelf.old) }
     ensures own { (all start : Files) → H.files shelf.old ≡ Some all → T.files store.old ≡ Some start
         → merging.AreOwnParts all config.now start parts.now → IfErr result (λ r. ¬ IsFaultOfParts r) }
     ensures early { IfErr result (λ r. IsEarlyMerge r
@@ -167,6 +172,8 @@ where
     ensures refused { IfErr result (λ r. (error : b.BuildError) × (r ≡ as_build (of_build error))
         × ((all start : Files) → BeginsWith M.File.held (H.files shelf.old) (T.files store.old) (T.may_leave store.old) all start
         → building.IsRefused all config.now start error)) }
+    ensures accepted { (all start : Files) → BeginsWith M.File.held (H.files shelf.old) (T.files store.old) (T.may_leave store.old) all start
+        → building.IsAccepted all config.now start → IsOk result ⊎ FailsMerge result }
     ensures files { H.files shelf.new ≡ H.files shelf.old }
     ensures sources { HasCauseOf (as_build refusal.SourceFault) (H.faults shelf.old) (H.faults shelf.new) result }
     ensures stores { HasCauseOf (as_build refusal.StoreFault) (T.faults store.old) (T.faults store.new) result }

@@ -47,7 +47,7 @@ pub(crate) fn answer_select<T: Store, O: Sink>(
     ended_by(select(alloc, store, area, depths, sift, out))
 }
 
-// How a query or a selection ends that answers this.
+// How a query or a selection with this result ends.
 fn ended_by(answer: Result<u64, QueryError>) -> Ended
     ensures status { result.status ≡ query_status answer }
     ensures failure { result.failure ≡ query_failure answer }

@@ -29,20 +29,27 @@ use std::alloc::Global;
 use std::sync::Wait;
 use std::thread::Threads;
 
-/// Carries out the command that the words are, over these devices, and answers the status with which the
-/// program ends. The words are those behind the program's name.
+/// Carries out the command that the words are, over these devices, and returns the status with which the
+/// program ends. The words are those after the program's name.
 ///
-/// `build CONFIG OUT` reads the configuration from the shelf, and the LAS files that it names, puts the
-/// octree of their points into the store, and writes how many points and nodes it has to the sink. Nodes past those
-/// that the configuration lets be in memory at a time are in spill files of the room meanwhile. `part CONFIG OUT OCTANTS`
-/// puts one part of that octree, of some octants of the root, into a folder of its own in the store, and writes how many
-/// points and nodes the part has. `merge CONFIG OUT OCTANTS ..` makes a checkpoint of such parts, which have each octant
-/// once, and then does what `build CONFIG OUT` does. `info LAS` reads the header of a LAS file from the shelf and writes
-/// what it says to the sink. `query OUT BOX DEPTHS` writes the packed points of a box and of some depths of the dataset in
-/// the store to the sink. `select OUT BOX DEPTHS CLASSES TIME DIMS` writes of these points those of some classes and of
-/// some GPS time, and of each the dimensions that are asked for. `check OUT` writes whether the dataset in the store is the
-/// sampling of its own points. `trial N WORKERS CACHE` builds the octree of generated scans of N points in memory, and
-/// writes what it comes to to the sink. A refusal is one line on the sink, except that of a query or a selection, and out of memory of a check, which write none.
+/// - `build CONFIG OUT` reads the configuration from the shelf, and the LAS files that it names. It puts the octree of
+///   their points into the store, and writes its numbers of points and nodes to the sink. Nodes beyond those that the
+///   configuration allows in memory at a time are in spill files of the room meanwhile.
+/// - `part CONFIG OUT OCTANTS` puts one part of that octree, of some octants of the root, into a folder of its own in
+///   the store. It writes the part's numbers of points and nodes.
+/// - `merge CONFIG OUT OCTANTS ..` makes a checkpoint of such parts, which have each octant once, and then does what
+///   `build CONFIG OUT` does.
+/// - `info LAS` reads the header of a LAS file from the shelf and writes what it says to the sink.
+/// - `query OUT BOX DEPTHS` writes to the sink the packed points of a box and of some depths of the dataset in the
+///   store.
+/// - `select OUT BOX DEPTHS CLASSES TIME DIMS` writes those of these points that have some classes and some GPS time,
+///   each with the dimensions that are asked for.
+/// - `check OUT` writes whether the dataset in the store is the sampling of its own points.
+/// - `trial N WORKERS CACHE` builds the octree of generated scans of N points in memory, and writes to the sink what
+///   it comes to.
+///
+/// A refusal is one line on the sink. A query or a selection that is refused writes no line, nor does a check that is
+/// out of memory.
 pub fn run<H: Shelf, T: Store, M: Room, O: Sink, G: Gate + Sync, R: Threads + Wait + Sync>(
     rt: &R,
     alloc: Global,
@@ -56,9 +63,9 @@ pub fn run<H: Shelf, T: Store, M: Room, O: Sink, G: Gate + Sync, R: Threads + Wa
 where
     H::Source: Send,
     M::File: Send + Sync,
-    // The statuses: 0 done, 2 no command, 3 the configuration, 4 a scan, 5 too many, 6 another configuration, no octants,
-    // parts that are not there or do not belong here, or no complete dataset, 7 a device, 8 a damaged file or an unfit
-    // dataset, 9 memory.
+    // The statuses: 0 done; 2 no command; 3 the configuration; 4 a scan; 5 too many; 6 another configuration, no
+    // octants, parts that are missing or do not belong here, or no complete dataset; 7 a device; 8 a damaged file or an
+    // unfit dataset; 9 memory.
 
     // Words that are no command, and nothing else, are faulty.
     ensures usage { (result ≡ 2) ↔ IsUsage (bytes_of words.now) }
@@ -77,14 +84,14 @@ where
         → AsksBuild (bytes_of words.now) (IsDoneAt all start)
         → Moves T.files T.may_leave T.moment T.image_since SameFiles store.old store.new }
 
-    // Where no device fails, what can be done is done, or memory runs out.
+    // What can be done is done, unless a device fails or memory runs out.
     ensures comes { CanBeDone (bytes_of words.now) (H.files shelf.old) (T.files store.old)
         (BeginsWith M.File.held (H.files shelf.old) (T.files store.old) (T.may_leave store.old))
         → EndsWell result
         (Rose (H.faults shelf.old) (H.faults shelf.new) ⊎ Rose (T.faults store.old) (T.faults store.new)
         ⊎ Rose (M.faults room.old) (M.faults room.new) ⊎ Rose (O.faults out.old) (O.faults out.new)) }
 
-    // Whatever a build answers and whenever it stops, each image that is left is sound.
+    // Whatever a build returns and whenever it stops, each image that is left is sound.
     ensures sound { (config folder : List ℕ) → IsBuild (bytes_of words.now) config folder
         → (all start : Files) → BeginsWith M.File.held (H.files shelf.old) (T.files store.old) (T.may_leave store.old) all start
         → Moves T.files T.may_leave T.moment T.image_since (λ (a b : Files). IsSound all b) store.old store.new }
@@ -135,11 +142,11 @@ where
         → AreSoundParts all start parts
         → Moves T.files T.may_leave T.moment T.image_since (λ (a b : Files). IsSound all b) store.old store.new }
 
-    // A trial ends with the line of what its octree comes to, whatever the files are, or for want of memory.
+    // A trial ends with the line of what its octree comes to, whatever the files are, or because memory runs out.
     ensures trial { (count workers cache : ℕ) → IsTrial (bytes_of words.now) count workers cache
         → EndsTrial count result (O.written out.old) (O.written out.new) (Rose (O.faults out.old) (O.faults out.new)) }
 
-    // Each other refusal has its cause and its line, but where the line of a command that is carried out is cut.
+    // Any other refusal has its cause and its line. Or a command is carried out, and its line is cut.
     ensures refused { result ≢ 0
         → Refuses (bytes_of words.now) (H.files shelf.old)
         (BeginsWith M.File.held (H.files shelf.old) (T.files store.old) (T.may_leave store.old))
@@ -174,8 +181,8 @@ where
         ⊎ Rose (T.faults store.old) (T.faults store.new) ⊎ Rose (M.faults room.old) (M.faults room.new)
         ⊎ Rose (O.faults out.old) (O.faults out.new) }
 
-    // What is opened, and how much of a file is read: of a LAS file its first 375 bytes by `info`, and of what is no
-    // configuration at most 16 MiB and one byte.
+    // What is opened, and how much of a file is read. `info` reads the first 375 bytes of a LAS file. At most 16 MiB
+    // and one byte of a file that is no configuration are read.
     ensures asked { (start : Files) → T.files store.old ≡ Some start
         → IsAskedFor (bytes_of words.now) (H.files shelf.old) start (H.asked shelf.old) (H.asked shelf.new) }
     ensures header_given { (las : List ℕ) → IsInfo (bytes_of words.now) las

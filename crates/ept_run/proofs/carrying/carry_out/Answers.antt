@@ -20,10 +20,10 @@ use Rattle.ept_merge.specs.Merging.{AreAllParts, AreSoundParts}
 use Rattle.ept_command.specs.Words.{IsPart, IsMerge}
 use Rattle.ept_command.proofs.OctantTexts.{part_once}
 use Rattle.ept_command.proofs.PartTexts.{merge_once}
-use Rattle.ept_run.proofs.Merged.{merge_same}
+use Rattle.ept_run.proofs.Merged.{merge_same, merge_comes}
 use Rattle.ept_run.proofs.Parted.{ends_same, part_comes}
 use Rattle.ept_run.proofs.Apart.{merge_or_build, merge_or_part, merge_or_info, merge_or_query, merge_or_select, merge_or_check, merge_or_trial, merge_asked, merge_unrefused, part_or_build, part_or_info, part_or_query, part_or_select, part_or_check, part_or_trial, part_asked, part_unrefused, select_or_build, select_or_info, select_or_query, select_or_trial, select_asked, select_unrefused, check_or_build, check_or_info, check_or_query, check_or_select, check_or_trial, check_asked, check_unrefused}
-use Rattle.ept_run.proofs.Coming.{merge_cannot, build_can, part_can, info_can, query_can, check_can, trial_can, nothing_can}
+use Rattle.ept_run.proofs.Coming.{build_can, part_can, merge_can, info_can, query_can, check_can, trial_can, nothing_can}
 use Rattle.ept_run.proofs.carrying.carry_out.Given as given
 use Rattle.ept_run.proofs.carrying.carry_out.Goals as goal
 
@@ -32,8 +32,8 @@ use Rattle.ept_run.proofs.carrying.carry_out.Goals as goal
 build_known : (g : given.Over) (c : goal.After-finish g) → Carries (map string_bytes c.args.words.now) (g.H.Shelf.files c.args.shelf.now) (BeginsWith g.M.File.SpillFile.held (g.H.Shelf.files c.args.shelf.now) (g.T.Store.files c.args.store.now) (g.T.Store.may_leave c.args.store.now)) (SaysOfStore (map string_bytes c.args.words.now) (g.H.Shelf.files c.args.shelf.now) (g.T.Store.files c.args.store.now) (g.T.Store.files c.build_line-line.new.store) (IsSettled (g.T.Store.files c.args.store.now) (g.T.Store.may_leave c.args.store.now))) (g.T.Store.files c.build_line-line.new.store) (Rose (g.H.Shelf.faults c.args.shelf.now) (g.H.Shelf.faults c.build_line-line.new.shelf)) (Rose (g.T.Store.faults c.args.store.now) (g.T.Store.faults c.build_line-line.new.store)) (Rose (g.M.Room.faults c.args.room.now) (g.M.Room.faults c.build_line-line.new.room)) (Moves g.T.Store.files g.T.Store.may_leave g.T.Store.moment g.T.Store.image_since SameFiles c.args.store.now c.build_line-line.new.store) c.build_line-line.result
 build_known g c =
     build_carries (map string_bytes c.args.words.now) c.in-Build.config.now c.in-Build.out.now c.in-Build.ensures c.build_line-line.result (g.H.Shelf.files c.args.shelf.now) (g.T.Store.files c.args.store.now) (IsSettled (g.T.Store.files c.args.store.now) (g.T.Store.may_leave c.args.store.now)) (BeginsWith g.M.File.SpillFile.held (g.H.Shelf.files c.args.shelf.now) (g.T.Store.files c.args.store.now) (g.T.Store.may_leave c.args.store.now)) (g.T.Store.files c.build_line-line.new.store) (Rose (g.H.Shelf.faults c.args.shelf.now) (g.H.Shelf.faults c.build_line-line.new.shelf)) (Rose (g.T.Store.faults c.args.store.now) (g.T.Store.faults c.build_line-line.new.store)) (Rose (g.M.Room.faults c.args.room.now) (g.M.Room.faults c.build_line-line.new.room)) (Moves g.T.Store.files g.T.Store.may_leave g.T.Store.moment g.T.Store.image_since SameFiles c.args.store.now c.build_line-line.new.store)
-    c.build_line-line.ensures.said c.build_line-line.ensures.built c.build_line-line.ensures.causes c.build_line-line.ensures.refused c.build_line-line.ensures.of_store c.build_line-line.ensures.sources.failed c.build_line-line.ensures.stores.failed c.build_line-line.ensures.spills.failed
-    c.build_line-line.ensures.early c.build_line-line.ensures.refusal_comes
+    c.build_line-line.ensures.said c.build_line-line.ensures.built c.build_line-line.ensures.comes_to.causes c.build_line-line.ensures.comes_to.refused c.build_line-line.ensures.comes_to.of_store c.build_line-line.ensures.sources.failed c.build_line-line.ensures.stores.failed c.build_line-line.ensures.spills.failed
+    c.build_line-line.ensures.comes_to.early c.build_line-line.ensures.comes_to.refusal_comes
 
 build_ended : (g : given.Over) (c : goal.After-finish g) → EndsWith c.build_line-line.result c.finish.result.status (g.O.Sink.written c.args.out.now) (g.O.Sink.written c.finish.new.out) (Rose (g.O.Sink.faults c.args.out.now) (g.O.Sink.faults c.finish.new.out))
 build_ended g c = ends_with c.finish.result.status (g.O.Sink.written c.args.out.now) (g.O.Sink.written c.finish.new.out) (Rose (g.O.Sink.faults c.args.out.now) (g.O.Sink.faults c.finish.new.out)) c.build_line-line.result c.finish.result.failure c.finish.ensures
@@ -229,19 +229,19 @@ returns-in-Usage-clause-query_puts_nothing g c = λ asks. absurd (c.in-Usage.ens
 
 pub returns-in-Build-clause-build_refusal_comes : goal.returns-in-Build-clause-build_refusal_comes
 returns-in-Build-clause-build_refusal_comes g c = λ all start begins r asks.
-    comes_yields c.finish.result.status (g.O.Sink.written c.args.out.now) (g.O.Sink.written c.finish.new.out) (Rose (g.O.Sink.faults c.args.out.now) (g.O.Sink.faults c.finish.new.out)) c.build_line-line.result r (c.build_line-line.ensures.comes all start begins r (of_build (map string_bytes c.args.words.now) c.in-Build.config.now c.in-Build.out.now c.in-Build.ensures {P = ComesAt all start r} asks)) (build_ended g c)
+    comes_yields c.finish.result.status (g.O.Sink.written c.args.out.now) (g.O.Sink.written c.finish.new.out) (Rose (g.O.Sink.faults c.args.out.now) (g.O.Sink.faults c.finish.new.out)) c.build_line-line.result r (c.build_line-line.ensures.comes_to.comes all start begins r (of_build (map string_bytes c.args.words.now) c.in-Build.config.now c.in-Build.out.now c.in-Build.ensures {P = ComesAt all start r} asks)) (build_ended g c)
 
 pub returns-in-Build-clause-differs_comes : goal.returns-in-Build-clause-differs_comes
 returns-in-Build-clause-differs_comes g c = λ all start told stored asks.
-    differs_yields c.finish.result.status (g.O.Sink.written c.args.out.now) (g.O.Sink.written c.finish.new.out) (Rose (g.O.Sink.faults c.args.out.now) (g.O.Sink.faults c.finish.new.out)) c.build_line-line.result (c.build_line-line.ensures.differs_comes all start told stored (of_build (map string_bytes c.args.words.now) c.in-Build.config.now c.in-Build.out.now c.in-Build.ensures {P = DiffersAt all start} asks)) (build_ended g c)
+    differs_yields c.finish.result.status (g.O.Sink.written c.args.out.now) (g.O.Sink.written c.finish.new.out) (Rose (g.O.Sink.faults c.args.out.now) (g.O.Sink.faults c.finish.new.out)) c.build_line-line.result (c.build_line-line.ensures.comes_to.differs_comes all start told stored (of_build (map string_bytes c.args.words.now) c.in-Build.config.now c.in-Build.out.now c.in-Build.ensures {P = DiffersAt all start} asks)) (build_ended g c)
 
 pub returns-in-Build-clause-damaged_comes : goal.returns-in-Build-clause-damaged_comes
 returns-in-Build-clause-damaged_comes g c = λ all start told stored asks.
-    damage_yields c.finish.result.status (g.O.Sink.written c.args.out.now) (g.O.Sink.written c.finish.new.out) (Rose (g.O.Sink.faults c.args.out.now) (g.O.Sink.faults c.finish.new.out)) c.build_line-line.result (c.build_line-line.ensures.damaged_comes all start told stored (of_build (map string_bytes c.args.words.now) c.in-Build.config.now c.in-Build.out.now c.in-Build.ensures {P = ComesToDamageAt all start} asks)) (build_ended g c)
+    damage_yields c.finish.result.status (g.O.Sink.written c.args.out.now) (g.O.Sink.written c.finish.new.out) (Rose (g.O.Sink.faults c.args.out.now) (g.O.Sink.faults c.finish.new.out)) c.build_line-line.result (c.build_line-line.ensures.comes_to.damaged_comes all start told stored (of_build (map string_bytes c.args.words.now) c.in-Build.config.now c.in-Build.out.now c.in-Build.ensures {P = ComesToDamageAt all start} asks)) (build_ended g c)
 
 pub returns-in-Build-clause-bad_comes : goal.returns-in-Build-clause-bad_comes
 returns-in-Build-clause-bad_comes g c = λ all start letter told stored bad asks.
-    comes_yields c.finish.result.status (g.O.Sink.written c.args.out.now) (g.O.Sink.written c.finish.new.out) (Rose (g.O.Sink.faults c.args.out.now) (g.O.Sink.faults c.finish.new.out)) c.build_line-line.result (BadCheckpoint letter) (c.build_line-line.ensures.bad_comes all start letter told stored bad (of_build (map string_bytes c.args.words.now) c.in-Build.config.now c.in-Build.out.now c.in-Build.ensures {P = IsConfigured all} asks)) (build_ended g c)
+    comes_yields c.finish.result.status (g.O.Sink.written c.args.out.now) (g.O.Sink.written c.finish.new.out) (Rose (g.O.Sink.faults c.args.out.now) (g.O.Sink.faults c.finish.new.out)) c.build_line-line.result (BadCheckpoint letter) (c.build_line-line.ensures.comes_to.bad_comes all start letter told stored bad (of_build (map string_bytes c.args.words.now) c.in-Build.config.now c.in-Build.out.now c.in-Build.ensures {P = IsConfigured all} asks)) (build_ended g c)
 
 pub returns-in-Usage-clause-build_refusal_comes : goal.returns-in-Usage-clause-build_refusal_comes
 returns-in-Usage-clause-build_refusal_comes g c = λ all start begins r asks. absurd (c.in-Usage.ensures.not_build asks.path asks.out asks.words_are)
@@ -381,7 +381,7 @@ returns-in-Build-clause-comes g c =
     build_can (map string_bytes c.args.words.now) (g.H.Shelf.files c.args.shelf.now) (g.T.Store.files c.args.store.now) (BeginsWith g.M.File.SpillFile.held (g.H.Shelf.files c.args.shelf.now) (g.T.Store.files c.args.store.now) (g.T.Store.may_leave c.args.store.now)) c.finish.result.status (Rose (g.H.Shelf.faults c.args.shelf.now) (g.H.Shelf.faults c.build_line-line.new.shelf) ⊎ Rose (g.T.Store.faults c.args.store.now) (g.T.Store.faults c.build_line-line.new.store) ⊎ Rose (g.M.Room.faults c.args.room.now) (g.M.Room.faults c.build_line-line.new.room) ⊎ Rose (g.O.Sink.faults c.args.out.now) (g.O.Sink.faults c.finish.new.out)) (returns-in-Build-clause-fault g c)
     c.in-Build.config.now c.in-Build.out.now c.in-Build.ensures
     (λ all start begins asked. accepted_yields c.finish.result.status (g.O.Sink.written c.args.out.now) (g.O.Sink.written c.finish.new.out) (Rose (g.O.Sink.faults c.args.out.now) (g.O.Sink.faults c.finish.new.out)) c.build_line-line.result
-    (⊎_elim (λ accepted. c.build_line-line.ensures.accepted all start begins accepted) (λ done. c.build_line-line.ensures.done_comes all start begins done) asked) (build_ended g c))
+    (⊎_elim (λ accepted. c.build_line-line.ensures.comes_to.accepted all start begins accepted) (λ done. c.build_line-line.ensures.comes_to.done_comes all start begins done) asked) (build_ended g c))
 
 pub returns-in-Info-clause-comes : goal.returns-in-Info-clause-comes
 returns-in-Info-clause-comes g c =
@@ -967,7 +967,12 @@ pub returns-in-Merge-clause-fault : goal.returns-in-Merge-clause-fault
 returns-in-Merge-clause-fault g c = c.answer_merge.ensures.fault
 
 pub returns-in-Merge-clause-comes : goal.returns-in-Merge-clause-comes
-returns-in-Merge-clause-comes g c = λ can. absurd (merge_cannot (map string_bytes c.args.words.now) (g.H.Shelf.files c.args.shelf.now) (g.T.Store.files c.args.store.now) (BeginsWith g.M.File.SpillFile.held (g.H.Shelf.files c.args.shelf.now) (g.T.Store.files c.args.store.now) (g.T.Store.may_leave c.args.store.now)) c.in-Merge.config.now c.in-Merge.out.now c.as_slice.result.now (merge_is g c) can)
+returns-in-Merge-clause-comes g c =
+    merge_can (map string_bytes c.args.words.now) (g.H.Shelf.files c.args.shelf.now) (g.T.Store.files c.args.store.now) (BeginsWith g.M.File.SpillFile.held (g.H.Shelf.files c.args.shelf.now) (g.T.Store.files c.args.store.now) (g.T.Store.may_leave c.args.store.now)) c.answer_merge.result.status (Rose (g.H.Shelf.faults c.args.shelf.now) (g.H.Shelf.faults c.answer_merge.new.shelf) ⊎ Rose (g.T.Store.faults c.args.store.now) (g.T.Store.faults c.answer_merge.new.store) ⊎ Rose (g.M.Room.faults c.args.room.now) (g.M.Room.faults c.answer_merge.new.room) ⊎ Rose (g.O.Sink.faults c.args.out.now) (g.O.Sink.faults c.answer_merge.new.out)) c.answer_merge.ensures.fault
+    c.in-Merge.config.now c.in-Merge.out.now c.as_slice.result.now (merge_is g c)
+    (λ all start begins asks.
+    merge_comes (map string_bytes c.args.words.now) c.in-Merge.config.now c.in-Merge.out.now c.as_slice.result.now (merge_is g c) c.class_set_law-in-Merge.ensures.once (g.H.Shelf.files c.args.shelf.now) (g.T.Store.files c.args.store.now) (BeginsWith g.M.File.SpillFile.held (g.H.Shelf.files c.args.shelf.now) (g.T.Store.files c.args.store.now) (g.T.Store.may_leave c.args.store.now)) (g.T.Store.files c.answer_merge.new.store) (IsSettled (g.T.Store.files c.answer_merge.new.store) (g.T.Store.may_leave c.answer_merge.new.store)) (Moves g.T.Store.files g.T.Store.may_leave g.T.Store.moment g.T.Store.image_since SameFiles c.args.store.now c.answer_merge.new.store) c.answer_merge.result.status (g.O.Sink.written c.args.out.now) (g.O.Sink.written c.answer_merge.new.out) (Rose (g.H.Shelf.faults c.args.shelf.now) (g.H.Shelf.faults c.answer_merge.new.shelf)) (Rose (g.T.Store.faults c.args.store.now) (g.T.Store.faults c.answer_merge.new.store)) (Rose (g.M.Room.faults c.args.room.now) (g.M.Room.faults c.answer_merge.new.room)) (Rose (g.O.Sink.faults c.args.out.now) (g.O.Sink.faults c.answer_merge.new.out))
+    c.answer_merge.ensures.ends.0 all start begins.shelf_told begins.told begins asks)
 
 pub returns-in-Merge-clause-merge : goal.returns-in-Merge-clause-merge
 returns-in-Merge-clause-merge g c = λ path folder parts is.

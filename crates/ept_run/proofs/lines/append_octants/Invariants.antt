@@ -1,4 +1,4 @@
-use Rattle.std.proofs.Common.{◌≡◌, ◌++◌, ◌≤◌}
+use Rattle.std.proofs.Common.{◌≡◌, ◌++◌}
 use Rattle.ept_run.proofs.OctantList.{octants_below, text_below, separator_of}
 use Rattle.ept_run.proofs.lines.append_octants.Given as goal
 

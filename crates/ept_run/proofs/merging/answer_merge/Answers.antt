@@ -1,4 +1,3 @@
-use Rattle.std.proofs.Common.{◌≡◌}
 use Rattle.ept_base.specs.Causes.{Rose}
 use Rattle.ept_base.specs.Files.{SameFiles}
 use Rattle.ept_base.specs.Moves.{Moves, IsSettled}

@@ -1,4 +1,4 @@
-use Rattle.std.proofs.Common.{◌≡◌, ⊎_elim, inl, inr}
+use Rattle.std.proofs.Common.{◌≡◌, ⊎_elim}
 use Rattle.ept_base.specs.Causes.{Rose}
 use Rattle.ept_base.specs.Moves.{IsSettled}
 use Rattle.ept_run.proofs.Parted.{part_ends, reported_not_usage, reported_rose, reported_configured, build_beside}

@@ -1,4 +1,4 @@
-use Rattle.std.proofs.Common.{◌≡◌, ◌⊎◌, Err, sym, subst}
+use Rattle.std.proofs.Common.{◌⊎◌, Err, sym, subst}
 use Rattle.ept_base.specs.Causes.{Rose}
 use Rattle.ept_command.specs.declared.refusal.Refusal.TheVariants.{Memory}
 use Rattle.ept_command.specs.declared.refusal.PartRefusal.{PartRefusal}
