@@ -132,7 +132,7 @@ module _ (one_output : OutputIsOne) (have_names : FilesHaveOutputNames) (outside
 
   -- ---- the calls of the store
 
-  module _ {D : Type 0} (files : D → Option Files) (may_leave : D → Files → Type 0) (moment : D → ℕ) (image_since : D → ℕ → Files → Type 0) (zero : D) (reads : Tells (may_leave zero) (files zero)) (view : View) (is_current : view.current ≡ current) (way : IsOnWay shelf out view (files zero) (may_leave zero)) where
+  module _ {D : Type 0} (files : D → Option Files) (may_leave : D → Files → Type 0) (moment : D → ℕ) (image_since : D → ℕ → Files → Type 0) (zero : D) (reads : Tells (may_leave zero) (files zero)) (view : View) (is_current : view.current ≡ current) (way : IsOnWay shelf points out view (files zero) (may_leave zero)) where
     pub all_zero : AllAre files may_leave moment image_since Is zero
     all_zero = all-images files may_leave moment image_since Is zero reads (λ image may. record {
       undone = way.sound image may;

@@ -44,7 +44,7 @@ use Rattle.ept_plan.specs.Plans.{IsPlan, GoesOn, ScansAll, HasFirst, limits_by, 
 use Rattle.ept_sample.specs.SamplingLaws.{MorePointsHaveMoreNodes}
 use Rattle.ept_save.specs.Opening.{lines_of}
 use Rattle.ept_build.specs.Building.{HasPoints, HasCounts, HasTooManyNodes}
-use Rattle.ept_build.specs.Phases.{AreOfShelf, AreLoaded}
+use Rattle.ept_build.specs.Phases.{AreOfShelf, HasInsertedFirst, AreLoaded}
 use Rattle.ept_build.proofs.Numbers.{front-nodes, lines-number}
 use Rattle.ept_build.proofs.Ending.{counts-of, extent-of}
 use Rattle.ept_build.proofs.Fronts.{can-front}
@@ -93,6 +93,7 @@ pub record IsGround (shelf start : Files) (config : Config) (current : Current) 
   pub out : List File
   pub are : AreOfShelf shelf plan points out
   pub number : length points ≡ plan.points
+  pub first : HasInsertedFirst shelf current points
   pub names : HasNamesOf shelf current (names_of out)
   pub has_extent : HasExtent points extent
   pub has_points : HasPoints shelf config current plan.kept points
@@ -175,6 +176,20 @@ module _ (one_output : OutputIsOne) (can_be : PointsCanBeSampled) (grow : NamesG
           let alike : some ≡ first = scan_once shelf c.kept.scale (Some c.kept.bounds) c.kept.inputs 0 some first _ _ of mine in
           grow c.kept plan.kept some points files out stay.0 stay.1 (distinct_of c.kept c.counts some of) (λ p among. among_all p (subst (λ (w : List Point). Contains w p) alike among)) within is_output is-output name among
 
+  -- ---- the points that are inserted
+
+  inserted-first : HasInsertedFirst shelf current points
+  inserted-first = at current refl
+    where
+      at : (now : Current) → current ≡ now → HasInsertedFirst shelf now points
+      at None same = tt
+      at (Some (letter, c)) same = λ own scan.
+          let mine : HasPointsOf shelf c first = subst (λ (w : Current). HasFirst shelf w first) same has_first in
+          let alike : own ≡ first = scan_once shelf c.kept.scale (Some c.kept.bounds) c.kept.inputs 0 own first _ _ scan mine in
+          let size : length first ≡ total c.counts = kept-number shelf c.kept c.counts first mine in
+          let most : c.inserted ≤ length first = omega (arith, c.is_checkpoint.inserted_most, size) in
+          ap (take c.inserted) (alike ∙ sym front) ∙ take-take c.inserted (length first) points most
+
   -- ---- the nodes that are loaded
 
   loaded-sampled : (nodes : List Branch) → OfCurrent current (λ (c : Checkpoint). TellNodes nodes c.nodes) → OfCurrent current (λ (c : Checkpoint). NameTiles (layout_of c.version) start nodes c.nodes) → (current ≡ None → AreSampled (rules_of plan.kept) [] nodes) → AreSampled (rules_of plan.kept) (take plan.inserted points) nodes
@@ -228,6 +243,7 @@ module _ (one_output : OutputIsOne) (can_be : PointsCanBeSampled) (grow : NamesG
     out = out;
     are = are;
     number = number;
+    first = inserted-first;
     names = names;
     has_extent = has-extent;
     has_points = built-points;

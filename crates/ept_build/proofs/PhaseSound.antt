@@ -1,5 +1,5 @@
 -- A phase keeps the files sound.
-use Rattle.std.proofs.Common.{◌≡◌, ◌∙◌, ◌⊎◌, inl, inr, ℕ, List, take, refl, sym, subst, Option, Some, None}
+use Rattle.std.proofs.Common.{◌≡◌, ◌∙◌, ◌⊎◌, inl, inr, ℕ, List, take, refl, sym, ap, subst, Option, Some, None}
 use Rattle.std.specs.Prelude.{Contains}
 use Rattle.std.specs.List.{AllZip}
 use Rattle.ept_base.specs.Files.{Files, Tells}
@@ -29,7 +29,7 @@ use Rattle.ept_phase.specs.SavedLaws.{SampledIsSaved}
 use Rattle.ept_plan.specs.declared.plan.Plan.{Plan}
 use Rattle.ept_plan.specs.Plans.{IsOf}
 use Rattle.ept_save.proofs.Standing.{told_some, in-images}
-use Rattle.ept_build.specs.Phases.{IsSoundUndone, AreOfShelf, IsOnWay}
+use Rattle.ept_build.specs.Phases.{IsSoundUndone, AreOfShelf, HasInsertedFirst, IsOnWay}
 use Rattle.ept_build.specs.Reached.{HasThisOrNext}
 use Rattle.ept_build.proofs.Moved.{AllAre, all-images, all-after, moves-after, moves-none, moves-wider}
 use Rattle.ept_build.proofs.Counting.{goes-either}
@@ -76,6 +76,13 @@ names-of one shelf plan points output are (Some (letter, c)) is = λ others file
     let own : IsOutput plan.kept points files = subst (λ (k : Kept). IsOutput k points files) is.0 (subst (λ (w : List Point). IsOutput c.kept w files) same is_output) in
     subst (λ (w : List File). Contains (names_of w) name) (one plan.kept points files output own are.is_output) among
 
+-- all points that it has inserted are the first of the plan's
+pub first-of : (shelf : Files) (plan : Plan) (points : List Point) (output : List File) → AreOfShelf shelf plan points output → (current : Current) → IsOf plan current → HasInsertedFirst shelf current points
+first-of shelf plan points output are None is = absurd is
+first-of shelf plan points output are (Some (letter, c)) is = λ own scan.
+    let mine : HasPointsOf shelf c points = scan-of shelf plan points c is.0 is.1 are.scan in
+    ap (take c.inserted) (scan_once shelf c.kept.scale (Some c.kept.bounds) c.kept.inputs 0 own points _ _ scan mine)
+
 -- ---- what is read and each image
 
 -- sound files with this current checkpoint, and a closed done gate
@@ -83,14 +90,14 @@ pub record StandsAt (shelf : Files) (view : View) (files : Files) : Type 0 where
   pub has : HasCurrent view.current files
   pub undone : IsSoundUndone shelf files
 
-pub stands-at : {D : Type 0} (files : D → Option Files) (may_leave : D → Files → Type 0) (moment : D → ℕ) (image_since : D → ℕ → Files → Type 0) (shelf : Files) (output : List File) (view : View) (d : D) → Tells (may_leave d) (files d) → IsOnWay shelf output view (files d) (may_leave d) → AllAre files may_leave moment image_since (StandsAt shelf view) d
-stands-at files may_leave moment image_since shelf output view d reads way =
+pub stands-at : {D : Type 0} (files : D → Option Files) (may_leave : D → Files → Type 0) (moment : D → ℕ) (image_since : D → ℕ → Files → Type 0) (shelf : Files) (points : List Point) (output : List File) (view : View) (d : D) → Tells (may_leave d) (files d) → IsOnWay shelf points output view (files d) (may_leave d) → AllAre files may_leave moment image_since (StandsAt shelf view) d
+stands-at files may_leave moment image_since shelf points output view d reads way =
     all-images files may_leave moment image_since (StandsAt shelf view) d reads (λ image may. record {
       has = (in-images view (files d) (may_leave d) way.stands).current image may;
       undone = way.sound image may;
     })
 
-module _ (saved : SampledIsSaved) (keeping : KeepingKeepsSound) (committing : CommittingKeepsSound) (shelf : Files) (plan : Plan) (points : List Point) (output : List File) (are : AreOfShelf shelf plan points output) (view : View) (inserted : ℕ) (nodes : List Branch) (sampled_nodes : AreSampled (rules_of plan.kept) (take inserted points) nodes) (counts : List SourceCount) (same : counts ≡ plan.counts) {D : Type 0} (files : D → Option Files) (may_leave : D → Files → Type 0) (moment : D → ℕ) (image_since : D → ℕ → Files → Type 0) (old new : D) (reads : Tells (may_leave old) (files old)) (way : IsOnWay shelf output view (files old) (may_leave old)) (goes : Moves files may_leave moment image_since (GoesOn view plan.kept counts inserted nodes) old new) where
+module _ (saved : SampledIsSaved) (keeping : KeepingKeepsSound) (committing : CommittingKeepsSound) (shelf : Files) (plan : Plan) (points : List Point) (output : List File) (are : AreOfShelf shelf plan points output) (view : View) (inserted : ℕ) (nodes : List Branch) (sampled_nodes : AreSampled (rules_of plan.kept) (take inserted points) nodes) (counts : List SourceCount) (same : counts ≡ plan.counts) {D : Type 0} (files : D → Option Files) (may_leave : D → Files → Type 0) (moment : D → ℕ) (image_since : D → ℕ → Files → Type 0) (old new : D) (reads : Tells (may_leave old) (files old)) (way : IsOnWay shelf points output view (files old) (may_leave old)) (goes : Moves files may_leave moment image_since (GoesOn view plan.kept counts inserted nodes) old new) where
   abbrev its_goes : Moves files may_leave moment image_since (GoesOn view plan.kept plan.counts inserted nodes) old new
   its_goes = subst (λ (w : List SourceCount). Moves files may_leave moment image_since (GoesOn view plan.kept w inserted nodes) old new) same goes
 
@@ -98,10 +105,10 @@ module _ (saved : SampledIsSaved) (keeping : KeepingKeepsSound) (committing : Co
   step a b at goes_on = goes-sound saved keeping committing shelf plan points output are view way.names inserted nodes sampled_nodes a b at.has at.undone goes_on
 
   pub phase-moves : Moves files may_leave moment image_since (λ (a b : Files). IsSoundUndone shelf b) old new
-  phase-moves = moves-after files may_leave moment image_since (StandsAt shelf view) (GoesOn view plan.kept plan.counts inserted nodes) old new (IsSoundUndone shelf) step (stands-at files may_leave moment image_since shelf output view old reads way) its_goes
+  phase-moves = moves-after files may_leave moment image_since (StandsAt shelf view) (GoesOn view plan.kept plan.counts inserted nodes) old new (IsSoundUndone shelf) step (stands-at files may_leave moment image_since shelf points output view old reads way) its_goes
 
   pub phase-images : (image : Files) → may_leave new image → IsSoundUndone shelf image
-  phase-images = (all-after files may_leave moment image_since (StandsAt shelf view) (GoesOn view plan.kept plan.counts inserted nodes) old new (IsSoundUndone shelf) step (stands-at files may_leave moment image_since shelf output view old reads way) its_goes).images
+  phase-images = (all-after files may_leave moment image_since (StandsAt shelf view) (GoesOn view plan.kept plan.counts inserted nodes) old new (IsSoundUndone shelf) step (stands-at files may_leave moment image_since shelf points output view old reads way) its_goes).images
 
 -- ---- which checkpoint is the current one
 
@@ -118,5 +125,5 @@ module _ {D : Type 0} (files : D → Option Files) (may_leave : D → Files → 
   none-moves More goes = moves-wider files may_leave moment image_since (HasCurrent view.current) More goes old old (moves-none files may_leave moment image_since (HasCurrent view.current) old all-current)
 
 -- what is read is sound
-pub way-sound : (shelf : Files) (output : List File) (view : View) (files : Option Files) (may_leave : Files → Type 0) → Tells may_leave files → (way : IsOnWay shelf output view files may_leave) → IsSoundUndone shelf way.stands.all
-way-sound shelf output view files may_leave reads way = way.sound way.stands.all (told_some may_leave files way.stands.all way.stands.told reads)
+pub way-sound : (shelf : Files) (points : List Point) (output : List File) (view : View) (files : Option Files) (may_leave : Files → Type 0) → Tells may_leave files → (way : IsOnWay shelf points output view files may_leave) → IsSoundUndone shelf way.stands.all
+way-sound shelf points output view files may_leave reads way = way.sound way.stands.all (told_some may_leave files way.stands.all way.stands.told reads)

@@ -36,7 +36,7 @@ use Rattle.ept_phase.specs.Saving.{HasEachNodeOf, keys_in}
 use Rattle.ept_phase.specs.Phase.{AreGiven, IsSaved}
 use Rattle.ept_phase.proofs.Telling.{among-member, member-among}
 use Rattle.ept_plan.specs.declared.plan.Plan.{Plan}
-use Rattle.ept_plan.specs.Plans.{IsOf, inputs_by, inserted_by}
+use Rattle.ept_plan.specs.Plans.{RulesStay, IsOf, inputs_by, inserted_by}
 use Rattle.ept_build.specs.Phases.{IsFit, IsTreeOf, HasInserted, HasAll}
 use Rattle.ept_build.proofs.Fronts.{front-then}
 
@@ -106,6 +106,9 @@ module _ (plan : Plan) (old new : View) (inserted : ℕ) (nodes : List Branch) (
   pub saved-newest : ¬ IsOfLayout Old new.current
   saved-newest = subst (λ (c : Current). ¬ IsOfLayout Old c) (sym now) (not-old (layout_of saved.next.version) saved.is_next.newest)
 
+  pub saved-rules : RulesStay new.current plan.kept
+  saved-rules = subst (λ (c : Current). RulesStay c plan.kept) (sym now) (ap rules_of (sym saved.is_next.kept_is), ap (λ (k : Kept). k.step) (sym saved.is_next.kept_is))
+
   pub saved-of : IsOf plan new.current
   saved-of = subst (IsOf plan) (sym now) (saved.is_next.kept_is, saved.is_next.counts_are)
 
@@ -154,6 +157,7 @@ next-tree held faults keeps plan inserted grown next old new own whole number no
   fresh = saved-fresh plan old new inserted (tree.nodes_of held grown) saved;
   newest = saved-newest plan old new inserted (tree.nodes_of held grown) saved;
   each = subst (λ (w : List Branch). HasEachNodeOf new.current w) (sym nodes) (saved-each plan old new inserted (tree.nodes_of held grown) saved);
+  rules_stay = saved-rules plan old new inserted (tree.nodes_of held grown) saved;
   by_checkpoint = saved-inserted plan old new inserted (tree.nodes_of held grown) saved;
   inputs_least = omega (arith, saved-inputs plan old new inserted (tree.nodes_of held grown) saved);
 }

@@ -29,7 +29,7 @@ use Rattle.ept_build.specs.Phases.{IsBegun, IsTreeOf, IsSoundUndone, IsSoundAt, 
 use Rattle.ept_build.proofs.Moved.{AllAre, all-settled, all-after, moves-after}
 use Rattle.ept_build.proofs.Numbers.{told-number}
 use Rattle.ept_build.proofs.Phased.{each-told}
-use Rattle.ept_build.proofs.TakenUp.{taken-each, taken-inserted, taken-inputs}
+use Rattle.ept_build.proofs.TakenUp.{taken-rules, taken-each, taken-inserted, taken-inputs}
 
 pub sound-same : SameIsSound → (shelf : Files) (current : Current) (a b : Files) → IsSoundAt shelf current a → SameFiles a b → IsSoundAt shelf current b
 sound-same same_sound shelf current a b at same = record {
@@ -114,6 +114,7 @@ tree-loaded held faults keeps plan inserted view old new is own whole linked agr
   fresh = takes.fresh is.fresh;
   newest = newest;
   each = taken-each (tree.nodes_of held new) view.current next.current takes.taken (each view.current told);
+  rules_stay = taken-rules plan.kept view.current next.current takes.taken is.rules_stay;
   by_checkpoint = taken-inserted view.current next.current takes.taken ∙ is.by_checkpoint;
   inputs_least = subst (λ (n : ℕ). n ≤ length plan.kept.inputs) (sym (taken-inputs view.current next.current takes.taken)) is.inputs_least;
 }

@@ -1,5 +1,5 @@
 -- What a checkpoint that is taken up has in common with the one before it.
-use Rattle.std.proofs.Common.{◌≡◌, ◌∙◌, inl, inr, ℕ, ◌≤◌, true, List, length, refl, sym, ap, subst, arith, Some}
+use Rattle.std.proofs.Common.{◌≡◌, ◌∙◌, inl, inr, ℕ, ◌≤◌, true, List, length, take, refl, sym, ap, subst, arith, Some}
 use Rattle.std.specs.Prelude.{All}
 use Rattle.ept_base.specs.Files.{Files}
 use Rattle.ept_point.specs.declared.layout.Layout.TheVariants.{Old}
@@ -11,7 +11,7 @@ use Rattle.ept_scan.specs.Scans.{IsScan}
 use Rattle.ept_ckpt.specs.declared.node_line.NodeLine.{NodeLine}
 use Rattle.ept_ckpt.specs.declared.checkpoint.Checkpoint.{Checkpoint}
 use Rattle.ept_ckpt.specs.Octree.{is_among}
-use Rattle.ept_meta.specs.Output.{IsOutput}
+use Rattle.ept_meta.specs.Output.{IsOutput, rules_of}
 use Rattle.ept_save.specs.Current.{Current}
 use Rattle.ept_save.specs.Migrating.{IsTurnOf, HasMigrated}
 use Rattle.ept_save.specs.Opening.{lines_of}
@@ -23,8 +23,8 @@ use Rattle.ept_save.proofs.TurnedLines.{turned-all}
 use Rattle.ept_table.specs.Octree.{Branch}
 use Rattle.ept_phase.specs.Saving.{keys_in, HasEachNodeOf}
 use Rattle.ept_plan.specs.declared.plan.Plan.{Plan}
-use Rattle.ept_plan.specs.Plans.{inputs_by, inserted_by, IsOf, IsPlan}
-use Rattle.ept_build.specs.Phases.{TakesUp}
+use Rattle.ept_plan.specs.Plans.{inputs_by, inserted_by, RulesStay, IsOf, IsPlan}
+use Rattle.ept_build.specs.Phases.{HasInsertedFirst, TakesUp}
 use Rattle.ept_build.specs.Reached.{HasTurned, IsTakenUp}
 
 -- ---- numbers
@@ -61,6 +61,21 @@ pub points-on : (shelf : Files) (c next : Checkpoint) (points : List Point) → 
 points-on shelf c next points turn scan =
     subst (λ (k : Kept). IsScan shelf k.scale (Some k.bounds) k.inputs 0 points (record { counts = next.counts; bounds = k.bounds })) (sym turn.kept_is)
     (subst (λ (w : List SourceCount). IsScan shelf c.kept.scale (Some c.kept.bounds) c.kept.inputs 0 points (record { counts = w; bounds = c.kept.bounds })) (sym turn.counts_are) scan)
+
+-- its rules stay
+pub taken-rules : (kept : Kept) (from base : Current) → IsTakenUp from base → RulesStay from kept → RulesStay base kept
+taken-rules kept from base (inl same) stay = subst (λ (w : Current). RulesStay w kept) (sym same.1) stay
+taken-rules kept from base (inr t) stay =
+    let its : RulesStay (Some (t.letter, t.c)) kept = subst (λ (w : Current). RulesStay w kept) t.was stay in
+    subst (λ (w : Current). RulesStay w kept) (sym t.is) (its.0 ∙ ap rules_of (sym t.turns.kept_is), its.1 ∙ ap (λ (k : Kept). k.step) (sym t.turns.kept_is))
+
+-- the points that it has inserted are the same first ones
+pub taken-first : (shelf : Files) (points : List Point) (from base : Current) → IsTakenUp from base → HasInsertedFirst shelf from points → HasInsertedFirst shelf base points
+taken-first shelf points from base (inl same) first = subst (λ (w : Current). HasInsertedFirst shelf w points) (sym same.1) first
+taken-first shelf points from base (inr t) first =
+    let its : HasInsertedFirst shelf (Some (t.letter, t.c)) points = subst (λ (w : Current). HasInsertedFirst shelf w points) t.was first in
+    subst (λ (w : Current). HasInsertedFirst shelf w points) (sym t.is)
+    (λ own scan. subst (λ (n : ℕ). take n own ≡ take n points) (sym t.turns.inserted_is) (its own (points_back shelf t.c t.next own t.turns scan)))
 
 -- its output has no other names
 pub taken-names : (shelf : Files) (names : List (List ℕ)) (from base : Current) → IsTakenUp from base → HasNamesOf shelf from names → HasNamesOf shelf base names

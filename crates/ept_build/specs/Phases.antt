@@ -26,7 +26,7 @@ use Rattle.ept_save.specs.Done.{IsDone}
 use Rattle.ept_save.specs.Loading.{HasLine, IsDamaged}
 use Rattle.ept_save.specs.Migrating.{IsTurnOf, Migrates}
 use Rattle.ept_save.specs.Opening.{lines_of}
-use Rattle.ept_save.specs.Sound.{IsSound}
+use Rattle.ept_save.specs.Sound.{HasPointsOf, IsSound}
 use Rattle.ept_save.specs.SoundLaws.{HasNamesOf}
 use Rattle.ept_save.specs.Tiles.{IsOfLayout}
 use Rattle.ept_save.specs.View.{View, StandsFor}
@@ -74,8 +74,8 @@ pub record IsBegun {F : Type 0} (held : F → Option (List ℕ)) (faults keeps :
   pub inputs_least : inputs_by view.current ≤ length plan.kept.inputs
 
 -- The octree is whole and has `inserted` points, under the rules that are kept. Each of its nodes is unbroken and
--- agrees with its file. It has each node of the checkpoint. The checkpoint too has `inserted` points inserted, and no
--- tiles of the old layout.
+-- agrees with its file. It has each node of the checkpoint. The checkpoint too has `inserted` points inserted, these
+-- rules, and no tiles of the old layout.
 pub record IsTreeOf {F : Type 0} (held : F → Option (List ℕ)) (faults keeps : F → ℕ) (plan : Plan) (inserted : ℕ) (octree : Octree F) (view : View) : Type 0 where
   pub rules : tree.rules_of octree ≡ rules_of plan.kept
   pub whole : tree.IsWhole held octree
@@ -86,6 +86,7 @@ pub record IsTreeOf {F : Type 0} (held : F → Option (List ℕ)) (faults keeps 
   pub fresh : view.lines ≡ lines_of view.current
   pub newest : ¬ IsOfLayout Old view.current
   pub each : HasEachNodeOf view.current (tree.nodes_of held octree)
+  pub rules_stay : RulesStay view.current plan.kept
   pub by_checkpoint : inserted_by view.current ≡ inserted
   pub inputs_least : inputs_by view.current ≤ length plan.kept.inputs
 
@@ -164,8 +165,16 @@ pub record AreOfShelf (shelf : Files) (plan : Plan) (points : List Point) (outpu
   pub can : CanBeSampled (rules_of plan.kept) points
   pub is_output : IsOutput plan.kept points output
 
--- The store represents the checkpoint, whose output has no other names. Each image is sound, with a closed done gate.
-pub record IsOnWay (shelf : Files) (output : List File) (view : View) (files : Option Files) (may_leave : Files → Type 0) : Type 0 where
+-- the points that the checkpoint has inserted are the first of these
+abbrev pub HasInsertedFirst : Files → Current → List Point → Type 0
+HasInsertedFirst shelf None points = ⊤
+HasInsertedFirst shelf (Some (letter, c)) points =
+    (own : List Point) → HasPointsOf shelf c own → take c.inserted own ≡ take c.inserted points
+
+-- The store represents the checkpoint, which has inserted the first of these points, and whose output has no other
+-- names. Each image is sound, with a closed done gate.
+pub record IsOnWay (shelf : Files) (points : List Point) (output : List File) (view : View) (files : Option Files) (may_leave : Files → Type 0) : Type 0 where
+  pub first : HasInsertedFirst shelf view.current points
   pub names : HasNamesOf shelf view.current (names_of output)
   pub stands : StandsFor view files may_leave
   pub sound : (image : Files) → may_leave image → IsSoundUndone shelf image

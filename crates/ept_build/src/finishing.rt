@@ -45,12 +45,12 @@ pub(crate) fn finish<F: SpillFile, T: Store>(
     ensures complete { IsTelling F.held → OnOk result ((shelf : Files) (points : List Point) (output : List File)
         → AreOfShelf shelf plan.now points output → length points ≡ plan.now.points → HasExtent points extent.now
         → AreSampled (rules_of plan.now.kept) points (nodes_of F.held at.old.octree)
-        → IsOnWay shelf output at.old.saved (T.files store.old) (T.may_leave store.old)
+        → IsOnWay shelf points output at.old.saved (T.files store.old) (T.may_leave store.old)
         → Tells (IsComplete plan.now.kept points) (T.files store.new)) }
     ensures sound { IsTelling F.held → (shelf : Files) (points : List Point) (output : List File)
         → AreOfShelf shelf plan.now points output → length points ≡ plan.now.points → HasExtent points extent.now
         → AreSampled (rules_of plan.now.kept) points (nodes_of F.held at.old.octree)
-        → IsOnWay shelf output at.old.saved (T.files store.old) (T.may_leave store.old)
+        → IsOnWay shelf points output at.old.saved (T.files store.old) (T.may_leave store.old)
         → Moves T.files T.may_leave T.moment T.image_since (λ (a b : Files). IsSoundAt shelf at.old.saved.current b) store.old store.new }
     ensures settled { OnOk result (IsSettled (T.files store.new) (T.may_leave store.new)) }
     ensures only { IfErr result IsEndFault }

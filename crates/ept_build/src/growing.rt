@@ -94,12 +94,12 @@ where
     ensures on_way { IsTelling F.held → IfOk result (λ end. Tells (λ all. (points : List Point) (output : List File)
         → AreOfShelf all plan.now points output
         → AreSampled (rules_of plan.now.kept) (take at.inserted points) (nodes_of F.held at.octree)
-        → IsOnWay all output at.saved (T.files store.old) (T.may_leave store.old)
-        → IsOnWay all output end.saved (T.files store.new) (T.may_leave store.new)) (H.files shelf.old)) }
+        → IsOnWay all points output at.saved (T.files store.old) (T.may_leave store.old)
+        → IsOnWay all points output end.saved (T.files store.new) (T.may_leave store.new)) (H.files shelf.old)) }
     ensures sound { IsTelling F.held → Tells (λ all. (points : List Point) (output : List File)
         → AreOfShelf all plan.now points output
         → AreSampled (rules_of plan.now.kept) (take at.inserted points) (nodes_of F.held at.octree)
-        → IsOnWay all output at.saved (T.files store.old) (T.may_leave store.old)
+        → IsOnWay all points output at.saved (T.files store.old) (T.may_leave store.old)
         → Moves T.files T.may_leave T.moment T.image_since
         (λ (a b : Files). IsSoundUndone all b) store.old store.new) (H.files shelf.old) }
 
@@ -111,7 +111,7 @@ where
     ensures undamaged { IsTelling F.held → IfErr result (λ stopped. Tells (λ all. (points : List Point) (output : List File)
         → AreOfShelf all plan.now points output
         → AreSampled (rules_of plan.now.kept) (take at.inserted points) (nodes_of F.held at.octree)
-        → IsOnWay all output at.saved (T.files store.old) (T.may_leave store.old)
+        → IsOnWay all points output at.saved (T.files store.old) (T.may_leave store.old)
         → (key : VoxelKey) → stopped.error ≢ BuildError.TileDamaged key) (H.files shelf.old)) }
     ensures too_many { IsTelling F.held → IfErr result (λ stopped. stopped.error ≡ BuildError.TooManyNodes → Tells
         (λ all. (points : List Point) → IsKeptScan all plan.now.kept plan.now.counts points
@@ -200,11 +200,11 @@ where
         → AreSampled (rules_of plan.now.kept) points (nodes_of F.held r.0.octree)) }
     ensures on_way { IfOk result (λ r. (shelf : Files) (points : List Point) (output : List File)
         → AreOfShelf shelf plan.now points output → HasInserted F.held S.whole plan.now points at.inserted reader at.octree
-        → IsOnWay shelf output at.saved (T.files store.old) (T.may_leave store.old)
-        → IsOnWay shelf output r.0.saved (T.files store.new) (T.may_leave store.new)) }
+        → IsOnWay shelf points output at.saved (T.files store.old) (T.may_leave store.old)
+        → IsOnWay shelf points output r.0.saved (T.files store.new) (T.may_leave store.new)) }
     ensures sound { (shelf : Files) (points : List Point) (output : List File)
         → AreOfShelf shelf plan.now points output → HasInserted F.held S.whole plan.now points at.inserted reader at.octree
-        → IsOnWay shelf output at.saved (T.files store.old) (T.may_leave store.old)
+        → IsOnWay shelf points output at.saved (T.files store.old) (T.may_leave store.old)
         → Moves T.files T.may_leave T.moment T.image_since (λ (a b : Files). IsSoundUndone shelf b) store.old store.new }
     ensures only { IfErr result (λ r. IsPhaseFault r.0.error) }
     ensures damaged { IfErr result (λ r. (key : VoxelKey) → r.0.error ≡ BuildError.TileDamaged key
@@ -212,7 +212,7 @@ where
         → (current : Current) × HasDamage current key (T.files store.new)) }
     ensures undamaged { IfErr result (λ r. (shelf : Files) (points : List Point) (output : List File)
         → AreOfShelf shelf plan.now points output → HasInserted F.held S.whole plan.now points at.inserted reader at.octree
-        → IsOnWay shelf output at.saved (T.files store.old) (T.may_leave store.old)
+        → IsOnWay shelf points output at.saved (T.files store.old) (T.may_leave store.old)
         → (key : VoxelKey) → r.0.error ≢ BuildError.TileDamaged key) }
     ensures too_many { IfErr result (λ r. r.0.error ≡ BuildError.TooManyNodes → (points : List Point)
         → CanBeSampled (rules_of plan.now.kept) points → length points ≡ plan.now.points
@@ -286,11 +286,11 @@ where
         → HasInserted F.held S.whole plan.now points r.0.inserted r.1 r.0.octree) }
     ensures on_way { IfOk result (λ r. (shelf : Files) (points : List Point) (output : List File)
         → AreOfShelf shelf plan.now points output → HasInserted F.held S.whole plan.now points at.inserted reader at.octree
-        → IsOnWay shelf output at.saved (T.files store.old) (T.may_leave store.old)
-        → IsOnWay shelf output r.0.saved (T.files store.new) (T.may_leave store.new)) }
+        → IsOnWay shelf points output at.saved (T.files store.old) (T.may_leave store.old)
+        → IsOnWay shelf points output r.0.saved (T.files store.new) (T.may_leave store.new)) }
     ensures sound { (shelf : Files) (points : List Point) (output : List File)
         → AreOfShelf shelf plan.now points output → HasInserted F.held S.whole plan.now points at.inserted reader at.octree
-        → IsOnWay shelf output at.saved (T.files store.old) (T.may_leave store.old)
+        → IsOnWay shelf points output at.saved (T.files store.old) (T.may_leave store.old)
         → Moves T.files T.may_leave T.moment T.image_since (λ (a b : Files). IsSoundUndone shelf b) store.old store.new }
     ensures only { IfErr result (λ r. IsPhaseFault r.0.error) }
     ensures damaged { IfErr result (λ r. (key : VoxelKey) → r.0.error ≡ BuildError.TileDamaged key
@@ -298,7 +298,7 @@ where
         → HasDamage at.saved.current key (T.files store.new)) }
     ensures undamaged { IfErr result (λ r. (shelf : Files) (points : List Point) (output : List File)
         → AreOfShelf shelf plan.now points output
-        → IsOnWay shelf output at.saved (T.files store.old) (T.may_leave store.old)
+        → IsOnWay shelf points output at.saved (T.files store.old) (T.may_leave store.old)
         → (key : VoxelKey) → r.0.error ≢ BuildError.TileDamaged key) }
     ensures few { length (nodes_of F.held at.octree) ≤ most_of at.octree }
     ensures too_many { IfErr result (λ r. r.0.error ≡ BuildError.TooManyNodes → (points : List Point)

@@ -6,6 +6,7 @@ ghost use Rattle.ept_base.specs.Files.{Files, SameBut, StepsBy, Tells};
 ghost use Rattle.ept_base.specs.Moves.{IsSettled, Moves};
 ghost use Rattle.ept_meta.specs.Output as meta;
 ghost use Rattle.ept_meta.specs.Output.{File, names_of};
+ghost use Rattle.ept_point.specs.declared.point.Point.{Point};
 ghost use Rattle.ept_node.specs.Shown.{IsTelling};
 ghost use Rattle.ept_forest.specs.Slots as trees;
 ghost use Rattle.ept_octree.specs.Octree.{forest_of, nodes_of, most_of, cache_of};
@@ -18,7 +19,7 @@ ghost use Rattle.ept_save.specs.Tiles.{IsOfLayout};
 ghost use Rattle.ept_save.specs.View.{View, StandsFor};
 ghost use Rattle.ept_save.specs.Loading.{HasNoDamage};
 ghost use Rattle.ept_plan.specs.Plans.{IsPlan};
-ghost use Rattle.ept_build.specs.Phases.{IsBegun, HasRoom, IsTreeOf, AreLoaded, IsReady, IsOnWay, IsSoundAt, IsSoundTaken, TakesUp, Renews, IsStartFault, IsRenewFault, IsRoomFault, IsStoreFault};
+ghost use Rattle.ept_build.specs.Phases.{IsBegun, HasRoom, IsTreeOf, AreLoaded, IsReady, HasInsertedFirst, IsOnWay, IsSoundAt, IsSoundTaken, TakesUp, Renews, IsStartFault, IsRenewFault, IsRoomFault, IsStoreFault};
 ghost use Rattle.ept_build.specs.Starting.{FindsCause};
 
 use crate::error::BuildError;
@@ -107,10 +108,11 @@ pub(crate) fn take_up<F: SpillFile, T: Store>(
     ensures tree { OnOk result (IsTreeOf F.held F.faults F.keeps plan.now at.new.inserted at.new.octree at.new.saved) }
     ensures loaded { IsTelling F.held
         → OnOk result (AreLoaded plan.now at.old.saved.current (nodes_of F.held at.new.octree) (T.files store.old)) }
-    ensures on_way { OnOk result ((shelf start : Files) (output : List File)
+    ensures on_way { OnOk result ((shelf start : Files) (points : List Point) (output : List File)
         → IsReady shelf start at.old.saved (T.files store.old) (T.may_leave store.old)
+        → HasInsertedFirst shelf at.old.saved.current points
         → HasNamesOf shelf at.old.saved.current (names_of output)
-        → IsOnWay shelf output at.new.saved (T.files store.new) (T.may_leave store.new)) }
+        → IsOnWay shelf points output at.new.saved (T.files store.new) (T.may_leave store.new)) }
     ensures stands { OnOk result (StandsFor at.old.saved (T.files store.old) (T.may_leave store.old)
         → StandsFor at.new.saved (T.files store.new) (T.may_leave store.new)) }
     ensures settled { OnOk result (IsSettled (T.files store.new) (T.may_leave store.new)) }

@@ -107,7 +107,7 @@ returns-in-Err-grow-clause-ends g c = λ all start shelf_told starts.
     let taken = c.in_default.ensures.taken_up.taken in
     let inserted : c.take_up.new.at.inserted ≡ c.args.plan.now.inserted = c.take_up.ensures.inserted ∙ (sym c.requires.begun.by_checkpoint ∙ sym c.requires.plan.inserted_is) in
     let sampled = it.loaded (nodes_of g.F.SpillFile.held c.take_up.new.at.octree) (g.T.Store.files c.args.store.now) c.take_up.new.at.inserted inserted starts.ready.told (c.in_default.ensures.loaded starts.spills) in
-    let way = c.in_default.ensures.on_way all start it.out starts.ready it.names in
+    let way = c.in_default.ensures.on_way all start it.points it.out starts.ready it.first it.names in
     let first = first-moves all start c.args.config.now c.args.at.saved.current c.args.plan.now c.whole_extent-extent.result it has g.T.Store.files g.T.Store.may_leave g.T.Store.moment g.T.Store.image_since c.args.store.now c.take_up.new.store (inserted-few c.args.config.now c.args.at.saved.current c.args.plan.now c.requires.plan) (c.take_up.ensures.sound all start starts.ready) in
     let second = grow-moves all start c.args.config.now c.args.at.saved.current c.args.plan.now c.whole_extent-extent.result it has g.T.Store.files g.T.Store.may_leave g.T.Store.moment g.T.Store.image_since c.take_up.new.store c.grow.new.store c.take_up.new.at.saved.current taken
     (tells-some _ (g.H.Shelf.files c.args.shelf.now) all shelf_told (c.grow.ensures.sound starts.spills) it.points it.out it.are sampled way) (c.grow.ensures.reached starts.spills way.stands) in
@@ -159,7 +159,7 @@ returns-in-Err-finish-clause-ends g c = λ all start shelf_told starts.
     let taken = c.in_default.ensures.taken_up.taken in
     let inserted : c.take_up.new.at.inserted ≡ c.args.plan.now.inserted = c.take_up.ensures.inserted ∙ (sym c.requires.begun.by_checkpoint ∙ sym c.requires.plan.inserted_is) in
     let sampled = it.loaded (nodes_of g.F.SpillFile.held c.take_up.new.at.octree) (g.T.Store.files c.args.store.now) c.take_up.new.at.inserted inserted starts.ready.told (c.in_default.ensures.loaded starts.spills) in
-    let way = c.in_default.ensures.on_way all start it.out starts.ready it.names in
+    let way = c.in_default.ensures.on_way all start it.points it.out starts.ready it.first it.names in
     let first = first-moves all start c.args.config.now c.args.at.saved.current c.args.plan.now c.whole_extent-extent.result it has g.T.Store.files g.T.Store.may_leave g.T.Store.moment g.T.Store.image_since c.args.store.now c.take_up.new.store (inserted-few c.args.config.now c.args.at.saved.current c.args.plan.now c.requires.plan) (c.take_up.ensures.sound all start starts.ready) in
     let second = grow-moves all start c.args.config.now c.args.at.saved.current c.args.plan.now c.whole_extent-extent.result it has g.T.Store.files g.T.Store.may_leave g.T.Store.moment g.T.Store.image_since c.take_up.new.store c.grow.new.store c.take_up.new.at.saved.current taken
     (tells-some _ (g.H.Shelf.files c.args.shelf.now) all shelf_told (c.grow.ensures.sound starts.spills) it.points it.out it.are sampled way) (c.grow.ensures.reached starts.spills way.stands) in
@@ -215,7 +215,7 @@ returns-in-Ok-finish-clause-ends g c = λ all start shelf_told starts.
     let taken = c.in_default.ensures.taken_up.taken in
     let inserted : c.take_up.new.at.inserted ≡ c.args.plan.now.inserted = c.take_up.ensures.inserted ∙ (sym c.requires.begun.by_checkpoint ∙ sym c.requires.plan.inserted_is) in
     let sampled = it.loaded (nodes_of g.F.SpillFile.held c.take_up.new.at.octree) (g.T.Store.files c.args.store.now) c.take_up.new.at.inserted inserted starts.ready.told (c.in_default.ensures.loaded starts.spills) in
-    let way = c.in_default.ensures.on_way all start it.out starts.ready it.names in
+    let way = c.in_default.ensures.on_way all start it.points it.out starts.ready it.first it.names in
     let first = first-moves all start c.args.config.now c.args.at.saved.current c.args.plan.now c.whole_extent-extent.result it has g.T.Store.files g.T.Store.may_leave g.T.Store.moment g.T.Store.image_since c.args.store.now c.take_up.new.store (inserted-few c.args.config.now c.args.at.saved.current c.args.plan.now c.requires.plan) (c.take_up.ensures.sound all start starts.ready) in
     let second = grow-moves all start c.args.config.now c.args.at.saved.current c.args.plan.now c.whole_extent-extent.result it has g.T.Store.files g.T.Store.may_leave g.T.Store.moment g.T.Store.image_since c.take_up.new.store c.grow.new.store c.take_up.new.at.saved.current taken
     (tells-some _ (g.H.Shelf.files c.args.shelf.now) all shelf_told (c.grow.ensures.sound starts.spills) it.points it.out it.are sampled way) (c.grow.ensures.reached starts.spills way.stands) in

@@ -17,7 +17,7 @@ use Rattle.ept_scan.specs.Reader.{HasFault, IsRest}
 use Rattle.ept_build.proofs.Causes.{inserted-many, inserted-changed, inserted-fault, inserted-spill, inserted-damage, phase-no-source, phase-damaged, phase-spill, phase-damage, devices-undamaged, broken-fault}
 use Rattle.ept_build.proofs.Fronts.{rest-then, can-front}
 use Rattle.ept_build.proofs.Phased.{stands-between, next-sampled, next-tree, many-then, each-stays, given-fit, saved-of}
-use Rattle.ept_build.proofs.PhaseSound.{phase-moves, phase-images, way-sound, names-of, either-moves, none-moves}
+use Rattle.ept_build.proofs.PhaseSound.{phase-moves, phase-images, way-sound, names-of, first-of, either-moves, none-moves}
 use Rattle.ept_build.specs.Reached.{HasThisOrNext, generation_by}
 use Rattle.ept_build.proofs.Counting.{next-one}
 use Rattle.ept_build.proofs.Damage.{kept-damage}
@@ -122,6 +122,7 @@ returns-in-Ok-save_octree-clause-on_way g c = λ shelf points output are has way
     let saved : IsSaved old new plan.kept plan.counts inserted nodes = subst (λ (w : List SourceCount). IsSaved old new plan.kept w inserted nodes) c.as_slice-counts.ensures c.in-Ok-save_octree.ensures.saved in
     let sampled = next-sampled g.F.SpillFile.held g.S.Source.whole plan points n c.args.reader c.args.at.octree c.requires.tree.rules are.can has c.args.count nodes c.in-Ok.ensures.sampled in
     record {
+      first = first-of shelf plan points output are new.current (saved-of plan old new inserted nodes saved);
       names = names-of c.output_once_law.ensures.one shelf plan points output are new.current (saved-of plan old new inserted nodes saved);
       stands = c.in-Ok-save_octree.ensures.stands way.stands;
       sound = phase-images c.saved_law.ensures.saved c.sound_steps_law.ensures.keeping c.sound_steps_law.ensures.committing shelf plan points output are old inserted nodes sampled c.as_slice-counts.result.now c.as_slice-counts.ensures
@@ -154,7 +155,7 @@ returns-in-Err-save_octree-clause-damaged g c = λ key is stands.
 
 pub returns-in-Err-save_octree-clause-undamaged : goal.returns-in-Err-save_octree-clause-undamaged
 returns-in-Err-save_octree-clause-undamaged g c = λ shelf points output are way key is.
-    let sound = (way-sound shelf output c.args.at.saved (g.T.Store.files c.args.store.now) (g.T.Store.may_leave c.args.store.now) (g.met.T.Store.reads_an_image c.args.store.now) way).sound in
+    let sound = (way-sound shelf points output c.args.at.saved (g.T.Store.files c.args.store.now) (g.T.Store.may_leave c.args.store.now) (g.met.T.Store.reads_an_image c.args.store.now) way).sound in
     devices-undamaged c.in-Err-save_octree.refused key (c.in-Err-save_octree.ensures.sound shelf way.stands.all way.stands.told sound way.stands) (sym c.from.ensures ∙ (sym c.stop.ensures.error ∙ is))
 
 pub returns-in-Err-save_octree-clause-fault : goal.returns-in-Err-save_octree-clause-fault

@@ -23,9 +23,9 @@ invariant-loop-alloc g l = record {
   later : g.T.Store.faults l.initial.store ≤ g.T.Store.faults l.store;
   has : (points : List Point) → CanBeSampled (rules_of l.plan.kept) points → HasInserted g.F.SpillFile.held g.S.Source.whole l.plan points l.initial.at.inserted l.initial.reader l.initial.at.octree → HasInserted g.F.SpillFile.held g.S.Source.whole l.plan points l.at.inserted l.reader l.at.octree;
   way : (shelf : Files) (points : List Point) (output : List File) → AreOfShelf shelf l.plan points output → HasInserted g.F.SpillFile.held g.S.Source.whole l.plan points l.initial.at.inserted l.initial.reader l.initial.at.octree
-      → IsOnWay shelf output l.initial.at.saved (g.T.Store.files l.initial.store) (g.T.Store.may_leave l.initial.store) → IsOnWay shelf output l.at.saved (g.T.Store.files l.store) (g.T.Store.may_leave l.store);
+      → IsOnWay shelf points output l.initial.at.saved (g.T.Store.files l.initial.store) (g.T.Store.may_leave l.initial.store) → IsOnWay shelf points output l.at.saved (g.T.Store.files l.store) (g.T.Store.may_leave l.store);
   moves : (shelf : Files) (points : List Point) (output : List File) → AreOfShelf shelf l.plan points output → HasInserted g.F.SpillFile.held g.S.Source.whole l.plan points l.initial.at.inserted l.initial.reader l.initial.at.octree
-      → IsOnWay shelf output l.initial.at.saved (g.T.Store.files l.initial.store) (g.T.Store.may_leave l.initial.store) → Moves g.T.Store.files g.T.Store.may_leave g.T.Store.moment g.T.Store.image_since (λ (a b : Files). IsSoundUndone shelf b) l.initial.store l.store;
+      → IsOnWay shelf points output l.initial.at.saved (g.T.Store.files l.initial.store) (g.T.Store.may_leave l.initial.store) → Moves g.T.Store.files g.T.Store.may_leave g.T.Store.moment g.T.Store.image_since (λ (a b : Files). IsSoundUndone shelf b) l.initial.store l.store;
   phases : ℕ;
   after : IsAfter l.initial.at.saved.current l.plan.kept l.step l.plan.points phases l.at.saved.current;
   begun : (phases ≡ 0) ⊎ IsOf l.plan l.at.saved.current;

@@ -15,7 +15,7 @@ use Rattle.ept_build.proofs.Causes.{if-refused}
 use Rattle.ept_build.proofs.Judging.{err-one}
 use Rattle.ept_build.proofs.Moved.{moves-then}
 use Rattle.ept_build.proofs.Renewed.{load-at, load-taken, renew-moves, renew-images}
-use Rattle.ept_build.proofs.TakenUp.{taken-names}
+use Rattle.ept_build.proofs.TakenUp.{taken-first, taken-names}
 use Rattle.ept_build.proofs.starting.take_up.Goals as goal
 
 pub renew-requires : goal.renew-requires
@@ -101,7 +101,7 @@ returns-clause-sound g c = λ shelf start starts.
     (renew-moves c.sound_steps_law.ensures.same c.sound_steps_law.ensures.migrating shelf stands.all from g.T.Store.files g.T.Store.may_leave g.T.Store.moment g.T.Store.image_since c.load.new.store c.renew.new.store stands.told c.in_ok-load.ensures.settled at undone renews)
 
 pub returns-clause-on_way : goal.returns-clause-on_way
-returns-clause-on_way g c = λ shelf start output starts names.
+returns-clause-on_way g c = λ shelf start points output starts first names.
     let from = c.args.at.now.saved.current in
     let stands : StandsFor c.args.at.now.saved (g.T.Store.files c.load.new.store) (g.T.Store.may_leave c.load.new.store) = c.in_ok-load.ensures.stands starts.stands in
     let at : IsSoundAt shelf from stands.all = load-at shelf from g.T.Store.files g.T.Store.may_leave g.T.Store.moment g.T.Store.image_since c.args.store.now c.load.new.store (c.load.ensures.sound shelf start starts) stands.all stands.told in
@@ -109,6 +109,7 @@ returns-clause-on_way g c = λ shelf start output starts names.
     let renews = subst (λ (v : View). (s : StandsFor v (g.T.Store.files c.load.new.store) (g.T.Store.may_leave c.load.new.store)) → Moves g.T.Store.files g.T.Store.may_leave g.T.Store.moment g.T.Store.image_since (Renews v.current s.all) c.load.new.store c.renew.new.store) c.load.ensures.saved c.renew.ensures.renews stands in
     let takes : TakesUp c.args.at.now.saved c.renew.new.saved = subst (λ (v : View). TakesUp v c.renew.new.saved) c.load.ensures.saved c.in_ok-renew.ensures.taken_up in
     record {
+      first = taken-first shelf points from c.renew.new.saved.current takes.taken first;
       names = taken-names shelf (names_of output) from c.renew.new.saved.current takes.taken names;
       stands = c.in_ok-renew.ensures.stands (subst (λ (v : View). StandsFor v (g.T.Store.files c.load.new.store) (g.T.Store.may_leave c.load.new.store)) (sym c.load.ensures.saved) stands);
       sound = renew-images c.sound_steps_law.ensures.same c.sound_steps_law.ensures.migrating shelf stands.all from g.T.Store.files g.T.Store.may_leave g.T.Store.moment g.T.Store.image_since c.load.new.store c.renew.new.store stands.told c.in_ok-load.ensures.settled at undone renews;
