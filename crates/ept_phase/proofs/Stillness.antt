@@ -2,18 +2,23 @@
 use Rattle.std.proofs.Common.{◌≡◌, ◌≢◌, ◌∙◌, ◌⊎◌, inl, inr, ⊎_elim, ℕ, ◌+◌, ◌<◌, Bool, true, false, ◌||◌, List, [], ◌∷◌, ◌++◌, take, length, get_or, nat_eq, refl, sym, ap, subst, arith, Option, Some, None}
 use Rattle.std.specs.Prelude.{◌↔◌, IsTrue}
 use Rattle.std.proofs.lemmas.Bool.Decides.{nat_tests}
-use Rattle.ept_base.specs.Files.{Files, StepsBy, Tells}
+use Rattle.ept_base.specs.Files.{Files, SameBut, StepsBy, Tells}
 use Rattle.ept_point.specs.declared.point.Point.{Point}
 use Rattle.ept_space.specs.VoxelKey.{VoxelKey, is_within}
 use Rattle.ept_sample.specs.Members.{IsMember}
 use Rattle.ept_sample.proofs.Members.{IsMember-append}
+use Rattle.ept_ckpt.specs.declared.letter.Letter.{Letter}
 use Rattle.ept_ckpt.specs.declared.node_line.NodeLine.{NodeLine}
 use Rattle.ept_save.specs.Current.{Current, IsNamed, Keeps, tile_of_line}
 use Rattle.ept_save.specs.Loading.{current_line, HasTile}
+use Rattle.ept_save.specs.Names.{gate_name}
 use Rattle.ept_save.proofs.KeyLines.{take-next}
+use Rattle.ept_save.proofs.NamesDiffer.{gate-tile}
+use Rattle.ept_save.proofs.Standing.{stepped}
 use Rattle.ept_table.specs.Octree.{Branch}
 use Rattle.ept_phase.specs.Saving.{IsTold, IsStill, StillAreSame}
 use Rattle.ept_phase.proofs.Compared.{line-told}
+use Rattle.ept_phase.proofs.Lining.{some-same}
 use Rattle.ept_phase.proofs.SavedTo.{found-line, one_line}
 use Rattle.ept_phase.proofs.OnlyChanged.{tile-kept}
 
@@ -89,3 +94,17 @@ still-tile current nodes b member still None (Some new) keeps has = absurd keeps
 still-tile current nodes b member still (Some old) None keeps has = absurd keeps
 still-tile current nodes b member still (Some old) (Some new) keeps has =
     tile-kept current b.0 b.1.points old new (λ line named. keeps.tiles (tile_of_line line) named) (has b member still)
+
+-- so where no name but a gate changes
+pub still-gate : (current : Current) (nodes : List Branch) (letter : Letter) (all : Files) (old new : Option Files) → StepsBy (SameBut (gate_name letter)) old new → old ≡ Some all → StillAreSame current nodes all → (now : Files) × (new ≡ Some now) × StillAreSame current nodes now
+still-gate current nodes letter all old new same told still =
+    let at = stepped (SameBut (gate_name letter)) old new all told same in
+    (at.0, at.1, still-same current nodes all at.0 (λ line named. at.2 (tile_of_line line) (λ e. gate-tile letter line.letter line.key (sym e))) still)
+
+-- and where it is kept until later, they had them before
+pub still-before : (current : Current) (nodes : List Branch) (old new : Option Files) (all : Files) → new ≡ Some all → StepsBy (Keeps current) old new → StillAreSame current nodes all → (was : Files) × (old ≡ Some was) × StillAreSame current nodes was
+still-before current nodes old None all told keeps still = absurd (let wrong : None ≡ Some all = told in cc)
+still-before current nodes None (Some new) all told keeps still = absurd keeps
+still-before current nodes (Some old) (Some new) all told keeps still =
+    let same : new ≡ all = some-same new all told in
+    (old, refl, still-same current nodes new old (λ line named. sym (keeps.tiles (tile_of_line line) named)) (subst (λ (w : Files). StillAreSame current nodes w) (sym same) still))
