@@ -1,6 +1,6 @@
 //! The nodes one at a time.
 
-ghost use Rattle.std.specs.Prelude.{◌≡◌, ◌≢◌, ◌<◌, ◌++◌, ℕ, Some, None, Err, OnOk, OnErr, IfOk, map};
+ghost use Rattle.std.specs.Prelude.{◌≡◌, ◌≢◌, ◌<◌, ◌++◌, ℕ, Some, None, Err, OnOk, OnErr, IfOk, map, length};
 ghost use Rattle.ept_sample.specs.Ids.{HasDistinctIds};
 ghost use Rattle.ept_node.specs.declared.state.NodeState.TheVariants as states;
 ghost use Rattle.ept_node.specs.Shown.{file_of, state_of, node_of, is_here, fault_of, children_of, AgreesWithFile, IsTelling};
@@ -46,6 +46,19 @@ impl<F: SpillFile> Octree<F> {
     {
         let slot = slot_of(&self.slots, key);
         self.forest.node(slot).open_mask()
+    }
+
+    /// How many points the node of a key has. A node in its file is not read.
+    pub fn count(&mut self, key: &Key) -> u64
+        requires { HasKey (nodes_of F.held self.old) key.now }
+        ensures count { IfNodeAt (nodes_of F.held self.old) key.now (λ g. result ≡ length g.points) }
+        ensures nodes { trees.nodes_of (forest_of self.new) ≡ trees.nodes_of (forest_of self.old) }
+        ensures same { nodes_of F.held self.new ≡ nodes_of F.held self.old }
+        ensures rules { rules_of self.new ≡ rules_of self.old }
+        ensures cache { cache_of self.new ≡ cache_of self.old }
+    {
+        let slot = slot_of(&self.slots, key);
+        self.forest.node(slot).count()
     }
 
     /// Appends the points of the node of a key, in id order. A node in its file stays there.

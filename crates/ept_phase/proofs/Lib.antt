@@ -1,3 +1,4 @@
+mod Above
 mod Compared
 mod Lining
 mod LoadedNodes
@@ -10,5 +11,6 @@ mod SameForest
 mod SamePoint
 mod SavedTo
 mod SavedNodes
+mod Stillness
 pub mod Telling
 pub mod Undamaged

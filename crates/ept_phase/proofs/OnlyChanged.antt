@@ -10,7 +10,7 @@ use Rattle.ept_sample.specs.Members.{IsMember}
 use Rattle.ept_ckpt.specs.declared.node_line.NodeLine.{NodeLine}
 use Rattle.ept_ckpt.specs.Versions.{layout_of}
 use Rattle.ept_ckpt.specs.Lookup.{line_of_key}
-use Rattle.ept_save.specs.Current.{Current, Keeps, tile_of_line}
+use Rattle.ept_save.specs.Current.{Current, IsNamed, Keeps, tile_of_line}
 use Rattle.ept_save.specs.Lines.{free_letter}
 use Rattle.ept_save.specs.Loading.{HasTile}
 use Rattle.ept_save.specs.Names.{gate_name, body_name, work_tile_name}
@@ -22,17 +22,18 @@ use Rattle.ept_table.specs.Octree.{Branch}
 use Rattle.ept_phase.specs.Saving.{HasNode, PutsChanged, SavesChanged}
 use Rattle.ept_save.proofs.DamagedTiles.{line-named}
 
--- where the current checkpoint is kept, it has the node that it had
-tile_kept : (current : Current) (key : VoxelKey) (points : List Point) (old new : Files) → Keeps current old new → HasTile current key points old → HasTile current key points new
-tile_kept None key points old new keeps has = absurd has
-tile_kept (Some (letter, c)) key points old new keeps has = at (line_of_key c.nodes key) refl has
+-- where the tiles that the current checkpoint names are as they were, it has the tile that it had
+pub tile-kept : (current : Current) (key : VoxelKey) (points : List Point) (old new : Files) → ((line : NodeLine) → IsNamed current (tile_of_line line) → new (tile_of_line line) ≡ old (tile_of_line line)) → HasTile current key points old → HasTile current key points new
+tile-kept None key points old new same has = absurd has
+tile-kept (Some (letter, c)) key points old new same has = at (line_of_key c.nodes key) refl has
   where
     at : (found : Option NodeLine) → line_of_key c.nodes key ≡ found → IsSomeAnd found (λ line. HasTileUnder (layout_of c.version) (tile_of_line line) points old) → IsSomeAnd found (λ line. HasTileUnder (layout_of c.version) (tile_of_line line) points new)
     at None is has = absurd has
-    at (Some line) is has = tile-same (layout_of c.version) (tile_of_line line) (tile_of_line line) points old new (keeps.tiles (tile_of_line line) (line-named (Some (letter, c)) key line is)) has
+    at (Some line) is has = tile-same (layout_of c.version) (tile_of_line line) (tile_of_line line) points old new (same line (line-named (Some (letter, c)) key line is)) has
 
+-- where the current checkpoint is kept, it has the node that it had
 pub node-kept : (current : Current) (key : VoxelKey) (mask : ℕ) (points : List Point) (old new : Files) → Keeps current old new → HasNode current key mask points old → HasNode current key mask points new
-node-kept current key mask points old new keeps has = (has.0, tile_kept current key points old new keeps has.1)
+node-kept current key mask points old new keeps has = (has.0, tile-kept current key points old new (λ line named. keeps.tiles (tile_of_line line) named) has.1)
 
 -- what is put of one node
 module _ {D : Type 0} (files : D → Option Files) (may_leave : D → Files → Type 0) (moment : D → ℕ) (image_since : D → ℕ → Files → Type 0) where

@@ -25,15 +25,17 @@ use Rattle.ept_meta.specs.Output.{rules_of}
 use Rattle.ept_save.specs.Current.{Current, HasCurrent, IsNamed, IsNow, Keeps, Commits, tile_of_line}
 use Rattle.ept_save.specs.View.{View, StandsFor, next_letter, next_generation, next_facts}
 use Rattle.ept_save.proofs.Keeping.{keeps-both}
-use Rattle.ept_save.proofs.Standing.{told_some}
+use Rattle.ept_save.proofs.Moving.{moves_where}
+use Rattle.ept_save.proofs.Standing.{told_some, tells_some, in-images}
 use Rattle.ept_table.specs.Octree.{Branch, AreNodes, entry_of, points_in, AreWhole}
 use Rattle.ept_phase.specs.Lines.{TellNodes, NameTiles}
 use Rattle.ept_phase.specs.LinesLaws.{WholeIsTold}
 use Rattle.ept_phase.specs.Loaded.{OfCurrent}
 use Rattle.ept_phase.specs.Phase.{AreGiven, GoesFurther, IsNext, HasNext, GoesOn, IsSaved}
-use Rattle.ept_phase.specs.Saving.{AreKnown}
+use Rattle.ept_phase.specs.Saving.{StillAreSame, AreKnown}
 use Rattle.ept_phase.proofs.Telling.{line-node}
 use Rattle.ept_phase.proofs.Lining.{some-same}
+use Rattle.ept_phase.proofs.Stillness.{still-same}
 
 -- ---- the next checkpoint
 
@@ -131,19 +133,33 @@ module _ (view : View) (kept : Kept) (counts : List SourceCount) (inserted : ℕ
 
   pub behind-on : (a b c : Files) → Keeps view.current a b → GoesOn view kept counts inserted nodes b c → GoesOn view kept counts inserted nodes a c
   behind-on a b c keeps on = record {
-    either = ⊎_elim (λ kept. inl (keeps-both view.current a b c keeps kept)) (λ has. inr has) on.either;
+    either = ⊎_elim (λ kept. inl (keeps-both view.current a b c keeps kept)) (λ has. inr (behind has)) on.either;
     apart = λ name apart. on.apart name apart ∙ keeps.apart name apart;
   }
-
-  pub commits-on : (next : Checkpoint) (start a b : Files) → IsNext view kept counts inserted nodes next → NameTiles New start nodes next.nodes → Commits view.current (next_letter view.current) next start a b → GoesOn view kept counts inserted nodes a b
-  commits-on next start a b is_next names commits = record { either = ⊎_elim (λ keeps. inl keeps) (λ now. inr (has now)) commits.either; apart = commits.apart }
     where
-      has : IsNow (next_letter view.current) next start b → HasNext view kept counts inserted nodes b
+      behind : HasNext view kept counts inserted nodes b c → HasNext view kept counts inserted nodes a c
+      behind has = record {
+        next = has.next;
+        is_next = has.is_next;
+        is_current = has.is_current;
+        tiles = λ still. has.tiles (still-same view.current nodes a b (λ line named. keeps.tiles (tile_of_line line) named) still);
+      }
+
+  -- the tiles that the current checkpoint names are those of the start
+  abbrev pub HasNamed : Files → Files → Type 0
+  HasNamed start files = (name : List ℕ) → IsNamed view.current name → files name ≡ start name
+
+  pub commits-on : (next : Checkpoint) (start a b : Files) → IsNext view kept counts inserted nodes next → (StillAreSame view.current nodes start → NameTiles New start nodes next.nodes) → HasNamed start a → Commits view.current (next_letter view.current) next start a b → GoesOn view kept counts inserted nodes a b
+  commits-on next start a b is_next names named commits = record { either = ⊎_elim (λ keeps. inl keeps) (λ now. inr (has now)) commits.either; apart = commits.apart }
+    where
+      has : IsNow (next_letter view.current) next start b → HasNext view kept counts inserted nodes a b
       has now = record {
         next = next;
         is_next = is_next;
         is_current = now.is_current;
-        tiles = named_tiles start b nodes next.nodes (λ l m. now.tiles (tile_of_line l) (line_named (next_letter view.current) next l m)) names;
+        tiles = λ still.
+            named_tiles start b nodes next.nodes (λ l m. now.tiles (tile_of_line l) (line_named (next_letter view.current) next l m))
+            (names (still-same view.current nodes a start (λ line is. sym (named (tile_of_line line) is)) still));
       }
 
 -- ---- a whole phase
@@ -196,17 +212,22 @@ module _ (by_facts : CheckpointByFacts) (start view : View) (same : view.current
       (subst (λ (c : Checkpoint). Tells (λ all. NameTiles New all nodes c.nodes) files) (sym is.0) tiles)
 
   module _ {D : Type 0} (files : D → Option Files) (may_leave : D → Files → Type 0) (moment : D → ℕ) (image_since : D → ℕ → Files → Type 0) where
-    pub goes-all : (old mid new : D) → Moves files may_leave moment image_since (Keeps start.current) old mid → (stands : StandsFor view (files mid) (may_leave mid)) → Tells (λ all. NameTiles New all nodes view.lines) (files mid)
+    pub goes-all : (old mid new : D) → Moves files may_leave moment image_since (Keeps start.current) old mid → (stands : StandsFor view (files mid) (may_leave mid)) → (StillAreSame start.current nodes stands.all → Tells (λ all. NameTiles New all nodes view.lines) (files mid))
         → ((next : Checkpoint) → facts next ≡ next_facts view kept counts inserted → (at : StandsFor view (files mid) (may_leave mid)) → Moves files may_leave moment image_since (Commits view.current (next_letter view.current) next at.all) mid new)
         → Moves files may_leave moment image_since (GoesOn start kept counts inserted nodes) old new
     goes-all old mid new keeps stands tiles commits =
         let is = next-is by_facts view kept counts inserted nodes valid told its (its-facts by_facts view kept counts inserted nodes valid told) in
-        let names : NameTiles New stands.all nodes its.nodes = told_some (λ all. NameTiles New all nodes view.lines) (files mid) stands.all stands.told tiles in
+        let names : StillAreSame start.current nodes stands.all → NameTiles New stands.all nodes its.nodes = λ still. told_some (λ all. NameTiles New all nodes view.lines) (files mid) stands.all stands.told (tiles still) in
         let moved = commits its (its-facts by_facts view kept counts inserted nodes valid told) stands in
-        moves_both files may_leave moment image_since (Keeps start.current) (Commits start.current (next_letter start.current) its stands.all) (GoesOn start kept counts inserted nodes)
-        (λ a b c k m. behind-on start kept counts inserted nodes a b c k (commits-on start kept counts inserted nodes its stands.all b c (from_start its is.1) names m))
+        let images = in-images view (files mid) (may_leave mid) stands in
+        moves_both files may_leave moment image_since (Keeps start.current) (GoesOn start kept counts inserted nodes) (GoesOn start kept counts inserted nodes)
+        (λ a b c k on. behind-on start kept counts inserted nodes a b c k on)
         (keeps-on start kept counts inserted nodes) old mid new keeps
-        (subst (λ (current : Current). Moves files may_leave moment image_since (Commits current (next_letter current) its stands.all) mid new) same moved)
+        (moves_where files may_leave moment image_since (HasNamed start kept counts inserted nodes stands.all) (Commits start.current (next_letter start.current) its stands.all) (GoesOn start kept counts inserted nodes)
+        (λ b c named m. commits-on start kept counts inserted nodes its stands.all b c (from_start its is.1) names named m) mid new
+        (tells_some (HasNamed start kept counts inserted nodes stands.all) (files mid) stands.all stands.told (λ name named. refl))
+        (λ image may. subst (λ (current : Current). (name : List ℕ) → IsNamed current name → image name ≡ stands.all name) same (images.tiles image may))
+        (subst (λ (current : Current). Moves files may_leave moment image_since (Commits current (next_letter current) its stands.all) mid new) same moved))
 
 module _ {D : Type 0} (files : D → Option Files) (may_leave : D → Files → Type 0) (moment : D → ℕ) (image_since : D → ℕ → Files → Type 0) (start : View) (kept : Kept) (counts : List SourceCount) (inserted : ℕ) (nodes : List Branch) where
   -- the current checkpoint is kept

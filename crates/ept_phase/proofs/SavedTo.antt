@@ -37,7 +37,7 @@ use Rattle.ept_phase.specs.Lines.{TellsNode, TellNodes, NamesTile, NameTiles}
 use Rattle.ept_phase.specs.Saving.{IsTold, HasNode, StaysLine, ComesLine, SavesNode, keys_in, AreKnown, HasEachNodeOf}
 use Rattle.ept_phase.proofs.Telling.{among-member}
 use Rattle.ept_phase.proofs.Merging.{lines_among, next-lines, all-lines}
-use Rattle.ept_phase.proofs.Lining.{zip-more, some-same}
+use Rattle.ept_phase.proofs.Lining.{zip-more, some-same, tells-more}
 
 -- ---- keys that rise
 
@@ -148,6 +148,37 @@ pub saved-tile : {T E : Type 0} (result : Result T E) (old new : View) (key : Vo
 saved-tile (Ok t) old new key mask points letter before after line puts = comes old new key mask points letter before after line puts
 saved-tile (Err e) old new key mask points letter before after line puts = tt
 
+-- ---- the line of a node
+
+-- A line tells of the node: it stays, or is new. Where tiles are told of, the one that it names is there.
+pub record HasItsLine (telling : Type 0) (now new : View) (b : Branch) (files : Option Files) : Type 0 where
+  pub line : NodeLine
+  pub tells : TellsNode b line
+  pub comes : StaysLine now new line ⊎ ComesLine now new line
+  pub has_tile : telling → Tells (λ (all : Files). all (tile_of_line line) ≡ Some (tile b.1.points)) files
+
+-- that of a node that was saved
+pub line-saved : (telling : Type 0) (now new : View) (b : Branch) (points : List Point) (files : Option Files) → SavesNode now new b.0 b.1.mask points files → length points ≡ length b.1.points → (telling → points ≡ b.1.points) → HasItsLine telling now new b files
+line-saved telling now new b points files saves many points_are = record {
+  line = saves.line;
+  tells = record { key = saves.is_key; mask = saves.is_mask; count = saves.is_count ∙ many };
+  comes = saves.comes;
+  has_tile = λ tell. subst (λ (w : List Point). Tells (λ (all : Files). all (tile_of_line saves.line) ≡ Some (tile w)) files) (points_are tell) saves.has_tile;
+}
+
+-- that of a node of which the current checkpoint tells
+pub line-stays : (telling : Type 0) (current : Current) (now : View) (b : Branch) (files : Option Files) → now.current ≡ current → ¬ IsOfLayout Old current → IsTold current b.0 b.1.mask b.1.points → (telling → Tells (HasTile current b.0 b.1.points) files) → HasItsLine telling now now b files
+line-stays telling current now b files same newest told has =
+    let at = found-line current b.0 (λ c line. (line.mask ≡ b.1.mask) × (line.count ≡ length b.1.points)) told in
+    let line : NodeLine = at.1 in
+    let is_key : line.key ≡ b.0 = line-is current b.0 line at.2 in
+    record {
+      line = line;
+      tells = record { key = is_key; mask = at.3.0; count = at.3.1 };
+      comes = inl (refl, ap (λ (c : Current). current_line c line.key) same ∙ (ap (current_line current) is_key ∙ at.2));
+      has_tile = λ tell. tells-more (HasTile current b.0 b.1.points) (λ (all : Files). all (tile_of_line line) ≡ Some (tile b.1.points)) (λ all there. line-tile current b.0 line b.1.points all newest at.2 there) files (has tell);
+    }
+
 -- ---- the nodes, one after another
 
 -- of the nodes that are done the lines are there, where spill files tell with their tiles; of the rest the current checkpoint's
@@ -211,7 +242,7 @@ saved-end telling start now nodes i files end at =
     subst (λ (w : List Branch). IsSavedTo telling start now w [] files) (take_all i nodes end)
     (subst (λ (w : List Branch). IsSavedTo telling start now (take i nodes) w files) (none_left nodes i end) at)
 
-module _ (telling : Type 0) (start now new : View) (done rest : List Branch) (b : Branch) (points : List Point) (files after : Option Files) (rises : Rise (keys_in (done ++ b ∷ rest))) (is_key : IsKey b.0) (shallow : b.1.key.depth ≤ b.1.rules.cube.depth) (byte : b.1.mask < 2 ^ 8) (at : IsSavedTo telling start now done (b ∷ rest) files) (saves : SavesNode now new b.0 b.1.mask points after) (many : length points ≡ length b.1.points) (points_are : telling → points ≡ b.1.points) (letter : Letter) (one : StepsBy (SameBut (work_tile_name letter b.0)) files after) where
+module _ (telling : Type 0) (start now new : View) (done rest : List Branch) (b : Branch) (files after : Option Files) (rises : Rise (keys_in (done ++ b ∷ rest))) (is_key : IsKey b.0) (shallow : b.1.key.depth ≤ b.1.rules.cube.depth) (byte : b.1.mask < 2 ^ 8) (at : IsSavedTo telling start now done (b ∷ rest) files) (has : HasItsLine telling now new b after) (letter : Letter) (one : StepsBy (SameBut (work_tile_name letter b.0)) files after) where
   abbrev key : VoxelKey
   key = b.0
 
@@ -250,18 +281,18 @@ module _ (telling : Type 0) (start now new : View) (done rest : List Branch) (b 
   high : AreBehind key behind
   high l m = around.1 l.key (among-member (keys_in rest) l.key (IsMember-filter (λ (x : NodeLine). is_among (keys_in rest) x.key) l (lines_of current) m).1)
 
-  new_lines : StaysLine now new saves.line ⊎ ComesLine now new saves.line → new ≡ record start { lines = lines ++ saves.line ∷ behind }
+  new_lines : StaysLine now new has.line ⊎ ComesLine now new has.line → new ≡ record start { lines = lines ++ has.line ∷ behind }
   new_lines (inl stay) =
-      let found : line_of_key (lines_of current) key ≡ Some saves.line =
-      sym (line-of-current current key) ∙ (ap (λ (c : Current). current_line c key) (sym same_current) ∙ (ap (current_line now.current) (sym saves.is_key) ∙ stay.1)) in
+      let found : line_of_key (lines_of current) key ≡ Some has.line =
+      sym (line-of-current current key) ∙ (ap (λ (c : Current). current_line c key) (sym same_current) ∙ (ap (current_line now.current) (sym has.tells.key) ∙ stay.1)) in
       stay.0 ∙ (at.view_is ∙ ap (λ (w : List NodeLine). record start { lines = lines ++ w }) (front ∙ ap (λ (o : Option NodeLine). cons_option o behind) found))
   new_lines (inr come) =
-      let at_key : (l : NodeLine) → line_of_key (lines_of current) key ≡ Some l → l.key ≡ saves.line.key =
-      λ l is. line-is current key l (line-of-current current key ∙ is) ∙ sym saves.is_key in
-      let between : with_line saves.line now.lines ≡ lines ++ saves.line ∷ behind =
-      ap (with_line saves.line) now_lines
-      ∙ line-between saves.line lines (line_of_key (lines_of current) key) behind (subst (λ (k : VoxelKey). AreBefore k lines) (sym saves.is_key) low) at_key (subst (λ (k : VoxelKey). AreBehind k behind) (sym saves.is_key) high) in
-      come ∙ (ap (λ (v : View). record v { lines = with_line saves.line now.lines }) at.view_is ∙ ap (λ (w : List NodeLine). record start { lines = w }) between)
+      let at_key : (l : NodeLine) → line_of_key (lines_of current) key ≡ Some l → l.key ≡ has.line.key =
+      λ l is. line-is current key l (line-of-current current key ∙ is) ∙ sym has.tells.key in
+      let between : with_line has.line now.lines ≡ lines ++ has.line ∷ behind =
+      ap (with_line has.line) now_lines
+      ∙ line-between has.line lines (line_of_key (lines_of current) key) behind (subst (λ (k : VoxelKey). AreBefore k lines) (sym has.tells.key) low) at_key (subst (λ (k : VoxelKey). AreBehind k behind) (sym has.tells.key) high) in
+      come ∙ (ap (λ (v : View). record v { lines = with_line has.line now.lines }) at.view_is ∙ ap (λ (w : List NodeLine). record start { lines = w }) between)
 
   -- what was put is no tile of those before
   others : (all then : Files) → SameBut (work_tile_name letter key) all then → (nodes : List Branch) (ls : List NodeLine) → TellNodes nodes ls → AreKnown nodes → AreBefore key ls → NameTiles New all nodes ls → NameTiles New then nodes ls
@@ -279,13 +310,12 @@ module _ (telling : Type 0) (start now new : View) (done rest : List Branch) (b 
           let equal = ap (λ (k : VoxelKey). key_cmp k key) is ∙ key-self key in
           absurd (cc)
 
-  tell_tiles : telling → (old new : Option Files) → StepsBy (SameBut (work_tile_name letter key)) old new → Tells (λ all. NameTiles New all done lines) old → Tells (λ (all : Files). all (tile_of_line saves.line) ≡ Some (tile points)) new → Tells (λ all. NameTiles New all (done ++ b ∷ []) (lines ++ saves.line ∷ [])) new
-  tell_tiles tell None None step names has = tt
-  tell_tiles tell None (Some then) step names has = absurd step
-  tell_tiles tell (Some all) None step names has = absurd step
-  tell_tiles tell (Some all) (Some then) step names has =
-      zip-more (NamesTile New then) done lines b saves.line (others all then step done lines at.told at.known low names)
-      (has ∙ ap (λ (w : List Point). Some (tile w)) (points_are tell))
+  tell_tiles : telling → (old new : Option Files) → StepsBy (SameBut (work_tile_name letter key)) old new → Tells (λ all. NameTiles New all done lines) old → Tells (λ (all : Files). all (tile_of_line has.line) ≡ Some (tile b.1.points)) new → Tells (λ all. NameTiles New all (done ++ b ∷ []) (lines ++ has.line ∷ [])) new
+  tell_tiles tell None None step names there = tt
+  tell_tiles tell None (Some then) step names there = absurd step
+  tell_tiles tell (Some all) None step names there = absurd step
+  tell_tiles tell (Some all) (Some then) step names there =
+      zip-more (NamesTile New then) done lines b has.line (others all then step done lines at.told at.known low names) there
 
   known_more : (nodes : List Branch) → AreKnown nodes → AreKnown (nodes ++ b ∷ [])
   known_more [] are c (inl is) = subst (λ (w : Branch). IsKey w.0 × (w.1.key.depth ≤ w.1.rules.cube.depth) × (w.1.mask < 2 ^ 8)) is (is_key, shallow, byte)
@@ -295,9 +325,9 @@ module _ (telling : Type 0) (start now new : View) (done rest : List Branch) (b 
 
   pub saved-more : IsSavedTo telling start new (done ++ b ∷ []) rest after
   saved-more = record {
-    lines = lines ++ saves.line ∷ [];
-    view_is = new_lines saves.comes ∙ ap (λ (w : List NodeLine). record start { lines = w }) (sym (append_assoc lines (saves.line ∷ []) behind));
-    told = zip-more TellsNode done lines b saves.line at.told (record { key = saves.is_key; mask = saves.is_mask; count = saves.is_count ∙ many });
-    tiles = λ tell. tell_tiles tell files after one (at.tiles tell) saves.has_tile;
+    lines = lines ++ has.line ∷ [];
+    view_is = new_lines has.comes ∙ ap (λ (w : List NodeLine). record start { lines = w }) (sym (append_assoc lines (has.line ∷ []) behind));
+    told = zip-more TellsNode done lines b has.line at.told has.tells;
+    tiles = λ tell. tell_tiles tell files after one (at.tiles tell) (has.has_tile tell);
     known = known_more done at.known;
   }

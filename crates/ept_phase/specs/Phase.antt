@@ -13,6 +13,7 @@ use Rattle.ept_save.specs.Current.{Current, IsCurrent, Keeps}
 use Rattle.ept_save.specs.View.{View, next_letter, next_generation}
 use Rattle.ept_table.specs.Octree.{Branch}
 use Rattle.ept_phase.specs.Lines.{TellNodes, NameTiles}
+use Rattle.ept_phase.specs.Saving.{StillAreSame}
 
 -- what is given of the inputs: a count of each, within the bounds, and of all no fewer points than are inserted
 pub record AreGiven (kept : Kept) (counts : List SourceCount) (inserted : ℕ) : Type 0 where
@@ -35,16 +36,16 @@ pub record IsNext (view : View) (kept : Kept) (counts : List SourceCount) (inser
   pub told : TellNodes nodes next.nodes
   pub newest : layout_of next.version ≡ New
 
--- the files have it as their current one, and it names the nodes' tiles
-pub record HasNext (view : View) (kept : Kept) (counts : List SourceCount) (inserted : ℕ) (nodes : List Branch) (files : Files) : Type 0 where
+-- The new files have it as their current one. Where still nodes are the same in the old files, it names the nodes' tiles.
+pub record HasNext (view : View) (kept : Kept) (counts : List SourceCount) (inserted : ℕ) (nodes : List Branch) (old new : Files) : Type 0 where
   pub next : Checkpoint
   pub is_next : IsNext view kept counts inserted nodes next
-  pub is_current : IsCurrent files (next_letter view.current) next
-  pub tiles : NameTiles New files nodes next.nodes
+  pub is_current : IsCurrent new (next_letter view.current) next
+  pub tiles : StillAreSame view.current nodes old → NameTiles New new nodes next.nodes
 
 -- The current checkpoint is kept, with its tiles, or the next one is the current one. What is no checkpoint's stays.
 pub record GoesOn (view : View) (kept : Kept) (counts : List SourceCount) (inserted : ℕ) (nodes : List Branch) (old new : Files) : Type 0 where
-  pub either : Keeps view.current old new ⊎ HasNext view kept counts inserted nodes new
+  pub either : Keeps view.current old new ⊎ HasNext view kept counts inserted nodes old new
   pub apart : (name : List ℕ) → ¬ IsSavedName name → new name ≡ old name
 
 -- the next checkpoint is noted as the current one, with its lines for the one behind it

@@ -3,7 +3,7 @@ use Rattle.std.specs.Prelude.{◌≡◌, ◌≢◌, ◌⊎◌, ℕ, ◌<◌, ◌
 use Rattle.ept_base.specs.Files.{Files, Tells}
 use Rattle.ept_point.specs.declared.point.Point.{Point}
 use Rattle.ept_point.specs.Packed.{tile}
-use Rattle.ept_space.specs.VoxelKey.{VoxelKey, IsKey}
+use Rattle.ept_space.specs.VoxelKey.{VoxelKey, IsKey, is_within}
 use Rattle.ept_sample.specs.Members.{IsMember}
 use Rattle.ept_ckpt.specs.declared.node_line.NodeLine.{NodeLine}
 use Rattle.ept_ckpt.specs.Octree.{is_among}
@@ -26,6 +26,14 @@ IsTold current key mask points = OfLine current key (λ c line. (line.mask ≡ m
 -- the current checkpoint has the node as it is: it tells of it, and the tile that it names has these points
 abbrev pub HasNode : Current → VoxelKey → ℕ → List Point → Files → Type 0
 HasNode current key mask points files = IsTold current key mask points × HasTile current key points files
+
+-- at and below the key each node has the open octants and the number of points that the current checkpoint tells of
+abbrev pub IsStill : Current → List Branch → VoxelKey → Type 0
+IsStill current nodes key = (b : Branch) → IsMember b nodes → is_within key b.0 ≡ true → IsTold current b.0 b.1.mask b.1.points
+
+-- each such node has the points of the tile that the current checkpoint names for it
+abbrev pub StillAreSame : Current → List Branch → Files → Type 0
+StillAreSame current nodes files = (b : Branch) → IsMember b nodes → IsStill current nodes b.0 → HasTile current b.0 b.1.points files
 
 -- the name is that of a version which the current checkpoint does not name, of the tile of a node that it does not have as it is
 abbrev pub IsOfChanged : Current → List Branch → Files → List ℕ → Type 0

@@ -6,6 +6,7 @@ mod laws;
 mod loading;
 mod phase;
 mod saving;
+mod still;
 
 pub use error::PhaseError;
 pub use laws::{lines_law, saved_law};

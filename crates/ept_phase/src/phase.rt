@@ -25,7 +25,7 @@ ghost use Rattle.ept_phase.specs.Errors.{IsDevices};
 ghost use Rattle.ept_phase.specs.Lines.{NameTiles};
 ghost use Rattle.ept_phase.specs.Loaded.{OfCurrent};
 ghost use Rattle.ept_phase.specs.Phase.{AreGiven, GoesFurther, GoesOn, IsSaved};
-ghost use Rattle.ept_phase.specs.Saving.{HasEachNodeOf, SavesChanged, IsSaveFault};
+ghost use Rattle.ept_phase.specs.Saving.{StillAreSame, HasEachNodeOf, SavesChanged, IsSaveFault};
 
 use crate::error::PhaseError;
 use crate::laws::lines_law;
@@ -41,6 +41,11 @@ use std::alloc::Global;
 /// Makes an octree the next checkpoint: begins it, saves the nodes that are not as the current checkpoint has
 /// them, and commits. The octree holds as many points as are `inserted`, and no node of the current checkpoint
 /// is gone. A node whose points are in its spill file is read there, and stays there.
+///
+/// A node is still if the current checkpoint tells of its open octants and number of points, and of those of each node
+/// below. It counts as unchanged: neither its points nor its tile are read, and its line stays. If points only came since
+/// that checkpoint, it is, for each of them stays in the node or below. Had a still node other points than its tile, the
+/// next checkpoint would name that tile all the same. So what is said of tiles holds where still nodes are the same.
 ///
 /// # Errors
 ///
@@ -69,16 +74,20 @@ pub fn save_octree<T: Store, F: SpillFile>(
         (IsSaved saved.old saved.new kept.now counts.now inserted (nodes_of F.held octree.old)) }
     ensures refused { OnErr result (saved.new.current ≡ saved.old.current) }
 
-    // At Ok, where spill files tell, the checkpoint names the tiles of the octree's nodes; and where these are the nodes
-    // of some points' sampling, none of its tiles is damaged.
-    ensures tiles { IsTelling F.held → OnOk result (Tells (λ all. OfCurrent saved.new.current
-        (λ (c : c.Checkpoint). NameTiles New all (nodes_of F.held octree.old) c.nodes)) (T.files store.new)) }
-    ensures intact { IsTelling F.held → (points : List p.Point) → CanBeSampled (meta.rules_of kept.now) points
+    // At Ok, where spill files tell and still nodes are the same, the checkpoint names the tiles of the octree's nodes.
+    // Where these are the nodes of some points' sampling, none of its tiles is damaged.
+    ensures tiles { IsTelling F.held → (all : Files) → T.files store.old ≡ Some all
+        → StillAreSame saved.old.current (nodes_of F.held octree.old) all
+        → OnOk result (Tells (λ now. OfCurrent saved.new.current
+        (λ (c : c.Checkpoint). NameTiles New now (nodes_of F.held octree.old) c.nodes)) (T.files store.new)) }
+    ensures intact { IsTelling F.held → (all : Files) → T.files store.old ≡ Some all
+        → StillAreSame saved.old.current (nodes_of F.held octree.old) all
+        → (points : List p.Point) → CanBeSampled (meta.rules_of kept.now) points
         → AreSampled (meta.rules_of kept.now) points (nodes_of F.held octree.old)
         → OnOk result (Tells (HasNoDamage saved.new.current) (T.files store.new)) }
 
-    // Whatever the moment, the current checkpoint is kept with its tiles, or the next one is the current one and
-    // names the tiles of the octree's nodes.
+    // Whatever the moment, the current checkpoint is kept with its tiles, or the next one is the current one. That one
+    // names the tiles of the octree's nodes, where still nodes are the same at the start.
     ensures goes_on { IsTelling F.held → StandsFor saved.old (T.files store.old) (T.may_leave store.old)
         → Moves T.files T.may_leave T.moment T.image_since
         (GoesOn saved.old kept.now counts.now inserted (nodes_of F.held octree.old)) store.old store.new }

@@ -25,9 +25,10 @@ ghost use Rattle.ept_forest.specs.Slots as trees;
 ghost use Rattle.ept_table.specs.Octree.{AreSampled};
 ghost use Rattle.ept_octree.specs.Octree.{forest_of, rules_of, most_of, cache_of, nodes_of, IsLinked, IsUnbroken, AgreesWithFiles};
 ghost use Rattle.ept_phase.specs.Errors.{IsDevices};
-ghost use Rattle.ept_phase.specs.Saving.{HasNode, IsTold, SavesNode, AreKnown, HasEachNodeOf, PutsChanged, IsSaveFault};
+ghost use Rattle.ept_phase.specs.Saving.{HasNode, IsTold, SavesNode, StillAreSame, AreKnown, HasEachNodeOf, PutsChanged, IsSaveFault};
 
 use crate::error::PhaseError;
+use crate::still::grown_keys;
 use ept_base::{SpillFile, Store};
 use ept_octree::Octree;
 use ept_point::Point;
@@ -151,7 +152,8 @@ fn has_points<T: Store>(
     Ok(found.as_slice() == points)
 }
 
-// Saves the nodes of an octree, among which is each that the current checkpoint has.
+// Saves the nodes of an octree, among which is each that the current checkpoint has. Neither the points nor the tile of a
+// still node are read: its line stays.
 pub(crate) fn save_nodes<T: Store, F: SpillFile>(
     alloc: Global,
     store: &mut T,
@@ -163,8 +165,9 @@ pub(crate) fn save_nodes<T: Store, F: SpillFile>(
     requires each { HasEachNodeOf saved.old.current (nodes_of F.held octree.old) }
     requires agrees { AgreesWithFiles F.held F.faults F.keeps octree.old }
     ensures told { OnOk result (TellNodes (nodes_of F.held octree.old) saved.new.lines) }
-    ensures tiles { IsTelling F.held → OnOk result (Tells
-        (λ all. NameTiles New all (nodes_of F.held octree.old) saved.new.lines) (T.files store.new)) }
+    ensures tiles { IsTelling F.held → (all : Files) → T.files store.old ≡ Some all
+        → StillAreSame saved.old.current (nodes_of F.held octree.old) all
+        → OnOk result (Tells (λ now. NameTiles New now (nodes_of F.held octree.old) saved.new.lines) (T.files store.new)) }
     ensures known { OnOk result (AreKnown (nodes_of F.held octree.old)) }
     ensures lines { saved.new ≡ record saved.old { lines = saved.new.lines } }
     ensures only_changed { IsTelling F.held → (all : Files) → T.files store.old ≡ Some all
@@ -198,12 +201,16 @@ pub(crate) fn save_nodes<T: Store, F: SpillFile>(
     sound_steps_law();
     octree.len();
     let keys = octree.keys(alloc)?;
+    let grown = grown_keys(alloc, saved, octree, keys.as_slice())?;
     let mut points = Vec::new(alloc);
     for key in &keys {
         key.known();
+        let mask = octree.open_mask(key);
+        if !grown.contains(key) {
+            continue;
+        }
         points.clear();
         octree.points_into(alloc, key, &mut points)?;
-        let mask = octree.open_mask(key);
         save_node(alloc, store, saved, *key, mask, &points)?;
     }
     Ok(())

@@ -18,12 +18,13 @@ use Rattle.ept_phase.specs.Errors.{IsDevices}
 use Rattle.ept_phase.specs.Lines.{TellNodes, NameTiles}
 use Rattle.ept_phase.specs.Phase.{GoesFurther}
 use Rattle.ept_save.specs.Names.{body_name, gate_name}
-use Rattle.ept_phase.specs.Saving.{AreKnown, HasEachNodeOf, PutsChanged}
+use Rattle.ept_phase.specs.Saving.{StillAreSame, AreKnown, HasEachNodeOf, PutsChanged}
 use Rattle.ept_phase.proofs.OnlyChanged.{saves-begin, saves-nodes, saves-commit}
 use Rattle.ept_phase.proofs.Phasing.{tree-valid, is-saved, names-saved, goes-all, keeps-goes, stands-current}
 use Rattle.ept_phase.proofs.Compared.{keeps-then}
 use Rattle.ept_phase.proofs.NextTiles.{still-named, saved-undamaged}
 use Rattle.ept_phase.proofs.Refusing.{keeps-sound, store-devices, store-refusal, store-no-spill, store-no-damage, devices-fault, same-refusal, one-phase-refusal}
+use Rattle.ept_phase.proofs.Stillness.{still-gate, still-before}
 use Rattle.ept_phase.proofs.Undamaged.{gate-undamaged}
 use Rattle.ept_save.specs.declared.error.SaveError.TheVariants.{TileDamaged}
 use Rattle.ept_save.specs.Loading.{HasLine, IsDamaged, HasNoDamage}
@@ -100,9 +101,12 @@ returns-clause-goes_on g c = λ tell stands.
     tree-valid c.lines_law.ensures.told now (rules_of c.args.octree.now) c.args.kept.now c.args.counts.now c.args.inserted nodes c.requires.given further few told known c.len.ensures.own c.requires.rules c.requires.whole c.requires.holds in
     let keeps = keeps-then g.T.Store.files g.T.Store.may_leave g.T.Store.moment g.T.Store.image_since start.current c.args.store.now c.begin.new.store c.save_nodes.new.store (c.begin.ensures.keeps stands)
     (subst (λ (w : Current). Moves g.T.Store.files g.T.Store.may_leave g.T.Store.moment g.T.Store.image_since (Keeps w) c.begin.new.store c.save_nodes.new.store) (ap (λ (v : View). v.current) c.in_ok-begin.ensures.begun) c.save_nodes.ensures.keeps) in
-    let tiles : Tells (λ all. NameTiles New all nodes now.lines) (g.T.Store.files c.save_nodes.new.store) =
-    c.in_ok-save_nodes.ensures.tiles tell in
-    goes-all c.body_once_law.ensures.facts start now same c.args.kept.now c.args.counts.now c.args.inserted nodes valid told g.T.Store.files g.T.Store.may_leave g.T.Store.moment g.T.Store.image_since c.args.store.now c.save_nodes.new.store c.commit.new.store keeps (c.save_nodes.ensures.stands (c.in_ok-begin.ensures.stands stands)) tiles c.commit.ensures.commits
+    let begun : c.begin.new.saved.current ≡ start.current = ap (λ (v : View). v.current) c.in_ok-begin.ensures.begun in
+    let mid = c.save_nodes.ensures.stands (c.in_ok-begin.ensures.stands stands) in
+    let tiles : StillAreSame start.current nodes mid.all → Tells (λ all. NameTiles New all nodes now.lines) (g.T.Store.files c.save_nodes.new.store) = λ still. (
+    let was = still-before c.begin.new.saved.current nodes (g.T.Store.files c.begin.new.store) (g.T.Store.files c.save_nodes.new.store) mid.all mid.told c.save_nodes.ensures.keeps.reads (subst (λ (w : Current). StillAreSame w nodes mid.all) (sym begun) still) in
+    c.in_ok-save_nodes.ensures.tiles tell was.0 was.1 was.2) in
+    goes-all c.body_once_law.ensures.facts start now same c.args.kept.now c.args.counts.now c.args.inserted nodes valid told g.T.Store.files g.T.Store.may_leave g.T.Store.moment g.T.Store.image_since c.args.store.now c.save_nodes.new.store c.commit.new.store keeps mid tiles c.commit.ensures.commits
 
 pub returns-in_err-commit-clause-goes_on : goal.returns-in_err-commit-clause-goes_on
 returns-in_err-commit-clause-goes_on g c = λ tell stands.
@@ -118,9 +122,12 @@ returns-in_err-commit-clause-goes_on g c = λ tell stands.
     tree-valid c.lines_law.ensures.told now (rules_of c.args.octree.now) c.args.kept.now c.args.counts.now c.args.inserted nodes c.requires.given further few told known c.len.ensures.own c.requires.rules c.requires.whole c.requires.holds in
     let keeps = keeps-then g.T.Store.files g.T.Store.may_leave g.T.Store.moment g.T.Store.image_since start.current c.args.store.now c.begin.new.store c.save_nodes.new.store (c.begin.ensures.keeps stands)
     (subst (λ (w : Current). Moves g.T.Store.files g.T.Store.may_leave g.T.Store.moment g.T.Store.image_since (Keeps w) c.begin.new.store c.save_nodes.new.store) (ap (λ (v : View). v.current) c.in_ok-begin.ensures.begun) c.save_nodes.ensures.keeps) in
-    let tiles : Tells (λ all. NameTiles New all nodes now.lines) (g.T.Store.files c.save_nodes.new.store) =
-    c.in_ok-save_nodes.ensures.tiles tell in
-    goes-all c.body_once_law.ensures.facts start now same c.args.kept.now c.args.counts.now c.args.inserted nodes valid told g.T.Store.files g.T.Store.may_leave g.T.Store.moment g.T.Store.image_since c.args.store.now c.save_nodes.new.store c.commit.new.store keeps (c.save_nodes.ensures.stands (c.in_ok-begin.ensures.stands stands)) tiles c.commit.ensures.commits
+    let begun : c.begin.new.saved.current ≡ start.current = ap (λ (v : View). v.current) c.in_ok-begin.ensures.begun in
+    let mid = c.save_nodes.ensures.stands (c.in_ok-begin.ensures.stands stands) in
+    let tiles : StillAreSame start.current nodes mid.all → Tells (λ all. NameTiles New all nodes now.lines) (g.T.Store.files c.save_nodes.new.store) = λ still. (
+    let was = still-before c.begin.new.saved.current nodes (g.T.Store.files c.begin.new.store) (g.T.Store.files c.save_nodes.new.store) mid.all mid.told c.save_nodes.ensures.keeps.reads (subst (λ (w : Current). StillAreSame w nodes mid.all) (sym begun) still) in
+    c.in_ok-save_nodes.ensures.tiles tell was.0 was.1 was.2) in
+    goes-all c.body_once_law.ensures.facts start now same c.args.kept.now c.args.counts.now c.args.inserted nodes valid told g.T.Store.files g.T.Store.may_leave g.T.Store.moment g.T.Store.image_since c.args.store.now c.save_nodes.new.store c.commit.new.store keeps mid tiles c.commit.ensures.commits
 
 pub returns-clause-saved : goal.returns-clause-saved
 returns-clause-saved g c =
@@ -137,7 +144,7 @@ returns-clause-saved g c =
     is-saved c.body_once_law.ensures.facts start now same c.args.kept.now c.args.counts.now c.args.inserted nodes valid told c.commit.new.saved c.in_ok-commit.ensures.current
 
 pub returns-clause-tiles : goal.returns-clause-tiles
-returns-clause-tiles g c = λ tell.
+returns-clause-tiles g c = λ tell all told_all still_all.
     let start : View = c.args.saved.now in
     let now : View = c.save_nodes.new.saved in
     let same : now.current ≡ start.current = ap (λ (v : View). v.current) c.save_nodes.ensures.lines ∙ ap (λ (v : View). v.current) c.in_ok-begin.ensures.begun in
@@ -151,13 +158,15 @@ returns-clause-tiles g c = λ tell.
     let mid : Option Files = g.T.Store.files c.save_nodes.new.store in
     let after : Option Files = g.T.Store.files c.commit.new.store in
     let new : View = c.commit.new.saved in
+    let begun : c.begin.new.saved.current ≡ start.current = ap (λ (v : View). v.current) c.in_ok-begin.ensures.begun in
+    let first = still-gate start.current nodes (next_letter start.current) all (g.T.Store.files c.args.store.now) (g.T.Store.files c.begin.new.store) c.begin.ensures.gate.reads told_all still_all in
     let tiles : Tells (λ all. NameTiles New all nodes now.lines) mid =
-    c.in_ok-save_nodes.ensures.tiles tell in
+    c.in_ok-save_nodes.ensures.tiles tell first.0 first.1 (subst (λ (w : Current). StillAreSame w nodes first.0) (sym begun) first.2) in
     let still : Tells (λ all. NameTiles New all nodes now.lines) after = still-named (next_letter now.current) nodes now.lines mid after c.commit.ensures.names.reads tiles in
     names-saved c.body_once_law.ensures.facts start now same c.args.kept.now c.args.counts.now c.args.inserted nodes valid told new c.in_ok-commit.ensures.current after still
 
 pub returns-clause-intact : goal.returns-clause-intact
-returns-clause-intact g c = λ tell points can are.
+returns-clause-intact g c = λ tell all told_all still_all points can are.
     let start : View = c.args.saved.now in
     let now : View = c.save_nodes.new.saved in
     let same : now.current ≡ start.current = ap (λ (v : View). v.current) c.save_nodes.ensures.lines ∙ ap (λ (v : View). v.current) c.in_ok-begin.ensures.begun in
@@ -171,8 +180,10 @@ returns-clause-intact g c = λ tell points can are.
     let mid : Option Files = g.T.Store.files c.save_nodes.new.store in
     let after : Option Files = g.T.Store.files c.commit.new.store in
     let new : View = c.commit.new.saved in
+    let begun : c.begin.new.saved.current ≡ start.current = ap (λ (v : View). v.current) c.in_ok-begin.ensures.begun in
+    let first = still-gate start.current nodes (next_letter start.current) all (g.T.Store.files c.args.store.now) (g.T.Store.files c.begin.new.store) c.begin.ensures.gate.reads told_all still_all in
     let tiles : Tells (λ all. NameTiles New all nodes now.lines) mid =
-    c.in_ok-save_nodes.ensures.tiles tell in
+    c.in_ok-save_nodes.ensures.tiles tell first.0 first.1 (subst (λ (w : Current). StillAreSame w nodes first.0) (sym begun) first.2) in
     let still : Tells (λ all. NameTiles New all nodes now.lines) after = still-named (next_letter now.current) nodes now.lines mid after c.commit.ensures.names.reads tiles in
     saved-undamaged c.tile_once_law.ensures.once start new c.args.kept.now c.args.counts.now c.args.inserted nodes points can are known after
     (is-saved c.body_once_law.ensures.facts start now same c.args.kept.now c.args.counts.now c.args.inserted nodes valid told new c.in_ok-commit.ensures.current)
