@@ -120,7 +120,7 @@ nothing-needed from kept step all inputs inserted same = record {
 pub goes-either : (view : View) (kept : Kept) (counts : List SourceCount) (inserted : ℕ) (nodes : List Branch) (old new : Files) → HasCurrent view.current old → GoesOn view kept counts inserted nodes old new → HasThisOrNext view.current kept inserted new
 goes-either view kept counts inserted nodes old new has goes = by goes.either
   where
-    by : Keeps view.current old new ⊎ HasNext view kept counts inserted nodes new → HasThisOrNext view.current kept inserted new
+    by : Keeps view.current old new ⊎ HasNext view kept counts inserted nodes old new → HasThisOrNext view.current kept inserted new
     by (inl keeps) = inl (keeps.same has)
     by (inr next) = inr (Some (next_letter view.current, next.next), next.is_current, next.is_next.generation ∙ next-one view.current, next.is_next.inserted_is, next.is_next.kept_is)
 

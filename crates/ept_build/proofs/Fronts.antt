@@ -1,7 +1,8 @@
 -- The first points of some.
-use Rattle.std.proofs.Common.{◌≡◌, ℕ, ◌+◌, List, ◌++◌, length, take, drop, sym, subst, arith}
-use Rattle.std.proofs.lemmas.List.{take-append-drop, take_all, drop-drop}
-use Rattle.std.proofs.lemmas.List.Elements.{All-take}
+use Rattle.std.proofs.Common.{◌≡◌, ◌∙◌, ℕ, ◌+◌, ◌≤◌, List, ◌++◌, length, take, drop, sym, ap, subst, arith}
+use Rattle.std.specs.Prelude.{Contains}
+use Rattle.std.proofs.lemmas.List.{take-append-drop, take-take, take_all, drop-drop}
+use Rattle.std.proofs.lemmas.List.Elements.{All-take, Contains-append_left}
 use Rattle.std.proofs.Math.Seq.{take-add}
 use Rattle.ept_sample.proofs.IdLaws.{count_by-append}
 use Rattle.ept_point.specs.declared.point.Point.{Point}
@@ -17,6 +18,13 @@ front-then n k points = sym (take-add n k points)
 
 pub rest-then : (n k : ℕ) (points : List Point) → drop k (drop n points) ≡ drop (n + k) points
 rest-then n k points = drop-drop k n points
+
+-- some of them are among more
+pub front-among : (n m : ℕ) (points : List Point) → n ≤ m → (p : Point) → Contains (take n points) p → Contains (take m points) p
+front-among n m points more p among =
+    let joined : take n points ++ drop n (take m points) ≡ take m points =
+    ap (λ (w : List Point). w ++ drop n (take m points)) (sym (take-take n m points more)) ∙ take-append-drop n (take m points) in
+    subst (λ (w : List Point). Contains w p) joined (Contains-append_left (take n points) (drop n (take m points)) p among)
 
 front_distinct : (xs ys : List Point) → HasDistinctIds (xs ++ ys) → HasDistinctIds xs
 unfolding HasDistinctIds

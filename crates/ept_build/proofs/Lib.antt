@@ -21,3 +21,4 @@ mod Renewed
 mod Caused
 mod Finished
 mod Spilled
+mod Still

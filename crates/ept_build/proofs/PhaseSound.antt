@@ -25,6 +25,7 @@ use Rattle.ept_save.specs.SoundLaws.{HasNamesOf, KeepingKeepsSound, CommittingKe
 use Rattle.ept_save.specs.View.{View, StandsFor, next_letter}
 use Rattle.ept_save.proofs.NamesDiffer.{done-apart}
 use Rattle.ept_phase.specs.Phase.{IsNext, HasNext, GoesOn}
+use Rattle.ept_phase.specs.Saving.{StillAreSame}
 use Rattle.ept_phase.specs.SavedLaws.{SampledIsSaved}
 use Rattle.ept_plan.specs.declared.plan.Plan.{Plan}
 use Rattle.ept_plan.specs.Plans.{IsOf}
@@ -40,12 +41,12 @@ scan-of shelf plan points c kept counts scan =
     subst (λ (k : Kept). IsScan shelf k.scale (Some k.bounds) k.inputs 0 points (record { counts = c.counts; bounds = k.bounds })) (sym kept)
     (subst (λ (w : List SourceCount). IsScan shelf plan.kept.scale (Some plan.kept.bounds) plan.kept.inputs 0 points (record { counts = w; bounds = plan.kept.bounds })) (sym counts) scan)
 
-module _ (saved : SampledIsSaved) (keeping : KeepingKeepsSound) (committing : CommittingKeepsSound) (shelf : Files) (plan : Plan) (points : List Point) (output : List File) (are : AreOfShelf shelf plan points output) (view : View) (names : HasNamesOf shelf view.current (names_of output)) (inserted : ℕ) (nodes : List Branch) (sampled_nodes : AreSampled (rules_of plan.kept) (take inserted points) nodes) where
-  next_saved : (files : Files) (next : HasNext view plan.kept plan.counts inserted nodes files) → IsSaved shelf files next.next points
-  next_saved files next =
+module _ (saved : SampledIsSaved) (keeping : KeepingKeepsSound) (committing : CommittingKeepsSound) (shelf : Files) (plan : Plan) (points : List Point) (output : List File) (are : AreOfShelf shelf plan points output) (view : View) (names : HasNamesOf shelf view.current (names_of output)) (inserted : ℕ) (nodes : List Branch) (sampled_nodes : AreSampled (rules_of plan.kept) (take inserted points) nodes) (still : (files : Files) → HasCurrent view.current files → IsSound shelf files → StillAreSame view.current nodes files) where
+  next_saved : (old files : Files) (next : HasNext view plan.kept plan.counts inserted nodes old files) → StillAreSame view.current nodes old → IsSaved shelf files next.next points
+  next_saved old files next same =
       let c : Checkpoint = next.next in
       let is : IsNext view plan.kept plan.counts inserted nodes c = next.is_next in
-      let lines : AllZip (IsSavedAs New files) (sampled (rules_of plan.kept) (take inserted points)) c.nodes = saved New (rules_of plan.kept) files (take inserted points) nodes c.nodes sampled_nodes is.told next.tiles in
+      let lines : AllZip (IsSavedAs New files) (sampled (rules_of plan.kept) (take inserted points)) c.nodes = saved New (rules_of plan.kept) files (take inserted points) nodes c.nodes sampled_nodes is.told (next.tiles same) in
       record {
         scan = scan-of shelf plan points c is.kept_is is.counts_are are.scan;
         nodes =
@@ -60,10 +61,10 @@ module _ (saved : SampledIsSaved) (keeping : KeepingKeepsSound) (committing : Co
     undone = λ done. was.undone (sym (goes.apart done_name done-apart) ∙ done);
   }
     where
-      by : Keeps view.current old new ⊎ HasNext view plan.kept plan.counts inserted nodes new → IsSound shelf new
+      by : Keeps view.current old new ⊎ HasNext view plan.kept plan.counts inserted nodes old new → IsSound shelf new
       by (inl keeps) = keeping shelf old new view.current has keeps was.sound
       by (inr next) =
-          committing shelf new old new view.current (next_letter view.current) next.next points output has was.undone (next_saved new next)
+          committing shelf new old new view.current (next_letter view.current) next.next points output has was.undone (next_saved old new next (still old has was.sound))
           (subst (λ (k : Kept). IsOutput k points output) (sym next.is_next.kept_is) are.is_output) names
           (record { either = inr (record { is_current = next.is_current; tiles = λ name named. refl }); apart = goes.apart }) was.sound
 
@@ -97,12 +98,12 @@ stands-at files may_leave moment image_since shelf points output view d reads wa
       undone = way.sound image may;
     })
 
-module _ (saved : SampledIsSaved) (keeping : KeepingKeepsSound) (committing : CommittingKeepsSound) (shelf : Files) (plan : Plan) (points : List Point) (output : List File) (are : AreOfShelf shelf plan points output) (view : View) (inserted : ℕ) (nodes : List Branch) (sampled_nodes : AreSampled (rules_of plan.kept) (take inserted points) nodes) (counts : List SourceCount) (same : counts ≡ plan.counts) {D : Type 0} (files : D → Option Files) (may_leave : D → Files → Type 0) (moment : D → ℕ) (image_since : D → ℕ → Files → Type 0) (old new : D) (reads : Tells (may_leave old) (files old)) (way : IsOnWay shelf points output view (files old) (may_leave old)) (goes : Moves files may_leave moment image_since (GoesOn view plan.kept counts inserted nodes) old new) where
+module _ (saved : SampledIsSaved) (keeping : KeepingKeepsSound) (committing : CommittingKeepsSound) (shelf : Files) (plan : Plan) (points : List Point) (output : List File) (are : AreOfShelf shelf plan points output) (view : View) (inserted : ℕ) (nodes : List Branch) (sampled_nodes : AreSampled (rules_of plan.kept) (take inserted points) nodes) (still : (files : Files) → HasCurrent view.current files → IsSound shelf files → StillAreSame view.current nodes files) (counts : List SourceCount) (same : counts ≡ plan.counts) {D : Type 0} (files : D → Option Files) (may_leave : D → Files → Type 0) (moment : D → ℕ) (image_since : D → ℕ → Files → Type 0) (old new : D) (reads : Tells (may_leave old) (files old)) (way : IsOnWay shelf points output view (files old) (may_leave old)) (goes : Moves files may_leave moment image_since (GoesOn view plan.kept counts inserted nodes) old new) where
   abbrev its_goes : Moves files may_leave moment image_since (GoesOn view plan.kept plan.counts inserted nodes) old new
   its_goes = subst (λ (w : List SourceCount). Moves files may_leave moment image_since (GoesOn view plan.kept w inserted nodes) old new) same goes
 
   step : (a b : Files) → StandsAt shelf view a → GoesOn view plan.kept plan.counts inserted nodes a b → IsSoundUndone shelf b
-  step a b at goes_on = goes-sound saved keeping committing shelf plan points output are view way.names inserted nodes sampled_nodes a b at.has at.undone goes_on
+  step a b at goes_on = goes-sound saved keeping committing shelf plan points output are view way.names inserted nodes sampled_nodes still a b at.has at.undone goes_on
 
   pub phase-moves : Moves files may_leave moment image_since (λ (a b : Files). IsSoundUndone shelf b) old new
   phase-moves = moves-after files may_leave moment image_since (StandsAt shelf view) (GoesOn view plan.kept plan.counts inserted nodes) old new (IsSoundUndone shelf) step (stands-at files may_leave moment image_since shelf points output view old reads way) its_goes

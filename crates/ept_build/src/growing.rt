@@ -28,6 +28,7 @@ use crate::crew::Crew;
 use crate::error::BuildError;
 use crate::progress::{Progress, Stopped};
 use ept_base::{Gate, Shelf, Source, SpillFile, Store};
+use ept_grow::stay_law;
 use ept_insert::{Refused, insert};
 use ept_meta::output_once_law;
 use ept_phase::{save_octree, saved_law};
@@ -246,7 +247,7 @@ where
 }
 
 // Inserts the next `count` records into the octree, and makes this the next checkpoint. The reader is returned in any
-// case.
+// case. `Octree::len` says that the octree has no more nodes than there may be.
 fn phase<S, T, F, G, R>(
     crew: &Crew<R, G>,
     alloc: Global,
@@ -326,7 +327,6 @@ where
         octree,
         inserted,
     } = at;
-    // It has no more nodes than there may be.
     octree.len();
     let (octree, reader) = match insert(
         crew.rt,
@@ -348,6 +348,7 @@ where
     saved_law();
     sound_steps_law();
     output_once_law();
+    stay_law();
     let counts = plan.counts.as_slice();
     match save_octree(
         alloc,

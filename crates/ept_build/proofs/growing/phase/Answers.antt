@@ -21,6 +21,7 @@ use Rattle.ept_build.proofs.PhaseSound.{phase-moves, phase-images, way-sound, na
 use Rattle.ept_build.specs.Reached.{HasThisOrNext, generation_by}
 use Rattle.ept_build.proofs.Counting.{next-one}
 use Rattle.ept_build.proofs.Damage.{kept-damage}
+use Rattle.ept_build.proofs.Still.{sound-still}
 use Rattle.ept_build.proofs.growing.phase.Goals as goal
 
 -- ---- nothing is inserted
@@ -121,11 +122,12 @@ returns-in-Ok-save_octree-clause-on_way g c = λ shelf points output are has way
     let nodes = tree.nodes_of g.F.SpillFile.held c.in-Ok.grown.0 in
     let saved : IsSaved old new plan.kept plan.counts inserted nodes = subst (λ (w : List SourceCount). IsSaved old new plan.kept w inserted nodes) c.as_slice-counts.ensures c.in-Ok-save_octree.ensures.saved in
     let sampled = next-sampled g.F.SpillFile.held g.S.Source.whole plan points n c.args.reader c.args.at.octree c.requires.tree.rules are.can has c.args.count nodes c.in-Ok.ensures.sampled in
+    let still = sound-still c.stay_law.ensures.same shelf plan points are.can old.current c.requires.tree.rules_stay way.first inserted (omega (arith, c.requires.tree.by_checkpoint)) nodes sampled in
     record {
       first = first-of shelf plan points output are new.current (saved-of plan old new inserted nodes saved);
       names = names-of c.output_once_law.ensures.one shelf plan points output are new.current (saved-of plan old new inserted nodes saved);
       stands = c.in-Ok-save_octree.ensures.stands way.stands;
-      sound = phase-images c.saved_law.ensures.saved c.sound_steps_law.ensures.keeping c.sound_steps_law.ensures.committing shelf plan points output are old inserted nodes sampled c.as_slice-counts.result.now c.as_slice-counts.ensures
+      sound = phase-images c.saved_law.ensures.saved c.sound_steps_law.ensures.keeping c.sound_steps_law.ensures.committing shelf plan points output are old inserted nodes sampled still c.as_slice-counts.result.now c.as_slice-counts.ensures
           g.T.Store.files g.T.Store.may_leave g.T.Store.moment g.T.Store.image_since c.args.store.now c.save_octree.new.store (g.met.T.Store.reads_an_image c.args.store.now) way (c.save_octree.ensures.goes_on has.telling way.stands);
     }
 
@@ -135,7 +137,8 @@ returns-in-Ok-save_octree-clause-sound g c = λ shelf points output are has way.
     let n = c.args.at.inserted in
     let nodes = tree.nodes_of g.F.SpillFile.held c.in-Ok.grown.0 in
     let sampled = next-sampled g.F.SpillFile.held g.S.Source.whole plan points n c.args.reader c.args.at.octree c.requires.tree.rules are.can has c.args.count nodes c.in-Ok.ensures.sampled in
-    phase-moves c.saved_law.ensures.saved c.sound_steps_law.ensures.keeping c.sound_steps_law.ensures.committing shelf plan points output are c.args.at.saved (n + c.args.count) nodes sampled c.as_slice-counts.result.now c.as_slice-counts.ensures
+    let still = sound-still c.stay_law.ensures.same shelf plan points are.can c.args.at.saved.current c.requires.tree.rules_stay way.first (n + c.args.count) (omega (arith, c.requires.tree.by_checkpoint)) nodes sampled in
+    phase-moves c.saved_law.ensures.saved c.sound_steps_law.ensures.keeping c.sound_steps_law.ensures.committing shelf plan points output are c.args.at.saved (n + c.args.count) nodes sampled still c.as_slice-counts.result.now c.as_slice-counts.ensures
     g.T.Store.files g.T.Store.may_leave g.T.Store.moment g.T.Store.image_since c.args.store.now c.save_octree.new.store (g.met.T.Store.reads_an_image c.args.store.now) way (c.save_octree.ensures.goes_on has.telling way.stands)
 
 pub returns-in-Err-save_octree-clause-sound : goal.returns-in-Err-save_octree-clause-sound
@@ -144,7 +147,8 @@ returns-in-Err-save_octree-clause-sound g c = λ shelf points output are has way
     let n = c.args.at.inserted in
     let nodes = tree.nodes_of g.F.SpillFile.held c.in-Ok.grown.0 in
     let sampled = next-sampled g.F.SpillFile.held g.S.Source.whole plan points n c.args.reader c.args.at.octree c.requires.tree.rules are.can has c.args.count nodes c.in-Ok.ensures.sampled in
-    phase-moves c.saved_law.ensures.saved c.sound_steps_law.ensures.keeping c.sound_steps_law.ensures.committing shelf plan points output are c.args.at.saved (n + c.args.count) nodes sampled c.as_slice-counts.result.now c.as_slice-counts.ensures
+    let still = sound-still c.stay_law.ensures.same shelf plan points are.can c.args.at.saved.current c.requires.tree.rules_stay way.first (n + c.args.count) (omega (arith, c.requires.tree.by_checkpoint)) nodes sampled in
+    phase-moves c.saved_law.ensures.saved c.sound_steps_law.ensures.keeping c.sound_steps_law.ensures.committing shelf plan points output are c.args.at.saved (n + c.args.count) nodes sampled still c.as_slice-counts.result.now c.as_slice-counts.ensures
     g.T.Store.files g.T.Store.may_leave g.T.Store.moment g.T.Store.image_since c.args.store.now c.save_octree.new.store (g.met.T.Store.reads_an_image c.args.store.now) way (c.save_octree.ensures.goes_on has.telling way.stands)
 
 pub returns-in-Err-save_octree-clause-damaged : goal.returns-in-Err-save_octree-clause-damaged
