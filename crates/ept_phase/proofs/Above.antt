@@ -2,13 +2,12 @@
 use Rattle.std.proofs.Common.{◌≡◌, ◌∙◌, ℕ, ◌<◌, ◌≤◌, ◌-◌, nat_le, Bool, true, false, cond, ◌||◌, ◌&&◌, ◌⊎◌, inl, inr, refl, sym, ap, subst, arith, Ordering, Less, Equal, Greater}
 use Rattle.std.specs.Ordering.{is_eq}
 use Rattle.std.specs.BTreeMap.{is_at}
-use Rattle.std.proofs.lemmas.Bool.{false≢true, cases_lt}
+use Rattle.std.proofs.lemmas.Bool.{cases_lt}
 use Rattle.std.proofs.lemmas.Bool.Decides.{nat_tests}
-use Rattle.ept_space.specs.VoxelKey.{VoxelKey, key_cmp, parent, same_key, is_within}
+use Rattle.ept_space.specs.VoxelKey.{VoxelKey, key_cmp, parent, is_within}
 use Rattle.ept_space.proofs.Family.{depth-parent}
 use Rattle.ept_space.proofs.KeyOrder.{key_cmp-equal, key_cmp-same}
-use Rattle.ept_space.proofs.Within.{same_key-true, same_key-same, is_within-self, is_within-parent, is_within-trans, is_within-unique, is_within-level}
-use Rattle.ept_phase.proofs.Telling.{either}
+use Rattle.ept_space.proofs.Within.{is_within-self, is_within-parent, is_within-trans, is_within-unique, is_within-level}
 
 -- ---- one key in a set
 

@@ -1,5 +1,5 @@
 -- The lines of the current checkpoint one after another, and entries that are put behind those before them.
-use Rattle.std.proofs.Common.{◌≡◌, ◌∙◌, inl, inr, ℕ, zero, suc, ◌+◌, ◌<◌, ◌≤◌, List, [], ◌∷◌, ◌++◌, take, length, get_or, refl, sym, ap, subst, arith, Option, Some, None, Ordering}
+use Rattle.std.proofs.Common.{◌≡◌, ◌∙◌, inl, inr, ℕ, zero, suc, ◌<◌, ◌≤◌, List, [], ◌∷◌, ◌++◌, take, length, get_or, refl, sym, ap, subst, arith, Option, Some, None, Ordering}
 use Rattle.std.specs.Prelude.{IsSome}
 use Rattle.std.specs.List.{AllZip}
 use Rattle.std.specs.Option.{option_map}

@@ -1,5 +1,5 @@
 -- Lines in key order: those of the nodes that were saved, and behind them those of the current checkpoint.
-use Rattle.std.proofs.Common.{◌≡◌, ◌∙◌, Bool, true, false, cond, inl, inr, List, [], ◌∷◌, ◌++◌, refl, sym, ap, subst, Option, Some, None, Ordering}
+use Rattle.std.proofs.Common.{◌≡◌, ◌∙◌, Bool, true, false, cond, inl, inr, List, [], ◌∷◌, refl, sym, ap, subst, Option, Some, None, Ordering}
 use Rattle.std.specs.Prelude.{◌||◌, filter}
 use Rattle.std.specs.List.{cons_option}
 use Rattle.std.specs.declared.cmp.Ordering.TheVariants.{Less, Equal}

@@ -1,4 +1,4 @@
-use Rattle.std.proofs.Common.{◌≡◌, ◌∙◌, List, ap, sym, subst}
+use Rattle.std.proofs.Common.{◌∙◌, List, ap, sym, subst}
 use Rattle.std.specs.Option.{option_copied}
 use Rattle.ept_sample.specs.Members.{IsMember}
 use Rattle.ept_table.specs.Octree.{Branch}
