@@ -43,9 +43,9 @@ use std::alloc::Global;
 /// is gone. A node whose points are in its spill file is read there, and stays there.
 ///
 /// A node is still if the current checkpoint tells of its open octants and number of points, and of those of each node
-/// below. It counts as unchanged: neither its points nor its tile are read, and its line stays. If points only came since
-/// that checkpoint, it is, for each of them stays in the node or below. Had a still node other points than its tile, the
-/// next checkpoint would name that tile all the same. So what is said of tiles holds where still nodes are the same.
+/// below. Neither its points nor its tile are read then, and its line stays. A point that comes to an octree stays in
+/// the node where it arrives or below it, so none has come to a still node. Had one other points than its tile all
+/// the same, the next checkpoint would name that tile. So what is said of tiles holds where still nodes are the same.
 ///
 /// # Errors
 ///

@@ -152,8 +152,8 @@ fn has_points<T: Store>(
     Ok(found.as_slice() == points)
 }
 
-// Saves the nodes of an octree, among which is each that the current checkpoint has. Neither the points nor the tile of a
-// still node are read: its line stays.
+// Saves the nodes of an octree, among which is each that the current checkpoint has. Neither the points nor the tile of
+// a still node are read: its line stays.
 pub(crate) fn save_nodes<T: Store, F: SpillFile>(
     alloc: Global,
     store: &mut T,

@@ -17,8 +17,8 @@ use ept_space::Key;
 use std::alloc::Global;
 use std::collections::BTreeSet;
 
-/// The keys that are not still: at or below each of them is a node of which the current checkpoint does not tell, or tells
-/// other open octants or another number of points. `keys` are those of the nodes. No points are read.
+/// The keys that are not still. At or below each is a node whose open octants and number of points are not those that
+/// the current checkpoint tells of. `keys` are those of the nodes. No points are read.
 pub(crate) fn grown_keys<F: SpillFile>(
     alloc: Global,
     saved: &Saved,
