@@ -1,5 +1,5 @@
 -- Nodes that are still have the points of the tiles that the current checkpoint names for them.
-use Rattle.std.proofs.Common.{◌≡◌, ◌∙◌, ℕ, ◌≤◌, Bool, true, false, inl, inr, List, [], ◌∷◌, length, take, refl, sym, ap, subst, arith, Option, Some, None}
+use Rattle.std.proofs.Common.{◌≡◌, ◌∙◌, ℕ, ◌≤◌, true, false, inl, inr, List, [], ◌∷◌, length, take, refl, sym, ap, subst, Option, Some, None}
 use Rattle.std.specs.Prelude.{Contains, IsSomeAnd}
 use Rattle.std.specs.List.{AllZip}
 use Rattle.ept_base.specs.Files.{Files}
@@ -16,7 +16,7 @@ use Rattle.ept_sample.specs.Sampling.{sampling, is_node}
 use Rattle.ept_sample.specs.SamplingLaws.{CanBeSampled}
 use Rattle.ept_sample.proofs.Choices.{either, not_both}
 use Rattle.ept_sample.proofs.Members.{IsMember-map, member-map, IsMember-contains, contains-IsMember}
-use Rattle.ept_sample.proofs.MorePoints.{AreAmong, is_node-among}
+use Rattle.ept_sample.proofs.MorePoints.{is_node-among}
 use Rattle.ept_sample.proofs.NodeLaws.{node_keys-IsMember}
 use Rattle.ept_sample.proofs.SamplingLaws.{IsMember-sampling, is_node-given}
 use Rattle.ept_ckpt.specs.declared.letter.Letter.{Letter}
