@@ -1,6 +1,6 @@
 //! Room for cells, and the heads of their columns.
 
-ghost use Rattle.std.specs.Prelude.{◌≡◌, ◌⊎◌, [], ◌<◌, ◌≤◌, ◌-◌, ◌*◌, ◌^◌, ℕ, min, length, slice_index, vec_capacity, OnOk, OnErr};
+ghost use Rattle.std.specs.Prelude.{◌≡◌, ◌⊎◌, [], ◌<◌, ◌≤◌, ◌-◌, ◌*◌, ◌^◌, ℕ, min, length, slice_index, vec_len, vec_capacity, OnOk, OnErr};
 ghost use Rattle.ept_grid.specs.Columns.{spots_of, nexts_of, IsChained};
 
 use crate::pool::Cell;
@@ -49,7 +49,18 @@ pub(crate) fn make_cells(
         return Err(Memory);
     }
     make_heads(rules, heads)?;
-    cells.reserve(more)?;
+    make_room_for(cells, more)
+}
+
+/// Makes room in a list for so many more items, which stay as they are, whatever the answer. A list without that room
+/// gets just this much, and an eighth of its length at least: it is moved rarely, and has little room that it does not use.
+pub(crate) fn make_room_for<T>(list: &mut Vec<T>, more: usize) -> Result<(), Memory>
+    ensures room { OnOk result (more ≤ vec_capacity list.new - vec_len list.new) }
+    ensures items { list.new.items ≡ list.old.items }
+{
+    if list.capacity() - list.len() < more {
+        list.reserve_exact(more.max(list.len() / 8))?;
+    }
     Ok(())
 }
 

@@ -4,6 +4,7 @@ ghost use Rattle.std.specs.Prelude.{◌≡◌, ◌≢◌, ◌<◌, ◌≤◌, �
 ghost use Rattle.ept_point.specs.declared.point.Point as at;
 ghost use Rattle.ept_sample.specs.Ids.{HasDistinctIds, in_id_order};
 
+use crate::making::make_room_for;
 use ept_point::{Memory, Point, PointId};
 use std::alloc::Global;
 use std::marker::Model;
@@ -47,8 +48,7 @@ impl Lane {
         ensures points { self.new.points ≡ self.old.points }
         ensures room { OnOk result (more ≤ self.new.room) }
     {
-        self.points.reserve(more)?;
-        Ok(())
+        make_room_for(&mut self.points, more)
     }
 
     // Adds a point, which takes no memory.

@@ -14,7 +14,7 @@ use crate::writing::{part, write_ids, write_key, write_refusal};
 use ept_base::SpillFile;
 use ept_grid::{Grid, GridError, Outgoing};
 use ept_mem::MemSpill;
-use ept_node::{Node, NodeError, NodeState, Workspace};
+use ept_node::{Node, NodeError, NodeState};
 use ept_point::Point;
 use ept_sample::ids_ascend;
 use ept_space::{Key, Rules};
@@ -255,14 +255,14 @@ fn spill<F: SpillFile>(alloc: Global, node: &mut Node<F>, out: &mut String) -> R
     if node.state() != NodeState::Resident {
         return Err(Miss::Form);
     }
-    write_outcome(node.spill(alloc, &mut Workspace::new(alloc)), out)
+    write_outcome(node.spill(alloc), out)
 }
 
 fn reload<F: SpillFile>(alloc: Global, node: &mut Node<F>, out: &mut String) -> Result<(), Miss> {
     if node.state() != NodeState::Spilled {
         return Err(Miss::Form);
     }
-    write_outcome(node.reload(alloc, &mut Workspace::new(alloc)), out)
+    write_outcome(node.reload(alloc), out)
 }
 
 // The points of a node in memory or in its file.

@@ -174,13 +174,12 @@ module _ (filed : Filed) (bytes : List ℕ) (long : length bytes ≡ packed_widt
         place = ap (λ (w : List Point). place_of w fault) (sym is) ∙ place;
       }))
 
-  -- the points are listed without a node
-  pub tile-listed : (points : List Point) → points ≡ read → AllInBox filed.site.rules.cube filed.site.key points → AreFiled filed bytes points
-  tile-listed points is inside = record {
+  -- the points that were read
+  pub tile-read-in : (points : List Point) → points ≡ read → AreFiled filed bytes points
+  tile-read-in points is = record {
     bytes_are = reads.0 ∙ ap tile (sym is);
     count = counted ∙ ap (λ (w : List Point). length w) (sym is);
     ascend = subst (λ (w : List Point). IsAscending w) (sym is) reads.1;
-    inside = inside;
   }
 
   -- the first point outside the box is what is wrong
@@ -205,19 +204,19 @@ module _ (filed : Filed) (bytes : List ℕ) (long : length bytes ≡ packed_widt
 
 -- ---- points that are listed without a node
 
-pub listed-alike : (filed : Filed) (bytes : List ℕ) (points before after : List Point) → AreFiled filed bytes points → after ≡ before ++ points → (told : Option (List ℕ)) → AppendsAlike (filed_node told filed) before after
-listed-alike filed bytes points before after has grows told = record {
+pub listed-alike : (filed : Filed) (bytes : List ℕ) (points before after : List Point) → AreFiled filed bytes points → AllInBox filed.site.rules.cube filed.site.key points → after ≡ before ++ points → (told : Option (List ℕ)) → AppendsAlike (filed_node told filed) before after
+listed-alike filed bytes points before after has inside grows told = record {
   added = points;
   grows = grows;
   count = sym has.count ∙ sym (length-told filed.site.rules.cube filed.site.key filed.count (unwrap_or told []));
   in_order = ascending-in_order points has.ascend;
-  inside = has.inside;
+  inside = inside;
 }
 
-pub listed-told : (filed : Filed) (told : Option (List ℕ)) (bytes : List ℕ) (points before after : List Point) → AreFiled filed bytes points → Tells (λ held. held ≡ bytes) told → after ≡ before ++ points → Tells (λ _. after ≡ before ++ (filed_node told filed).points) told
-listed-told filed None bytes points before after has tells grows = tt
-listed-told filed (Some held) bytes points before after has tells grows =
-    grows ∙ ap (λ (w : List Point). before ++ w) (sym (tile-told filed.site.rules.cube filed.site.key filed.count held points (tells ∙ has.bytes_are) has.count has.inside (ascending-in_order points has.ascend)))
+pub listed-told : (filed : Filed) (told : Option (List ℕ)) (bytes : List ℕ) (points before after : List Point) → AreFiled filed bytes points → AllInBox filed.site.rules.cube filed.site.key points → Tells (λ held. held ≡ bytes) told → after ≡ before ++ points → Tells (λ _. after ≡ before ++ (filed_node told filed).points) told
+listed-told filed None bytes points before after has inside tells grows = tt
+listed-told filed (Some held) bytes points before after has inside tells grows =
+    grows ∙ ap (λ (w : List Point). before ++ w) (sym (tile-told filed.site.rules.cube filed.site.key filed.count held points (tells ∙ has.bytes_are) has.count inside (ascending-in_order points has.ascend)))
 
 -- of the node that the label shows
 pub shown-alike : (filed : Filed) (told : Option (List ℕ)) (old : Node) (before after : List Point) → filed_node told filed ≡ old → AppendsAlike (filed_node told filed) before after → AppendsAlike old before after

@@ -7,6 +7,7 @@ ghost use Rattle.ept_base.specs.Files.{Tells};
 ghost use Rattle.ept_point.specs.Packed.{tile};
 ghost use Rattle.ept_point.specs.Dimensions.{packed_width};
 ghost use Rattle.ept_sample.specs.Ids.{HasDistinctIds};
+ghost use Rattle.ept_sample.specs.Place.{AllInBox};
 ghost use Rattle.ept_grid.specs.Node.{IsInIdOrder};
 ghost use Rattle.ept_node.specs.declared.error.NodeError.TheVariants.{SpillFault, SpillDamaged, Memory};
 ghost use Rattle.ept_node.specs.Shown.{bare, filed_node, IsTileOf, DoesTell};
@@ -16,7 +17,6 @@ ghost use Rattle.ept_node.specs.Damage.{IsDamaged, IsWrongAt};
 use crate::body::boxed;
 use crate::error::NodeError;
 use crate::site::{Filed, Site};
-use crate::workspace::Workspace;
 use ept_base::{PutError, SpillFile};
 use ept_grid::{Grid, GridError, Lists, first_outside};
 use ept_point::{
@@ -28,7 +28,6 @@ use std::alloc::Global;
 /// Puts the points of a node into a file, as the bytes of its tile. It answers what stays in memory.
 pub(crate) fn keep_grid<F: SpillFile>(
     alloc: Global,
-    workspace: &mut Workspace,
     file: &mut F,
     grid: &Grid,
 ) -> Result<Box<Filed>, NodeError>
@@ -43,35 +42,27 @@ pub(crate) fn keep_grid<F: SpillFile>(
     ensures at_most_once { (F.keeps file.new ≡ counts_on (F.keeps file.old) 1) ⊎ (F.keeps file.new ≡ F.keeps file.old) }
     ensures cause { HasCauseOf SpillFault (F.faults file.old) (F.faults file.new) result }
 {
-    let (filed, bytes) = pack_grid(alloc, workspace, grid)?;
+    let (filed, bytes) = pack_grid(alloc, grid)?;
     grid.known();
     match file.keep(bytes.as_slice()) {
-        Ok(()) => {
-            workspace.keep_bytes(bytes);
-            Ok(filed)
-        }
+        Ok(()) => Ok(filed),
         Err(PutError::Failed) => Err(NodeError::SpillFault),
         Err(PutError::Memory) => Err(NodeError::Memory),
     }
 }
 
 // What stays in memory of a node whose points go to its file, and the bytes that go there: its tile.
-fn pack_grid(
-    alloc: Global,
-    workspace: &mut Workspace,
-    grid: &Grid,
-) -> Result<(Box<Filed>, Vec<u8>), NodeError>
+fn pack_grid(alloc: Global, grid: &Grid) -> Result<(Box<Filed>, Vec<u8>), NodeError>
     ensures label { IfOk result (λ made. IsLabelOf grid.now made.0.value) }
     ensures bytes { IfOk result (λ made. made.1.items ≡ tile grid.now.points) }
     ensures in_order { IsInIdOrder grid.now.points }
     ensures only { IfErr result (λ e. e ≡ Memory) }
 {
-    let mut points = workspace.take_points(alloc);
+    let mut points = Vec::new(alloc);
     grid.points_into(&mut points)?;
-    let mut bytes = workspace.take_bytes(alloc);
+    let mut bytes = Vec::with_capacity(alloc, points.len().saturating_mul(PACKED_LENGTH))?;
     tile_bytes(points.as_slice(), &mut bytes)?;
     let filed = label(grid, points.len() as u64, bytes.as_slice());
-    workspace.keep_points(points);
     Ok((Box::new(alloc, filed)?, bytes))
 }
 
@@ -99,7 +90,6 @@ fn label(grid: &Grid, count: u64, bytes: &[u8]) -> Filed
 /// The node whose points a file gives back. The file holds what it held.
 pub(crate) fn load_grid<F: SpillFile>(
     alloc: Global,
-    workspace: &mut Workspace,
     file: &mut F,
     filed: &Filed,
 ) -> Result<Box<Grid>, NodeError>
@@ -119,9 +109,8 @@ pub(crate) fn load_grid<F: SpillFile>(
     tile_length_law();
     tile_once_law();
     filed.known();
-    let bytes = load_bytes(alloc, workspace, file, filed)?;
-    let grid = grid_of_bytes(alloc, workspace, filed, bytes.as_slice())?;
-    workspace.keep_bytes(bytes);
+    let bytes = load_bytes(alloc, file, filed)?;
+    let grid = grid_of_bytes(alloc, filed, bytes)?;
     Ok(boxed(alloc, grid)?)
 }
 
@@ -163,37 +152,25 @@ pub(crate) fn append_filed<F: SpillFile>(
     tile_length_law();
     tile_once_law();
     filed.known();
-    let mut workspace = Workspace::new(alloc);
-    let bytes = load_bytes(alloc, &mut workspace, file, filed)?;
-    let mut points = points_of_bytes(alloc, &mut workspace, filed, bytes.as_slice())?;
+    let bytes = load_bytes(alloc, file, filed)?;
+    let mut points = points_in_box(alloc, filed, bytes)?;
     out.append(&mut points)?;
     Ok(())
 }
 
 // The points whose tile these bytes are, where each lies in the box of the node.
-fn points_of_bytes(
-    alloc: Global,
-    workspace: &mut Workspace,
-    filed: &Filed,
-    bytes: &[u8],
-) -> Result<Vec<Point>, NodeError>
-    requires { length bytes.now ≡ packed_width * filed.now.count }
-    ensures points { IfOk result (λ points. AreFiled filed.now bytes.now points.items) }
+fn points_in_box(alloc: Global, filed: &Filed, bytes: Vec<u8>) -> Result<Vec<Point>, NodeError>
+    requires { length bytes.items ≡ packed_width * filed.now.count }
+    ensures points { IfOk result (λ points. AreFiled filed.now bytes.items points.items) }
+    ensures inside { IfOk result (λ points. AllInBox filed.now.site.rules.cube filed.now.site.key points.items) }
     ensures wrong { IfErr result (λ e. (kept found at : ℕ) → e ≡ SpillDamaged kept found at
-        → (kept ≡ length bytes.now) × (found ≡ kept)
-        × ((told : Option (List ℕ)) → IsWrongAt (filed_node told filed.now) at bytes.now)) }
+        → (kept ≡ length bytes.items) × (found ≡ kept)
+        × ((told : Option (List ℕ)) → IsWrongAt (filed_node told filed.now) at bytes.items)) }
     ensures only { IfErr result (λ e. e ≢ SpillFault) }
 {
     tile_length_law();
     filed.known();
-    let mut points = workspace.take_points(alloc);
-    match read_tile(bytes, &mut points) {
-        Ok(()) => {}
-        Err(TileError::Length) => unreachable!(),
-        Err(TileError::Field { at }) => return Err(damaged_at(filed, at)),
-        Err(TileError::Order { at }) => return Err(damaged_at(filed, at)),
-        Err(TileError::Memory) => return Err(NodeError::Memory),
-    }
+    let points = points_of_bytes(alloc, filed, bytes)?;
     let site = &filed.site;
     match first_outside(&site.key, &site.rules, points.as_slice()) {
         Some(at) => Err(damaged_at(filed, at as u64)),
@@ -201,10 +178,29 @@ fn points_of_bytes(
     }
 }
 
+// The points whose tile these bytes are. The bytes are gone when it returns.
+fn points_of_bytes(alloc: Global, filed: &Filed, bytes: Vec<u8>) -> Result<Vec<Point>, NodeError>
+    requires { length bytes.items ≡ packed_width * filed.now.count }
+    ensures points { IfOk result (λ points. AreFiled filed.now bytes.items points.items) }
+    ensures wrong { IfErr result (λ e. (kept found at : ℕ) → e ≡ SpillDamaged kept found at
+        → (kept ≡ length bytes.items) × (found ≡ kept)
+        × ((told : Option (List ℕ)) → IsWrongAt (filed_node told filed.now) at bytes.items)) }
+    ensures only { IfErr result (λ e. e ≢ SpillFault) }
+{
+    tile_length_law();
+    let mut points = Vec::new(alloc);
+    match read_tile(bytes.as_slice(), &mut points) {
+        Ok(()) => Ok(points),
+        Err(TileError::Length) => unreachable!(),
+        Err(TileError::Field { at }) => Err(damaged_at(filed, at)),
+        Err(TileError::Order { at }) => Err(damaged_at(filed, at)),
+        Err(TileError::Memory) => Err(NodeError::Memory),
+    }
+}
+
 // The bytes of a node's tile, as many as the file has kept.
 fn load_bytes<F: SpillFile>(
     alloc: Global,
-    workspace: &mut Workspace,
     file: &mut F,
     filed: &Filed,
 ) -> Result<Vec<u8>, NodeError>
@@ -219,7 +215,7 @@ fn load_bytes<F: SpillFile>(
 {
     layout_law();
     let kept = PACKED_LENGTH * filed.count as usize;
-    let mut bytes = workspace.take_bytes(alloc);
+    let mut bytes = Vec::new(alloc);
     bytes.resize(kept, 0)?;
     let found = file.load(bytes.as_mut_slice())?;
     if found != kept {
@@ -232,37 +228,22 @@ fn load_bytes<F: SpillFile>(
     Ok(bytes)
 }
 
-// The node of a key, count and open octants whose tile these bytes are.
-fn grid_of_bytes(
-    alloc: Global,
-    workspace: &mut Workspace,
-    filed: &Filed,
-    bytes: &[u8],
-) -> Result<Grid, NodeError>
-    requires { length bytes.now ≡ packed_width * filed.now.count }
+// The node of a key, count and open octants whose tile these bytes are. The bytes are gone before the node is made.
+fn grid_of_bytes(alloc: Global, filed: &Filed, bytes: Vec<u8>) -> Result<Grid, NodeError>
+    requires { length bytes.items ≡ packed_width * filed.now.count }
     ensures fits { IfOk result (FitsLabel filed.now) }
-    ensures bytes { IfOk result (λ grid. bytes.now ≡ tile grid.points) }
+    ensures bytes { IfOk result (λ grid. bytes.items ≡ tile grid.points) }
     ensures wrong { IfErr result (λ e. (kept found at : ℕ) → e ≡ SpillDamaged kept found at
-        → (kept ≡ length bytes.now) × (found ≡ kept)
-        × ((told : Option (List ℕ)) → IsWrongAt (filed_node told filed.now) at bytes.now)) }
+        → (kept ≡ length bytes.items) × (found ≡ kept)
+        × ((told : Option (List ℕ)) → IsWrongAt (filed_node told filed.now) at bytes.items)) }
     ensures only { IfErr result (λ e. e ≢ SpillFault) }
 {
     tile_length_law();
-    let mut points = workspace.take_points(alloc);
-    match read_tile(bytes, &mut points) {
-        Ok(()) => {}
-        Err(TileError::Length) => unreachable!(),
-        Err(TileError::Field { at }) => return Err(damaged_at(filed, at)),
-        Err(TileError::Order { at }) => return Err(damaged_at(filed, at)),
-        Err(TileError::Memory) => return Err(NodeError::Memory),
-    }
+    let points = points_of_bytes(alloc, filed, bytes)?;
     let site = &filed.site;
     let lists = Lists::new(alloc);
     match Grid::from_tile(lists, site.key, &site.rules, filed.mask, points.as_slice()) {
-        Ok(grid) => {
-            workspace.keep_points(points);
-            Ok(grid)
-        }
+        Ok(grid) => Ok(grid),
         Err(GridError::Outside { at }) => Err(damaged_at(filed, at)),
         Err(GridError::OpenLoser { at }) => Err(damaged_at(filed, at)),
         Err(GridError::TooMany { octant: _octant }) => Err(damaged_at(filed, filed.count)),

@@ -10,9 +10,7 @@ mod node;
 mod site;
 mod spilling;
 mod state;
-mod workspace;
 
 pub use error::NodeError;
 pub use node::Node;
 pub use state::NodeState;
-pub use workspace::Workspace;

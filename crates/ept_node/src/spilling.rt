@@ -19,7 +19,6 @@ use crate::body::Body;
 use crate::error::NodeError;
 use crate::filing::{append, append_filed, keep_grid, load_grid};
 use crate::node::Node;
-use crate::workspace::Workspace;
 use ept_base::SpillFile;
 use ept_point::Point;
 use std::alloc::Global;
@@ -33,7 +32,7 @@ impl<F: SpillFile> Node<F> {
     ///
     /// `SpillFault` where the file fails: the node is broken then, and its points stay in memory. After `Memory` the node is
     /// as it was, and the file holds what it held.
-    pub fn spill(&mut self, alloc: Global, workspace: &mut Workspace) -> Result<(), NodeError>
+    pub fn spill(&mut self, alloc: Global) -> Result<(), NodeError>
         requires { state_of self.old ≡ Resident }
         ensures ok { OnOk result (state_of self.new ≡ Spilled) }
 
@@ -68,7 +67,7 @@ impl<F: SpillFile> Node<F> {
         let Body::Resident(grid) = &self.body else {
             unreachable!()
         };
-        match keep_grid(alloc, workspace, &mut self.file, grid) {
+        match keep_grid(alloc, &mut self.file, grid) {
             Ok(filed) => {
                 self.body = Body::Spilled(filed);
                 Ok(())
@@ -105,7 +104,7 @@ impl<F: SpillFile> Node<F> {
     ///
     /// `SpillFault` where the file fails, and `SpillDamaged` where it gives back other bytes than those of a tile that fits the
     /// node: the node is broken then. After `Memory` the node is as it was.
-    pub fn reload(&mut self, alloc: Global, workspace: &mut Workspace) -> Result<(), NodeError>
+    pub fn reload(&mut self, alloc: Global) -> Result<(), NodeError>
         requires { state_of self.old ≡ Spilled }
         ensures ok { OnOk result (state_of self.new ≡ Resident) }
 
@@ -140,7 +139,7 @@ impl<F: SpillFile> Node<F> {
         let Body::Spilled(filed) = &self.body else {
             unreachable!()
         };
-        match load_grid(alloc, workspace, &mut self.file, filed) {
+        match load_grid(alloc, &mut self.file, filed) {
             Ok(grid) => {
                 self.body = Body::Resident(grid);
                 Ok(())

@@ -16,7 +16,7 @@ use crate::error::AddError;
 use crate::octree::Octree;
 use ept_base::SpillFile;
 use ept_grid::GridError;
-use ept_node::{Node, NodeError, Workspace};
+use ept_node::{Node, NodeError};
 use ept_point::Point;
 use ept_space::{Key, Rules};
 use std::alloc::Global;
@@ -212,7 +212,7 @@ fn put_away<F: SpillFile>(node: &mut Node<F>, alloc: Global) -> Result<(), AddEr
     ensures spill { result ≡ Err AddError.SpillFault → 0 < F.faults (file_of node.new) }
     ensures agrees { AgreesWithFile F.held F.faults F.keeps node.new }
 {
-    match node.spill(alloc, &mut Workspace::new(alloc)) {
+    match node.spill(alloc) {
         Ok(()) => Ok(()),
         Err(NodeError::SpillFault) => Err(AddError::SpillFault),
         Err(NodeError::Memory) => Err(AddError::Memory),

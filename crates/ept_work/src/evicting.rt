@@ -15,7 +15,7 @@ use crate::error::WorkError;
 use crate::visit::node_in;
 use crate::worker::Worker;
 use ept_base::{Source, SpillFile};
-use ept_node::{Node, NodeError, NodeState, Workspace};
+use ept_node::{Node, NodeError, NodeState};
 use ept_table::{Done, Item, NodeTable, Scan};
 use std::alloc::Global;
 use std::sync::Wait;
@@ -68,7 +68,7 @@ impl<F: SpillFile, S: Source> Worker<F, S> {
     }
 
     // Lets the node whose turn it is go to its file, if it is free and in memory, and keeps its permit. Answers whether it
-    // has gone. Its lists are given up: a node that came back in them would keep their room, however few points it has.
+    // has gone.
     fn evict<J: Scan>(
         &mut self,
         alloc: Global,
@@ -89,23 +89,14 @@ impl<F: SpillFile, S: Source> Worker<F, S> {
         let Some(item) = table.try_take(&mut self.seat, slot) else {
             return Ok(false);
         };
-        let Evicted { node, answer } = put_in_file::<F, J>(
-            alloc,
-            &mut self.workspace,
-            node_in(item),
-        );
+        let Evicted { node, answer } = put_in_file::<F, J>(alloc, node_in(item));
         let _done = table.give(&mut self.seat, slot, Item::Node(node), Done::Nothing);
-        self.workspace = Workspace::new(alloc);
         Ok(answer?)
     }
 }
 
 // Lets a resident node go to its file. Any other one stays, and a broken one is refused with its fault.
-fn put_in_file<F: SpillFile, J: Scan>(
-    alloc: Global,
-    workspace: &mut Workspace,
-    mut node: Node<F>,
-) -> Evicted<F>
+fn put_in_file<F: SpillFile, J: Scan>(alloc: Global, mut node: Node<F>) -> Evicted<F>
     requires { IsFiledNode F.held F.faults F.keeps J.told node }
     ensures stays { StaysAlike J.told (seen_node F.held node) (seen_node F.held result.node) }
     ensures filed { IsFiledNode F.held F.faults F.keeps J.told result.node }
@@ -129,7 +120,7 @@ fn put_in_file<F: SpillFile, J: Scan>(
             answer: Ok(false),
         };
     }
-    let answer = node.spill(alloc, workspace);
+    let answer = node.spill(alloc);
     node.known();
     Evicted {
         node,

@@ -18,7 +18,7 @@ use crate::error::WorkError;
 use crate::visit::{Visit, node_in, permit_back};
 use crate::worker::Worker;
 use ept_base::{Source, SpillFile};
-use ept_node::{Node, NodeError, NodeState, Workspace};
+use ept_node::{Node, NodeError, NodeState};
 use ept_space::{Key, Rules};
 use ept_table::{Done, Item, NodeTable, Scan};
 use std::alloc::Global;
@@ -111,14 +111,7 @@ impl<F: SpillFile, S: Source> Worker<F, S> {
         }
         let has_permit = self.permit_for(rt, alloc, table, slot)?;
         let node = node_in(table.take(rt, &mut self.seat, slot));
-        match readied::<F, J>(
-            alloc,
-            &mut self.workspace,
-            node,
-            key,
-            table.rules(),
-            has_permit,
-        ) {
+        match readied::<F, J>(alloc, node, key, table.rules(), has_permit) {
             Ok(ready) => {
                 let Ready {
                     node,
@@ -174,7 +167,6 @@ impl<F: SpillFile, S: Source> Worker<F, S> {
 // file. The latter two want a permit. Or the node stays where it is.
 fn readied<F: SpillFile, J: Scan>(
     alloc: Global,
-    workspace: &mut Workspace,
     mut node: Node<F>,
     key: Key,
     rules: &Rules,
@@ -222,7 +214,7 @@ fn readied<F: SpillFile, J: Scan>(
             })
         }
         NodeState::Spilled => Ok(Ready {
-            node: reloaded::<F, J>(alloc, workspace, node)?,
+            node: reloaded::<F, J>(alloc, node)?,
             was_blank: false,
             spends: true,
         }),
@@ -230,11 +222,7 @@ fn readied<F: SpillFile, J: Scan>(
 }
 
 // A node with its points back from its file. Or it stays there.
-fn reloaded<F: SpillFile, J: Scan>(
-    alloc: Global,
-    workspace: &mut Workspace,
-    mut node: Node<F>,
-) -> Result<Node<F>, Stays<F>>
+fn reloaded<F: SpillFile, J: Scan>(alloc: Global, mut node: Node<F>) -> Result<Node<F>, Stays<F>>
     requires spilled { state_of node ≡ Spilled }
     requires filed { IsFiledNode F.held F.faults F.keeps J.told node }
     requires different { J.told.tells ≡ true → HasDistinctIds (node_of F.held node).points }
@@ -247,7 +235,7 @@ fn reloaded<F: SpillFile, J: Scan>(
     ensures why { IfErr result (λ it. it.why ≢ None) }
     ensures reason { IfErr result (λ it. fault_of it.node ≡ breaking it.why) }
 {
-    match node.reload(alloc, workspace) {
+    match node.reload(alloc) {
         Ok(()) => {
             node.known();
             Ok(node)

@@ -25,7 +25,6 @@ use crate::victims::Victims;
 use ept_base::{Source, SpillFile};
 use ept_core::Flight;
 use ept_grid::Outgoing;
-use ept_node::Workspace;
 use ept_point::{List, Point};
 use ept_scan::{ReadError, Reader};
 use ept_space::Key;
@@ -48,8 +47,6 @@ pub struct Worker<F, S> {
     // The points that leave a node while a flight arrives at it, and the flights in which they go on.
     pub(crate) out: Outgoing,
     pub(crate) fresh: Vec<Carried>,
-    // What nodes use again on their way into their files and back.
-    pub(crate) workspace: Workspace,
     // The nodes that go to their files next, and whether one had to.
     pub(crate) victims: Victims,
     pub(crate) is_short: bool,
@@ -80,7 +77,6 @@ impl<F: SpillFile, S: Source> Worker<F, S> {
             number,
             out: Outgoing::new(alloc),
             fresh: Vec::new(alloc),
-            workspace: Workspace::new(alloc),
             victims: Victims::new(alloc),
             is_short: false,
             round: LEAST_ROUND,
@@ -100,7 +96,6 @@ impl<F: SpillFile, S: Source> Worker<F, S> {
             number: _number,
             out: _out,
             fresh: _fresh,
-            workspace: _workspace,
             victims: _victims,
             is_short: _is_short,
             round: _round,

@@ -1,5 +1,4 @@
-use Rattle.std.proofs.Common.{◌≡◌, ◌∙◌, ℕ, ◌*◌, List, Err, sym, ap, subst, length}
-use Rattle.ept_base.specs.Files.{Tells}
+use Rattle.std.proofs.Common.{◌≡◌, ◌∙◌, ℕ, ◌*◌, Err, sym, ap}
 use Rattle.ept_point.specs.Dimensions.{packed_width}
 use Rattle.ept_node.specs.declared.error.NodeError.{NodeError}
 use Rattle.ept_node.specs.declared.error.NodeError.TheVariants.{SpillDamaged}
@@ -20,18 +19,18 @@ pub returns-in_err-points-clause-intact : goal.returns-in_err-points-clause-inta
 returns-in_err-points-clause-intact g c = λ tells distinct. (
     let told = g.F.SpillFile.held c.args.file.now in
     let node = filed_node told c.args.filed.now in
-    let bytes = c.as_slice.result.now in
+    let bytes = c.in_ok-bytes.bytes.items in
     intact-told c.tile_once_law.ensures.once c.tile_length_law.ensures.length node told (λ kept found at. c.from_residual-in_err-points.result ≡ Err (SpillDamaged kept found at))
     (λ once. c.known.ensures.ascend told once)
-    (λ kept found at is. (let wrong = c.in_err-points.ensures.wrong kept found at (handed-on c.from_residual-in_err-points.result c.in_err-points.field-0.0 (SpillDamaged kept found at) c.from_residual-in_err-points.ensures.1 is) in wrong.0 ∙ (ap (λ (w : List ℕ). length w) c.as_slice.ensures.value ∙ (c.in_ok-bytes.ensures.length ∙ ap (λ (n : ℕ). packed_width * n) (sym (c.known.ensures.count told))))))
-    (λ kept found at is. (let wrong = c.in_err-points.ensures.wrong kept found at (handed-on c.from_residual-in_err-points.result c.in_err-points.field-0.0 (SpillDamaged kept found at) c.from_residual-in_err-points.ensures.1 is) in damaged-told node told bytes kept found at (subst (λ (w : List ℕ). Tells (λ held. held ≡ w) told) (sym c.as_slice.ensures.value) c.in_ok-bytes.ensures.bytes) wrong.0 wrong.1 (wrong.2 told)))
+    (λ kept found at is. (let wrong = c.in_err-points.ensures.wrong kept found at (handed-on c.from_residual-in_err-points.result c.in_err-points.field-0.0 (SpillDamaged kept found at) c.from_residual-in_err-points.ensures.1 is) in wrong.0 ∙ (c.in_ok-bytes.ensures.length ∙ ap (λ (n : ℕ). packed_width * n) (sym (c.known.ensures.count told)))))
+    (λ kept found at is. (let wrong = c.in_err-points.ensures.wrong kept found at (handed-on c.from_residual-in_err-points.result c.in_err-points.field-0.0 (SpillDamaged kept found at) c.from_residual-in_err-points.ensures.1 is) in damaged-told node told bytes kept found at c.in_ok-bytes.ensures.bytes wrong.0 wrong.1 (wrong.2 told)))
     tells distinct)
 
 pub returns-clause-told : goal.returns-clause-told
 returns-clause-told g c =
     let told = g.F.SpillFile.held c.args.file.now in
-    listed-told c.args.filed.now told c.as_slice.result.now c.in_ok-points.points.items c.args.out.now.items c.append.new.self.items c.in_ok-points.ensures.points (subst (λ (w : List ℕ). Tells (λ held. held ≡ w) told) (sym c.as_slice.ensures.value) c.in_ok-bytes.ensures.bytes) c.in_ok-append.ensures.items
+    listed-told c.args.filed.now told c.in_ok-bytes.bytes.items c.in_ok-points.points.items c.args.out.now.items c.append.new.self.items c.in_ok-points.ensures.points c.in_ok-points.ensures.inside c.in_ok-bytes.ensures.bytes c.in_ok-append.ensures.items
 
 pub returns-clause-appended : goal.returns-clause-appended
 returns-clause-appended g c =
-    listed-alike c.args.filed.now c.as_slice.result.now c.in_ok-points.points.items c.args.out.now.items c.append.new.self.items c.in_ok-points.ensures.points c.in_ok-append.ensures.items
+    listed-alike c.args.filed.now c.in_ok-bytes.bytes.items c.in_ok-points.points.items c.args.out.now.items c.append.new.self.items c.in_ok-points.ensures.points c.in_ok-points.ensures.inside c.in_ok-append.ensures.items
