@@ -4,8 +4,8 @@ ghost use Rattle.ept_base.specs.Files.{SameBut, Puts, Removes, Tells, StepsBy};
 use crate::path_disk::PathDisk;
 use ept_base::{Failed, GetError};
 use std::alloc::Global;
-use std::fs;
-use std::io::{self, ErrorKind, Read};
+use std::fs::{self, OpenFile, OpenOptions};
+use std::io::{self, ErrorKind, Read, Write};
 use std::path::Path;
 use std::rt::Files;
 
@@ -32,14 +32,35 @@ pub(crate) fn read_file(files: &impl Files, alloc: Global, path: &str) -> io::Re
 
 /// Writes the whole of a file, and makes the folders that its path needs.
 pub(crate) fn write_file(files: &impl Files, path: &str, bytes: &[u8]) -> io::Result<()> {
-    match fs::write(files, path, bytes) {
+    let mut how = OpenOptions::new();
+    how.write(true).create(true).truncate(true);
+    open_to_write(files, path, &how)?.write_all(bytes)
+}
+
+/// Writes the whole of a file as [`write_file`] does, over what it has. A file system may begin to write a file to the
+/// disk that was emptied and written again. A file whose bytes need not get there is not emptied.
+pub(crate) fn overwrite_file(files: &impl Files, path: &str, bytes: &[u8]) -> io::Result<()> {
+    let mut how = OpenOptions::new();
+    how.write(true).create(true);
+    let mut file = open_to_write(files, path, &how)?;
+    file.write_all(bytes)?;
+    let length = bytes.len() as u64;
+    if length < file.metadata()?.len() {
+        file.set_len(length)?;
+    }
+    Ok(())
+}
+
+/// Opens a file that is written, and makes the folders that its path needs.
+fn open_to_write<R: Files>(files: &R, path: &str, how: &OpenOptions) -> io::Result<R::File> {
+    match how.open(files, path) {
         Err(error) if error.kind() == ErrorKind::NotFound => {}
-        written => return written,
+        opened => return opened,
     }
     if let Some(folder) = Path::new(path).parent() {
         fs::create_dir_all(files, folder)?;
     }
-    fs::write(files, path, bytes)
+    how.open(files, path)
 }
 
 /// Removes a file, if it is there.

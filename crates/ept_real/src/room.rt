@@ -2,7 +2,7 @@ ghost use Rattle.std.specs.Prelude.{◌≡◌, IfOk, string_bytes};
 ghost use Rattle.ept_base.specs.Devices.{counts_on};
 
 use crate::paths::path_in;
-use crate::real_disk::{read_file, remove_file, write_file};
+use crate::real_disk::{overwrite_file, read_file, remove_file};
 use ept_base::{Failed, PutError, Room, SpillFile};
 use std::alloc::{AllocError, Global};
 use std::rt::Files;
@@ -66,7 +66,7 @@ impl<'a, R: Files> SpillFile for RealSpill<'a, R> {
     fn keep(&mut self, bytes: &[u8]) -> Result<(), PutError> {
         self.keeps = self.keeps.saturating_add(1);
         let path = self.path()?;
-        match write_file(self.files, path.as_str(), bytes) {
+        match overwrite_file(self.files, path.as_str(), bytes) {
             Ok(()) => Ok(()),
             Err(_) => {
                 self.faults = self.faults.saturating_add(1);
