@@ -14,9 +14,9 @@ use Rattle.ept_save.specs.View.{View, StandsFor}
 use Rattle.ept_save.specs.declared.error.SaveError.{SaveError}
 use Rattle.ept_save.specs.declared.error.SaveError.TheVariants as save
 use Rattle.ept_save.proofs.Standing.{stepped, told_some}
-use Rattle.ept_phase.specs.Loaded.{AreIntact, IsFirstDamaged, IsLoadFault}
-use Rattle.ept_phase.specs.declared.error.PhaseError.{PhaseError}
-use Rattle.ept_phase.specs.declared.error.PhaseError.TheVariants as phase
+use Rattle.ept_octree_ckpt.specs.Loaded.{AreIntact, IsFirstDamaged, IsLoadFault}
+use Rattle.ept_octree_ckpt.specs.declared.error.PhaseError.{PhaseError}
+use Rattle.ept_octree_ckpt.specs.declared.error.PhaseError.TheVariants as phase
 use Rattle.ept_build.specs.declared.error.BuildError.{BuildError}
 use Rattle.ept_build.specs.declared.error.BuildError.TheVariants.{StoreFault, BadCheckpoint, TileDamaged, Differs, SourceFault, BadLas, OutOfBounds, TooManyPoints, NoBounds, SourceChanged, SpillFault, SpillDamaged, TooManyNodes, Memory}
 use Rattle.ept_build.specs.Errors.{of_phase, of_save}

@@ -16,9 +16,9 @@ use Rattle.ept_insert.specs.declared.error.InsertError.TheVariants as insert
 use Rattle.ept_save.specs.declared.error.SaveError.{SaveError}
 use Rattle.ept_save.specs.declared.error.SaveError.TheVariants as save
 use Rattle.ept_save.specs.Errors.{IsStores}
-use Rattle.ept_phase.specs.declared.error.PhaseError.{PhaseError}
-use Rattle.ept_phase.specs.declared.error.PhaseError.TheVariants as phase
-use Rattle.ept_phase.specs.Errors.{IsDevices}
+use Rattle.ept_octree_ckpt.specs.declared.error.PhaseError.{PhaseError}
+use Rattle.ept_octree_ckpt.specs.declared.error.PhaseError.TheVariants as phase
+use Rattle.ept_octree_ckpt.specs.Errors.{IsDevices}
 use Rattle.ept_publish.specs.declared.error.PublishError.{PublishError}
 use Rattle.ept_publish.specs.declared.error.PublishError.TheVariants as publish
 use Rattle.ept_build.specs.declared.error.BuildError.TheVariants.{TileDamaged, SourceFault, SourceChanged, SpillFault, SpillDamaged, TooManyNodes}

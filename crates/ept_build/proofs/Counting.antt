@@ -9,7 +9,7 @@ use Rattle.ept_save.specs.View.{View, next_letter, next_generation}
 use Rattle.ept_config.specs.declared.kept.Kept.{Kept}
 use Rattle.ept_config.specs.declared.source_count.SourceCount.{SourceCount}
 use Rattle.ept_table.specs.Octree.{Branch}
-use Rattle.ept_phase.specs.Phase.{HasNext, GoesOn}
+use Rattle.ept_octree_ckpt.specs.Phase.{HasNext, GoesOn}
 use Rattle.ept_plan.specs.declared.plan.Plan.{Plan}
 use Rattle.ept_plan.specs.Plans.{IsOf, inputs_by, inserted_by}
 use Rattle.ept_build.specs.Phases.{HasAll}

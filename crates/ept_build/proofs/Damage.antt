@@ -18,7 +18,7 @@ use Rattle.ept_save.specs.Errors.{IsStores}
 use Rattle.ept_save.specs.View.{View, StandsFor}
 use Rattle.ept_save.specs.declared.error.SaveError.{SaveError}
 use Rattle.ept_save.specs.declared.error.SaveError.TheVariants as save
-use Rattle.ept_phase.specs.Loaded.{AreIntact, HasSlot, IsFirstDamaged}
+use Rattle.ept_octree_ckpt.specs.Loaded.{AreIntact, HasSlot, IsFirstDamaged}
 use Rattle.ept_save.proofs.DamagedTiles.{damaged-before}
 use Rattle.ept_save.proofs.NamesDiffer.{done-apart}
 use Rattle.ept_plan.specs.Plans.{inputs_by}

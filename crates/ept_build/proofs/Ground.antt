@@ -35,9 +35,9 @@ use Rattle.ept_save.specs.Sound.{HasPointsOf, IsSavedAs, IsSoundFor, IsSound}
 use Rattle.ept_save.specs.SoundLaws.{HasNamesOf}
 use Rattle.ept_save.proofs.SoundFiles.{sound-at}
 use Rattle.ept_save.proofs.Standing.{told_some}
-use Rattle.ept_phase.specs.Lines.{TellNodes, NameTiles}
-use Rattle.ept_phase.specs.Loaded.{OfCurrent}
-use Rattle.ept_phase.specs.SavedLaws.{LoadedIsSampled}
+use Rattle.ept_octree_ckpt.specs.Lines.{TellNodes, NameTiles}
+use Rattle.ept_octree_ckpt.specs.Loaded.{OfCurrent}
+use Rattle.ept_octree_ckpt.specs.SavedLaws.{LoadedIsSampled}
 use Rattle.ept_plan.specs.declared.plan.Plan.{Plan}
 use Rattle.ept_plan.specs.Plans as plans
 use Rattle.ept_plan.specs.Plans.{IsPlan, GoesOn, ScansAll, HasFirst, limits_by, inserted_by}

@@ -13,7 +13,7 @@ use Rattle.ept_sample.specs.SamplingLaws.{CanBeSampled, MorePointsHaveMoreNodes}
 use Rattle.ept_ckpt.specs.declared.node_line.NodeLine.{NodeLine}
 use Rattle.ept_ckpt.specs.Octree as ckpt
 use Rattle.ept_table.specs.Octree.{Branch, tile_of, points_in, AreSampled}
-use Rattle.ept_phase.specs.Lines.{TellNodes}
+use Rattle.ept_octree_ckpt.specs.Lines.{TellNodes}
 use Rattle.ept_build.proofs.Fronts.{can-front}
 
 -- ---- points of nodes

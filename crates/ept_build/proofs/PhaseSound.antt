@@ -24,9 +24,9 @@ use Rattle.ept_save.specs.Sound.{HasPointsOf, IsSavedAs, IsSaved, IsSound}
 use Rattle.ept_save.specs.SoundLaws.{HasNamesOf, KeepingKeepsSound, CommittingKeepsSound}
 use Rattle.ept_save.specs.View.{View, StandsFor, next_letter}
 use Rattle.ept_save.proofs.NamesDiffer.{done-apart}
-use Rattle.ept_phase.specs.Phase.{IsNext, HasNext, GoesOn}
-use Rattle.ept_phase.specs.Saving.{StillAreSame}
-use Rattle.ept_phase.specs.SavedLaws.{SampledIsSaved}
+use Rattle.ept_octree_ckpt.specs.Phase.{IsNext, HasNext, GoesOn}
+use Rattle.ept_octree_ckpt.specs.Saving.{StillAreSame}
+use Rattle.ept_octree_ckpt.specs.SavedLaws.{SampledIsSaved}
 use Rattle.ept_plan.specs.declared.plan.Plan.{Plan}
 use Rattle.ept_plan.specs.Plans.{IsOf}
 use Rattle.ept_save.proofs.Standing.{told_some, in-images}

@@ -31,10 +31,10 @@ use Rattle.ept_save.proofs.TileFiles.{not-old}
 use Rattle.ept_save.specs.Current.{Current}
 use Rattle.ept_save.specs.Opening.{lines_of}
 use Rattle.ept_save.specs.View.{View, next_letter}
-use Rattle.ept_phase.specs.Lines.{TellNodes}
-use Rattle.ept_phase.specs.Saving.{HasEachNodeOf, keys_in}
-use Rattle.ept_phase.specs.Phase.{AreGiven, IsSaved}
-use Rattle.ept_phase.proofs.Telling.{among-member, member-among}
+use Rattle.ept_octree_ckpt.specs.Lines.{TellNodes}
+use Rattle.ept_octree_ckpt.specs.Saving.{HasEachNodeOf, keys_in}
+use Rattle.ept_octree_ckpt.specs.Phase.{AreGiven, IsSaved}
+use Rattle.ept_octree_ckpt.proofs.Telling.{among-member, member-among}
 use Rattle.ept_plan.specs.declared.plan.Plan.{Plan}
 use Rattle.ept_plan.specs.Plans.{RulesStay, IsOf, inputs_by, inserted_by}
 use Rattle.ept_build.specs.Phases.{IsFit, IsTreeOf, HasInserted, HasAll}

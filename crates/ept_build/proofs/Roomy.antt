@@ -4,7 +4,7 @@ use Rattle.std.proofs.lemmas.List.{take-append-drop}
 use Rattle.ept_point.specs.declared.point.Point.{Point}
 use Rattle.ept_sample.specs.Nodes.{sampled}
 use Rattle.ept_sample.specs.SamplingLaws.{CanBeSampled}
-use Rattle.ept_few.specs.Few.{TilesAreFew}
+use Rattle.ept_node_bound.specs.Few.{TilesAreFew}
 use Rattle.ept_meta.specs.Output.{rules_of}
 use Rattle.ept_save.specs.Current.{Current}
 use Rattle.ept_plan.specs.declared.plan.Plan.{Plan}

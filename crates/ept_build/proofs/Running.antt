@@ -20,9 +20,9 @@ use Rattle.ept_ckpt.specs.Octree.{is_among}
 use Rattle.ept_octree.specs.declared.octree.Octree.{Octree}
 use Rattle.ept_octree.specs.Octree as tree
 use Rattle.ept_table.specs.Octree.{Branch, points_in}
-use Rattle.ept_phase.specs.Lines.{TellNodes}
-use Rattle.ept_phase.specs.Loaded.{OfCurrent}
-use Rattle.ept_phase.specs.Saving.{HasEachNodeOf, keys_in}
+use Rattle.ept_octree_ckpt.specs.Lines.{TellNodes}
+use Rattle.ept_octree_ckpt.specs.Loaded.{OfCurrent}
+use Rattle.ept_octree_ckpt.specs.Saving.{HasEachNodeOf, keys_in}
 use Rattle.ept_plan.specs.declared.plan.Plan.{Plan}
 use Rattle.ept_plan.specs.Plans.{inserted_by}
 use Rattle.ept_build.specs.Phases.{IsBegun, IsTreeOf, IsSoundUndone, IsSoundAt, TakesUp}

@@ -35,7 +35,7 @@ use Rattle.ept_save.proofs.SoundTiles.{member-sampled}
 use Rattle.ept_table.specs.Octree.{Branch, tile_of, AreSampled}
 use Rattle.ept_octree.proofs.Sampled.{node-points}
 use Rattle.ept_grow.specs.Grow.{StayAsMany, SameOnesStay}
-use Rattle.ept_phase.specs.Saving.{IsTold, IsStill, StillAreSame}
+use Rattle.ept_octree_ckpt.specs.Saving.{IsTold, IsStill, StillAreSame}
 use Rattle.ept_plan.specs.declared.plan.Plan.{Plan}
 use Rattle.ept_plan.specs.Plans.{RulesStay, inserted_by}
 use Rattle.ept_build.specs.Phases.{HasInsertedFirst}

@@ -21,7 +21,7 @@ use Rattle.ept_save.specs.Tiles.{IsOfLayout}
 use Rattle.ept_save.specs.View.{View}
 use Rattle.ept_save.proofs.TurnedLines.{turned-all}
 use Rattle.ept_table.specs.Octree.{Branch}
-use Rattle.ept_phase.specs.Saving.{keys_in, HasEachNodeOf}
+use Rattle.ept_octree_ckpt.specs.Saving.{keys_in, HasEachNodeOf}
 use Rattle.ept_plan.specs.declared.plan.Plan.{Plan}
 use Rattle.ept_plan.specs.Plans.{inputs_by, inserted_by, RulesStay, IsOf, IsPlan}
 use Rattle.ept_build.specs.Phases.{HasInsertedFirst, TakesUp}

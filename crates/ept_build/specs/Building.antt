@@ -30,7 +30,7 @@ use Rattle.ept_save.specs.Loading.{IsDamaged}
 use Rattle.ept_save.specs.Sound.{IsSound}
 use Rattle.ept_save.specs.Tiles.{IsOfLayout}
 use Rattle.ept_save.specs.View.{View}
-use Rattle.ept_phase.specs.Loaded.{HasSlot}
+use Rattle.ept_octree_ckpt.specs.Loaded.{HasSlot}
 use Rattle.ept_plan.specs.declared.plan.Plan.{Plan}
 use Rattle.ept_plan.specs.Plans.{inputs_by, inserted_by, limits_by, new_paths, GoesOn, ScansAll, DiffersBy, AreRefused}
 use Rattle.ept_build.specs.declared.error.BuildError.{BuildError}

@@ -6,7 +6,7 @@ use Rattle.ept_config.specs.declared.config.Config.{Config}
 use Rattle.ept_space.specs.VoxelKey.{VoxelKey}
 use Rattle.ept_save.specs.Current.{Current}
 use Rattle.ept_save.specs.Loading.{IsDamaged}
-use Rattle.ept_phase.specs.Loaded.{HasSlot, IsFirstDamaged}
+use Rattle.ept_octree_ckpt.specs.Loaded.{HasSlot, IsFirstDamaged}
 use Rattle.ept_build.specs.declared.error.BuildError.{BuildError}
 use Rattle.ept_build.specs.declared.error.BuildError.TheVariants.{TileDamaged, TooManyNodes}
 use Rattle.ept_build.specs.declared.summary.Summary.{Summary}

@@ -19,7 +19,7 @@ use Rattle.ept_table.specs.Octree.{Branch, AreSampled}
 use Rattle.ept_octree.specs.declared.octree.Octree.{Octree}
 use Rattle.ept_octree.specs.Octree as tree
 use Rattle.ept_sample.specs.SamplingLaws.{CanBeSampled}
-use Rattle.ept_few.specs.Few.{most_nodes}
+use Rattle.ept_node_bound.specs.Few.{most_nodes}
 use Rattle.ept_meta.specs.Output.{File, IsOutput, rules_of, names_of}
 use Rattle.ept_save.specs.Current.{Current, HasCurrent}
 use Rattle.ept_save.specs.Done.{IsDone}
@@ -33,9 +33,9 @@ use Rattle.ept_save.specs.View.{View, StandsFor}
 use Rattle.ept_point.specs.declared.layout.Layout.TheVariants.{Old}
 use Rattle.ept_ckpt.specs.declared.checkpoint.Checkpoint.{Checkpoint}
 use Rattle.ept_ckpt.specs.Versions.{layout_of}
-use Rattle.ept_phase.specs.Lines.{TellNodes, NameTiles}
-use Rattle.ept_phase.specs.Loaded.{OfCurrent}
-use Rattle.ept_phase.specs.Saving.{HasEachNodeOf}
+use Rattle.ept_octree_ckpt.specs.Lines.{TellNodes, NameTiles}
+use Rattle.ept_octree_ckpt.specs.Loaded.{OfCurrent}
+use Rattle.ept_octree_ckpt.specs.Saving.{HasEachNodeOf}
 use Rattle.ept_plan.specs.declared.plan.Plan.{Plan}
 use Rattle.ept_plan.specs.Plans.{inputs_by, inserted_by, RulesStay}
 use Rattle.ept_build.specs.Reached.{IsAfter, HasTurned, IsTakenUp}

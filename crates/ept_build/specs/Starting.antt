@@ -5,7 +5,7 @@ use Rattle.ept_base.specs.Moves.{Moves, SameImages}
 use Rattle.ept_space.specs.VoxelKey.{VoxelKey}
 use Rattle.ept_save.specs.Opening.{lines_of}
 use Rattle.ept_save.specs.View.{View, StandsFor}
-use Rattle.ept_phase.specs.Loaded.{AreIntact, IsFirstDamaged}
+use Rattle.ept_octree_ckpt.specs.Loaded.{AreIntact, IsFirstDamaged}
 use Rattle.ept_build.specs.declared.error.BuildError.{BuildError}
 use Rattle.ept_build.specs.declared.error.BuildError.TheVariants.{TileDamaged, TooManyNodes}
 use Rattle.ept_build.specs.Phases.{HasDamage, IsReady}

@@ -5,7 +5,7 @@ use ept_ckpt::Letter;
 use ept_insert::InsertError;
 use ept_las::LasError;
 use ept_meta::Field;
-use ept_phase::PhaseError;
+use ept_octree_ckpt::PhaseError;
 use ept_plan::PlanError;
 use ept_point::PointNumber;
 use ept_publish::PublishError;

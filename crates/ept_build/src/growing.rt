@@ -31,7 +31,7 @@ use ept_base::{Gate, Shelf, Source, SpillFile, Store};
 use ept_grow::stay_law;
 use ept_insert::{Refused, insert};
 use ept_meta::output_once_law;
-use ept_phase::{save_octree, saved_law};
+use ept_octree_ckpt::{save_octree, saved_law};
 use ept_plan::Plan;
 use ept_save::{Saved, sound_steps_law};
 use ept_scan::{Reader, reader};

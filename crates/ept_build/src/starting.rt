@@ -28,7 +28,7 @@ use ept_base::{PutError, Room, SpillFile, Store};
 use ept_config::Config;
 use ept_meta::rules_of;
 use ept_octree::Octree;
-use ept_phase::load_octree;
+use ept_octree_ckpt::load_octree;
 use ept_plan::Plan;
 use ept_point::Layout;
 use ept_save::{Saved, close_done, migrate, sound_law, sound_steps_law};

@@ -1,7 +1,7 @@
 //! A gate that one thread enters.
 
 use ept_base::Gate;
-use ept_meet::MeetGate;
+use ept_rendezvous::MeetGate;
 
 #[test]
 fn only_another_worker_in_another_node_meets(rt: HostRuntime) {

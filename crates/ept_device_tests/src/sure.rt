@@ -4,7 +4,7 @@ ghost use Rattle.std.specs.Prelude.{◌≢◌, Err};
 
 use crate::memory::named;
 use ept_base::{GetError, PutError, Room, Shelf, Source, SpillFile, Store, put_kept, read_full};
-use ept_sure::{SureRoom, SureShelf, SureSource, SureStore};
+use ept_mem_infallible::{SureRoom, SureShelf, SureSource, SureStore};
 use std::test::Fail;
 
 fn opened(shelf: &mut SureShelf, path: &str) -> Result<SureSource, GetError>

@@ -12,9 +12,9 @@ use Rattle.ept_octree.specs.Octree.{forest_of, rules_of, nodes_of, points_of}
 use Rattle.ept_node.specs.declared.node.Node.{Node}
 use Rattle.ept_node.specs.Shown.{file_of, DoesTell}
 use Rattle.ept_forest.specs.Slots as forest
-use Rattle.ept_known.proofs.Deciding.{Known, known_and, known_like, known_all}
-use Rattle.ept_known.proofs.Rest.{known_left, one_left}
-use Rattle.ept_known.proofs.Sampled.{known_can, known_sampled}
+use Rattle.ept_decidable.proofs.Deciding.{Known, known_and, known_like, known_all}
+use Rattle.ept_decidable.proofs.Rest.{known_left, one_left}
+use Rattle.ept_decidable.proofs.Sampled.{known_can, known_sampled}
 use Rattle.ept_insert.specs.Between.{FilesTell, StandsBetween}
 
 module _ {F S : Type 0} (held : F → Option (List ℕ)) (whole : S → Option (List ℕ)) (octree : Octree F) (reader : Reader S) where

@@ -11,8 +11,8 @@ use Rattle.ept_ckpt.specs.declared.checkpoint.Checkpoint.{Checkpoint}
 use Rattle.ept_ckpt.specs.Versions.{layout_of}
 use Rattle.ept_meta.specs.declared.fields.Field.{Field}
 use Rattle.ept_meta.specs.declared.fields.Field.TheVariants as field
-use Rattle.ept_batch.specs.declared.differing.Difference.{Difference}
-use Rattle.ept_batch.specs.Differing.{ArePrefix, IsAsKept, GoesOnFrom, IsDifference}
+use Rattle.ept_config_diff.specs.declared.differing.Difference.{Difference}
+use Rattle.ept_config_diff.specs.Differing.{ArePrefix, IsAsKept, GoesOnFrom, IsDifference}
 use Rattle.ept_merge.specs.Joining.{IsLike}
 
 fields-same : (a b : Kept) → a.scale ≡ b.scale → a.offset ≡ b.offset → a.bounds ≡ b.bounds → a.s ≡ b.s → a.threshold ≡ b.threshold → a.max_depth ≡ b.max_depth → a.step ≡ b.step → a.srs ≡ b.srs → a.first ≡ b.first → a.withheld_last ≡ b.withheld_last → a.inputs ≡ b.inputs → a ≡ b

@@ -18,9 +18,9 @@ ghost use Rattle.ept_merge.specs.Putting.{HoldsBytes, IsBodyFault, HasBodies, Ar
 
 use crate::error::MergeError;
 use ept_base::Store;
-use ept_batch::first_difference;
 use ept_ckpt::{Checkpoint, CkptError, read_ckpt};
 use ept_config::SourceCount;
+use ept_config_diff::first_difference;
 use ept_part::{part_body, part_gate};
 use ept_plan::Plan;
 use ept_point::{Layout, Memory};

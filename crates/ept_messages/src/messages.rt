@@ -6,9 +6,9 @@ use crate::sentences::{
     Names, write_check, write_merge, write_query, write_refusal, write_shallow, write_unfit,
 };
 use ept_base::{Shelf, Store};
-use ept_batch::Difference;
 use ept_command::{Command, Failure, Refusal, command_of, read_configuration, read_front};
 use ept_config::Config;
+use ept_config_diff::Difference;
 use ept_config_text::{ConfigError, MAX_LENGTH};
 use ept_mem::MemShelf;
 use ept_plan::{PlanError, make_plan};

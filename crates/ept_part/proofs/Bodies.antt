@@ -36,10 +36,10 @@ use Rattle.ept_meta.specs.OutputLaws.{PointsCanBeSampled}
 use Rattle.ept_plan.specs.declared.plan.Plan.{Plan}
 use Rattle.ept_plan.specs.Plans.{IsPlan, HasPoints}
 use Rattle.ept_table.specs.Octree.{Branch, key_of, tile_of, entry_of, points_in, AreNodes, AreSampled}
-use Rattle.ept_phase.specs.Lines.{TellNodes}
-use Rattle.ept_phase.specs.LinesLaws.{WholeIsTold}
-use Rattle.ept_phase.specs.Saving.{AreKnown}
-use Rattle.ept_phase.proofs.Phasing.{next-valid}
+use Rattle.ept_octree_ckpt.specs.Lines.{TellNodes}
+use Rattle.ept_octree_ckpt.specs.LinesLaws.{WholeIsTold}
+use Rattle.ept_octree_ckpt.specs.Saving.{AreKnown}
+use Rattle.ept_octree_ckpt.proofs.Phasing.{next-valid}
 use Rattle.ept_tree.specs.declared.octree.Tree.{Tree}
 use Rattle.ept_tree.specs.Grown.{nodes_of}
 use Rattle.ept_parts.specs.Parts.{part_of}

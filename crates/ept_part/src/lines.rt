@@ -2,7 +2,7 @@
 
 ghost use Rattle.std.specs.Prelude.{◌≡◌, ◌≤◌, ◌<◌, ◌^◌, IfOk, OnOk, map};
 ghost use Rattle.ept_space.specs.VoxelKey.{IsKey};
-ghost use Rattle.ept_phase.specs.Saving.{AreKnown};
+ghost use Rattle.ept_octree_ckpt.specs.Saving.{AreKnown};
 ghost use Rattle.ept_tree.specs.Grown.{nodes_of};
 ghost use Rattle.ept_part.specs.Filling.{line_for};
 

@@ -26,7 +26,7 @@ use ept_base::Shelf;
 use ept_ckpt::{BodyVersion, Checkpoint, NodeLine};
 use ept_config::Config;
 use ept_meta::{output_once_law, rules_of};
-use ept_phase::lines_law;
+use ept_octree_ckpt::lines_law;
 use ept_plan::{Plan, PlanError, first_plan};
 use ept_point::List;
 use ept_scan::reader;

@@ -15,8 +15,8 @@ use Rattle.ept_config.specs.declared.kept.Kept.{Kept}
 use Rattle.ept_config.specs.KeptOf.{IsKeptOf}
 use Rattle.ept_meta.specs.declared.fields.Field.{Field}
 use Rattle.ept_meta.specs.declared.fields.Field.TheVariants as field
-use Rattle.ept_batch.specs.declared.differing.Difference.{Difference}
-use Rattle.ept_batch.specs.Differing.{ArePrefix, IsAsKept, GoesOnFrom, IsDifference}
+use Rattle.ept_config_diff.specs.declared.differing.Difference.{Difference}
+use Rattle.ept_config_diff.specs.Differing.{ArePrefix, IsAsKept, GoesOnFrom, IsDifference}
 use Rattle.ept_plan.specs.Plans.{IsGiven}
 
 at-middle : (P : Field → Type 0) (before behind : List Field) (x : Field) → All P (before ++ x ∷ behind) → P x

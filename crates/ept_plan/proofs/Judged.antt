@@ -11,7 +11,7 @@ use Rattle.ept_scan.specs.Scans.{Blames, IsScan}
 use Rattle.ept_scan.proofs.OneScan.{scan_or_refusal}
 use Rattle.ept_scan.proofs.OneRefusal.{one_refusal}
 use Rattle.ept_save.specs.Current.{Current}
-use Rattle.ept_batch.specs.declared.differing.Difference.{Difference}
+use Rattle.ept_config_diff.specs.declared.differing.Difference.{Difference}
 use Rattle.ept_plan.specs.declared.error.PlanError.{PlanError}
 use Rattle.ept_plan.specs.declared.error.PlanError.TheVariants.{Differs, Scan}
 use Rattle.ept_plan.specs.declared.plan.Plan.{Plan}

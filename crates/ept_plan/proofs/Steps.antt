@@ -19,7 +19,7 @@ use Rattle.ept_scan.specs.Scans.{IsScan}
 use Rattle.ept_ckpt.specs.Valid.{ExtentInRange}
 use Rattle.ept_ckpt.specs.declared.letter.Letter.{Letter}
 use Rattle.ept_ckpt.specs.declared.checkpoint.Checkpoint.{Checkpoint}
-use Rattle.ept_batch.specs.Differing.{GoesOnFrom}
+use Rattle.ept_config_diff.specs.Differing.{GoesOnFrom}
 use Rattle.ept_plan.specs.declared.error.PlanError.{PlanError}
 use Rattle.ept_plan.specs.declared.error.PlanError.TheVariants.{Differs, Scan}
 use Rattle.ept_plan.specs.declared.plan.Plan.{Plan}

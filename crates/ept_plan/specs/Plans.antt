@@ -15,8 +15,8 @@ use Rattle.ept_scan.specs.Asking.{paths_from}
 use Rattle.ept_ckpt.specs.Valid.{ExtentInRange}
 use Rattle.ept_save.specs.Current.{Current}
 use Rattle.ept_save.specs.Sound.{HasPointsOf}
-use Rattle.ept_batch.specs.declared.differing.Difference.{Difference}
-use Rattle.ept_batch.specs.Differing.{GoesOnFrom, IsDifference}
+use Rattle.ept_config_diff.specs.declared.differing.Difference.{Difference}
+use Rattle.ept_config_diff.specs.Differing.{GoesOnFrom, IsDifference}
 use Rattle.ept_meta.specs.Output.{rules_of}
 use Rattle.ept_plan.specs.declared.error.PlanError.{PlanError}
 use Rattle.ept_plan.specs.declared.error.PlanError.TheVariants.{Differs, Scan}

@@ -12,7 +12,7 @@ use Rattle.ept_scan.specs.Scans.{IsScan}
 use Rattle.ept_ckpt.specs.Valid.{ExtentInRange}
 use Rattle.ept_ckpt.specs.declared.checkpoint.Checkpoint.{Checkpoint}
 use Rattle.ept_save.specs.Current.{Current}
-use Rattle.ept_batch.specs.Differing.{IsDifference}
+use Rattle.ept_config_diff.specs.Differing.{IsDifference}
 use Rattle.ept_plan.specs.declared.error.PlanError.{PlanError}
 use Rattle.ept_plan.specs.declared.error.PlanError.TheVariants.{Differs, Scan}
 use Rattle.ept_plan.specs.declared.plan.Plan.{Plan}

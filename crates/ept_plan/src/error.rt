@@ -1,6 +1,6 @@
 //! Why there is no plan.
 
-use ept_batch::Difference;
+use ept_config_diff::Difference;
 use ept_point::Memory as NoMemory;
 use ept_scan::ScanError;
 

@@ -2,13 +2,13 @@
 
 ghost use Rattle.std.specs.Prelude.{◌≡◌, IfOk, IfErr};
 ghost use Rattle.ept_space.specs.CubeOfBounds.{HasPlace};
-ghost use Rattle.ept_batch.specs.Differing.{GoesOnFrom};
+ghost use Rattle.ept_config_diff.specs.Differing.{GoesOnFrom};
 ghost use Rattle.ept_plan.specs.Plans.{bounds_or, IsGiven};
 ghost use Rattle.ept_plan.specs.Steps.{DoesNotGoOn};
 
 use crate::error::PlanError;
-use ept_batch::first_difference;
 use ept_config::{Config, Kept};
+use ept_config_diff::first_difference;
 use ept_space::Bounds;
 use std::alloc::Global;
 

@@ -3,7 +3,7 @@
 ghost use Rattle.std.specs.Prelude.{◌≡◌, ◌++◌, Some, IfOk, IfErr, length};
 ghost use Rattle.ept_base.specs.Causes.{HasCauseOf};
 ghost use Rattle.ept_base.specs.Files.{Tells};
-ghost use Rattle.ept_batch.specs.Differing.{ArePrefix};
+ghost use Rattle.ept_config_diff.specs.Differing.{ArePrefix};
 ghost use Rattle.ept_scan.specs.Asking.{OpensThese, paths_from};
 ghost use Rattle.ept_scan.specs.Scans.{ScanIsRefused};
 ghost use Rattle.ept_plan.specs.Steps.{AddsCounts};

@@ -5,7 +5,7 @@ ghost use Rattle.ept_base.specs.Causes.{HasCauseOf};
 ghost use Rattle.ept_base.specs.Files.{Tells};
 ghost use Rattle.ept_point.specs.declared.point.Point.{Point};
 ghost use Rattle.ept_ckpt.specs.declared.letter.Letter.{Letter};
-ghost use Rattle.ept_batch.specs.declared.differing.Difference as differing;
+ghost use Rattle.ept_config_diff.specs.declared.differing.Difference as differing;
 ghost use Rattle.ept_scan.specs.declared.scan_error.ScanError as cause;
 ghost use Rattle.ept_scan.specs.declared.scan_done.ScanDone.{ScanDone};
 ghost use Rattle.ept_scan.specs.Asking.{OpensThese};

@@ -19,7 +19,7 @@ use Rattle.ept_scan.proofs.Scanned.{scan_kept}
 use Rattle.ept_meta.specs.Output.{rules_of}
 use Rattle.ept_meta.specs.declared.fields.Field.{Field}
 use Rattle.ept_meta.specs.declared.fields.Field.TheVariants as field
-use Rattle.ept_batch.specs.Differing.{IsAsKept, in_order}
+use Rattle.ept_config_diff.specs.Differing.{IsAsKept, in_order}
 use Rattle.ept_plan.specs.Plans.{bounds_or}
 use Rattle.ept_part.specs.Scanned.{rules_by, found_by}
 use Rattle.ept_build.specs.declared.error.BuildError.{BuildError}

@@ -4,7 +4,7 @@ use crate::bench::Bench;
 use crate::looks::append_bytes;
 use crate::stores::renew;
 use crate::words::{Miss, first_word};
-use ept_meet::MeetGate;
+use ept_rendezvous::MeetGate;
 use std::fmt::Write;
 use std::sync::Wait;
 use std::thread::Threads;

@@ -4,8 +4,8 @@ use crate::bytes::show;
 use crate::configs::kept_of;
 use crate::row::Row;
 use crate::stop::{Answered, Stop};
-use ept_batch::{Difference, first_difference};
 use ept_config::Kept;
+use ept_config_diff::{Difference, first_difference};
 use std::alloc::Global;
 
 /// `differs CONFIG | CONFIG`: the first difference of what the second one keeps from what the first one keeps.

@@ -6,11 +6,11 @@ use Rattle.ept_sample.specs.IdLaws.{AscendingIsOrdered}
 use Rattle.ept_config.specs.declared.config.Config.{Config}
 use Rattle.ept_scan.specs.Laws.{ScanAscends, ScanLiesWithin}
 use Rattle.ept_meta.specs.OutputLaws.{PointsCanBeSampled}
-use Rattle.ept_few.specs.Few.{TilesAreFew}
+use Rattle.ept_node_bound.specs.Few.{TilesAreFew}
 use Rattle.ept_node.specs.Shown.{IsTelling}
 use Rattle.ept_save.specs.Current.{Current, HasCurrent}
 use Rattle.ept_save.specs.SoundLaws.{EmptyIsSound}
-use Rattle.ept_sure.specs.Objects.{no_files}
+use Rattle.ept_mem_infallible.specs.Objects.{no_files}
 use Rattle.ept_build.specs.declared.error.BuildError.{BuildError}
 use Rattle.ept_build.specs.declared.error.BuildError.TheVariants.{StoreFault, SourceFault, SpillFault, Memory}
 use Rattle.ept_build.specs.declared.summary.Summary.{Summary}

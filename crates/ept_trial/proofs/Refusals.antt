@@ -23,7 +23,7 @@ use Rattle.ept_scan.specs.Laws.{ScanAscends, ScanLiesWithin}
 use Rattle.ept_scan.specs.Scans.{IsScan, AreBounds, IsFirstRefused}
 use Rattle.ept_meta.specs.Output.{rules_of}
 use Rattle.ept_meta.specs.OutputLaws.{PointsCanBeSampled}
-use Rattle.ept_few.specs.Few.{TilesAreFew, most_nodes}
+use Rattle.ept_node_bound.specs.Few.{TilesAreFew, most_nodes}
 use Rattle.ept_build.specs.declared.error.BuildError.{BuildError}
 use Rattle.ept_build.specs.declared.error.BuildError.TheVariants.{StoreFault, BadCheckpoint, TileDamaged, Differs, SourceFault, BadLas, OutOfBounds, TooManyPoints, NoBounds, SourceChanged, SpillFault, SpillDamaged, TooManyNodes, Memory}
 use Rattle.ept_build.specs.Building.{HasPoints, node_count, IsRefusedAt}

@@ -3,7 +3,7 @@ use Rattle.std.proofs.Common.{◌≡◌, ℕ, zero, suc, List, [], ◌∷◌, So
 use Rattle.std.specs.Prelude.{if◌then◌else◌, bytes_eq, codes, string_bytes, String, Vec, unwrap_or}
 use Rattle.std.specs.declared.alloc.Global.{Global}
 use Rattle.ept_mem.specs.Named.{content_of}
-use Rattle.ept_sure.specs.Objects.{or_empty}
+use Rattle.ept_mem_infallible.specs.Objects.{or_empty}
 use Rattle.ept_trial.specs.Scans.{scan_bytes, HasScans}
 
 abbrev pub File : Type 0

@@ -3,16 +3,16 @@
 ghost use Rattle.std.specs.Prelude.{◌≡◌, ◌≤◌, true, length, IfOk, string_bytes};
 ghost use Rattle.std.specs.List.{list_all};
 ghost use Rattle.ept_config.specs.Texts.{is_path, is_shown};
-ghost use Rattle.ept_sure.specs.Objects.{shelf_files_of};
+ghost use Rattle.ept_mem_infallible.specs.Objects.{shelf_files_of};
 ghost use Rattle.ept_trial.specs.Scans.{HasScans, scan_bytes};
 ghost use Rattle.ept_trial.specs.Settings.{IsTrialInput, AreTrialInputs, IsTrialConfig};
 
 use crate::scans::scan_of;
 use ept_class::ClassSet;
 use ept_config::{Config, Input, Srs};
+use ept_mem_infallible::SureShelf;
 use ept_point::{List, Memory, Text};
 use ept_space::Bounds;
-use ept_sure::SureShelf;
 use std::alloc::Global;
 
 /// The configuration of a trial with `workers` threads, and with at most `cache` nodes in memory while these run.

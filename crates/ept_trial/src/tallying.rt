@@ -5,17 +5,17 @@ ghost use Rattle.ept_base.specs.Files.{SameFiles};
 ghost use Rattle.ept_sample.specs.Nodes.{node_keys};
 ghost use Rattle.ept_hier.specs.Hierarchy.{keys_of};
 ghost use Rattle.ept_query.specs.declared.query_error.QueryError.{QueryError};
-ghost use Rattle.ept_sure.specs.Objects.{store_files_of};
+ghost use Rattle.ept_mem_infallible.specs.Objects.{store_files_of};
 ghost use Rattle.ept_trial.specs.Trials.{IsTrialOf, trial_rules};
 ghost use Rattle.ept_trial.specs.Results.{HasTrial, IsTallyOf, bytes_at};
 
 use crate::trial::Trial;
+use ept_mem_infallible::SureStore;
 use ept_meta::{output_once_law, tile_name};
 use ept_point::Memory;
 use ept_query::{QueryError, QueryPlan, query_plan};
 use ept_sample::{id_law, node_law};
 use ept_space::{Box3, Key};
-use ept_sure::SureStore;
 use std::alloc::Global;
 
 /// What the files of a trial of this number of points come to.

@@ -13,7 +13,7 @@ use Rattle.ept_save.specs.Names.{done_name}
 use Rattle.ept_save.specs.Current.{Current, HasCurrent}
 use Rattle.ept_save.specs.Done.{IsDone}
 use Rattle.ept_save.specs.Loading.{IsDamaged}
-use Rattle.ept_phase.specs.Loaded.{HasSlot, IsFirstDamaged}
+use Rattle.ept_octree_ckpt.specs.Loaded.{HasSlot, IsFirstDamaged}
 use Rattle.ept_save.specs.declared.error.SaveError.TheVariants as save
 use Rattle.ept_build.specs.Phases.{IsPhaseFault}
 use Rattle.ept_save.specs.View.{View, StandsFor}

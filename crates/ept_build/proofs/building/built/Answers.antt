@@ -14,7 +14,7 @@ use Rattle.ept_save.specs.Current.{HasCurrent}
 use Rattle.ept_save.proofs.Standing.{stepped, told_some}
 use Rattle.ept_save.specs.Opening.{lines_of}
 use Rattle.ept_save.specs.Loading.{HasNoDamage}
-use Rattle.ept_phase.specs.Loaded.{AreIntact}
+use Rattle.ept_octree_ckpt.specs.Loaded.{AreIntact}
 use Rattle.ept_build.specs.declared.error.BuildError.{BuildError}
 use Rattle.ept_build.specs.declared.error.BuildError.TheVariants.{TileDamaged, SourceChanged, SpillDamaged, TooManyNodes}
 use Rattle.ept_build.specs.Building.{IsUnderWay}

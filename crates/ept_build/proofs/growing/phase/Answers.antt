@@ -9,10 +9,10 @@ use Rattle.ept_table.specs.Octree.{Branch, AreSampled}
 use Rattle.ept_forest.specs.declared.forest.Forest.{Forest}
 use Rattle.ept_forest.specs.Slots.{faults_of, nodes_of}
 use Rattle.ept_octree.specs.Octree as tree
-use Rattle.ept_phase.specs.declared.error.PhaseError.{PhaseError}
+use Rattle.ept_octree_ckpt.specs.declared.error.PhaseError.{PhaseError}
 use Rattle.ept_save.specs.View.{View}
 use Rattle.ept_meta.specs.Output.{rules_of}
-use Rattle.ept_phase.specs.Phase.{AreGiven, IsSaved}
+use Rattle.ept_octree_ckpt.specs.Phase.{AreGiven, IsSaved}
 use Rattle.ept_scan.specs.Reader.{HasFault, IsRest}
 use Rattle.ept_build.proofs.Causes.{inserted-many, inserted-changed, inserted-fault, inserted-spill, inserted-damage, phase-no-source, phase-damaged, phase-spill, phase-damage, devices-undamaged, broken-fault}
 use Rattle.ept_build.proofs.Fronts.{rest-then, can-front}

@@ -3,7 +3,7 @@ use Rattle.std.specs.Prelude.{Result, Err}
 use Rattle.ept_base.specs.Files.{Files, SameFiles}
 use Rattle.ept_octree.specs.Octree.{most_of}
 use Rattle.ept_save.proofs.Standing.{stepped, settled_some}
-use Rattle.ept_phase.specs.declared.error.PhaseError.{PhaseError}
+use Rattle.ept_octree_ckpt.specs.declared.error.PhaseError.{PhaseError}
 use Rattle.ept_build.specs.declared.error.BuildError.{BuildError}
 use Rattle.ept_build.specs.Errors.{of_phase, of_save}
 use Rattle.ept_build.specs.Phases.{IsSoundAt, IsStartFault}

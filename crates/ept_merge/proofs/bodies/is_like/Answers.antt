@@ -1,7 +1,7 @@
 use Rattle.std.proofs.Common.{◌∙◌, ap, Option}
 use Rattle.std.specs.Prelude.{Ok}
 use Rattle.std.proofs.lemmas.Bool.{false≢true}
-use Rattle.ept_batch.specs.declared.differing.Difference.{Difference}
+use Rattle.ept_config_diff.specs.declared.differing.Difference.{Difference}
 use Rattle.ept_merge.proofs.Alike.{none-differs, like-tested, like-has}
 use Rattle.ept_merge.proofs.bodies.is_like.Goals as goal
 

@@ -4,7 +4,7 @@ use Rattle.std.proofs.lemmas.Map.Iter.{iter_end}
 use Rattle.ept_space.specs.VoxelKey.{IsKey}
 use Rattle.ept_ckpt.specs.declared.node_line.NodeLine.{NodeLine}
 use Rattle.ept_table.specs.Octree.{Branch}
-use Rattle.ept_phase.specs.Saving.{AreKnown}
+use Rattle.ept_octree_ckpt.specs.Saving.{AreKnown}
 use Rattle.ept_part.specs.Filling.{line_for}
 use Rattle.ept_part.proofs.lines.lines_of.Goals as goal
 

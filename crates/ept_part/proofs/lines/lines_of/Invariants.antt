@@ -1,6 +1,6 @@
 use Rattle.std.proofs.Common.{◌≡◌, map}
 use Rattle.std.specs.Map.Iter.{deref_pair}
-use Rattle.ept_phase.specs.Saving.{AreKnown}
+use Rattle.ept_octree_ckpt.specs.Saving.{AreKnown}
 use Rattle.ept_part.specs.Filling.{line_for}
 use Rattle.ept_part.proofs.lines.lines_of.Given as goal
 

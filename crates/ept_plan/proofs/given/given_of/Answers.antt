@@ -2,8 +2,8 @@ use Rattle.std.proofs.Common.{subst, Option}
 use Rattle.std.specs.Prelude.{IfSome}
 use Rattle.ept_space.specs.declared.bounds.Bounds.{Bounds}
 use Rattle.ept_config.specs.KeptOf.{IsKeptOf}
-use Rattle.ept_batch.specs.declared.differing.Difference.{Difference}
-use Rattle.ept_batch.specs.Differing.{IsDifference}
+use Rattle.ept_config_diff.specs.declared.differing.Difference.{Difference}
+use Rattle.ept_config_diff.specs.Differing.{IsDifference}
 use Rattle.ept_plan.proofs.given.given_of.Goals as goal
 
 pub returns-in-Some-clause-refused : goal.returns-in-Some-clause-refused

@@ -14,11 +14,11 @@ use Rattle.ept_save.specs.Current.{Current}
 use Rattle.ept_save.specs.Opening.{lines_of}
 use Rattle.ept_table.specs.Octree.{Branch}
 use Rattle.ept_octree.specs.Octree.{nodes_of}
-use Rattle.ept_phase.specs.Lines.{TellNodes}
-use Rattle.ept_phase.specs.Loaded.{OfCurrent}
-use Rattle.ept_phase.specs.Phase.{AreGiven}
-use Rattle.ept_phase.specs.Saving.{keys_in}
-use Rattle.ept_phase.proofs.Telling.{member-among}
+use Rattle.ept_octree_ckpt.specs.Lines.{TellNodes}
+use Rattle.ept_octree_ckpt.specs.Loaded.{OfCurrent}
+use Rattle.ept_octree_ckpt.specs.Phase.{AreGiven}
+use Rattle.ept_octree_ckpt.specs.Saving.{keys_in}
+use Rattle.ept_octree_ckpt.proofs.Telling.{member-among}
 use Rattle.ept_scan_rows.proofs.phases.save_later.Goals as goal
 
 regroup : (p q r s : Bool) → (((p && q) && r) && s) ≡ (p && (q && (r && s)))

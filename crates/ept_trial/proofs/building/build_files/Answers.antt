@@ -1,7 +1,7 @@
 use Rattle.std.proofs.Common.{◌∙◌, ℕ, List, Option, Some, Err, ap, refl}
 use Rattle.ept_node.specs.Shown.{IsTelling}
-use Rattle.ept_sure.specs.declared.room.SureFile.{SureFile}
-use Rattle.ept_sure.specs.Objects.{no_files, shelf_files_of, file_bytes_of, store_files_of, store_images_of}
+use Rattle.ept_mem_infallible.specs.declared.room.SureFile.{SureFile}
+use Rattle.ept_mem_infallible.specs.Objects.{no_files, shelf_files_of, file_bytes_of, store_files_of, store_images_of}
 use Rattle.ept_build.specs.declared.error.BuildError.{BuildError}
 use Rattle.ept_build.specs.declared.error.BuildError.TheVariants.{StoreFault, SourceFault, SpillFault}
 use Rattle.ept_trial.proofs.Faults.{no-fault}

@@ -1,7 +1,7 @@
 use Rattle.std.proofs.Common.{◌∙◌, List, [], ◌∷◌, ◌++◌, ap}
 use Rattle.ept_base.specs.Files.{Files}
 use Rattle.ept_mem.specs.Named.{content_of}
-use Rattle.ept_sure.specs.Objects.{or_empty}
+use Rattle.ept_mem_infallible.specs.Objects.{or_empty}
 use Rattle.ept_trial.proofs.Shelves.{File, has-scans}
 use Rattle.ept_trial.proofs.settings.shelf_of.Goals as goal
 

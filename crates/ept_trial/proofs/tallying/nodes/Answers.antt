@@ -1,5 +1,5 @@
 use Rattle.std.proofs.Common.{◌≡◌, ◌∙◌, ⊎_elim, Err, refl, ap}
-use Rattle.ept_sure.specs.Objects.{store_files_of}
+use Rattle.ept_mem_infallible.specs.Objects.{store_files_of}
 use Rattle.ept_query.specs.declared.query_error.QueryError.{QueryError}
 use Rattle.ept_query.specs.declared.query_error.QueryError.TheVariants.{StoreFault, Memory}
 use Rattle.ept_trial.proofs.Faults.{no-fault}

@@ -1,5 +1,5 @@
 use Rattle.ept_hier.specs.Hierarchy.{keys_of}
-use Rattle.ept_sure.specs.Objects.{store_files_of}
+use Rattle.ept_mem_infallible.specs.Objects.{store_files_of}
 use Rattle.ept_trial.proofs.Nodes.{trial-found}
 use Rattle.ept_trial.proofs.tallying.tallied.Goals as goal
 

@@ -3,7 +3,7 @@ use Rattle.std.specs.Prelude.{max}
 use Rattle.std.proofs.lemmas.Option.{slice_get_within, get_or_from_slice_get}
 use Rattle.ept_hier.specs.Hierarchy.{keys_of}
 use Rattle.ept_space.specs.VoxelKey.{VoxelKey}
-use Rattle.ept_sure.specs.Objects.{store_files_of}
+use Rattle.ept_mem_infallible.specs.Objects.{store_files_of}
 use Rattle.ept_trial.specs.Results.{bytes_at}
 use Rattle.ept_trial.proofs.Tallies.{greatest-more, sum-more}
 use Rattle.ept_trial.proofs.tallying.tally.Goals as goal

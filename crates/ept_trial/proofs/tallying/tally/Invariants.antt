@@ -2,7 +2,7 @@ use Rattle.std.proofs.Common.{◌≡◌, ◌%◌, ◌^◌, take}
 use Rattle.std.specs.Prelude.{map, sum_by}
 use Rattle.std.specs.List.{flat_map}
 use Rattle.ept_hier.specs.Hierarchy.{keys_of}
-use Rattle.ept_sure.specs.Objects.{store_files_of}
+use Rattle.ept_mem_infallible.specs.Objects.{store_files_of}
 use Rattle.ept_trial.specs.Trials.{greatest}
 use Rattle.ept_trial.specs.Results.{bytes_at}
 use Rattle.ept_trial.proofs.tallying.tally.Given as goal

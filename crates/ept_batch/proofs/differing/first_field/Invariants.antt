@@ -1,7 +1,0 @@
-use Rattle.std.proofs.Common.{take}
-use Rattle.std.specs.Prelude.{All}
-use Rattle.ept_batch.specs.Differing.{IsAsKept}
-use Rattle.ept_batch.proofs.differing.first_field.Given as goal
-
-abbrev pub invariant-loop-field : goal.invariant-loop-field
-invariant-loop-field l = All (IsAsKept l.kept l.given) (take l.field-index l.field-items)

@@ -1,5 +1,0 @@
-use Rattle.ept_known.proofs.Rest.{rest_known}
-use Rattle.ept_known.proofs.laws.rest_law.Goals as goal
-
-pub returns : goal.returns
-returns g c = rest_known g.S.Source.whole
