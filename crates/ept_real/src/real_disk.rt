@@ -2,10 +2,11 @@ ghost use Rattle.std.specs.Prelude.{◌≡◌, IfOk, OnOk, option_map};
 ghost use Rattle.ept_base.specs.Files.{SameBut, Puts, Removes, Tells, StepsBy};
 
 use crate::path_disk::PathDisk;
+use crate::reading::read_all;
 use ept_base::{Failed, GetError};
 use std::alloc::Global;
 use std::fs::{self, OpenFile, OpenOptions};
-use std::io::{self, ErrorKind, Read, Write};
+use std::io::{self, ErrorKind, Write};
 use std::path::Path;
 use std::rt::Files;
 
@@ -23,11 +24,11 @@ impl<'a, R: Files> RealDisk<'a, R> {
     }
 }
 
-/// Reads the whole of a file.
+/// Reads the whole of a file. Its length is asked for first, so that its bytes come in one piece.
 pub(crate) fn read_file(files: &impl Files, alloc: Global, path: &str) -> io::Result<Vec<u8>> {
-    let mut bytes = Vec::new(alloc);
-    fs::open(files, path)?.read_to_end(&mut bytes)?;
-    Ok(bytes)
+    let mut file = fs::open(files, path)?;
+    let length = file.metadata()?.len();
+    read_all(alloc, &mut file, length)
 }
 
 /// Writes the whole of a file, and makes the folders that its path needs.
