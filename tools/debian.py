@@ -7,6 +7,8 @@ Usage: tools/debian.py SUITE PACKAGE[,PACKAGE..] WORDS..
 installs the packages. WORDS are run in it, in the working directory. /tmp, the home folder and this repository are there under the
 same paths, the repository read-only, so paths mean what they mean outside. The network is that of this machine.
 
+The packages come from the mirror that debootstrap takes by itself, or from EPT_MIRROR: an old suite may be on an archive's.
+
 It needs root, and installs debootstrap on this machine if it is missing. Nothing else outside the folder changes. A system
 takes 0.3 to 2 GB; remove the folder to be rid of it. Status: that of WORDS, or 2 if the system cannot be had.
 """
@@ -21,7 +23,7 @@ from pathlib import Path
 
 TOP = Path(__file__).resolve().parent.parent
 SYSTEMS = Path(os.environ.get("EPT_SYSTEMS", "/var/tmp/ept-systems"))
-MIRRORS = ["http://deb.debian.org/debian", "http://archive.debian.org/debian"]
+MIRROR = [word for word in [os.environ.get("EPT_MIRROR")] if word]
 STAMP = "var/lib/ept-packages"  # the packages that were installed; missing if the system is not whole
 ENTER = """
 set -e
@@ -85,13 +87,10 @@ def need_debootstrap():
 
 def make(suite, root):
     """A system of a suite, with little in it."""
-    for mirror in MIRRORS:
-        shutil.rmtree(root, ignore_errors=True)
-        said = run("debootstrap", "--variant=minbase", "--include=ca-certificates", suite, root, mirror)
-        if said is None:
-            break
-    else:
-        raise Missing(f"no system of {suite} can be had from {' or '.join(MIRRORS)}: {said.strip().splitlines()[-1]}")
+    shutil.rmtree(root, ignore_errors=True)
+    said = run("debootstrap", "--variant=minbase", "--include=ca-certificates", suite, root, *MIRROR)
+    if said is not None:
+        raise Missing(f"no system of {suite} can be had: {said.strip().splitlines()[-1]}")
     (root / STAMP).write_text("")
 
 
