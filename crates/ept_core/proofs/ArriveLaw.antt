@@ -34,7 +34,7 @@ use Rattle.ept_core.proofs.Leaving.{was-open, open-cases, closed-fits, fits-few,
 
 -- ---- joined lists in another order
 
--- the flight's points, brought in front together with the node's
+-- the flight's points, moved to the start together with the node's
 brought : (N W A F B : List Point) → IsPermutation ((N ++ W) ++ (A ++ (F ++ B))) ((F ++ N) ++ (W ++ (A ++ B)))
 brought N W A F B =
     let P : List Point → List Point → Type 0 = λ a b. IsPermutation a b in
@@ -132,7 +132,7 @@ module _ (rules : Rules) (points : List Point) (s : State) (front : List Flight)
   small : (depth : ℕ) (p : Point) → octant rules depth p < 8
   small depth p = octant_at-below rules.cube depth (place p)
 
-  -- an octant opens above the greatest depth alone
+  -- an octant opens only above the greatest depth
   opens_above : (o : ℕ) → o < 8 → is_open rules f.key.depth was given o ≡ true → f.key.depth < rules.cube.depth
   opens_above o low e =
       elim (open-cases rules f.key.depth was given o e) [

@@ -1,4 +1,4 @@
--- What the law says of a flight that is to arrive.
+-- What the law states of a flight that is to arrive.
 use Rattle.std.proofs.Common.{◌≡◌, ◌∙◌, ℕ, suc, ◌≤◌, ◌<◌, Bool, true, false, List, ◌∷◌, ◌++◌, refl, sym, ap, subst, arith, length, get_or, take, drop, inl, inr, append_assoc, Result, Ok, Err, IfOk, count_by}
 use Rattle.std.proofs.Math.Seq.{split_at}
 use Rattle.std.proofs.Props.{props}
@@ -77,7 +77,7 @@ module _ (rules : Rules) (points : List Point) (s : State) (index : ℕ) (f : Fl
   low-arrival =
       let q = law.rooted.flying f flight-there in law.placed.shallow f.key q.0 (inr (f, flight-there, refl, q.1))
 
--- an effect has what each effect that it is has
+-- if P implies Q for each effect, it does so for the effect of a result
 pub effect-ok : (r : Result Effect Memory) (P Q : Effect → Type 0) → ((e : Effect) → P e → Q e) → IfOk r P → IfOk r Q
 effect-ok (Ok e) P Q more h = more e h
 effect-ok (Err e) P Q more h = tt
@@ -89,7 +89,7 @@ flights-removed flights more index low =
     ∙ (ap (λ (w : List Flight). take index flights ++ w) (drop-append-le (suc index) flights more (omega (arith, low)))
     ∙ sym (append_assoc (take index flights) (drop (suc index) flights) more))
 
--- the flight of a place is the actor's of its number
+-- the flight at a place is the actor's flight of its number
 pub is-flight : (flights xs : List Flight) (actor number i : ℕ) (f : Flight) → xs ≡ flights → i < length xs → count_by (is_of actor) (take i xs) ≡ number → ((g : Flight) → (get_or xs i g).actor ≡ actor) → f ≡ get_or flights i f → IsFlight flights actor number (take i flights) f (drop (suc i) flights)
 is-flight flights xs actor number i f same low count mine at = record {
   stands = split_at flights i f (subst (λ (w : List Flight). i < length w) same low) ∙ ap (λ (w : Flight). take i flights ++ w ∷ drop (suc i) flights) (sym at);

@@ -104,9 +104,9 @@ pub begun-keeps : (rules : Rules) (points : List Point) → CanBeSampled rules p
 begun-keeps rules points can =
     subst (λ (w : State). KeepsLaw rules points w) (sym (begun-resumed rules points can)) (resumed-keeps rules points [] points (λ key. true) can refl)
 
--- ---- where nothing flies, and which keys hold points
+-- ---- if nothing flies, and which keys hold points
 
--- a flight stands between others
+-- a flight comes between others
 member-split : (f : Flight) (flights : List Flight) → IsMember f flights → (front : List Flight) × (back : List Flight) × (flights ≡ front ++ f ∷ back)
 member-split f [] m = absurd m
 member-split f (g ∷ flights) (inl is) = ([], flights, ap (λ (w : Flight). w ∷ flights) is)
@@ -148,7 +148,7 @@ distinct-flight rules points s f law m =
 
 -- ---- the law of a core
 
--- it holds where a core begins
+-- it holds when a core begins
 pub begins : (rules : Rules) (points ps : List Point) (s : State) → CanBeSampled rules points → ps ≡ points → s ≡ begun points → KeepsLaw rules ps s
 begins rules points ps s can e f =
     subst (λ (w : List Point). KeepsLaw rules w s) (sym e) (subst (λ (w : State). KeepsLaw rules points w) (sym f) (begun-keeps rules points can))
@@ -162,7 +162,7 @@ stands-on rules rules' points points' old new event (Err x) step same e f law =
 
 -- ---- a core that is finished
 
--- where nothing is left and nothing flies, the nodes are the sampling of all points
+-- if nothing is left and nothing flies, the nodes are the sampling of all points
 pub all-sampled : (rules : Rules) (points : List Point) (s : State) → KeepsLaw rules points s → s.left ≡ [] → s.flights ≡ [] → map tile_of s.nodes ≡ sampled rules points
 all-sampled rules points s law none landed =
     landed-sampled rules points points s law landed (sym (ap (λ (w : List Point). points ++ w) none ∙ append-nil points))

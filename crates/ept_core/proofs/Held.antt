@@ -17,7 +17,7 @@ use Rattle.ept_core.specs.State.{State, Entry, keys_of, held, IsHeld}
 use Rattle.ept_core.specs.Law.{KeepsLaw}
 use Rattle.ept_core.proofs.NodeMap.{points_of, node_at-entry, node_at-member}
 
--- the first points of a list have distinct ids where all have
+-- the first points of a list have distinct ids if all have
 pub HasDistinctIds-left : (xs ys : List Point) → HasDistinctIds (xs ++ ys) → HasDistinctIds xs
 unfolding HasDistinctIds
 HasDistinctIds-left xs ys once p = omega (arith, once p, count_by-append (same_id p) xs ys)

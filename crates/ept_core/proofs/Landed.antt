@@ -1,4 +1,4 @@
--- Where nothing flies, the nodes are the sampling of the points that were drawn.
+-- If nothing flies, the nodes are the sampling of the points that were drawn.
 use Rattle.std.proofs.Common.{◌≡◌, ◌∙◌, ℕ, zero, suc, ◌≤◌, ◌<◌, true, false, ◌⊎◌, inl, inr, List, [], ◌∷◌, map, refl, sym, ap, subst, arith, length}
 use Rattle.std.proofs.lemmas.Bool.{false≢true}
 use Rattle.ept_point.specs.declared.point.Point.{Point}
@@ -39,7 +39,7 @@ module _ (rules : Rules) (points : List Point) (s : State) (law : KeepsLaw rules
   in_node k p (inl m) = m
   in_node k p (inr (g, m, at, q)) = absurd (subst (λ (w : List Flight). IsMember g w) landed m)
 
-  -- what the law says of the points that were drawn
+  -- what the law states of the points that were drawn
   node_given : (k : VoxelKey) (p : Point) → IsMember p (node_at s.nodes k).points → IsMember p (given rules sunk k)
   node_given k p m = held-given rules points s law sunk (distinct-drawn rules points s law) (λ q n. n) k p (inl m)
 
@@ -62,7 +62,7 @@ module _ (rules : Rules) (points : List Point) (s : State) (law : KeepsLaw rules
         | inr same ↦ inl (is_within-level a k w (omega (arith, same)))
       ]
 
-  -- of the points given to a node, and of those in it, the same ones lose
+  -- the same points lose among the points given to a node and among those in it
   loses_there : (a : VoxelKey) → SinksBelow a → (p : Point) → loses rules a.depth (given rules sunk a) p ≡ true → loses rules a.depth (node_at s.nodes a).points p ≡ true
   loses_there a sinks p lost =
       let b = best rules a.depth (given rules sunk a) p lost in
@@ -204,7 +204,7 @@ module _ (rules : Rules) (points : List Point) (s : State) (law : KeepsLaw rules
   nodes-sampled =
       tiles_step s.nodes (λ e m. m) ∙ ap (λ (keys : List VoxelKey). map (tile_at rules sunk) keys) keys-sampled
 
-  -- an octant is open where its child is one of them
+  -- an octant is open if its child is one of them
   pub opens-to-node : (k : VoxelKey) (o : ℕ) → o < 8 → has_open (node_at s.nodes k) o ≡ is_node rules sunk (child k o)
   opens-to-node k o low =
       elim (either (has_open (node_at s.nodes k) o)) [

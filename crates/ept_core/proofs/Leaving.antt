@@ -61,7 +61,7 @@ length-filter_filter test keep [] = omega arith
 length-filter_filter test keep (p ∷ xs) =
     length_filter_step test keep p xs (keep p) (test p) refl refl (length-filter_filter test keep xs)
 
--- of the points that stay no more lose in an octant
+-- the number of losers in an octant is no greater among the points that stay
 pub losers-kept : (rules : Rules) (depth : ℕ) (was : ℕ → Bool) (given : List Point) (o : ℕ) → length (losers rules depth (kept rules depth was given) o) ≤ length (losers rules depth given o)
 unfolding losers kept
 losers-kept rules depth was given o =
@@ -72,7 +72,7 @@ losers-kept rules depth was given o =
     loses-stays : (rules : Rules) (depth : ℕ) (was : ℕ → Bool) (given : List Point) (p : Point) → loses rules depth (filter (λ q. not (leaves rules depth was given q)) given) p ≡ loses rules depth given p
     loses-stays rules depth was given p = loses-kept rules depth was given p
 
--- who loses among some loses among more
+-- a point that loses among some points loses among more
 pub loses-more : (rules : Rules) (depth : ℕ) (xs ys : List Point) (p : Point) → ((q : Point) → IsMember q xs → IsMember q ys) → loses rules depth xs p ≡ true → loses rules depth ys p ≡ true
 loses-more rules depth xs ys p among lost =
     let b = beaten-loses rules depth xs p lost in loses-beaten rules depth ys b.0 p (among b.0 b.1) b.2

@@ -1,4 +1,4 @@
--- What a map of nodes answers.
+-- What lookups in a map of nodes return.
 use Rattle.std.proofs.Common.{◌≡◌, ◌∙◌, ℕ, Bool, true, false, cond, ◌||◌, inl, inr, List, [], ◌∷◌, refl, sym, ap, subst, Option, Some, None, Ordering, zero, suc, ◌<◌, arith, get_or, replicate}
 use Rattle.std.specs.declared.cmp.Ordering.TheVariants.{Less, Equal, Greater}
 use Rattle.std.specs.Ordering.{match_ordering, is_lt, is_eq}
@@ -29,7 +29,7 @@ unfolding IsStrictlySortedBy
 sorted-rising [] up = tt
 sorted-rising (k ∷ ks) up = (each_above k ks up.0, sorted-rising ks up.1)
 
--- what is found of a key
+-- what is found at a key
 abbrev pub IsFound : List Entry → VoxelKey → Option Node → Type 0
 IsFound nodes k None = (has_node nodes k ≡ false) × (node_at nodes k ≡ blank)
 IsFound nodes k (Some n) = (has_node nodes k ≡ true) × (node_at nodes k ≡ n)

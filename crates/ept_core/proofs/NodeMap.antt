@@ -85,7 +85,7 @@ blank_at : (k : VoxelKey) → node_at [] k ≡ blank
 unfolding node_at
 blank_at k = refl
 
--- where no node of the key is
+-- if there is no node of the key
 pub node_at-absent : (nodes : List Entry) (k : VoxelKey) → ((e : Entry) → IsMember e nodes → same_key e.0 k ≡ false) → node_at nodes k ≡ blank
 node_at-absent [] k none = blank_at k
 node_at-absent (e ∷ es) k none =
@@ -107,7 +107,7 @@ node_at-entry (e ∷ es) k p m =
           (r.0, inr r.1, r.2, r.3 ∙ sym stay)
     ]
 
--- where keys rise, a node is that of its key
+-- if keys rise, a node is that of its key
 pub node_at-member : (nodes : List Entry) (e : Entry) → IsRising key_before (keys_of nodes) → IsMember e nodes → node_at nodes e.0 ≡ e.1
 node_at-member [] e up m = absurd m
 node_at-member (g ∷ es) e up (inl is) =

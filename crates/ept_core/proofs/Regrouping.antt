@@ -1,4 +1,4 @@
--- The law does not see in which flights the points fly to their nodes, nor in which order.
+-- The law does not depend on the flights in which points fly to their nodes, nor on their order.
 use Rattle.std.proofs.Common.{◌≡◌, ◌∙◌, Bool, ◌⊎◌, inl, inr, List, [], ◌∷◌, ◌++◌, refl, sym, ap, subst, arith, length, count_by}
 use Rattle.std.specs.List.{sum_by}
 use Rattle.std.specs.List.Sorted.{IsPermutation}
@@ -138,14 +138,14 @@ alike-keeps rules points one other alike law =
       flying = full;
     }
 
--- of two states that fly alike both keep the law or neither
+-- if two states fly alike, both keep the law or neither does
 pub flights-free : (rules : Rules) (points : List Point) (one other : State) → FliesAlike one other → (KeepsLaw rules points one → KeepsLaw rules points other) × (KeepsLaw rules points other → KeepsLaw rules points one)
 flights-free rules points one other alike =
     (alike-keeps rules points one other alike, alike-keeps rules points other one (alike-sym one other alike))
 
 -- ---- flights and points in another order
 
--- each flight has its like
+-- each flight has its counterpart
 like_there : (fs gs : List Flight) → EachIsReordered fs gs → (f : Flight) → IsMember f fs → (g : Flight) × IsMember g gs × IsReordered f g
 like_there [] gs each f m = absurd m
 like_there (h ∷ fs) [] each f m = absurd each
@@ -220,6 +220,6 @@ reordered-alike one other same = record {
         let r = like_back same.flights.0 other.flights each g m in
         (r.0, IsMember-IsPermutation r.0 same.flights.0 one.flights first_back r.1, empty_like g.points r.0.points (IsPermutation-sym r.0.points g.points r.2.points) none)
 
--- of two states that are the same but for the order of the flights, and of the points in each, both keep the law or neither
+-- Two states may differ in the order of the flights and of the points in each. Then both keep the law or neither does.
 pub order-free : (rules : Rules) (points : List Point) (one other : State) → FliesReordered one other → (KeepsLaw rules points one → KeepsLaw rules points other) × (KeepsLaw rules points other → KeepsLaw rules points one)
 order-free rules points one other same = flights-free rules points one other (reordered-alike one other same)

@@ -53,7 +53,7 @@ child-is_node rules qs k o low over = some (losers rules k.depth (given rules qs
         let goes : leaves rules k.depth none_open (given rules qs k) p ≡ true = leaves-from rules k.depth none_open (given rules qs k) p l.1 (over-open rules k.depth none_open (given rules qs k) (octant rules k.depth p) (subst (λ (n : ℕ). overflows rules k.depth (given rules qs k) n ≡ true) (sym l.2) over)) in
         subst (λ (n : ℕ). is_node rules qs (child k n) ≡ true) l.2 (is_node-given rules qs (child k (octant rules k.depth p)) p (leaves-given rules qs k p l.0 goes))
 
--- and a child with points is of one that overflows
+-- and a child with points is the child of an octant that overflows
 pub is_node-child : (rules : Rules) (qs : List Point) (k : VoxelKey) (o : ℕ) → o < 8 → is_node rules qs (child k o) ≡ true → overflows rules k.depth (given rules qs k) o ≡ true
 is_node-child rules qs k o low e =
     let deep = depth-child k o in
@@ -119,7 +119,7 @@ module _ (rules : Rules) (points qs rest : List Point) (resident : VoxelKey → 
   rising : IsRising key_before (keys_of s.nodes)
   rising = subst (λ (w : List VoxelKey). IsRising key_before w) (sym (keys_are (node_keys rules qs))) (IsRising-node_keys rules qs)
 
-  -- ---- what stands at a key
+  -- ---- what is at a key
 
   there : (k : VoxelKey) → is_node rules qs k ≡ true → node_at s.nodes k ≡ resumed_node rules qs (resident k) k
   there k e =

@@ -1,5 +1,5 @@
--- What the law says of a state: each key that holds points is one of the sampling, and where nothing flies the nodes
--- are the sampling.
+-- What the law means for a state: each key that holds points is one of the sampling. If nothing flies, the nodes are
+-- the sampling.
 use Rattle.std.proofs.Common.{◌≡◌, ◌∙◌, ℕ, zero, suc, ◌+◌, ◌≤◌, ◌<◌, Bool, true, false, cond, inl, List, [], ◌∷◌, refl, sym, ap, subst, arith, filter, length}
 use Rattle.std.specs.List.{list_any}
 use Rattle.std.specs.List.Sorted.{IsPermutation}
@@ -35,7 +35,7 @@ length-filter_le test (x ∷ xs) = step (test x) (length-filter_le test xs)
     step true h = omega (arith, h)
     step false h = omega (arith, h)
 
--- points with distinct ids that are among others with distinct ids are no more
+-- if points with distinct ids are among others with distinct ids, their number is at most that of the others
 pub length-among : (xs ys : List Point) → HasDistinctIds xs → HasDistinctIds ys → ((p : Point) → IsMember p xs → IsMember p ys) → length xs ≤ length ys
 length-among xs ys once once' among =
     let mine : Point → Bool = λ q. list_any (λ r. same_id r q) xs in

@@ -1,4 +1,4 @@
--- What holds of each core. Each statement stands on the contract of a function of `laws`.
+-- What holds of each core. Each statement is proved by the contract of a function of `laws`.
 use Rattle.std.specs.Prelude.{◌≡◌, ◌<◌, ◌↔◌, ℕ, Bool, true, List, [], ◌++◌, map}
 use Rattle.ept_point.specs.declared.point.Point.{Point}
 use Rattle.ept_space.specs.declared.cube.Rules.{Rules}
@@ -35,18 +35,18 @@ abbrev pub ResumedKeepsLaw : Type 0
 ResumedKeepsLaw =
     (rules : Rules) (points first rest : List Point) (resident : VoxelKey → Bool) → CanBeSampled rules points → points ≡ first ++ rest → KeepsLaw rules points (resumed rules first rest resident)
 
--- where nothing is in flight, the nodes are the sampling of the points that were drawn
+-- if nothing is in flight, the nodes are the sampling of the points that were drawn
 abbrev pub LandedIsSampled : Type 0
 LandedIsSampled =
     (rules : Rules) (points first : List Point) (s : State) → KeepsLaw rules points s → s.flights ≡ [] → points ≡ first ++ s.left → map tile_of s.nodes ≡ sampled rules first
 
--- and an octant of a node is open where its child is one of these nodes, and not elsewhere
+-- and an octant of a node is open if, and only if, its child is one of these nodes
 abbrev pub LandedOpensToNodes : Type 0
 LandedOpensToNodes =
     (rules : Rules) (points first : List Point) (s : State) (key : VoxelKey) (o : ℕ) → KeepsLaw rules points s → s.flights ≡ [] → points ≡ first ++ s.left → o < 8 → has_open (node_at s.nodes key) o ≡ is_node rules first (child key o)
 
--- whatever events lead to a state, a key at which it holds a point is one of the sampling of any first points that
--- have all the points drawn
+-- Whatever events lead to a state, it holds points only at keys of the sampling. The sampling may be of any first
+-- points that include all points drawn.
 abbrev pub HeldKeysAreNodes : Type 0
 HeldKeysAreNodes =
     (rules : Rules) (points first between rest : List Point) (old new : State) (events : List Event) (key : VoxelKey) (p : Point) → KeepsLaw rules points old → Run rules old events new → IsHeld new key p → points ≡ first ++ rest → new.left ≡ between ++ rest → is_node rules first key ≡ true
@@ -61,12 +61,12 @@ abbrev pub ArrivalsHaveDistinctIds : Type 0
 ArrivalsHaveDistinctIds =
     (rules : Rules) (points : List Point) (s : State) (f : Flight) → KeepsLaw rules points s → IsMember f s.flights → HasDistinctIds (f.points ++ (node_at s.nodes f.key).points)
 
--- of two states that are the same but for the order of the flights, and of the points in each, both keep the law or neither
+-- Two states may differ in the order of the flights and of the points in each. Then both keep the law or neither does.
 abbrev pub OrderIsFree : Type 0
 OrderIsFree =
     (rules : Rules) (points : List Point) (one other : State) → FliesReordered one other → KeepsLaw rules points one ↔ KeepsLaw rules points other
 
--- and so of two states that are the same but for the flights in which the same points fly to the same nodes
+-- The same holds if two states are the same, except for the flights in which the same points fly to the same nodes.
 abbrev pub FlightsAreFree : Type 0
 FlightsAreFree =
     (rules : Rules) (points : List Point) (one other : State) → FliesAlike one other → KeepsLaw rules points one ↔ KeepsLaw rules points other

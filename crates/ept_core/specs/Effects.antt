@@ -1,4 +1,4 @@
--- The flights of the points that leave a node, where it is known which of its octants are open afterwards.
+-- The flights of the points that leave a node, if it is known which of its octants are open afterwards.
 use Rattle.std.specs.Prelude.{ℕ, zero, suc, Bool, false, ◌==◌, List, [], ◌++◌, filter, slice_index_or, if◌then◌else◌}
 use Rattle.ept_point.specs.declared.point.Point.{Point}
 use Rattle.ept_space.specs.declared.cube.Rules.{Rules}
@@ -11,7 +11,7 @@ use Rattle.ept_core.specs.Steps.{flight_of}
 abbrev pub part_of : Rules → ℕ → List Point → Bool → ℕ → List Point
 part_of rules depth losers is_open o = if is_open then filter (λ p. octant rules depth p == o) losers else []
 
--- the flights of the losers of the first so many octants
+-- the flights of the losers of the octants below a number
 unfoldable pub flights_below : ℕ → Rules → VoxelKey → List Point → List Bool → ℕ → List Flight
 flights_below actor rules key losers opened zero = []
 flights_below actor rules key losers opened (suc o) =

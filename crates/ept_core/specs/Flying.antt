@@ -9,20 +9,20 @@ use Rattle.ept_core.specs.State.{State, IsFlying, flown}
 
 -- ---- another order
 
--- the two flights are the same but for the order of their points
+-- the two flights are the same, except for the order of their points
 pub record IsReordered (f g : Flight) : Type 0 where
   pub actor : f.actor ≡ g.actor
   pub key : f.key ≡ g.key
   pub points : IsPermutation f.points g.points
 
--- so are the flights of each place
+-- so are the flights at each place
 abbrev pub EachIsReordered : List Flight → List Flight → Type 0
 EachIsReordered [] [] = ⊤
 EachIsReordered [] (g ∷ gs) = ⊥
 EachIsReordered (f ∷ fs) [] = ⊥
 EachIsReordered (f ∷ fs) (g ∷ gs) = IsReordered f g × EachIsReordered fs gs
 
--- the states are the same but for the order of the flights, and of the points in each
+-- the states are the same, except for the order of the flights and of the points in each
 pub record FliesReordered (one other : State) : Type 0 where
   pub left : one.left ≡ other.left
   pub nodes : one.nodes ≡ other.nodes
@@ -34,8 +34,8 @@ pub record FliesReordered (one other : State) : Type 0 where
 abbrev pub HasEmptyFlight : List Flight → Type 0
 HasEmptyFlight flights = (f : Flight) × IsMember f flights × (f.points ≡ [])
 
--- the states are the same but for the flights, and in these the same points fly, each as often, to the same nodes:
--- whosever the flights are, in whatever order, and however many points fly together
+-- The states are the same, except for the flights. The same points fly, each as often, to the same nodes. It does not
+-- matter who carries them, in which order, and how many fly together.
 pub record FliesAlike (one other : State) : Type 0 where
   pub left : one.left ≡ other.left
   pub nodes : one.nodes ≡ other.nodes

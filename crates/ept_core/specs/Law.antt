@@ -1,4 +1,4 @@
--- The law of the core. It speaks of a state alone: of no order and of no history.
+-- The law of the core. It is about a state alone, not about order or history.
 use Rattle.std.specs.Prelude.{◌≡◌, ◌≤◌, ◌<◌, ℕ, true, false, ◌⊎◌, List, length}
 use Rattle.std.specs.List.Sorted.{IsPermutation}
 use Rattle.std.specs.Prelude.{◌++◌}
@@ -35,8 +35,8 @@ abbrev pub HoldsMore : Rules → State → VoxelKey → Type 0
 HoldsMore rules s key =
     (points : List Point) × HasDistinctIds points × ((p : Point) → IsMember p points → IsHeldWithin s key p) × (rules.threshold < length points)
 
--- of an open octant a node has no loser, and more points than the threshold are below;
--- of a closed one above the greatest depth it has at most as many losers as the threshold
+-- A node has no loser in an open octant, and more points than the threshold are below it. In a closed octant above the
+-- greatest depth the number of its losers is at most the threshold.
 pub record IsSettled (rules : Rules) (s : State) : Type 0 where
   pub open_without_losers : (key : VoxelKey) (p : Point) → IsMember p (node_at s.nodes key).points → loses rules key.depth (node_at s.nodes key).points p ≡ true → has_open (node_at s.nodes key) (octant rules key.depth p) ≡ false
   pub open_holds_more : (key : VoxelKey) (o : ℕ) → o < 8 → has_open (node_at s.nodes key) o ≡ true → HoldsMore rules s (child key o)
@@ -47,7 +47,7 @@ abbrev pub HasBottom : Rules → State → Type 0
 HasBottom rules s =
     (key : VoxelKey) (o : ℕ) → o < 8 → has_open (node_at s.nodes key) o ≡ true → key.depth < rules.cube.depth
 
--- a list has a point
+-- the list has a point
 abbrev pub HasPoint : List Point → Type 0
 HasPoint points = (p : Point) × IsMember p points
 
@@ -56,7 +56,7 @@ pub record IsRooted (s : State) : Type 0 where
   pub has_root : has_node s.nodes root ≡ true
   pub flying : (f : Flight) → IsMember f s.flights → HasPoint f.points
 
--- no node but the root is empty; the keys of the nodes ascend, and so do the ids of the points of each
+-- no node except the root is empty; the keys of the nodes ascend, and so do the ids of the points of each
 pub record IsTidy (s : State) : Type 0 where
   pub has_points : (e : Entry) → IsMember e s.nodes → (e.0 ≡ root) ⊎ HasPoint e.1.points
   pub in_order : AreAscending (keys_of s.nodes)

@@ -9,7 +9,7 @@ use Rattle.ept_space.specs.declared.cube.Rules.{Rules}
 use Rattle.ept_core.specs.State.{State, node_at, has_node}
 use Rattle.ept_core.specs.Steps.{is_of, IsFlight, Run}
 
--- the actor of the event, if it has one, is one of so many
+-- the actor of the event, if it has one, is below the number of actors
 abbrev pub HasActor : ℕ → Event → Type 0
 HasActor actors (Draw actor count) = actor < actors
 HasActor actors (Arrive actor number) = actor < actors
@@ -21,7 +21,7 @@ abbrev pub FliesToSpilled : State → ℕ → ℕ → Type 0
 FliesToSpilled s actor number =
     (front : List Flight) × (f : Flight) × (back : List Flight) × IsFlight s.flights actor number front f back × ((node_at s.nodes f.key).is_resident ≡ false)
 
--- the event is refused by this cause, and by none before it
+-- the event is refused for this cause, and for none before it
 abbrev pub Refuses : State → ℕ → Event → StepError → Type 0
 Refuses s actors (Draw actor count) NoActor = actors ≤ actor
 Refuses s actors (Draw actor count) NoFlight = ⊥
@@ -48,7 +48,7 @@ Refuses s actors (Reload key) NotResident = ⊥
 Refuses s actors (Reload key) NotSpilled = (has_node s.nodes key ≡ true) × ((node_at s.nodes key).is_resident ≡ true)
 Refuses s actors (Reload key) Memory = ⊥
 
--- of the events those before one have happened, and this one is refused so
+-- the events before one of these have happened, and that event is refused with this error
 abbrev pub StopsAt : Rules → ℕ → State → List Event → State → StepError → Type 0
 StopsAt rules actors old events new error =
     (done : List Event) × (event : Event) × (rest : List Event) × (events ≡ done ++ event ∷ rest) × All (HasActor actors) done × Run rules old done new × Refuses new actors event error

@@ -18,7 +18,7 @@ pub record State : Type 0 where
   pub flights : List Flight
   pub nodes : List Entry
 
--- what stands where no node is: no point, and no open octant
+-- the value for a key of no node: no point, and no open octant
 abbrev pub blank : Node
 blank = record { points = []; opened = []; is_resident = true }
 

@@ -33,7 +33,7 @@ drawn actor count s = record {
   nodes = s.nodes;
 }
 
--- ---- Arrive: a flight's points come to its node
+-- ---- Arrive: a flight's points arrive at its node
 
 -- the points of the node and of the flight, in id order
 unfoldable pub gathered : List Entry → Flight → List Point
@@ -47,12 +47,12 @@ node_after rules key n given = record {
   is_resident = true;
 }
 
--- the flights of the points that leave, one for each octant with some
+-- the flights of the points that leave, one for each octant that has some
 unfoldable pub flights_after : ℕ → Rules → VoxelKey → Node → List Point → List Flight
 flights_after actor rules key n given =
     flat_map (λ o. flight_of actor (child key o) (sent rules key.depth (has_open n) given o)) all_octants
 
--- the state after the flight f arrived, where the others are the other flights
+-- the state after the flight f has arrived; `others` are the other flights
 abbrev pub arrived : Rules → Flight → List Flight → State → State
 arrived rules f others s = record {
   left = s.left;
@@ -64,7 +64,7 @@ arrived rules f others s = record {
 abbrev pub is_of : ℕ → Flight → Bool
 is_of actor f = f.actor == actor
 
--- f is the actor's flight of that number: so many of the actor's are in front of it
+-- f is the actor's flight of that number: `number` flights of the actor come before it
 pub record IsFlight (flights : List Flight) (actor number : ℕ) (front : List Flight) (f : Flight) (back : List Flight) : Type 0 where
   pub stands : flights ≡ front ++ f ∷ back
   pub of_actor : f.actor ≡ actor
@@ -96,9 +96,9 @@ abbrev pub Run : Rules → State → List Event → State → Type 0
 Run rules old [] new = new ≡ old
 Run rules old (event ∷ events) new = (mid : State) × Step rules old event mid × Run rules mid events new
 
--- ---- where a core begins
+-- ---- the beginning of a core
 
--- the node of a key in the sampling of points: an octant is open where its child is a node
+-- the node of a key in the sampling of points: an octant is open if its child is a node
 unfoldable pub resumed_node : Rules → List Point → Bool → VoxelKey → Node
 resumed_node rules points resident key = record {
   points = sampling rules points key;

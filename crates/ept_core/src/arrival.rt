@@ -1,4 +1,4 @@
-//! What points that arrive at a node make: the node afterwards, and the flights of those that leave it.
+//! What points that arrive at a node do: the node afterwards, and the flights of the points that leave it.
 
 ghost use Rattle.std.specs.Prelude.{◌≡◌, ◌≤◌, ◌<◌, ℕ, true, false, OnOk, OnErr, IfOk, slice_index_or, ◌++◌};
 ghost use Rattle.ept_space.specs.VoxelKey.{child};
@@ -30,7 +30,7 @@ pub(crate) fn gather(
     in_id_order(given)
 }
 
-// Adds the flight of the points to the key behind the others; no points make none.
+// Adds the flight of the points to the key after the others. If there are no points, it adds none.
 pub(crate) fn add_flight(
     alloc: Global,
     flights: &mut Vec<Flight>,
@@ -100,14 +100,14 @@ pub(crate) fn sending(
     Ok(flights)
 }
 
-// What an arrival makes: the node afterwards, and the flights that leave it.
+// What an arrival does: the node afterwards, and the flights that leave it.
 #[derive(Drop)]
 pub(crate) struct Effect {
     pub(crate) node: Node,
     pub(crate) flights: Vec<Flight>,
 }
 
-// What given points do to a node of which these octants were open.
+// What given points do to a node, of which these octants were open.
 pub(crate) fn effect_on(
     alloc: Global,
     rules: &Rules,

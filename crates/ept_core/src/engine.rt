@@ -5,8 +5,8 @@ ghost use Rattle.ept_core.specs.Machine.{state_of};
 
 use crate::machine::Machine;
 
-/// The machine under the builder: points that are left, flights of points on their way to nodes, and
-/// nodes. It keeps the law for its points, whatever events happen.
+/// The machine of a builder: points that are left, flights of points on their way to nodes, and nodes. It keeps the law
+/// for its points, whatever events happen.
 #[derive(Drop)]
 pub struct Core {
     pub(crate) machine: Machine,

@@ -2,20 +2,20 @@
 
 ghost use Rattle.ept_core.specs.CoreLaws.{StepsKeepLaw, RunsKeepLaw, BeginningKeepsLaw, ResumedKeepsLaw, LandedIsSampled, LandedOpensToNodes, HeldKeysAreNodes, OpenChildrenAreNodes, ArrivalsHaveDistinctIds, OrderIsFree, FlightsAreFree};
 
-/// Each step, and so each list of events in whatever order, keeps the law.
+/// Each step keeps the law, and so does each list of events in any order.
 pub fn step_law()
     ensures step { StepsKeepLaw }
     ensures run { RunsKeepLaw }
 {}
 
-/// The law holds where a core begins, and where one goes on from the sampling of the first points.
+/// The law holds when a core begins, and when one resumes from the sampling of the first points.
 pub fn start_law()
     ensures beginning { BeginningKeepsLaw }
     ensures resumed { ResumedKeepsLaw }
 {}
 
-/// Where nothing is in flight the nodes are the sampling of the points that were drawn, and the open
-/// octants are those whose children are nodes.
+/// If nothing is in flight, the nodes are the sampling of the points that were drawn. The open octants are then those
+/// whose children are nodes.
 pub fn landed_law()
     ensures sampled { LandedIsSampled }
     ensures opened { LandedOpensToNodes }
@@ -27,8 +27,8 @@ pub fn key_law()
     ensures opened { OpenChildrenAreNodes }
 {}
 
-/// A flight brings to its node no id that stands there. The order of the flights, and of the points
-/// within a flight, is free; so is who carries which points to a node, and how many fly together.
+/// A flight has no id that its node already has. The order of the flights, and of the points within a flight, is free.
+/// So is who carries which points to a node, and how many fly together.
 pub fn flight_law()
     ensures distinct { ArrivalsHaveDistinctIds }
     ensures order { OrderIsFree }

@@ -1,8 +1,8 @@
-//! The machine under the builder: points are drawn by actors, arrive at nodes and move down as octants
-//! open, while nodes are evicted and reloaded, in any order.
+//! The machine of a builder. Actors draw points, which arrive at nodes and move down as octants open. Meanwhile nodes
+//! are evicted and reloaded. All of this may happen in any order.
 //!
-//! A law holds of each state that any list of events leads to. A state that has nothing left and
-//! nothing in flight has the sampling of the points as its nodes.
+//! A law holds of each state that any list of events leads to. If a state has nothing left and nothing in flight, its
+//! nodes are the sampling of the points.
 #![tactic(auto)]
 
 mod arrival;

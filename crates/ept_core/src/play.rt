@@ -1,4 +1,4 @@
-//! What is done with a core.
+//! What can be done with a core.
 
 ghost use Rattle.std.specs.Prelude.{◌≡◌, ◌↔◌, IsTrue, [], map, OnOk, OnErr, IfOk, IfErr, All};
 ghost use Rattle.ept_sample.specs.Place.{AllInCube};
@@ -22,8 +22,8 @@ use std::alloc::Global;
 use std::collections::BTreeMap;
 
 impl Core {
-    /// A core of these points, of which none was drawn. The root is there, resident and empty. The ids
-    /// of the points differ, and the points lie in the cube.
+    /// Makes a core of these points, of which none was drawn. The root is there, resident and empty. The ids of the
+    /// points differ, and the points lie in the cube.
     pub fn new(alloc: Global, points: &[Point], rules: &Rules, actors: u32) -> Result<Core, Memory>
         requires distinct { HasDistinctIds points.now }
         requires inside { AllInCube rules.now.cube points.now }
@@ -54,7 +54,7 @@ impl Core {
         Ok(Core { machine })
     }
 
-    /// Tells a proof the law, which each core keeps for its points.
+    /// Exposes the law, which each core keeps for its points, to the caller's proof. Does nothing at run time.
     pub fn known(&self)
         ensures law { ∥ KeepsLaw (rules_of self.now) (points_of self.now) (shown self.now) ∥₁ }
     {
@@ -74,7 +74,7 @@ impl Core {
         self.machine.step(event)
     }
 
-    /// Whether nothing is left and nothing in flight. The nodes are then the sampling of the points.
+    /// Whether nothing is left and nothing is in flight. The nodes are then the sampling of the points.
     pub fn finished(&self) -> bool
         ensures done { IsTrue result ↔ (((shown self.now).left ≡ []) × ((shown self.now).flights ≡ [])) }
     {
@@ -82,7 +82,7 @@ impl Core {
             && self.machine.flights.is_empty()
     }
 
-    /// The nodes as tiles, in key order. Where the core is finished they are the sampling of the points.
+    /// The nodes as tiles, in key order. If the core is finished, they are the sampling of the points.
     pub fn tiles(&self) -> Result<Tiles, Memory>
         ensures nodes { IfOk result (λ t. t.tiles ≡ map tile_of (shown self.now).nodes) }
         ensures sampled { IfOk result (λ t. (shown self.now).left ≡ [] → (shown self.now).flights ≡ []
@@ -102,7 +102,7 @@ impl Core {
     }
 }
 
-/// Lets the events happen in order, up to the first that is refused; those before it have happened.
+/// Lets the events happen in order, up to the first that is refused. The events before it have happened.
 pub fn run_events(core: &mut Core, events: &[Event]) -> Result<(), StepError>
     ensures ok { OnOk result (Run (rules_of core.old) (shown core.old) events.now (shown core.new)) }
     ensures actor { OnOk result (All (HasActor (actors_of core.old)) events.now) }

@@ -14,7 +14,7 @@ use ept_point::{Memory, Point};
 use ept_sample::OCTANTS;
 use ept_space::Key;
 
-// The place of the actor's flight of that number among the flights.
+// The place among the flights of the actor's flight of that number.
 pub(crate) fn find_flight(flights: &[Flight], actor: u32, number: u32) -> Option<usize>
     ensures { MatchOption result
         (count_by (is_of actor) flights.now ≤ number)
@@ -54,7 +54,7 @@ impl Machine {
         Ok(())
     }
 
-    // Whether the key is that of a node, and then whether it is resident.
+    // Whether the key is that of a node, and if so, whether the node is resident.
     pub(crate) fn residence(&self, key: &Key) -> Option<bool>
         ensures { MatchOption result (has_node self.now.nodes.entries key.now ≡ false)
             (λ r. (has_node self.now.nodes.entries key.now ≡ true) × ((node_at self.now.nodes.entries key.now).is_resident ≡ r)) }
@@ -79,7 +79,7 @@ impl Machine {
         }
     }
 
-    // The points and the open octants of the node of a key; none where it is no node.
+    // The points and the open octants of the node of a key; none if there is no such node.
     fn standing(&self, key: &Key) -> (&[Point], [bool; OCTANTS])
         ensures points { result.0.now ≡ (node_at self.now.nodes.entries key.now).points }
         ensures opened { (o : ℕ) → o < OCTANTS → has_open (node_at self.now.nodes.entries key.now) o ≡ slice_index_or result.1 o false }
@@ -90,7 +90,7 @@ impl Machine {
         }
     }
 
-    // Whether the points of the node of a key are in memory; those of no node are.
+    // Whether the points of the node of a key are in memory; true if there is no such node.
     pub(crate) fn is_resident(&self, key: &Key) -> bool
         ensures { result ≡ (node_at self.now.nodes.entries key.now).is_resident }
     {
@@ -100,7 +100,7 @@ impl Machine {
         }
     }
 
-    // What the flight of that place does to its node.
+    // What the flight at that place does to its node.
     fn effect_of(&self, index: usize) -> Result<Effect, Memory>
         requires index { index < length self.now.flights.items }
         requires law { ∥ KeepsLaw self.now.rules self.now.points (state_of self.now) ∥₁ }
@@ -119,7 +119,7 @@ impl Machine {
         )
     }
 
-    // Lets the flight of that place arrive.
+    // Lets the flight at that place arrive.
     pub(crate) fn arrive(&mut self, index: usize) -> Result<(), Memory>
         requires index { index < length self.old.flights.items }
         requires law { ∥ KeepsLaw self.old.rules self.old.points (state_of self.old) ∥₁ }

@@ -1,4 +1,4 @@
--- The header of a file, where it has one without a fault.
+-- The header of a file, if it has one without a fault.
 use Rattle.std.proofs.Common.{◌≡◌, inr, ℕ, ◌<◌, true, List, Option, Some, None, Result, Ok, refl, length, take, arith}
 use Rattle.std.specs.Prelude.{codes}
 use Rattle.ept_las.specs.declared.header.Header.{Header}
@@ -35,7 +35,7 @@ known_fault head expect Expect = known_differs expect head
 known_fault head expect (Truncated number) = inr (λ h. h)
 
 module _ (head : List ℕ) (expect : Option (List ℕ)) where
-  -- the header has not this fault
+  -- the header does not have this fault
   Lacks : LasError → Type 0
   Lacks fault = HasFault head expect fault → ⊥
 
@@ -91,7 +91,7 @@ module _ (head : List ℕ) (expect : Option (List ℕ)) where
   known_sound : Known (HasNoneBelow head expect 10)
   known_sound = known_like none_below lacks_all known_all_lacking
 
--- what the bytes say
+-- what the bytes mean
 header_in : List ℕ → Header
 header_in head = record { minor = minor_of head; format = format_of head; length = stated_length_of head; offset = point_offset_of head; points = points_of head }
 

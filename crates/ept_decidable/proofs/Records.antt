@@ -1,4 +1,4 @@
--- The point of a record, where its bytes hold one.
+-- The point of a record, if its bytes hold one.
 use Rattle.std.proofs.Common.{◌≡◌, ℕ, zero, suc, ◌<◌, ◌≤◌, ◌^◌, ℤ, List, [], ◌∷◌, length, refl, subst, inl, inr, arith, FitsSigned}
 use Rattle.std.specs.Prelude.{slice_index}
 use Rattle.std.proofs.lemmas.Bool.{cases_lt}
@@ -74,7 +74,7 @@ module _ (x y z : ℤ) (intensity class : ℕ) (angle_rank angle : ℤ) (user so
 
 -- ---- the point
 
--- what the bytes of a record say is what a point may have
+-- what the bytes of a record mean is what a point may have
 record MayBePoint (format : ℕ) (shift : Shift) (source number : ℕ) (bytes : List ℕ) : Type 0 where
   pub return_number : IsWithin ReturnNumber (return_number_of (is_extended format) bytes)
   pub number_of_returns : IsWithin NumberOfReturns (number_of_returns_of (is_extended format) bytes)

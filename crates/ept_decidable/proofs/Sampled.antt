@@ -29,7 +29,7 @@ none_counted test [] none = refl
 none_counted test (p ∷ points) none =
     omega (arith, count_by-cons test p points ∙ ap (λ (b : Bool). cond b 1 0 + count_by test points) (none p (inl refl)), none_counted test points (λ q m. none q (inr m)))
 
--- a point in front whose id no other has
+-- a point before others, whose id no other has
 joined : (p : Point) (points : List Point) → HasDistinctIds points → ((q : Point) → IsMember q points → same_id p q ≡ false) → HasDistinctIds (p ∷ points)
 unfolding HasDistinctIds
 joined p points once apart r = elim (either (same_id r p)) [

@@ -1,4 +1,4 @@
--- What can be told of files and of nodes. Each statement stands on the contract of a function of `laws`.
+-- What can be computed of files and of nodes. Each statement is proved by the contract of a function of `laws`.
 use Rattle.std.specs.Prelude.{◌≡◌, ◌↔◌, ℕ, Bool, List, Option, Some}
 use Rattle.std.specs.Bool.{Decides}
 use Rattle.ept_point.specs.declared.point.Point.{Point}
@@ -9,12 +9,12 @@ use Rattle.ept_sample.specs.Ids.{HasDistinctIds}
 use Rattle.ept_sample.specs.SamplingLaws.{CanBeSampled}
 use Rattle.ept_table.specs.Octree.{Branch, AreSampled}
 
--- there is an answer to whether the fact holds
+-- whether the fact holds is computed
 abbrev pub IsDecided : Type 0 → Type 0
 IsDecided fact = (answer : Bool) × Decides answer fact
 
--- Of each reader there is the list of the points that are left, or none: the one list that these are, where the sources hold the
--- bytes that were scanned.
+-- For each reader there is the list of the points that are left, or none. If the sources hold the bytes that were
+-- scanned, it is the one list of these points.
 abbrev pub RestIsKnown : {S : Type 0} → (S → Option (List ℕ)) → Type 0
 RestIsKnown {S} whole = (reader : Reader S) → (rest : Option (List Point)) × ((points : List Point) → (rest ≡ Some points) ↔ IsRest whole reader points)
 

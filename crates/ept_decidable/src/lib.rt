@@ -1,7 +1,7 @@
-//! What can be told of files and of nodes by what they hold: the points that are left of files, and whether points can be
-//! sampled and nodes are a sampling.
+//! What can be computed from the contents of files and of nodes. This is the points that are left of files, whether
+//! points can be sampled, and whether nodes are a sampling.
 //!
-//! Each is computed, so that a proof may choose by it.
+//! A proof may therefore choose by each of these.
 #![tactic(auto)]
 
 mod laws;

@@ -1,4 +1,4 @@
--- The table may be told of the octree and of the reader.
+-- The octree and the reader are a valid ghost input of the table.
 use Rattle.std.proofs.Common.{◌≡◌, ◌∙◌, ℕ, ◌+◌, ◌-◌, ◌<◌, true, List, [], ◌∷◌, ◌++◌, map, length, take, drop, refl, sym, ap, subst, arith, Option, Some, None, Contains, flat_map, sum_by, length-append, length-drop}
 use Rattle.std.specs.List.{All, AllZip}
 use Rattle.std.proofs.lemmas.List.Elements.{All-nil, All-cons, All-head, All-tail}
@@ -76,14 +76,14 @@ module _ {S : Type 0} (whole : S → Option (List ℕ)) where
   points_ahead (part ∷ parts) (l ∷ lists) hold =
       omega (arith, length-append l (in_order lists), hold.0.count, points_ahead parts lists hold.1, sum_by-cons (λ (p : Part S). p.points) part parts)
 
-  -- as many as the reader has left
+  -- the number of points that the reader has left
   pub left-number : (left : S → Option (List ℕ)) (given faults : S → ℕ) (reader : Reader S) (points : List Point) → IsReader whole left given faults reader → refusal_of reader ≡ None → IsRest whole reader points → length points ≡ left_of reader
   left-number left given faults reader points is sound rest =
       let all : length (in_order rest.lists) ≡ sum_by (λ (part : Part S). part.points) (drop reader.queue.at reader.queue.parts.items) = points_ahead (drop reader.queue.at reader.queue.parts.items) rest.lists rest.hold in
       let some : length points ≡ length (in_order rest.lists) - reader.queue.cursor.number = ap (λ (w : List Point). length w) rest.rest ∙ length-drop reader.queue.cursor.number (in_order rest.lists) in
       some ∙ ap (λ (n : ℕ). n - reader.queue.cursor.number) all ∙ is.counts sound
 
--- ---- the root stands in the first slot
+-- ---- the root is in the first slot
 
 module _ {F : Type 0} (held : F → Option (List ℕ)) (octree : Octree F) where
   fills : FillSlots (most_of octree) (forest.used_of (forest_of octree)) (taken_in held (forest.nodes_of (forest_of octree)))
@@ -97,7 +97,7 @@ module _ {F : Type 0} (held : F → Option (List ℕ)) (octree : Octree F) where
       let items = taken_in held (forest.nodes_of (forest_of octree)) in
       subst (λ (keys : List VoxelKey). At keys 0 root) (sym (flat-at key_in fills.top.1)) (subst (λ (key : VoxelKey). At (key ∷ flat_map key_in (drop 2 items)) 0 root) (sym fills.top.2) (at-zero root (flat_map key_in (drop 2 items))))
 
--- ---- what the table is told
+-- ---- the ghost input of the table
 
 module _ {F S : Type 0} (held : F → Option (List ℕ)) (node_faults keeps : F → ℕ) (whole left : S → Option (List ℕ)) (given faults : S → ℕ) (octree : Octree F) (reader : Reader S) (is : IsReader whole left given faults reader) (sound : refusal_of reader ≡ None) (inside : (p : Point) → LiesIn (files_of whole reader) p → InCube (rules_of octree).cube (place p)) (is_whole : IsWhole held octree) (is_linked : IsLinked held octree) (agrees : AgreesWithFiles held node_faults keeps octree) (unbroken : IsUnbroken octree) (number : length (points_of held octree) ≡ drawn_of reader) where
   abbrev told : Told

@@ -72,7 +72,7 @@ refusal_same {a} {b} q = ap from q
     from (Ok u) = a
     from (Err x) = x
 
--- workers were refused for this
+-- workers were refused for this reason
 module _ {F S : Type 0} (told : Told) (node_faults : F → ℕ) (faults : S → ℕ) (nodes : Forest F) (reader : Reader S) (result : Result (Unit {0}) WorkError) where
   abbrev broken_by : NodeError → Type 0
   broken_by why = Any (λ (n : Node F). fault_of n ≡ Some why) (forest.nodes_of nodes)
@@ -105,7 +105,7 @@ module _ {F S : Type 0} (told : Told) (node_faults : F → ℕ) (faults : S → 
     none_broken = λ no_fault no_damage. unbroken (λ was. no_fault (as_fault w e is told_as was)) (λ kept found at was. no_damage kept found at (as_damage w e kept found at is told_as was));
   }
 
--- there was no memory, and no node is broken
+-- memory ran out, and no node is broken
 pub lacked_memory : {F S : Type 0} (told : Told) (node_faults : F → ℕ) (faults : S → ℕ) (nodes : Forest F) (reader : Reader S) → All (λ (n : Node F). fault_of n ≡ None) (forest.nodes_of nodes) → IsRefused told node_faults faults nodes reader Memory
 lacked_memory told node_faults faults nodes reader unbroken = record {
   too_many = λ e. absurd (let x : Memory ≡ TooManyNodes = e in cc);

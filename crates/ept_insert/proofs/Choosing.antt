@@ -1,5 +1,6 @@
--- What a table is told of an octree and a reader: whether the spill files tell and the octree is the sampling of its points, which
--- can be sampled together with those that are left, and which points these are.
+-- How the ghost input of a table is computed from an octree and a reader. It has whether contents are visible, and all
+-- points. Contents are visible if those of the spill files are, and the octree is the sampling of its points. These and
+-- the points left have to be points that can be sampled together.
 use Rattle.std.proofs.Common.{◌≡◌, ℕ, Bool, true, false, inl, inr, List, [], ◌++◌, Option, Some, None, refl, ap, subst}
 use Rattle.std.proofs.lemmas.Bool.{false≢true}
 use Rattle.ept_point.specs.declared.point.Point.{Point}
@@ -49,7 +50,7 @@ module _ {F S : Type 0} (held : F → Option (List ℕ)) (whole : S → Option (
   points_in (inl t) = points_of held octree ++ t.0
   points_in (inr none) = []
 
-  -- whether they tell
+  -- whether contents are visible
   pub tells : Bool
   tells = answer known_telling
 

@@ -1,4 +1,4 @@
--- What the octree and the reader have become, of points that are left.
+-- The octree and the reader afterwards, by the points that were left.
 use Rattle.std.proofs.Common.{◌≡◌, ◌∙◌, ℕ, ◌+◌, ◌<◌, ◌≤◌, true, List, ◌++◌, length, take, drop, ap, subst, arith, Option, IsPermutation}
 use Rattle.std.proofs.Math.Seq.{take-append-add, drop-append-add}
 use Rattle.std.proofs.lemmas.List.Sorted.{IsPermutation-append_left, IsPermutation-sym}
@@ -26,7 +26,7 @@ use Rattle.ept_insert.proofs.Orders.{can-fewer, sampled-any, nodes-any, same-fir
 use Rattle.ept_insert.proofs.Choosing.{tells, points, told_so}
 use Rattle.ept_insert.proofs.Beginning.{lies-in, lies-in_input}
 
--- the first points, and so many more
+-- the first points, and the next `more` points
 taken : (ps qs xs : List Point) (n count : ℕ) → xs ≡ ps ++ qs → n ≡ length ps + count → take n xs ≡ ps ++ take count qs
 taken ps qs xs n count are long = ap (λ (k : ℕ). take k xs) long ∙ ap (λ (w : List Point). take (length ps + count) w) are ∙ take-append-add ps qs count
 
@@ -40,7 +40,7 @@ module _ {F S : Type 0} (held : F → Option (List ℕ)) (node_faults keeps : F 
   all_drawn : (new : Octree F) (now : Reader S) → HasInserted told held node_faults keeps whole left given faults octree new now → drawn_of now ≡ length (points_of held octree) + count
   all_drawn new now done = omega (arith, done.drawn, allowed, enough, number)
 
-  -- the points of the octree, and those that are left, of which some are drawn
+  -- the points of the octree, and those that are left, some of which are drawn
   module _ (first rest : List Point) (stands : StandsBetween held whole octree reader first rest) where
     same : IsPermutation first (points_of held octree) × CanBeSampled (rules_of octree) (points_of held octree ++ rest) × AreSampled (rules_of octree) (points_of held octree) (nodes_of held octree)
     same = same-first (rules_of octree) first rest (nodes_of held octree) stands.can stands.sampled

@@ -1,4 +1,4 @@
--- No node is gone.
+-- No node is lost.
 use Rattle.std.proofs.Common.{◌≡◌, ◌∙◌, ℕ, suc, true, inl, List, [], ◌∷◌, map, refl, sym, ap, subst, Option}
 use Rattle.ept_space.specs.VoxelKey.{VoxelKey}
 use Rattle.ept_sample.specs.Members.{IsMember}
@@ -30,7 +30,7 @@ entry_key [] = refl
 entry_key (b ∷ nodes) = ap (λ (keys : List VoxelKey). b.0 ∷ keys) (entry_key nodes)
 
 module _ {F : Type 0} (held : F → Option (List ℕ)) where
-  -- the key of a node is among those that stand as a table is made
+  -- the key of a node is among the keys of the first nodes of the table
   begun_key : (octree : Octree F) (key : VoxelKey) → has_node (map entry_of (nodes_of held octree)) key ≡ true → IsMember key (begun_of held octree)
   begun_key octree key is =
       let ns = forest.nodes_of (forest_of octree) in
@@ -39,7 +39,7 @@ module _ {F : Type 0} (held : F → Option (List ℕ)) where
       let its : at.1.node.key ≡ key = ap (λ (w : Branch). w.0) at.3 ∙ b.2 in
       IsMember-flat_map key_in (taken.Standing at.1) key (taken_in held ns) (at-member (taken_in held ns) at.0 (taken.Standing at.1) at.2) (inl its)
 
-  -- a node that stands in a slot has its key
+  -- a node that is in a slot has its key
   standing_key : (octree : Octree F) {S : Type 0} (whole : S → Option (List ℕ)) (reader : Reader S) (k : ℕ) (c : Cell) → At (taken.Reading (seen_reader whole reader) ∷ map (seen_node held) (forest.nodes_of (forest_of octree))) k (taken.Standing c) → has_node (map entry_of (nodes_of held octree)) c.node.key ≡ true
   standing_key octree whole reader k c at =
       let ns = forest.nodes_of (forest_of octree) in

@@ -46,7 +46,7 @@ keys_many : (rules : Rules) (ps : List Point) → length (sampled rules ps) ≡ 
 unfolding sampled
 keys_many rules ps = length-map (node_keys rules ps) (tile_at rules ps)
 
--- as many nodes, whatever the order
+-- the number of nodes is the same in any order
 pub nodes-any : (rules : Rules) (ps qs : List Point) → CanBeSampled rules ps → IsPermutation ps qs → length (node_keys rules ps) ≡ length (sampled rules qs)
 nodes-any rules ps qs can same =
     sym (keys_many rules ps) ∙ ap (λ (w : List Tile). length w) (sampled-IsPermutation rules ps qs can.cube can.inside can.distinct same)

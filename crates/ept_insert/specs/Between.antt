@@ -11,12 +11,13 @@ use Rattle.ept_table.specs.Octree.{AreSampled}
 use Rattle.ept_octree.specs.declared.octree.Octree.{Octree}
 use Rattle.ept_octree.specs.Octree.{forest_of, rules_of, nodes_of}
 
--- the spill file of each node tells
+-- the contents of each node's spill file are visible
 abbrev pub FilesTell : {F : Type 0} → (F → Option (List ℕ)) → Octree F → Type 0
 FilesTell held octree = All (λ node. DoesTell held (file_of node)) (forest.nodes_of (forest_of octree))
 
--- Where the sources hold the bytes that were scanned, and the spill files tell: the octree is the sampling of the first points,
--- those that are left are the reader's, and together they can be sampled.
+-- What holds if the sources hold the bytes that were scanned and the contents of the spill files are visible. The
+-- octree is the sampling of the first points. The points that are left are the reader's, and all together can be
+-- sampled.
 pub record StandsBetween {F S : Type 0} (held : F → Option (List ℕ)) (whole : S → Option (List ℕ)) (octree : Octree F) (reader : Reader S) (first left : List Point) : Type 0 where
   pub telling : FilesTell held octree
   pub rest : IsRest whole reader left

@@ -1,4 +1,4 @@
--- What the refusals of workers are told as.
+-- The refusals of workers as refusals of an insertion.
 use Rattle.ept_work.specs.declared.error.WorkError.{WorkError}
 use Rattle.ept_work.specs.declared.error.WorkError.TheVariants as work
 use Rattle.ept_insert.specs.declared.error.InsertError.{InsertError}

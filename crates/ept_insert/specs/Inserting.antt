@@ -1,4 +1,4 @@
--- Records inserted by a table that is told what is known of them.
+-- Records inserted by a table whose ghost input is what is known of them.
 use Rattle.std.specs.Prelude.{◌≡◌, ℕ, ◌<◌, true, List, Option, Some, None, length, map, take, min}
 use Rattle.ept_sample.specs.SamplingLaws.{CanBeSampled}
 use Rattle.ept_scan.specs.declared.second_reading.Reader.{Reader}
@@ -21,7 +21,7 @@ use Rattle.ept_insert.specs.declared.error.InsertError.{InsertError}
 use Rattle.ept_insert.specs.declared.error.InsertError.TheVariants.{SourceFault, SourceChanged, SpillFault, SpillDamaged, TooManyNodes}
 
 module _ {F S : Type 0} (told : Told) (held : F → Option (List ℕ)) (node_faults keeps : F → ℕ) (whole left : S → Option (List ℕ)) (given faults : S → ℕ) where
-  -- the table is told of this octree and of this reader, which has drawn the octree's points
+  -- the ghost input of the table is this octree and this reader, which has drawn the octree's points
   pub record MayInsert (octree : Octree F) (reader : Reader S) : Type 0 where
     pub is_told : IsTold told
     pub rules : rules_of octree ≡ told.rules
@@ -39,7 +39,7 @@ module _ {F S : Type 0} (told : Told) (held : F → Option (List ℕ)) (node_fau
     pub points : told.tells ≡ true → CanBeSampled told.rules told.points × (length told.points ≡ told.total)
     pub sampled : told.tells ≡ true → AreSampled told.rules (take (drawn_of reader) told.points) (nodes_of held octree)
 
-  -- All records of the allowance are drawn, and their points are in the octree besides.
+  -- All records of the allowance are drawn, and the octree has their points too.
   pub record HasInserted (old new : Octree F) (reader : Reader S) : Type 0 where
     pub rules : rules_of new ≡ rules_of old
     pub most : most_of new ≡ most_of old
@@ -56,7 +56,7 @@ module _ {F S : Type 0} (told : Told) (held : F → Option (List ℕ)) (node_fau
     pub filed : IsFiled whole left given faults told reader
     pub fits : FitsReader told (seen_reader whole reader)
 
--- Why they are not.
+-- Why they are not inserted.
 pub record IsRefused {F S : Type 0} (told : Told) (node_faults : F → ℕ) (faults : S → ℕ) (nodes : Forest F) (reader : Reader S) (error : InsertError) : Type 0 where
   pub too_many : error ≡ TooManyNodes → IsTooMany told
   pub fault : error ≡ SourceFault → HasFault faults reader

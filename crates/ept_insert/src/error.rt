@@ -8,15 +8,15 @@ use ept_work::WorkError;
 pub enum InsertError {
     /// A source of the reader failed: its count of faults is not 0.
     SourceFault,
-    /// This input is not what the first reading has found: its header is not, which is told as record 0, or
-    /// the record of this number ends early or lies elsewhere.
+    /// This input is not what the first reading has found. Its header differs, which is reported as record 0, or the
+    /// record of this number ends early or lies elsewhere.
     SourceChanged { source: u32, number: PointNumber },
     /// A spill file failed: its count of faults is not 0.
     SpillFault,
-    /// A spill file gave back other bytes than those of the node's tile, in whose place it has `found` bytes instead of the
-    /// `kept` ones; or the point of the number `at`, from 0, is the first that does not fit the node.
+    /// A spill file returned other bytes than those of the node's tile. It has `found` bytes instead of the `kept`
+    /// ones. Or the point of the number `at`, from 0, is the first that does not fit the node.
     SpillDamaged { kept: u64, found: u64, at: u64 },
-    /// The octree has more nodes than there may be.
+    /// The octree would have more nodes than there may be.
     TooManyNodes,
     /// Memory ran out.
     Memory,

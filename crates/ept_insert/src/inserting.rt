@@ -1,4 +1,4 @@
-//! The next records, brought into the octree.
+//! Inserts the next records into an octree.
 
 ghost use Rattle.std.specs.Prelude.{◌≡◌, ◌≢◌, ◌≤◌, ◌<◌, ◌+◌, ◌++◌, ℕ, List, Some, None, IfOk, IfErr, length, take, drop, map};
 ghost use Rattle.std.specs.List.{All, Any};
@@ -29,9 +29,9 @@ use std::marker::Brand;
 use std::sync::Wait;
 use std::thread::Threads;
 
-/// What is left where records are not inserted: the nodes and the reader, to be retired, and why.
+/// What is left if records are not inserted: the nodes and the reader, to be retired, and why.
 pub struct Refused<F, S> {
-    /// The nodes, with the points that were brought in until then.
+    /// The nodes, with the points that were inserted until then.
     pub forest: Forest<F>,
     /// The reader, which may have drawn some records.
     pub reader: Reader<S>,
@@ -39,12 +39,12 @@ pub struct Refused<F, S> {
     pub error: InsertError,
 }
 
-/// Draws so many records, of which as many are left, and lets so many workers bring their points into the octree.
+/// Draws the next `count` records, and inserts their points into the octree with `workers` workers.
 ///
 /// # Errors
 ///
-/// `TooManyNodes` where the octree has more nodes than it may have, the refusals of the reader, and those of the spill files.
-/// The nodes are those of no octree then.
+/// `TooManyNodes` if the octree would have more nodes than it may have, the refusals of the reader, and those of the
+/// spill files. The nodes are then those of no octree.
 pub fn insert<
     F: SpillFile + Send + Sync,
     S: Source + Send,
@@ -70,7 +70,7 @@ pub fn insert<
     requires number { length (points_of F.held octree) ≡ drawn_of reader }
     requires workers { (1 ≤ workers) × (workers ≤ 64) }
 
-    // Whatever the sources tell, so many points are in the octree besides, it is a whole one, and no node is gone.
+    // Whatever the sources hold, the octree has `count` points more, is whole, and has lost no node.
     ensures rules { IfOk result (λ r. rules_of r.0 ≡ rules_of octree) }
     ensures most { IfOk result (λ r. most_of r.0 ≡ most_of octree) }
     ensures cache { IfOk result (λ r. cache_of r.0 ≡ cache_of octree) }
@@ -81,8 +81,8 @@ pub fn insert<
     ensures agrees { IfOk result (λ r. AgreesWithFiles F.held F.faults F.keeps r.0) }
     ensures unbroken { IfOk result (λ r. IsUnbroken r.0) }
 
-    // Where the sources hold the bytes that were scanned, the octree of the first points is that of these and the
-    // next ones, or these have too many nodes.
+    // If the sources hold the bytes that were scanned, the octree of the first points becomes that of these and the
+    // next ones. Or it is refused, since these have too many nodes.
     ensures sampled { IfOk result (λ r. (first left : List Point) → StandsBetween F.held S.whole octree reader first left
         → AreSampled (rules_of octree) (first ++ take count left) (nodes_of F.held r.0)) }
     ensures too_many { IfErr result (λ r. r.error ≡ InsertError.TooManyNodes → (first left : List Point)
@@ -93,7 +93,7 @@ pub fn insert<
     ensures no_damage { IfErr result (λ r. (was found at : ℕ) → r.error ≡ InsertError.SpillDamaged was found at
         → (first left : List Point) → StandsBetween F.held S.whole octree reader first left → ⊥) }
 
-    // What becomes of the reader.
+    // The reader afterwards.
     ensures drawn { IfOk result (λ r. drawn_of r.1 ≡ drawn_of reader + count) }
     ensures left { IfOk result (λ r. left_of r.1 + count ≡ left_of reader) }
     ensures rest_left { IfOk result (λ r. (first left : List Point) → StandsBetween F.held S.whole octree reader first left
@@ -103,8 +103,8 @@ pub fn insert<
         → InCube (rules_of octree).cube (place p)) }
     ensures reader { IfOk result (λ r. IsReader S.whole S.left S.given S.faults r.1) }
 
-    // Whose refusal it is: that of the reader, or of a node that is broken by it, whose file has failed at `SpillFault`. Unless a
-    // broken node refuses, no node is broken.
+    // The cause of a refusal: the reader's refusal, or that of a node that is broken by it. At `SpillFault` the file of
+    // the node has failed. Unless the refusal is of a broken node, no node is broken.
     ensures fault { IfErr result (λ r. r.error ≡ InsertError.SourceFault → HasFault S.faults r.reader) }
     ensures changed { IfErr result (λ r. (source number : ℕ) → r.error ≡ InsertError.SourceChanged source number
         → refusal_of r.reader ≡ Some (read.SourceChanged source number)) }
@@ -120,8 +120,8 @@ pub fn insert<
     insert_told::<F, S, Brand, G, R>(rt, alloc, octree, reader, workers, gate)
 }
 
-// Lets so many workers bring the points of the reader's allowance into the octree, of which as many nodes may be in memory as
-// before.
+// Inserts the points of the reader's allowance into the octree with `workers` workers. The number of nodes that may be
+// in memory stays as it is.
 fn insert_told<F, S, J, G, R>(
     rt: &R,
     alloc: Global,

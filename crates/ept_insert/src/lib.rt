@@ -1,4 +1,4 @@
-//! Inserting the records of scans into an octree: so many of the next ones, by several workers.
+//! Inserting the next records of scans into an octree, by several workers.
 #![tactic(auto)]
 
 mod error;

@@ -27,9 +27,9 @@ use Rattle.ept_core.proofs.Held.{keys-rise}
 use Rattle.ept_residency.specs.Places.{kept_where, placed_nodes, placed, but_for}
 use Rattle.ept_residency.specs.PlaceLaws.{GoesTo}
 
--- ---- what is found of a key
+-- ---- what is found at a key
 
--- the node of a key, where there is one, is the same but for its place; there is none where there was none
+-- the node of a key, if there is one, is the same except for its place; there is none if there was none
 abbrev IsPlacedNode : (VoxelKey → Bool) → List Entry → VoxelKey → Type 0
 IsPlacedNode here nodes j =
     ((has_node nodes j ≡ true) × (node_at (placed_nodes here nodes) j ≡ kept_where (here j) (node_at nodes j)))
@@ -155,7 +155,7 @@ module _ (rules : Rules) (points : List Point) (s : State) (here : VoxelKey → 
     };
   }
 
--- ---- one node goes, or comes back
+-- ---- one node moves to its file, or is read back
 
 but_here : (key : VoxelKey) (there : Bool) (here : VoxelKey → Bool) (k : VoxelKey) → k ≡ key → but_for key there here k ≡ there
 but_here key there here k is = ap (λ (b : Bool). cond b there (here k)) (same_key-same key k (sym is))

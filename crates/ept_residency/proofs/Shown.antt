@@ -92,7 +92,7 @@ module _ (told : Told) (drawn : ℕ) (items : List Taken) (views : List View) (h
       drawn_in (Reading r) = r.drawn
       drawn_in x = 0
 
-  -- ---- a node of a slot goes, or comes back
+  -- ---- a node of a slot moves to its file, or is read back
 
   module _ (reader : Progress) (here : ℕ → Bool) (s : State) (k : ℕ) (c : Cell) (shows : ShowsPlaces told reader items views here s) (at : At items k (Standing c)) where
     abbrev key : VoxelKey
@@ -161,7 +161,7 @@ module _ (told : Told) (drawn : ℕ) (items : List Taken) (views : List View) (h
         let step : Step told.rules s (Reload key) (moved key true s) = (has, ap (λ (n : Node). n.is_resident) (shows.standing k c at).1 ∙ is, refl) in
         (moved key true s, step, shows_moved (Reload key) true step)
 
--- ---- a node that is given back from elsewhere
+-- ---- a node that is returned after a move
 
 standing_as : (at : NodeState) (c : Cell) → (at ≡ states.Blank → ⊥) → taken_as at c ≡ Standing c
 standing_as states.Blank c not = absurd (not refl)
@@ -169,12 +169,12 @@ standing_as states.Resident c not = refl
 standing_as states.Spilled c not = refl
 standing_as states.Broken c not = refl
 
--- where files and sources tell, it shows what it showed
+-- if contents are visible, it shows what it showed
 shows_same : (told : Told) (x y : Taken) → told.tells ≡ true → StaysAlike told x y → y ≡ x
 shows_same told x y tells (inl same) = same
 shows_same told x y tells (inr (c, d, was, is, alike)) = is ∙ (ap (λ (e : Cell). Standing e) (alike.exact tells) ∙ sym was)
 
--- what is said of the slots of nodes alone is said of each that says the same there
+-- what is stated of the slots of nodes holds of each list of places that agrees there
 elsewhere : (told : Told) (reader : Progress) (items : List Taken) (views : List View) (here there : ℕ → Bool) (s : State) → ((k : ℕ) (c : Cell) → At items k (Standing c) → here k ≡ there k) → ShowsPlaces told reader items views here s → ShowsPlaces told reader items views there s
 elsewhere told reader items views here there s same shows = record {
   law = shows.law;

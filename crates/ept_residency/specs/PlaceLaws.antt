@@ -1,4 +1,4 @@
--- What holds of where points are. Each statement stands on the contract of `place_law`.
+-- What holds of where points are. Each statement is proved by the contract of `place_law`.
 use Rattle.std.specs.Prelude.{◌≡◌, ℕ, Bool, true, false, List, [], ◌∷◌}
 use Rattle.ept_point.specs.declared.point.Point.{Point}
 use Rattle.ept_space.specs.declared.cube.Rules.{Rules}
@@ -15,12 +15,12 @@ abbrev pub PlacesAreFree : Type 0
 PlacesAreFree =
     (rules : Rules) (points : List Point) (s : State) (here : VoxelKey → Bool) → KeepsLaw rules points s → KeepsLaw rules points (placed here s)
 
--- a node that goes to its file is evicted
+-- a node that moves to its file is evicted
 abbrev pub NodesGo : Type 0
 NodesGo =
     (rules : Rules) (points : List Point) (s : State) (here : VoxelKey → Bool) (key : VoxelKey) → KeepsLaw rules points s → has_node s.nodes key ≡ true → here key ≡ true → Step rules (placed here s) (Evict key) (placed (but_for key false here) s)
 
--- one that comes back from it is reloaded
+-- a node that is read back from its file is reloaded
 abbrev pub NodesComeBack : Type 0
 NodesComeBack =
     (rules : Rules) (points : List Point) (s : State) (here : VoxelKey → Bool) (key : VoxelKey) → KeepsLaw rules points s → has_node s.nodes key ≡ true → here key ≡ false → Step rules (placed here s) (Reload key) (placed (but_for key true here) s)
@@ -35,7 +35,7 @@ abbrev pub FlightsArrive : Type 0
 FlightsArrive =
     (rules : Rules) (old new : State) (here : VoxelKey → Bool) (actor number : ℕ) (key : VoxelKey) → GoesTo old actor number key → here key ≡ true → Step rules old (Arrive actor number) new → Step rules (placed here old) (Arrive actor number) (placed here new)
 
--- one that goes to a node in its file arrives as that has been reloaded
+-- a flight to a node in its file arrives once the node has been reloaded
 abbrev pub FlightsBringBack : Type 0
 FlightsBringBack =
     (rules : Rules) (points : List Point) (old new : State) (here : VoxelKey → Bool) (actor number : ℕ) (key : VoxelKey) → KeepsLaw rules points old → GoesTo old actor number key → has_node old.nodes key ≡ true → here key ≡ false → Step rules old (Arrive actor number) new → Run rules (placed here old) (Reload key ∷ Arrive actor number ∷ []) (placed (but_for key true here) new)

@@ -12,10 +12,10 @@ kept_where here n = record { points = n.points; opened = n.opened; is_resident =
 abbrev pub placed_nodes : (VoxelKey → Bool) → List Entry → List Entry
 placed_nodes here nodes = map (λ (e : Entry). (e.0, kept_where (here e.0) e.1)) nodes
 
--- the state with its nodes so
+-- the state with its nodes in these places
 abbrev pub placed : (VoxelKey → Bool) → State → State
 placed here s = record { left = s.left; flights = s.flights; nodes = placed_nodes here s.nodes }
 
--- the same keys but for one
+-- the same keys, except one
 abbrev pub but_for : VoxelKey → Bool → (VoxelKey → Bool) → VoxelKey → Bool
 but_for key there here k = if same_key key k then there else here k

@@ -25,12 +25,13 @@ abbrev pub is_in_memory : {F S : Type 0} → Item F S → Bool
 is_in_memory (items.Node node) = is_here node
 is_in_memory (items.Reader r) = false
 
--- of each slot of a table, whether it has such a node
+-- for each slot of a table, whether it has such a node
 abbrev pub in_memory : {F S : Type 0} → List (Item F S) → ℕ → Bool
 in_memory all k = slice_index_or (map is_in_memory all) k false
 
--- The state of the core that a table and its seats show, where `here` says of each slot whether the points of its node are in
--- memory: the points from the reader's place on are left, the flights of all seats fly, and the nodes are those in the slots, where they are.
+-- The state of the core that a table and its seats show. For each slot `here` has whether the points of its node are in
+-- memory. The points from the reader's place on are left, and the flights of all seats fly. The nodes are those in the
+-- slots, with their points where they are.
 pub record ShowsPlaces (told : Told) (reader : Progress) (items : List Taken) (views : List View) (here : ℕ → Bool) (s : State) : Type 0 where
   pub law : KeepsLaw told.rules told.points s
   pub left : s.left ≡ drop reader.drawn told.points
@@ -38,11 +39,11 @@ pub record ShowsPlaces (told : Told) (reader : Progress) (items : List Taken) (v
   pub standing : (k : ℕ) (c : Cell) → At items k (Standing c) → (has_node s.nodes c.node.key ≡ true) × (node_at s.nodes c.node.key ≡ kept_where (here k) (seen c.node))
   pub in_slot : (key : VoxelKey) → has_node s.nodes key ≡ true → (k : ℕ) × (c : Cell) × At items k (Standing c) × (c.node.key ≡ key)
 
--- the same slots but for one
+-- the same slots, except one
 abbrev pub but_at : ℕ → Bool → (ℕ → Bool) → ℕ → Bool
 but_at k there here j = if j == k then there else here j
 
--- A node in a slot is given back as it was, or from elsewhere.
+-- A node in a slot is returned as it was, or after a move to or from its file.
 pub record IsMoved {F S : Type 0} (held : F → Option (List ℕ)) (told : Told) (slots : List (Item F S)) (k : ℕ) (old new : Node F) : Type 0 where
   pub at : At slots k (items.Node old)
   pub stands : state_of old ≢ states.Blank

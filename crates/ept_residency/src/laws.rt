@@ -3,8 +3,8 @@
 ghost use Rattle.ept_residency.specs.PlaceLaws.{PlacesAreFree, NodesGo, NodesComeBack, FlightsArrive, FlightsBringBack};
 ghost use Rattle.ept_residency.specs.ShowingLaws.{TablesShowPlaces, SlotsEvict, SlotsReload};
 
-/// Whichever nodes are in memory, the law holds. A node that goes to its file is evicted, one that comes back is reloaded, and
-/// a flight arrives at one that is in memory, or comes back for it.
+/// Whichever nodes are in memory, the law holds. A node that moves to its file is evicted, and a node that is read back
+/// is reloaded. A flight arrives at a node in memory, or at one that is reloaded for it.
 pub fn place_law()
     ensures free { PlacesAreFree }
     ensures goes { NodesGo }
@@ -13,8 +13,8 @@ pub fn place_law()
     ensures brings_back { FlightsBringBack }
 {}
 
-/// At every moment a table and its seats show a state that keeps the law, with each node where it is. A node of a slot that
-/// goes to its file is evicted, and one that comes back is reloaded.
+/// If contents are visible, a table and its seats show at every moment a state that keeps the law, with each node where
+/// it is. A node of a slot that moves to its file is evicted, and a node that is read back is reloaded.
 pub fn show_law<F, S>()
     ensures shows { TablesShowPlaces F S }
     ensures evicts { SlotsEvict F S }

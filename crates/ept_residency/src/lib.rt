@@ -1,5 +1,5 @@
-//! Where the points of nodes are: in memory, or in their files. It changes nothing that the law of the core speaks of, and
-//! each change of it is a step of the core.
+//! Where the points of nodes are: in memory, or in their files. The law of the core does not depend on it, and each
+//! change of it is a step of the core.
 #![tactic(auto)]
 
 mod laws;

@@ -31,7 +31,7 @@ at-get (x ∷ xs) zero a d e = some-injective x a e
 at-get (x ∷ xs) (suc i) a d e = at-get xs i a d e
 
 module _ {T N : Type 0} (most : ℕ) where
-  -- who has the whole is alone
+  -- a seat that has the whole is alone
   alone : (drawn : ℕ) (items : List T) (views : List (View T N)) (id : ℕ) (v : View T N) → Seats most drawn items views → At views id v → v.parts ≡ whole → IsAlone views id
   alone drawn items views id v s at all j w e other = let z : View T N = spent_view v.note in let others : sum_by parts_of (set views id z) + v.parts ≡ sum_by parts_of views + 0 = sum-put parts_of views id v z at in let sum : sum_by parts_of views ≡ whole = s.shared in
       let few : w.parts ≤ sum_by parts_of (set views id z) = at-le-sum parts_of (set views id z) j w (set_else views id j z other ∙ e) in omega arith
@@ -40,7 +40,7 @@ all-poor : {T N : Type 0} (views : List (View T N)) → ((j : ℕ) (w : View T N
 all-poor [] each = refl
 all-poor (w ∷ ws) each = omega (arith, sum_by-cons permits_of w ws, each 0 w refl, all-poor ws (λ j u e. each (suc j) u e))
 
--- who is alone has all permits but those of the items and the free ones
+-- a seat that is alone has all permits, except those of the items and the free ones
 lone-permits : {T N : Type 0} (weight : T → ℕ) (all free : ℕ) (items : List T) (views : List (View T N)) (id : ℕ) (v : View T N) → Permits weight all free items views → At views id v → IsAlone views id → free + v.permits + sum_by weight items ≡ all
 lone-permits weight all free items views id v p at single = let z : View _ _ = spent_view v.note in let sum : sum_by permits_of (set views id z) + v.permits ≡ sum_by permits_of views + 0 = sum-put permits_of views id v z at in let before : free + sum_by permits_of views + sum_by weight items ≡ all = p.conserved in
     let none = all-poor (set views id z) (λ j w e. ⊎_elim (λ here. ap (λ (u : View _ _). u.permits) (sym here.1)) (λ other. p.spent j w other.1 (single j w other.1 other.0)) (at_set views id j z w e)) in omega arith

@@ -1,4 +1,4 @@
--- Which seats hold which slots, where views change.
+-- Which seats hold which slots when views change.
 use Rattle.std.proofs.Common.{◌≡◌, ℕ, List, [], ◌∷◌, ◌++◌, set, sym, ap, subst, ◌∙◌, ⊎_elim}
 use Rattle.std.specs.Prelude.{Some}
 use mathlib.Core.Option.{some-injective}
@@ -48,7 +48,7 @@ module _ {T N : Type 0} where
     back = λ j k u x e h. let o = q.back j k u x e h in p.back j k o.0 x o.1 o.2;
   }
 
-  -- what holds of each view holds where one changes
+  -- what holds of each view holds after one changes
   pub each-put : (P : View T N → Type 0) (views : List (View T N)) (id : ℕ) (w : View T N) → ((j : ℕ) (u : View T N) → At views j u → P u) → P w → (j : ℕ) (u : View T N) → At (set views id w) j u → P u
   each-put P views id w each here j u e = ⊎_elim (λ p. subst P p.1 here) (λ p. each j u p.1) (at_set views id j w u e)
 

@@ -1,4 +1,4 @@
--- What the crate's own facts come to where views change.
+-- The crate's own facts when views change.
 use Rattle.std.proofs.Common.{◌≡◌, ℕ, ◌+◌, ◌<◌, ◌≤◌, List, length, set, sym, subst, ◌∙◌, arith}
 use Rattle.std.specs.List.{sum_by}
 use mathlib.Core.Option.{some, some-injective}
@@ -12,7 +12,7 @@ use Rattle.ept_slots.proofs.Holders.{Mirrors, mirrors-put, each-put}
 use Rattle.ept_slots.proofs.Sums.{sum-put}
 
 module _ {T N : Type 0} where
-  -- what Seats says of each view by itself
+  -- what Seats states of each view by itself
   pub record IsFair (most drawn : ℕ) (v : View T N) : Type 0 where
     pub idle : v.parts ≡ 0 → HoldsNothing v
     pub seldom : v.refused ≤ v.parts

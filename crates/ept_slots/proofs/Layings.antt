@@ -38,7 +38,7 @@ module _ {T W : Type 0} where
   abbrev pub here : T → Slot T W
   here x = Here x
 
-  -- of all items these wait, last first, and the others are laid
+  -- some items still wait, the last first, and the others are laid
   abbrev pub IsHalf : List T → List T → List (Slot T W) → Type 0
   IsHalf all items slots = slots ++ map here (reverse items) ≡ map here all
 
@@ -64,7 +64,7 @@ module _ {T W : Type 0} where
     room = room;
   }
 
-  -- the last slot has the list, and those before it the items
+  -- the last slot has the list, and the slots before it the items
   pub unlaid : (all : List T) (slots : List (Slot T W)) (last : Slot T W) (l : IsLaid all (slots ++ last ∷ [])) → (last ≡ Spare l.list) × (slots ≡ map here all)
   unlaid all slots last l = let long : length slots ≡ length all = omega (arith, l.long, length-append slots (last ∷ [])) in (
     some-injective last (Spare l.list) (sym (at_last slots last (length all) long) ∙ l.last),
@@ -78,7 +78,7 @@ module _ {T W : Type 0} where
       same-places (λ x. x) others all (omega arith) (λ k x e. let near = at-below others k x e in let at = there all k (omega arith) in
       at.1 ∙ ap some (same-item (Here x) at.0 x (some-injective (Here x) (Here at.0) (sym (m.here k x e) ∙ l.here k at.0 at.1)) refl)) ∙ map-id others
 
-  -- the slots that wait, last first, have the items of this list
+  -- the slots that wait, the last first, have the items of this list
   pub back-step : (slots : List (Slot T W)) (slot : Slot T W) (rest : List T) → reverse (slots ++ slot ∷ []) ≡ map here rest → (y : T) × (ys : List T) × (rest ≡ y ∷ ys) × (slot ≡ Here y) × (reverse slots ≡ map here ys)
   back-step slots slot [] h = let e : slot ∷ reverse slots ≡ [] = sym (reverse-append slots (slot ∷ [])) ∙ h in cc
   back-step slots slot (y ∷ ys) h = let e : slot ∷ reverse slots ≡ Here y ∷ map here ys = sym (reverse-append slots (slot ∷ [])) ∙ h in (y, ys, refl, cc, cc)
@@ -87,7 +87,7 @@ module _ {T W : Type 0} where
   back-end [] h = refl
   back-end (y ∷ ys) h = cc
 
-  -- what lies behind the last slot, and in the next one
+  -- what lies after the last slot, and in the next one
   pub last-is : (all : List T) (slots : List (Slot T W)) (l : IsLaid all slots) (count : ℕ) (s : Slot T W) → length all ≡ count → At slots count s → s ≡ Spare l.list
   last-is all slots l count s e at = some-injective s (Spare l.list) (sym at ∙ (ap (λ (i : ℕ). get_elem? slots i) (sym e) ∙ l.last))
 

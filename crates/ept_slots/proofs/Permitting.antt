@@ -1,4 +1,4 @@
--- What the permits come to where views, items and the word of the free ones change.
+-- The permits when views, items and the word of the free ones change.
 use Rattle.std.proofs.Common.{◌≡◌, ℕ, ◌+◌, ◌<◌, ◌≤◌, List, [], ◌∷◌, ◌++◌, set, sym, refl, ap, ◌∙◌, arith, get_or-set_other}
 use Rattle.std.proofs.lemmas.List.Sums.{sum_by_push}
 use Rattle.std.specs.List.{sum_by}
@@ -9,7 +9,7 @@ use Rattle.ept_slots.specs.Locks.{free_of}
 use Rattle.ept_slots.proofs.Sums.{sum-put}
 use Rattle.ept_slots.proofs.Holders.{each-put, each-last}
 
--- word 1 stays where a lock changes, and where the counter does
+-- word 1 stays when a lock changes, and when the counter does
 pub free-stays : (words : List ℕ) (k a : ℕ) → free_of (set words (k + 2) a) ≡ free_of words
 free-stays words k a = get_or-set_other words (k + 2) 1 a 0 (λ e. omega arith)
 
@@ -31,7 +31,7 @@ module _ {T N : Type 0} (weight : T → ℕ) (all : ℕ) where
   pub unmoved : (free : ℕ) (items : List T) (views : List (View T N)) (id : ℕ) (v u : View T N) → Permits weight all free items views → At views id v → u.permits ≡ v.permits → u.parts ≡ v.parts → Permits weight all free items (set views id u)
   unmoved free items views id v u p at same parts = moved free free items items views id v u p at (λ e. same ∙ p.spent id v at (sym parts ∙ e)) (omega arith)
 
-  -- the seat gives y where it took x
+  -- the seat returns y in place of x, which it took
   pub permits-given : (free : ℕ) (items : List T) (views : List (View T N)) (id k : ℕ) (v : View T N) (x y : T) (n : N) → Permits weight all free items views → At views id v → At items k x → Holds v k x → 0 < v.parts → weight y ≤ v.permits + held_weight weight v.hold
       → Permits weight all free (set items k y) (set views id (given v (permits_after weight v y) n))
   permits-given free items views id k v x y n p at here hold part enough = let took : held_weight weight v.hold ≡ weight x = ap (held_weight weight) hold in let sum : sum_by weight (set items k y) + weight x ≡ sum_by weight items + weight y = sum-put weight items k x y here in

@@ -16,7 +16,7 @@ module _ {A : Type 0} (f : A → ℕ) where
   at-le-sum (x ∷ xs) zero a e = omega (arith, sum_by-cons f x xs, ap f (some-injective x a e))
   at-le-sum (x ∷ xs) (suc i) a e = omega (arith, sum_by-cons f x xs, at-le-sum xs i a e)
 
--- where nothing weighs
+-- if no item weighs anything
 pub sum-none : {A : Type 0} (l : List A) → sum_by (λ _. 0) l ≡ 0
 sum-none [] = refl
 sum-none (x ∷ xs) = omega (arith, sum_by-cons (λ _. 0) x xs, sum-none xs)

@@ -1,4 +1,4 @@
--- A take keeps the rule of the table.
+-- `take` keeps the rule of the table.
 use Rattle.std.proofs.Common.{◌≡◌, ℕ, eqb, ◌+◌, ◌<◌, ◌≤◌, ◌≢◌, List, ◌∷◌, length, get_or, set, sym, refl, ap, subst, ◌∙◌, ⊎_elim, arith, length-set, get_or-set_other, get_or-set_same}
 use Rattle.std.specs.List.{sum_by}
 use Rattle.std.proofs.lemmas.List.{set-get_or}
@@ -24,7 +24,7 @@ use Rattle.ept_slots.proofs.Holders.{same-hold, holds-none, each-put}
 use Rattle.ept_slots.proofs.Keeping.{IsFair, fair}
 use Rattle.ept_slots.proofs.Permitting.{free-stays, unmoved}
 
--- word 0 stays where a lock changes, and so does each other lock
+-- word 0 stays when a lock changes, and so does each other lock
 pub drawn-stays : (words : List ℕ) (k a : ℕ) → drawn_of (set words (k + 2) a) ≡ drawn_of words
 drawn-stays words k a = get_or-set_other words (k + 2) 0 a 0 (λ e. omega arith)
 

@@ -1,4 +1,5 @@
--- How items lie in the slots of the table behind: one after another, and behind them the empty list that they came in.
+-- How items lie in the slots of the underlying table: one after another, and after them the empty list that they were
+-- in.
 use Rattle.std.specs.Prelude.{◌≡◌, ℕ, ◌+◌, ◌≤◌, List, [], length}
 use Rattle.std.specs.Vec.{vec_capacity}
 use Rattle.std.specs.declared.alloc.Global.{Global}

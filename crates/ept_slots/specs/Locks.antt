@@ -1,5 +1,5 @@
--- The words and the slots of the table behind them.
--- Word 0 counts the slots that were drawn, word 1 the permits that are free, and word k + 2 is the lock of slot k: 1 while a seat holds it. Any other number is free.
+-- The words and the slots of the underlying table. Word 0 counts the slots that were drawn, and word 1 the permits that
+-- are free. Word k + 2 is the lock of slot k: 1 while a seat holds it, and any other number while it is free.
 use Rattle.std.specs.Prelude.{◌≡◌, ◌≢◌, ℕ, ◌+◌, ◌<◌, ◌≤◌, ◌^◌, List, [], length, slice_index}
 use Rattle.std.specs.Vec.{vec_capacity}
 use Rattle.std.specs.declared.alloc.Global.{Global}
@@ -32,13 +32,14 @@ pub record Locks {T N W : Type 0} (words : List ℕ) (homes : List (maybe.Option
   pub at_home : (k : ℕ) (x : T) → At items k x → lock_of words k ≢ 1 → At homes k (some (Here x))
   pub marked : (id k : ℕ) (v : View T N) (x : T) → At views id v → Holds v k x → lock_of words k ≡ 1
   pub taken_by : (k : ℕ) → k < length items → lock_of words k ≡ 1 → HasHolder views k
-  -- the slot behind the last one has the empty list that the items came in
+  -- the slot after the last one has the empty list that the items were in
   pub list : Vec T Global
   pub spare : At homes (length items) (some (Spare list))
   pub empty : list.items ≡ []
   pub room : length items ≤ vec_capacity list
 
--- the rule of the table, in which there are `all` permits and an item takes as many as its weight: there are items of which all holds
+-- The rule of the table: there are items for which all of this holds. The table has `all` permits, and an item takes
+-- its weight in permits.
 pub record Lies {T N W : Type 0} (weight : T → ℕ) (all most : ℕ) (holds : ℕ → List T → List (View T N) → Type 0) (s : State (Slot T W) (View T N)) : Type 0 where
   pub items : List T
   pub small : most < whole

@@ -1,4 +1,5 @@
--- What each step of the table tells: of the seat m before, the number r that was found, and the seat m' after.
+-- What each step of the table makes known. The seat m is before the step, the number r was found, and the seat m' is
+-- after it.
 use Rattle.std.specs.Prelude.{◌≡◌, ◌≢◌, ℕ, ◌+◌, ◌-◌, ◌<◌, ◌≤◌, [], ◌∷◌, Option, Some, None}
 use mathlib.Core.Option.{some}
 use Rattle.atomic_table.specs.Table.{Me, Step}
@@ -21,11 +22,11 @@ module _ {T N W : Type 0} where
   abbrev pub play_give : (T → ℕ) → (View T N → T → W → N → Type 0) → Step (Slot T W) → Seated T N W → ℕ → Seated T N W → Type 0
   play_give weight tells st m r m' = (k : ℕ) (y : T) (w : W) → m.1 ≡ (k, Here y) ∷ [] → st.said ≡ some (Said w) → (n : N) × (m' ≡ (given m.0 (permits_after weight m.0 y) n, [])) × tells m.0 y w n
 
-  -- it has a permit more where the number of free ones was as expected
+  -- it has one permit more if the number of free permits was as expected
   abbrev pub play_grant : Step (Slot T W) → Seated T N W → ℕ → Seated T N W → Type 0
   play_grant st m r m' = (r ≡ st.first → m' ≡ (with_permits m.0 (m.0.permits + 1), m.1)) × (r ≢ st.first → m' ≡ m)
 
-  -- it has one less
+  -- it has one permit less
   abbrev pub play_return : Step (Slot T W) → Seated T N W → ℕ → Seated T N W → Type 0
   play_return st m r m' = m' ≡ (with_permits m.0 (m.0.permits - 1), m.1)
 
@@ -35,6 +36,6 @@ module _ {T N W : Type 0} where
   abbrev pub play_look : (View T N → ℕ → N → Type 0) → Step (Slot T W) → Seated T N W → ℕ → Seated T N W → Type 0
   play_look tells st m r m' = (n : N) × (m' ≡ (noted m.0 n, m.1)) × tells m.0 r n
 
-  -- there was one more, or there was none
+  -- a slot was drawn, or all were drawn before
   abbrev pub play_draw : (View T N → Option ℕ → N → Type 0) → Step (Slot T W) → Seated T N W → ℕ → Seated T N W → Type 0
   play_draw tells st m r m' = (n : N) × (r < m.0.most → (m' ≡ (noted m.0 n, m.1)) × tells m.0 (Some (r + 1)) n) × (m.0.most ≤ r → (m' ≡ (refused m.0 n, m.1)) × tells m.0 None n)

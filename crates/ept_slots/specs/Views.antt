@@ -5,7 +5,7 @@ use lib.ListN.{get_elem?}
 use Rattle.ept_slots.specs.declared.view.Held.{Held}
 use Rattle.ept_slots.specs.declared.view.View.{View}
 
--- x stands at the place i
+-- x is at the place i
 abbrev pub At : {X : Type 0} → List X → ℕ → X → Type 0
 At xs i x = get_elem? xs i ≡ some x
 
@@ -35,11 +35,11 @@ module _ {T N : Type 0} where
   abbrev pub permits_of : View T N → ℕ
   permits_of v = v.permits
 
-  -- how many permits the seat has once it has given y: those of the item that it took come to it, and y takes its own
+  -- How many permits the seat has once it has returned y. It gets those of the item that it took, and y takes its own.
   abbrev pub permits_after : (T → ℕ) → View T N → T → ℕ
   permits_after weight v y = v.permits + held_weight weight v.hold - weight y
 
-  -- of the seat that a table is made with
+  -- the view of the seat that a table is made with
   abbrev pub first_view : ℕ → N → View T N
   first_view most n = record { most = most; parts = whole; refused = 0; permits = 0; hold = None; note = n }
 
@@ -47,7 +47,7 @@ module _ {T N : Type 0} where
   abbrev pub taken : View T N → ℕ → T → N → View T N
   taken v k x n = record { most = v.most; parts = v.parts; refused = v.refused; permits = v.permits; hold = Some (record { slot = k; item = x }); note = n }
 
-  -- after the slot was given back: the seat has p permits then
+  -- after the slot was returned: the seat has p permits then
   abbrev pub given : View T N → ℕ → N → View T N
   given v p n = record { most = v.most; parts = v.parts; refused = v.refused; permits = p; hold = None; note = n }
 
@@ -63,7 +63,7 @@ module _ {T N : Type 0} where
   abbrev pub refused : View T N → N → View T N
   refused v n = record { most = v.most; parts = v.parts; refused = v.refused + 1; permits = v.permits; hold = v.hold; note = n }
 
-  -- after a split: what the seat keeps, its permits among it, and what the new one has
+  -- after a split: what the seat keeps, including its permits, and what the new seat has
   abbrev pub left_of : View T N → N → View T N
   left_of v n = record { most = v.most; parts = v.parts - v.parts / 2; refused = v.refused; permits = v.permits; hold = v.hold; note = n }
 

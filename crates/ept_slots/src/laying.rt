@@ -8,7 +8,7 @@ use crate::slots::Refused;
 use atomic_table::Closed;
 use std::alloc::Global;
 
-// There is room.
+// Adds a value to a list that has room.
 pub(crate) fn put<X>(list: &mut Vec<X, Global>, value: X)
     requires { vec_len list.old < vec_capacity list.old }
     ensures items { list.new.items ≡ list.old.items ++ value ∷ [] }
@@ -18,7 +18,7 @@ pub(crate) fn put<X>(list: &mut Vec<X, Global>, value: X)
     let Ok(()) = pushed else { unreachable!() };
 }
 
-// The slots of these items, and the list that they came in. Or there was no memory.
+// The slots of these items, and the list that they were in. Or the items, if memory runs out.
 pub(crate) fn lay_out<T, W>(
     alloc: Global,
     mut items: Vec<T, Global>,
@@ -38,7 +38,7 @@ pub(crate) fn lay_out<T, W>(
     Ok(slots)
 }
 
-// The items, in the list that they came in.
+// The items, in the list that they were in.
 pub(crate) fn take_back<T, W>(mut slots: Vec<Slot<T, W>, Global>) -> Vec<T, Global>
     requires { (items : List T) × IsLaid items slots.items }
     ensures { IsLaid result.items slots.items }
@@ -54,7 +54,7 @@ pub(crate) fn take_back<T, W>(mut slots: Vec<Slot<T, W>, Global>) -> Vec<T, Glob
     items
 }
 
-// The items of a table that is shared no more, in the list that they came in. The table's memory is freed.
+// The items of a table that is no longer shared, in the list that they were in. The table's memory is freed.
 pub(crate) fn gather<T, W>(mut closed: Closed<Slot<T, W>, Global>, count: usize) -> Vec<T, Global>
     requires full { IsFull closed.slots }
     requires laid { (items : List T) × IsLaid items (slots_items closed.slots) × (length items ≡ count) }

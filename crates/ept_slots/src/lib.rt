@@ -1,9 +1,9 @@
 //! A table of slots that many threads share: each slot has a lock, each thread a seat, and slots are
 //! drawn by number.
 //!
-//! The locks, the seats' shares and the counter of draws are proved here, once. What lies in a slot,
-//! what a seat notes and which rule all of it keeps is the caller's: a fact about plain lists
-//! (`SlotRule`), and each call asks that its step keep that fact (`specs/Asks.antt`).
+//! The locks, the seats' shares and the counter of draws are proved here, once. The caller decides what lies in a slot,
+//! what a seat notes, and which rule they all keep. The rule is a fact about plain lists (`SlotRule`). Each call
+//! requires that its step keep that fact (`specs/Asks.antt`).
 #![tactic(auto)]
 
 mod laying;

@@ -14,8 +14,8 @@ use std::alloc::Global;
 const TOO_MANY: usize = 1 << 59;
 
 impl<T, N, W, K, R: SlotRule<T, N, K>> Slots<T, N, W, K, R> {
-    /// A table of these items, none of which is held, and its first seat, which has all parts. So many
-    /// slots are drawn already, of as many as `most` says, and so many permits are free.
+    /// Makes a table of these items, none of which is held, and its first seat, which has all parts. `drawn` slots of
+    /// `most` are drawn already, and `free` permits are free.
     pub fn new(
         alloc: Global,
         items: Vec<T, Global>,
@@ -58,7 +58,7 @@ impl<T, N, W, K, R: SlotRule<T, N, K>> Slots<T, N, W, K, R> {
         }
     }
 
-    /// Ends the table. The seat has to have all parts, and no memory is needed.
+    /// Ends the table. The seat has to have all parts, and no memory is allocated.
     pub fn close(self, seat: SlotSeat<T, N, W>) -> Ending<T>
         requires seat { IsSeatOf R.most self seat }
         requires idle { HoldsNothing (view seat) × ((view seat).parts ≡ whole) }

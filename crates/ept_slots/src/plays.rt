@@ -1,4 +1,4 @@
-//! What the steps of the table behind tell. These types are for the proofs alone.
+//! What the steps of the underlying table make known. These types are for the proofs alone.
 ghost use Rattle.ept_slots.specs.Plays.{play_take, play_give, play_grant, play_return, play_note, play_look, play_draw};
 ghost use Rattle.ept_slots.specs.Views.{left_of, right_of, both_of, spent_view};
 

@@ -1,4 +1,4 @@
-//! The caller's rule, and the rule of the table behind it.
+//! The caller's rule, and the rule of the underlying table.
 ghost use Rattle.std.specs.Prelude.{ℕ, List};
 ghost use Rattle.ept_slots.specs.declared.view.View.{View};
 ghost use Rattle.ept_slots.specs.Views.{first_view};
@@ -12,8 +12,8 @@ use std::marker::PhantomData;
 /// The caller's rule of a table of slots with items `T`, whose seats note `N`. It may read a key `K`,
 /// which is fixed when the table is made.
 pub trait SlotRule<T, N, K> {
-    /// Of how many slots were drawn, what lies in each slot (of a held one what lay there when it was
-    /// taken) and what each seat knows.
+    /// What holds of the number of slots drawn, of what lies in each slot, and of what each seat knows. For a held slot
+    /// it is what lay there when it was taken.
     ghost holds: { K → ℕ → List T → List (View T N) → Type 0 };
 
     /// Up to which number slots are drawn.
@@ -29,7 +29,7 @@ pub trait SlotRule<T, N, K> {
     ghost first: { K → N };
 }
 
-/// The rule of the table behind: the locks, the shares, the counter, the permits, and the caller's rule.
+/// The rule of the underlying table: the locks, the shares, the counter, the permits, and the caller's rule.
 pub struct Locked<R> {
     rule: PhantomData<R>,
 }

@@ -1,4 +1,4 @@
-//! Seats are made of seats, and end in seats.
+//! Seats are divided, and end in other seats.
 ghost use Rattle.std.specs.Prelude.{◌≡◌, ℕ, ◌<◌};
 ghost use Rattle.ept_slots.specs.Views.{HoldsNothing, left_of, right_of, both_of};
 ghost use Rattle.ept_slots.specs.Asks.{Splits, Joins};
@@ -22,7 +22,7 @@ impl<T, N, W, K, R: SlotRule<T, N, K>> Slots<T, N, W, K, R> {
         self.table.shared.split_seat::<Halves<M>>(seat)
     }
 
-    /// The other seat ends, and this one has its parts too.
+    /// Ends the other seat, and adds its parts to this one.
     pub fn join<M: Join<N>>(&self, seat: &mut SlotSeat<T, N, W>, other: SlotSeat<T, N, W>)
         requires seat { IsSeatOf R.most self.now seat.old × IsSeatOf R.most self.now other }
         requires idle { HoldsNothing (view other) }

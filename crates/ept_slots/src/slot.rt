@@ -6,7 +6,7 @@ ghost use Rattle.std.specs.declared.vec.Vec.{Vec};
 
 use std::alloc::Global;
 
-/// What lies in a slot, and what a step announces. Callers meet it in the name of a seat's type alone.
+/// What lies in a slot, and what a step announces. Callers see it only in the name of a seat's type.
 pub enum Slot<T, W> {
     /// The item is out with the holder of the slot.
     Out,
@@ -14,7 +14,7 @@ pub enum Slot<T, W> {
     Here(T),
     /// What a step announces. It never lies in a slot.
     Said(W),
-    /// The empty list that the items came in. It lies behind the last slot.
+    /// The empty list that the items were in. It lies after the last slot.
     Spare(Vec<T, Global>),
 }
 

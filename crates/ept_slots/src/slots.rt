@@ -15,13 +15,13 @@ pub(crate) const FREE: u64 = 0;
 
 pub(crate) const HELD: u64 = 1;
 
-// Of a free slot with an item that is wanted.
+// The lock of a free slot with an item that is wanted.
 pub(crate) const WANTED: u64 = 2;
 
 // The words before the locks: word 0 counts the slots that were drawn, word 1 the permits that are free.
 pub(crate) const LOCKS: usize = 2;
 
-/// A token of no bytes with which a thread steps. In a clause, `view` of it is what it knows.
+/// A token of no bytes with which a thread steps. In a clause, its `view` is what it knows.
 pub type SlotSeat<T, N, W> = Seat<Slot<T, W>, View<T, N>>;
 
 /// Slots with items `T`, numbered from 0, each with a lock, and a counter of the slots that were drawn.
@@ -33,7 +33,7 @@ pub struct Slots<T, N, W, K, R: SlotRule<T, N, K>> {
     ghost sized: { (table.shared.table_id.words ≡ count + 2) × (table.shared.table_id.slots ≡ count + 1) × (count < 2 ^ 60) },
 }
 
-/// There was no memory. The items come back.
+/// Memory ran out. The items are returned.
 #[derive(Drop)]
 pub struct Refused<T> {
     pub items: Vec<T, Global>,

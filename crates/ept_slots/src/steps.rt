@@ -13,7 +13,8 @@ use std::hint;
 use std::sync::Wait;
 use std::time::Duration;
 
-// How often one that waits looks before it sleeps, and for how many microseconds it sleeps then before it looks again.
+// How many attempts a waiting thread makes before it sleeps, and for how many microseconds it sleeps between further
+// attempts.
 const LOOKS: u32 = 1_000;
 
 const SLEEP: u64 = 20;
@@ -26,22 +27,23 @@ impl<T, N, W, K, R: SlotRule<T, N, K>> Slots<T, N, W, K, R> {
         self.count
     }
 
-    /// Whether the lock of a slot is held as it is looked at. Another seat may give or take the slot meanwhile.
+    /// Whether the lock of a slot is held at the moment of the call. Another seat may return or take the slot
+    /// meanwhile.
     pub fn is_held(&self, slot: usize) -> bool
         requires { slot < count_of self.now }
     {
         self.table.shared.peek(slot + LOCKS) == HELD
     }
 
-    /// Whether a slot is free as it is looked at, and what was last given into it was said to be wanted. Another seat may
-    /// take it meanwhile.
+    /// Whether a slot is free at the moment of the call, and the item last returned to it was marked as wanted. Another
+    /// seat may take it meanwhile.
     pub fn is_wanted(&self, slot: usize) -> bool
         requires { slot < count_of self.now }
     {
         self.table.shared.peek(slot + LOCKS) == WANTED
     }
 
-    /// One try to take what lies in a slot: None where its lock was held, and then nothing changed.
+    /// Tries once to take what lies in a slot. `None` if its lock was held; then nothing changed.
     pub fn try_take<M: Take<T, N>>(&self, seat: &mut SlotSeat<T, N, W>, slot: usize) -> Option<T>
         requires seat { IsSeatOf R.most self.now seat.old }
         requires idle { HoldsNothing (view seat.old) × (0 < (view seat.old).parts) }
@@ -87,13 +89,13 @@ impl<T, N, W, K, R: SlotRule<T, N, K>> Slots<T, N, W, K, R> {
         unreachable!()
     }
 
-    /// Lets a moment go by for one that has looked so often and found no permit free.
+    /// Backs off after `looks` failed attempts to get a permit: spins at first, then sleeps.
     pub fn rest_for_permit<H: Wait>(&self, rt: &H, looks: u32) {
         self.rest(rt, PERMITS, 0, looks);
     }
 
-    // Lets a moment go by for one that has looked so often and seen the word like this. A thread that waits for long sleeps:
-    // the processor that it would keep busy may be the one that the holder of a slot needs.
+    // Backs off after `looks` failed attempts, the last of which saw `seen` in the word. A thread that waits for long
+    // sleeps: the holder of a slot may need the processor that it would keep busy.
     fn rest<H: Wait>(&self, rt: &H, word: usize, seen: u32, looks: u32)
         requires { word < count_of self.now + 2 }
     {
@@ -105,9 +107,9 @@ impl<T, N, W, K, R: SlotRule<T, N, K>> Slots<T, N, W, K, R> {
         self.table.shared.park_timeout(rt, word, seen, sleep);
     }
 
-    /// Brings an item home into the slot that the seat holds, and frees the lock. The permits of what
-    /// was taken come to the seat, and the item takes its own from it. What is said is for the caller's
-    /// rule alone, and comes back. That an item is wanted is for `is_wanted` alone.
+    /// Returns an item to the slot that the seat holds, and frees the lock. The seat gets the permits of what was
+    /// taken, and the item takes its own from it. `said` is for the caller's rule alone, and is returned. `is_wanted`
+    /// is for the method of that name alone.
     pub fn give<M: Give<T, N, W>>(
         &self,
         seat: &mut SlotSeat<T, N, W>,
@@ -133,8 +135,8 @@ impl<T, N, W, K, R: SlotRule<T, N, K>> Slots<T, N, W, K, R> {
         told.into_said()
     }
 
-    /// One try to take a permit: false where none was free, or where another seat changed meanwhile how many are.
-    /// Nothing changed then.
+    /// Tries once to take a permit. False if none was free, or if another seat changed the number of free permits
+    /// meanwhile. Nothing changed then.
     pub fn try_permit(&self, seat: &mut SlotSeat<T, N, W>) -> bool
         requires seat { IsSeatOf R.most self.now seat.old }
         requires share { 0 < (view seat.old).parts }
@@ -152,7 +154,7 @@ impl<T, N, W, K, R: SlotRule<T, N, K>> Slots<T, N, W, K, R> {
         found == free
     }
 
-    /// Gives a permit of the seat back, so that it is free.
+    /// Returns a permit of the seat, so that it is free.
     pub fn give_permit(&self, seat: &mut SlotSeat<T, N, W>)
         requires seat { IsSeatOf R.most self.now seat.old }
         requires permit { 0 < (view seat.old).permits }
@@ -163,7 +165,7 @@ impl<T, N, W, K, R: SlotRule<T, N, K>> Slots<T, N, W, K, R> {
         self.table.shared.fetch_add::<Returning>(seat, PERMITS, 1);
     }
 
-    /// A step of the holder of a slot that changes its note alone. What is said comes back.
+    /// A step of the holder of a slot that changes its note alone. `said` is returned.
     pub fn note<M: Note<T, N, W>>(&self, seat: &mut SlotSeat<T, N, W>, slot: usize, said: W) -> W
         requires seat { IsSeatOf R.most self.now seat.old }
         requires slot { slot < count_of self.now }
@@ -180,7 +182,7 @@ impl<T, N, W, K, R: SlotRule<T, N, K>> Slots<T, N, W, K, R> {
         told.into_said()
     }
 
-    /// How many slots were drawn, those refused among them, and what the caller's rule tells of it.
+    /// How many slots were drawn, including refused draws, and what the caller's rule makes known of that number.
     pub fn look<M: Look<T, N>>(&self, seat: &mut SlotSeat<T, N, W>) -> u64
         requires seat { IsSeatOf R.most self.now seat.old }
         requires rule { Looks (R.holds (key_of self.now)) (R.most (key_of self.now)) seat.old.id (view seat.old) (M.tells (view seat.old)) }
@@ -190,8 +192,8 @@ impl<T, N, W, K, R: SlotRule<T, N, K>> Slots<T, N, W, K, R> {
         self.table.shared.load::<Looking<M>>(seat, DRAWN)
     }
 
-    /// Draws the next number: from 1 on, and none above the limit. A seat may be refused as often as it
-    /// has parts, so that the counter never wraps.
+    /// Draws the next number: from 1 on, up to the limit. A seat may be refused once for each of its parts, so that the
+    /// counter never wraps.
     pub fn draw<M: Draw<T, N>>(&self, seat: &mut SlotSeat<T, N, W>) -> Option<u32>
         requires seat { IsSeatOf R.most self.now seat.old }
         requires share { (view seat.old).refused < (view seat.old).parts }
@@ -210,7 +212,7 @@ impl<T, N, W, K, R: SlotRule<T, N, K>> Slots<T, N, W, K, R> {
     }
 }
 
-// What the lock of a slot says that is free.
+// The word of the lock of a free slot.
 fn free_word(is_wanted: bool) -> u64
     ensures { result ≢ 1 }
 {

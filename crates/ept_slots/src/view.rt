@@ -12,12 +12,12 @@ pub struct View<T, N> {
     pub most: u32,
     /// Its part of the whole that all seats share. A seat that ended has none.
     pub parts: u64,
-    /// How often it was refused a slot: at most as often as it has parts.
+    /// How many draws of it were refused: at most one for each of its parts.
     pub refused: u64,
     /// The permits that it has.
     pub permits: u64,
     /// The slot that it holds, if it holds one.
     pub hold: Option<Held<T>>,
-    /// What the caller's rule has it know.
+    /// Its note under the caller's rule.
     pub note: N,
 }

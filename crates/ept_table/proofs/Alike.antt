@@ -1,4 +1,4 @@
--- Flights in which the same points fly to the same nodes, in whatever order and however many together.
+-- Flights in which the same points fly to the same nodes, in any order and in any grouping.
 use Rattle.std.proofs.Common.{◌≡◌, ◌∙◌, ℕ, suc, ◌+◌, ◌≤◌, ◌⊎◌, inl, inr, Bool, List, [], ◌∷◌, ◌++◌, length, take, drop, set, count_by, refl, sym, ap, subst, arith}
 use Rattle.std.specs.List.{flat_map, sum_by}
 use Rattle.std.specs.List.Sorted.{IsPermutation}
@@ -28,7 +28,8 @@ use Rattle.ept_table.proofs.Flown.{weight, weight-append}
 abbrev state_of : List Point → List Entry → List Flight → State
 state_of left nodes flights = record { left = left; flights = flights; nodes = nodes }
 
--- the same points fly to the same nodes, each as often, and so many in all; and some flight is empty in both or in neither
+-- The same points fly to the same nodes, each as often, and the same number in all. Some flight is empty in both or in
+-- neither.
 pub record FlyAlike (xs ys : List Flight) : Type 0 where
   pub there : (key : VoxelKey) (p : Point) → IsFlying xs key p → IsFlying ys key p
   pub back : (key : VoxelKey) (p : Point) → IsFlying ys key p → IsFlying xs key p
@@ -62,9 +63,9 @@ permuted-alike xs ys same = record {
   empty_back = λ (f, m, none). (f, IsMember-IsPermutation f ys xs (IsPermutation-sym xs ys same) m, none);
 }
 
--- ---- among others
+-- ---- in a list with others
 
--- where a member of these may be replaced, so it may be among others
+-- if these flights may be replaced, they may be replaced in a list with others
 among : (P : Flight → Type 0) (front xs ys back : List Flight) → (((f : Flight) × IsMember f xs × P f) → (f : Flight) × IsMember f ys × P f) → ((f : Flight) × IsMember f (front ++ (xs ++ back)) × P f) → (f : Flight) × IsMember f (front ++ (ys ++ back)) × P f
 among P front xs ys back change (f, m, is) =
     elim (IsMember-append f front (xs ++ back) m) [
@@ -99,7 +100,7 @@ amid-alike front xs ys back alike = record {
   empty_back = among (λ f. f.points ≡ []) front ys xs back alike.empty_back;
 }
 
--- where one seat has other flights
+-- if one seat has other flights
 pub seats-alike : {views : List View} {i : ℕ} {v : View} (w : View) → At views i v → FlyAlike (flights_of v) (flights_of w) → FlyAlike (all_flights views) (all_flights (set views i w))
 seats-alike {views} {i} {v} w at alike =
     let front : List Flight = flat_map flights_of (take i views) in
@@ -107,7 +108,7 @@ seats-alike {views} {i} {v} w at alike =
     subst (λ (fs : List Flight). FlyAlike fs (all_flights (set views i w))) (sym (flat-at flights_of at))
     (subst (λ (gs : List Flight). FlyAlike (front ++ (flights_of v ++ back)) gs) (sym (flat-set flights_of w at)) (amid-alike front (flights_of v) (flights_of w) back alike))
 
--- ---- what the rule says of flights
+-- ---- what the rule states of flights
 
 some_or_none : (points : List Point) → HasPoint points ⊎ (points ≡ [])
 some_or_none [] = inr refl
@@ -136,7 +137,7 @@ module _ (told : Told) (xs ys : List Flight) (alike : FlyAlike xs ys) (sound : (
           let f = alike.back g.key p (g, m, refl, q) in
           subst (λ (key : VoxelKey). InBox told.rules.cube key (place p)) f.2 (all-member (λ r. InBox told.rules.cube f.0.key (place r)) p f.0.points (sound f.0 f.1).inside f.3)
 
-  -- where one flies there, one does in the others
+  -- if a flight goes there, one of the other flights does
   pub flies-there : (key : VoxelKey) → ((f : Flight) × IsMember f xs × (f.key ≡ key)) → (g : Flight) × IsMember g ys × (g.key ≡ key)
   flies-there key (f, m, at) =
       let p = (sound f m).some in let g = alike.there key p.0 (f, m, at, p.1) in (g.0, g.1, g.2)

@@ -109,7 +109,7 @@ module _ (F S : Type 0) (held : F → Option (List ℕ)) (node_faults keeps : F 
   noting_so items seats id v w all at same =
       one_seat items seats id w all (λ why m. all id v why (at-from seats id v at) (subst (λ (es : List NodeError). IsMember why es) same m))
 
-  -- an item is given back
+  -- an item is returned
   still_broken : (items : List ItemOf) (k : ℕ) (x y : ItemOf) → At items k x → StaysBroken x y → (why : NodeError) → HasBroken items why → HasBroken (set items k y) why
   still_broken items k x y here stays why (j, z, a, is) = elim (same_or_not j k) [
     | inl one ↦
@@ -200,7 +200,7 @@ module _ (F S : Type 0) (held : F → Option (List ℕ)) (node_faults keeps : F 
       let l : AreLocked (map see items) (map know seats) = locks drawn items seats locked in
       (v.note, same_items drawn items seats (set seats id (views.refused v v.note)) (set (map know seats) id (refused_more (know v))) (sym (map-set know seats id (views.refused v v.note))) h (noting_so items seats id v (views.refused v v.note) h.broken at refl) (drawn + 1) (refusal-keeps told drawn (map see items) (map know seats) id (know v) k (see x) h.rule l a (hold_known v k x holds) may all_drawn), (refl, refusal-is-true told drawn (map see items) (map know seats) id (know v) k (see x) h.rule l a (hold_known v k x holds) may all_drawn)))
 
-  -- the same behind the note of an octant
+  -- the same after the note of an octant
   may_after : (v : ViewOf) (o k : ℕ) (x : ItemOf) → MayDraw told (know v) k (see x) o → MayDraw told (know (views.noted v (wishing v.note o))) k (see x) o
   may_after v o k x may = record {
     is_node = may.is_node;

@@ -98,7 +98,7 @@ module _ (told : Told) (drawn : ℕ) (items : List Taken) (views : List View) (i
 
   -- ---- what lies in the slots
 
-  -- what is known of a node that stands afterwards, if it is known of the one that was given back and of the others
+  -- what is known of a node afterwards, if it is known of the node that was returned and of the others
   cells : (P : ℕ → Cell → Type 0) → P k y → ((j : ℕ) (d : Cell) → (j ≡ k → ⊥) → At items j (Standing d) → P j d) → (j : ℕ) (d : Cell) → At next_items j (Standing d) → P j d
   cells P mine others j d a =
       elim (set-at items k (Standing y) a) [

@@ -31,7 +31,7 @@ use Rattle.ept_table.specs.Steps.{IsPlanted}
 use Rattle.ept_table.specs.Tells.{IsLanded}
 use Rattle.ept_table.proofs.Lists.{at-same, at-head, at-rest, at-next, at-zero, nothing-at}
 
--- where each has none there are none
+-- if no list has an item, the joined lists have none
 none_in_all : {X : Type 0} (f : X → ℕ) (xs : List X) → ((i : ℕ) (x : X) → At xs i x → f x ≡ 0) → sum_by f xs ≡ 0
 none_in_all f [] none = refl
 none_in_all f (x ∷ xs) none =
@@ -80,7 +80,7 @@ IsTop told (Standing d) =
     (d.node ≡ empty_node root told.rules) × ((o : ℕ) → o < 8 → slot_at (Standing d) o ≡ 0)
 
 module _ (told : Told) (items : List Taken) (r : Progress) (top : Cell) (is_told : IsTold told) (p : IsPlanted told items r top) where
-  -- a node stands in slot 1 alone
+  -- a node is in slot 1 alone
   standing_top : (k : ℕ) (c : Cell) → At items k (Standing c) → (k ≡ 1) × IsTop told (Standing c)
   standing_top zero c a =
       let e : Standing c ≡ Reading r = at-same a p.at_first in absurd (cc)
@@ -143,7 +143,7 @@ module _ (told : Told) (items : List Taken) (r : Progress) (top : Cell) (is_told
     total = (p.points tells).1;
   }
 
-  -- the root is the one node that stands
+  -- the root is the only node
   alone : (i : ℕ) (key : VoxelKey) → At told.begun i key → (i ≡ 0) × (root ≡ key)
   alone i key b = one_there i key (subst (λ (keys : List VoxelKey). At keys i key) p.begun b)
 

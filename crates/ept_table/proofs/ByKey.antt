@@ -30,7 +30,7 @@ le_or_less (suc a) (suc b) =
 
 -- ---- entries
 
--- of a key that is no node no octant is open
+-- if a key is not the key of a node, no octant is open there
 pub open-there : (nodes : List Entry) (key : VoxelKey) (o : ℕ) → has_open (node_at nodes key) o ≡ true → has_node nodes key ≡ true
 unfolding has_open
 open-there nodes key o is =
@@ -67,7 +67,7 @@ module _ (items : List Taken) (nodes : List Branch) (s : AreStanding items nodes
       let m = IsMember-map entry_of (branch_of c) nodes (s.by_key k c a) in
       (key-has_node entries c.node.key (IsMember-map (λ (e : Entry). e.0) (entry_of (branch_of c)) entries m), node_at-member entries (entry_of (branch_of c)) entries-rise m)
 
-  -- and what is found stands in a slot
+  -- and what is found is in a slot
   pub stands-there : (key : VoxelKey) → has_node entries key ≡ true → (k : ℕ) × (c : Cell) × At items k (Standing c) × (c.node.key ≡ key)
   stands-there key is =
       let m = subst (λ (ks : List VoxelKey). IsMember key ks) (keys-are nodes) (has_node-key entries key is) in
@@ -77,7 +77,7 @@ module _ (items : List Taken) (nodes : List Branch) (s : AreStanding items nodes
 
 -- ---- the keys in the order of the slots
 
--- so many nodes stand in front, and these are their keys
+-- the first n slots have nodes, and these are their keys
 pub record AreInFront (n : ℕ) (rest : List Taken) (keys : List VoxelKey) : Type 0 where
   pub long : length keys ≡ n
   pub key_there : (i : ℕ) (c : Cell) → At rest i (Standing c) → At keys i c.node.key
@@ -164,7 +164,7 @@ module _ (most used : ℕ) (items : List Taken) (r : Progress) (s : FillSlots mo
       let f = front.there_key i key (subst (λ (ks : List VoxelKey). At ks i key) (sym same_keys) a) in
       (f.0, behind i (Standing f.0) f.1, f.2)
 
--- the key of a slot, at its place in front
+-- the key of a slot, at its place in the prefix
 pub key-at : (keys : List VoxelKey) (i : ℕ) (key : VoxelKey) → KeyOf keys (suc i) key → At keys i key
 unfolding KeyOf
 key-at keys i key a = a

@@ -1,4 +1,4 @@
--- A node in a slot that goes to its file or comes back from it.
+-- A node in a slot that moves to or from its file.
 use Rattle.std.proofs.Common.{◌≡◌, ◌∙◌, ℕ, suc, ◌+◌, ◌<◌, ◌≤◌, Bool, true, false, inl, inr, List, length, set, sym, ap, subst, arith, sum_by, slice_index}
 use Rattle.std.proofs.lemmas.Bool.{false≢true}
 use Rattle.ept_space.specs.declared.cube.Rules.{Rules}
@@ -30,7 +30,7 @@ module _ (told : Told) (drawn : ℕ) (items : List Taken) (views : List View) (h
   now : At next k (Standing d)
   now = at-set items k (Standing d) (at-below there)
 
-  -- ---- the node is the same but for its points
+  -- ---- the node is the same, except for its points
 
   key_is : d.node.key ≡ c.node.key
   key_is = alike.node.key
@@ -57,7 +57,7 @@ module _ (told : Told) (drawn : ℕ) (items : List Taken) (views : List View) (h
         deepest = λ o low is. subst (λ (key : VoxelKey). key.depth < told.rules.cube.depth) (sym key_is) (was.deepest o low (was_open o true is));
       }
 
-  -- ---- what stands in the slots
+  -- ---- what is in the slots
 
   cells : (P : ℕ → Cell → Type 0) → P k d → ((j : ℕ) (e : Cell) → At items j (Standing e) → P j e) → (j : ℕ) (e : Cell) → At next j (Standing e) → P j e
   cells P mine others j e a =
@@ -187,7 +187,7 @@ module _ (told : Told) (drawn : ℕ) (items : List Taken) (views : List View) (h
   still x y there same =
       subst (λ (z : Taken). Holds told drawn (set items k z) views) (sym same) (subst (λ (xs : List Taken). Holds told drawn xs views) (sym (set-again there)) h)
 
-  -- what lies in a slot may come and go
+  -- what lies in a slot may move to or from its file
   pub alike-keeps : (x y : Taken) → At items k x → StaysAlike told x y → Holds told drawn (set items k y) views
   alike-keeps x y there (inl same) = still x y there same
   alike-keeps x y there (inr (c, d, was, is, alike)) = elim (either told.tells) [

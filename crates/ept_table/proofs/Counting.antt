@@ -1,4 +1,4 @@
--- Keys that are all different, among others.
+-- Keys that are all different, in a list with others.
 use Rattle.std.proofs.Common.{◌≡◌, ◌∙◌, ℕ, suc, ◌+◌, ◌≤◌, inl, inr, List, [], ◌∷◌, ◌++◌, length, refl, sym, ap, subst, arith}
 use Rattle.std.proofs.lemmas.List.{length-append}
 use Rattle.ept_sample.specs.Members.{IsMember}
@@ -6,7 +6,7 @@ use Rattle.ept_sample.proofs.Members.{IsMember-left, IsMember-right, IsMember-ap
 use Rattle.ept_table.specs.At.{At}
 use Rattle.ept_table.proofs.Lists.{at-next, at-zero, member-at}
 
--- no item stands at two places
+-- no item is at two places
 abbrev pub AreDifferent : {X : Type 0} → List X → Type 0
 AreDifferent {X} xs = (i j : ℕ) (x : X) → At xs i x → At xs j x → i ≡ j
 
@@ -34,7 +34,7 @@ in_rest x z front back m apart =
       | inr b ↦ elim b [ inl is ↦ absurd (apart is) | inr more ↦ IsMember-right z front back more ]
     ]
 
--- different items that are all in a list are no more than it has
+-- the number of different items that are all in a list is at most the length of the list
 pub no-more : {X : Type 0} (xs ys : List X) → AreDifferent xs → ((x : X) → IsMember x xs → IsMember x ys) → length xs ≤ length ys
 no-more [] ys apart among = omega arith
 no-more {X} (x ∷ xs) ys apart among =

@@ -72,7 +72,7 @@ module _ (told : Told) (drawn : ℕ) (items : List Taken) (parts : ℕ) (h : IsL
 
 -- ---- the last seat
 
--- lists that are all empty are together
+-- lists that are all empty are empty when joined
 none_at_all : {X Y : Type 0} (f : X → List Y) (xs : List X) → ((i : ℕ) (x : X) → At xs i x → f x ≡ []) → flat_map f xs ≡ []
 none_at_all f [] none = refl
 none_at_all {X} {Y} f (x ∷ xs) none =
@@ -80,7 +80,7 @@ none_at_all {X} {Y} f (x ∷ xs) none =
     ∙ (ap (λ (w : List Y). w ++ flat_map f xs) (none 0 x (at-zero x xs)) ∙ none_at_all f xs (λ i y a. none (suc i) y (at-next x xs i y a)))
 
 module _ (told : Told) (drawn : ℕ) (items : List Taken) (views : List View) (i : ℕ) (v : View) (h : Holds told drawn items views) (locks : AreLocked items views) (at : At views i v) (last : IsLast views i) (free : v.hold ≡ None) where
-  -- what is known of each seat, if it is known of this one and of those without a share
+  -- what is known of each seat, if it is known of this seat and of the seats without a share
   all_seats : (P : View → Type 0) → P v → ((j : ℕ) (u : View) → At views j u → u.parts ≡ 0 → P u) → (j : ℕ) (u : View) → At views j u → P u
   all_seats P mine others j u a =
       elim (same_or_not j i) [

@@ -18,7 +18,7 @@ pub weight-append : (fs gs : List Flight) → weight (fs ++ gs) ≡ weight fs + 
 weight-append fs gs =
     ap (λ (w : List Point). length w) (flat_map-append (λ (f : Flight). f.points) fs gs) ∙ length-append (flown fs) (flown gs)
 
--- where one seat carries other flights
+-- if one seat carries other flights
 pub weight-set : {views : List View} {i : ℕ} {v : View} (w : View) → At views i v → weight (all_flights (set views i w)) + weight (flights_of v) ≡ weight (all_flights views) + weight (flights_of w)
 weight-set {views} {i} {v} w a =
     let front : List Flight = flat_map flights_of (take i views) in

@@ -41,7 +41,7 @@ map-set f [] i x = refl
 map-set f (y ∷ ys) zero x = refl
 map-set {X} {Y} f (y ∷ ys) (suc i) x = ap (λ (w : List Y). f y ∷ w) (map-set f ys i x)
 
--- ---- the last of a list that is turned round
+-- ---- the last item of a list that is reversed
 
 pub turned-last : {X : Type 0} (xs : List X) (x : X) → reverse (xs ++ x ∷ []) ≡ x ∷ reverse xs
 turned-last xs x = reverse-append xs (x ∷ [])

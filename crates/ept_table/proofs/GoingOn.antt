@@ -1,4 +1,4 @@
--- What is landed goes on with another allowance.
+-- A landed table continues with another allowance.
 use Rattle.std.proofs.Common.{◌≡◌, ◌∙◌, ℕ, suc, true, ◌⊎◌, inl, inr, List, [], drop, set, sym, ap, subst, arith, Some, None}
 use Rattle.ept_space.specs.VoxelKey.{VoxelKey, root}
 use Rattle.ept_core.specs.State.{State}
@@ -57,7 +57,7 @@ module _ (told : Told) (used : ℕ) (items : List Taken) (old new : Progress) (e
     key_is = c.key_is;
   }
 
-  -- those that stand are those that stood as the table is made
+  -- the nodes that are there are those of the beginning
   begun_stands : (i : ℕ) (key : VoxelKey) → At (keys_in items) i key → (c : Cell) × At items (suc i) (Standing c) × (c.node.key ≡ key)
   begun_stands i key b =
       slot-of-key told.most used items old slots at (suc i) key (at-key (keys_in items) i key b)

@@ -1,4 +1,4 @@
--- Of a reader of counted inputs a table may be told.
+-- A reader of counted inputs gives a valid ghost input of a table.
 use Rattle.std.proofs.Common.{◌≡◌, ◌∙◌, ℕ, ◌<◌, List, map, sym, ap, subst, arith, Option, Some}
 use Rattle.std.specs.Prelude.{All, slice_get}
 use Rattle.std.proofs.lemmas.Int.{ints}

@@ -1,4 +1,4 @@
--- The nodes of what is landed.
+-- The nodes of a landed table.
 use Rattle.std.proofs.Common.{◌≡◌, ◌∙◌, ℕ, zero, suc, ◌<◌, ◌≤◌, true, ◌⊎◌, inl, inr, List, [], ◌∷◌, ◌++◌, map, length, take, drop, refl, sym, ap, subst, arith, Option, Some, None}
 use Rattle.std.proofs.lemmas.List.{take-append-drop}
 use Rattle.ept_point.specs.declared.point.Point.{Point}
@@ -74,7 +74,7 @@ module _ (told : Told) (used : ℕ) (items : List Taken) (h : IsLanded told used
         ]
       ]
 
-  -- in a drawn slot stands a node
+  -- in a drawn slot is a node
   pub key-stands : (k : ℕ) (key : VoxelKey) → KeyOf h.keys k key → (c : Cell) × At items k (Standing c) × (c.node.key ≡ key)
   key-stands k key is = by_what there.0 there.1
     where

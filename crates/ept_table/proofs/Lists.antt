@@ -114,7 +114,7 @@ set_cases (z ∷ zs) (suc i) zero x y a = inr (λ e. omega (arith, e), a)
 set_cases (z ∷ zs) (suc i) (suc j) x y a =
     elim (set_cases zs i j x y a) [ inl h ↦ inl (ap suc h.0, h.1) | inr h ↦ inr (λ e. h.0 (omega (arith, e)), h.1) ]
 
--- what is at a place of the list written is what was written, or was there
+-- what is at a place of the written list is what was written, or was there
 pub set-at : {X : Type 0} (xs : List X) (i : ℕ) {j : ℕ} {x : X} (y : X) → At (set xs i y) j x → ((j ≡ i) × (y ≡ x)) ⊎ ((j ≡ i → ⊥) × At xs j x)
 set-at xs i {j} {x} y a =
     elim (set_cases xs i j x y a.lies) [ inl h ↦ inl h | inr h ↦ inr (h.0, record { lies = h.1 }) ]
@@ -134,7 +134,7 @@ same_again {X} (z ∷ zs) (suc i) x a = ap (λ (w : List X). z ∷ w) (same_agai
 pub set-again : {X : Type 0} {xs : List X} {i : ℕ} {x : X} → At xs i x → set xs i x ≡ xs
 set-again {X} {xs} {i} {x} a = same_again xs i x a.lies
 
--- ---- a place behind the others
+-- ---- a place after the others
 
 append_left : {X : Type 0} (xs ys : List X) (i : ℕ) (x : X) → LiesAt xs i x → LiesAt (xs ++ ys) i x
 unfolding LiesAt
@@ -243,7 +243,7 @@ flat-cases {X} {Y} f xs i w y m =
       | inr o ↦ inr (IsMember-flat_map f r.0 y xs (at-member xs a.0 r.0 o.1) r.2)
     ]
 
--- what was in one of the lists is there afterwards, if it is in the one written where it was in the one before
+-- what was in one of the lists is there afterwards, if the written list keeps the items of the one before it
 pub flat-stays : {X Y : Type 0} (f : X → List Y) {xs : List X} {i : ℕ} {x : X} (w : X) (y : Y) → At xs i x → (IsMember y (f x) → IsMember y (f w)) → IsMember y (flat_map f xs) → IsMember y (flat_map f (set xs i w))
 flat-stays {X} {Y} f {xs} {i} {x} w y a change m =
     let r = member-flat_map f y xs m in

@@ -1,4 +1,4 @@
--- Seats that know something else, of which the rule says the same.
+-- Seats that know something else, for which the rule states the same.
 use Rattle.std.proofs.Common.{◌≡◌, ◌∙◌, ℕ, ◌+◌, ◌<◌, ◌≤◌, ◌⊎◌, inl, inr, List, [], ◌∷◌, length, min, take, drop, set, refl, sym, ap, subst, arith, Some, None, sum_by, true}
 use Rattle.std.specs.List.Sorted.{IsPermutation}
 use Rattle.std.proofs.lemmas.List.Concat.{length-flat_map}
@@ -27,11 +27,11 @@ use Rattle.ept_table.proofs.Alike.{FlyAlike, seats-alike, sound-alike, flies-the
 abbrev pub SomeFull : List View → Type 0
 SomeFull views = (i : ℕ) × (v : View) × At views i v × NotesFull v
 
--- some seat notes that the reader failed so
+-- some seat notes that the reader failed with this refusal
 abbrev pub SomeFailure : List View → ReadError → Type 0
 SomeFailure views e = (i : ℕ) × (v : View) × At views i v × IsMember e v.note.failures
 
--- where more draws were answered, as many slots are drawn
+-- a later count of draws, with the same number of drawn slots
 pub record Goes (told : Told) (before after : ℕ) : Type 0 where
   pub over : IsOver told before → IsOver told after
   pub counted : min before told.most ≡ min after told.most
@@ -44,7 +44,7 @@ CarriesTo v c = (d : Carried) × IsMember d v.note.flights × (d.slot ≡ c.slot
 pub itself : (v : View) (c : Carried) → IsMember c v.note.flights → CarriesTo v c
 itself v c m = (c, m, refl, refl)
 
--- of what the new views know the rule says what it said of the old ones
+-- the rule states of the new views what it stated of the old ones
 pub record Mirrors (told : Told) (drawn : ℕ) (old new : List View) : Type 0 where
   pub knows : (i : ℕ) (w : View) → At new i w → 0 < w.parts → w.note.told ≡ told
   pub idle : (i : ℕ) (w : View) → At new i w → w.hold ≡ None → w.note.draws ≡ []
@@ -59,7 +59,7 @@ pub record Mirrors (told : Told) (drawn : ℕ) (old new : List View) : Type 0 wh
   pub drew : (held : ℕ) (x : Taken) (d : Draw) → Drew old held x d → Drew new held x d
   pub draws : (i : ℕ) (w : View) (held : ℕ) (x : Taken) (d : Draw) → At new i w → w.hold ≡ Some (held, x) → IsMember d w.note.draws → (j : ℕ) × (v : View) × At old j v × (v.hold ≡ Some (held, x)) × IsMember d v.note.draws × (v.note.flights ≡ w.note.flights)
 
--- as many points are in flights in another order
+-- flights in another order have the same number of points
 pub flown-same : (fs gs : List Flight) → IsPermutation fs gs → length (flown gs) ≡ length (flown fs)
 flown-same fs gs same =
     length-flat_map (λ (f : Flight). f.points) gs
@@ -76,7 +76,7 @@ slot-goes : (told : Told) (before after : ℕ) (keys : List VoxelKey) (slot : �
 slot-goes told before after keys slot key goes (inl none) = inl (none.0, goes.over none.1)
 slot-goes told before after keys slot key goes (inr is) = inr is
 
--- what holds of the slot and the key of a flight holds of those of the other
+-- what holds of the slot and the key of a flight holds of the slot and the key of its counterpart
 to_same : (P : ℕ → VoxelKey → Type 0) (d c : Carried) → d.slot ≡ c.slot → d.flight.key ≡ c.flight.key → P d.slot d.flight.key → P c.slot c.flight.key
 to_same P d c slot key p = subst (λ (n : ℕ). P n c.flight.key) slot (subst (λ (k : VoxelKey). P d.slot k) key p)
 
@@ -159,7 +159,7 @@ module _ (told : Told) (before after : ℕ) (goes : Goes told before after) (ite
 
 -- ---- one seat that knows something else
 
--- of what the new view knows the rule says what it said of the old one
+-- the rule states of the new view what it stated of the old one
 pub record Alike (told : Told) (drawn : ℕ) (v w : View) : Type 0 where
   pub knows : 0 < w.parts → w.note.told ≡ told
   pub idle : w.hold ≡ None → w.note.draws ≡ []
@@ -195,7 +195,7 @@ module _ (told : Told) (before after : ℕ) (goes : Goes told before after) (ite
         | inr o ↦ others j u o.0 o.1
       ]
 
-  -- a seat of before, if it is not the changed one
+  -- a seat from before, if it is not the changed one
   kept : (P : View → Type 0) → (P v → P w) → ((j : ℕ) × (u : View) × At views j u × P u) → (j : ℕ) × (u : View) × At next j u × P u
   kept P change (j, u, a, p) =
       elim (same_or_not j i) [

@@ -1,4 +1,4 @@
--- Steps that leave what lies in the slots.
+-- Steps that change nothing in the slots.
 use Rattle.std.proofs.Common.{◌≡◌, ℕ, ◌<◌, ◌==◌, true, inl, inr, List, [], set, refl, sym, subst, arith, Option, Some, None}
 use Rattle.std.proofs.lemmas.Bool.{eqb-true}
 use Rattle.std.proofs.lemmas.List.Sorted.{IsPermutation-refl}
@@ -41,7 +41,7 @@ module _ (told : Told) (drawn : ℕ) (items : List Taken) (views : List View) (i
     draws = inl (h.seats.idle i v at free, h.seats.idle i v at free);
   }) (λ n. n) h
 
-  -- ---- what is held is given back as it was taken, or its node from elsewhere
+  -- ---- what is held is returned as it was taken, or its node after a move to or from its file
 
   returned : v.note.draws ≡ [] → Holds told drawn items (set views i (given_back v v.note))
   returned none = alike-holds told drawn items views i v (given_back v v.note) at (record {

@@ -129,7 +129,7 @@ module _ (told : Told) (used : ℕ) (items : List Taken) (nodes : List Branch) (
       let e : Standing d.0 ≡ Blank = at-same d.1 blank in
       absurd (cc)
 
-  -- the slot of a key below an open octant is the child slot of that
+  -- the slot of a key below an open octant is the child slot of that octant
   child_of : (k : ℕ) (c : Cell) (key : VoxelKey) → At items k (Standing c) → c.node.key ≡ key → IsBelowOpen entries key → IsChild items k key
   child_of k c key a its b =
       let q = stands-there items nodes p.standing b.above (open-there entries b.above b.octant b.is_open) in

@@ -66,7 +66,7 @@ cons-parts {X} x y xs ys e = (ap (first_of x) e, ap rest_of e)
     rest_of [] = []
     rest_of (z ∷ zs) = zs
 
--- the list whose last one is at the front when it is turned round
+-- the list whose last item comes first when it is reversed
 pub turned : {X : Type 0} (xs front : List X) (x : X) → reverse xs ≡ front ++ x ∷ [] → xs ≡ x ∷ reverse front
 turned xs front x e = sym (reverse-reverse xs) ∙ (ap reverse e ∙ reverse-append front (x ∷ []))
 
@@ -171,7 +171,7 @@ module _ {F S : Type 0} where
 
     -- ---- a table is closed
 
-    -- what lies in the slots of a table is the reader and nodes behind it
+    -- what lies in the slots of a table is the reader, then nodes
     as_nodes : (xs : List (Item F S)) → ((k : ℕ) (x : Item F S) → At xs k x → (r : Reader S) → (x ≡ items.Reader r) → ⊥) → (ns : List (node.Node F)) × (xs ≡ map as_item ns)
     as_nodes [] none = ([], refl)
     as_nodes (items.Node n ∷ xs) none =

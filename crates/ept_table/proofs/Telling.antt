@@ -1,4 +1,4 @@
--- What steps tell.
+-- What steps make known.
 use Rattle.std.proofs.Common.{◌≡◌, ◌∙◌, ℕ, ◌<◌, ◌≤◌, Bool, true, false, ◌⊎◌, inl, inr, List, ◌++◌, map, length, drop, min, refl, ap, subst, arith}
 use Rattle.std.proofs.lemmas.Bool.{false≢true}
 use Rattle.ept_point.specs.declared.point.Point.{Point}
@@ -25,13 +25,13 @@ use Rattle.ept_table.proofs.Keys.{no_key, key-same, key-low}
 use Rattle.ept_table.proofs.TooMany.{points-as, node-taken}
 use Rattle.ept_table.proofs.ReaderBack.{reading-same}
 
--- a slot of a drawn key is no greater than the most
+-- the slot of a drawn key is at most the number of slots for nodes
 slot_low : (told : Told) (drawn : ℕ) (keys : List VoxelKey) (slot : ℕ) (key : VoxelKey) → length keys ≡ min drawn told.most → HasSlot told drawn keys slot key → slot ≤ told.most
 slot_low told drawn keys slot key counted (inl none) = omega (arith, none.0)
 slot_low told drawn keys slot key counted (inr is) =
     let low = key-low keys slot key is in omega (arith, low.1, counted)
 
--- where a slot is lacking, all are drawn
+-- if a slot is lacking, all are drawn
 slot_lacks : (told : Told) (drawn : ℕ) (keys : List VoxelKey) (slot : ℕ) (key : VoxelKey) → slot ≡ 0 → HasSlot told drawn keys slot key → IsOver told drawn
 slot_lacks told drawn keys slot key is_zero (inl none) = none.1
 slot_lacks told drawn keys slot key is_zero (inr is) =
@@ -101,7 +101,7 @@ module _ (told : Told) (drawn : ℕ) (items : List Taken) (views : List View) (i
       flight = flight_here;
     }
 
-  -- ---- a look
+  -- ---- `look`
 
   pub state-keeps-law : AreLocked items views → told.tells ≡ true → ShowsLaw told v
   state-keeps-law locks tells = record {

@@ -1,4 +1,4 @@
--- Where all slots are drawn and one more is asked for, the sampling has more nodes.
+-- If all slots are drawn and one more is needed, the sampling has more nodes.
 use Rattle.std.proofs.Common.{◌≡◌, ◌∙◌, ℕ, suc, ◌+◌, ◌-◌, ◌<◌, ◌≤◌, Bool, true, false, ◌||◌, inl, inr, List, [], ◌∷◌, ◌++◌, map, length, take, drop, refl, sym, ap, subst, arith, Some}
 use Rattle.std.proofs.lemmas.List.{take-append-drop, length-append, drop-drop}
 use Rattle.ept_point.specs.declared.point.Point.{Point}
@@ -144,7 +144,7 @@ module _ (told : Told) (drawn : ℕ) (items : List Taken) (views : List View) (h
     opened-is_node =
         open-node told.rules told.points first between rest after (arrive-keeps told.rules told.points state cut.0 f cut.1 s.law cut.2) all_points left_points f.key o low opened_then
 
-  -- ---- each drawn slot stands for a node
+  -- ---- each drawn slot is the slot of a node
 
   module _ (locks : AreLocked items views) (tells : told.tells ≡ true) where
     drawn_is_node : (k : ℕ) (key : VoxelKey) → IsDrawn h.keys views k key → is_node told.rules first key ≡ true

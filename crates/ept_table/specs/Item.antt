@@ -1,4 +1,4 @@
--- Items as plain data, and what is known of them besides.
+-- Items as plain data, and what else is known of them.
 use Rattle.std.specs.Prelude.{◌≡◌, ℕ, true, List, map, drop, Option, Some, None}
 use Rattle.ept_scan.specs.declared.second_reading.Reader.{Reader}
 use Rattle.ept_scan.specs.declared.read_error.ReadError.TheVariants.{SourceChanged}
@@ -25,7 +25,7 @@ taken_as states.Resident c = Standing c
 taken_as states.Spilled c = Standing c
 taken_as states.Broken c = Standing c
 
--- a node with the slots of its children: where its points are in its file, with those that the file tells
+-- a node with the slots of its children: if its points are in its file, with those that the file shows
 abbrev pub cell_of : {F : Type 0} → (F → Option (List ℕ)) → Node F → Cell
 cell_of held node = record { node = node_of held node; children = children_of node }
 
@@ -61,15 +61,15 @@ broken_by (items.Reader r) = None
 abbrev pub StaysBroken : {F S : Type 0} → item.Item F S → item.Item F S → Type 0
 StaysBroken old new = (why : NodeError) → broken_by old ≡ Some why → broken_by new ≡ Some why
 
--- Of a reader it is known that it stands before its next record, or has a refusal. Where files and sources tell, that is no
--- change of an input, and if it has not failed, its batches are the points from its place on.
+-- What is known of a reader: it is before its next record, or has a refusal. If contents are visible, the refusal is no
+-- change of an input. If the reader has also not failed, its batches are the points from its place on.
 pub record IsFiled {S : Type 0} (whole left : S → Option (List ℕ)) (given faults : S → ℕ) (told : Told) (r : Reader S) : Type 0 where
   pub reader : IsReader whole left given faults r
   pub rest : told.tells ≡ true → refusal_of r ≡ None → IsRest whole r (drop (drawn_of r) told.points)
   pub no_change : told.tells ≡ true → (source number : ℕ) → refusal_of r ≡ Some (SourceChanged source number) → ⊥
 
--- Of a node it is known that it agrees with its file, and is not broken by want of memory. Where files and sources tell, its
--- file does, and it is not broken by damage.
+-- What is known of a node: it agrees with its file, and is not broken by running out of memory. If contents are
+-- visible, those of its file are too, and the node is not broken by damage.
 pub record IsFiledNode {F : Type 0} (held : F → Option (List ℕ)) (faults keeps : F → ℕ) (told : Told) (node : Node F) : Type 0 where
   pub agrees : AgreesWithFile held faults keeps node
   pub not_memory : fault_of node ≡ Some Memory → ⊥

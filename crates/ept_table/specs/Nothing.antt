@@ -1,4 +1,4 @@
--- A table that is told nothing: no node, no input and no point.
+-- The ghost input of an empty table: no node, no input and no point.
 use Rattle.std.specs.Prelude.{false, []}
 use Rattle.ept_space.specs.Group.{plain_rules}
 use Rattle.ept_table.specs.declared.note.Told.{Told}

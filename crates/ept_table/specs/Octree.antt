@@ -1,4 +1,4 @@
--- The nodes of an octree by their keys, and the slots that they stand in while nothing flies.
+-- The nodes of an octree by their keys, and their slots while nothing flies.
 use Rattle.std.specs.Prelude.{◌≡◌, ◌⊎◌, ℕ, ◌+◌, ◌<◌, ◌≤◌, true, false, List, [], ◌∷◌, map, length}
 use Rattle.std.specs.List.{flat_map}
 use Rattle.ept_point.specs.declared.point.Point.{Point}
@@ -40,11 +40,12 @@ tile_of b = record { key = b.0; points = b.1.points }
 abbrev pub points_in : List Branch → List Point
 points_in nodes = flat_map (λ (b : Branch). b.1.points) nodes
 
--- each node has the key under which it stands, and the rules of the octree
+-- each node has the key under which it is listed, and the rules of the octree
 abbrev pub AreNodes : Rules → List Branch → Type 0
 AreNodes rules nodes = (b : Branch) → IsMember b nodes → (b.1.key ≡ b.0) × (b.1.rules ≡ rules)
 
--- The nodes are those of the sampling of some points: they have its tiles, and an octant is open where its child is a node.
+-- The nodes are those of the sampling of some points. They have its tiles, and an octant is open if, and only if, its
+-- child is a node.
 pub record AreSampled (rules : Rules) (points : List Point) (nodes : List Branch) : Type 0 where
   pub tiles : map tile_of nodes ≡ sampled rules points
   pub opens : (b : Branch) (o : ℕ) → IsMember b nodes → o < 8 → opened b.1.mask o ≡ is_node rules points (child b.0 o)
@@ -59,8 +60,8 @@ pub record IsBelowOpen (entries : List Entry) (key : VoxelKey) : Type 0 where
   pub is_child : key ≡ child above octant
   pub is_open : has_open (node_at entries above) octant ≡ true
 
--- The keys of the nodes ascend, and the root is one of them. Each other node stands below an open octant, and below each
--- open octant stands a node.
+-- The keys of the nodes ascend, and the root is one of them. Each further node is below an open octant, and below each
+-- open octant is a node.
 pub record AreWhole (entries : List Entry) : Type 0 where
   pub ascend : AreAscending (keys_of entries)
   pub rooted : has_node entries root ≡ true
@@ -73,7 +74,7 @@ KeepsNodes old new = (key : VoxelKey) → has_node old key ≡ true → has_node
 
 -- ---- nodes in slots
 
--- the keys of the nodes that stand in the slots, in the order of these
+-- the keys of the nodes that are in the slots, in the order of these
 abbrev pub key_in : Taken → List VoxelKey
 key_in Blank = []
 key_in (Standing c) = c.node.key ∷ []
@@ -86,7 +87,7 @@ keys_in items = flat_map key_in items
 abbrev pub branch_of : Cell → Branch
 branch_of c = (c.node.key, c.node)
 
--- Nodes stand in the slots from 1 to the last that is used, the root in slot 1, and in no other slot.
+-- The slots from 1 to the last that is used have nodes, the root in slot 1, and no further slot has one.
 pub record FillSlots (most used : ℕ) (items : List Taken) : Type 0 where
   pub size : length items ≡ most + 1
   pub few : used ≤ most
@@ -99,12 +100,12 @@ abbrev pub HaveOneSlot : List Taken → Type 0
 HaveOneSlot items =
     (j k : ℕ) (c d : Cell) → At items j (Standing c) → At items k (Standing d) → c.node.key ≡ d.node.key → j ≡ k
 
--- The child slot of an open octant has the node of the child, and a closed octant has none.
+-- The child slot of an open octant has the node of the child, and a closed octant has no child slot.
 pub record AreLinked (items : List Taken) : Type 0 where
   pub child_slot : (k : ℕ) (c : Cell) (o : ℕ) → At items k (Standing c) → o < 8 → is_open_in c.node o ≡ true → (d : Cell) × At items (slot_at (Standing c) o) (Standing d) × (d.node.key ≡ child c.node.key o)
   pub none : (k : ℕ) (c : Cell) (o : ℕ) → At items k (Standing c) → o < 8 → is_open_in c.node o ≡ false → slot_at (Standing c) o ≡ 0
 
--- These are the nodes that stand in the slots, in key order, each once.
+-- These are the nodes that are in the slots, in key order, each once.
 pub record AreStanding (items : List Taken) (nodes : List Branch) : Type 0 where
   pub ascend : AreAscending (map key_of nodes)
   pub by_key : (k : ℕ) (c : Cell) → At items k (Standing c) → IsMember (branch_of c) nodes

@@ -1,4 +1,4 @@
--- What holds of the nodes that stand in the slots while nothing flies. Each statement stands on the contract of a function of
+-- What holds of the nodes in the slots while nothing flies. Each statement is proved by the contract of a function of
 -- `laws`.
 use Rattle.std.specs.Prelude.{◌≡◌, ℕ, suc, true, List, map, length, take, set, None, sum_by}
 use Rattle.ept_space.specs.VoxelKey.{VoxelKey}
@@ -14,14 +14,14 @@ use Rattle.ept_table.specs.Shown.{IsTold, IsSound, FitsReader}
 use Rattle.ept_table.specs.Tells.{IsLanded}
 use Rattle.ept_table.specs.Octree.{Branch, entry_of, AreSampled, AreWhole, keys_in, FillSlots, HaveOneSlot, AreLinked, AreStanding}
 
--- ---- what is landed tells of the nodes
+-- ---- what is known of landed nodes
 
--- they stand in the first slots, each key in one, and have the slots of their children
+-- they are in the first slots, each key in one, and have the slots of their children
 abbrev pub LandedFillsSlots : Type 0
 LandedFillsSlots =
     (told : Told) (used : ℕ) (items : List Taken) → IsLanded told used items → FillSlots told.most used items × HaveOneSlot items × AreLinked items
 
--- each that stood as the table was made stands in its slot
+-- each node of the beginning is in its slot
 abbrev pub LandedKeepsBegun : Type 0
 LandedKeepsBegun =
     (told : Told) (used : ℕ) (items : List Taken) (i : ℕ) (key : VoxelKey) → IsLanded told used items → At told.begun i key → (c : Cell) × At items (suc i) (Standing c) × (c.node.key ≡ key)
@@ -31,7 +31,7 @@ abbrev pub LandedIsSound : Type 0
 LandedIsSound =
     (told : Told) (used : ℕ) (items : List Taken) (k : ℕ) (c : Cell) → IsLanded told used items → At items k (Standing c) → IsSound told c
 
--- the reader fits and has not failed, and the nodes have as many points as it has drawn
+-- the reader fits and has not failed, and the number of points in the nodes is the number that it has drawn
 pub record IsReadSoFar (told : Told) (items : List Taken) (r : Progress) : Type 0 where
   pub fits : FitsReader told r
   pub sound : r.failed ≡ None
@@ -46,14 +46,14 @@ abbrev pub LandedIsWhole : Type 0
 LandedIsWhole =
     (told : Told) (used : ℕ) (items : List Taken) (nodes : List Branch) → IsLanded told used items → AreStanding items nodes → AreWhole (map entry_of nodes)
 
--- and where files and sources tell, they are the sampling of the points that were drawn
+-- and if contents are visible, they are the sampling of the points that were drawn
 abbrev pub LandedIsSampled : Type 0
 LandedIsSampled =
     (told : Told) (used : ℕ) (items : List Taken) (nodes : List Branch) (r : Progress) → IsLanded told used items → AreStanding items nodes → At items 0 (Reading r) → told.tells ≡ true → AreSampled told.rules (take r.drawn told.points) nodes
 
--- ---- what is landed goes on
+-- ---- a landed table continues
 
--- the same with another end of the reader's allowance, where all nodes are those that stand as the table is made
+-- the same with another end of the reader's allowance, and with all its nodes as those of the beginning
 abbrev pub going_on : Told → ℕ → List Taken → Told
 going_on told end items = record told { end = end; begun = keys_in items }
 
@@ -64,8 +64,8 @@ LandedGoesOn =
 
 -- ---- nodes of a checkpoint
 
--- Sound nodes in slots, linked and a whole octree, with the reader that has drawn their points; where files and sources tell,
--- they are the sampling of the points that were drawn.
+-- Sound nodes in slots, linked and a whole octree, with the reader that has drawn their points. If contents are
+-- visible, they are the sampling of the points that were drawn.
 pub record IsResumed (told : Told) (used : ℕ) (items : List Taken) (nodes : List Branch) (r : Progress) : Type 0 where
   pub begun : told.begun ≡ keys_in items
   pub slots : FillSlots told.most used items

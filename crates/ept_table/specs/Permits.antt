@@ -12,6 +12,6 @@ abbrev pub weight_of : {F S : Type 0} → item.Item F S → ℕ
 weight_of (items.Node node) = if is_here node then 1 else 0
 weight_of (items.Reader r) = 0
 
--- the permits that a seat has, and those that come to it with what it holds
+-- the permits that a seat has, and those that come with what it holds
 abbrev pub spare_of : {F S : Type 0} → slots.View (item.Item F S) Note → ℕ
 spare_of v = v.permits + held_weight weight_of v.hold

@@ -1,35 +1,41 @@
--- The rule of a table of nodes: what holds at every moment of the slots and of what the seats know, and the state of the
--- machine that they show.
+-- The rule of a table of nodes: what holds at every moment of the slots and of what the seats know. And the state of
+-- the machine that they show.
 --
--- Slot 0 has the reader, the slots from 1 to the most are those of nodes, and slot 1 is the root's. Of a held slot the
--- rule speaks of what lay there as it was taken.
+-- Slot 0 has the reader, the slots from 1 to the most are for nodes, and slot 1 is the root's. For a held slot the rule
+-- refers to what lay there when it was taken.
 --
--- The state: `shown` has the points from the reader's place on as those that are left, the flights of all seats, the
--- abandoned ones included, and the nodes. A blank slot is no node (`Shows`).
+-- The state: `shown` has the points from the reader's place on as those that are left, the flights of all seats, and
+-- the nodes. Abandoned flights are included. A blank slot is no node (`Shows`).
 --
 -- Each rule and the field that carries it:
---   a drawn slot is slot 1, the child of one octant of one node, or noted by the one seat that drew it: `Tree.born`, with
---     `Tree.distinct`;
---   the slots that a seat notes are for different octants of the node that it holds, each closed in it as it was taken
---     and, where files and sources tell, opened by the arrival of a flight of that seat: `Tree.draws`;
---   where they tell and all slots are drawn, the sampling up to the end of the allowance has more nodes: `Tree.full_over`;
---   a flight in a seat's view is noted with the slot of its key, or with none once all slots are drawn, and that slot is
---     slot 1 or the child slot of an open octant: `Tree.carried`, `Tree.lands`;
---   the slots from 1 on have the keys of the nodes that stood as the table was made, the root's first, and nodes stand there still:
---     `Tree.first`, `Tree.rooted`, `IsTold.top`; the node of a drawn slot has that slot's key: `Base.keyed`;
---   the node of a slot that is not drawn is blank: `Tree.undrawn`; so is that of a slot noted as drawn: `IsDraw.blank`;
---   each node has the rules of the forest, its points lie in its box, it is no deeper than the greatest depth, and there
---     no octant is open: `IsSound`;
---   no flight is empty, its points lie in the box of its key, which is no deeper than the greatest depth:
---     `Base.flying`;
---   an open octant has its child slot, or all slots are drawn: `Tree.children`; a closed one has none: `Tree.closed`;
---   a child slot whose node is blank has a flight to its key: `Tree.awaited`;
---   a seat notes that all slots are drawn only where they are, and where they are some seat does: `Seats.full_above`,
---     `Seats.above_full`;
---   the reader has failed by a refusal exactly where a seat notes that refusal: `Base.failed`, `Base.noted`;
---   the reader has the inputs that it was given, its place and its allowance add up to what they were, and its place is
---     not before that of the reader which any seat last gave back: `FitsReader`, `Base.given`;
---   the points of the nodes and of the flights add up to those drawn: `Base.adds_up`.
+--
+-- - A drawn slot is slot 1, the child of one octant of one node, or noted by the one seat that drew it: `Tree.born`,
+--   `Tree.distinct`.
+-- - The slots that a seat notes are for different octants of the node that it holds, each closed in it when it was
+--   taken: `Tree.draws`.
+-- - If contents are visible, the arrival of a flight of that seat opens each of these octants: `Tree.draws`.
+-- - If contents are visible and a draw was refused, the sampling up to the end of the allowance has more nodes:
+--   `Tree.full_over`.
+-- - A flight in a seat's view has the slot of its key, or none once a draw was refused: `Tree.carried`.
+-- - That slot is slot 1 or the child slot of an open octant: `Tree.lands`.
+-- - The slots from 1 on have the keys of the nodes of the beginning, the root's first: `Tree.first`, `IsTold.top`.
+-- - The slots of these keys still have nodes: `Tree.rooted`.
+-- - The node of a drawn slot has that slot's key: `Base.keyed`.
+-- - The node of a slot that is not drawn is blank: `Tree.undrawn`. So is the node of a slot noted as drawn:
+--   `IsDraw.blank`.
+-- - Each node has the rules of the forest, its points lie in its box, and it is no deeper than the greatest depth:
+--   `IsSound`.
+-- - At the greatest depth no octant is open: `IsSound`.
+-- - No flight is empty, its points lie in the box of its key, which is no deeper than the greatest depth:
+--   `Base.flying`.
+-- - An open octant has its child slot, or a draw was refused: `Tree.children`. A closed octant has none: `Tree.closed`.
+-- - A child slot whose node is blank has a flight to its key: `Tree.awaited`.
+-- - If a seat notes that all slots are drawn, a draw was refused: `Seats.full_above`. If one was refused, some seat
+--   notes it: `Seats.above_full`.
+-- - The reader has failed by a refusal if, and only if, a seat notes that refusal: `Base.failed`, `Base.noted`.
+-- - The reader has its first inputs, and its place and its allowance add up to what they were: `FitsReader`.
+-- - Its place is not before the place at which any seat last returned the reader: `Base.given`.
+-- - The points of the nodes and of the flights add up to those drawn: `Base.adds_up`.
 use Rattle.std.specs.Prelude.{◌≡◌, ℕ, zero, suc, ◌+◌, ◌<◌, ◌≤◌, min, true, false, ◌⊎◌, List, [], ◌++◌, length, take, drop, Some, None, sum_by}
 use Rattle.ept_point.specs.declared.point.Point.{Point}
 use Rattle.ept_space.specs.declared.bounds.Bounds.{Bounds}
@@ -59,7 +65,7 @@ use Rattle.ept_table.specs.At.{At}
 use Rattle.ept_table.specs.Taken.{points_of, count_of, is_open_at, slot_at}
 use Rattle.ept_table.specs.View.{View, NotesFull, IsNothing, all_flights}
 
--- ---- what a table is told
+-- ---- the ghost input of a table
 
 -- a point lies where the first reading has found points of its input
 pub record LiesInInput (inputs : List Counted) (p : Point) : Type 0 where
@@ -70,8 +76,7 @@ pub record LiesInInput (inputs : List Counted) (p : Point) : Type 0 where
   pub limits : input.limits ≡ Some extent
   pub within : IsWithin extent p
 
--- there may be a node, the root is the first of those that stood as the table was made, and the points of the inputs lie in
--- the cube
+-- there may be a node, the root is the first node of the beginning, and the points of the inputs lie in the cube
 pub record IsTold (told : Told) : Type 0 where
   pub some : 0 < told.most
   pub top : At told.begun 0 root
@@ -79,7 +84,7 @@ pub record IsTold (told : Told) : Type 0 where
 
 -- ---- slots
 
--- the drawn slot has this key, where slot k has that of place k - 1
+-- the drawn slot has this key: slot k has the key at place k - 1
 unfoldable pub KeyOf : List VoxelKey → ℕ → VoxelKey → Type 0
 KeyOf keys zero key = ⊥
 KeyOf keys (suc i) key = At keys i key
@@ -94,22 +99,22 @@ HasSlot told drawn keys slot key = ((slot ≡ 0) × IsOver told drawn) ⊎ KeyOf
 
 -- ---- items
 
--- a node has the rules of the forest, its points lie in its box, it is no deeper than the greatest depth, and there no
--- octant is open
+-- A node has the rules of the forest, its points lie in its box, and it is no deeper than the greatest depth. At that
+-- depth no octant is open.
 pub record IsSound (told : Told) (c : Cell) : Type 0 where
   pub rules : c.node.rules ≡ told.rules
   pub low : c.node.key.depth ≤ told.rules.cube.depth
   pub inside : AllInBox told.rules.cube c.node.key c.node.points
   pub deepest : (o : ℕ) → o < 8 → is_open_in c.node o ≡ true → c.node.key.depth < told.rules.cube.depth
 
--- a flight is not empty, its points lie in the box of its key, and that is no deeper than the greatest depth
+-- a flight is not empty, its points lie in the box of its key, and that key is no deeper than the greatest depth
 pub record IsSoundFlight (told : Told) (f : Flight) : Type 0 where
   pub some : HasPoint f.points
   pub low : f.key.depth ≤ told.rules.cube.depth
   pub inside : AllInBox told.rules.cube f.key f.points
 
--- the reader has the inputs and the end of the allowance that the table was told, and the points of the inputs are those
--- drawn and those left
+-- The reader has the inputs and the end of the allowance of the ghost input. The points of the inputs are those drawn
+-- and those left.
 pub record FitsReader (told : Told) (r : Progress) : Type 0 where
   pub inputs : r.inputs ≡ told.inputs
   pub end : r.drawn + r.allowed ≡ told.end
@@ -117,8 +122,8 @@ pub record FitsReader (told : Told) (r : Progress) : Type 0 where
 
 -- ---- seats
 
--- each seat that has a share knows what the table was told, a seat without a slot notes no draw, a seat without a share
--- notes nothing, and a seat notes that all slots are drawn only where they are, and some seat does there
+-- Each seat that has a share knows the ghost input. A seat without a slot notes no draw, and a seat without a share
+-- notes nothing. Some seat notes that all slots are drawn if, and only if, a draw was refused.
 pub record Seats (told : Told) (drawn : ℕ) (views : List View) : Type 0 where
   pub knows : (i : ℕ) (v : View) → At views i v → 0 < v.parts → v.note.told ≡ told
   pub idle : (i : ℕ) (v : View) → At views i v → v.hold ≡ None → v.note.draws ≡ []
@@ -143,7 +148,7 @@ pub record Base (told : Told) (reader : Progress) (keys : List VoxelKey) (items 
 
 -- ---- the drawn slots
 
--- the slot is that of an open octant of a node
+-- the slot is the child slot of an open octant of a node
 pub record IsChild (items : List Taken) (slot : ℕ) (key : VoxelKey) : Type 0 where
   pub parent : ℕ
   pub cell : Cell
@@ -215,7 +220,7 @@ shown told reader nodes views = record {
   nodes = nodes;
 }
 
--- Where files and sources tell, the state keeps the law: its nodes are those that stand in slots.
+-- If contents are visible, the state keeps the law: its nodes are those in the slots.
 pub record Shows (told : Told) (reader : Progress) (items : List Taken) (views : List View) : Type 0 where
   pub nodes : List Entry
   pub law : KeepsLaw told.rules told.points (shown told reader nodes views)
@@ -233,10 +238,10 @@ pub record Holds (told : Told) (drawn : ℕ) (items : List Taken) (views : List 
   pub tree : Tree told drawn keys items views
   pub shows : told.tells ≡ true → Shows told reader items views
 
--- ---- what the locks say beside it
+-- ---- what the locks show besides
 
--- what a seat notes of the slot that it holds is what lay there, no two seats hold one slot, and a seat without a share
--- holds none
+-- What a seat notes of the slot that it holds is what lay there. No two seats hold one slot, and a seat without a share
+-- holds none.
 pub record AreLocked (items : List Taken) (views : List View) : Type 0 where
   pub as_taken : (i : ℕ) (v : View) (k : ℕ) (x : Taken) → At views i v → v.hold ≡ Some (k, x) → At items k x
   pub idle : (i : ℕ) (v : View) → At views i v → v.parts ≡ 0 → v.hold ≡ None

@@ -26,12 +26,12 @@ module _ {F S : Type 0} (held : F → Option (List ℕ)) (whole : S → Option (
 abbrev pub HasBroken : {F S : Type 0} → List (Item F S) → NodeError → Type 0
 HasBroken {F} {S} items why = (k : ℕ) × (x : Item F S) × At items k x × (broken_by x ≡ Some why)
 
--- of each refusal of a node that a seat notes
+-- each refusal of a node that a seat notes is one by which a node in the slots is broken
 abbrev pub HaveBroken : {F S : Type 0} → List (Item F S) → List (slots.View (Item F S) Note) → Type 0
 HaveBroken {F} {S} items views = (i : ℕ) (v : slots.View (Item F S) Note) (why : NodeError) → At views i v → IsMember why v.note.broken → HasBroken items why
 
--- the rule holds of what lies in the slots as plain data, of each item is known what is to be known, and where a seat notes a
--- refusal of a node, one is broken by it
+-- The rule holds of what lies in the slots, as plain data. What is to be known of each item is known. For each refusal
+-- of a node that a seat notes, a node is broken by it.
 pub record Stands {F S : Type 0} (held : F → Option (List ℕ)) (node_faults keeps : F → ℕ) (whole left : S → Option (List ℕ)) (given faults : S → ℕ) (told : Told) (drawn : ℕ) (items : List (Item F S)) (views : List (slots.View (Item F S) Note)) : Type 0 where
   pub rule : Holds told drawn (map (seen held whole) items) (map (known held whole) views)
   pub filed : (k : ℕ) (x : Item F S) → At items k x → Filed held node_faults keeps whole left given faults told x

@@ -36,19 +36,19 @@ use Rattle.ept_table.specs.Shown.{IsSound, IsSoundFlight, OpensOctant, FitsReade
 abbrev pub holding : View → ℕ → Taken → View
 holding v k x = record { parts = v.parts; refused = v.refused; hold = Some (k, x); note = v.note }
 
--- it holds none, and notes this
+-- the seat holds no slot, and notes this
 abbrev pub given_back : View → Note → View
 given_back v n = record { parts = v.parts; refused = v.refused; hold = None; note = n }
 
--- it notes this
+-- the seat notes this
 abbrev pub noting : View → Note → View
 noting v n = record { parts = v.parts; refused = v.refused; hold = v.hold; note = n }
 
--- a draw of it was answered `Full` once more
+-- one more draw of the seat was refused with `Full`
 abbrev pub refused_more : View → View
 refused_more v = record { parts = v.parts; refused = v.refused + 1; hold = v.hold; note = v.note }
 
--- it has this share of the seats
+-- the seat has this share of the seats
 abbrev pub with_parts : View → ℕ → View
 with_parts v n = record { parts = n; refused = v.refused; hold = v.hold; note = v.note }
 
@@ -71,11 +71,11 @@ abbrev pub failures_of : Option ReadError → List ReadError
 failures_of None = []
 failures_of (Some e) = e ∷ []
 
--- the reader was given back, and these flights leave
+-- the reader was returned, and these flights leave
 abbrev pub read : Note → Progress → List Carried → Note
 read n r fresh = record n { flights = n.flights ++ fresh; draws = []; given = r.drawn; failures = failures_of r.failed ++ n.failures }
 
--- a node was given back that is broken by this, if it is
+-- a node was returned that is broken by this, if it is broken
 abbrev pub noting_broken : Option NodeError → Note → Note
 noting_broken None n = n
 noting_broken (Some why) n = record n { broken = why ∷ n.broken }
@@ -84,11 +84,11 @@ noting_broken (Some why) n = record n { broken = why ∷ n.broken }
 abbrev pub lacks_slot : List Carried → Bool
 lacks_slot flights = list_any (λ (c : Carried). c.slot == 0) flights
 
--- the flights are abandoned; where one has no slot it notes that all are drawn
+-- the flights are abandoned; if one has no slot, the seat notes that all are drawn
 abbrev pub abandoned : Note → Note
 abandoned n = record n { flights = []; gone = map (λ (c : Carried). c.flight) n.flights ++ n.gone; over = n.over || lacks_slot n.flights }
 
--- two flights as one: the points of the first and behind them those of the second
+-- two flights as one: the points of the first, then those of the second
 abbrev pub in_one : Carried → Carried → Carried
 in_one c d = record { slot = c.slot; flight = record { actor = c.flight.actor; key = c.flight.key; points = c.flight.points ++ d.flight.points } }
 
@@ -112,19 +112,20 @@ pub record GoTogether (flights : List Carried) : Type 0 where
   pub slot : first.slot ≡ second.slot
   pub key : first.flight.key ≡ second.flight.key
 
--- what a new seat notes, that knows what this one knows
+-- what a new seat notes, which knows what this one knows
 abbrev pub beginning : Note → Note
 beginning n = record n { flights = []; gone = []; draws = []; over = false; given = 0; failures = []; broken = [] }
 
--- what a seat notes that ended another: it takes over the abandoned flights and the refusals of the reader and of nodes
+-- what a seat notes that ended a further seat: it takes over the abandoned flights and the refusals of the reader and
+-- of nodes
 abbrev pub together : Note → Note → Note
 together n m = record n { gone = n.gone ++ m.gone; over = n.over || m.over; failures = n.failures ++ m.failures; broken = n.broken ++ m.broken }
 
--- the seat that ended another
+-- the seat that ended a further seat
 abbrev pub joined : View → View → View
 joined v w = record { parts = v.parts + w.parts; refused = v.refused + w.refused; hold = v.hold; note = together v.note w.note }
 
--- a new seat with this share, that knows what this one knows
+-- a new seat with this share, which knows what this one knows
 abbrev pub new_seat : View → ℕ → View
 new_seat v n = record { parts = n; refused = 0; hold = None; note = beginning v.note }
 
@@ -140,9 +141,9 @@ pub record IsSpent (v : View) : Type 0 where
   pub given : v.note.given ≡ 0
   pub failures : v.note.failures ≡ []
 
--- ---- a reader that is given back
+-- ---- a reader that is returned
 
--- It has drawn these points, or has failed, and is else as it was.
+-- It has drawn these points, or has failed, and is otherwise as it was.
 pub record HasRead (told : Told) (old new : Progress) (points : List Point) : Type 0 where
   pub inputs : new.inputs ≡ old.inputs
   pub drawn : new.drawn ≡ old.drawn + length points
@@ -160,8 +161,8 @@ carried_to actor slot key (p ∷ points) =
 
 -- ---- a draw
 
--- The seat may draw a slot for an octant that is closed in the node that it holds, that it has drawn none for, and that,
--- where files and sources tell, a flight of it to that node opens.
+-- The seat may draw a slot for an octant that is closed in the node that it holds, and for which it has drawn none. If
+-- contents are visible, a flight of it to that node opens the octant.
 pub record MayDraw (told : Told) (v : View) (held : ℕ) (x : Taken) (o : ℕ) : Type 0 where
   pub is_node : 0 < held
   pub low : o < 8
@@ -172,14 +173,14 @@ pub record MayDraw (told : Told) (v : View) (held : ℕ) (x : Taken) (o : ℕ) :
 
 -- ---- a flight that arrives
 
--- an octant of the node afterwards has its child slot: that from before, or one drawn in this visit; none where it is
--- closed, and where a draw was answered `Full`
+-- An octant of the node afterwards has its child slot: the slot from before, or one drawn in this visit. It has none if
+-- it is closed, or if a draw was refused with `Full`.
 pub record HasChild (v : View) (x : Taken) (c : Cell) (o : ℕ) : Type 0 where
   pub kept : is_open_at x o ≡ true → slot_at (Standing c) o ≡ slot_at x o
   pub drawn : is_open_at x o ≡ false → is_open_in c.node o ≡ true → ((d : Draw) × IsMember d v.note.draws × (d.octant ≡ o) × (slot_at (Standing c) o ≡ d.slot)) ⊎ ((slot_at (Standing c) o ≡ 0) × (0 < v.refused))
   pub none : is_open_in c.node o ≡ false → slot_at (Standing c) o ≡ 0
 
--- points go on to the child of an open octant, by its slot
+-- points continue to the child of an open octant, by its slot
 pub record GoesBelow (told : Told) (c : Cell) (g : Carried) : Type 0 where
   pub octant : ℕ
   pub low : octant < 8
@@ -188,12 +189,12 @@ pub record GoesBelow (told : Told) (c : Cell) (g : Carried) : Type 0 where
   pub slot : g.slot ≡ slot_at (Standing c) octant
   pub sound : IsSoundFlight told g.flight
 
--- the machine's node afterwards, and its flights, but for the order of the points in each
+-- the machine's node afterwards, and its flights, except that the points in each may be in another order
 pub record IsArrival (told : Told) (x : Taken) (f : Flight) (c : Cell) (fresh : List Carried) : Type 0 where
   pub node : seen c.node ≡ node_after told.rules f.key (as_node x) (in_id_order (f.points ++ points_of x))
   pub flights : EachIsReordered (flights_after f.actor told.rules f.key (as_node x) (in_id_order (f.points ++ points_of x))) (map (λ (g : Carried). g.flight) fresh)
 
--- The flight has arrived at the node that was taken, which is now the node of the cell, and these flights go on.
+-- The flight has arrived at the node that was taken, which is now the node of the cell, and the fresh flights leave it.
 pub record HasArrived (told : Told) (v : View) (x : Taken) (f : Flight) (c : Cell) (fresh : List Carried) : Type 0 where
   pub key : c.node.key ≡ f.key
   pub sound : IsSound told c
@@ -203,19 +204,19 @@ pub record HasArrived (told : Told) (v : View) (x : Taken) (f : Flight) (c : Cel
   pub goes_below : (g : Carried) → IsMember g fresh → GoesBelow told c g
   pub fills : (o : ℕ) → o < 8 → is_open_at x o ≡ false → is_open_in c.node o ≡ true → (g : Carried) × IsMember g fresh × (g.flight.key ≡ child c.node.key o)
   pub adds_up : length f.points + length (points_of x) ≡ length c.node.points + length (flown (map (λ (g : Carried). g.flight) fresh))
-  -- where files and sources tell, and the ids are different, it is the arrival of the machine
+  -- if contents are visible, and the ids are different, it is the arrival of the machine
   pub exact : told.tells ≡ true → HasDistinctIds (f.points ++ points_of x) → IsArrival told x f c fresh
 
--- ---- a node that comes and goes
+-- ---- a node that moves to or from its file
 
--- The same node. Where files and sources do not tell, its points may be others, as many, in its box.
+-- The same node. If contents are not visible, its points may be the same number of other points in its box.
 pub record IsAlikeCell (told : Told) (c d : Cell) : Type 0 where
   pub node : IsAlike c.node d.node
   pub children : d.children ≡ c.children
   pub inside : AllInBox d.node.rules.cube d.node.key d.node.points
   pub exact : told.tells ≡ true → d ≡ c
 
--- What lies in a slot is what lay there: as it was, or a node that went to its file or came back from it.
+-- What lies in a slot is what lay there: as it was, or a node that moved to or from its file.
 abbrev pub StaysAlike : Told → Taken → Taken → Type 0
 StaysAlike told x y = (y ≡ x) ⊎ ((c d : Cell) × (x ≡ Standing c) × (y ≡ Standing d) × IsAlikeCell told c d)
 
@@ -238,7 +239,7 @@ first_note told = record {
 abbrev pub first_seat : Told → ℕ → View
 first_seat told parts = record { parts = parts; refused = 0; hold = None; note = first_note told }
 
--- The root without points in slot 1, no node in any other slot, and in slot 0 a reader that has drawn nothing.
+-- The root without points in slot 1, no node in any further slot, and in slot 0 a reader that has drawn nothing.
 pub record IsPlanted (told : Told) (items : List Taken) (r : Progress) (top : Cell) : Type 0 where
   pub size : length items ≡ told.most + 1
   pub begun : told.begun ≡ root ∷ []

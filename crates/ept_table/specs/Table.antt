@@ -9,7 +9,7 @@ use Rattle.ept_table.specs.declared.note.Told.{Told}
 use Rattle.ept_table.specs.declared.table.NodeTable.{NodeTable}
 
 module _ {F S J : Type 0} where
-  -- how many slots it has, that of the reader included
+  -- how many slots it has, including the slot of the reader
   abbrev pub slots_of : NodeTable F S J → ℕ
   slots_of table = count_of table.slots
 
@@ -21,6 +21,6 @@ module _ {F S J : Type 0} where
   abbrev pub cache_of : NodeTable F S J → ℕ
   cache_of table = table.cache
 
-  -- the seat is one of this table, in which slots are drawn up to the most that it was told
+  -- the seat is one of this table, in which slots are drawn up to the most of the ghost input
   abbrev pub IsSeat : Told → NodeTable F S J → SlotSeat (Item F S) Note Said → Type 0
   IsSeat told table seat = IsSeatOf (λ _. told.most) table.slots seat

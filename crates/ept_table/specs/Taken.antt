@@ -14,7 +14,7 @@ points_of Blank = []
 points_of (Standing c) = c.node.points
 points_of (Reading r) = []
 
--- how many they are
+-- how many points it has
 abbrev pub count_of : Taken → ℕ
 count_of x = length (points_of x)
 

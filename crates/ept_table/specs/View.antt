@@ -6,8 +6,8 @@ use Rattle.ept_table.specs.declared.note.Carried.{Carried}
 use Rattle.ept_table.specs.declared.note.Note.{Note}
 use Rattle.ept_table.specs.declared.taken.Taken.{Taken}
 
--- its share of the seats, how often a draw of it was answered `Full`, the slot that it holds with what lay there as it
--- was taken, and what it notes
+-- Its share of the seats, and how many draws of it were refused with `Full`. The slot that it holds, with what lay
+-- there when it was taken. What it notes.
 pub record View : Type 0 where
   pub parts : ℕ
   pub refused : ℕ
@@ -18,7 +18,7 @@ pub record View : Type 0 where
 abbrev pub NotesFull : View → Type 0
 NotesFull v = (0 < v.refused) ⊎ (v.note.over ≡ true)
 
--- its flights, those that were abandoned included
+-- its flights, including abandoned ones
 abbrev pub flights_of : View → List Flight
 flights_of v = map (λ (c : Carried). c.flight) v.note.flights ++ v.note.gone
 

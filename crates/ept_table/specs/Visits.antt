@@ -23,24 +23,24 @@ fresh_of Nothing = []
 fresh_of (Draw fresh) = fresh
 fresh_of (Arrive number fresh) = fresh
 
--- what a seat notes that has given a node back
+-- what a seat notes after it has returned a node
 abbrev pub note_of_node : Note → Done → Note
 note_of_node n Nothing = n
 note_of_node n (Draw fresh) = n
 note_of_node n (Arrive number fresh) = arrived n number fresh
 
--- what a seat notes that has given this back
+-- what a seat notes after it has returned this
 abbrev pub note_after : Note → Taken → Done → Note
 note_after n Blank done = note_of_node n done
 note_after n (Standing c) done = note_of_node n done
 note_after n (Reading r) done = read n r (fresh_of done)
 
--- and what it notes after a step that said this
+-- and what it notes after a step with this report
 abbrev pub note_said : Note → Taken → Said → Note
 note_said n y (Did done) = note_after n y done
 note_said n y (Wish o) = wishing n o
 
--- a reader is given back that has drawn these points, which leave for the root
+-- a reader is returned that has drawn these points, which leave for the root
 pub record GivesReader (told : Told) (k : ℕ) (x y : Taken) (points : List Point) (fresh : List Carried) : Type 0 where
   pub old : Progress
   pub new : Progress
@@ -51,7 +51,7 @@ pub record GivesReader (told : Told) (k : ℕ) (x y : Taken) (points : List Poin
   pub actor : ℕ
   pub flies : fresh ≡ carried_to actor 1 root points
 
--- a node is given back at which the flight of this number has arrived
+-- a node is returned at which the flight of this number has arrived
 pub record GivesNode (told : Told) (v : View) (k : ℕ) (x y : Taken) (number : ℕ) (fresh : List Carried) : Type 0 where
   pub carried : Carried
   pub cell : Cell
@@ -61,8 +61,8 @@ pub record GivesNode (told : Told) (v : View) (k : ℕ) (x y : Taken) (number : 
   pub given : y ≡ Standing cell
   pub has_arrived : HasArrived told v x carried.flight cell fresh
 
--- The item differs from the one that was taken as the visit says: not at all, but that a node may be elsewhere and a reader may
--- have failed, by a draw, or by an arrival.
+-- The item differs from the item that was taken as the visit reports: by nothing, by a draw, or by an arrival. A node
+-- may have moved to or from its file, and a reader may have failed.
 abbrev pub Visits : Told → View → ℕ → Taken → Taken → Done → Type 0
 Visits told v k x y Nothing = (StaysAlike told x y × (0 < k) × (v.note.draws ≡ [])) ⊎ GivesReader told k x y [] []
 Visits told v k x y (Draw fresh) = (points : List Point) × GivesReader told k x y points fresh

@@ -3,9 +3,9 @@
 use ept_node::Node;
 use ept_scan::Reader;
 
-/// What lies in a slot: the reader in slot 0, a node in each other one.
+/// What lies in a slot: the reader in slot 0, a node in every further slot.
 ///
-/// It can't be dropped where a spill file or a source can't.
+/// It can be dropped only if a spill file and a source can.
 pub enum Item<F, S> {
     /// A node, or a blank one.
     Node(Node<F>),

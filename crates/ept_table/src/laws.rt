@@ -3,8 +3,8 @@
 ghost use Rattle.ept_table.specs.Laws.{TakeKeeps, ReturnKeeps, WishKeeps, BrokenKeeps, AbandonKeeps, MergeKeeps, SplitKeeps, JoinKeeps, ReadKeeps, DrawKeeps, RefusalKeeps, RefusalIsTrue, ArrivalKeeps, TakeFits, LackIsTooMany, FullIsTooMany, StateKeepsLaw, FirstSeatHolds, BeginningIsLanded, LastSeatTells, LandedIsSampling};
 ghost use Rattle.ept_table.specs.OctreeLaws.{LandedFillsSlots, LandedKeepsBegun, LandedIsSound, LandedIsRead, LandedIsWhole, LandedIsSampled, LandedGoesOn, ResumedIsLanded};
 
-/// A seat may take a slot, give it back as it was or its node from elsewhere, note an octant or the refusal of a node, abandon its
-/// flights and merge the last two.
+/// A seat may take a slot and return its item as it was, or its node after a move to or from its file. It may note an
+/// octant or the refusal of a node. It may abandon its flights, and merge the last two.
 pub fn move_law()
     ensures take { TakeKeeps }
     ensures give_back { ReturnKeeps }
@@ -20,37 +20,39 @@ pub fn seat_law()
     ensures join { JoinKeeps }
 {}
 
-/// The reader may be given back with points drawn.
+/// The reader may be returned with points drawn.
 pub fn read_law()
     ensures { ReadKeeps }
 {}
 
-/// A slot may be drawn for the child of an octant. Where all are drawn that is refused, and the sampling has more nodes.
+/// A slot may be drawn for the child of an octant. If all slots are drawn, the draw is refused. If contents are
+/// visible, the sampling then has more nodes.
 pub fn draw_law()
     ensures draw { DrawKeeps }
     ensures refusal { RefusalKeeps }
     ensures too_many { RefusalIsTrue }
 {}
 
-/// A node may be given back at which a flight has arrived.
+/// A node may be returned after a flight has arrived at it.
 pub fn arrival_law()
     ensures { ArrivalKeeps }
 {}
 
-/// What a seat takes fits it, and where slots are lacking there may not be as many nodes as the sampling has.
+/// What a seat takes fits it. If a slot is lacking and contents are visible, the sampling has more nodes than there may
+/// be.
 pub fn take_law()
     ensures fits { TakeFits }
     ensures lacks { LackIsTooMany }
     ensures full { FullIsTooMany }
 {}
 
-/// At every moment the table and its seats show a state that keeps the law of the machine.
+/// If contents are visible, the table and its seats show at every moment a state that keeps the law of the machine.
 pub fn state_law()
     ensures { StateKeepsLaw }
 {}
 
-/// How a table begins and how it ends. Where nothing flies at the end, the nodes are the sampling of the
-/// points that were drawn.
+/// How a table begins and how it ends. If nothing flies at the end and contents are visible, the nodes are the sampling
+/// of the points that were drawn.
 pub fn end_law()
     ensures first { FirstSeatHolds }
     ensures beginning { BeginningIsLanded }
@@ -58,9 +60,10 @@ pub fn end_law()
     ensures sampling { LandedIsSampling }
 {}
 
-/// What is landed tells of the nodes: they stand in the first slots, each that stood as the table was made in its own; each
-/// key has one slot, and each open octant the slot of its child; they are sound and a whole octree, and have the points that
-/// were drawn. Where files and sources tell, they are the sampling of these.
+/// What is known of the nodes of a landed table. They are in the first slots, and each node of the beginning is in its
+/// own. Each key has one slot, and each open octant has the slot of its child. The nodes are sound and a whole octree,
+/// and the number of their points is the number that was drawn. If contents are visible, the nodes are the sampling of
+/// the points that were drawn.
 pub fn landed_law()
     ensures slots { LandedFillsSlots }
     ensures begun { LandedKeepsBegun }
@@ -70,7 +73,7 @@ pub fn landed_law()
     ensures sampled { LandedIsSampled }
 {}
 
-/// What is landed goes on: with another end of the reader's allowance it is landed too, and no node may go.
+/// A landed table continues: with another end of the reader's allowance it is landed too, and every node has to stay.
 pub fn go_on_law()
     ensures { LandedGoesOn }
 {}

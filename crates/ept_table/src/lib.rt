@@ -1,7 +1,7 @@
-//! The table of an octree's nodes: each node stands in a slot of its own, and points are brought down
-//! to them by seats, which take one item at a time.
+//! The table of an octree's nodes: each node is in a slot of its own. Seats take one item at a time, and carry points
+//! down to the nodes.
 //!
-//! At every moment the table and its seats show a state of `ept_core`'s machine.
+//! If contents are visible, the table and its seats show at every moment a state of `ept_core`'s machine.
 #![tactic(auto)]
 
 mod done;

@@ -32,7 +32,7 @@ use ept_slots::Slots;
 use ept_space::Rules;
 use std::alloc::Global;
 
-/// There was no memory for a table. The forest and the reader come back.
+/// Memory ran out while a table was made. The forest and the reader are returned.
 pub struct Unmade<F, S> {
     pub forest: Forest<F>,
     pub reader: Reader<S>,
@@ -44,7 +44,7 @@ struct Apart<F, S> {
     reader: Reader<S>,
 }
 
-// Items in the order of their slots, and the list that their nodes came in.
+// Items in the order of their slots, and the list that their nodes were in.
 struct Laid<F, S> {
     items: Vec<Item<F, S>>,
     spare: Vec<Node<F>>,
@@ -53,12 +53,12 @@ struct Laid<F, S> {
 impl<F: SpillFile, S: Source, J: Scan> NodeTable<F, S, J> {
     ghost use Rattle.ept_table.specs.Table.{slots_of, rules_of, cache_of, IsSeat};
 
-    /// A table of the nodes of a forest and a reader, and its first seat. Nothing flies, and no slot is held. So many nodes may
-    /// be in memory at a time: each that is not there wants a permit to come.
+    /// Makes a table of the nodes of a forest and a reader, and its first seat. Nothing flies, and no slot is held. At
+    /// most `cache` nodes may be in memory at a time: a node that is not in memory needs a permit to come into it.
     ///
     /// # Errors
     ///
-    /// Where there is no memory the forest and the reader come back.
+    /// If memory runs out, the forest and the reader are returned.
     pub fn make(
         alloc: Global,
         forest: Forest<F>,
@@ -110,7 +110,7 @@ impl<F: SpillFile, S: Source, J: Scan> NodeTable<F, S, J> {
         }
     }
 
-    /// Ends a table, of which this is the last seat, and gives the forest and the reader back. It takes no memory.
+    /// Ends a table, of which this is the last seat, and returns the forest and the reader. It allocates no memory.
     pub fn close(self, seat: Seat<F, S>) -> (Forest<F>, Reader<S>)
         requires seat { IsSeat J.told self seat }
         requires idle { HoldsNothing (view seat) × ((view seat).parts ≡ whole) }
@@ -146,8 +146,8 @@ impl<F: SpillFile, S: Source, J: Scan> NodeTable<F, S, J> {
     }
 }
 
-/// With a new forest, and a reader of all points that has drawn none, a table may be made. Where files and sources tell, each
-/// spill file does.
+/// With a new forest, and a reader of all points that has drawn none, a table may be made. If contents are visible,
+/// those of each spill file are too.
 pub fn plant_law<F: SpillFile, S: Source, J: Scan>(forest: &Forest<F>, reader: &Reader<S>)
     requires told { IsTold J.told }
     requires points { J.told.tells ≡ true → CanBeSampled J.told.rules J.told.points
@@ -163,7 +163,7 @@ pub fn plant_law<F: SpillFile, S: Source, J: Scan>(forest: &Forest<F>, reader: &
     ensures few { residents_of (nodes_of forest.now) ≤ 1 }
 {}
 
-// The forest of nodes of which so many slots are drawn, and the reader.
+// The forest of nodes of which `used` slots are drawn, and the reader.
 fn given_up<F: SpillFile, S>(apart: Apart<F, S>, used: u32) -> Unmade<F, S>
     ensures forest { (nodes_of result.forest ≡ apart.nodes.items) × (used_of result.forest ≡ used) }
     ensures reader { result.reader ≡ apart.reader }
@@ -175,7 +175,7 @@ fn given_up<F: SpillFile, S>(apart: Apart<F, S>, used: u32) -> Unmade<F, S>
     }
 }
 
-// The items of a table. Or there was no memory.
+// The items of a table, or all arguments if memory runs out.
 fn lay<F, S>(
     alloc: Global,
     mut nodes: Vec<Node<F>>,
@@ -202,7 +202,7 @@ fn lay<F, S>(
     })
 }
 
-// The reader and the nodes of a table, in the list that they came in.
+// The reader and the nodes of a table, in the list that the nodes were in.
 fn take_apart<F, S>(laid: Laid<F, S>) -> Apart<F, S>
     requires items { (reader : reader_of.Reader S) × (nodes : List (node_of.Node F))
         × (laid.items.items ≡ items_of reader nodes) × (length nodes ≤ vec_capacity laid.spare) }

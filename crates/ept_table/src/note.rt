@@ -6,25 +6,26 @@ use ept_point::{List, Point};
 use ept_scan::ReadError;
 use ept_space::{Bounds, Key, Rules};
 
-/// An input, as the first reading has found it: its place in the list of inputs, how many points it has,
-/// and where they lie.
+/// An input, as the first reading has found it: its place in the list of inputs, the number of its points, and where
+/// they lie.
 pub struct Counted {
     pub origin: u32,
     pub points: u64,
     pub limits: Option<Bounds>,
 }
 
-/// What a table is told once, and each seat knows.
+/// The ghost input of a table, which each seat knows.
 pub struct Told {
     /// The rules of the sampling.
     pub rules: Rules,
-    /// All points, where files and sources tell.
+    /// All points, if the contents of files and sources are visible.
     pub points: List<Point>,
     /// How many nodes there may be.
     pub most: u32,
     /// How many nodes may be in memory at a time.
     pub cache: u32,
-    /// The keys of the nodes that stand as the table is made, in the order of their slots: that of slot 1 first.
+    /// The keys of the nodes that are there when the table is made, in the order of their slots: the key of slot 1
+    /// first.
     pub begun: List<Key>,
     /// How many points are drawn at the end of the reader's allowance.
     pub end: u64,
@@ -32,11 +33,11 @@ pub struct Told {
     pub total: u64,
     /// The inputs that the reader has.
     pub inputs: List<Counted>,
-    /// Files and sources tell what they hold.
+    /// The contents of files and sources are visible.
     pub tells: bool,
 }
 
-/// A flight, and the slot of the node that it goes to: 0 where there is none.
+/// A flight, and the slot of the node that it goes to: 0 if there is none.
 #[derive(Debug, Drop)]
 pub struct Carried {
     pub slot: u32,
@@ -62,10 +63,10 @@ pub struct Note {
     pub wish: u8,
     /// It abandoned a flight without a slot.
     pub over: bool,
-    /// How many points were drawn as it last gave the reader back.
+    /// How many points were drawn when it last returned the reader.
     pub given: u64,
-    /// The refusals by which the reader that it gave back has failed.
+    /// The refusals by which the reader that it returned has failed.
     pub failures: List<ReadError>,
-    /// The refusals by which nodes that it gave back are broken.
+    /// The refusals by which nodes that it returned are broken.
     pub broken: List<NodeError>,
 }

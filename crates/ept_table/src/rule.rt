@@ -1,4 +1,4 @@
-//! The rule of a table of nodes, and what its steps tell.
+//! The rule of a table of nodes, and what its steps make known.
 
 ghost use Rattle.std.specs.Prelude.{◌≡◌, true, false, Some, None, MatchOption};
 ghost use Rattle.ept_table.specs.declared.note.Told.{Told};
@@ -17,9 +17,9 @@ use ept_base::{Source, SpillFile};
 use ept_slots::{Draw, Give, Look, Note as Noted, SlotRule, Take};
 use std::marker::{Brand, PhantomData};
 
-/// What a table is told: it is known where the table is made, and is no part of the code.
+/// The ghost input of a table. The caller that makes the table knows it, and it is no part of the code.
 pub trait Scan {
-    /// What the table is told.
+    /// The ghost input.
     ghost told: { Told };
 }
 
@@ -56,7 +56,7 @@ impl<F: SpillFile, S: Source, J: Scan> Take<Item<F, S>, Note> for Taking<F, S, J
         × Filed F.held F.faults F.keeps S.whole S.left S.given S.faults J.told x };
 }
 
-/// An item is given back. The seat notes why a node is broken.
+/// An item is returned. The seat notes why a node is broken.
 pub struct Giving<F, S> {
     marker: PhantomData<(F, S)>,
 }
@@ -76,7 +76,8 @@ impl<F: SpillFile, S: Source> Noted<Item<F, S>, Note, Said> for Wishing<F, S> {
     ghost tells = { λ v said n. n ≡ note_said v.note Blank said };
 }
 
-/// A slot is drawn for the octant that is noted, or refused since there may not be as many nodes as the sampling has.
+/// A slot is drawn for the octant that is noted. Or the draw is refused. If contents are visible, the sampling then has
+/// more nodes than there may be.
 pub struct Drawing<F, S, J> {
     marker: PhantomData<(F, S, J)>,
 }
@@ -85,7 +86,7 @@ impl<F: SpillFile, S: Source, J: Scan> Draw<Item<F, S>, Note> for Drawing<F, S, 
     ghost tells = { λ v drawn n. MatchOption drawn ((n ≡ v.note) × IsTooMany J.told) (λ k. n ≡ drawing v.note k) };
 }
 
-/// The table and the seats show a state that keeps the law.
+/// If contents are visible, the table and the seats show a state that keeps the law.
 pub struct Looking<F, S, J> {
     marker: PhantomData<(F, S, J)>,
 }

@@ -1,4 +1,4 @@
-//! What a table is told of a reader.
+//! The ghost input of a table for a reader.
 
 ghost use Rattle.std.specs.Prelude.{◌≡◌, ◌<◌, All};
 ghost use Rattle.ept_space.specs.CubeOfBounds.{IsCubeOf};
@@ -16,7 +16,8 @@ use ept_base::Source;
 use ept_config::{Kept, SourceCount};
 use ept_scan::Reader;
 
-/// Of a reader of inputs that were counted within the bounds of the cube a table may be told, and the reader fits it.
+/// A reader whose inputs were counted within the bounds of the cube gives a valid ghost input of a table, and the
+/// reader fits it.
 pub fn scanned_law<S: Source, J: Scan>(reader: &Reader<S>, kept: &Kept, counts: &[SourceCount])
     requires told { J.told ≡ told_of S.whole reader.now J.told.rules J.told.most J.told.cache J.told.begun J.told.tells J.told.points }
     requires some { 0 < J.told.most }

@@ -25,18 +25,18 @@ use ept_slots::{SlotSeat, Slots};
 use ept_space::Rules;
 use std::sync::Wait;
 
-/// A token of no bytes with which a worker steps on a table.
+/// A token of no bytes, with which a worker steps on a table.
 pub type Seat<F, S> = SlotSeat<Item<F, S>, Note, Said>;
 
 /// All slots are drawn.
 #[derive(Clone, Copy, Debug, PartialEq, Eq)]
 pub struct Full;
 
-/// A table of nodes that workers share: slot 0 has the reader, slot 1 the root's node, and each other slot a node or a
-/// blank one.
+/// A table of nodes that workers share. Slot 0 has the reader, slot 1 the root's node, and each further slot a node or
+/// a blank one.
 pub struct NodeTable<F: SpillFile, S: Source, J: Scan> {
     pub(crate) slots: Slots<Item<F, S>, Note, Said, (), Rule<F, S, J>>,
-    // The list that the nodes came in, which is emptied.
+    // The list that the nodes were in, now empty.
     pub(crate) spare: Vec<Node<F>>,
     pub(crate) most: u32,
     pub(crate) cache: u32,
@@ -70,28 +70,28 @@ impl<F: SpillFile, S: Source, J: Scan> NodeTable<F, S, J> {
         self.cache
     }
 
-    /// Whether a slot is held as it is looked at, for a worker that has other things to do meanwhile. Never where there is no
-    /// such slot.
+    /// Whether a slot is held at the moment of the call, for a worker that has other things to do meanwhile. It is
+    /// false if there is no such slot.
     pub fn is_held(&self, slot: u32) -> bool
         ensures none { result ≡ true → slot < slots_of self.now }
     {
         (slot as usize) < self.slots.count() && self.slots.is_held(slot as usize)
     }
 
-    /// Whether a slot is free as it is looked at, and a node in memory was last given into it. Never where there is no such
-    /// slot.
+    /// Whether a slot is free at the moment of the call, and the node last returned to it is in memory. It is false if
+    /// there is no such slot.
     pub fn is_resident(&self, slot: u32) -> bool
         ensures none { result ≡ true → slot < slots_of self.now }
     {
         (slot as usize) < self.slots.count() && self.slots.is_wanted(slot as usize)
     }
 
-    /// Lets a moment go by for a worker that has looked so often and found no permit free.
+    /// Backs off after `looks` failed attempts to get a permit.
     pub fn rest_for_permit<H: Wait>(&self, rt: &H, looks: u32) {
         self.slots.rest_for_permit(rt, looks);
     }
 
-    /// Takes what lies in a slot, as soon as that is free. The seat is its holder then.
+    /// Takes what lies in a slot, as soon as the slot is free. The seat is its holder then.
     pub fn take<H: Wait>(&self, rt: &H, seat: &mut Seat<F, S>, slot: u32) -> Item<F, S>
         requires seat { IsSeat J.told self.now seat.old }
         requires idle { HoldsNothing (view seat.old) × (0 < (view seat.old).parts) }
@@ -107,7 +107,7 @@ impl<F: SpillFile, S: Source, J: Scan> NodeTable<F, S, J> {
             .take::<Taking<F, S, J>, H>(rt, seat, slot as usize)
     }
 
-    /// One try to take what lies in a slot: None where that is held, and then nothing changed.
+    /// Tries once to take what lies in a slot. `None` if the slot is held; then nothing changed.
     pub fn try_take(&self, seat: &mut Seat<F, S>, slot: u32) -> Option<Item<F, S>>
         requires seat { IsSeat J.told self.now seat.old }
         requires idle { HoldsNothing (view seat.old) × (0 < (view seat.old).parts) }
@@ -124,7 +124,8 @@ impl<F: SpillFile, S: Source, J: Scan> NodeTable<F, S, J> {
         self.slots.try_take::<Taking<F, S, J>>(seat, slot as usize)
     }
 
-    /// One try to take a permit: false where none was free, or where another seat changed meanwhile how many are.
+    /// Tries once to take a permit. False if none was free, or if another seat changed the number of free permits
+    /// meanwhile.
     pub fn try_permit(&self, seat: &mut Seat<F, S>) -> bool
         requires seat { IsSeat J.told self.now seat.old }
         requires share { 0 < (view seat.old).parts }
@@ -135,7 +136,7 @@ impl<F: SpillFile, S: Source, J: Scan> NodeTable<F, S, J> {
         self.slots.try_permit(seat)
     }
 
-    /// Gives a permit back, so that it is free.
+    /// Returns a permit, so that it is free.
     pub fn give_permit(&self, seat: &mut Seat<F, S>)
         requires seat { IsSeat J.told self.now seat.old }
         requires permit { 0 < (view seat.old).permits }
@@ -145,9 +146,10 @@ impl<F: SpillFile, S: Source, J: Scan> NodeTable<F, S, J> {
         self.slots.give_permit(seat);
     }
 
-    /// Gives an item back into the slot that the seat holds, and frees the slot. What the visit did comes back, with the
-    /// flights that leave. A node whose points are in memory takes a permit of the seat, and one that was taken so gives it
-    /// its own. A node that was broken as it was taken is so still, and the seat notes the refusal by which it is.
+    /// Returns an item to the slot that the seat holds, and frees the slot. The result is what the visit did, with the
+    /// flights that leave. A node whose points are in memory takes a permit of the seat. A node taken with its points
+    /// in memory brought its permit to the seat. A node that was broken when it was taken is still broken. The seat
+    /// notes the refusal of a broken node.
     pub fn give(&self, seat: &mut Seat<F, S>, slot: u32, item: Item<F, S>, done: Done) -> Done
         requires seat { IsSeat J.told self.now seat.old }
         requires visit { (x : item_of.Item F S) × Holds (view seat.old) slot x
@@ -170,12 +172,12 @@ impl<F: SpillFile, S: Source, J: Scan> NodeTable<F, S, J> {
         done_said(said)
     }
 
-    /// Draws a slot for the child of an octant of the node that the seat holds, and answers its number.
+    /// Draws a slot for the child of an octant of the node that the seat holds, and returns its number.
     ///
     /// # Errors
     ///
-    /// `Full` where all slots are drawn. Where files and sources tell, the sampling of the points up to the end of the
-    /// allowance has more nodes then than there may be.
+    /// `Full` if all slots are drawn. If contents are visible, the sampling of the points up to the end of the
+    /// allowance then has more nodes than there may be.
     pub fn draw_slot(&self, seat: &mut Seat<F, S>, slot: u32, octant: u8) -> Result<u32, Full>
         requires seat { IsSeat J.told self.now seat.old }
         requires may { (x : item_of.Item F S) × Holds (view seat.old) slot x
@@ -200,7 +202,8 @@ impl<F: SpillFile, S: Source, J: Scan> NodeTable<F, S, J> {
         }
     }
 
-    /// Looks at the table. Where files and sources tell, it and its seats show a state that keeps the law of the machine.
+    /// Reads the counter of draws, and changes nothing. If contents are visible, the table and its seats show a state
+    /// that keeps the law of the machine.
     pub fn look(&self, seat: &mut Seat<F, S>)
         requires { IsSeat J.told self.now seat.old }
         ensures seat { IsSeat J.told self.now seat.new }
@@ -211,8 +214,8 @@ impl<F: SpillFile, S: Source, J: Scan> NodeTable<F, S, J> {
         self.slots.look::<Looking<F, S, J>>(seat);
     }
 
-    /// Abandons the flights of a seat, which the seat that ends it takes over. Where one has no slot there may not be as
-    /// many nodes as the sampling has, where files and sources tell.
+    /// Abandons the flights of a seat, which the seat that ends it takes over. If a flight has no slot and contents are
+    /// visible, the sampling has more nodes than there may be.
     pub fn abandon(&self, seat: &mut Seat<F, S>)
         requires seat { IsSeat J.told self.now seat.old }
         requires idle { HoldsNothing (view seat.old) × (0 < (view seat.old).parts) }
@@ -225,8 +228,8 @@ impl<F: SpillFile, S: Source, J: Scan> NodeTable<F, S, J> {
         self.slots.look::<Abandoning<F, S, J>>(seat);
     }
 
-    /// Merges the last two flights of a seat, which go to one slot and one key: the points of the first stand before those of
-    /// the second, and its worker has carried both.
+    /// Merges the last two flights of a seat, which go to one slot and one key. The points of the first come before
+    /// those of the second, and the seat's worker has carried both.
     pub fn merge(&self, seat: &mut Seat<F, S>)
         requires seat { IsSeat J.told self.now seat.old }
         requires idle { HoldsNothing (view seat.old) × (0 < (view seat.old).parts) }
@@ -251,8 +254,8 @@ impl<F: SpillFile, S: Source, J: Scan> NodeTable<F, S, J> {
         self.slots.split::<Dividing>(seat)
     }
 
-    /// Ends a seat that holds no slot and carries no flight. This one has its share, and takes over its abandoned flights
-    /// and its notes of refusals.
+    /// Ends a seat that holds no slot and carries no flight. This seat gets its share, and takes over its abandoned
+    /// flights and its notes of refusals.
     pub fn join(&self, seat: &mut Seat<F, S>, other: Seat<F, S>)
         requires seat { IsSeat J.told self.now seat.old }
         requires other { IsSeat J.told self.now other }
@@ -274,7 +277,7 @@ fn could_spill<F, S>(item: &Item<F, S>) -> bool {
     }
 }
 
-// What a visit did, as it was said.
+// What a visit did, from the report of a step.
 fn done_said(said: Said) -> Done
     requires { (done : done_of.Done) × (said ≡ Did done) }
     ensures { said ≡ Did result }

@@ -5,7 +5,7 @@ use ept_grid::Grid;
 use ept_point::List;
 use ept_scan::ReadError;
 
-/// A node, and the slots of its children by octant: 0 where there is none.
+/// A node, and the slots of its children by octant: 0 if there is none.
 pub struct Cell {
     pub node: Grid,
     pub children: List<u32>,

@@ -37,7 +37,7 @@ entry-none [] k is = refl
 entry-none (b ∷ bs) k is =
     none_step (is_at (key_cmp k) b.0) b.1 (lookup (is_at (key_cmp k)) bs) (lookup (is_at (key_cmp k)) (map entry_of bs)) (entry-none bs k) is
 
--- a node that is found stands in the map under its key
+-- a node that is found is in the map under its key
 abbrev pub branch : VoxelKey → grid.Node → Branch
 branch k g = (k, g)
 

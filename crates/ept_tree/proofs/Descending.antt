@@ -1,4 +1,4 @@
--- Points that arrive one after another, and those that then go on.
+-- Points that arrive one after another, and the points that then continue.
 use Rattle.std.proofs.Common.{◌≡◌, ◌∙◌, ℕ, suc, ◌+◌, ◌<◌, List, [], ◌∷◌, ◌++◌, drop, map, refl, sym, ap, subst, arith, length, get_or, append_assoc}
 use Rattle.std.proofs.Math.Seq.{drop-cons}
 use Rattle.std.proofs.lemmas.List.{append-nil}
@@ -11,7 +11,7 @@ use Rattle.ept_table.specs.Octree.{Branch, entry_of}
 use Rattle.ept_tree.specs.Tree.{IsTree, IsPlaced, ArePlaced, Becomes, AreAtDepth}
 use Rattle.ept_tree.specs.Landing.{HasArrived}
 
--- the item of an index stands in front of those behind it
+-- the item of an index comes before the items after it
 pub front-of : {X : Type 0} (xs : List X) (i : ℕ) (x : X) → i < length xs → x ≡ get_or xs i x → drop i xs ≡ x ∷ drop (i + 1) xs
 front-of {X} xs i x low is =
     let one : suc i ≡ i + 1 = omega arith in
@@ -21,11 +21,11 @@ drop_whole : {X : Type 0} (xs : List X) → drop (length xs) xs ≡ []
 drop_whole [] = refl
 drop_whole (x ∷ xs) = drop_whole xs
 
--- none stands behind all of them
+-- after the last item there is none
 pub none-left : {X : Type 0} (xs : List X) (i : ℕ) → i ≡ length xs → drop i xs ≡ []
 none-left xs i end = ap (λ (n : ℕ). drop n xs) end ∙ drop_whole xs
 
--- before the first arrives, all are on their way
+-- before the first point arrives, all are on their way
 pub descent-begins : (rules : Rules) (arrivals next : List Arrival) (nodes : List Branch) → next ≡ [] → Becomes rules arrivals nodes (arrivals ++ next) nodes
 descent-begins rules arrivals next nodes none = λ points left tree. (
     let same : arrivals ++ next ≡ arrivals = ap (λ (w : List Arrival). arrivals ++ w) none ∙ append-nil arrivals in
@@ -42,13 +42,13 @@ module _ (rules rules' : Rules) (same_rules : rules' ≡ rules) (arrivals next :
   abbrev pub others : List Arrival
   others = drop (i + 1) arrivals ++ next
 
-  -- the next to arrive is at the front
+  -- the next point to arrive comes first
   pub descent-next : (points left : List Point) → IsTree rules points left arrivals old → IsTree rules' points left (a ∷ others) now
   descent-next points left tree =
       subst (λ (r : Rules). IsTree r points left (a ∷ others) now) (sym same_rules) (subst (λ (w : List Arrival). IsTree rules points left (w ++ next) now) at_front (so_far points left tree))
 
   module _ (new : List Branch) (next' : List Arrival) (arrived : HasArrived rules' a now new next next') where
-    -- once it has arrived, those that it sent are behind the others
+    -- once it has arrived, the points that it sent come after the others
     pub descent-goes-on : Becomes rules arrivals old (drop (i + 1) arrivals ++ next') new
     descent-goes-on points left tree =
         let t = arrived.becomes others points left (descent-next points left tree) in
@@ -62,24 +62,24 @@ module _ (rules rules' : Rules) (same_rules : rules' ≡ rules) (arrivals next :
         let same : others ++ arrived.sent ≡ drop (i + 1) arrivals ++ next' = append_assoc (drop (i + 1) arrivals) next arrived.sent ∙ ap (λ (w : List Arrival). drop (i + 1) arrivals ++ w) (sym arrived.grows) in
         (subst (λ (w : List Arrival). AreWholeWith w (map entry_of new)) same t.0, λ key is. t.1 key ((before whole).1 key is))
 
-    -- one depth below
+    -- the points that it sent are one depth below
     pub descent-deepens : ((depth : ℕ) → AreAtDepth depth arrivals → AreAtDepth (depth + 1) next) → (depth : ℕ) → AreAtDepth depth arrivals → AreAtDepth (depth + 1) next'
     descent-deepens before depth at =
         let here : a.key.depth ≡ depth = ap (λ (b : Arrival). b.key.depth) a_is ∙ All-get_or (λ (b : Arrival). b.key.depth ≡ depth) arrivals i a low at in
         let sent : AreAtDepth (depth + 1) arrived.sent = subst (λ (d : ℕ). AreAtDepth (d + 1) arrived.sent) here arrived.deeper in
         subst (λ (w : List Arrival). AreAtDepth (depth + 1) w) (sym arrived.grows) (All-append (λ (b : Arrival). b.key.depth ≡ depth + 1) next arrived.sent (before depth at) sent)
 
--- each that is next may arrive
+-- each point that comes next may arrive
 pub descent-placed : (rules rules' : Rules) → rules' ≡ rules → (arrivals : List Arrival) (i : ℕ) (a : Arrival) → i < length arrivals → a ≡ get_or arrivals i a → ArePlaced rules arrivals → IsPlaced rules' a
 descent-placed rules rules' same arrivals i a low a_is placed =
     subst (λ (r : Rules). IsPlaced r a) (sym same) (subst (λ (b : Arrival). IsPlaced rules b) (sym a_is) (All-get_or (IsPlaced rules) arrivals i a low placed))
 
--- and those that it sends may
+-- and the points that it sends may arrive
 pub descent-places : (rules rules' : Rules) → rules' ≡ rules → (a : Arrival) (now new : List Branch) (next next' : List Arrival) → HasArrived rules' a now new next next' → ArePlaced rules next → ArePlaced rules next'
 descent-places rules rules' same a now new next next' arrived placed =
     subst (λ (w : List Arrival). ArePlaced rules w) (sym arrived.grows) (All-append (IsPlaced rules) next arrived.sent placed (subst (λ (r : Rules). ArePlaced r arrived.sent) same arrived.placed))
 
--- at the end only those that go on are on their way
+-- at the end only the points that were sent are on their way
 pub descent-ends : (rules : Rules) (arrivals next : List Arrival) (i : ℕ) (old now : List Branch) → i ≡ length arrivals → Becomes rules arrivals old (drop i arrivals ++ next) now → Becomes rules arrivals old next now
 descent-ends rules arrivals next i old now end so_far = λ points left tree. (
     subst (λ (w : List Arrival). IsTree rules points left (w ++ next) now) (none-left arrivals i end) (so_far points left tree))

@@ -1,4 +1,4 @@
--- A tree that points are brought into keeps the law of the core: each turn is a step of it.
+-- A tree into which points are inserted keeps the law of the core: each turn is a step of it.
 use Rattle.std.proofs.Common.{◌≡◌, ◌∙◌, ℕ, zero, suc, ◌+◌, ◌≤◌, ◌<◌, Bool, true, not, ◌||◌, ◌&&◌, ◌==◌, inl, inr, List, [], ◌∷◌, ◌++◌, map, refl, sym, ap, subst, arith, length, Some, None, Result, Ok, Err, OnOk}
 use Rattle.std.specs.List.{flat_map}
 use Rattle.std.specs.BTreeMap.{is_at, insert_entry}
@@ -120,7 +120,7 @@ module _ (rules : Rules) (points left : List Point) (a : Arrival) (others : List
     given_is : given_with old a.point ≡ given
     given_is = ap (λ (w : List Point). in_id_order (a.point ∷ w)) (sym same_points)
 
-    -- what the core says of the rules, the depth and the given points of the node
+    -- what the core states of the rules, the depth and the given points of the node
     abbrev Kept : Rules → VoxelKey → List Point → Type 0
     Kept r k w = new.points ≡ kept r k.depth (is_open_in old) w
 
@@ -268,7 +268,7 @@ sampled-length : (rules : Rules) (points : List Point) → length (sampled rules
 unfolding sampled
 sampled-length rules points = length-map (node_keys rules points) (tile_at rules points)
 
--- a tree has no more nodes than the sampling of all points
+-- a tree has at most the number of nodes of the sampling of all points
 pub few-nodes : (rules : Rules) (points left : List Point) (nodes : List Branch) → IsTree rules points left [] nodes → length nodes ≤ length (sampled rules points)
 few-nodes rules points left nodes tree =
     let s : State = state_of left [] nodes in
@@ -282,7 +282,7 @@ pub grown-tree : (rules : Rules) (points : List Point) (nodes : List Branch) →
 grown-tree rules points nodes tree =
     sym (tiles-of nodes) ∙ all-sampled rules points (state_of [] [] nodes) tree.law refl refl
 
--- those that are sent are one depth below
+-- the points that are sent are one depth below
 one_below : (key : VoxelKey) (o : ℕ) (points : List Point) → AreAtDepth (key.depth + 1) (arrivals_to (child key o) points)
 one_below key o [] = All-nil (λ (b : Arrival). b.key.depth ≡ key.depth + 1)
 one_below key o (p ∷ points) =
@@ -296,7 +296,7 @@ all_below key part (o ∷ os) =
 pub sent-below : (key : VoxelKey) (leaving : List Leaving) → AreAtDepth (key.depth + 1) (sending key leaving)
 sent-below key leaving = all_below key (points_at leaving) all_octants
 
--- what follows of facts at Ok holds at Ok
+-- what follows from facts on success holds on success
 pub three-ok : {E : Type 0} (r : Result (Unit {0}) E) (P Q R S : Type 0) → OnOk r P → OnOk r Q → OnOk r R → (P → Q → R → S) → OnOk r S
 three-ok (Ok u) P Q R S p q r' more = more p q r'
 three-ok (Err e) P Q R S p q r' more = tt

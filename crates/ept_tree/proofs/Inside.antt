@@ -134,7 +134,7 @@ module _ (old new : grid.Node) (p : Point) (before after : List Leaving)
     pub all_go_down : GoDown old.rules old.key after
     all_go_down o low = All-members (λ q. IsPlaced old.rules (arrival_at (child old.key o) q)) (points_at after o) (goes_down o low)
 
--- ---- those that are sent are placed
+-- ---- the points that are sent are placed
 
 one_placed : (rules : Rules) (key : VoxelKey) (o : ℕ) (points : List Point) → All (λ q. IsPlaced rules (arrival_at (child key o) q)) points → (a : Arrival) → IsMember a (arrivals_to (child key o) points) → IsPlaced rules a
 one_placed rules key o [] all a m = absurd m
@@ -162,12 +162,12 @@ found-placed rules nodes a old own found placed =
     let its = own (branch a.key old) (lookup-member nodes a.key old found) in
     subst (λ (r : Rules). InBox r.cube old.key (place a.point)) (sym its.1) (subst (λ (k : VoxelKey). InBox rules.cube k (place a.point)) (sym its.0) placed.inside)
 
--- what goes down from it goes down from its key, by the tree's rules
+-- what moves down from it moves down from its key, by the tree's rules
 pub found-down : (rules rules' : Rules) (key key' : VoxelKey) (leaving : List Leaving) → rules' ≡ rules → key' ≡ key → GoDown rules' key' leaving → GoDown rules key leaving
 found-down rules rules' key key' leaving same_rules same_key down =
     subst (λ (r : Rules). GoDown r key leaving) same_rules (subst (λ (k : VoxelKey). GoDown rules' k leaving) same_key down)
 
--- a fact holds at Ok
+-- a fact holds on success
 pub any-ok : {E : Type 0} (r : Result (Unit {0}) E) (P : Type 0) → P → OnOk r P
 any-ok (Ok u) P p = p
 any-ok (Err e) P p = tt

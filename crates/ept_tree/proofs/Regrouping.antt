@@ -31,7 +31,7 @@ flying-append : (xs ys : List Flight) (key : VoxelKey) (p : Point) → IsFlying 
 flying-append xs ys key p (f, m, at, q) =
     elim (IsMember-append f xs ys m) [ inl l ↦ inl (f, l, at, q) | inr r ↦ inr (f, r, at, q) ]
 
--- others in front change nothing
+-- other flights before them change nothing
 pub behind-others : (others xs ys : List Flight) → ((f : Flight) → IsMember f others → HasPoint f.points) → CarryTheSame xs ys → CarryTheSame (others ++ xs) (others ++ ys)
 behind-others others xs ys full same = record {
   there = λ key p f. elim (flying-append others xs key p f) [

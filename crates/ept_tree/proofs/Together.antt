@@ -1,4 +1,5 @@
--- The points of all nodes, and those that leave, are together those before and the one that arrives, whatever the ids.
+-- The points of all nodes and those that leave are together those from before and the point that arrives, whatever the
+-- ids.
 use Rattle.std.proofs.Common.{◌≡◌, ◌∙◌, ℕ, ◌+◌, ◌<◌, Bool, true, false, cond, List, [], ◌∷◌, ◌++◌, refl, ap, arith, length, count_by, Option, Some, None, Ordering}
 use Rattle.std.specs.List.{flat_map}
 use Rattle.std.specs.declared.cmp.Ordering.TheVariants.{Less, Equal, Greater}
@@ -57,7 +58,7 @@ new-together test nodes nodes' k p old new leaving none is empty taken =
     let first : count_by test (p ∷ old.points) ≡ count_by test (p ∷ []) = ap (λ (w : List Point). count_by test (p ∷ w)) empty in
     omega (arith, written, insert-together test nodes k new none, taken, first, count_by-append test (p ∷ []) (points_in nodes))
 
--- ---- those that leave are those that are sent
+-- ---- the points that leave are those that are sent
 
 to_points : (key : VoxelKey) (points : List Point) → on_the_way (arrivals_to key points) ≡ points
 to_points key [] = refl

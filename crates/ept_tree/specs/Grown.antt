@@ -19,7 +19,7 @@ nodes_of tree = tree.nodes.entries
 abbrev pub points_of : Tree → List Point
 points_of tree = points_in (nodes_of tree)
 
--- the points that left a node and were not sent on
+-- the points that left a node and are not on their way yet
 abbrev pub leaving_of : Tree → List Leaving
 leaving_of tree = tree.leaving
 
@@ -32,10 +32,10 @@ pub record IsAtRest (tree : Tree) : Type 0 where
 abbrev pub IsWhole : Tree → Type 0
 IsWhole tree = AreWhole (map entry_of (nodes_of tree))
 
--- a tree that was whole is whole, and no node is gone
+-- a tree that was whole is whole, and no node is lost
 abbrev pub GrowsWhole : Tree → Tree → Type 0
 GrowsWhole old new = IsWhole old → IsWhole new × KeepsNodes (map entry_of (nodes_of old)) (map entry_of (nodes_of new))
 
--- of these points, all but those left were brought in
+-- these points were inserted, except those left
 abbrev pub HasTaken : List Point → List Point → Tree → Type 0
 HasTaken points left tree = IsTree (rules_of tree) points left [] (nodes_of tree)

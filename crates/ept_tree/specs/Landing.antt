@@ -9,14 +9,14 @@ use Rattle.ept_table.specs.Octree.{Branch, points_in}
 use Rattle.ept_tree.specs.Tree.{Becomes, ArePlaced, GoDown, AreAtDepth, on_the_way}
 use Rattle.ept_tree.specs.Whole.{StaysWhole}
 
--- A point has arrived at its node, and the points that leave it go on from there.
+-- A point has arrived at its node, and the points that leave it continue from there.
 pub record HasLanded (rules : Rules) (a : Arrival) (old new : List Branch) (leaving : List Leaving) : Type 0 where
   pub becomes : (others : List Arrival) → Becomes rules (a ∷ others) old (others ++ sending a.key leaving) new
   pub together : (test : Point → Bool) → count_by test (points_in new) + count_by test (all_points leaving) ≡ count_by test (a.point ∷ points_in old)
   pub down : GoDown rules a.key leaving
   pub whole : (others : List Arrival) → StaysWhole (a ∷ others) old (others ++ sending a.key leaving) new
 
--- A point has arrived at its node, and those that left it are on their way, one depth below.
+-- A point has arrived at its node, and the points that left it are on their way, one depth below.
 pub record HasArrived (rules : Rules) (a : Arrival) (old new : List Branch) (before after : List Arrival) : Type 0 where
   pub sent : List Arrival
   pub grows : after ≡ before ++ sent

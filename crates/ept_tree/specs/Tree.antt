@@ -1,4 +1,4 @@
--- The nodes of an octree, as points are brought into it one by one: a state of the machine with one worker.
+-- The nodes of an octree while points are inserted one by one: a state of the machine with one worker.
 use Rattle.std.specs.Prelude.{◌≡◌, ℕ, ◌<◌, ◌≤◌, List, [], ◌∷◌, map}
 use Rattle.std.specs.List.{All}
 use Rattle.ept_point.specs.declared.point.Point.{Point}
@@ -18,7 +18,7 @@ use Rattle.ept_tree.specs.Sending.{arrival_at}
 abbrev pub flight_of : Arrival → Flight
 flight_of a = record { actor = 0; key = a.key; points = a.point ∷ [] }
 
--- the state of the machine: these points left, these on their way, and these nodes
+-- the state of the machine: the points left, the points on their way, and the nodes
 abbrev pub state_of : List Point → List Arrival → List Branch → State
 state_of left arrivals nodes = record { left = left; flights = map flight_of arrivals; nodes = map entry_of nodes }
 
@@ -26,7 +26,7 @@ state_of left arrivals nodes = record { left = left; flights = map flight_of arr
 abbrev pub on_the_way : List Arrival → List Point
 on_the_way arrivals = map (λ (a : Arrival). a.point) arrivals
 
--- the points but those left were brought in, and of them these are on their way
+-- the points were inserted, except those left, and of the inserted ones `arrivals` are on their way
 pub record IsTree (rules : Rules) (points left : List Point) (arrivals : List Arrival) (nodes : List Branch) : Type 0 where
   pub law : KeepsLaw rules points (state_of left arrivals nodes)
   pub own : AreNodes rules nodes
@@ -43,7 +43,7 @@ ArePlaced rules arrivals = All (IsPlaced rules) arrivals
 abbrev pub GoDown : Rules → VoxelKey → List Leaving → Type 0
 GoDown rules key leaving = (o : ℕ) → o < 8 → All (λ q. IsPlaced rules (arrival_at (child key o) q)) (points_at leaving o)
 
--- a tree with these on their way has become one with those on their way
+-- a tree with the first arrivals on their way has become one with the second arrivals on their way
 abbrev pub Becomes : Rules → List Arrival → List Branch → List Arrival → List Branch → Type 0
 Becomes rules arrivals nodes arrivals' nodes' =
     (points left : List Point) → IsTree rules points left arrivals nodes → IsTree rules points left arrivals' nodes'

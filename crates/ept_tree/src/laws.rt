@@ -2,7 +2,7 @@
 
 ghost use Rattle.ept_tree.specs.TreeLaws.{GrownIsSampled};
 
-/// Once the first of some points are in, the nodes are those of their sampling.
+/// Once the first of some points are inserted, the nodes are those of their sampling.
 pub fn sampled_law()
     ensures grown { GrownIsSampled }
 {}

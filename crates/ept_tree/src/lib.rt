@@ -1,5 +1,5 @@
-//! An octree of points that are brought in one by one, from the root down. In the end its nodes are the sampling
-//! of the points.
+//! An octree into which points are inserted one by one, from the root down. In the end its nodes are the sampling of
+//! the points.
 #![tactic(auto)]
 
 mod arrival;

@@ -1,4 +1,4 @@
-//! The nodes of the octree, as points are brought into it.
+//! The nodes of the octree while points are inserted.
 
 ghost use Rattle.std.specs.Prelude.{◌≡◌, ◌<◌, ◌≤◌, ◌+◌, ◌∷◌, ◌++◌, [], ℕ, Bool, List, Err, None, length, count_by, OnOk, IfOk};
 ghost use Rattle.std.specs.BTreeMap.{is_at};
@@ -27,8 +27,8 @@ use ept_space::{Key, Rules};
 use std::alloc::Global;
 use std::collections::BTreeMap;
 
-/// An octree into which points are brought one by one, from the root down. Each node keeps the points that
-/// win their cells, and the losers of an octant until they are too many; these then go down to its child.
+/// An octree into which points are inserted one by one, from the root down. Each node keeps the points that win their
+/// cells, and the losers of an octant until there are too many. These then move down to its child.
 #[derive(Drop)]
 pub struct Tree {
     alloc: Global,
@@ -70,8 +70,8 @@ impl Tree {
     ///
     /// # Errors
     ///
-    /// `TooManyNodes` if the sampling of the points has more nodes than `most`, and `Memory`. The tree is of no
-    /// use afterwards.
+    /// `TooManyNodes` if the sampling of the points has more nodes than `most`, and `Memory`. After an error the tree
+    /// is of no further use.
     pub fn insert_all(&mut self, given: &[Point], most: u64) -> Result<(), TreeError>
         requires rest { IsAtRest self.old }
         requires inside { AllInCube (rules_of self.old).cube given.now }
@@ -80,13 +80,13 @@ impl Tree {
         ensures rest { OnOk result (IsAtRest self.new) }
         ensures few { OnOk result (length (nodes_of self.new) ≤ most) }
 
-        // Whatever the ids, the points of all nodes are together those before and these, and the nodes are a whole
-        // octree where they were one.
+        // Whatever the ids, the points of all nodes are the points from before and the given ones. The nodes are a
+        // whole octree if they were one.
         ensures together { OnOk result ((test : Point → Bool) → count_by test (points_of self.new)
             ≡ count_by test given.now + count_by test (points_of self.old)) }
         ensures whole { OnOk result (GrowsWhole self.old self.new) }
 
-        // If the points have different ids, the tree has taken these too, or they are too many for it.
+        // If the points have different ids, the tree has taken the given ones too, or its sampling has too many nodes.
         ensures taken { OnOk result ((points left : List Point) → HasTaken points (given.now ++ left) self.old
             → HasTaken points left self.new) }
         ensures too_many { result ≡ Err TreeError.TooManyNodes → (points left : List Point)
@@ -102,7 +102,7 @@ impl Tree {
         Ok(())
     }
 
-    // Inserts a point, and further down the points that it displaces.
+    // Inserts a point, and moves down the points that it displaces.
     fn insert(&mut self, point: Point) -> Result<(), Memory>
         requires rest { IsAtRest self.old }
         requires inside { InCube self.old.rules.cube (place point) }
@@ -121,7 +121,7 @@ impl Tree {
                 point,
             }],
         )?;
-        // In each turn they go down one depth, and none goes below the greatest one.
+        // In each turn the points move down one depth, and none moves below the greatest depth.
         self.rules.cube.known();
         for _depth in 0..self.rules.cube.depth + 1 {
             arrivals = self.descend(&arrivals)?;
@@ -129,7 +129,7 @@ impl Tree {
         Ok(())
     }
 
-    // Lets points arrive at the nodes of one depth, and returns those that are then on their way to the next.
+    // Adds points to the nodes of one depth, and returns the points that are then on their way to the next.
     fn descend(&mut self, arrivals: &[Arrival]) -> Result<Vec<Arrival>, Memory>
         requires rest { IsAtRest self.old }
         requires placed { ArePlaced self.old.rules arrivals.now }
@@ -153,7 +153,7 @@ impl Tree {
         Ok(next)
     }
 
-    // Lets a point arrive at its node. The points that leave the node are then on their way.
+    // Adds a point to its node. The points that leave the node are then on their way.
     fn arrive(&mut self, arrival: &Arrival, next: &mut Vec<Arrival>) -> Result<(), Memory>
         requires rest { IsAtRest self.old }
         requires placed { IsPlaced self.old.rules arrival.now }
@@ -169,7 +169,7 @@ impl Tree {
         send_on(&arrival.key, &mut self.leaving, next)
     }
 
-    // Lets a point arrive at its node, which is made where it is not there.
+    // Adds a point to its node, and makes the node if it is missing.
     fn land(&mut self, arrival: &Arrival) -> Result<(), Memory>
         requires rest { IsAtRest self.old }
         requires placed { IsPlaced self.old.rules arrival.now }
@@ -184,8 +184,8 @@ impl Tree {
         }
     }
 
-    // Makes the node of a point, which is not there, and lets the point arrive at it. A function apart, since
-    // room for a whole node would else be cleared at each arrival.
+    // Makes the missing node of a point, and adds the point to it. It is a function of its own, since otherwise each
+    // arrival would clear room for a whole node.
     #[cold]
     #[inline(never)]
     fn plant(&mut self, arrival: &Arrival) -> Result<(), Memory>
@@ -204,7 +204,7 @@ impl Tree {
     }
 }
 
-// Lets a point arrive at a node, from which then others may leave.
+// Adds a point to a node, from which other points may then leave.
 fn take_in(node: &mut Grid, point: Point, leaving: &mut Outgoing) -> Result<(), Memory>
     requires empty { (o : ℕ) → points_at leaving.old o ≡ [] }
     requires inside { InBox node.old.rules.cube node.old.key (place point) }

@@ -1,9 +1,9 @@
-//! Why points are not brought into a tree.
+//! Why points are not inserted into a tree.
 
 use ept_point::Memory as NoMemory;
 use std::alloc::{AllocError, AllocFailed};
 
-/// Why points are not brought into a tree.
+/// Why points are not inserted into a tree.
 #[derive(Clone, Copy, Debug, PartialEq, Eq)]
 pub enum TreeError {
     /// The tree has more nodes than it may have.

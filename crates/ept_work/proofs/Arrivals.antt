@@ -53,7 +53,7 @@ pub any-ok : {X E : Type 0} {P : Type 0} (r : Result X E) → P → OnOk r P
 any-ok (Ok x) p = p
 any-ok (Err x) p = tt
 
--- what holds at Ok
+-- what holds on success
 pub when-ok : {X E : Type 0} {P : Type 0} (r : Result X E) → is_ok r ≡ true → OnOk r P → P
 when-ok (Ok x) e p = p
 when-ok (Err x) e p = absurd (false≢true e)
@@ -154,7 +154,7 @@ module _ {F : Type 0} (held : F → Option (List ℕ)) (told : Told) (v : View) 
         within = λ o low. omega (arith, same_slot o low, (is.children o low).within);
       }
 
-      -- the landing, where slots were drawn and the flights that go on are these
+      -- the landing, if slots were drawn and these flights leave
       pub lands : (w : View) (before : ℕ) (node : Node F) (landing : Landing F) → IsOpening v w → MayOpen held told w visit.slot before node → node_of held node ≡ node_of held new → file_of node ≡ file_of new → HasOpened told w (cell_of held node) 8 landing.is_full → landing.node ≡ node → landing.slot ≡ visit.slot → landing.number ≡ visit.number → (actor : ℕ) → actor ≡ is.carried.flight.actor → landing.fresh.items ≡ sent_on actor (cell_of held node) out → AllInBox old.rules.cube old.key old.points → AllInBox (node_of held node).rules.cube (node_of held node).key (node_of held node).points → IsCube told.rules.cube → length out ≡ 8 → IsLanding held told w landing
       lands w before node landing view may same file has node_is slot_is number_is actor actor_is sent old_inside new_inside cube eight = record {
         taken = is.taken;

@@ -10,7 +10,7 @@ use Rattle.std.proofs.lemmas.List.Sorted.{IsNonDecreasingBy-push}
 below_or_not : (i n : ℕ) → (i < n) ⊎ (n ≤ i)
 below_or_not i n = grind arith
 
--- without one of them
+-- without one of the slots
 pub without-one : (xs ys : List ℕ) (at : ℕ) → at < length xs → ys ≡ remove xs at → IsNonDecreasing xs → IsNonDecreasing ys
 without-one xs ys at low are up i j d le less = elim (below_or_not j at) [
   | inl behind ↦ (
@@ -33,7 +33,7 @@ pub record IsUpTo (xs : List ℕ) (limit : ℕ) : Type 0 where
   pub ascend : IsNonDecreasing xs
   pub below : (k d : ℕ) → k < length xs → get_or xs k d ≤ limit
 
--- with one more at its end
+-- with one more slot at its end
 pub with-one : (xs ys : List ℕ) (limit : ℕ) → ys ≡ xs ++ ((limit + 1) ∷ []) → IsUpTo xs limit → IsUpTo ys (limit + 1)
 with-one xs ys limit are up = subst (λ (zs : List ℕ). IsUpTo zs (limit + 1)) (sym are) (record {
   ascend = IsNonDecreasingBy-push (λ x. x) xs (limit + 1) up.ascend (λ d some. omega (arith, up.below (length xs - 1) d (omega (arith, some))));

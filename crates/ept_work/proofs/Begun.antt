@@ -1,4 +1,4 @@
--- A node that was taken up shows what was taken: its points where files and sources tell, and all else always.
+-- A node that was taken up shows what was taken: its points if contents are visible, and everything else always.
 use Rattle.std.proofs.Common.{◌≡◌, ◌∙◌, ℕ, zero, suc, ◌<◌, Bool, true, false, inl, inr, List, refl, sym, ap, subst, arith, slice_index, length, Option}
 use Rattle.ept_space.specs.VoxelKey.{VoxelKey}
 use Rattle.ept_sample.proofs.Choices.{either}
@@ -40,7 +40,7 @@ no_slot (suc (suc (suc (suc (suc (suc (suc zero))))))) low = refl
 no_slot (suc (suc (suc (suc (suc (suc (suc (suc o)))))))) low = absurd (omega (arith, low))
 
 module _ {F : Type 0} (held : F → Option (List ℕ)) (told : Told) (taken : Taken) (key : VoxelKey) (node : Node F) (was_blank : Bool) (b : IsBegun held told taken key node was_blank) where
-  -- a node that was there, where files and sources tell
+  -- a node that was there, if contents are visible
   stood : told.tells ≡ true → was_blank ≡ false → taken ≡ Standing (cell_of held node)
   stood tells wasn't =
       let a = b.as_taken wasn't in a.1 ∙ ap (λ (c : Cell). Standing c) (sym (a.2.exact tells))
@@ -89,7 +89,7 @@ module _ {F : Type 0} (held : F → Option (List ℕ)) (told : Told) (taken : Ta
       cells : cell_of held node ≡ cell_of held other
       cells = ap (λ (n : grid.Node). let c : Cell = record { node = n; children = children_of node } in c) (sym same.1) ∙ ap (λ (xs : List ℕ). let c : Cell = record { node = node_of held other; children = xs } in c) (sym same.2)
 
-  -- given back, it is as it was taken
+  -- when it is returned, it is as it was taken
   pub begun-back : (back : Node F) → (was_blank ≡ true → state_of back ≡ states.Blank) → (was_blank ≡ false → back ≡ node) → StaysAlike told taken (seen_node held back)
   begun-back back blank_now same = elim (either was_blank) [
     | inl was ↦ inl (ap (λ (s : NodeState). taken_as s (cell_of held back)) (blank_now was) ∙ sym (b.blank was))
@@ -105,6 +105,6 @@ kept_as states.Resident c n = refl
 kept_as states.Spilled c n = refl
 kept_as states.Broken c n = refl
 
--- a node that is given back changes no note
+-- a node that is returned changes no note
 pub kept-note : {F : Type 0} (held : F → Option (List ℕ)) (node : Node F) (n : Note) → note_after n (seen_node held node) Nothing ≡ n
 kept-note held node n = kept_as (state_of node) (cell_of held node) n

@@ -26,7 +26,7 @@ pub at-got : {X : Type 0} (xs : List X) (n : ℕ) (x : X) → n < length xs → 
 at-got {X} xs n x low is =
     let a = below-at xs n low in subst (λ (y : X). At xs n y) (sym (at-get x a.1) ∙ sym is) a.1
 
--- the flight at a place of the list that a worker keeps is at that place of those that it carries
+-- the flight at a place of the list that a worker keeps is at that place of the flights that it carries
 pub is-at : (v : View) (flights : List Carried) (n : ℕ) (c : Carried) → v.note.flights ≡ flights → n < length flights → c ≡ get_or flights n c → At v.note.flights n c
 is-at v flights n c same low is = subst (λ (xs : List Carried). At xs n c) (sym same) (at-got flights n c low is)
 
@@ -77,7 +77,7 @@ takes-up held told v w x slot n c visit rest took fits its goes some slot_is num
     flies : FitsFlight told c x
     flies = fits.flight c (at-member v.note.flights n c its) goes some
 
--- ---- what rests afterwards
+-- ---- a worker at rest afterwards
 
 pub left-rest : (told : Told) (v w : View) (n : ℕ) (x : Carried) (fresh : List Carried) → w ≡ leaving v n fresh → 0 < v.parts → v.refused ≡ 0 → At v.note.flights n x → ((c : Carried) → IsMember c v.note.flights → c.slot ≤ told.most) → ((c : Carried) → IsMember c fresh → c.slot ≤ told.most) → IsAtRest told w
 left-rest told v w n x fresh after share unrefused its within fresh_within = subst (λ (u : View). IsAtRest told u) (sym after) (record {

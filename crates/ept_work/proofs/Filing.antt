@@ -1,4 +1,4 @@
--- Nodes that go to their files, and what is known of them there.
+-- Nodes that are evicted, and what is known of them then.
 use Rattle.std.proofs.Common.{◌≡◌, ◌∙◌, ◌⊎◌, ℕ, Bool, true, false, inl, inr, List, ◌++◌, refl, sym, ap, subst, arith, Option, Some, Result, Ok, Err, OnOk, OnErr, IfErr}
 use Rattle.ept_base.specs.Files.{Tells}
 use Rattle.ept_point.specs.declared.point.Point.{Point}
@@ -22,12 +22,12 @@ use Rattle.ept_table.specs.Item.{taken_as, cell_of, seen_node, IsFiledNode}
 use Rattle.ept_table.specs.Steps.{StaysAlike}
 use Rattle.ept_work.proofs.Begun.{seen-resident}
 
--- the points of the second list have different ids where those of both together have
+-- the points of the second list have different ids if those of both together have
 pub distinct-right : (ps qs : List Point) → HasDistinctIds (ps ++ qs) → HasDistinctIds qs
 unfolding HasDistinctIds
 distinct-right ps qs once p = omega (arith, count_by-append (same_id p) ps qs, once p)
 
--- what a device tells that tells this
+-- what holds of visible contents holds of these contents
 told_fact : {X : Type 0} (P : X → Type 0) (o : Option X) (x : X) → o ≡ Some x → Tells P o → P x
 told_fact {X} P o x is fact = let f : Tells P (Some x) = subst (λ (p : Option X). Tells P p) is fact in f
 
@@ -60,14 +60,14 @@ module _ {F : Type 0} (held : F → Option (List ℕ)) (faults keeps : F → ℕ
   blank_filed : (node : Node F) → state_of node ≡ Blank → (told.tells ≡ true → DoesTell held (file_of node)) → IsFiledNode held faults keeps told node
   blank_filed node is = in_memory node (λ e. let x : Blank ≡ Spilled = sym is ∙ e in cc) (λ e. let x : Blank ≡ Broken = sym is ∙ e in cc)
 
-  -- a node that goes back as it was taken
+  -- a node that is returned as it was taken
   pub back-filed : (node back : Node F) (was_blank : Bool) → state_of node ≡ Resident → (was_blank ≡ true → state_of back ≡ Blank) → (was_blank ≡ false → back ≡ node) → file_of back ≡ file_of node → (told.tells ≡ true → DoesTell held (file_of node)) → IsFiledNode held faults keeps told back
   back-filed node back was_blank is blank same file telling = elim (either was_blank) [
     | inl was ↦ blank_filed back (blank was) (λ tells. subst (λ (f : F). DoesTell held f) (sym file) (telling tells))
     | inr wasn't ↦ subst (λ (n : Node F). IsFiledNode held faults keeps told n) (sym (same wasn't)) (resident-filed node is telling)
   ]
 
--- ---- a node that was to go to its file
+-- ---- a node that was to be evicted
 
 standing : (s : NodeState) (c : Cell) → (s ≡ Blank → ⊥) → taken_as s c ≡ Standing c
 standing Blank c not = absurd (not refl)
@@ -78,14 +78,14 @@ standing Broken c not = refl
 abbrev refused : NodeError → Result (Unit {0}) NodeError
 refused e = Err e
 
--- whatever the answer, it is the node of a key
+-- whatever the result, it is the node of a key
 pub spill-stands : {F : Type 0} (new : Node F) (answer : Result (Unit {0}) NodeError) → OnOk answer (state_of new ≡ Spilled) → (answer ≡ Err SpillFault → state_of new ≡ Broken) → (answer ≡ Err Memory → state_of new ≡ Resident) → IfErr answer (λ e. (e ≡ SpillFault) ⊎ (e ≡ Memory)) → state_of new ≡ Blank → ⊥
 spill-stands new (Ok u) gone broken memory only is = let y : Spilled ≡ Blank = sym gone ∙ is in cc
 spill-stands new (Err e) gone broken memory (inl fails) is = let y : Broken ≡ Blank = sym (broken (ap refused fails)) ∙ is in cc
 spill-stands new (Err e) gone broken memory (inr lacks) is = let y : Resident ≡ Blank = sym (memory (ap refused lacks)) ∙ is in cc
 
 module _ {F : Type 0} (held : F → Option (List ℕ)) where
-  -- a node of a key stands
+  -- a node of a key is no blank one
   pub seen-standing : (node : Node F) → (state_of node ≡ Blank → ⊥) → seen_node held node ≡ Standing (cell_of held node)
   seen-standing node not = standing (state_of node) (cell_of held node) not
 
@@ -97,7 +97,7 @@ module _ {F : Type 0} (held : F → Option (List ℕ)) where
   seen_same : (old new : Node F) → (state_of old ≡ Blank → ⊥) → (state_of new ≡ Blank → ⊥) → cell_of held new ≡ cell_of held old → seen_node held new ≡ seen_node held old
   seen_same old new stood stands same = seen-standing new stands ∙ (ap (λ (c : Cell). Standing c) same ∙ sym (seen-standing old stood))
 
-  -- it is as it was, or has gone
+  -- it is as it was, or was evicted
   pub spill-stays : (told : Told) (old new : Node F) (answer : Result (Unit {0}) NodeError) → state_of old ≡ Resident → (told.tells ≡ true → DoesTell held (file_of new)) → OnOk answer (state_of new ≡ Spilled) → OnOk answer (Tells (λ (bytes : List ℕ). node_of held new ≡ node_of held old) (held (file_of new))) → IsAlike (node_of held old) (node_of held new) → children_of new ≡ children_of old → OnErr answer (node_of held new ≡ node_of held old) → (state_of new ≡ Blank → ⊥) → AllInBox (node_of held new).rules.cube (node_of held new).key (node_of held new).points → StaysAlike told (seen_node held old) (seen_node held new)
   spill-stays told old new (Ok u) was telling gone same alike children still stands inside =
       inr (

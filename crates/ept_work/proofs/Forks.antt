@@ -49,7 +49,7 @@ or_none : (b : Bool) → (b || false) ≡ b
 or_none true = refl
 or_none false = refl
 
--- ---- and joined
+-- ---- and joined again
 
 module _ (told : Told) (v left right low high w : View) (n m : ℕ) (halves : n + m ≡ v.parts)
     (left_is : left ≡ with_parts v n) (right_is : right ≡ new_seat v m)

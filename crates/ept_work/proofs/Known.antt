@@ -37,7 +37,7 @@ module _ {F S : Type 0} (held : F → Option (List ℕ)) (whole : S → Option (
   hold_item (Some h) k x e =
       (h.item, ap (λ (n : ℕ). let o : Option (Held (Item F S)) = Some (record { slot = n; item = h.item }) in o) (ap slot_in e), ap item_in e)
 
-  -- the item that a seat holds which is known to hold this
+  -- the item that a seat holds, if it is known to hold this
   pub known-item : (v : slots.View (Item F S) Note) (k : ℕ) (x : Taken) → (known held whole v).hold ≡ Some (k, x) → (y : Item F S) × (v.hold ≡ Some (record { slot = k; item = y })) × (seen held whole y ≡ x)
   known-item v k x e = hold_item v.hold k x e
 
@@ -49,12 +49,12 @@ module _ {F S : Type 0} (held : F → Option (List ℕ)) (whole : S → Option (
   pub known-free : (v : slots.View (Item F S) Note) → (known held whole v).hold ≡ None → v.hold ≡ None
   known-free v e = hold_none v.hold e
 
-  -- an item that is seen as a reader is one
+  -- an item that is seen as a reader is a reader
   pub seen-reader : (x : Item F S) (r : Progress) → seen held whole x ≡ Reading r → (y : Reader S) × (x ≡ items.Reader y)
   seen-reader (items.Reader y) r e = (y, refl)
   seen-reader (items.Node node) r e = absurd (not_reading (state_of node) (cell_of held node) r e)
 
-  -- an item that is seen as a node is one
+  -- an item that is seen as a node is a node
   pub seen-node : (x : Item F S) → ((r : Progress) → seen held whole x ≡ Reading r → ⊥) → (y : Node F) × (x ≡ items.Node y)
   seen-node (items.Reader y) not = absurd (not (seen_reader whole y) refl)
   seen-node (items.Node y) not = (y, refl)

@@ -1,4 +1,4 @@
--- A flight has arrived at the node that was taken up, and the flights that go on are made.
+-- A flight has arrived at the node that was taken up, and the flights that leave it are made.
 use Rattle.std.proofs.Common.{◌≡◌, ◌∙◌, ℕ, zero, suc, ◌+◌, ◌<◌, ◌≤◌, Bool, true, false, inl, inr, List, [], ◌∷◌, ◌++◌, map, length, refl, sym, ap, subst, arith, slice_index}
 use Rattle.std.specs.List.{flat_map, count_by}
 use Rattle.std.proofs.lemmas.List.{length-append, map-append}
@@ -153,7 +153,7 @@ module _ (told : Told) (w : View) (x : Taken) (old : Node) (f : Flight) (c : Cel
   old_cube : IsCube old.rules.cube
   old_cube = subst (λ (r : Rules). IsCube r.cube) (sym old_rules) cube
 
-  -- an octant for which points leave is open, above the greatest depth
+  -- an octant for which points leave is open
   open_to : (o : ℕ) → o < 8 → HasPoint (points_at out o) → is_open_in c.node o ≡ true
   open_to o low some = (
       let s = meets.sends o low in

@@ -8,7 +8,7 @@ use Rattle.ept_grid.specs.Node.{Node, is_open_in}
 use Rattle.ept_grid.proofs.Leavings.{all-none}
 use Rattle.ept_node.specs.Batch.{given_all, HasTaken}
 
--- where points arrived, the octants that are open are those that the sampling opens
+-- once points have arrived, the octants that are open are those that the sampling opens
 pub taken-opens : (old new : Node) (points : List Point) (before after : List Leaving) → HasTaken old new points before after → 0 < length points → (o : ℕ) → o < 8 → is_open_in new o ≡ is_open old.rules old.key.depth (is_open_in old) (given_all old points) o
 taken-opens old new [] before after has some = absurd (omega (arith, some))
 taken-opens old new (p ∷ points) before after has some = has.opens

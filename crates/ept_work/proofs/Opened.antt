@@ -18,7 +18,7 @@ use Rattle.ept_table.specs.Tells.{IsTooMany}
 use Rattle.ept_table.specs.View.{View}
 use Rattle.ept_work.specs.Opening.{taken_by, MayOpen, HasOpened}
 
--- what holds of the octants below a number and of it holds of those below the next
+-- what holds of the octants below a number and of that number holds of the octants below the next
 below_next : (P : ℕ → Type 0) (n : ℕ) → ((o : ℕ) → o < n → P o) → P n → (o : ℕ) → o < n + 1 → P o
 below_next P n below here o low = elim (split o n low) [ inl less ↦ below o less | inr same ↦ subst P (sym same) here ]
   where
@@ -28,7 +28,7 @@ below_next P n below here o low = elim (split o n low) [ inl less ↦ below o le
 -- ---- one octant more
 
 module _ (told : Told) (v : View) (c : Cell) (n : ℕ) (full : Bool) (h : HasOpened told v c n full) (low : n < 8) where
-  -- the octant is as it was, or closed still, or no slot is drawn any more
+  -- the octant is as it was, or still closed, or no more slots are drawn
   pub opened-same : HasChild v (taken_by v) c n → HasOpened told v c (n + 1) full
   opened-same child = record {
     full = h.full;
@@ -63,7 +63,7 @@ module _ (told : Told) (v : View) (c : Cell) (n : ℕ) (full : Bool) (h : HasOpe
     none = λ e. mine ∙ none;
   }
 
-  -- a slot is asked for only where none was refused, and the octant was closed and is open
+  -- a slot is needed only if none was refused, and the octant was closed and is open
   pub opened-unasked : (was is : Bool) → is_open_at (taken_by v) n ≡ was → is_open_in c.node n ≡ is → (was ≡ true → is ≡ true) → (was ≡ false → slot_at (taken_by v) n ≡ 0) → (not full && (not was && is)) ≡ false → HasOpened told v c (n + 1) full
   opened-unasked true true was is stays closed asks = opened-same (child-kept was is)
   opened-unasked true false was is stays closed asks = absurd (false≢true (stays refl))

@@ -55,11 +55,11 @@ module _ (F S : Type 0) where
   pub few-weight : (node : Node F) → weight_of {F = F} {S = S} (items.Node node) ≤ 1
   few-weight node = few (is_here node)
 
-  -- a node that goes back as it was taken has one, with the permit of one that is blank again
+  -- a node that is returned as it was taken has one permit, together with the permit of a node that is blank again
   pub back-weight : (node back : Node F) (was_blank : Bool) → state_of node ≡ states.Resident → (was_blank ≡ true → state_of back ≡ states.Blank) → (was_blank ≡ false → back ≡ node) → weight_of {F = F} {S = S} (items.Node back) + one_if was_blank ≡ 1
   back-weight node back true resident blank same = let none : one_if (is_here back) ≡ 0 = blank-weight back (blank refl) in omega (arith, none)
   back-weight node back false resident blank same = let one : one_if (is_here back) ≡ 1 = ap (λ (n : Node F). one_if (is_here n)) (same refl) ∙ resident-weight node resident in omega (arith, one)
 
-  -- where it holds nothing all that it has are its own
+  -- if a seat holds nothing, all permits that it has are its own
   pub free-permits : (held : F → Option (List ℕ)) (whole : S → Option (List ℕ)) (v : slots.View (Item F S) Note) → (known held whole v).hold ≡ None → spare_of v ≡ v.permits
   free-permits held whole v free = let none : held_weight (weight_of {F = F} {S = S}) v.hold ≡ 0 = ap (held_weight weight_of) (known-free held whole v free) in omega (arith, none)

@@ -51,7 +51,7 @@ err_same {e} {f} is = ap from is
     from (Ok u) = e
     from (Err g) = g
 
--- a reader that fits what was told still does
+-- a reader that fits the ghost input still does
 pub read-fits : (told : Told) (old new : Progress) (points : List Point) → FitsReader told old → HasRead told old new points → FitsReader told new
 read-fits told old new points fits has = record {
   inputs = has.inputs ∙ fits.inputs;
@@ -72,7 +72,7 @@ module _ {S : Type 0} (whole left : S → Option (List ℕ)) (given faults : S �
     within = lies.within;
   })
 
-  -- what a draw did to the reader, and that it is as it has to be
+  -- what a draw did to the reader, and that the reader is as it has to be
   abbrev pub Reads : List Point → Type 0
   Reads points = HasRead told (seen_reader whole old) (seen_reader whole new) points × IsFiled whole left given faults told new
 
@@ -200,7 +200,7 @@ none_zero n t = grind (arith, nat_tests)
 some_more : (n : ℕ) → not (n == 0) ≡ true → 0 < n
 some_more n t = grind (arith, nat_tests)
 
--- a reader that was taken fits what was told
+-- a reader that was taken fits the ghost input
 abbrev pub fits-taken : {F S : Type 0} (held : F → Option (List ℕ)) (whole : S → Option (List ℕ)) (told : Told) (x : Item F S) (y : Reader S) (r : Progress) → x ≡ items.Reader y → seen held whole x ≡ Reading r → FitsReader told r → FitsReader told (seen_reader whole y)
 fits-taken {F} {S} held whole told x y r is sees fits =
     subst (λ (q : Progress). FitsReader told q) (reading-same (sym sees ∙ ap (λ (z : Item F S). seen held whole z) is)) fits

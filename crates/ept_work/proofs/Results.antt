@@ -1,4 +1,4 @@
--- What comes of a table at which workers have ended.
+-- The result of a table at which workers have ended.
 use Rattle.std.proofs.Common.{◌≡◌, ◌∙◌, ℕ, ◌<◌, ◌≤◌, min, true, inl, inr, List, [], ◌∷◌, map, length, take, refl, sym, ap, subst, arith, Option, Some, None, Result, Ok, Err, IfErr, OnOk}
 use Rattle.std.proofs.lemmas.Bool.{false≢true}
 use Rattle.ept_scan.specs.declared.read_error.ReadError.{ReadError}
@@ -121,7 +121,7 @@ module _ {F S : Type 0} (held : F → Option (List ℕ)) (whole left : S → Opt
   pub ends-no-change : told.tells ≡ true → (source number : ℕ) → IsCause told w (SourceChanged source number) → ⊥
   ends-no-change tells source number is = filed.no_change tells source number (noted (read.SourceChanged source number) is)
 
--- the cause of a refusal that comes
+-- the cause of the refusal that is returned
 error_same : {a b : WorkError} → ◌≡◌ {A = Result (Unit {0}) WorkError} (Err a) (Err b) → a ≡ b
 error_same {a} {b} q = ap from q
   where

@@ -1,4 +1,4 @@
--- What workers answer where a node may be broken.
+-- What workers return if a node may be broken.
 use Rattle.std.proofs.Common.{◌≡◌, ◌∙◌, ℕ, ◌<◌, true, List, refl, sym, ap, subst, Option, Some, None, Result, Ok, Err, OnOk, IfErr}
 use Rattle.std.specs.Prelude.{IsNone, IfSome}
 use Rattle.std.specs.List.{All, Any}
@@ -29,17 +29,17 @@ error_same {a} {b} q = ap from q
     from (Ok u) = a
     from (Err x) = x
 
--- Ok is answered only where no node is broken and no worker was refused
+-- the result is Ok only if no node is broken and no worker was refused
 settled-ok : (P : Type 0) (broken : Option NodeError) (answer : Answer) → OnOk answer P → OnOk (settled_by broken answer) P
 settled-ok P (Some why) answer ok = tt
 settled-ok P None answer ok = ok
 
--- ---- the same of an answer that is settled so
+-- ---- the same of a result that is settled so
 
 pub settled-again : (P : Type 0) (broken : Option NodeError) (answer is : Answer) → is ≡ settled_by broken answer → OnOk answer P → OnOk is P
 settled-again P broken answer is by ok = subst (λ (r : Answer). OnOk r P) (sym by) (settled-ok P broken answer ok)
 
--- ---- a refusal that no node has is that of a worker
+-- ---- a refusal that no node has is a worker's
 
 no_source : (why : NodeError) → of_node why ≡ SourceFault → ⊥
 no_source node.SpillFault is = cc
@@ -92,7 +92,7 @@ noted_by told v node.SpillFault not is = is
 noted_by told v (node.SpillDamaged kept found at) not is = is
 noted_by told v node.Memory not is = absurd (not refl)
 
--- a fault of a spill file is that of a broken node, which is there
+-- a fault of a spill file is the fault of a broken node, which is there
 pub broken-there : {F : Type 0} (told : Told) (v : View) (nodes : List (Node F)) (broken : Option NodeError) (answer is : Answer) → is ≡ settled_by broken answer → IfErr answer (λ e. IsCause told v e) → IfSome broken (λ e. Any (λ (n : Node F). fault_of n ≡ Some e) nodes) → ((why : NodeError) → IsMember why v.note.broken → Any (λ (n : Node F). fault_of n ≡ Some why) nodes) → (why : NodeError) → (why ≡ node.Memory → ⊥) → is ≡ refused (of_node why) → Any (λ (n : Node F). fault_of n ≡ Some why) nodes
 broken-there {F} told v nodes (Some e) answer is by cause some noted why not eq =
     subst (λ (d : NodeError). Any (λ (n : Node F). fault_of n ≡ Some d) nodes) (node_same e why (error_same (sym by ∙ eq))) some
@@ -103,7 +103,7 @@ module _ {F : Type 0} (held : F → Option (List ℕ)) (faults keeps : F → ℕ
   it_is : (there : Any (λ (n : Node F). (e : NodeError) × (fault_of n ≡ Some e)) nodes) → IsFiledNode held faults keeps told there.1
   it_is there = subst (λ (n : Node F). IsFiledNode held faults keeps told n) there.3 (filed there.0 there.1 there.2)
 
-  -- no node is broken where the answer is not the refusal of one
+  -- no node is broken if the result is not the refusal of a broken node
   pub none-broken : (broken : Option NodeError) (answer is : Answer) → is ≡ settled_by broken answer → (IsNone broken → All (λ (n : Node F). fault_of n ≡ None) nodes) → IfSome broken (λ e. Any (λ (n : Node F). fault_of n ≡ Some e) nodes) → (is ≡ refused SpillFault → ⊥) → ((kept found at : ℕ) → is ≡ refused (SpillDamaged kept found at) → ⊥) → All (λ (n : Node F). fault_of n ≡ None) nodes
   none-broken None answer is by none some no_fault no_damage = none refl
   none-broken (Some node.SpillFault) answer is by none some no_fault no_damage = absurd (no_fault by)
@@ -117,7 +117,7 @@ module _ {F : Type 0} (held : F → Option (List ℕ)) (faults keeps : F → ℕ
       let is = it_is (there.0, there.1, there.2, there.3, (node.SpillFault, there.4)) in
       (there.0, there.1, there.2, there.3, (there.4, is.agrees.failed there.4))
 
-  -- and is not damaged where it tells
+  -- and is not damaged if contents are visible
   pub no-damage : told.tells ≡ true → (kept found at : ℕ) → Any (λ (n : Node F). fault_of n ≡ Some (node.SpillDamaged kept found at)) nodes → ⊥
   no-damage tells kept found at there =
       (it_is (there.0, there.1, there.2, there.3, (node.SpillDamaged kept found at, there.4))).undamaged tells kept found at there.4

@@ -51,7 +51,7 @@ spilled-sound n is = sound_body n.body (λ e. let x : states.Spilled ≡ states.
 pub blank-sound : {F : Type 0} (n : Node F) → state_of n ≡ states.Blank → fault_of n ≡ None
 blank-sound n is = sound_body n.body (λ e. let x : states.Blank ≡ states.Broken = sym is ∙ e in cc)
 
--- nor is one that goes back as it was taken
+-- nor is a node that is returned as it was taken
 pub back-sound : {F : Type 0} (n back : Node F) (was_blank : Bool) → state_of n ≡ states.Resident → (was_blank ≡ true → state_of back ≡ states.Blank) → (was_blank ≡ false → back ≡ n) → fault_of back ≡ None
 back-sound {F} n back was_blank is blank same = elim (either was_blank) [
   | inl was ↦ blank-sound back (blank was)
@@ -64,14 +64,14 @@ never-broken o why none is = absurd (let e : None ≡ Some why = sym none ∙ is
 
 -- ---- nodes that stay, and why
 
--- a node that is broken stays for the refusal by which it is
+-- a node that is broken stays for the refusal by which it is broken
 pub stays-broken : (fault : Option NodeError) → (fault ≡ Some node.Memory → ⊥) → fault ≡ breaking fault
 stays-broken None not = refl
 stays-broken (Some node.SpillFault) not = refl
 stays-broken (Some (node.SpillDamaged kept found at)) not = refl
 stays-broken (Some node.Memory) not = absurd (not refl)
 
--- want of memory breaks none
+-- running out of memory breaks no node
 pub never-memory : (why : Option NodeError) → breaking why ≡ Some node.Memory → ⊥
 never-memory None is = cc
 never-memory (Some node.SpillFault) is = cc
@@ -81,13 +81,13 @@ never-memory (Some node.Memory) is = cc
 abbrev refused : NodeError → Result (Unit {0}) NodeError
 refused e = Err e
 
--- a node that did not come back from its file
+-- a node that was not read back from its file
 pub reload-reason : {F : Type 0} (new : Node F) (why : NodeError) → ((why ≡ node.Memory → ⊥) → fault_of new ≡ Some why) → (why ≡ node.Memory → state_of new ≡ states.Spilled) → fault_of new ≡ breaking (Some why)
 reload-reason new node.SpillFault broken memory = broken (λ e. let x : node.SpillFault ≡ node.Memory = e in cc)
 reload-reason new (node.SpillDamaged kept found at) broken memory = broken (λ e. let x : node.SpillDamaged kept found at ≡ node.Memory = e in cc)
 reload-reason new node.Memory broken memory = spilled-sound new (memory refl)
 
--- one that did not go there
+-- a node that was not evicted
 pub spill-reason : {F : Type 0} (new : Node F) (answer : Result (Unit {0}) NodeError) → (answer ≡ refused node.SpillFault → fault_of new ≡ Some node.SpillFault) → (answer ≡ refused node.Memory → state_of new ≡ states.Resident) → IfErr answer (λ e. (e ≡ node.SpillFault) ⊎ (e ≡ node.Memory)) → IfErr answer (λ e. fault_of new ≡ breaking (Some e))
 spill-reason new (Ok u) broken memory only = tt
 spill-reason new (Err e) broken memory (inl fails) = broken (ap refused fails) ∙ sym (ap (λ (x : NodeError). breaking (Some x)) fails)
@@ -96,11 +96,11 @@ spill-reason new (Err e) broken memory (inr lacks) = resident-sound new (memory 
 -- ---- what a seat holds
 
 module _ {F S : Type 0} where
-  -- the item that is held was not broken as it was taken, so it may be given back in any way
+  -- the item that is held was not broken when it was taken, so it may be returned in any way
   pub stays-whole : (v : slots.View (Item F S) Note) (k : ℕ) (x y : Item F S) → HoldsWhole v → v.hold ≡ Some (record { slot = k; item = x }) → StaysBroken x y
   stays-whole v k x y whole is = λ why broken. never-broken (broken_by x) why (sym (ap held_fault is) ∙ whole) broken
 
--- ---- what a seat knows that gave back a node that is not broken
+-- ---- what a seat knows that returned a node that is not broken
 
 module _ {F : Type 0} (held : F → Option (List ℕ)) (v w : View) where
   -- a node at which a flight has arrived
@@ -110,7 +110,7 @@ module _ {F : Type 0} (held : F → Option (List ℕ)) (v w : View) where
       ∙ (ap (λ (x : Taken). given_back v (note_after v.note x (Arrive number said))) (seen-resident held n is)
       ∙ ap (λ (fs : List Carried). leaving v number fs) same))
 
-  -- one that goes back as it was taken
+  -- a node that is returned as it was taken
   pub gave-as-taken : (n back : Node F) (was_blank : Bool) → state_of n ≡ states.Resident → (was_blank ≡ true → state_of back ≡ states.Blank) → (was_blank ≡ false → back ≡ n) → w ≡ given_back v (noting_broken (fault_of back) (note_after v.note (seen_node held back) Nothing)) → w ≡ given_back v v.note
   gave-as-taken n back was_blank is blank same gave =
       gave ∙ (ap (λ (o : Option NodeError). given_back v (noting_broken o (note_after v.note (seen_node held back) Nothing))) (back-sound n back was_blank is blank same)
@@ -124,7 +124,7 @@ left-full told v w number fresh is refused too_many = subst (λ (u : View). IsVi
 
 -- ---- what a seat notes of a refusal
 
--- the refusal of a node that stays is noted as that of a worker
+-- the refusal of a node that stays is noted as a worker's refusal
 noted_so : (v : View) (why : NodeError) → noting v (noting_broken (breaking (Some why)) v.note) ≡ refused_by (of_node why) v
 noted_so v node.SpillFault = refl
 noted_so v (node.SpillDamaged kept found at) = refl
@@ -152,28 +152,28 @@ refused-parts e v w is = ap (λ (u : View). u.parts) is ∙ any e
     any (SpillDamaged kept found at) = refl
     any Memory = refl
 
--- a refusal is handed on, of a worker that knew as much before
+-- a refusal is passed on, of a worker that knew the same before
 pub handed-on : {X : Type 0} (r : Result X WorkError) (e : WorkError) (v mid w : View) → r ≡ Err e → w ≡ refused_by e mid → mid ≡ v → IfErr r (λ d. w ≡ refused_by d v)
 handed-on {X} r e v mid w is noted same =
     subst (λ (a : Result X WorkError). IfErr a (λ d. w ≡ refused_by d v)) (sym is) (noted ∙ ap (λ (u : View). refused_by e u) same)
 
--- a node was taken and given back
+-- a node was taken and returned
 pub gave-back : {F : Type 0} (held : F → Option (List ℕ)) (v u w : View) (slot : ℕ) (x : Taken) (n : Node F) → v.hold ≡ None → u ≡ holding v slot x → w ≡ given_back u (noting_broken (fault_of n) (note_after u.note (seen_node held n) Nothing)) → w ≡ noting v (noting_broken (fault_of n) v.note)
 gave-back held v u w slot x n free took gave =
     gave ∙ (ap (λ (m : Note). given_back u (noting_broken (fault_of n) m)) (kept-note held n u.note)
     ∙ (ap (λ (z : View). given_back z (noting_broken (fault_of n) z.note)) took
     ∙ ap (λ (h : Option (ℕ × Taken)). let z : View = record { parts = v.parts; refused = v.refused; hold = h; note = noting_broken (fault_of n) v.note } in z) (sym free)))
 
--- the same where the seat stepped on its permits before and afterwards
+-- the same if the seat stepped on its permits before and afterwards
 pub gave-again : {F : Type 0} (held : F → Option (List ℕ)) (v mid u back w : View) (slot : ℕ) (x : Taken) (n : Node F) → v.hold ≡ None → mid ≡ v → u ≡ holding mid slot x → back ≡ given_back u (noting_broken (fault_of n) (note_after u.note (seen_node held n) Nothing)) → w ≡ back → w ≡ noting v (noting_broken (fault_of n) v.note)
 gave-again held v mid u back w slot x n free same took gave after =
     after ∙ gave-back held v u back slot x n free (took ∙ ap (λ (z : View). holding z slot x) same) gave
 
--- one that is not broken
+-- a node that is not broken
 pub gave-whole : (v w : View) (fault : Option NodeError) → fault ≡ None → w ≡ noting v (noting_broken fault v.note) → w ≡ v
 gave-whole v w fault none is = is ∙ ap (λ (o : Option NodeError). noting v (noting_broken o v.note)) none
 
--- one that stays for this
+-- a node that stays for this reason
 pub gave-refused : (v w : View) (fault : Option NodeError) (why : NodeError) → fault ≡ breaking (Some why) → w ≡ noting v (noting_broken fault v.note) → w ≡ refused_by (of_node why) v
 gave-refused v w fault why reason is =
     is ∙ (ap (λ (o : Option NodeError). noting v (noting_broken o v.note)) reason ∙ noted_so v why)
@@ -184,7 +184,7 @@ noted-cause told v w node.SpillFault is = subst (λ (u : View). IsMember node.Sp
 noted-cause told v w (node.SpillDamaged kept found at) is = subst (λ (u : View). IsMember (node.SpillDamaged kept found at) u.note.broken) (sym is) (inl refl)
 noted-cause told v w node.Memory is = tt
 
--- ---- what is answered of a node that stays
+-- ---- what is returned for a node that stays
 
 abbrev Staying : Type 0 → Type 0
 Staying X = Result (Option X) WorkError

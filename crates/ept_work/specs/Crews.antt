@@ -13,7 +13,7 @@ use Rattle.ept_work.specs.Rest.{IsAtRest}
 use Rattle.ept_work.specs.Working.{HasWorked, HasEnded, IsCause}
 
 module _ {F S J : Type 0} (held : F → Option (List ℕ)) (told : Told) (whole : S → Option (List ℕ)) (table : NodeTable F S J) where
-  -- so many workers, numbered from the first on, may work, of which each has a part of the seat's share
+  -- `workers` workers, numbered from the first on, may work; each has a part of the seat's share
   pub record MayWork (seat : SlotSeat (Item F S) Note Said) (first workers : ℕ) : Type 0 where
     pub is_seat : IsSeat told table seat
     pub rest : IsAtRest told (known held whole (view seat))

@@ -15,7 +15,7 @@ use Rattle.ept_work.specs.Errors.{of_read}
 use Rattle.ept_work.specs.declared.error.WorkError.{WorkError}
 use Rattle.ept_work.specs.declared.error.WorkError.TheVariants.{SourceFault, SourceChanged, TooManyNodes, SpillFault, SpillDamaged, Memory}
 
--- The reader was taken and given back: it has drawn these points, which now fly to the root by slot 1, or has failed.
+-- The reader was taken and returned: it has drawn these points, which now fly to the root by slot 1, or has failed.
 pub record HasDrawn (told : Told) (number : ℕ) (v w : View) (points : List Point) : Type 0 where
   pub old : Progress
   pub new : Progress
@@ -23,7 +23,8 @@ pub record HasDrawn (told : Told) (number : ℕ) (v w : View) (points : List Poi
   pub has_read : HasRead told old new points
   pub after : w ≡ given_back v (table.read v.note new (carried_to number 1 root points))
 
--- A batch was drawn: 1,024 points, or as many as the allowance and the inputs still have. Whether they are some is told.
+-- A batch was drawn: 1,024 points, or fewer if the allowance or the inputs have fewer. The result is whether there were
+-- any.
 pub record DrawsBatch (told : Told) (number : ℕ) (v w : View) (is_some : Bool) : Type 0 where
   pub points : List Point
   pub drawn : HasDrawn told number v w points
@@ -32,7 +33,7 @@ pub record DrawsBatch (told : Told) (number : ℕ) (v w : View) (is_some : Bool)
   pub some : is_some ≡ true → 0 < length points
   pub none : is_some ≡ false → points ≡ []
 
--- nothing was drawn, and the reader was left where it lies, or was given back
+-- nothing was drawn, and the reader was left where it lies, or was returned
 abbrev pub DrawsNone : Told → ℕ → View → View → Type 0
 DrawsNone told number v w = (w ≡ v) ⊎ HasDrawn told number v w []
 
@@ -40,7 +41,7 @@ DrawsNone told number v w = (w ≡ v) ⊎ HasDrawn told number v w []
 abbrev pub HasDrawnAll : Told → View → Type 0
 HasDrawnAll told v = (told.end ≤ v.note.given) ⊎ (told.total ≤ v.note.given)
 
--- the cause of a refusal at a draw: want of memory, or that by which the reader has failed, and this the seat notes
+-- the cause of a refusal at a draw: out of memory, or the refusal by which the reader has failed, which the seat notes
 abbrev pub IsReadCause : View → WorkError → Type 0
 IsReadCause v SourceFault = IsMember read.SourceFault v.note.failures
 IsReadCause v (SourceChanged source number) = IsMember (read.SourceChanged source number) v.note.failures
@@ -49,7 +50,7 @@ IsReadCause v SpillFault = ⊥
 IsReadCause v (SpillDamaged kept found at) = ⊥
 IsReadCause v Memory = ⊤
 
--- what a draw answers by which the reader was read so
+-- what a draw returns after this result of the reader
 abbrev pub answer_of : Result (Unit {0}) ReadError → Bool → Result Bool WorkError
 answer_of (Ok u) is_some = Ok is_some
 answer_of (Err e) is_some = Err (of_read e)

@@ -1,4 +1,4 @@
--- Nodes that go to their files.
+-- Nodes that are evicted.
 use Rattle.std.specs.Prelude.{ℕ, ◌<◌}
 use Rattle.ept_table.specs.declared.table.NodeTable.{NodeTable}
 use Rattle.ept_table.specs.Table.{slots_of}

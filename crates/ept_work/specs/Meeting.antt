@@ -7,7 +7,7 @@ use Rattle.ept_grid.specs.Outgoing.{Leaving, points_at, all_points}
 use Rattle.ept_grid.specs.Node.{Node, is_open_in, SendsOn}
 use Rattle.ept_node.specs.Batch.{given_all, Arrives}
 
--- Points arrived at a node, and those that leave it are these.
+-- Points arrived at a node, and these points leave it.
 pub record Meets (old new : Node) (points : List Point) (out : List Leaving) : Type 0 where
   pub key : new.key ≡ old.key
   pub rules : new.rules ≡ old.rules

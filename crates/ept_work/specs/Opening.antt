@@ -26,8 +26,8 @@ taken_in (Some (slot, x)) = x
 abbrev pub taken_by : View → Taken
 taken_by v = taken_in v.hold
 
--- A flight of the seat goes to the slot that it holds, where points of it have arrived at the node, and has opened the
--- octants of the node that were closed. Those that were open are known as bits.
+-- A flight of the seat goes to the slot that it holds. Its points have arrived at the node there, and have opened some
+-- octants that were closed. The octants that were open before are known as bits.
 pub record MayOpen {F : Type 0} (held : F → Option (List ℕ)) (told : Told) (v : View) (slot before : ℕ) (node : Node F) : Type 0 where
   pub holds : v.hold ≡ Some (slot, taken_by v)
   pub share : 0 < v.parts
@@ -40,8 +40,8 @@ pub record MayOpen {F : Type 0} (held : F → Option (List ℕ)) (told : Told) (
   pub goes_there : (c : Carried) × IsMember c v.note.flights × (c.slot ≡ slot)
   pub opens : (o : ℕ) → o < 8 → is_open_at (taken_by v) o ≡ false → is_open_in (node_of held node) o ≡ true → told.tells ≡ true → OpensOctant told v.note.flights slot (taken_by v) o
 
--- The node has slots for the children of the octants below a number, as the seat notes them, and for the others those
--- that it had.
+-- The node has slots for the children of the octants below a number, as the seat notes them. For the other octants it
+-- has the slots that it had.
 pub record HasOpened (told : Told) (v : View) (c : Cell) (below : ℕ) (is_full : Bool) : Type 0 where
   pub full : is_full ≡ true → (0 < v.refused) × IsTooMany told
   pub not_full : is_full ≡ false → v.refused ≡ 0

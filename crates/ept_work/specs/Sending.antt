@@ -1,4 +1,4 @@
--- The flights in which points that leave a node go on.
+-- The flights of the points that leave a node.
 use Rattle.std.specs.Prelude.{ℕ, List, slice_index}
 use Rattle.std.specs.List.{flat_map}
 use Rattle.ept_space.specs.VoxelKey.{child}
@@ -12,6 +12,6 @@ use Rattle.ept_table.specs.Steps.{carried_to}
 abbrev pub sent_to : ℕ → Cell → List Leaving → ℕ → List Carried
 sent_to actor c out o = carried_to actor (slice_index c.children o) (child c.node.key o) (points_at out o)
 
--- those of all octants, in octant order
+-- the flights of all octants, in octant order
 abbrev pub sent_on : ℕ → Cell → List Leaving → List Carried
 sent_on actor c out = flat_map (sent_to actor c out) all_octants

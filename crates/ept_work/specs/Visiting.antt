@@ -32,8 +32,8 @@ use Rattle.ept_work.specs.declared.visit.Visit.{Visit}
 use Rattle.ept_work.specs.declared.visit.Landing.{Landing}
 use Rattle.ept_work.specs.declared.worker.Worker.{Worker}
 
--- The node of a key, in memory: that which was taken, which may have come from its file, or where that was blank, one without
--- points that has just begun.
+-- The node of a key, in memory. It is the node that was taken, which may have come from its file. If that node was
+-- blank, it is a new one without points.
 pub record IsBegun {F : Type 0} (held : F → Option (List ℕ)) (told : Told) (taken : Taken) (key : VoxelKey) (node : Node F) (was_blank : Bool) : Type 0 where
   pub resident : state_of node ≡ Resident
   pub key_is : (node_of held node).key ≡ key
@@ -42,7 +42,7 @@ pub record IsBegun {F : Type 0} (held : F → Option (List ℕ)) (told : Told) (
   pub blank : was_blank ≡ true → taken ≡ Blank
   pub begun : was_blank ≡ true → (node_of held node ≡ empty_node key told.rules) × (children_of node ≡ no_children)
 
--- A worker holds the node to which one of its flights goes, and has not let it arrive yet.
+-- A worker holds the node to which one of its flights goes. The flight has not arrived yet.
 pub record IsVisit {F : Type 0} (held : F → Option (List ℕ)) (told : Told) (v : View) (visit : Visit F) : Type 0 where
   pub taken : Taken
   pub holds : v.hold ≡ Some (visit.slot, taken)
@@ -65,7 +65,7 @@ pub record TakesUp {F : Type 0} (held : F → Option (List ℕ)) (told : Told) (
   pub visits : IsVisit held told w visit
   pub after : w ≡ holding v visit.slot visits.taken
 
--- The flight has arrived at the node, and these go on.
+-- The flight has arrived at the node, and the fresh flights leave it.
 pub record IsLanding {F : Type 0} (held : F → Option (List ℕ)) (told : Told) (v : View) (landing : Landing F) : Type 0 where
   pub taken : Taken
   pub holds : v.hold ≡ Some (landing.slot, taken)
@@ -82,12 +82,12 @@ pub record IsLanding {F : Type 0} (held : F → Option (List ℕ)) (told : Told)
   pub not_full : landing.is_full ≡ false → v.refused ≡ 0
   pub telling : told.tells ≡ true → DoesTell held (file_of landing.node)
 
--- the worker has room for the flights that go on
+-- the worker has room for the flights that leave
 abbrev pub HasRoom : {F S : Type 0} → Worker F S → Landing F → Type 0
 HasRoom worker landing = length worker.flights.items + length landing.fresh.items ≤ vec_capacity worker.flights + 1
 
--- The cause of a refusal: want of memory; too many nodes, since a slot was refused or a flight that is carried has none; or a
--- broken node that was come across, whose refusal the seat notes.
+-- The cause of a refusal. Memory ran out. Or there are too many nodes, since a slot was refused or a flight of the
+-- worker has none. Or a node is broken, whose refusal the seat notes.
 abbrev pub IsVisitCause : Told → View → WorkError → Type 0
 IsVisitCause told v SourceFault = ⊥
 IsVisitCause told v (SourceChanged source number) = ⊥
@@ -96,25 +96,25 @@ IsVisitCause told v SpillFault = IsMember node.SpillFault v.note.broken
 IsVisitCause told v (SpillDamaged kept found at) = IsMember (node.SpillDamaged kept found at) v.note.broken
 IsVisitCause told v Memory = ⊤
 
--- the refusal by which a node is broken that stays for this: want of memory breaks none
+-- the refusal by which a node is broken that stays for this reason: running out of memory breaks no node
 abbrev pub breaking : Option NodeError → Option NodeError
 breaking None = None
 breaking (Some node.SpillFault) = Some node.SpillFault
 breaking (Some (node.SpillDamaged kept found at)) = Some (node.SpillDamaged kept found at)
 breaking (Some node.Memory) = None
 
--- why the node is broken that lay in the slot that is held, if it is
+-- why the node in the slot that is held is broken, if it is
 abbrev pub held_fault : {F S : Type 0} → Option (Held (Item F S)) → Option NodeError
 held_fault None = None
 held_fault (Some held) = broken_by held.item
 
--- the seat holds no node that was broken as it was taken
+-- the seat holds no node that was broken when it was taken
 abbrev pub HoldsWhole : {F S : Type 0} → slots.View (Item F S) Note → Type 0
 HoldsWhole v = held_fault v.hold ≡ None
 
--- ---- what becomes of what a worker knows
+-- ---- how a view changes
 
--- nothing, but that the seat notes the refusal if it is that of a broken node
+-- not at all, except that the seat notes the refusal of a broken node
 abbrev pub refused_by : WorkError → View → View
 refused_by SourceFault v = v
 refused_by (SourceChanged source number) v = v
@@ -123,7 +123,7 @@ refused_by SpillFault v = noting v (noting_broken (Some node.SpillFault) v.note)
 refused_by (SpillDamaged kept found at) v = noting v (noting_broken (Some (node.SpillDamaged kept found at)) v.note)
 refused_by Memory v = v
 
--- the seat may note other draws, and may have been refused some
+-- the seat may note other draws, and another number of them may have been refused
 abbrev pub opening : View → List Draw → ℕ → ℕ → View
 opening v draws wish refused =
     record { parts = v.parts; refused = refused; hold = v.hold; note = record v.note { draws = draws; wish = wish } }
@@ -132,11 +132,11 @@ opening v draws wish refused =
 abbrev pub IsOpening : View → View → Type 0
 IsOpening v w = w ≡ opening v w.note.draws w.note.wish w.refused
 
--- the flight of this number is gone, and these are behind the others
+-- the flight of this number is gone, and these flights come after the others
 abbrev pub leaving : View → ℕ → List Carried → View
 leaving v number fresh = given_back v (arrived v.note number fresh)
 
--- A flight has arrived at the node of its slot, and others go on.
+-- A flight has arrived at the node of its slot, and other flights leave it.
 pub record Visits (told : Told) (v w : View) : Type 0 where
   pub carried : Carried
   pub number : ℕ

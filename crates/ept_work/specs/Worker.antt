@@ -19,7 +19,7 @@ module _ {F S : Type 0} where
   abbrev pub number_of : Worker F S → ℕ
   number_of worker = worker.number
 
-  -- what it knows, its flights among it
+  -- what it knows, including its flights
   abbrev pub knows : (F → Option (List ℕ)) → (S → Option (List ℕ)) → Worker F S → View
   knows held whole worker = known held whole (view worker.seat)
 

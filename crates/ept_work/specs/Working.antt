@@ -1,4 +1,4 @@
--- The work of a worker, and of several.
+-- The work of one worker, and of several.
 use Rattle.std.specs.Prelude.{◌≡◌, ⊤, ◌⊎◌, true, [], Result, Ok, Err}
 use Rattle.ept_node.specs.declared.error.NodeError.TheVariants as node
 use Rattle.ept_scan.specs.declared.read_error.ReadError.TheVariants as read
@@ -20,7 +20,7 @@ pub record Keeps (v w : View) : Type 0 where
   pub over : w.note.over ≡ v.note.over
   pub failures : w.note.failures ≡ v.note.failures
 
--- and the reader that it last gave back has drawn all that the allowance and the inputs have
+-- and the reader that it last returned has drawn all that the allowance and the inputs have
 pub record HasWorked (told : Told) (v w : View) : Type 0 where
   pub keeps : Keeps v w
   pub all : HasDrawnAll told w
@@ -31,7 +31,7 @@ pub record HasEnded (v w : View) : Type 0 where
   pub landed : w.note.flights ≡ []
   pub parts : w.parts ≡ v.parts
 
--- The cause for which a worker goes no further.
+-- The cause for which a worker stops.
 abbrev pub IsStopped : Told → View → WorkError → Type 0
 IsStopped told v SourceFault = IsMember read.SourceFault v.note.failures
 IsStopped told v (SourceChanged source number) = IsMember (read.SourceChanged source number) v.note.failures
@@ -40,8 +40,9 @@ IsStopped told v SpillFault = IsMember node.SpillFault v.note.broken
 IsStopped told v (SpillDamaged kept found at) = IsMember (node.SpillDamaged kept found at) v.note.broken
 IsStopped told v Memory = ⊤
 
--- The cause of a refusal: the reader has failed by it, or a node that was given back is broken by it, which the seat notes; there
--- may not be as many nodes as the sampling has, and the seat notes that all slots are drawn; or there was no memory.
+-- The cause of a refusal. The reader has failed by it, or a node that was returned is broken by it; the seat notes
+-- either. Or the seat notes that all slots are drawn, and if contents are visible, the sampling has more nodes than
+-- there may be. Or memory ran out.
 abbrev pub IsCause : Told → View → WorkError → Type 0
 IsCause told v SourceFault = IsMember read.SourceFault v.note.failures
 IsCause told v (SourceChanged source number) = IsMember (read.SourceChanged source number) v.note.failures
@@ -50,7 +51,7 @@ IsCause told v SpillFault = IsMember node.SpillFault v.note.broken
 IsCause told v (SpillDamaged kept found at) = IsMember (node.SpillDamaged kept found at) v.note.broken
 IsCause told v Memory = ⊤
 
--- the refusal of the first, or else that of the second
+-- the refusal of the first, and otherwise the result of the second
 abbrev pub first_refusal : Result (Unit {0}) WorkError → Result (Unit {0}) WorkError → Result (Unit {0}) WorkError
 first_refusal (Ok u) second = second
 first_refusal (Err e) second = Err e

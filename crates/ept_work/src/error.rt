@@ -10,15 +10,15 @@ use std::alloc::AllocError;
 pub enum WorkError {
     /// A source of the reader failed.
     SourceFault,
-    /// This input is not what the first reading has found: its header is not, which is told as record 0, or
-    /// the record of this number ends early or lies elsewhere.
+    /// This input is not what the first reading has found. Its header differs, which is reported as record 0, or the
+    /// record of this number ends early or lies elsewhere.
     SourceChanged { source: u32, number: PointNumber },
     /// The sampling of the points up to the end of the allowance has more nodes than there may be.
     TooManyNodes,
-    /// The spill file of a node failed, which is broken since.
+    /// The spill file of a node failed, and the node has been broken since.
     SpillFault,
-    /// The spill file of a node gave back other bytes than those of its tile, and the node is broken since: `found` bytes
-    /// in place of the `kept` ones, or the point of the number `at`, from 0, is the first that is wrong.
+    /// The spill file of a node returned other bytes than those of its tile, and the node has been broken since. There
+    /// are `found` bytes in place of the `kept` ones, or the point of the number `at`, from 0, is the first wrong one.
     SpillDamaged { kept: u64, found: u64, at: u64 },
     /// Memory ran out.
     Memory,

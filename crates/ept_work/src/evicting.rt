@@ -1,4 +1,4 @@
-//! How a worker gets a permit for a node that comes into memory: a free one, or that of a node that goes to its file.
+//! How a worker gets a permit for a node that comes into memory: a free permit, or the permit of a node that it evicts.
 
 ghost use Rattle.std.specs.Prelude.{◌≡◌, ◌≢◌, ◌+◌, ◌<◌, Some, None, Ok, Err, IfSome, IfOk, IfErr, OnOk, OnErr, true, false, if◌then◌else◌};
 ghost use Rattle.ept_node.specs.declared.error.NodeError.{NodeError};
@@ -20,7 +20,7 @@ use ept_table::{Done, Item, NodeTable, Scan};
 use std::alloc::Global;
 use std::sync::Wait;
 
-// A node that was to go to its file, and whether it has gone there.
+// A node that was to be evicted, and whether it was.
 struct Evicted<F> {
     node: Node<F>,
     answer: Result<bool, NodeError>,
@@ -30,11 +30,11 @@ impl<F: SpillFile, S: Source> Worker<F, S> {
     ghost use Rattle.ept_table.specs.Table.{slots_of, IsSeat};
     ghost use Rattle.ept_work.specs.Worker.{seat_of, number_of, knows};
 
-    /// Takes a permit, as soon as one is free, or a node in memory has gone to its file and leaves its own.
+    /// Takes a permit as soon as one is free, or evicts a node and takes over its permit.
     ///
     /// # Errors
     ///
-    /// `SpillFault` where the file of such a node fails, the fault of a broken node that is come across, and `Memory`.
+    /// `SpillFault` if the file of an evicted node fails, the fault of a broken node that is met, and `Memory`.
     pub(crate) fn take_permit<H: Wait, J: Scan>(
         &mut self,
         rt: &H,
@@ -67,8 +67,8 @@ impl<F: SpillFile, S: Source> Worker<F, S> {
         unreachable!()
     }
 
-    // Lets the node whose turn it is go to its file, if it is free and in memory, and keeps its permit. Answers whether it
-    // has gone.
+    // Evicts the node whose turn it is, if it is free and in memory, and keeps its permit. Returns whether it was
+    // evicted.
     fn evict<J: Scan>(
         &mut self,
         alloc: Global,
@@ -95,7 +95,7 @@ impl<F: SpillFile, S: Source> Worker<F, S> {
     }
 }
 
-// Lets a resident node go to its file. Any other one stays, and a broken one is refused with its fault.
+// Evicts a node that is resident. Any other node stays, and a broken one is refused with its fault.
 fn put_in_file<F: SpillFile, J: Scan>(alloc: Global, mut node: Node<F>) -> Evicted<F>
     requires { IsFiledNode F.held F.faults F.keeps J.told node }
     ensures stays { StaysAlike J.told (seen_node F.held node) (seen_node F.held result.node) }

@@ -1,4 +1,4 @@
-//! Several workers, and what comes of their table.
+//! Several workers, and the result of their table.
 
 ghost use Rattle.std.specs.Prelude.{◌≡◌, ◌≢◌, ◌+◌, ◌*◌, ◌≤◌, ◌<◌, min, ℕ, [], Err, None, Some, OnOk, true, take, length};
 ghost use Rattle.std.specs.List.{All, Any};
@@ -34,18 +34,18 @@ use std::sync::Wait;
 use std::thread;
 use std::thread::Threads;
 
-// How workers ended: their seat, and the refusal of the lowest of those that were refused.
+// How workers ended: their seat, and the refusal of the lowest worker that was refused.
 struct Ended<F, S> {
     seat: Seat<F, S>,
     result: Result<(), WorkError>,
 }
 
-/// Lets so many workers bring the points of the reader's allowance down the tree, and closes the table.
+/// Inserts the points of the reader's allowance with `workers` workers, and closes the table.
 ///
 /// # Errors
 ///
-/// Where a node is broken, its fault: `SpillFault` or `SpillDamaged`. Else, of several refusals, that of the lowest worker. The
-/// forest and the reader come back in either case.
+/// If a node is broken, its fault: `SpillFault` or `SpillDamaged`. Otherwise, of several refusals, that of the lowest
+/// worker. The forest and the reader are returned in either case.
 pub fn insert_all<
     F: SpillFile + Send + Sync,
     S: Source + Send,
@@ -66,22 +66,22 @@ pub fn insert_all<
     requires rules { rules_of table ≡ J.told.rules }
     requires workers { (1 ≤ workers) × (workers ≤ 64) }
 
-    // Where nothing is refused nothing flies, and where files and sources tell the nodes are the sampling of all points that the
-    // allowance and the inputs have.
+    // If nothing is refused, nothing flies at the end. If contents are also visible, the nodes are the sampling of all
+    // points that the allowance and the inputs have.
     ensures landed { OnOk result.2 (IsLanded J.told (used_of result.0) (row F.held S.whole result.1 (nodes_of result.0))) }
     ensures sampling { OnOk result.2 (J.told.tells ≡ true
         → IsSampling J.told (row F.held S.whole result.1 (nodes_of result.0)) (take (drawn_of result.1) J.told.points)) }
     ensures drawn { OnOk result.2 (drawn_of result.1 ≡ min J.told.end J.told.total) }
     ensures sound { OnOk result.2 (refusal_of result.1 ≡ None) }
 
-    // Whatever the answer, the reader and the slots are those of the table, and the nodes agree with their files.
+    // Whatever the result, the reader and the slots are those of the table, and the nodes agree with their files.
     ensures filed { IsFiled S.whole S.left S.given S.faults J.told result.1 }
     ensures fits { FitsReader J.told (seen_reader S.whole result.1) }
     ensures slots { length (nodes_of result.0) ≡ J.told.most }
     ensures nodes { All (IsFiledNode F.held F.faults F.keeps J.told) (nodes_of result.0) }
     ensures cached { residents_of (nodes_of result.0) ≤ J.told.cache }
 
-    // Unless a broken node refuses, no node is broken.
+    // Unless the refusal is of a broken node, no node is broken.
     ensures unbroken { result.2 ≢ Err errors.SpillFault
         → ((kept found at : ℕ) → result.2 ≢ Err (errors.SpillDamaged kept found at))
         → All (λ node. fault_of node ≡ None) (nodes_of result.0) }
@@ -107,7 +107,7 @@ pub fn insert_all<
     (forest, reader, result)
 }
 
-// The answer of workers, where a node may be broken: its fault comes before any other refusal.
+// The result of workers if a node may be broken: its fault comes before any other refusal.
 fn settled(broken: Option<NodeError>, answer: Result<(), WorkError>) -> Result<(), WorkError>
     ensures { result ≡ settled_by broken answer }
 {
@@ -117,8 +117,8 @@ fn settled(broken: Option<NodeError>, answer: Result<(), WorkError>) -> Result<(
     }
 }
 
-// Lets so many workers, numbered from the first on, work at a table in rounds of so many points, the higher half of them in a
-// thread of their own.
+// Lets `workers` workers, numbered from the first on, work at a table in rounds of `round` points. The higher half of
+// them works in a thread of its own.
 fn work_all<F, S, J, G, R>(
     rt: &R,
     alloc: Global,
@@ -211,7 +211,7 @@ fn both<F: SpillFile, S: Source, J: Scan>(
     }
 }
 
-// The refusal of the first, or else that of the second.
+// The refusal of the first, and otherwise the result of the second.
 fn first_of(first: Result<(), WorkError>, second: Result<(), WorkError>) -> Result<(), WorkError>
     ensures { result ≡ first_refusal first second }
 {

@@ -1,5 +1,4 @@
-//! Workers that bring points down the tree of a table of nodes: each with a seat of the table and the flights that it
-//! carries.
+//! Workers that insert points into the tree of a table of nodes: each has a seat of the table, and carries flights.
 #![tactic(auto)]
 
 mod error;

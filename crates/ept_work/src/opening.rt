@@ -22,7 +22,7 @@ pub(crate) struct Opening<F> {
     pub(crate) is_full: bool,
 }
 
-/// Draws slots for the children of the octants of a node that were closed and are open, until one is refused.
+/// Draws slots for the children of the octants of a node that were closed and are open, until a slot is refused.
 pub(crate) fn open_children<F: SpillFile, S: Source, J: Scan>(
     table: &NodeTable<F, S, J>,
     seat: &mut Seat<F, S>,
@@ -53,7 +53,7 @@ pub(crate) fn open_children<F: SpillFile, S: Source, J: Scan>(
     opening
 }
 
-// Draws a slot for the child of an octant, if it was closed and is open, and none was refused.
+// Draws a slot for the child of an octant, if the octant was closed and is open, and no slot was refused.
 fn open_child<F: SpillFile, S: Source, J: Scan>(
     table: &NodeTable<F, S, J>,
     seat: &mut Seat<F, S>,
@@ -93,7 +93,7 @@ fn open_child<F: SpillFile, S: Source, J: Scan>(
     }
 }
 
-// Whether a slot is asked for: none was refused, and the octant is in the second set and not in the first.
+// Whether a slot is needed: no slot was refused, and the octant is in the second set and not in the first.
 fn asks(is_full: bool, before: u8, after: u8, octant: u8) -> bool
     requires { octant < 8 }
     ensures { result ≡ (not is_full && (not (opened before octant) && opened after octant)) }

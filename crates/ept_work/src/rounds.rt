@@ -1,5 +1,5 @@
-//! Rounds: where nodes have to leave memory, a worker draws many batches and brings their points down together, so that a
-//! node that comes back takes in many points before it goes again.
+//! Rounds, for when nodes have to leave memory. A worker draws many batches and carries their points down together. So
+//! a node that is read back takes in many points before it is evicted again.
 
 ghost use Rattle.std.specs.Prelude.{◌≡◌, ◌≤◌, IfOk, IfErr};
 ghost use Rattle.ept_slots.specs.Seating.{view};
@@ -15,14 +15,14 @@ use ept_point::List;
 use ept_space::Rules;
 use ept_table::{Carried, NodeTable, Scan};
 
-/// How many points a round has at least.
+/// The least number of points in a round.
 pub(crate) const LEAST_ROUND: usize = 32 * BATCH;
 
-// And at most.
+// And the greatest.
 const GREATEST_ROUND: u64 = 1 << 20;
 
-// How many points are merged into one flight: an arrival makes room for as many in each octant of the node and of what
-// leaves it.
+// The greatest number of points in a merged flight. An arrival reserves room for them in each octant of the node and of
+// what leaves it.
 const MERGED: usize = 4 * BATCH;
 
 // Two flights that are not merged.
@@ -31,8 +31,8 @@ struct Apart {
     second: Carried,
 }
 
-/// How many points each of so many workers draws in a round: together as many as the nodes have that may be in memory at a
-/// time, where each has a point in half of the cells of a layer, and as many losers as an octant keeps.
+/// How many points each of `workers` workers draws in a round. Together they draw what `cache` nodes hold, each with a
+/// point in half of the cells of a layer and `threshold` losers.
 pub(crate) fn round_of(rules: &Rules, cache: u32, workers: u32) -> usize
     ensures { LEAST_ROUND ≤ result }
 {
@@ -48,7 +48,7 @@ impl<F: SpillFile, S: Source> Worker<F, S> {
     ghost use Rattle.ept_table.specs.Table.{IsSeat};
     ghost use Rattle.ept_work.specs.Worker.{seat_of, number_of, knows};
 
-    /// A round begins: nodes with greater slots than any that was visited before have begun in it.
+    /// Begins a round: from now on, nodes in greater slots than any visited so far are nodes of this round.
     pub(crate) fn begin_round(&mut self)
         ensures seat { seat_of self.new ≡ seat_of self.old }
         ensures number { number_of self.new ≡ number_of self.old }
@@ -56,7 +56,7 @@ impl<F: SpillFile, S: Source> Worker<F, S> {
         self.known = self.newest;
     }
 
-    /// Whether a further batch is to come down together with those that were drawn.
+    /// Whether a further batch is to be drawn, and carried down together with those before it.
     pub(crate) fn draws_ahead(&self) -> bool {
         let Some(last) = self.flights.last() else {
             return false;
@@ -73,8 +73,8 @@ impl<F: SpillFile, S: Source> Worker<F, S> {
         points
     }
 
-    /// Merges the newest flight with the one before it, where nodes have to leave memory, both go to one node, and they are few
-    /// points together. Where there is no memory for that they stay two.
+    /// Merges the newest flight with the one before it, if nodes have to leave memory. Both have to go to one node, and
+    /// have few points together. If memory runs out, they stay two.
     pub(crate) fn merge_last<J: Scan>(&mut self, table: &NodeTable<F, S, J>)
         requires seat { IsSeat J.told table.now (seat_of self.old) }
         requires rest { IsAtRest J.told (knows F.held S.whole self.old) }
@@ -108,7 +108,8 @@ impl<F: SpillFile, S: Source> Worker<F, S> {
     }
 }
 
-// Two flights as one, where they go to one node and are few points together. Or there was no memory.
+// Two flights as one, if they go to one node and have few points together. Both unchanged if not, or if memory runs
+// out.
 fn in_one(first: Carried, second: Carried) -> Result<Carried, Apart>
     ensures slot { IfOk result (λ one. first.slot ≡ second.slot) }
     ensures key { IfOk result (λ one. first.flight.key ≡ second.flight.key) }

@@ -1,4 +1,4 @@
-//! The flights in which points that leave a node go on.
+//! The flights of the points that leave a node.
 
 ghost use Rattle.std.specs.Prelude.{◌≡◌, ◌≢◌, ◌+◌, ◌++◌, ◌<◌, ◌≤◌, ℕ, [], length, vec_len, vec_capacity};
 ghost use Rattle.ept_grid.specs.Outgoing.{points_at};
@@ -16,7 +16,7 @@ use ept_space::child;
 use ept_table::Carried;
 use std::alloc::Global;
 
-/// Adds the flights in which points that leave a node go on to its children to an empty list, which has room for them.
+/// Adds the flights of the points that leave a node for its children to an empty list, which has room for them.
 pub(crate) fn send_on<F: SpillFile>(
     alloc: Global,
     node: &Node<F>,
@@ -70,8 +70,8 @@ fn send<F: SpillFile>(
     fresh
 }
 
-// The points that leave for an octant, in a list of their own size. Where there is no memory for it the list that they
-// left in is taken.
+// The points that leave for an octant, in a list of their own size. If memory runs out, the list in which they left is
+// taken.
 fn taken(alloc: Global, out: &mut Outgoing, octant: u8) -> Vec<Point>
     requires { octant < 8 }
     ensures taken { result.items ≡ points_at out.old octant }

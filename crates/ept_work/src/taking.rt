@@ -24,14 +24,14 @@ use ept_table::{Done, Item, NodeTable, Scan};
 use std::alloc::Global;
 use std::sync::Wait;
 
-// A node in memory, whether it was blank, and whether it takes a permit that it had not.
+// A node in memory, whether it was blank, and whether it takes a permit that it did not have.
 struct Ready<F> {
     node: Node<F>,
     was_blank: bool,
     spends: bool,
 }
 
-// A node that stays where it is, and why: for want of a permit where that is None.
+// A node that stays where it is, and why. `None` means that a permit is missing.
 struct Stays<F> {
     node: Node<F>,
     why: Option<NodeError>,
@@ -41,13 +41,14 @@ impl<F: SpillFile, S: Source> Worker<F, S> {
     ghost use Rattle.ept_table.specs.Table.{slots_of, rules_of, IsSeat};
     ghost use Rattle.ept_work.specs.Worker.{seat_of, number_of, knows};
 
-    /// Takes the node to which the next flight goes, as soon as it is free. A blank one is begun with the key of the flight,
-    /// and one whose points are in its file gets them back. A permit for it is taken before, while no node is held.
+    /// Takes the node to which the next flight goes, as soon as the node is free. A blank node begins with the key of
+    /// the flight, and a node whose points are in its file is read back. A permit for it is taken before, while no node
+    /// is held.
     ///
     /// # Errors
     ///
-    /// `TooManyNodes` where the flight has no slot. `SpillFault` and `SpillDamaged` where a spill file fails or is damaged,
-    /// that of the node or of one that was to leave its permit, or where that node is broken already. `Memory`.
+    /// `TooManyNodes` if the flight has no slot. `SpillFault` and `SpillDamaged` if a spill file fails or is damaged,
+    /// either of the node or of a node to be evicted. The same if one of these nodes is broken already. `Memory`.
     pub fn take_up<H: Wait, J: Scan>(
         &mut self,
         rt: &H,
@@ -77,7 +78,8 @@ impl<F: SpillFile, S: Source> Worker<F, S> {
         unreachable!()
     }
 
-    // Takes the node as soon as it is free. None, and nothing changed, where it was seen in memory and is there no longer.
+    // Takes the node as soon as it is free. `None`, and nothing changed, if it was seen in memory and is no longer
+    // there.
     fn try_up<H: Wait, J: Scan>(
         &mut self,
         rt: &H,
@@ -135,8 +137,8 @@ impl<F: SpillFile, S: Source> Worker<F, S> {
         }
     }
 
-    // Takes a permit for the node of a slot, unless that is seen in memory, or with another worker, who has a permit for it.
-    // Answers whether it did.
+    // Takes a permit for the node of a slot, and returns whether it did. It takes none if the node is seen in memory,
+    // or with another worker, who has a permit for it.
     fn permit_for<H: Wait, J: Scan>(
         &mut self,
         rt: &H,
@@ -163,8 +165,8 @@ impl<F: SpillFile, S: Source> Worker<F, S> {
     }
 }
 
-// The node of a key in memory: one that is there, one that begins in place of a blank one, or one that comes back from its
-// file. The latter two want a permit. Or the node stays where it is.
+// The node of a key in memory. It is there, or begins in place of a blank one, or is read back from its file. The
+// latter two need a permit. Or the node stays where it is.
 fn readied<F: SpillFile, J: Scan>(
     alloc: Global,
     mut node: Node<F>,
@@ -221,7 +223,7 @@ fn readied<F: SpillFile, J: Scan>(
     }
 }
 
-// A node with its points back from its file. Or it stays there.
+// A node with its points read back from its file. Or it stays there.
 fn reloaded<F: SpillFile, J: Scan>(alloc: Global, mut node: Node<F>) -> Result<Node<F>, Stays<F>>
     requires spilled { state_of node ≡ Spilled }
     requires filed { IsFiledNode F.held F.faults F.keeps J.told node }
@@ -247,7 +249,7 @@ fn reloaded<F: SpillFile, J: Scan>(alloc: Global, mut node: Node<F>) -> Result<N
     }
 }
 
-// What is answered of a node that stays where it is.
+// What is returned for a node that stays where it is.
 fn given_up<F>(why: Option<NodeError>) -> Result<Option<Visit<F>>, WorkError>
     ensures { result ≡ answer_staying why }
 {

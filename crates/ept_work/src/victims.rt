@@ -1,4 +1,4 @@
-//! Whose turn it is to go to its file.
+//! Which node is evicted next.
 
 ghost use Rattle.std.specs.Prelude.{◌≡◌, ◌<◌, ◌≤◌, ◌+◌, [], ℕ, IfOk, IfSome, true, length, slice_index};
 ghost use Rattle.std.specs.List.Sorted.{IsNonDecreasing};
@@ -10,19 +10,19 @@ use ept_clock::Clock;
 use ept_table::{NodeTable, Scan};
 use std::alloc::{AllocError, Global};
 
-/// The slots of nodes that may go to their files: of those that were seen in memory as the slots were last looked through,
-/// the ones whose turn has not come yet.
+/// The slots of nodes that may be evicted. These are the nodes that were in memory when the slots were last checked,
+/// except those whose turn has come.
 #[derive(Drop)]
 pub(crate) struct Victims {
     clock: Clock,
     slots: Vec<u32>,
-    // The slot that was told last where no node was seen in memory.
+    // The slot that was returned last when no node was seen in memory.
     last: u32,
     ghost ascend: { IsNonDecreasing slots.items },
 }
 
 impl Victims {
-    /// None, before the slots are looked through. It takes no memory.
+    /// No slots, until they are first checked. It allocates no memory.
     pub(crate) fn new(alloc: Global) -> Victims {
         Victims {
             clock: Clock::new(),
@@ -31,9 +31,9 @@ impl Victims {
         }
     }
 
-    /// The slot whose turn it is: by the hand of a clock among those of nodes that are seen in memory, free to be taken.
-    /// Where none is seen so, the slots are told one after another, since others may have permits: nodes that no worker has
-    /// visited yet, and broken ones.
+    /// The slot whose turn it is. The hand of a clock chooses it from the nodes that are seen in memory, free to be
+    /// taken. If there are none, the slots are returned one after another. Other nodes may have permits: nodes that no
+    /// worker has visited yet, and broken ones.
     pub(crate) fn next<F: SpillFile, S: Source, J: Scan>(
         &mut self,
         table: &NodeTable<F, S, J>,
@@ -50,7 +50,7 @@ impl Victims {
         }
     }
 
-    // The slot of the clock's turn, passing over those of nodes that are seen in memory no longer.
+    // The slot of the clock's turn; slots whose nodes are no longer seen in memory are skipped.
     fn next_seen<F: SpillFile, S: Source, J: Scan>(
         &mut self,
         table: &NodeTable<F, S, J>,
@@ -66,7 +66,7 @@ impl Victims {
         None
     }
 
-    // The slot behind the one that was told last, going round.
+    // The slot after the one that was returned last, and slot 1 after the last slot.
     fn next_of_all<F: SpillFile, S: Source, J: Scan>(&mut self, table: &NodeTable<F, S, J>) -> u32
         requires { 1 < slots_of table.now }
         ensures { IsNodeSlot table.now result }
@@ -97,7 +97,7 @@ fn look_through<F: SpillFile, S: Source, J: Scan>(
     Ok(())
 }
 
-// Whether the slot is one of a node that is seen in memory, free to be taken.
+// Whether the slot has a node that is seen in memory, free to be taken.
 fn is_seen<F: SpillFile, S: Source, J: Scan>(table: &NodeTable<F, S, J>, slot: u32) -> bool
     ensures { result ≡ true → IsNodeSlot table.now slot }
 {

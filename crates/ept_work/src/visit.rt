@@ -41,7 +41,7 @@ pub struct Visit<F> {
     pub(crate) was_blank: bool,
 }
 
-/// A node that a worker holds, at which its flight has arrived, with the flights that go on.
+/// A node that a worker holds, at which its flight has arrived, with the flights that leave it.
 pub struct Landing<F> {
     pub(crate) node: Node<F>,
     pub(crate) slot: u32,
@@ -54,13 +54,13 @@ impl<F: SpillFile, S: Source> Worker<F, S> {
     ghost use Rattle.ept_table.specs.Table.{slots_of, rules_of};
     ghost use Rattle.ept_work.specs.Worker.{seat_of, number_of, knows};
 
-    /// Lets the flight arrive at the node, draws slots for the children of the octants that it opens until that is
-    /// refused, and makes the flights that go on. All memory is reserved first, so that nothing is refused once the points
-    /// have arrived.
+    /// Adds the points of the flight to the node. Draws slots for the children of the octants that it opens, until a
+    /// slot is refused, and makes the flights that leave. All memory is reserved first, so that nothing is refused once
+    /// the points have arrived.
     ///
     /// # Errors
     ///
-    /// Where there is no memory the visit comes back as it was.
+    /// If memory runs out, the visit is returned as it was.
     pub fn land<J: Scan>(
         &mut self,
         alloc: Global,
@@ -121,11 +121,11 @@ impl<F: SpillFile, S: Source> Worker<F, S> {
         })
     }
 
-    /// Gives the node back at which the flight has arrived. The flights that go on are carried in its place.
+    /// Returns the node at which the flight has arrived. The flights that leave it are carried in place of that flight.
     ///
     /// # Errors
     ///
-    /// `TooManyNodes` where a slot was refused.
+    /// `TooManyNodes` if a slot was refused.
     pub fn leave<J: Scan>(
         &mut self,
         table: &NodeTable<F, S, J>,
@@ -167,7 +167,7 @@ impl<F: SpillFile, S: Source> Worker<F, S> {
         Ok(())
     }
 
-    /// Gives the node back, one that was blank as a blank one. The flight is carried on.
+    /// Returns the node, and a node that was blank as a blank one. The flight is still carried.
     pub fn put_back<J: Scan>(&mut self, table: &NodeTable<F, S, J>, visit: Visit<F>)
         requires seat { IsSeat J.told table.now (seat_of self.old) }
         requires visit { IsVisit F.held J.told (knows F.held S.whole self.old) visit }
@@ -270,7 +270,7 @@ impl<F> Landing<F> {
     }
 }
 
-// Gives a permit back that is not wanted.
+// Returns a permit that is not needed.
 pub(crate) fn permit_back<F: SpillFile, S: Source, J: Scan>(
     table: &NodeTable<F, S, J>,
     seat: &mut Seat<F, S>,
@@ -303,8 +303,7 @@ fn as_taken<F: SpillFile>(mut node: Node<F>, was_blank: bool) -> Node<F>
     node
 }
 
-// Lets points arrive at a node, whose leaving points are added to an empty list. Or there was no memory, and the node is
-// as it was.
+// Adds points to a node, and the points that leave it to an empty list. If memory runs out, the node is as it was.
 fn arrived<F: SpillFile>(
     alloc: Global,
     mut node: Node<F>,

@@ -44,16 +44,16 @@ pub struct Worker<F, S> {
     pub(crate) seat: Seat<F, S>,
     pub(crate) flights: Vec<Carried>,
     pub(crate) number: u32,
-    // The points that leave a node while a flight arrives at it, and the flights in which they go on.
+    // The points that leave a node while a flight arrives at it, and the flights in which they leave.
     pub(crate) out: Outgoing,
     pub(crate) fresh: Vec<Carried>,
-    // The nodes that go to their files next, and whether one had to.
+    // The nodes that are evicted next, and whether a free permit was ever missing.
     pub(crate) victims: Victims,
     pub(crate) is_short: bool,
-    // How many points a round has, where nodes had to.
+    // How many points a round has once a free permit was missing.
     pub(crate) round: usize,
-    // The slot of the node that was visited last, 0 before the first visit; the greatest slot of a node that was visited, and
-    // what that was as the round began.
+    // The slot of the node that was visited last, 0 before the first visit. The greatest slot of a node that was
+    // visited. That greatest slot as it was when the round began.
     pub(crate) here: u32,
     pub(crate) newest: u32,
     pub(crate) known: u32,
@@ -65,7 +65,7 @@ impl<F: SpillFile, S: Source> Worker<F, S> {
     ghost use Rattle.ept_table.specs.Table.{slots_of, IsSeat};
     ghost use Rattle.ept_work.specs.Worker.{seat_of, number_of, knows, IsGoal};
 
-    /// A worker of this number with a seat that carries no flight. It takes no memory.
+    /// A worker of this number with a seat that carries no flight. It allocates no memory.
     pub fn new(alloc: Global, seat: Seat<F, S>, number: u32) -> Worker<F, S>
         requires { (view seat).note.flights ≡ [] }
         ensures seat { seat_of result ≡ seat }
@@ -114,8 +114,8 @@ impl<F: SpillFile, S: Source> Worker<F, S> {
         self.flights.is_empty()
     }
 
-    /// The slot of the node that is visited next, to which one of the flights goes: 0 where it has none. None where no flight
-    /// is carried.
+    /// The slot of the node that is visited next, to which one of the flights goes: 0 if that flight has none. `None`
+    /// if no flight is carried.
     pub fn next_slot<J: Scan>(&self, table: &NodeTable<F, S, J>) -> Option<u32>
         ensures some { IfSome result (IsGoal (knows F.held S.whole self.now).note.flights) }
         ensures none { result ≡ None → (knows F.held S.whole self.now).note.flights ≡ [] }
@@ -126,9 +126,9 @@ impl<F: SpillFile, S: Source> Worker<F, S> {
         Some(self.flights[self.next(table)].slot)
     }
 
-    // Which flight goes on next, of those to nodes that no other worker holds as they are looked at: the newest to the node
-    // that was visited last; where nodes have to leave memory, the newest to one that need not come back for it; or else the
-    // newest. Where all these nodes are held, the newest.
+    // The flight whose node is visited next. Flights to nodes that no other worker is seen to hold come first: the
+    // newest to the node that was visited last. If there is none and nodes have to leave memory, the newest to a node
+    // that need not be read back. Otherwise the newest. If other workers hold all these nodes, it is the newest flight.
     pub(crate) fn next<J: Scan>(&self, table: &NodeTable<F, S, J>) -> usize
         requires { 0 < vec_len self.now.flights }
         ensures { result < vec_len self.now.flights }
@@ -148,8 +148,8 @@ impl<F: SpillFile, S: Source> Worker<F, S> {
             .unwrap_or(flights.len() - 1)
     }
 
-    /// Takes the reader as soon as it is free, draws a batch of at most 1,024 records, and gives it back. The points fly
-    /// to the root. Answers whether there were any.
+    /// Takes the reader as soon as it is free, draws a batch of at most 1,024 records, and returns the reader. The
+    /// points fly to the root. The result is whether there were any.
     ///
     /// # Errors
     ///
@@ -191,8 +191,8 @@ impl<F: SpillFile, S: Source> Worker<F, S> {
         answer(read, is_some)
     }
 
-    /// Abandons its flights, which the seat that ends its seat takes over. Where one has no slot there may not be as many
-    /// nodes as the sampling has.
+    /// Abandons its flights, which the seat that ends its seat takes over. If a flight has no slot and contents are
+    /// visible, the sampling has more nodes than there may be.
     pub fn abandon<J: Scan>(&mut self, table: &NodeTable<F, S, J>)
         requires seat { IsSeat J.told table.now (seat_of self.old) }
         requires idle { IsIdle (knows F.held S.whole self.old) }
@@ -207,13 +207,13 @@ impl<F: SpillFile, S: Source> Worker<F, S> {
     }
 }
 
-// Whether a flight with this slot need not wait for another worker. One without a slot waits for none.
+// Whether a flight with this slot need not wait for another worker. A flight without a slot waits for none.
 fn is_free<F: SpillFile, S: Source, J: Scan>(table: &NodeTable<F, S, J>, slot: u32) -> bool {
     slot == 0 || !table.is_held(slot)
 }
 
-// Whether the node of this slot need not come back from its file: it is seen in memory, or it has begun since the slots up to
-// this one were known.
+// Whether the node of this slot need not be read back. Either it is seen in memory, or it is free and its slot is 0 or
+// greater than `known`.
 fn is_near<F: SpillFile, S: Source, J: Scan>(
     table: &NodeTable<F, S, J>,
     slot: u32,
@@ -222,7 +222,7 @@ fn is_near<F: SpillFile, S: Source, J: Scan>(
     table.is_resident(slot) || (known < slot || slot == 0) && is_free(table, slot)
 }
 
-// A reader that was read, and what came of it.
+// A reader that was read, and the result.
 struct Drawn<S> {
     reader: Reader<S>,
     batch: Vec<Point>,
@@ -250,7 +250,7 @@ fn read_batch<S: Source, J: Scan>(mut reader: Reader<S>, mut batch: Vec<Point>) 
     }
 }
 
-// What a draw answers.
+// What a draw returns.
 fn answer(read: Result<(), ReadError>, is_some: bool) -> Result<bool, WorkError>
     ensures { result ≡ answer_of read is_some }
 {
@@ -258,7 +258,7 @@ fn answer(read: Result<(), ReadError>, is_some: bool) -> Result<bool, WorkError>
     Ok(is_some)
 }
 
-// The flights with that of points to the root, if there are points. There is room for it.
+// The flights, with one more to the root if there are points. There is room for it.
 fn launched(mut fresh: Vec<Carried>, number: u32, batch: Vec<Point>) -> Vec<Carried>
     requires empty { fresh.items ≡ [] }
     requires room { 1 ≤ vec_capacity fresh }
@@ -277,7 +277,7 @@ fn launched(mut fresh: Vec<Carried>, number: u32, batch: Vec<Point>) -> Vec<Carr
     fresh
 }
 
-// Moves flights to the end of others, which have room for them, and answers their emptied list.
+// Moves flights to the end of others, which have room for them, and returns their emptied list.
 pub(crate) fn take_over(flights: &mut Vec<Carried>, mut fresh: Vec<Carried>) -> Vec<Carried>
     requires { vec_len flights.old + length fresh.items ≤ vec_capacity flights.old }
     ensures flights { flights.new.items ≡ flights.old.items ++ fresh.items }

@@ -14,8 +14,8 @@ use ept_table::{NodeTable, Scan};
 use std::alloc::Global;
 use std::sync::Wait;
 
-// With fewer flights than these a worker draws another batch rather than wait for the node of the newest one: fewer for the
-// root, so that it goes on to draw where it then comes to another node that is held.
+// Backlog limit: a worker whose next node is held draws another batch instead of waiting, while it carries fewer
+// flights than this. The limit for the root is lower, to leave room for batches drawn later at another held node.
 const CARRIED: usize = 32;
 
 const CARRIED_TO_ROOT: usize = 4;
@@ -24,14 +24,15 @@ impl<F: SpillFile, S: Source> Worker<F, S> {
     ghost use Rattle.ept_table.specs.Table.{slots_of, rules_of, IsSeat};
     ghost use Rattle.ept_work.specs.Worker.{seat_of, number_of, knows};
 
-    /// Works from the first batch to the last, one visit at a time: that of the newest flight to a node that no other worker is
-    /// seen to hold, flights to the node of the visit before first. Where others hold the nodes of all its flights it draws a
-    /// further batch meanwhile. A worker that is refused abandons its flights. At the end it carries no flight and holds no
-    /// slot, whatever the answer.
+    /// Works from the first batch to the last, one visit at a time. The next visit is for the newest flight to a node
+    /// that no other worker is seen to hold. Flights to the node of the visit before come first. If other workers hold
+    /// the nodes of all its flights, it draws a further batch meanwhile. A worker that is refused abandons its flights.
+    /// At the end it carries no flight and holds no slot, whatever the result.
     ///
     /// # Errors
     ///
-    /// The refusal of the reader, `TooManyNodes`, and those of a spill file, `SpillFault` and `SpillDamaged`, and `Memory`.
+    /// The refusal of the reader, `TooManyNodes`, the refusals of a spill file, `SpillFault` and `SpillDamaged`, and
+    /// `Memory`.
     pub fn work<H: Wait, G: Gate, J: Scan>(
         &mut self,
         rt: &H,
@@ -88,8 +89,9 @@ impl<F: SpillFile, S: Source> Worker<F, S> {
         unreachable!()
     }
 
-    // Visits the node of the next flight, or draws a batch where there is no flight, more are to come down together, or others
-    // hold the nodes of all flights. Answers whether there is more to do.
+    // Visits the node of the next flight. It draws a batch instead if it has no flight or if more points are to be
+    // carried down together. It also does so if other workers hold the nodes of all flights. Returns whether there is
+    // more to do.
     fn step<H: Wait, G: Gate, J: Scan>(
         &mut self,
         rt: &H,
@@ -123,7 +125,7 @@ impl<F: SpillFile, S: Source> Worker<F, S> {
         Ok(true)
     }
 
-    // Draws a batch though flights are carried, and visits the node of the next one where there is none left.
+    // Draws a batch although flights are carried. If no points are left, it visits the node of the next flight.
     fn draw_meanwhile<H: Wait, G: Gate, J: Scan>(
         &mut self,
         rt: &H,
